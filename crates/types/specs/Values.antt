@@ -1,0 +1,17 @@
+-- The types of values, and how values are written.
+use Rattle.std.specs.Prelude.{ℕ, List, ◌++◌, codes}
+use Rattle.std.specs.Fmt.{decimal}
+use Rattle.types.specs.declared.value.ValType.{ValType}
+use Rattle.types.specs.declared.value.ValType.TheVariants as types
+use Rattle.types.specs.declared.value.Value.{Value}
+use Rattle.types.specs.declared.value.Value.TheVariants as values
+
+-- The type of a value (Core specification 1.0, section 4.2.1).
+abbrev pub type_of : Value → ValType
+type_of (values.I32 n) = types.I32
+type_of (values.I64 n) = types.I64
+
+-- A value as it is printed: its type, a colon and an unsigned decimal.
+abbrev pub value_text : Value → List ℕ
+value_text (values.I32 n) = codes "i32:" ++ decimal n
+value_text (values.I64 n) = codes "i64:" ++ decimal n
