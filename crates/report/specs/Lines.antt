@@ -1,0 +1,30 @@
+-- The lines on standard output.
+use Rattle.std.specs.Prelude.{ℕ, ◌+◌, ◌-◌, ◌/◌, ◌%◌, ◌==◌, nat_lt, if◌then◌else◌, List, [], ◌∷◌, ◌++◌, take, codes}
+use Rattle.std.specs.Fmt.{decimal}
+use Rattle.std.specs.List.{flat_map}
+use Rattle.types.specs.declared.outcome.Outcome.{Outcome}
+use Rattle.types.specs.Outcomes.{outcome_text}
+
+-- The line of a thread.
+abbrev pub thread_line : ℕ → Outcome → List ℕ
+thread_line thread outcome = codes "thread " ++ decimal thread ++ codes ": " ++ outcome_text outcome ++ codes "\n"
+
+-- The line of the page count.
+abbrev pub pages_line : ℕ → List ℕ
+pages_line pages = codes "pages " ++ decimal pages ++ codes "\n"
+
+-- A digit of base 16, in lower case.
+abbrev pub hex_digit : ℕ → ℕ
+hex_digit d = if nat_lt d 10 then 48 + d else 97 + (d - 10)
+
+-- A byte: a space and two digits.
+abbrev pub hex_byte : ℕ → List ℕ
+hex_byte b = 32 ∷ hex_digit (b / 16) ∷ hex_digit (b % 16) ∷ []
+
+-- Bytes in a row.
+abbrev pub hex_bytes : List ℕ → List ℕ
+hex_bytes bytes = flat_map hex_byte bytes
+
+-- The line of the first bytes, so many, or of all if there are fewer. There is none where none are wanted.
+abbrev pub bytes_line : ℕ → List ℕ → List ℕ
+bytes_line dump bytes = if dump == 0 then [] else codes "bytes" ++ hex_bytes (take dump bytes) ++ codes "\n"
