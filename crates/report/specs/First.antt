@@ -1,8 +1,13 @@
 -- The first path: the modules of one atomic add, and what they print.
-use Rattle.std.specs.Prelude.{ℕ, ◌≡◌, ◌+◌, ◌%◌, ◌==◌, ◌<◌, if◌then◌else◌, List, [], ◌∷◌, ◌++◌, replicate, codes}
+use Rattle.std.specs.Prelude.{ℕ, ◌≡◌, ◌+◌, ◌%◌, ◌==◌, ◌<◌, Bool, if◌then◌else◌, List, [], ◌∷◌, ◌++◌, replicate, codes, Option, Some}
 use Rattle.std.specs.List.{splice}
+use Rattle.std.specs.Io.KnownBytes.{Appends}
+use Rattle.types.specs.declared.value.Value.TheVariants as values
+use Rattle.types.specs.declared.outcome.Trap.TheVariants as traps
+use Rattle.types.specs.declared.outcome.Outcome.{Outcome}
+use Rattle.types.specs.declared.outcome.Outcome.TheVariants as outcomes
 use Rattle.shared_memory.specs.Numbers.{le_bytes}
-use Rattle.report.specs.Lines.{bytes_line}
+use Rattle.report.specs.Lines.{thread_line, pages_line, bytes_line}
 
 -- The module whose function f adds a number to the i32 at an address, and answers the value before.
 abbrev pub first_module : ℕ → ℕ → List ℕ
@@ -25,20 +30,37 @@ abbrev pub IsNoFirstModule : List ℕ → Type 0
 IsNoFirstModule bytes = (address addend : ℕ) → IsFirstModule bytes address addend → ⊥
 
 -- A page of zeros.
-abbrev pub zeros : List ℕ
+unfoldable pub zeros : List ℕ
 zeros = replicate 65536 0
 
 -- The page with a number of four bytes at an address.
 abbrev pub page_with : ℕ → ℕ → List ℕ
 page_with address addend = splice zeros address (address + 4) (le_bytes 4 addend)
 
--- What the module prints: an address that 4 doesn't divide traps, with no access.
+-- Whether the module's address is one that it may add at: 4 divides it.
+abbrev pub is_aligned : ℕ → Bool
+is_aligned address = address % 4 == 0
+
+-- The page after the run: an address that isn't aligned traps, with no access.
+abbrev pub page_after : ℕ → ℕ → List ℕ
+page_after address addend = if is_aligned address then page_with address addend else zeros
+
+-- How the thread ends: with the value before the add, or by the trap.
+abbrev pub first_outcome : ℕ → Outcome
+first_outcome address = if is_aligned address then outcomes.Done (Some (values.I32 0)) else outcomes.Trap traps.UnalignedAtomic
+
+-- What the module prints.
 abbrev pub first_lines : ℕ → ℕ → ℕ → List ℕ
-first_lines address addend dump =
-    if address % 4 == 0
-    then codes "thread 0: ok i32:0\npages 1\n" ++ bytes_line dump (page_with address addend)
-    else codes "thread 0: trap unaligned atomic\npages 1\n" ++ bytes_line dump zeros
+first_lines address addend dump = thread_line 0 (first_outcome address) ++ pages_line 1 ++ bytes_line dump (page_after address addend)
 
 -- The status with which the program ends.
 abbrev pub first_status : ℕ → ℕ
-first_status address = if address % 4 == 0 then 0 else 1
+first_status address = if is_aligned address then 0 else 1
+
+-- The bytes are such a module, and what was written is its lines.
+pub record IsFirstRun (bytes : List ℕ) (dump status : ℕ) (old new : Option (List ℕ)) : Type 0 where
+  pub address : ℕ
+  pub addend : ℕ
+  pub module_is : IsFirstModule bytes address addend
+  pub status_is : status ≡ first_status address
+  pub lines : Appends old new (first_lines address addend dump)
