@@ -25,6 +25,10 @@ pub record IsFirstModule (bytes : List ℕ) (address addend : ℕ) : Type 0 wher
   pub addend_below : addend < 64
   pub spelled : bytes ≡ first_module address addend
 
+-- The bytes are one of these modules.
+abbrev pub SomeFirstModule : List ℕ → Type 0
+SomeFirstModule bytes = (address : ℕ) × (addend : ℕ) × IsFirstModule bytes address addend
+
 -- The bytes are none of these modules.
 abbrev pub IsNoFirstModule : List ℕ → Type 0
 IsNoFirstModule bytes = (address addend : ℕ) → IsFirstModule bytes address addend → ⊥

@@ -1,7 +1,7 @@
 //! The first path: one module of one atomic add, from its bytes to printed lines.
-ghost use Rattle.std.specs.Prelude.{◌≡◌, ◌<◌, ◌↔◌, ◌++◌, true, length, IfOk, MatchOption, OnErr, OnOk, IsErrOf};
+ghost use Rattle.std.specs.Prelude.{◌≡◌, ◌<◌, ◌↔◌, ◌++◌, true, length, IfOk, MatchBool, MatchOption, OnOk, IsErrOf};
 ghost use Rattle.std.specs.Io.KnownBytes.{Appends};
-ghost use Rattle.report.specs.First.{IsFirstModule, IsNoFirstModule, IsFirstRun, zeros, page_with, first_outcome, page_after, is_aligned};
+ghost use Rattle.report.specs.First.{IsFirstModule, SomeFirstModule, IsNoFirstModule, IsFirstRun, zeros, page_with, first_outcome, page_after, is_aligned};
 ghost use Rattle.shared_memory.specs.Memory.{pages};
 ghost use Rattle.report.specs.Lines.{thread_line, pages_line, bytes_line};
 
@@ -58,6 +58,13 @@ fn operands(bytes: &[u8]) -> Option<(u8, u8)>
     } else {
         None
     }
+}
+
+/// Whether the bytes are a module of the first path.
+pub fn is_first_module(bytes: &[u8]) -> bool
+    ensures { MatchBool result (SomeFirstModule bytes.now) (IsNoFirstModule bytes.now) }
+{
+    operands(bytes).is_some()
 }
 
 /// A memory of one page of zeros.
@@ -119,7 +126,8 @@ fn print<W: Write>(
 {
     write_thread(out, 0, outcome)?;
     write_pages(out, memory.pages())?;
-    write_bytes(out, dump, memory.bytes())
+    write_bytes(out, dump, memory.bytes())?;
+    out.flush()
 }
 
 /// Runs a module of the first path, and writes the lines of its thread, of the page count, and of the first `dump`
