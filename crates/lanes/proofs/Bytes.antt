@@ -1,5 +1,5 @@
 -- Numbers as bytes, the lowest first: what a beginning and a rest of the bytes spell, and bytes joined.
-use Rattle.std.proofs.Common.{◌≡◌, ℕ, zero, suc, ◌+◌, ◌-◌, ◌*◌, ◌/◌, ◌%◌, ◌^◌, ◌<◌, ◌≤◌, List, [], ◌∷◌, ◌++◌, length, take, drop, refl, sym, ap, ap₂, subst, ◌∙◌, mod-lt, mod-eq_of_lt, arith}
+use Rattle.std.proofs.Common.{◌≡◌, ℕ, zero, suc, ◌+◌, ◌-◌, ◌*◌, ◌/◌, ◌%◌, ◌^◌, ◌<◌, ◌≤◌, List, [], ◌∷◌, ◌++◌, length, take, drop, refl, sym, ap, ap₂, subst, ◌∙◌, mod-lt, mod-eq_of_lt, take-append-drop, All, arith}
 use Rattle.std.specs.List.{splice}
 use Rattle.std.proofs.lemmas.Nat.{pow-add, pow_pos, mod-pow-add, shr-shr, shr_below}
 use Rattle.shared_memory.specs.Numbers.{le_number, le_bytes}
@@ -90,3 +90,54 @@ le_bytes-splice k m more word value fits =
     let low : le_bytes k (word % 2 ^ (8 * k)) ≡ take k (le_bytes (k + (m + more)) word) = le_bytes-mod k word ∙ sym (take-le_bytes (k + (m + more)) k word (omega arith)) in
     let high : le_bytes more (word / 2 ^ (8 * k) / 2 ^ (8 * m)) ≡ drop (k + m) (le_bytes (k + (m + more)) word) = ap₂ le_bytes (sym left) (shr-shr word (8 * k) (8 * m) ∙ ap (λ j. word / 2 ^ j) bits) ∙ sym (drop-le_bytes (k + (m + more)) (k + m) word) in
     le_bytes-append k (m + more) _ _ (mod-lt word (pow_pos (8 * k))) ∙ ap₂ (λ a b. a ++ b) low (le_bytes-append m more value _ fits ∙ ap (λ rest. le_bytes m value ++ rest) high)
+
+-- a number that fits its bytes is spelled by them
+pub le_number-le_bytes-fits : (n w : ℕ) → w < 2 ^ (8 * n) → le_number (le_bytes n w) ≡ w
+le_number-le_bytes-fits n w fits = le_number-le_bytes n w ∙ mod-eq_of_lt fits
+
+-- two lists of bytes joined spell the first number, and the second above it
+pub le_number-append : (xs ys : List ℕ) → le_number (xs ++ ys) ≡ le_number xs + 2 ^ (8 * length xs) * le_number ys
+le_number-append [] ys = omega arith
+le_number-append (x ∷ xs) ys =
+    let r = le_number-append xs ys in
+    let more : 8 * length (x ∷ xs) ≡ 8 * suc (length xs) = omega arith in
+    let p : 2 ^ (8 * length (x ∷ xs)) ≡ 256 * 2 ^ (8 * length xs) = ap (λ j. 2 ^ j) more ∙ pow_byte-suc (length xs) in
+    rw p (omega arith)
+
+-- the bytes of a number, cut in two
+pub le_bytes-cut : (k m w : ℕ) → le_bytes (k + m) w ≡ le_bytes k w ++ le_bytes m (w / 2 ^ (8 * k))
+le_bytes-cut k m w =
+    let left : k + m - k ≡ m = omega arith in
+    sym (take-append-drop k (le_bytes (k + m) w)) ∙ ap₂ (λ a b. a ++ b) (take-le_bytes (k + m) k w (omega arith)) (drop-le_bytes (k + m) k w ∙ ap (λ j. le_bytes j (w / 2 ^ (8 * k))) left)
+
+-- each of the bytes is one
+pub All-le_bytes : (n w : ℕ) → All (λ byte. byte < 256) (le_bytes n w)
+All-le_bytes zero w k d below = absurd (omega arith)
+All-le_bytes (suc n) w zero d below = let first : w % 256 < 256 = omega arith in first
+All-le_bytes (suc n) w (suc k) d below = All-le_bytes n (w / 256) k d (omega arith)
+
+-- what holds of each byte holds of the first, and of each other
+first_byte : (x : ℕ) (xs : List ℕ) → All (λ byte. byte < 256) (x ∷ xs) → x < 256
+first_byte x xs all = all 0 0 (omega arith)
+
+other_bytes : (x : ℕ) (xs : List ℕ) → All (λ byte. byte < 256) (x ∷ xs) → All (λ byte. byte < 256) xs
+other_bytes x xs all k d below = all (suc k) d (omega arith)
+
+-- bytes spell a number that fits them
+pub le_number-lt : (bytes : List ℕ) → All (λ byte. byte < 256) bytes → le_number bytes < 2 ^ (8 * length bytes)
+le_number-lt [] all = omega arith
+le_number-lt (x ∷ xs) all =
+    let r = le_number-lt xs (other_bytes x xs all) in
+    let first = first_byte x xs all in
+    let more : 8 * length (x ∷ xs) ≡ 8 * suc (length xs) = omega arith in
+    let p : 2 ^ (8 * length (x ∷ xs)) ≡ 256 * 2 ^ (8 * length xs) = ap (λ j. 2 ^ j) more ∙ pow_byte-suc (length xs) in
+    rw p (omega arith)
+
+-- the number that bytes spell has those bytes
+pub le_bytes-le_number : (bytes : List ℕ) → All (λ byte. byte < 256) bytes → le_bytes (length bytes) (le_number bytes) ≡ bytes
+le_bytes-le_number [] all = refl
+le_bytes-le_number (x ∷ xs) all =
+    let first = first_byte x xs all in
+    let low : (x + 256 * le_number xs) % 256 ≡ x = omega arith in
+    let high : (x + 256 * le_number xs) / 256 ≡ le_number xs = omega arith in
+    ap₂ (λ byte bytes. byte ∷ bytes) low (ap (le_bytes (length xs)) high ∙ le_bytes-le_number xs (other_bytes x xs all))

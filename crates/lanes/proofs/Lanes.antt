@@ -1,5 +1,5 @@
 -- What a lane is as a number, and what writing one leaves in each other.
-use Rattle.std.proofs.Common.{◌≡◌, ℕ, ◌+◌, ◌-◌, ◌*◌, ◌/◌, ◌%◌, ◌^◌, ◌<◌, ◌≤◌, ◌⊎◌, List, ◌++◌, length, take, drop, refl, sym, ap, ◌∙◌, subst, append_assoc, bit_and, mod-lt, mod-eq_of_lt, inl, inr, arith}
+use Rattle.std.proofs.Common.{◌≡◌, ℕ, ◌+◌, ◌-◌, ◌*◌, ◌/◌, ◌%◌, ◌^◌, ◌<◌, ◌≤◌, ◌⊎◌, List, ◌++◌, length, take, drop, sym, ap, ◌∙◌, subst, append_assoc, bit_and, mod-lt, mod-eq_of_lt, inl, inr, arith}
 use Rattle.std.proofs.lemmas.Nat.{pow-add, pow_pos, shr_below, and_mask, shl_whole, mul-add-lt, div-add-mod'}
 use Rattle.std.proofs.lemmas.Nat.Bits.{ones_shr}
 use Rattle.std.proofs.lemmas.List.{take_at, drop_at, take-append-le, take-take, drop-take, length-take-le, length-append}
@@ -72,7 +72,7 @@ made word addr width value lane word_fits within value_fits is_lane =
     record {
       below = rw lane_whole (taken_out word (2 ^ shift) (2 ^ bits));
       fits = rw whole (subst P (sym all_bits) (λ h. replaced-fits word shift bits (8 * room) value h value_fits) word_fits);
-      is = ap (le_bytes 8) whole ∙ subst B (sym all_bytes) (le_bytes-splice (addr % 8) width room word value value_fits)
+      is = ap (le_bytes 8) whole ∙ subst B (sym all_bytes) (le_bytes-splice (addr % 8) width room word value value_fits);
     }
 
 -- bytes that end before those that were replaced begin
@@ -101,5 +101,6 @@ unfolding lane_of IsWithLane
 written_elsewhere word addr width value written other other_width within apart is =
     let begun : addr % 8 ≤ length (le_bytes 8 word) = omega (arith, length-le_bytes 8 word) in
     elim apart [
-      inl ends ↦ ap (λ bytes. le_number (take other_width (drop (other % 8) bytes))) is ∙ ap le_number (before (le_bytes 8 word) _ (addr % 8) (other % 8) other_width ends begun)
-    | inr begins ↦ ap (λ bytes. le_number (take other_width (drop (other % 8) bytes))) is ∙ ap (λ bytes. le_number (take other_width bytes)) (after (le_bytes 8 word) (le_bytes width value) (addr % 8) width (other % 8) begins begun (length-le_bytes width value)) ]
+      | inl ends ↦ ap (λ bytes. le_number (take other_width (drop (other % 8) bytes))) is ∙ ap le_number (before (le_bytes 8 word) _ (addr % 8) (other % 8) other_width ends begun)
+      | inr begins ↦ ap (λ bytes. le_number (take other_width (drop (other % 8) bytes))) is ∙ ap (λ bytes. le_number (take other_width bytes)) (after (le_bytes 8 word) (le_bytes width value) (addr % 8) width (other % 8) begins begun (length-le_bytes width value))
+    ]

@@ -12,6 +12,7 @@ pub struct Part {
 
 /// The one or two ranges in aligned words of 8 bytes that make the range of `width` bytes at `addr`, the one at
 /// the lower address first. The width is 1 to 8 bytes, and the range ends at or below 2^64 - 1.
+#[inline]
 pub fn parts(addr: u64, width: u8) -> (Part, Option<Part>)
     requires some { 1 ≤ width }
     requires at_most_a_word { width ≤ 8 }
@@ -23,7 +24,10 @@ pub fn parts(addr: u64, width: u8) -> (Part, Option<Part>)
         (Part { addr, width }, None)
     } else {
         let first = Part { addr, width: room };
-        let second = Part { addr: addr + u64::from(room), width: width - room };
+        let second = Part {
+            addr: addr + u64::from(room),
+            width: width - room,
+        };
         (first, Some(second))
     }
 }

@@ -6,13 +6,6 @@ use std::test::Fail;
 
 const WORD: u64 = 0x1122_3344_5566_7788;
 
-/// A lane by its first byte and its width, and the number in it.
-struct Lane {
-    first: u64,
-    width: u8,
-    number: u64,
-}
-
 #[test]
 fn lane_of_each_width_at_each_place(rt: HostRuntime) -> Result<(), Fail> {
     let lanes = [
@@ -47,9 +40,58 @@ fn lane_of_each_width_at_each_place(rt: HostRuntime) -> Result<(), Fail> {
         (0, 8, 0x1122_3344_5566_7788),
     ];
     for (first, width, number) in lanes {
-        assert!(rt; 1 <= width && width <= 8 && first + u64::from(width) <= 8);
+        assert!(rt; 1 <= width && width <= 8 && first <= 8 - u64::from(width));
         assert_eq!(rt; lane(WORD, first, width), number, "{width} at {first}");
-        assert_eq!(rt; lane(WORD, 65_528 + first, width), number, "{width} at {first}, further on");
+        assert_eq!(rt;
+            lane(WORD, 65_528 + first, width),
+            number,
+            "{width} at {first}, further on"
+        );
     }
+    Ok(())
+}
+
+#[test]
+fn with_lane_at_the_edges(rt: HostRuntime) -> Result<(), Fail> {
+    assert_eq!(rt; with_lane(WORD, 0, 1, 0), 0x1122_3344_5566_7700);
+    assert_eq!(rt; with_lane(WORD, 0, 1, 0xff), 0x1122_3344_5566_77ff);
+    assert_eq!(rt; with_lane(WORD, 7, 1, 0), 0x0022_3344_5566_7788);
+    assert_eq!(rt; with_lane(WORD, 7, 1, 0xff), 0xff22_3344_5566_7788);
+    assert_eq!(rt; with_lane(WORD, 3, 2, 0), 0x1122_3300_0066_7788);
+    assert_eq!(rt; with_lane(WORD, 3, 2, 0xffff), 0x1122_33ff_ff66_7788);
+    assert_eq!(rt; with_lane(WORD, 12, 4, 0), 0x5566_7788);
+    assert_eq!(rt; with_lane(WORD, 12, 4, 0xffff_ffff), 0xffff_ffff_5566_7788);
+    assert_eq!(rt; with_lane(WORD, 1, 7, 0), 0x88);
+    assert_eq!(rt; with_lane(WORD, 0, 8, 0), 0);
+    assert_eq!(rt; with_lane(WORD, 0, 8, u64::MAX), u64::MAX);
+    assert_eq!(rt; with_lane(0, 4, 2, 0xabcd), 0xabcd_0000_0000);
+    Ok(())
+}
+
+#[test]
+fn parts_of_accesses(rt: HostRuntime) -> Result<(), Fail> {
+    assert_eq!(rt; parts(0, 8), (Part { addr: 0, width: 8 }, None));
+    assert_eq!(rt; parts(8, 1), (Part { addr: 8, width: 1 }, None));
+    assert_eq!(rt;
+        parts(4, 8),
+        (Part { addr: 4, width: 4 }, Some(Part { addr: 8, width: 4 }))
+    );
+    assert_eq!(rt;
+        parts(7, 2),
+        (Part { addr: 7, width: 1 }, Some(Part { addr: 8, width: 1 }))
+    );
+    assert_eq!(rt;
+        parts(65_532, 8),
+        (
+            Part {
+                addr: 65_532,
+                width: 4
+            },
+            Some(Part {
+                addr: 65_536,
+                width: 4
+            })
+        )
+    );
     Ok(())
 }

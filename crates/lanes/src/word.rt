@@ -4,6 +4,7 @@ ghost use Rattle.std.specs.Prelude.{◌≡◌, ℕ, ◌+◌, ◌*◌, ◌%◌, �
 ghost use Rattle.lanes.specs.Words.{lane_of, IsWithLane};
 
 /// The number of the `width` bytes at `addr % 8` in the word: 1 to 8 bytes, that end within the word.
+#[inline]
 pub fn lane(word: u64, addr: u64, width: u8) -> u64
     requires some { 1 ≤ width }
     requires one_word { addr % 8 + width ≤ 8 }
@@ -15,6 +16,7 @@ pub fn lane(word: u64, addr: u64, width: u8) -> u64
 
 /// The word with the `width` bytes at `addr % 8` replaced by those of the value: 1 to 8 bytes, that end within
 /// the word, and a value that fits them.
+#[inline]
 pub fn with_lane(word: u64, addr: u64, width: u8, value: u64) -> u64
     requires some { 1 ≤ width }
     requires one_word { addr % 8 + width ≤ 8 }

@@ -1,4 +1,4 @@
-use Rattle.std.proofs.Common.{◌≡◌, ◌*◌, ◌/◌, ◌^◌, ◌%◌, ◌≤◌, ap, sym, ◌∙◌, arith}
+use Rattle.std.proofs.Common.{◌≡◌, ◌*◌, ◌/◌, ◌^◌, ◌%◌, ap, sym, ◌∙◌, arith}
 use Rattle.lanes.proofs.Lanes.{cut_by_mask, lane_of-number}
 use Rattle.lanes.proofs.word.lane.Goals as goal
 
