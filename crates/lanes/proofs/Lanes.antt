@@ -25,7 +25,7 @@ cut_by_mask n bits within =
     let ones : 18446744073709551615 / 2 ^ (64 - bits) ≡ 2 ^ bits - 1 = ones_shr 64 (64 - bits) (omega arith) ∙ ap (λ j. 2 ^ j - 1) whole in
     ap (bit_and n) ones ∙ and_mask n bits
 
--- a lane taken out of a number and a value put in its place, of which `low` numbers lie below and `wide` fit
+-- a number with a part taken out and a value put in its place: the part counts in units of `low`, and takes `wide` values
 replaced : (word low wide value : ℕ) → word - word / low % wide * low + value * low ≡ word % low + low * (value + wide * (word / low / wide))
 replaced word low wide value =
     let outer = div-add-mod' word low in

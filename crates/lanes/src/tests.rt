@@ -1,5 +1,7 @@
 //! Words, lanes and ranges worked out by hand.
 
+ghost use Rattle.std.specs.Prelude.{◌<◌, ◌≤◌};
+
 use crate::range::{Part, parts};
 use crate::word::{lane, with_lane};
 use std::test::Fail;
@@ -100,5 +102,29 @@ fn parts_of_accesses(rt: HostRuntime) -> Result<(), Fail> {
             })
         )
     );
+    Ok(())
+}
+
+/// The number of the `width` bytes at an address in two words that follow one another.
+fn loaded(words: [u64; 2], addr: u64, width: u8) -> u64
+    requires some { 1 ≤ width }
+    requires at_most_a_word { width ≤ 8 }
+    requires in_first { addr < 8 }
+{
+    let (first, second) = parts(addr, width);
+    let low = lane(words[0], first.addr, first.width);
+    match second {
+        None => low,
+        Some(rest) => low | lane(words[1], rest.addr, rest.width) << (8 * first.width),
+    }
+}
+
+#[test]
+fn accesses_over_two_words(rt: HostRuntime) -> Result<(), Fail> {
+    let words = [WORD, 0x99aa_bbcc_ddee_ff00];
+    assert_eq!(rt; loaded(words, 0, 8), WORD);
+    assert_eq!(rt; loaded(words, 4, 8), 0xddee_ff00_1122_3344);
+    assert_eq!(rt; loaded(words, 7, 2), 0x11);
+    assert_eq!(rt; loaded(words, 6, 4), 0xff00_1122);
     Ok(())
 }
