@@ -64,7 +64,7 @@ impl Queue {
     {
         // A live thread's number is below 16.
         let _ = &self.alive;
-        self.put(thread, question, loaded);
+        self.put_question(thread, question, loaded);
         self.settle();
     }
 
@@ -112,7 +112,7 @@ impl Queue {
     }
 
     /// What a question does before the queue settles.
-    fn put(&mut self, thread: u32, question: &Question, loaded: u64)
+    fn put_question(&mut self, thread: u32, question: &Question, loaded: u64)
         requires numbered { thread < 16 }
         requires awake { is_asleep self.old thread ≡ false }
         ensures { self.new ≡ asked self.old thread question.now loaded }
@@ -221,7 +221,7 @@ impl Queue {
         ensures { result ≡ is_stuck self.now }
     {
         let sleepers = self.sleepers.as_slice();
-        !self.alive.is_empty() && are_among(&self.alive, sleepers)
+        !self.is_over() && are_among(&self.alive, sleepers)
     }
 
     /// Where each live thread is asleep, the first timeout ends; where there is none, all sleep for good.

@@ -1,6 +1,7 @@
 //! Scripts that drive a queue. What each step answers was worked out by hand from the rules of waiting, notifying,
 //! spawning and settling.
 use crate::Queue;
+use std::process::Abort;
 use std::test::Fail;
 use types::{Answer, Question};
 
@@ -45,7 +46,7 @@ fn notify(addr: u64, count: u32) -> Question {
     Question::Notify { addr, count }
 }
 
-fn ask(rt: &HostRuntime, queue: &mut Queue, thread: u32, question: &Question) {
+fn ask(rt: &impl Abort, queue: &mut Queue, thread: u32, question: &Question) {
     assert!(rt;
         queue.told(thread).is_none(),
         "an answer is due to thread {thread}"
@@ -55,14 +56,14 @@ fn ask(rt: &HostRuntime, queue: &mut Queue, thread: u32, question: &Question) {
     queue.ask(thread, question, 0);
 }
 
-fn spawn_all(rt: &HostRuntime, queue: &mut Queue, count: u32) {
+fn spawn_all(rt: &impl Abort, queue: &mut Queue, count: u32) {
     for id in 1..=count.min(15) {
         ask(rt, queue, 0, &Question::Spawn { arg: 100 + id });
         assert_eq!(rt; queue.told(0), Some(Answer::Number(id)));
     }
 }
 
-fn take_step(rt: &HostRuntime, queue: &mut Queue, at: usize, step: Step) {
+fn take_step(rt: &impl Abort, queue: &mut Queue, at: usize, step: Step) {
     match step {
         Spawns(count) => spawn_all(rt, queue, count),
         Asks(thread, question) => ask(rt, queue, thread, &question),
@@ -75,7 +76,7 @@ fn take_step(rt: &HostRuntime, queue: &mut Queue, at: usize, step: Step) {
     }
 }
 
-fn play(rt: &HostRuntime, steps: &[Step]) {
+fn play(rt: &impl Abort, steps: &[Step]) {
     let mut queue = Queue::new();
     for (at, step) in steps.iter().enumerate() {
         take_step(rt, &mut queue, at, *step);
