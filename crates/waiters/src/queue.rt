@@ -1,0 +1,246 @@
+//! The state of the wait queue, and its steps.
+ghost use Rattle.std.specs.Prelude.{◌≡◌, ◌<◌, ◌↔◌, [], length, false, true, nat_lt, if◌then◌else◌, IsTrue, MatchOption};
+ghost use Rattle.std.specs.List.{list_all};
+ghost use Rattle.shared_memory.specs.WaitQueue.{IsFree, after_answer, after_question, answer_due, asked, first_queue, is_alive, is_asleep, is_among, is_stuck, leaves, next_id, settled, sleeps, starts, tells, wakes, woken_at};
+ghost use Rattle.waiters.specs.Queue.{AreNumbered, arg_of};
+
+use crate::sleepers::{Sleepers, ends_at_once, first_to_end, is_among, tell_each};
+use arrayvec::ArrayVec;
+use shared_memory::Sleeper;
+use std::marker::Model;
+use types::{Answer, Question};
+
+/// What a spawn answers where 15 threads were spawned already.
+const NO_THREAD: u32 = 4_294_967_295;
+
+/// The wait queue: who is alive, who sleeps, which answers are due, and the arguments of the spawned threads. It takes
+/// no memory beyond itself, holds no lock and waits for nobody.
+///
+/// Threads are numbered 0 to 15. The answers of a wait are 0 where the thread was notified, 1 where the value differed
+/// and 2 where its timeout ended (threads proposal, "Wait and notify operators"); the numbers of threads and the
+/// settling are the profile's own.
+#[derive(Drop)]
+pub struct Queue {
+    alive: ArrayVec<u32, 16>,
+    sleepers: Sleepers,
+    due: [Option<Answer>; 16],
+    args: ArrayVec<u32, 15>,
+}
+
+impl Model for Queue {
+    ghost use Rattle.shared_memory.specs.WaitQueue.{WaitQueue};
+    ghost use Rattle.waiters.specs.Queue.{IsSound};
+
+    ghost Value = { WaitQueue };
+
+    ghost view = { λ a. record { alive = a.alive.items; sleepers = a.sleepers; due = a.due; args = a.args.items } };
+
+    ghost invariant = { λ a. IsSound (record { alive = a.alive.items; sleepers = a.sleepers; due = a.due; args = a.args.items }) };
+}
+
+impl Queue {
+    /// The first state: thread 0 alone is alive.
+    #[tactic(auto, unfolding(shared_memory::specs::WaitQueue::first_queue))]
+    pub fn new() -> Queue
+        ensures { result ≡ first_queue }
+    {
+        let mut alive = ArrayVec::new();
+        alive.push(0);
+        Queue {
+            alive,
+            sleepers: Sleepers::new(),
+            due: [None; 16],
+            args: ArrayVec::new(),
+        }
+    }
+
+    /// A live thread without an open question asks the question, with the value that a wait's word has: for another
+    /// question `loaded` counts for nothing. Its answer is due at once, or once it is woken. Then the queue settles:
+    /// where each live thread is asleep, the least timeout ends, and where none has one, all sleep for good.
+    #[tactic(auto, unfolding(shared_memory::specs::WaitQueue::after_question))]
+    pub fn ask(&mut self, thread: u32, question: &Question, loaded: u64)
+        requires { IsFree self.old thread }
+        ensures { self.new ≡ after_question self.old thread question.now loaded }
+    {
+        // A live thread's number is below 16.
+        let _ = &self.alive;
+        self.put_question(thread, question, loaded);
+        self.settle();
+    }
+
+    /// The answer that is due to the thread, which is then taken; `None`, with no change, where none is due.
+    #[tactic(auto, unfolding(shared_memory::specs::WaitQueue::after_answer))]
+    pub fn told(&mut self, thread: u32) -> Option<Answer>
+        ensures answer { result ≡ answer_due self.old thread }
+        ensures after { MatchOption result (self.new ≡ self.old) (λ _. self.new ≡ after_answer self.old thread) }
+    {
+        let place = thread as usize;
+        let answer = *self.due.get(place)?;
+        if answer.is_some() {
+            self.due[place] = None;
+        }
+        answer
+    }
+
+    /// Whether the thread is alive.
+    pub fn is_alive(&self, thread: u32) -> bool
+        ensures { result ≡ is_alive self.now thread }
+    {
+        self.alive.contains(&thread)
+    }
+
+    /// Whether the thread sleeps.
+    pub fn is_asleep(&self, thread: u32) -> bool
+        ensures { result ≡ is_asleep self.now thread }
+    {
+        is_among(thread, self.sleepers.as_slice())
+    }
+
+    /// Whether nobody is alive.
+    pub fn is_over(&self) -> bool
+        ensures { IsTrue result ↔ (self.now.alive ≡ []) }
+    {
+        self.alive.is_empty()
+    }
+
+    /// The argument that a spawned thread was given, or `None` where the thread is 0 or wasn't spawned.
+    pub fn arg_of(&self, thread: u32) -> Option<u32>
+        ensures { result ≡ arg_of self.now thread }
+    {
+        let place = thread.checked_sub(1)?;
+        self.args.get(place as usize).copied()
+    }
+
+    /// What a question does before the queue settles.
+    fn put_question(&mut self, thread: u32, question: &Question, loaded: u64)
+        requires numbered { thread < 16 }
+        requires awake { is_asleep self.old thread ≡ false }
+        ensures { self.new ≡ asked self.old thread question.now loaded }
+    {
+        match *question {
+            Question::Wait {
+                addr,
+                width: _,
+                expected,
+                timeout,
+            } => {
+                if loaded != expected {
+                    self.tell(thread, Answer::Number(1));
+                } else if ends_at_once(timeout) {
+                    self.tell(thread, Answer::Number(2));
+                } else {
+                    self.sleep(Sleeper {
+                        thread,
+                        addr,
+                        timeout,
+                    });
+                }
+            }
+            Question::Notify { addr, count } => {
+                let woken = self.notify(addr, count);
+                self.tell(thread, Answer::Number(woken));
+            }
+            Question::Spawn { arg } => {
+                let id = self.spawn(arg);
+                self.tell(thread, Answer::Number(id));
+            }
+            Question::Leave => {
+                self.leave(thread);
+                self.tell(thread, Answer::Number(0));
+            }
+        }
+    }
+
+    /// The thread is given an answer, which is due until it takes it.
+    fn tell(&mut self, thread: u32, answer: Answer)
+        requires { thread < 16 }
+        ensures { self.new ≡ tells thread answer self.old }
+    {
+        self.due[thread as usize] = Some(answer);
+    }
+
+    /// A thread falls asleep, behind those that sleep already.
+    fn sleep(&mut self, s: Sleeper)
+        requires numbered { s.thread < 16 }
+        requires awake { is_asleep self.old s.thread ≡ false }
+        ensures { self.new ≡ sleeps s self.old }
+    {
+        self.sleepers.push(s);
+    }
+
+    /// Wakes those that have slept longest at the address, as many as are counted, and answers how many they are.
+    fn notify(&mut self, addr: u64, count: u32) -> u32
+        ensures after { self.new ≡ wakes (woken_at addr count self.old.sleepers) (Answer.Number 0) self.old }
+        ensures woken { result ≡ length (woken_at addr count self.old.sleepers) }
+    {
+        let woken = self.sleepers.woken_at(addr, count);
+        self.wake(woken.as_slice(), Answer::Number(0));
+        woken.as_slice().len() as u32
+    }
+
+    /// A thread with the next number comes alive, unless 15 were spawned already.
+    fn spawn(&mut self, arg: u32) -> u32
+        ensures after { self.new ≡ (if nat_lt (next_id self.old) 16 then starts arg self.old else self.old) }
+        ensures id { result ≡ (if nat_lt (next_id self.old) 16 then next_id self.old else NO_THREAD) }
+    {
+        let id = self.args.len() as u32 + 1;
+        if id >= 16 {
+            return NO_THREAD;
+        }
+        self.alive.push(id);
+        self.args.push(arg);
+        id
+    }
+
+    /// The thread is alive no more.
+    fn leave(&mut self, thread: u32)
+        ensures { self.new ≡ leaves thread self.old }
+    {
+        self.alive.retain(|m| *m != thread);
+    }
+
+    /// Each of these sleepers sleeps no more, and is given the answer.
+    fn wake(&mut self, woken: &[Sleeper], answer: Answer)
+        requires { AreNumbered woken.now }
+        ensures { self.new ≡ wakes woken.now answer self.old }
+    {
+        self.sleepers = self.sleepers.without(woken);
+        tell_each(&mut self.due, woken, answer);
+    }
+
+    /// All sleep for good.
+    fn wake_all(&mut self)
+        ensures { self.new ≡ wakes self.old.sleepers Answer.ForGood self.old }
+    {
+        tell_each(&mut self.due, self.sleepers.as_slice(), Answer::ForGood);
+        self.sleepers = Sleepers::new();
+    }
+
+    /// Whether somebody is alive, and each live thread is asleep.
+    fn is_stuck(&self) -> bool
+        ensures { result ≡ is_stuck self.now }
+    {
+        let sleepers = self.sleepers.as_slice();
+        !self.is_over() && are_among(&self.alive, sleepers)
+    }
+
+    /// Where each live thread is asleep, the first timeout ends; where there is none, all sleep for good.
+    fn settle(&mut self)
+        ensures { self.new ≡ settled self.old }
+    {
+        if !self.is_stuck() {
+            return;
+        }
+        match first_to_end(self.sleepers.as_slice()) {
+            Some(first) => self.wake(&[first], Answer::Number(2)),
+            None => self.wake_all(),
+        }
+    }
+}
+
+/// Whether each of these threads is among the sleepers.
+fn are_among(threads: &[u32], sleepers: &[Sleeper]) -> bool
+    ensures { result ≡ list_all (λ n. is_among n sleepers.now) threads.now }
+{
+    threads.iter().all(|n| is_among(*n, sleepers))
+}
