@@ -1,5 +1,5 @@
 //! What the calls answer, with the expected values written out by hand.
-ghost use Rattle.std.specs.Prelude.{◌≡◌, ◌⊎◌};
+ghost use Rattle.std.specs.Prelude.{◌≡◌, ◌<◌, ◌⊎◌};
 ghost use Rattle.shared_memory.specs.Events.{FitsWidth};
 
 use crate::{OneMemory, OpenFault};
@@ -24,6 +24,7 @@ fn open_filled(alloc: Global, pages: u8, max: u32) -> Result<OneMemory, Fail> {
 fn check_operators(rt: &impl Abort, alloc: Global, width: u8, most: u64) -> Result<(), Fail>
     requires width { (width ≡ 1) ⊎ (width ≡ 2) ⊎ (width ≡ 4) ⊎ (width ≡ 8) }
     requires most { FitsWidth width most }
+    requires some { 0 < most }
 {
     let rows = [
         (RmwOp::Add, 0, 0, 0),
@@ -259,8 +260,9 @@ fn growth(rt: HostRuntime) -> Result<(), Fail> {
     assert_eq!(rt; memory.max(), 3);
     let bytes = memory.into_bytes();
     assert_eq!(rt; bytes.len(), 3 * PAGE);
-    assert!(rt; bytes[..PAGE].iter().all(|byte| *byte == 0xaa));
-    assert!(rt; bytes[PAGE..].iter().all(|byte| *byte == 0));
+    for (i, byte) in bytes.iter().enumerate() {
+        assert_eq!(rt; *byte, if i < PAGE { 0xaa } else { 0 }, "at {i}");
+    }
     Ok(())
 }
 
