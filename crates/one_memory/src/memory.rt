@@ -120,7 +120,8 @@ impl OneMemory {
     pub fn into_bytes(self) -> Vec<u8>
         ensures { result.items ≡ self.bytes }
     {
-        self.bytes
+        let OneMemory { bytes, max: _ } = self;
+        bytes
     }
 
     /// `memory.grow` (Core specification 1.0, section 4.4.4): the page count before, or 4294967295 where the sum
@@ -143,7 +144,7 @@ impl OneMemory {
         requires { IsPart addr width reach }
         ensures { result ≡ if_within self.now reach (Value (loaded self.now addr width)) OutOfBounds }
     {
-        if reach > self.bytes.len() as u64 {
+        if !self.ends_within(reach) {
             return Reply::OutOfBounds;
         }
         Reply::Value(self.number_at(addr, width))
@@ -155,7 +156,7 @@ impl OneMemory {
         ensures reply { result ≡ if_within self.old reach Done OutOfBounds }
         ensures state { self.new ≡ if_within self.old reach (written self.old addr width value) self.old }
     {
-        if reach > self.bytes.len() as u64 {
+        if !self.ends_within(reach) {
             return Reply::OutOfBounds;
         }
         self.write(addr, width, value);
@@ -210,7 +211,14 @@ impl OneMemory {
         }
     }
 
-    /// Whether an access lies within the memory.
+    /// Whether an access that ends at this address lies within the memory.
+    fn ends_within(&self, end: u64) -> bool
+        ensures { result ≡ nat_le end (length self.now.bytes) }
+    {
+        end <= self.bytes.len() as u64
+    }
+
+    /// Whether an access of so many bytes lies within the memory. Its end may pass the last address.
     fn is_within(&self, addr: u64, width: u8) -> bool
         ensures { result ≡ nat_le (addr + width) (length self.now.bytes) }
     {

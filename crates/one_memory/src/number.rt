@@ -12,6 +12,23 @@ pub fn read(bytes: &[u8], at: usize, width: usize) -> u64
     requires narrow { width ≤ 8 }
     ensures { result ≡ le_number (take width (drop at bytes.now)) }
 {
+    // Where the width is known, the compiler makes one load of the loop.
+    match width {
+        1 => read_each(bytes, at, 1),
+        2 => read_each(bytes, at, 2),
+        4 => read_each(bytes, at, 4),
+        8 => read_each(bytes, at, 8),
+        _ => read_each(bytes, at, width),
+    }
+}
+
+/// The same, byte by byte from the top down.
+#[inline(always)]
+fn read_each(bytes: &[u8], at: usize, width: usize) -> u64
+    requires inside { at + width ≤ length bytes.now }
+    requires narrow { width ≤ 8 }
+    ensures { result ≡ le_number (take width (drop at bytes.now)) }
+{
     let mut number = 0;
     for i in (0..width).rev() {
         number = number * 256 + u64::from(bytes[at + i]);
@@ -21,6 +38,22 @@ pub fn read(bytes: &[u8], at: usize, width: usize) -> u64
 
 /// Writes a number to `width` bytes from `at` on; what doesn't fit is cut off at the top.
 pub fn write(bytes: &mut [u8], at: usize, width: usize, number: u64)
+    requires { at + width ≤ length bytes.old }
+    ensures { bytes.new ≡ splice bytes.old at (at + width) (le_bytes width number) }
+{
+    // Where the width is known, the compiler makes one store of the loop.
+    match width {
+        1 => write_each(bytes, at, 1, number),
+        2 => write_each(bytes, at, 2, number),
+        4 => write_each(bytes, at, 4, number),
+        8 => write_each(bytes, at, 8, number),
+        _ => write_each(bytes, at, width, number),
+    }
+}
+
+/// The same, byte by byte from the bottom up.
+#[inline(always)]
+fn write_each(bytes: &mut [u8], at: usize, width: usize, number: u64)
     requires { at + width ≤ length bytes.old }
     ensures { bytes.new ≡ splice bytes.old at (at + width) (le_bytes width number) }
 {

@@ -1,7 +1,7 @@
 use Rattle.std.proofs.Common.{◌≡◌, ◌+◌, ◌-◌}
 use Rattle.std.specs.List.{splice}
 use Rattle.shared_memory.specs.Numbers.{le_bytes}
-use Rattle.one_memory.proofs.number.write.Given as goal
+use Rattle.one_memory.proofs.number.write_each.Given as goal
 
 abbrev pub invariant-loop-i : goal.invariant-loop-i
 invariant-loop-i l =

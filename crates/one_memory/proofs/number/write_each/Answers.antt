@@ -1,6 +1,6 @@
 use Rattle.std.proofs.Common.{◌∙◌, arith}
 use Rattle.one_memory.proofs.Bytes.{write_more}
-use Rattle.one_memory.proofs.number.write.Goals as goal
+use Rattle.one_memory.proofs.number.write_each.Goals as goal
 
 pub loop-i-preserved : goal.loop-i-preserved
 loop-i-preserved c =

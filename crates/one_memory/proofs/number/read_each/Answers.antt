@@ -1,6 +1,6 @@
 use Rattle.std.proofs.Common.{◌+◌, ◌-◌, ◌<◌, ◌≡◌, arith}
 use Rattle.one_memory.proofs.Bytes.{byte_below, fits_word, le_number-more}
-use Rattle.one_memory.proofs.number.read.Goals as goal
+use Rattle.one_memory.proofs.number.read_each.Goals as goal
 
 pub overflow_mul-number : goal.overflow_mul-number
 overflow_mul-number c =

@@ -1,6 +1,6 @@
 use Rattle.std.proofs.Common.{◌≡◌, ◌+◌, ◌-◌, ◌*◌, ◌^◌, ◌<◌, take, drop}
 use Rattle.shared_memory.specs.Numbers.{le_number}
-use Rattle.one_memory.proofs.number.read.Given as goal
+use Rattle.one_memory.proofs.number.read_each.Given as goal
 
 abbrev pub invariant-loop-i : goal.invariant-loop-i
 invariant-loop-i l = record {
