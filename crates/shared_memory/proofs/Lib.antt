@@ -1,1 +1,5 @@
 pub mod Histories
+pub mod Sleepers
+pub mod Soundness
+pub mod Settling
+pub mod Others
