@@ -3,3 +3,5 @@ pub mod Sleepers
 pub mod Soundness
 pub mod Settling
 pub mod Others
+pub mod Standing
+pub mod Props
