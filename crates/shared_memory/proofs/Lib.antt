@@ -4,4 +4,6 @@ pub mod Soundness
 pub mod Settling
 pub mod Others
 pub mod Standing
+pub mod Turns
+pub mod Prefixes
 pub mod Props

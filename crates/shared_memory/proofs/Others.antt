@@ -99,7 +99,7 @@ Keeps-starts n q arg =
 Keeps-leaves : (n t : ℕ) (q : WaitQueue) → t ≢ n → Keeps n q (leaves t q)
 Keeps-leaves n t q apart = Keeps-alike n q (leaves t q) (λ h. alive_but t n q.alive apart h) refl refl
 
-Keeps-settled : (n : ℕ) (q : WaitQueue) → IsSound q → Keeps n q (settled q)
+pub Keeps-settled : (n : ℕ) (q : WaitQueue) → IsSound q → Keeps n q (settled q)
 Keeps-settled n q sound =
     cond_both (is_stuck q) (wakes (ended q.sleepers) (end_answer q.sleepers) q) q (λ w. Keeps n q w)
     (λ e. Keeps-wakes n q (ended q.sleepers) (end_answer q.sleepers) sound (λ among. ended_sleeps n q.sleepers among)) (λ e. Keeps-same n q)

@@ -10,7 +10,7 @@ use Rattle.types.specs.declared.event.Reply.{Reply}
 use Rattle.shared_memory.specs.Memory.{Memory, reply_of, state_after}
 use Rattle.shared_memory.specs.WaitQueue.{WaitQueue, first_queue, is_alive, is_asleep, answer_due, IsFree}
 use Rattle.shared_memory.specs.History.{of_queue, queue_step, queue_after}
-use Rattle.shared_memory.specs.Legal.{IsMemoryLegal, IsAllowed, IsQueueLegalFrom, IsQueueLegal, MayEnter, IsInTurn, IsWellFormedFrom, IsWellFormed}
+use Rattle.shared_memory.specs.Legal.{IsMemoryLegal, IsAllowed, IsQueueLegalFrom, IsQueueLegal, MayEnter, IsInTurn, IsWellFormedFrom, IsWellFormed, IsLegal}
 
 Reply-set : (a b : Reply) → IsProp (a ≡ b)
 Reply-set a b = hlevel props
@@ -60,3 +60,10 @@ IsWellFormedFrom-prop q (e ∷ history) = ×_prop (IsInTurn-prop q e.thread e.ev
 pub IsWellFormed-prop : (history : List Entry) → IsProp (IsWellFormed history)
 unfolding IsWellFormed
 IsWellFormed-prop history = IsWellFormedFrom-prop first_queue history
+
+pub IsLegal-prop : (opening : Memory) (history : List Entry) → IsProp (IsLegal opening history)
+IsLegal-prop opening history = λ x y. λ i. record {
+  memory = IsMemoryLegal-prop opening history x.memory y.memory i;
+  queue = IsQueueLegal-prop history x.queue y.queue i;
+  form = IsWellFormed-prop history x.form y.form i;
+}
