@@ -55,7 +55,7 @@ ended_sleeps n sleepers among = ended_cases n sleepers (first_to_end sleepers) r
 -- after settling
 
 -- of some live thread that a test fails not all pass
-all_fails : (test : ℕ → Bool) (n : ℕ) (ns : List ℕ) → list_any (λ m. m == n) ns ≡ true → test n ≡ false → list_all test ns ≡ false
+pub all_fails : (test : ℕ → Bool) (n : ℕ) (ns : List ℕ) → list_any (λ m. m == n) ns ≡ true → test n ≡ false → list_all test ns ≡ false
 all_fails test n [] is fails = absurd (cc is)
 all_fails test n (m ∷ ns) is fails =
     elim (or_cases (m == n) (list_any (λ k. k == n) ns) is) [

@@ -96,7 +96,7 @@ module _ (n : ℕ) (xs zs : List Entry) (p : IsPrefix xs zs) (same : entries_of 
 
 -- who has entered nothing
 
-quiet_first : (n : ℕ) → IsQuiet (queue_after []) n
+pub quiet_first : (n : ℕ) → IsQuiet (queue_after []) n
 unfolding queue_after first_queue
 quiet_first n = record {
   awake = refl;
