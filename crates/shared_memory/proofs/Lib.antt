@@ -1,1 +1,9 @@
 pub mod Histories
+pub mod Sleepers
+pub mod Soundness
+pub mod Settling
+pub mod Others
+pub mod Standing
+pub mod Turns
+pub mod Prefixes
+pub mod Props

@@ -1,0 +1,4 @@
+pub mod Alternating
+pub mod Notified
+pub mod Timeouts
+pub mod Worked
