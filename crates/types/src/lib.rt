@@ -4,6 +4,9 @@
 
 mod event;
 mod instr;
+mod limits;
+mod module;
+mod nesting;
 mod operators;
 mod outcome;
 mod parts;
@@ -12,6 +15,7 @@ mod value;
 
 pub use event::{Answer, Entry, Event, Question, Reply, RmwOp};
 pub use instr::{BlockType, Instr, PlainInstr};
+pub use module::Module;
 pub use operators::{
     AccessWidth, AtomicOp, BinaryOp, CompareOp, ConvertOp, LoadOp, MemArg, NarrowWidth,
     NumericInstr, UnaryOp,
