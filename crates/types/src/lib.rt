@@ -11,6 +11,8 @@ mod operators;
 mod outcome;
 mod parts;
 mod sequence;
+#[cfg(test)]
+mod tests;
 mod value;
 
 pub use event::{Answer, Entry, Event, Question, Reply, RmwOp};

@@ -6,17 +6,19 @@ ghost use Rattle.types.specs.Tests.{is_type_within, is_table_within, is_max_with
 
 use crate::parts::{Body, ElementSegment, FuncType, Import, ImportDesc, Limits, Parts};
 
-/// The items of a section other than those of functions and code.
+/// Items of a section other than those of functions and code.
 const ITEMS: usize = 1_000;
 
-/// Functions with imported ones, functions of one element segment, and a table's elements.
+/// Functions with imported ones, and functions of one element segment.
 const FUNCTIONS: usize = 10_000;
 
+/// Elements of a table at first.
 const ELEMENTS: u32 = 10_000;
 
 /// Parameters, results, and locals with parameters.
 const LOCALS: usize = 1_000;
 
+/// Pages of a memory, at first and at most.
 const PAGES: u32 = 64;
 
 fn is_type_in(func_type: &FuncType) -> bool
