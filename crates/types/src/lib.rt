@@ -1,11 +1,31 @@
-//! What runs of threads are made of: values, the events by which a thread reaches the shared memory and the
-//! desk, the replies to them, the entries of a history, and the outcomes of threads.
+//! What a run is made of: modules and their instructions, values, the events by which a thread reaches the shared
+//! memory and the desk, the replies to them, the entries of a history, and the outcomes of threads.
 #![tactic(auto)]
 
 mod event;
+mod instr;
+mod limits;
+mod module;
+mod nesting;
+mod operators;
 mod outcome;
+mod parts;
+mod sequence;
+#[cfg(test)]
+mod tests;
 mod value;
 
 pub use event::{Answer, Entry, Event, Question, Reply, RmwOp};
+pub use instr::{BlockType, Instr, PlainInstr};
+pub use module::Module;
+pub use operators::{
+    AccessWidth, AtomicOp, BinaryOp, CompareOp, ConvertOp, LoadOp, MemArg, NarrowWidth,
+    NumericInstr, UnaryOp,
+};
 pub use outcome::{Outcome, Stop, ThreadReport, Trap};
+pub use parts::{
+    Body, DataSegment, ElementSegment, Export, ExportDesc, FuncType, Global, GlobalType, Import,
+    ImportDesc, Limits, Parts,
+};
+pub use sequence::{Name, Sequence};
 pub use value::{ValType, Value};

@@ -1,6 +1,7 @@
 //! Integer types and values.
 ghost use Rattle.std.specs.Prelude.{◌≡◌};
 ghost use Rattle.types.specs.Values.{type_of, value_text};
+ghost use Rattle.types.specs.Widths.{type_bytes};
 
 use std::fmt;
 
@@ -9,6 +10,18 @@ use std::fmt;
 pub enum ValType {
     I32,
     I64,
+}
+
+impl ValType {
+    /// The bytes of a value of this type: 4 or 8.
+    pub fn bytes(self) -> u8
+        ensures { result ≡ type_bytes self }
+    {
+        match self {
+            ValType::I32 => 4,
+            ValType::I64 => 8,
+        }
+    }
 }
 
 /// An integer of 32 or 64 bits (Core specification 1.0, section 4.2.1). It has no sign: each operator reads the
