@@ -95,7 +95,7 @@ lines_are old new dump addr value outcome m below outcome_is m_is wrote =
     let text : Outcome → ℕ → List ℕ → List ℕ = λ o p bytes. thread_line 0 o ++ pages_line p ++ bytes_line dump bytes in
     subst (Appends old new)
     (ap (λ o. text o (pages m) m.bytes) outcome_is ∙ ap (λ (w : Memory). text (first_outcome addr) (pages w) w.bytes) m_is
-     ∙ ap (λ p. text (first_outcome addr) p (page_after addr value)) (one_page addr value below)) wrote
+    ∙ ap (λ p. text (first_outcome addr) p (page_after addr value)) (one_page addr value below)) wrote
 
 -- the status says whether the address is one that 4 doesn't divide
 pub status_of : (b : Bool) → bool_byte (not b) ≡ cond b 0 1

@@ -39,6 +39,7 @@ const MODULE: [u8; 46] = [
 
 /// Where the address and the addend stand.
 const ADDRESS: usize = 38;
+
 const ADDEND: usize = 40;
 
 /// The address and the addend of a module of the first path.
@@ -116,12 +117,7 @@ fn run(memory: &mut OneMemory, address: u8, addend: u8) -> Outcome
 }
 
 /// The lines of a run of one thread.
-fn print<W: Write>(
-    out: &mut W,
-    outcome: Outcome,
-    memory: &OneMemory,
-    dump: u32,
-) -> io::Result<()>
+fn print<W: Write>(out: &mut W, outcome: Outcome, memory: &OneMemory, dump: u32) -> io::Result<()>
     ensures { OnOk result (Appends (W.contents out.old) (W.contents out.new) (thread_line 0 outcome ++ pages_line (pages memory.now) ++ bytes_line dump memory.now.bytes)) }
 {
     write_thread(out, 0, outcome)?;

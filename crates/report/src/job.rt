@@ -8,7 +8,9 @@ use std::io::Write;
 
 /// The statuses with which the program ends, beside 0 and 1 for a run.
 const MODULE_REFUSED: u8 = 2;
+
 const RUN_REFUSED: u8 = 3;
+
 const FAULT: u8 = 5;
 
 /// Does a job on a module's bytes: writes its lines to `out`, and at most one line about what went wrong to `err`.

@@ -5,6 +5,8 @@ mod command_line;
 mod first_path;
 mod job;
 mod lines;
+#[cfg(test)]
+mod tests;
 
 pub use command_line::{Job, Usage, command};
 pub use first_path::{FirstFault, first, is_first_module};

@@ -11,7 +11,7 @@ unreachable-requires c =
 pub returns-clause-value : goal.returns-clause-value
 returns-clause-value c =
     let e : c.step.result ≡ Value 0 =
-        add_reply _ _ _ _ c.args.addend c.requires.page c.from.ensures c.from-2.ensures c.requires.address c.step.result c.step.ensures.reply in
+    add_reply _ _ _ _ c.args.addend c.requires.page c.from.ensures c.from-2.ensures c.requires.address c.step.result c.step.ensures.reply in
     let is : c.step.result ≡ Value c.in-Value.value = c.in-Value.is in
     cc
 
