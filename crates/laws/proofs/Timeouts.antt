@@ -1,21 +1,21 @@
 -- Where the timeout of a sleeper ends, and that no other one's ends before it.
-use Rattle.std.proofs.Common.{◌≡◌, ◌≢◌, ℕ, ◌+◌, ◌<◌, ◌≤◌, ◌==◌, Bool, true, false, not, ◌&&◌, ◌||◌, cond, List, [], ◌∷◌, ◌++◌, length, Option, Some, None, refl, sym, ◌∙◌, ap, subst, ◌⊎◌, inl, inr, arith, zero, suc, get_or}
+use Rattle.std.proofs.Common.{◌≡◌, ℕ, ◌<◌, ◌≤◌, ◌==◌, true, false, ◌&&◌, ◌||◌, cond, List, [], ◌∷◌, ◌++◌, length, Option, Some, None, refl, sym, ◌∙◌, ap, subst, ◌⊎◌, inl, inr, arith, zero, suc, get_or}
 use Rattle.std.specs.Prelude.{nat_lt, is_some}
-use Rattle.std.specs.List.{list_any, list_all, Contains}
+use Rattle.std.specs.List.{list_all, Contains}
 use Rattle.std.specs.Option.{option_map_or}
-use Rattle.std.proofs.lemmas.Bool.{both_ways, cond_both, cond-true, cond-false, cases_Bool, or_left, or_right, or_from, or_cases, and_parts, eq-eqb, eqb-true, ltb-true, ltb-false, lt-ltb}
+use Rattle.std.proofs.lemmas.Bool.{both_ways, cond_both, cond-true, cond-false, cases_Bool, or_left, or_right, or_cases, and_parts, eq-eqb, eqb-true, ltb-true, lt-ltb}
 use Rattle.std.proofs.lemmas.Bool.Decides.{nat_tests}
 use Rattle.types.specs.declared.event.Entry.{Entry}
 use Rattle.types.specs.declared.event.Event.{Event}
-use Rattle.types.specs.declared.event.Event.TheVariants.{Size, Grow, Load, Store, Rmw, Cmpxchg, Ask, Told}
+use Rattle.types.specs.declared.event.Event.TheVariants.{Ask, Told}
 use Rattle.types.specs.declared.event.Answer.{Answer}
 use Rattle.types.specs.declared.event.Answer.TheVariants.{Number, ForGood}
 use Rattle.types.specs.declared.event.Question.{Question}
 use Rattle.types.specs.declared.event.Reply.{Reply}
 use Rattle.types.specs.declared.event.Reply.TheVariants.{Value, Done, OutOfBounds, Again, Full}
 use Rattle.shared_memory.specs.declared.sleeper.Sleeper.{Sleeper}
-use Rattle.shared_memory.specs.WaitQueue.{WaitQueue, is_alive, is_among, is_asleep, answer_due, wakes, due_after, amount, has_timeout, ends_before, earlier, first_to_end, ended, end_answer, is_stuck, settled, asked, after_question, after_answer, IsFree}
-use Rattle.shared_memory.specs.History.{entry, value_of, queue_step, queue_after}
+use Rattle.shared_memory.specs.WaitQueue.{WaitQueue, is_alive, is_among, is_asleep, answer_due, wakes, amount, has_timeout, ends_before, earlier, first_to_end, ended, end_answer, is_stuck, settled, asked, after_question, after_answer, IsFree}
+use Rattle.shared_memory.specs.History.{queue_step, queue_after}
 use Rattle.shared_memory.specs.Legal.{IsAllowed, IsQueueLegal}
 use Rattle.shared_memory.proofs.Histories.{IsQueueLegal-prefix}
 use Rattle.shared_memory.proofs.Sleepers.{SleepOnce, due_after-other, due_after-woken}
@@ -52,13 +52,13 @@ one_sleeper s t [] once h k same = absurd h
 one_sleeper s t (u ∷ us) once h k same =
     elim h [
       | inl e ↦ elim k [
-          | inl d ↦ sym e ∙ d
-          | inr later ↦ absurd (both_ways (is_among u.thread us) once.0 (subst (λ (n : ℕ). is_among n us ≡ true) (sym same ∙ sym (ap (λ (v : Sleeper). v.thread) e)) (in_among t us later)))
-        ]
+        | inl d ↦ sym e ∙ d
+        | inr later ↦ absurd (both_ways (is_among u.thread us) once.0 (subst (λ (n : ℕ). is_among n us ≡ true) (sym same ∙ sym (ap (λ (v : Sleeper). v.thread) e)) (in_among t us later)))
+      ]
       | inr rest ↦ elim k [
-          | inl d ↦ absurd (both_ways (is_among u.thread us) once.0 (subst (λ (n : ℕ). is_among n us ≡ true) (same ∙ sym (ap (λ (v : Sleeper). v.thread) d)) (in_among s us rest)))
-          | inr later ↦ one_sleeper s t us once.1 rest later same
-        ]
+        | inl d ↦ absurd (both_ways (is_among u.thread us) once.0 (subst (λ (n : ℕ). is_among n us ≡ true) (same ∙ sym (ap (λ (v : Sleeper). v.thread) d)) (in_among s us rest)))
+        | inr later ↦ one_sleeper s t us once.1 rest later same
+      ]
     ]
 
 -- the first timeout to end

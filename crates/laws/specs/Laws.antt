@@ -1,5 +1,5 @@
 -- The laws of waiting and notifying, and of histories.
-use Rattle.std.specs.Prelude.{ℕ, ◌≡◌, ◌≢◌, ◌<◌, ◌≤◌, ◌==◌, ◌&&◌, ◌⊎◌, Bool, true, false, not, List, [], ◌∷◌, ◌++◌, length, min, Some, is_some}
+use Rattle.std.specs.Prelude.{ℕ, ◌≡◌, ◌≢◌, ◌<◌, ◌≤◌, ◌==◌, ◌&&◌, ◌⊎◌, true, false, not, List, [], ◌∷◌, ◌++◌, length, min, Some, is_some}
 use Rattle.std.specs.List.{filter, Contains}
 use mathlib.Core.List.{IsPrefix}
 use Rattle.types.specs.declared.event.Entry.{Entry}
@@ -11,15 +11,19 @@ use Rattle.types.specs.declared.event.Reply.{Reply}
 use Rattle.types.specs.declared.event.Reply.TheVariants.{OutOfBounds}
 use Rattle.shared_memory.specs.declared.sleeper.Sleeper.{Sleeper}
 use Rattle.shared_memory.specs.Memory.{Memory}
-use Rattle.shared_memory.specs.WaitQueue.{WaitQueue, is_alive, is_among, is_asleep, answer_due, amount, asked, after_answer}
+use Rattle.shared_memory.specs.WaitQueue.{WaitQueue, is_alive, is_among, is_asleep, answer_due, amount, asked, after_answer, has_open_question}
 use Rattle.shared_memory.specs.History.{entry, value_of, queue_after}
 use Rattle.shared_memory.specs.Legal.{IsQueueLegal, IsLegal}
-use Rattle.laws.specs.Exchanges.{exchanges_of, Alternate}
+use Rattle.laws.specs.Exchanges.{exchanges_of, Alternate, lacks_an_answer}
 
 -- In a history that the wait queue allows, the questions of a thread and the answers that it took alternate, and the
 -- first is a question. So each answer taken answers one question, the one before it.
 abbrev pub AnswersAlternate : Type 0
 AnswersAlternate = (history : List Entry) (n : ℕ) → IsQueueLegal history → Alternate (exchanges_of n history)
+
+-- A thread has an open question just while its last question is without an answer.
+abbrev pub OpenUntilAnswered : Type 0
+OpenUntilAnswered = (history : List Entry) (n : ℕ) → IsQueueLegal history → has_open_question (queue_after history) n ≡ lacks_an_answer (exchanges_of n history)
 
 -- No thread is asleep while an answer is due to it.
 abbrev pub NeverAsleepAndOwed : Type 0
