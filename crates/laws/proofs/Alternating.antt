@@ -24,10 +24,10 @@ TakeTurns is_open [] = Unit {0}
 TakeTurns false (e ∷ es) = (is_question e.event e.reply ≡ true) × TakeTurns true es
 TakeTurns true (e ∷ es) = (is_answer e.event ≡ true) × TakeTurns false es
 
-alternate : (es : List Entry) → TakeTurns false es → Alternate es
-alternate [] h = tt
-alternate (q ∷ []) h = h.0
-alternate (q ∷ a ∷ es) h = (h.0, h.1.0, alternate es h.1.1)
+from_turns : (es : List Entry) → TakeTurns false es → Alternate es
+from_turns [] h = tt
+from_turns (q ∷ []) h = h.0
+from_turns (q ∷ a ∷ es) h = (h.0, h.1.0, from_turns es h.1.1)
 
 -- a question is asked where none is open
 asks : (q : WaitQueue) (n : ℕ) (r : WaitQueue) (e : Entry) (es : List Entry) → IsFree q n → has_open_question r n ≡ true → is_question e.event e.reply ≡ true
@@ -119,4 +119,4 @@ unfolding IsQueueLegal queue_after
 exchanges_alternate history n legal =
     let all : TakeTurns (has_open_question first_queue n) (exchanges_of n (of_queue history)) = turns n first_queue (of_queue history) legal IsSound-first in
     let from : TakeTurns false (exchanges_of n (of_queue history)) = subst (λ b. TakeTurns b (exchanges_of n (of_queue history))) (none_open n) all in
-    subst (λ w. Alternate w) (same_exchanges n history) (alternate (exchanges_of n (of_queue history)) from)
+    subst (λ w. Alternate w) (same_exchanges n history) (from_turns (exchanges_of n (of_queue history)) from)

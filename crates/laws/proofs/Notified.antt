@@ -84,8 +84,8 @@ module _ (n addr count : ℕ) (q : WaitQueue) (sound : IsSound q) (free : IsFree
       (λ e. both_ways (is_asleep q n) free.awake (subst (λ (k : ℕ). is_asleep q k ≡ true) e asleep))
       ∙ due_after-woken m (woken_at addr count q.sleepers) (Number 0) q.due (has_place q sound m asleep) among
 
-  notifies : Notifies n addr count q (tells n (Number (length (woken_at addr count q.sleepers))) (wakes (woken_at addr count q.sleepers) (Number 0) q))
-  notifies = record {
+  notified : Notifies n addr count q (tells n (Number (length (woken_at addr count q.sleepers))) (wakes (woken_at addr count q.sleepers) (Number 0) q))
+  notified = record {
     woken = woken_at addr count q.sleepers;
     left = drop count (asleep_at addr q);
     longest = sym (take-append-drop count (asleep_at addr q));
@@ -107,7 +107,7 @@ module _ (n addr count : ℕ) (q : WaitQueue) (sound : IsSound q) (free : IsFree
       (list_any-filter (λ (s : Sleeper). not (is_among s.thread (woken_at addr count q.sleepers))) (λ (s : Sleeper). s.thread == n) q.sleepers free.awake))
 
   notify_question : (v : ℕ) → Notifies n addr count q (after_question q n (Notify addr count) v)
-  notify_question v = subst (λ w. Notifies n addr count q w) (sym (unsettled_notify v)) notifies
+  notify_question v = subst (λ w. Notifies n addr count q w) (sym (unsettled_notify v)) notified
 
   notify_step : (reply : Reply) → reply ≢ OutOfBounds → Notifies n addr count q (queue_step q n (Ask (Notify addr count)) reply)
   notify_step OutOfBounds inside = absurd (inside refl)

@@ -1,4 +1,4 @@
--- The laws of waiting and notifying, and of histories.
+-- The laws of waiting and notifying (threads proposal, "Wait and notify operators"), of settling, and of histories.
 use Rattle.std.specs.Prelude.{ℕ, ◌≡◌, ◌≢◌, ◌<◌, ◌≤◌, ◌==◌, ◌&&◌, ◌⊎◌, true, false, not, List, [], ◌∷◌, ◌++◌, length, min, Some, is_some}
 use Rattle.std.specs.List.{filter, Contains}
 use mathlib.Core.List.{IsPrefix}
@@ -6,7 +6,7 @@ use Rattle.types.specs.declared.event.Entry.{Entry}
 use Rattle.types.specs.declared.event.Event.{Event}
 use Rattle.types.specs.declared.event.Event.TheVariants.{Ask, Told}
 use Rattle.types.specs.declared.event.Question.TheVariants.{Notify}
-use Rattle.types.specs.declared.event.Answer.TheVariants.{Number}
+use Rattle.types.specs.declared.event.Answer.TheVariants.{Number, ForGood}
 use Rattle.types.specs.declared.event.Reply.{Reply}
 use Rattle.types.specs.declared.event.Reply.TheVariants.{OutOfBounds}
 use Rattle.shared_memory.specs.declared.sleeper.Sleeper.{Sleeper}
@@ -73,13 +73,26 @@ pub record TimeoutEnds (q : WaitQueue) (s : Sleeper) : Type 0 where
   pub first : (t : Sleeper) → Contains q.sleepers t → 0 < amount t.timeout
       → (amount s.timeout < amount t.timeout) ⊎ ((amount s.timeout ≡ amount t.timeout) × (s.thread ≤ t.thread))
 
--- A thread that sleeps is answered 2 at no other entry than one after which all live threads sleep, and whose timeout
--- is the first to end.
+-- A thread that sleeps is answered 2 at no other entry than one after which all live threads sleep and its timeout is
+-- the first to end. (A wait whose timeout is 0 is answered 2 at once, and never sleeps.)
 abbrev pub TimeoutsEndOnlyWhereAllSleep : Type 0
 TimeoutsEndOnlyWhereAllSleep = (history : List Entry) (e : Entry) (s : Sleeper) → IsQueueLegal (history ++ e ∷ [])
     → Contains (unsettled (queue_after history) e.thread e.event e.reply).sleepers s
     → answer_due (queue_after (history ++ e ∷ [])) s.thread ≡ Some (Number 2)
     → TimeoutEnds (unsettled (queue_after history) e.thread e.event e.reply) s
+
+-- All live threads sleep, and no sleeper has a positive timeout.
+pub record AllSleepForGood (q : WaitQueue) : Type 0 where
+  pub all_sleep : (m : ℕ) → is_alive q m ≡ true → is_asleep q m ≡ true
+  pub untimed : (t : Sleeper) → Contains q.sleepers t → amount t.timeout ≡ 0
+
+-- A thread that sleeps is told that it sleeps for good at no other entry than one after which all live threads sleep and
+-- no timeout is left to end.
+abbrev pub ForGoodOnlyWhereNoTimeoutIsLeft : Type 0
+ForGoodOnlyWhereNoTimeoutIsLeft = (history : List Entry) (e : Entry) (s : Sleeper) → IsQueueLegal (history ++ e ∷ [])
+    → Contains (unsettled (queue_after history) e.thread e.event e.reply).sleepers s
+    → answer_due (queue_after (history ++ e ∷ [])) s.thread ≡ Some ForGood
+    → AllSleepForGood (unsettled (queue_after history) e.thread e.event e.reply)
 
 -- Of two histories that begin the same list, one begins the other.
 abbrev pub OneHistoryPerLongestList : Type 0

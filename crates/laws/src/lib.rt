@@ -1,7 +1,7 @@
 //! The laws of the shared memory's histories, each as a function that does nothing and whose contract is the law.
 #![tactic(auto)]
 
-ghost use Rattle.laws.specs.Laws.{AnswersAlternate, OpenUntilAnswered, NeverAsleepAndOwed, NotifyWakesTheLongestAsleep, TimeoutsEndOnlyWhereAllSleep, OneHistoryPerLongestList, PrefixesAreLegal};
+ghost use Rattle.laws.specs.Laws.{AnswersAlternate, OpenUntilAnswered, NeverAsleepAndOwed, NotifyWakesTheLongestAsleep, TimeoutsEndOnlyWhereAllSleep, ForGoodOnlyWhereNoTimeoutIsLeft, OneHistoryPerLongestList, PrefixesAreLegal};
 ghost use Rattle.laws.specs.Example.{WorkedHistory};
 
 /// Each answer that a thread takes answers one question of its own: the two alternate.
@@ -27,6 +27,11 @@ pub fn notify_wakes_the_longest_asleep()
 /// The timeout of a sleeper ends only where all live threads sleep, and no other one's ends before it.
 pub fn timeout_ends_only_where_all_sleep()
     ensures { TimeoutsEndOnlyWhereAllSleep }
+{}
+
+/// A thread is told that it sleeps for good only where all live threads sleep and no timeout is left to end.
+pub fn asleep_for_good_only_where_no_timeout_is_left()
+    ensures { ForGoodOnlyWhereNoTimeoutIsLeft }
 {}
 
 /// The histories that threads have seen of one list are one history, as far as each of them goes.

@@ -38,6 +38,13 @@ pub awake_if_due : (q : WaitQueue) → IsSound q → (n : ℕ) (a : Answer) → 
 awake_if_due q sound n a due =
     false_from_ne_true (is_asleep q n) (λ is. let none : answer_due q n ≡ None = sound.unanswered n is in absurd (cc (none, due)))
 
+-- there are at most 16 threads, numbered from 0
+pub alive_below : (q : WaitQueue) → IsSound q → (n : ℕ) → is_alive q n ≡ true → n < 16
+alive_below q sound n is = let known : n < next_id q = sound.named n is in omega (arith, sound.few)
+
+pub owed_below : (q : WaitQueue) → IsSound q → (n : ℕ) (a : Answer) → answer_due q n ≡ Some a → n < 16
+owed_below q sound n a due = let known : n < next_id q = sound.owed n a due in omega (arith, sound.few)
+
 -- each sleeper has a place for its answer
 pub has_place : (q : WaitQueue) → IsSound q → (n : ℕ) → is_asleep q n ≡ true → n < length q.due
 has_place q sound n is = let known : n < next_id q = sound.named n (sound.living n is) in omega (arith, sound.due_length, sound.few)

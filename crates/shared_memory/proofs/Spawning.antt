@@ -49,8 +49,8 @@ module _ (t arg : ℕ) (q : WaitQueue) (sound : IsSound q) (free : IsFree q t) (
       (awake_unstuck (tells t (Number (next_id q)) (starts arg q)) t
       (list_any-append (λ m. m == t) q.alive (next_id q ∷ []) ∙ or_left (is_alive q t) ((next_id q == t) || false) free.alive) free.awake)
 
-  spawns : Spawns t arg q (tells t (Number (next_id q)) (starts arg q))
-  spawns =
+  spawn_told : Spawns t arg q (tells t (Number (next_id q)) (starts arg q))
+  spawn_told =
       let absent : IsAbsent q (next_id q) = unborn q sound (next_id q) (omega arith) in
       let known : t < next_id q = sound.named t free.alive in
       let apart : next_id q ≢ t = omega arith in
@@ -67,7 +67,7 @@ module _ (t arg : ℕ) (q : WaitQueue) (sound : IsSound q) (free : IsFree q t) (
       }
 
   spawns_question : (v : ℕ) → Spawns t arg q (after_question q t (Spawn arg) v)
-  spawns_question v = subst (λ w. Spawns t arg q w) (sym (unsettled_spawn v)) spawns
+  spawns_question v = subst (λ w. Spawns t arg q w) (sym (unsettled_spawn v)) spawn_told
 
   spawns_step : (reply : Reply) → reply ≢ OutOfBounds → Spawns t arg q (queue_step q t (Ask (Spawn arg)) reply)
   spawns_step OutOfBounds inside = absurd (inside refl)
