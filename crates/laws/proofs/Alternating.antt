@@ -1,19 +1,19 @@
 -- That the questions of a thread and the answers that it took alternate.
-use Rattle.std.proofs.Common.{◌≡◌, ◌≢◌, ℕ, ◌==◌, Bool, true, false, ◌||◌, cond, List, [], ◌∷◌, Option, Some, None, refl, sym, ◌∙◌, ap, subst, ◌⊎◌, inl, inr}
+use Rattle.std.proofs.Common.{◌≡◌, ℕ, ◌==◌, Bool, true, false, ◌||◌, cond, List, [], ◌∷◌, refl, sym, ◌∙◌, ap, subst, inl, inr}
 use Rattle.std.specs.Prelude.{is_some}
 use Rattle.std.specs.List.{filter}
-use Rattle.std.proofs.lemmas.Bool.{cond_both, cond-true, cond-false, cases_Bool, eqb-true, eqb-false, or_right, or_from}
+use Rattle.std.proofs.lemmas.Bool.{cond_both, cond-true, cond-false, cases_Bool, eqb-true, eqb-false, or_right}
 use Rattle.types.specs.declared.event.Entry.{Entry}
 use Rattle.types.specs.declared.event.Event.{Event}
-use Rattle.types.specs.declared.event.Event.TheVariants.{Size, Grow, Load, Store, Rmw, Cmpxchg, Ask, Told}
+use Rattle.types.specs.declared.event.Event.TheVariants.{Ask, Told}
 use Rattle.types.specs.declared.event.Reply.{Reply}
 use Rattle.types.specs.declared.event.Reply.TheVariants.{Value, Done, OutOfBounds, Again, Full}
 use Rattle.shared_memory.specs.Events.{is_of_queue}
 use Rattle.shared_memory.specs.WaitQueue.{WaitQueue, first_queue, is_asleep, answer_due, after_answer, IsFree, has_open_question}
-use Rattle.shared_memory.specs.History.{entry, entries_of, of_queue, queue_step, queue_from, queue_after}
+use Rattle.shared_memory.specs.History.{entry, entries_of, of_queue, queue_step, queue_after}
 use Rattle.shared_memory.specs.Legal.{IsAllowed, IsQueueLegalFrom, IsQueueLegal}
-use Rattle.shared_memory.proofs.Soundness.{IsSound, IsSound-step, IsSound-first, awake_if_due}
-use Rattle.shared_memory.proofs.Others.{IsQuiet, Keeps, Keeps-step}
+use Rattle.shared_memory.proofs.Soundness.{IsSound, IsSound-step, IsSound-first}
+use Rattle.shared_memory.proofs.Others.{Keeps, Keeps-step}
 use Rattle.shared_memory.proofs.Standing.{quiet_not_open, quiet_from_not_open, quiet_first}
 use Rattle.shared_memory.proofs.Turns.{open_step, quiet_answer}
 use Rattle.laws.specs.Exchanges.{is_question, is_answer, is_exchange, exchanges_of, Alternate}
@@ -24,10 +24,10 @@ TakeTurns is_open [] = Unit {0}
 TakeTurns false (e ∷ es) = (is_question e.event e.reply ≡ true) × TakeTurns true es
 TakeTurns true (e ∷ es) = (is_answer e.event ≡ true) × TakeTurns false es
 
-alternate : (es : List Entry) → TakeTurns false es → Alternate es
-alternate [] h = tt
-alternate (q ∷ []) h = h.0
-alternate (q ∷ a ∷ es) h = (h.0, h.1.0, alternate es h.1.1)
+from_turns : (es : List Entry) → TakeTurns false es → Alternate es
+from_turns [] h = tt
+from_turns (q ∷ []) h = h.0
+from_turns (q ∷ a ∷ es) h = (h.0, h.1.0, from_turns es h.1.1)
 
 -- a question is asked where none is open
 asks : (q : WaitQueue) (n : ℕ) (r : WaitQueue) (e : Entry) (es : List Entry) → IsFree q n → has_open_question r n ≡ true → is_question e.event e.reply ≡ true
@@ -94,7 +94,7 @@ exchange_of_queue (Ask question) reply isnt = absurd (cc isnt)
 exchange_of_queue (Told answer) reply isnt = absurd (cc isnt)
 exchange_of_queue _ reply isnt = refl
 
-same_exchanges : (n : ℕ) (xs : List Entry) → exchanges_of n (of_queue xs) ≡ exchanges_of n xs
+pub same_exchanges : (n : ℕ) (xs : List Entry) → exchanges_of n (of_queue xs) ≡ exchanges_of n xs
 same_exchanges n [] = refl
 same_exchanges n (e ∷ xs) =
     let rest : exchanges_of n (of_queue xs) ≡ exchanges_of n xs = same_exchanges n xs in
@@ -106,11 +106,12 @@ same_exchanges n (e ∷ xs) =
         ≡ filter (λ (f : Entry). is_exchange f) (cond b (d ∷ entries_of n xs) (entries_of n xs))
     both true d same = ap (λ w. cond (is_exchange d) (d ∷ w) w) same
     both false d same = same
+
     none : (b : Bool) (d : Entry) → is_exchange d ≡ false → filter (λ (f : Entry). is_exchange f) (cond b (d ∷ entries_of n xs) (entries_of n xs)) ≡ exchanges_of n xs
     none true d isnt = cond-false (is_exchange d) (d ∷ exchanges_of n xs) (exchanges_of n xs) isnt
     none false d isnt = refl
 
-none_open : (n : ℕ) → has_open_question (queue_after []) n ≡ false
+pub none_open : (n : ℕ) → has_open_question (queue_after []) n ≡ false
 none_open n = quiet_not_open (queue_after []) n (quiet_first n)
 
 pub exchanges_alternate : (history : List Entry) (n : ℕ) → IsQueueLegal history → Alternate (exchanges_of n history)
@@ -118,4 +119,4 @@ unfolding IsQueueLegal queue_after
 exchanges_alternate history n legal =
     let all : TakeTurns (has_open_question first_queue n) (exchanges_of n (of_queue history)) = turns n first_queue (of_queue history) legal IsSound-first in
     let from : TakeTurns false (exchanges_of n (of_queue history)) = subst (λ b. TakeTurns b (exchanges_of n (of_queue history))) (none_open n) all in
-    subst (λ w. Alternate w) (same_exchanges n history) (alternate (exchanges_of n (of_queue history)) from)
+    subst (λ w. Alternate w) (same_exchanges n history) (from_turns (exchanges_of n (of_queue history)) from)

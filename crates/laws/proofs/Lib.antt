@@ -1,4 +1,6 @@
 pub mod Alternating
 pub mod Notified
 pub mod Timeouts
+pub mod Settled
 pub mod Worked
+pub mod OpenQuestions

@@ -1,7 +1,7 @@
 -- Whom a notify wakes, and who sleeps on.
-use Rattle.std.proofs.Common.{◌≡◌, ◌≢◌, ℕ, ◌+◌, ◌<◌, ◌≤◌, ◌==◌, Bool, true, false, not, ◌||◌, cond, List, [], ◌∷◌, ◌++◌, length, take, drop, Option, Some, None, refl, sym, ◌∙◌, ap, subst, ◌⊎◌, inl, inr, arith, get_or, set, get_or-set_same, get_or-set_other, length-set}
-use Rattle.std.specs.List.{filter, list_any}
-use Rattle.std.proofs.lemmas.Bool.{both_ways, cond_both, cond-true, cond-false, cases_Bool, or_parts, or_from, or_left, eq-eqb, eqb-false, ne_eqb}
+use Rattle.std.proofs.Common.{◌≡◌, ◌≢◌, ℕ, ◌<◌, ◌==◌, Bool, true, false, not, ◌||◌, cond, List, [], ◌∷◌, ◌++◌, length, take, drop, Some, None, refl, sym, ◌∙◌, ap, subst, arith, get_or, set, get_or-set_same, get_or-set_other}
+use Rattle.std.specs.List.{filter}
+use Rattle.std.proofs.lemmas.Bool.{both_ways, cond-true, cond-false, or_parts, or_left, eq-eqb, eqb-false, ne_eqb}
 use Rattle.std.proofs.lemmas.List.{take-append-drop, length-take}
 use Rattle.types.specs.declared.event.Entry.{Entry}
 use Rattle.types.specs.declared.event.Event.TheVariants.{Ask}
@@ -10,14 +10,14 @@ use Rattle.types.specs.declared.event.Answer.TheVariants.{Number}
 use Rattle.types.specs.declared.event.Reply.{Reply}
 use Rattle.types.specs.declared.event.Reply.TheVariants.{Value, Done, OutOfBounds, Again, Full}
 use Rattle.shared_memory.specs.declared.sleeper.Sleeper.{Sleeper}
-use Rattle.shared_memory.specs.WaitQueue.{WaitQueue, is_among, is_asleep, answer_due, next_id, tells, wakes, due_after, woken_at, settled, asked, after_question, IsFree}
+use Rattle.shared_memory.specs.WaitQueue.{WaitQueue, is_among, is_asleep, next_id, tells, wakes, due_after, woken_at, asked, after_question, IsFree}
 use Rattle.shared_memory.specs.History.{entry, queue_step, queue_after}
 use Rattle.shared_memory.specs.Legal.{IsQueueLegal}
 use Rattle.shared_memory.proofs.Histories.{IsQueueLegal-prefix}
 use Rattle.shared_memory.proofs.Sleepers.{list_any-filter, SleepOnce, SleepOnce-filter, others_than, length-due_after, due_after-other, due_after-woken}
 use Rattle.shared_memory.proofs.Soundness.{IsSound, IsSound-after, has_place}
 use Rattle.shared_memory.proofs.Settling.{awake_unstuck, settled_same}
-use Rattle.shared_memory.proofs.Others.{woken_sleeps}
+use Rattle.shared_memory.proofs.Woken.{woken_sleeps}
 use Rattle.shared_memory.proofs.Turns.{queue_after-one, last_allowed}
 use Rattle.laws.specs.Laws.{asleep_at, Notifies}
 
@@ -84,8 +84,8 @@ module _ (n addr count : ℕ) (q : WaitQueue) (sound : IsSound q) (free : IsFree
       (λ e. both_ways (is_asleep q n) free.awake (subst (λ (k : ℕ). is_asleep q k ≡ true) e asleep))
       ∙ due_after-woken m (woken_at addr count q.sleepers) (Number 0) q.due (has_place q sound m asleep) among
 
-  notifies : Notifies n addr count q (tells n (Number (length (woken_at addr count q.sleepers))) (wakes (woken_at addr count q.sleepers) (Number 0) q))
-  notifies = record {
+  notified : Notifies n addr count q (tells n (Number (length (woken_at addr count q.sleepers))) (wakes (woken_at addr count q.sleepers) (Number 0) q))
+  notified = record {
     woken = woken_at addr count q.sleepers;
     left = drop count (asleep_at addr q);
     longest = sym (take-append-drop count (asleep_at addr q));
@@ -95,7 +95,7 @@ module _ (n addr count : ℕ) (q : WaitQueue) (sound : IsSound q) (free : IsFree
     told = told_woken;
     answer = get_or-set_same (due_after (woken_at addr count q.sleepers) (Number 0) q.due) n (Some (Number (length (woken_at addr count q.sleepers)))) None within;
     quiet = λ m apart isnt. get_or-set_other (due_after (woken_at addr count q.sleepers) (Number 0) q.due) n m (Some (Number (length (woken_at addr count q.sleepers)))) None apart
-    ∙ due_after-other m (woken_at addr count q.sleepers) (Number 0) q.due isnt;
+        ∙ due_after-other m (woken_at addr count q.sleepers) (Number 0) q.due isnt;
   }
 
   -- who notifies is awake, so there is nothing to settle
@@ -107,7 +107,7 @@ module _ (n addr count : ℕ) (q : WaitQueue) (sound : IsSound q) (free : IsFree
       (list_any-filter (λ (s : Sleeper). not (is_among s.thread (woken_at addr count q.sleepers))) (λ (s : Sleeper). s.thread == n) q.sleepers free.awake))
 
   notify_question : (v : ℕ) → Notifies n addr count q (after_question q n (Notify addr count) v)
-  notify_question v = subst (λ w. Notifies n addr count q w) (sym (unsettled_notify v)) notifies
+  notify_question v = subst (λ w. Notifies n addr count q w) (sym (unsettled_notify v)) notified
 
   notify_step : (reply : Reply) → reply ≢ OutOfBounds → Notifies n addr count q (queue_step q n (Ask (Notify addr count)) reply)
   notify_step OutOfBounds inside = absurd (inside refl)
@@ -122,4 +122,4 @@ pub notify_wakes : (history : List Entry) (n addr count : ℕ) (reply : Reply) �
 notify_wakes history n addr count reply inside legal =
     subst (λ w. Notifies n addr count (queue_after history) w) (sym (queue_after-one history n (Ask (Notify addr count)) reply))
     (notify_step n addr count (queue_after history) (IsSound-after history (IsQueueLegal-prefix history (entry n (Ask (Notify addr count)) reply ∷ []) legal))
-        (last_allowed history n (Ask (Notify addr count)) reply legal) reply inside)
+    (last_allowed history n (Ask (Notify addr count)) reply legal) reply inside)

@@ -1,5 +1,5 @@
 -- A worked history: thread 0 starts thread 1, which waits until thread 0 notifies it; then both end.
-use Rattle.std.specs.Prelude.{ℕ, ℤ, negsuc, ◌≡◌, ◌≤◌, List, [], ◌∷◌, length, take, replicate, Option, Some, None}
+use Rattle.std.specs.Prelude.{ℕ, negsuc, ◌≡◌, ◌≤◌, List, [], ◌∷◌, length, take, replicate, Option, Some, None}
 use Rattle.types.specs.declared.event.Entry.{Entry}
 use Rattle.types.specs.declared.event.Event.TheVariants.{Ask, Told}
 use Rattle.types.specs.declared.event.Question.TheVariants.{Wait, Notify, Spawn, Leave}

@@ -32,3 +32,9 @@ abbrev pub Alternate : List Entry → Type 0
 Alternate [] = Unit {0}
 Alternate (q ∷ []) = is_question q.event q.reply ≡ true
 Alternate (q ∷ a ∷ exchanges) = (is_question q.event q.reply ≡ true) × (is_answer a.event ≡ true) × Alternate exchanges
+
+-- The last question is without an answer.
+abbrev pub lacks_an_answer : List Entry → Bool
+lacks_an_answer [] = false
+lacks_an_answer (q ∷ []) = true
+lacks_an_answer (q ∷ a ∷ exchanges) = lacks_an_answer exchanges

@@ -1,25 +1,29 @@
--- The laws of waiting and notifying, and of histories.
-use Rattle.std.specs.Prelude.{ℕ, ◌≡◌, ◌≢◌, ◌<◌, ◌≤◌, ◌==◌, ◌&&◌, ◌⊎◌, Bool, true, false, not, List, [], ◌∷◌, ◌++◌, length, min, Some, is_some}
+-- The laws of waiting and notifying (threads proposal, "Wait and notify operators"), of settling, and of histories.
+use Rattle.std.specs.Prelude.{ℕ, ◌≡◌, ◌≢◌, ◌<◌, ◌≤◌, ◌==◌, ◌&&◌, ◌⊎◌, true, false, not, List, [], ◌∷◌, ◌++◌, length, min, Some, is_some}
 use Rattle.std.specs.List.{filter, Contains}
 use mathlib.Core.List.{IsPrefix}
 use Rattle.types.specs.declared.event.Entry.{Entry}
 use Rattle.types.specs.declared.event.Event.{Event}
 use Rattle.types.specs.declared.event.Event.TheVariants.{Ask, Told}
 use Rattle.types.specs.declared.event.Question.TheVariants.{Notify}
-use Rattle.types.specs.declared.event.Answer.TheVariants.{Number}
+use Rattle.types.specs.declared.event.Answer.TheVariants.{Number, ForGood}
 use Rattle.types.specs.declared.event.Reply.{Reply}
 use Rattle.types.specs.declared.event.Reply.TheVariants.{OutOfBounds}
 use Rattle.shared_memory.specs.declared.sleeper.Sleeper.{Sleeper}
 use Rattle.shared_memory.specs.Memory.{Memory}
-use Rattle.shared_memory.specs.WaitQueue.{WaitQueue, is_alive, is_among, is_asleep, answer_due, amount, asked, after_answer}
+use Rattle.shared_memory.specs.WaitQueue.{WaitQueue, is_alive, is_among, is_asleep, answer_due, amount, asked, after_answer, has_open_question}
 use Rattle.shared_memory.specs.History.{entry, value_of, queue_after}
 use Rattle.shared_memory.specs.Legal.{IsQueueLegal, IsLegal}
-use Rattle.laws.specs.Exchanges.{exchanges_of, Alternate}
+use Rattle.laws.specs.Exchanges.{exchanges_of, Alternate, lacks_an_answer}
 
 -- In a history that the wait queue allows, the questions of a thread and the answers that it took alternate, and the
 -- first is a question. So each answer taken answers one question, the one before it.
 abbrev pub AnswersAlternate : Type 0
 AnswersAlternate = (history : List Entry) (n : ℕ) → IsQueueLegal history → Alternate (exchanges_of n history)
+
+-- A thread has an open question just while its last question is without an answer.
+abbrev pub OpenUntilAnswered : Type 0
+OpenUntilAnswered = (history : List Entry) (n : ℕ) → IsQueueLegal history → has_open_question (queue_after history) n ≡ lacks_an_answer (exchanges_of n history)
 
 -- No thread is asleep while an answer is due to it.
 abbrev pub NeverAsleepAndOwed : Type 0
@@ -69,13 +73,26 @@ pub record TimeoutEnds (q : WaitQueue) (s : Sleeper) : Type 0 where
   pub first : (t : Sleeper) → Contains q.sleepers t → 0 < amount t.timeout
       → (amount s.timeout < amount t.timeout) ⊎ ((amount s.timeout ≡ amount t.timeout) × (s.thread ≤ t.thread))
 
--- A thread that sleeps is answered 2 at no other entry than one after which all live threads sleep, and whose timeout
--- is the first to end.
+-- A thread that sleeps is answered 2 at no other entry than one after which all live threads sleep and its timeout is
+-- the first to end. (A wait whose timeout is 0 is answered 2 at once, and never sleeps.)
 abbrev pub TimeoutsEndOnlyWhereAllSleep : Type 0
 TimeoutsEndOnlyWhereAllSleep = (history : List Entry) (e : Entry) (s : Sleeper) → IsQueueLegal (history ++ e ∷ [])
     → Contains (unsettled (queue_after history) e.thread e.event e.reply).sleepers s
     → answer_due (queue_after (history ++ e ∷ [])) s.thread ≡ Some (Number 2)
     → TimeoutEnds (unsettled (queue_after history) e.thread e.event e.reply) s
+
+-- All live threads sleep, and no sleeper has a positive timeout.
+pub record AllSleepForGood (q : WaitQueue) : Type 0 where
+  pub all_sleep : (m : ℕ) → is_alive q m ≡ true → is_asleep q m ≡ true
+  pub untimed : (t : Sleeper) → Contains q.sleepers t → amount t.timeout ≡ 0
+
+-- A thread that sleeps is told that it sleeps for good at no other entry than one after which all live threads sleep and
+-- no timeout is left to end.
+abbrev pub ForGoodOnlyWhereNoTimeoutIsLeft : Type 0
+ForGoodOnlyWhereNoTimeoutIsLeft = (history : List Entry) (e : Entry) (s : Sleeper) → IsQueueLegal (history ++ e ∷ [])
+    → Contains (unsettled (queue_after history) e.thread e.event e.reply).sleepers s
+    → answer_due (queue_after (history ++ e ∷ [])) s.thread ≡ Some ForGood
+    → AllSleepForGood (unsettled (queue_after history) e.thread e.event e.reply)
 
 -- Of two histories that begin the same list, one begins the other.
 abbrev pub OneHistoryPerLongestList : Type 0

@@ -1,9 +1,11 @@
 pub mod Histories
 pub mod Sleepers
+pub mod Woken
 pub mod Soundness
 pub mod Settling
 pub mod Others
 pub mod Standing
 pub mod Turns
+pub mod Spawning
 pub mod Prefixes
 pub mod Props

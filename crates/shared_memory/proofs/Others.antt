@@ -2,7 +2,6 @@
 -- its question is open.
 use Rattle.std.proofs.Common.{◌≡◌, ◌≢◌, ℕ, ◌==◌, Bool, true, false, not, ◌||◌, cond, List, [], ◌∷◌, ◌++◌, length, Some, None, refl, sym, ◌∙◌, ap, subst, inl, inr, get_or-set_other}
 use Rattle.std.specs.Prelude.{nat_lt, is_some}
-use Rattle.std.specs.List.{filter}
 use Rattle.std.proofs.lemmas.Bool.{both_ways, or_from, or_left, or_right, eqb-false, ne_eqb, cond_both, cond-false, cases_Bool}
 use Rattle.std.proofs.lemmas.List.Folds.{list_any-append}
 use Rattle.types.specs.declared.event.Entry.{Entry}
@@ -20,9 +19,9 @@ use Rattle.shared_memory.specs.WaitQueue.{WaitQueue, first_queue, is_alive, is_a
 use Rattle.shared_memory.specs.History.{entries_of, of_queue, queue_step, queue_from, queue_after}
 use Rattle.shared_memory.specs.Legal.{IsAllowed, IsQueueLegalFrom, IsQueueLegal}
 use Rattle.shared_memory.proofs.Histories.{of_queue-append, queue_from-append, IsQueueLegalFrom-rest, IsQueueLegal-prefix}
-use Rattle.shared_memory.proofs.Sleepers.{list_any-filtered, list_any-take, due_after-other, due_after-woken, others_than-other}
+use Rattle.shared_memory.proofs.Sleepers.{due_after-other, due_after-woken, others_than-other}
 use Rattle.shared_memory.proofs.Soundness.{IsSound, IsSound-asked, IsSound-step, IsSound-after, awake_if_due, has_place, alive_but}
-use Rattle.shared_memory.proofs.Settling.{ended_sleeps}
+use Rattle.shared_memory.proofs.Woken.{ended_sleeps, woken_sleeps}
 
 -- A thread without an open question: it doesn't sleep, and is owed no answer.
 pub record IsQuiet (q : WaitQueue) (n : ℕ) : Type 0 where
@@ -103,12 +102,6 @@ pub Keeps-settled : (n : ℕ) (q : WaitQueue) → IsSound q → Keeps n q (settl
 Keeps-settled n q sound =
     cond_both (is_stuck q) (wakes (ended q.sleepers) (end_answer q.sleepers) q) q (λ w. Keeps n q w)
     (λ e. Keeps-wakes n q (ended q.sleepers) (end_answer q.sleepers) sound (λ among. ended_sleeps n q.sleepers among)) (λ e. Keeps-same n q)
-
--- whom a notify wakes slept
-pub woken_sleeps : (n addr count : ℕ) (sleepers : List Sleeper) → is_among n (woken_at addr count sleepers) ≡ true → is_among n sleepers ≡ true
-woken_sleeps n addr count sleepers among =
-    list_any-filtered (λ (s : Sleeper). s.addr == addr) (λ (s : Sleeper). s.thread == n) sleepers
-    (list_any-take (λ (s : Sleeper). s.thread == n) count (filter (λ (s : Sleeper). s.addr == addr) sleepers) among)
 
 Keeps-asked : (n t : ℕ) (q : WaitQueue) (question : Question) (v : ℕ) → t ≢ n → IsSound q → Keeps n q (asked q t question v)
 Keeps-asked n t q (Wait addr width expected timeout) v apart sound =

@@ -1,9 +1,9 @@
 -- What begins a legal history is legal.
-use Rattle.std.proofs.Common.{◌≡◌, List, ◌++◌, sym, subst}
+use Rattle.std.proofs.Common.{List, ◌++◌, sym, subst}
 use mathlib.Core.List.{IsPrefix}
 use Rattle.types.specs.declared.event.Entry.{Entry}
 use Rattle.shared_memory.specs.Memory.{Memory}
-use Rattle.shared_memory.specs.Legal.{IsMemoryLegal, IsQueueLegal, IsWellFormed, IsLegal}
+use Rattle.shared_memory.specs.Legal.{IsLegal}
 use Rattle.shared_memory.proofs.Histories.{IsMemoryLegal-prefix, IsQueueLegal-prefix, IsWellFormed-prefix}
 
 pub IsLegal-front : (opening : Memory) (xs ys : List Entry) → IsLegal opening (xs ++ ys) → IsLegal opening xs

@@ -1,9 +1,9 @@
 -- What holds of the wait queue after each history that is legal for it.
-use Rattle.std.proofs.Common.{◌≡◌, ◌≢◌, ℕ, ◌+◌, ◌<◌, ◌≤◌, ◌==◌, true, false, not, ◌||◌, cond, List, [], ◌∷◌, ◌++◌, length, Option, Some, None, refl, sym, ◌∙◌, subst, ◌⊎◌, inl, inr, arith, get_or-set_other, length-set}
+use Rattle.std.proofs.Common.{◌≡◌, ◌≢◌, ℕ, ◌+◌, ◌<◌, ◌≤◌, ◌==◌, true, false, not, ◌||◌, cond, List, [], ◌∷◌, ◌++◌, length, Option, Some, None, refl, sym, ◌∙◌, subst, ◌⊎◌, inl, inr, arith, get_or, replicate, get_or-set_other, length-set}
 use Rattle.std.specs.Prelude.{nat_lt}
 use Rattle.std.specs.List.{filter, list_any}
-use Rattle.std.proofs.lemmas.Bool.{both_ways, or_left, or_right, or_cases, eqb-true, cond_both, not-false, ltb-true, false_from_ne_true}
-use Rattle.std.proofs.lemmas.List.{length-replicate, length-append}
+use Rattle.std.proofs.lemmas.Bool.{both_ways, or_left, or_right, or_cases, eqb-true, cond_both, cases_Bool, cases_eq, cases_lt, not-false, ltb-true, false_from_ne_true}
+use Rattle.std.proofs.lemmas.List.{length-replicate, length-append, get_or-replicate, get_or_past}
 use Rattle.std.proofs.lemmas.List.Folds.{list_any-append}
 use Rattle.types.specs.declared.event.Entry.{Entry}
 use Rattle.types.specs.declared.event.Event.{Event}
@@ -18,15 +18,18 @@ use Rattle.shared_memory.specs.declared.sleeper.Sleeper.{Sleeper}
 use Rattle.shared_memory.specs.WaitQueue.{WaitQueue, first_queue, is_alive, is_among, is_asleep, answer_due, next_id, tells, wakes, sleeps, starts, leaves, woken_at, ends_at_once, ended, end_answer, is_stuck, settled, asked, after_question, after_answer, IsFree}
 use Rattle.shared_memory.specs.History.{of_queue, queue_step, queue_from, queue_after}
 use Rattle.shared_memory.specs.Legal.{IsAllowed, IsQueueLegalFrom, IsQueueLegal}
+use Rattle.shared_memory.proofs.Woken.{ended_sleeps, woken_sleeps}
 use Rattle.shared_memory.proofs.Sleepers.{list_any-filter, list_any-filtered, others_than, AreDistinct, SleepOnce, AreDistinct-filter, AreDistinct-push, SleepOnce-filter, SleepOnce-push, length-due_after, due_after-other, others_than-woken}
 
--- The live threads are distinct and their numbers given out; who sleeps is alive, sleeps once, and is owed no answer.
+-- The live threads are distinct and their numbers given out, as are those of whom an answer is due to; who sleeps is
+-- alive, sleeps once, and is owed no answer.
 pub record IsSound (q : WaitQueue) : Type 0 where
   pub named : (n : ℕ) → is_alive q n ≡ true → n < next_id q
   pub distinct : AreDistinct q.alive
   pub living : (n : ℕ) → is_asleep q n ≡ true → is_alive q n ≡ true
   pub once : SleepOnce q.sleepers
   pub unanswered : (n : ℕ) → is_asleep q n ≡ true → answer_due q n ≡ None
+  pub owed : (n : ℕ) (a : Answer) → answer_due q n ≡ Some a → n < next_id q
   pub due_length : length q.due ≡ 16
   pub few : length q.args ≤ 15
 
@@ -35,6 +38,13 @@ pub awake_if_due : (q : WaitQueue) → IsSound q → (n : ℕ) (a : Answer) → 
 awake_if_due q sound n a due =
     false_from_ne_true (is_asleep q n) (λ is. let none : answer_due q n ≡ None = sound.unanswered n is in absurd (cc (none, due)))
 
+-- there are at most 16 threads, numbered from 0
+pub alive_below : (q : WaitQueue) → IsSound q → (n : ℕ) → is_alive q n ≡ true → n < 16
+alive_below q sound n is = let known : n < next_id q = sound.named n is in omega (arith, sound.few)
+
+pub owed_below : (q : WaitQueue) → IsSound q → (n : ℕ) (a : Answer) → answer_due q n ≡ Some a → n < 16
+owed_below q sound n a due = let known : n < next_id q = sound.owed n a due in omega (arith, sound.few)
+
 -- each sleeper has a place for its answer
 pub has_place : (q : WaitQueue) → IsSound q → (n : ℕ) → is_asleep q n ≡ true → n < length q.due
 has_place q sound n is = let known : n < next_id q = sound.named n (sound.living n is) in omega (arith, sound.due_length, sound.few)
@@ -42,24 +52,29 @@ has_place q sound n is = let known : n < next_id q = sound.named n (sound.living
 -- the changes
 
 -- a thread that is told something isn't asleep
-pub IsSound-tells : (q : WaitQueue) (n : ℕ) (a : Answer) → is_asleep q n ≡ false → IsSound q → IsSound (tells n a q)
-IsSound-tells q n a awake sound = record {
+pub IsSound-tells : (q : WaitQueue) (n : ℕ) (a : Answer) → is_asleep q n ≡ false → n < next_id q → IsSound q → IsSound (tells n a q)
+IsSound-tells q n a awake known sound = record {
   named = sound.named;
   distinct = sound.distinct;
   living = sound.living;
   once = sound.once;
   unanswered = λ m is. get_or-set_other q.due n m (Some a) None (λ e. both_ways (is_asleep q n) awake (subst (λ (k : ℕ). is_asleep q k ≡ true) e is)) ∙ sound.unanswered m is;
+  owed = λ m b due. elim (cases_eq m n) [ inl e ↦ subst (λ (k : ℕ). k < next_id q) (sym e) known | inr apart ↦ sound.owed m b (sym (get_or-set_other q.due n m (Some a) None apart) ∙ due) ];
   due_length = length-set q.due n (Some a) ∙ sound.due_length;
   few = sound.few;
 }
 
-pub IsSound-wakes : (q : WaitQueue) (woken : List Sleeper) (a : Answer) → IsSound q → IsSound (wakes woken a q)
-IsSound-wakes q woken a sound = record {
+pub IsSound-wakes : (q : WaitQueue) (woken : List Sleeper) (a : Answer) → ((m : ℕ) → is_among m woken ≡ true → is_asleep q m ≡ true) → IsSound q → IsSound (wakes woken a q)
+IsSound-wakes q woken a slept sound = record {
   named = sound.named;
   distinct = sound.distinct;
   living = λ n is. sound.living n (before n is);
   once = SleepOnce-filter (λ (s : Sleeper). not (is_among s.thread woken)) q.sleepers sound.once;
   unanswered = λ n is. due_after-other n woken a q.due (left n is) ∙ sound.unanswered n (before n is);
+  owed = λ m b due. elim (cases_Bool (is_among m woken)) [
+    | inl among ↦ sound.named m (sound.living m (slept m among))
+    | inr isnt ↦ sound.owed m b (sym (due_after-other m woken a q.due isnt) ∙ due)
+  ];
   due_length = length-due_after woken a q.due ∙ sound.due_length;
   few = sound.few;
 }
@@ -85,6 +100,7 @@ IsSound-sleeps q s free sound = record {
   living = λ n is. elim (asleep_cases q s n is) [ inl e ↦ sound.living n e | inr e ↦ subst (λ (k : ℕ). is_alive q k ≡ true) e free.alive ];
   once = SleepOnce-push q.sleepers s sound.once free.awake;
   unanswered = λ n is. elim (asleep_cases q s n is) [ inl e ↦ sound.unanswered n e | inr e ↦ subst (λ (k : ℕ). answer_due q k ≡ None) e free.told ];
+  owed = sound.owed;
   due_length = sound.due_length;
   few = sound.few;
 }
@@ -104,6 +120,7 @@ IsSound-starts q arg room sound = record {
   living = λ n is. list_any-append (λ m. m == n) q.alive (next_id q ∷ []) ∙ or_left (is_alive q n) ((next_id q == n) || false) (sound.living n is);
   once = sound.once;
   unanswered = sound.unanswered;
+  owed = λ n a due. let known : n < next_id q = sound.owed n a due in omega (arith, longer);
   due_length = sound.due_length;
   few = omega (arith, longer);
 }
@@ -138,6 +155,7 @@ IsSound-leaves q n awake sound = record {
   living = λ m is. alive_but n m q.alive (λ e. both_ways (is_asleep q n) awake (subst (λ (k : ℕ). is_asleep q k ≡ true) (sym e) is)) (sound.living m is);
   once = sound.once;
   unanswered = sound.unanswered;
+  owed = sound.owed;
   due_length = sound.due_length;
   few = sound.few;
 }
@@ -147,38 +165,44 @@ IsSound-leaves q n awake sound = record {
 pub IsSound-settled : (q : WaitQueue) → IsSound q → IsSound (settled q)
 IsSound-settled q sound =
     cond_both (is_stuck q) (wakes (ended q.sleepers) (end_answer q.sleepers) q) q (λ w. IsSound w)
-    (λ e. IsSound-wakes q (ended q.sleepers) (end_answer q.sleepers) sound) (λ e. sound)
+    (λ e. IsSound-wakes q (ended q.sleepers) (end_answer q.sleepers) (λ m among. ended_sleeps m q.sleepers among) sound) (λ e. sound)
 
 pub IsSound-asked : (q : WaitQueue) (n : ℕ) (question : Question) (v : ℕ) → IsFree q n → IsSound q → IsSound (asked q n question v)
 IsSound-asked q n (Wait addr width expected timeout) v free sound =
     let s : Sleeper = record { thread = n; addr = addr; timeout = timeout } in
+    let known : n < next_id q = sound.named n free.alive in
     cond_both (not (v == expected)) (tells n (Number 1) q) (cond (ends_at_once timeout) (tells n (Number 2) q) (sleeps s q)) (λ w. IsSound w)
-    (λ e. IsSound-tells q n (Number 1) free.awake sound)
+    (λ e. IsSound-tells q n (Number 1) free.awake known sound)
     (λ e. cond_both (ends_at_once timeout) (tells n (Number 2) q) (sleeps s q) (λ w. IsSound w)
-    (λ d. IsSound-tells q n (Number 2) free.awake sound) (λ d. IsSound-sleeps q s free sound))
+    (λ d. IsSound-tells q n (Number 2) free.awake known sound) (λ d. IsSound-sleeps q s free sound))
 IsSound-asked q n (Notify addr count) v free sound =
     let woken : List Sleeper = woken_at addr count q.sleepers in
     IsSound-tells (wakes woken (Number 0) q) n (Number (length woken))
     (list_any-filter (λ (s : Sleeper). not (is_among s.thread woken)) (λ (s : Sleeper). s.thread == n) q.sleepers free.awake)
-    (IsSound-wakes q woken (Number 0) sound)
+    (sound.named n free.alive)
+    (IsSound-wakes q woken (Number 0) (λ m among. woken_sleeps m addr count q.sleepers among) sound)
 IsSound-asked q n (Spawn arg) v free sound =
+    let known : n < next_id q = sound.named n free.alive in
+    let still : n < length (q.args ++ arg ∷ []) + 1 = omega (arith, length-append q.args (arg ∷ []), known) in
     cond_both (nat_lt (next_id q) 16) (tells n (Number (next_id q)) (starts arg q)) (tells n (Number 4294967295) q) (λ w. IsSound w)
-    (λ e. IsSound-tells (starts arg q) n (Number (next_id q)) free.awake (IsSound-starts q arg (ltb-true (next_id q) 16 e) sound))
-    (λ e. IsSound-tells q n (Number 4294967295) free.awake sound)
-IsSound-asked q n Leave v free sound = IsSound-tells (leaves n q) n (Number 0) free.awake (IsSound-leaves q n free.awake sound)
+    (λ e. IsSound-tells (starts arg q) n (Number (next_id q)) free.awake still (IsSound-starts q arg (ltb-true (next_id q) 16 e) sound))
+    (λ e. IsSound-tells q n (Number 4294967295) free.awake known sound)
+IsSound-asked q n Leave v free sound =
+    IsSound-tells (leaves n q) n (Number 0) free.awake (sound.named n free.alive) (IsSound-leaves q n free.awake sound)
 
 pub IsSound-question : (q : WaitQueue) (n : ℕ) (question : Question) (v : ℕ) → IsFree q n → IsSound q → IsSound (after_question q n question v)
 unfolding after_question
 IsSound-question q n question v free sound = IsSound-settled (asked q n question v) (IsSound-asked q n question v free sound)
 
-pub IsSound-answer : (q : WaitQueue) (n : ℕ) → is_asleep q n ≡ false → IsSound q → IsSound (after_answer q n)
+pub IsSound-answer : (q : WaitQueue) (n : ℕ) → is_asleep q n ≡ false → n < next_id q → IsSound q → IsSound (after_answer q n)
 unfolding after_answer
-IsSound-answer q n awake sound = record {
+IsSound-answer q n awake known sound = record {
   named = sound.named;
   distinct = sound.distinct;
   living = sound.living;
   once = sound.once;
   unanswered = λ m is. get_or-set_other q.due n m None None (λ e. both_ways (is_asleep q n) awake (subst (λ (k : ℕ). is_asleep q k ≡ true) e is)) ∙ sound.unanswered m is;
+  owed = λ m b due. elim (cases_eq m n) [ inl e ↦ subst (λ (k : ℕ). k < next_id q) (sym e) known | inr apart ↦ sound.owed m b (sym (get_or-set_other q.due n m None None apart) ∙ due) ];
   due_length = length-set q.due n None ∙ sound.due_length;
   few = sound.few;
 }
@@ -193,7 +217,7 @@ IsSound-ask q n question Full free sound = IsSound-question q n question 0 free 
 -- an allowed entry keeps it
 pub IsSound-step : (q : WaitQueue) (n : ℕ) (event : Event) (reply : Reply) → IsAllowed q n event → IsSound q → IsSound (queue_step q n event reply)
 IsSound-step q n (Ask question) reply allowed sound = IsSound-ask q n question reply allowed sound
-IsSound-step q n (Told answer) reply allowed sound = IsSound-answer q n (awake_if_due q sound n answer allowed) sound
+IsSound-step q n (Told answer) reply allowed sound = IsSound-answer q n (awake_if_due q sound n answer allowed) (sound.owed n answer allowed) sound
 IsSound-step q n _ reply allowed sound = sound
 
 -- the histories
@@ -210,10 +234,14 @@ IsSound-first = record {
   living = λ n is. absurd (cc is);
   once = tt;
   unanswered = λ n is. absurd (cc is);
+  owed = λ n a due. absurd (cc (none n, due));
   due_length = length-replicate {A = Option Answer} 16 None;
   few = omega arith;
 }
   where
+    none : (n : ℕ) → get_or (replicate {A = Option Answer} 16 None) n None ≡ None
+    none n = elim (cases_lt n 16) [ inl within ↦ get_or-replicate 16 n None None within | inr past ↦ get_or_past (replicate 16 None) n None past ]
+
     below : (n : ℕ) → ((0 == n) || false) ≡ true → n < 1
     below n is = elim (or_cases (0 == n) false is) [ inl e ↦ (let same : 0 ≡ n = eqb-true 0 n e in omega arith) | inr bad ↦ absurd (cc bad) ]
 

@@ -83,6 +83,9 @@ module _ (n : ℕ) (xs zs : List Entry) (p : IsPrefix xs zs) (same : entries_of 
       let legal' : IsQueueLegal (xs ++ p.0) = subst IsQueueLegal (sym p.1) legal in
       subst (λ (w : List Entry). Keeps n (queue_after xs) (queue_after w)) p.1 (Keeps-after n xs p.0 (more_of_others n xs zs p same) legal')
 
+  pub alive_prefix : is_alive (queue_after xs) n ≡ true → is_alive (queue_after zs) n ≡ true
+  alive_prefix h = kept_prefix.alive h
+
   pub free_prefix : IsFree (queue_after xs) n → IsFree (queue_after zs) n
   free_prefix h =
       let quiet : IsQuiet (queue_after zs) n = kept_prefix.quiet (record { awake = h.awake; told = h.told }) in

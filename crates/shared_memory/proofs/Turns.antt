@@ -1,12 +1,12 @@
 -- A thread's turns: its question is open from the entry on until it takes the answer, and then it is free again.
-use Rattle.std.proofs.Common.{◌≡◌, ◌≢◌, ℕ, ◌+◌, ◌<◌, ◌≤◌, ◌==◌, Bool, true, false, not, ◌||◌, cond, List, [], ◌∷◌, ◌++◌, length, Option, Some, None, refl, sym, ◌∙◌, ap, subst, ◌⊎◌, inl, inr, arith, get_or, set, get_or-set_same, length-set, append-nil}
+use Rattle.std.proofs.Common.{◌≡◌, ◌≢◌, ℕ, ◌<◌, ◌==◌, true, false, not, ◌||◌, cond, List, [], ◌∷◌, ◌++◌, length, Option, Some, None, refl, sym, ◌∙◌, ap, subst, inl, inr, arith, get_or, set, get_or-set_same, length-set}
 use Rattle.std.specs.Prelude.{nat_lt, is_some}
 use Rattle.std.proofs.lemmas.Bool.{or_left, or_right, cond_both, eq-eqb, cases_lt}
-use Rattle.std.proofs.lemmas.List.{get_or_past, length-append}
+use Rattle.std.proofs.lemmas.List.{get_or_past}
 use Rattle.std.proofs.lemmas.List.Folds.{list_any-append}
 use Rattle.types.specs.declared.event.Entry.{Entry}
 use Rattle.types.specs.declared.event.Event.{Event}
-use Rattle.types.specs.declared.event.Event.TheVariants.{Size, Grow, Load, Store, Rmw, Cmpxchg, Ask, Told}
+use Rattle.types.specs.declared.event.Event.TheVariants.{Ask, Told}
 use Rattle.types.specs.declared.event.Question.{Question}
 use Rattle.types.specs.declared.event.Question.TheVariants.{Wait, Notify, Spawn, Leave}
 use Rattle.types.specs.declared.event.Answer.{Answer}
@@ -15,10 +15,10 @@ use Rattle.types.specs.declared.event.Reply.{Reply}
 use Rattle.types.specs.declared.event.Reply.TheVariants.{Value, Done, OutOfBounds, Again, Full}
 use Rattle.shared_memory.specs.declared.sleeper.Sleeper.{Sleeper}
 use Rattle.shared_memory.specs.Events.{is_of_queue}
-use Rattle.shared_memory.specs.WaitQueue.{WaitQueue, first_queue, is_alive, is_among, is_asleep, answer_due, next_id, tells, wakes, sleeps, starts, leaves, woken_at, ends_at_once, settled, asked, after_question, after_answer, due_after, IsFree, has_open_question}
-use Rattle.shared_memory.specs.History.{entry, of_queue, value_of, queue_step, queue_from, queue_after}
+use Rattle.shared_memory.specs.WaitQueue.{WaitQueue, first_queue, is_alive, is_asleep, answer_due, next_id, tells, wakes, sleeps, starts, leaves, woken_at, ends_at_once, settled, asked, after_question, after_answer, IsFree, has_open_question}
+use Rattle.shared_memory.specs.History.{entry, of_queue, queue_step, queue_after}
 use Rattle.shared_memory.specs.Legal.{IsAllowed, IsQueueLegalFrom, IsQueueLegal, MayEnter}
-use Rattle.shared_memory.proofs.Histories.{of_queue-append, of_queue-one, of_queue-quiet, of_queue-none, queue_after-entry, same_queue, IsQueueLegalFrom-rest, IsQueueLegal-prefix}
+use Rattle.shared_memory.proofs.Histories.{of_queue-append, of_queue-one, of_queue-quiet, queue_after-entry, same_queue, IsQueueLegalFrom-rest, IsQueueLegal-prefix}
 use Rattle.shared_memory.proofs.Sleepers.{length-due_after}
 use Rattle.shared_memory.proofs.Soundness.{IsSound, IsSound-asked, IsSound-after, awake_if_due}
 use Rattle.shared_memory.proofs.Others.{IsQuiet, Keeps, Keeps-settled}
@@ -58,7 +58,7 @@ open_sleeps : (q : WaitQueue) (s : Sleeper) → has_open_question (sleeps s q) s
 open_sleeps q s =
     or_left (is_asleep (sleeps s q) s.thread) (is_some (answer_due (sleeps s q) s.thread))
     (list_any-append (λ (t : Sleeper). t.thread == s.thread) q.sleepers (s ∷ [])
-        ∙ or_right (is_asleep q s.thread) ((s.thread == s.thread) || false) (or_left (s.thread == s.thread) false (eq-eqb s.thread s.thread refl)))
+    ∙ or_right (is_asleep q s.thread) ((s.thread == s.thread) || false) (or_left (s.thread == s.thread) false (eq-eqb s.thread s.thread refl)))
 
 -- the question is open before the queue settles
 pub open_asked : (q : WaitQueue) (n : ℕ) (question : Question) (v : ℕ) → IsFree q n → IsSound q → has_open_question (asked q n question v) n ≡ true
@@ -66,13 +66,14 @@ open_asked q n question v free sound = go question
   where
     within : n < length q.due
     within = let known : n < next_id q = sound.named n free.alive in omega (arith, sound.due_length, sound.few)
+
     go : (k : Question) → has_open_question (asked q n k v) n ≡ true
     go (Wait addr width expected timeout) =
         let s : Sleeper = record { thread = n; addr = addr; timeout = timeout } in
         cond_both (not (v == expected)) (tells n (Number 1) q) (cond (ends_at_once timeout) (tells n (Number 2) q) (sleeps s q)) (λ w. has_open_question w n ≡ true)
         (λ e. open_tells q n (Number 1) within)
         (λ e. cond_both (ends_at_once timeout) (tells n (Number 2) q) (sleeps s q) (λ w. has_open_question w n ≡ true)
-            (λ d. open_tells q n (Number 2) within) (λ d. open_sleeps q s))
+        (λ d. open_tells q n (Number 2) within) (λ d. open_sleeps q s))
     go (Notify addr count) =
         let woken : List Sleeper = woken_at addr count q.sleepers in
         open_tells (wakes woken (Number 0) q) n (Number (length woken)) (omega (arith, length-due_after woken (Number 0) q.due, within))

@@ -1,4 +1,4 @@
-use Rattle.std.proofs.Common.{ap, ◌∙◌, inl, inr}
+use Rattle.std.proofs.Common.{ap, inl, inr}
 use Rattle.std.specs.Prelude.{is_some}
 use Rattle.std.proofs.lemmas.Bool.{cases_Bool, and_left, and_right}
 use Rattle.shared_memory.specs.WaitQueue.{is_asleep, answer_due}
