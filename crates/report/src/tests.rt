@@ -54,9 +54,9 @@ fn prints_a_trap(rt: HostRuntime) -> Result<(), Fail> {
 #[test]
 fn dumps_what_is_asked(rt: HostRuntime) -> Result<(), Fail> {
     let (out, _, status) = done(rt.alloc(), 60, 63, "f", 64);
-    let (rest, last) = out.as_slice().split_at(out.len() - 13);
-    assert_eq!(rt; last, b" 3f 00 00 00\n".as_slice());
-    assert_eq!(rt; rest.len(), 19 + 8 + 5 + 180);
+    assert!(rt; out.as_slice().starts_with(b"thread 0: ok i32:0\npages 1\nbytes 00 00 ".as_slice()));
+    assert!(rt; out.as_slice().ends_with(b" 00 00 3f 00 00 00\n".as_slice()));
+    assert_eq!(rt; out.len(), 225);
     assert_eq!(rt; status, 0);
     let (out, _, _) = done(rt.alloc(), 60, 63, "f", 0);
     assert_eq!(rt; out.as_slice(), b"thread 0: ok i32:0\npages 1\n".as_slice());
@@ -97,15 +97,12 @@ impl Write for Failing {
 
 #[test]
 fn says_where_a_writer_failed(rt: HostRuntime) -> Result<(), Fail> {
-    let mut refused = 0;
-    for takes in 0..40 {
-        let mut out = Failing(takes);
-        let status = first(rt.alloc(), &ATOMIC_ADD, 8, &mut out);
-        if matches!(status, Err(FirstFault::Writer)) {
-            refused += 1;
-        }
+    for takes in [0, 1, 2, 3, 4, 5, 6] {
+        let status = first(rt.alloc(), &ATOMIC_ADD, 8, &mut Failing(takes));
+        assert!(rt; matches!(status, Err(FirstFault::Writer)), "{takes}");
     }
-    assert!(rt; refused > 5 && refused < 40, "{refused}");
+    let status = first(rt.alloc(), &ATOMIC_ADD, 8, &mut Failing(100));
+    assert!(rt; matches!(status, Ok(0)));
     let mut err = Vec::new(rt.alloc());
     let job = Job::Run {
         file: "add.wasm",
