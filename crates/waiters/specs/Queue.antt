@@ -1,10 +1,10 @@
--- What the queue of the desk keeps beside the wait queue's state, and what it reads of it.
+-- What a queue keeps true of its state, and which argument a spawned thread has.
 use Rattle.std.specs.Prelude.{ℕ, ◌≢◌, ◌+◌, ◌<◌, ◌≤◌, List, length, Option, None, slice_get, zero, suc}
 use Rattle.std.specs.List.{All, AllPairs}
 use Rattle.shared_memory.specs.declared.sleeper.Sleeper.{Sleeper}
 use Rattle.shared_memory.specs.WaitQueue.{WaitQueue}
 
--- The argument of a spawned thread. Thread 0 has none.
+-- The argument of a spawned thread. Thread 0 has none, nor has one that wasn't spawned.
 abbrev pub arg_of : WaitQueue → ℕ → Option ℕ
 arg_of q zero = None
 arg_of q (suc n) = slice_get q.args n

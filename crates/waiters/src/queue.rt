@@ -54,9 +54,10 @@ impl Queue {
         }
     }
 
-    /// A live thread without an open question asks the question, with the value that a wait's word has: for another
-    /// question `loaded` counts for nothing. Its answer is due at once, or once it is woken. Then the queue settles:
-    /// where each live thread is asleep, the least timeout ends, and where none has one, all sleep for good.
+    /// A live thread without an open question asks a question. `loaded` is the value of the word that a wait is at, and
+    /// counts for nothing at another question. The answer is due at once, or when the thread is woken. Then the queue
+    /// settles: where each live thread is asleep, the least timeout ends, ties at the lowest thread, and where none
+    /// has one, all sleep for good.
     #[tactic(auto, unfolding(shared_memory::specs::WaitQueue::after_question))]
     pub fn ask(&mut self, thread: u32, question: &Question, loaded: u64)
         requires { IsFree self.old thread }
@@ -68,7 +69,8 @@ impl Queue {
         self.settle();
     }
 
-    /// The answer that is due to the thread, which is then taken; `None`, with no change, where none is due.
+    /// The answer that is due to the thread, which is then taken. It is `None`, with no change, where none is due, as
+    /// for every number from 16 on.
     #[tactic(auto, unfolding(shared_memory::specs::WaitQueue::after_answer))]
     pub fn told(&mut self, thread: u32) -> Option<Answer>
         ensures answer { result ≡ answer_due self.old thread }
@@ -82,21 +84,21 @@ impl Queue {
         answer
     }
 
-    /// Whether the thread is alive.
+    /// Whether the thread is alive: it is thread 0 or was spawned, and hasn't left.
     pub fn is_alive(&self, thread: u32) -> bool
         ensures { result ≡ is_alive self.now thread }
     {
         self.alive.contains(&thread)
     }
 
-    /// Whether the thread sleeps.
+    /// Whether the thread sleeps. One that was woken and hasn't taken its answer yet doesn't.
     pub fn is_asleep(&self, thread: u32) -> bool
         ensures { result ≡ is_asleep self.now thread }
     {
         is_among(thread, self.sleepers.as_slice())
     }
 
-    /// Whether nobody is alive.
+    /// Whether the run is over: nobody is alive.
     pub fn is_over(&self) -> bool
         ensures { IsTrue result ↔ (self.now.alive ≡ []) }
     {
