@@ -14,4 +14,4 @@ mod vectors;
 pub use bounds::Bounds;
 pub use fault::{Fault, ReadFault};
 pub use reader::Reader;
-pub use vectors::{Item, read_items, read_vector};
+pub use vectors::{IndexItem, Item, read_items, read_vector};

@@ -8,17 +8,25 @@ use crate::reader::Reader;
 use std::alloc::Global;
 use types::Sequence;
 
-/// What a vector may hold.
-pub trait Item: Sized + Drop {
+/// A kind of item that a vector may hold: a type without values, which says how one item is read. So a crate above may
+/// say it of types of the crate `types`.
+pub trait Item {
+    type Value: Drop;
+
     /// The item at the front of the bytes, and the bytes behind it.
-    ghost at: { List ℕ → Option (Self × List ℕ) };
+    ghost at: { List ℕ → Option (Self.Value × List ℕ) };
 
     /// Reads one item.
-    fn read(reader: &mut Reader, alloc: Global) -> Result<Self, ReadFault>
+    fn read(reader: &mut Reader, alloc: Global) -> Result<Self::Value, ReadFault>
         ensures { Gives (λ x. (x, reader.new.rest.now)) result (at reader.old.rest.now) };
 }
 
-impl Item for u32 {
+/// An index: an unsigned number of 32 bits (Core specification 1.0, section 5.5.1).
+pub struct IndexItem;
+
+impl Item for IndexItem {
+    type Value = u32;
+
     ghost at = { u32_at };
 
     fn read(reader: &mut Reader, _alloc: Global) -> Result<u32, ReadFault> {
@@ -31,7 +39,7 @@ pub fn read_items<T: Item>(
     reader: &mut Reader,
     alloc: Global,
     count: u32,
-) -> Result<Sequence<T>, ReadFault>
+) -> Result<Sequence<T::Value>, ReadFault>
     ensures { Gives (λ v. (v, reader.new.rest.now)) result (items_at T.at count reader.old.rest.now) }
 {
     let mut items = Vec::new(alloc);
@@ -48,9 +56,9 @@ pub fn read_vector<T: Item>(
     reader: &mut Reader,
     alloc: Global,
     limit: u32,
-) -> Result<Sequence<T>, ReadFault>
+) -> Result<Sequence<T::Value>, ReadFault>
     ensures { Gives (λ v. (v, reader.new.rest.now)) result (vector_at limit T.at reader.old.rest.now) }
 {
     let count = reader.read_u32_within(limit)?;
-    read_items(reader, alloc, count)
+    read_items::<T>(reader, alloc, count)
 }
