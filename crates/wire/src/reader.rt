@@ -158,6 +158,17 @@ impl<'a> Reader<'a> {
         self.read_part(size as usize)
     }
 
+    /// A size, and so many bytes.
+    #[tactic(auto, unfolding(crate::specs::Reading::block_at))]
+    pub fn read_bytes(&mut self) -> Result<&'a [u8], ReadFault>
+        ensures gives { Gives (λ s. (s.now, self.new.rest.now)) result (block_at self.old.rest.now) }
+        ensures keeps { self.new.bounds ≡ self.old.bounds }
+        ensures faults { IfErr result (IsMissingOr self.old.bounds (Malformed kinds.Number (self.old.bounds.end - length self.old.rest.now))) }
+    {
+        let size = self.read_u32()?;
+        self.read_slice(size as usize)
+    }
+
     /// A name (Core specification 1.0, section 5.2.4).
     #[tactic(auto, unfolding(crate::specs::Reading::name_at, crate::specs::Reading::block_at))]
     pub fn read_name(&mut self) -> Result<&'a str, ReadFault>
