@@ -1,3 +1,7 @@
 pub mod Values
 pub mod Outcomes
 pub mod Widths
+pub mod Nesting
+pub mod Limits
+pub mod Modules
+pub mod Tests

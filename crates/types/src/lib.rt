@@ -4,14 +4,20 @@
 
 mod event;
 mod instr;
+mod limits;
+mod module;
+mod nesting;
 mod operators;
 mod outcome;
 mod parts;
 mod sequence;
+#[cfg(test)]
+mod tests;
 mod value;
 
 pub use event::{Answer, Entry, Event, Question, Reply, RmwOp};
 pub use instr::{BlockType, Instr, PlainInstr};
+pub use module::Module;
 pub use operators::{
     AccessWidth, AtomicOp, BinaryOp, CompareOp, ConvertOp, LoadOp, MemArg, NarrowWidth,
     NumericInstr, UnaryOp,

@@ -28,7 +28,7 @@ pub struct GlobalType {
 }
 
 /// An import (Core specification 1.0, section 2.5.11).
-#[derive(Debug, Drop)]
+#[derive(PartialEq, Eq, Debug, Drop)]
 pub struct Import {
     pub module: Name,
     pub name: Name,
@@ -46,7 +46,7 @@ pub enum ImportDesc {
 }
 
 /// An export (Core specification 1.0, section 2.5.10).
-#[derive(Debug, Drop)]
+#[derive(PartialEq, Eq, Debug, Drop)]
 pub struct Export {
     pub name: Name,
     pub desc: ExportDesc,
@@ -62,14 +62,14 @@ pub enum ExportDesc {
 }
 
 /// A global with its initial expression (Core specification 1.0, section 2.5.6).
-#[derive(Debug, Drop)]
+#[derive(PartialEq, Eq, Debug, Drop)]
 pub struct Global {
     pub global_type: GlobalType,
     pub init: Sequence<Instr>,
 }
 
 /// An element segment: functions, by index, that are put into a table (Core specification 1.0, section 2.5.7).
-#[derive(Debug, Drop)]
+#[derive(PartialEq, Eq, Debug, Drop)]
 pub struct ElementSegment {
     pub table: u32,
     pub offset: Sequence<Instr>,
@@ -77,7 +77,7 @@ pub struct ElementSegment {
 }
 
 /// A data segment: bytes that are put into a memory (Core specification 1.0, section 2.5.8).
-#[derive(Debug, Drop)]
+#[derive(PartialEq, Eq, Debug, Drop)]
 pub struct DataSegment {
     pub memory: u32,
     pub offset: Sequence<Instr>,
@@ -85,7 +85,7 @@ pub struct DataSegment {
 }
 
 /// A function's body (Core specification 1.0, section 2.5.3).
-#[derive(Debug, Drop)]
+#[derive(PartialEq, Eq, Debug, Drop)]
 pub struct Body {
     /// The types of the locals that aren't parameters, written out.
     pub locals: Sequence<ValType>,
@@ -94,7 +94,7 @@ pub struct Body {
 }
 
 /// A module's parts: one list for each section other than custom (Core specification 1.0, section 5.5).
-#[derive(Debug, Drop)]
+#[derive(PartialEq, Eq, Debug, Drop)]
 pub struct Parts {
     pub types: Sequence<FuncType>,
     pub imports: Sequence<Import>,

@@ -1,0 +1,172 @@
+//! Tests of a module's parts for the limits on numbers of items.
+ghost use Rattle.std.specs.Prelude.{◌≡◌, ◌+◌, ◌≤◌, length, count_by, nat_le};
+ghost use Rattle.std.specs.List.{list_all, zip};
+ghost use Rattle.types.specs.Limits.{param_count, is_func};
+ghost use Rattle.types.specs.Tests.{is_type_within, is_table_within, is_max_within, is_memory_within, is_desc_within, is_body_within, has_few_items, has_items_within, has_bodies_within};
+
+use crate::parts::{Body, ElementSegment, FuncType, Import, ImportDesc, Limits, Parts};
+
+/// Items of a section other than those of functions and code.
+const ITEMS: usize = 1_000;
+
+/// Functions with imported ones, and functions of one element segment.
+const FUNCTIONS: usize = 10_000;
+
+/// Elements of a table at first.
+const ELEMENTS: u32 = 10_000;
+
+/// Parameters, results, and locals with parameters.
+const LOCALS: usize = 1_000;
+
+/// Pages of a memory, at first and at most.
+const PAGES: u32 = 64;
+
+fn is_type_in(func_type: &FuncType) -> bool
+    ensures { result ≡ is_type_within func_type.now }
+{
+    func_type.params.len() <= LOCALS && func_type.results.len() <= LOCALS
+}
+
+fn is_table_in(limits: &Limits) -> bool
+    ensures { result ≡ is_table_within limits.now }
+{
+    limits.min <= ELEMENTS
+}
+
+fn is_memory_in(limits: &Limits) -> bool
+    ensures { result ≡ is_memory_within limits.now }
+{
+    limits.min <= PAGES
+        && match limits.max {
+            Some(max) => max <= PAGES,
+            None => true,
+        }
+}
+
+fn is_import_in(import: &Import) -> bool
+    ensures { result ≡ is_desc_within import.now.desc }
+{
+    match &import.desc {
+        ImportDesc::Func(_) | ImportDesc::Global(_) => true,
+        ImportDesc::Table(limits) => is_table_in(limits),
+        ImportDesc::Memory(limits) => is_memory_in(limits),
+    }
+}
+
+fn is_imported_function(import: &Import) -> bool
+    ensures { result ≡ is_func import.now.desc }
+{
+    match import.desc {
+        ImportDesc::Func(_) => true,
+        _ => false,
+    }
+}
+
+/// How many functions are imported.
+fn imported_functions(imports: &[Import]) -> usize
+    ensures { result ≡ count_by (λ i. is_func i.desc) imports.now }
+{
+    imports
+        .iter()
+        .filter(|import| is_imported_function(import))
+        .count()
+}
+
+/// The parameters of the type with this index, none if there is no such type.
+fn params(types: &[FuncType], index: u32) -> usize
+    ensures { result ≡ param_count types.now index }
+{
+    match types.get(index as usize) {
+        Some(func_type) => func_type.params.len(),
+        None => 0,
+    }
+}
+
+fn is_body_in(types: &[FuncType], index: u32, body: &Body) -> bool
+    ensures { result ≡ is_body_within types.now index body.now }
+{
+    let params = params(types, index);
+    params <= LOCALS && body.locals.len() <= LOCALS - params
+}
+
+/// Whether each section has as few items as a module may have.
+pub fn has_few_items_in(parts: &Parts) -> bool
+    ensures { result ≡ has_few_items parts.now }
+{
+    let imported = imported_functions(parts.imports.as_slice());
+    parts.types.len() <= ITEMS
+        && parts.imports.len() <= ITEMS
+        && imported <= FUNCTIONS
+        && parts.functions.len() <= FUNCTIONS - imported
+        && parts.tables.len() <= ITEMS
+        && parts.memories.len() <= ITEMS
+        && parts.globals.len() <= ITEMS
+        && parts.exports.len() <= ITEMS
+        && parts.elements.len() <= ITEMS
+        && parts.data.len() <= ITEMS
+}
+
+fn are_types_in(types: &[FuncType]) -> bool
+    ensures { result ≡ list_all is_type_within types.now }
+{
+    types.iter().all(|func_type| is_type_in(func_type))
+}
+
+fn are_imports_in(imports: &[Import]) -> bool
+    ensures { result ≡ list_all (λ i. is_desc_within i.desc) imports.now }
+{
+    imports.iter().all(|import| is_import_in(import))
+}
+
+fn are_tables_in(tables: &[Limits]) -> bool
+    ensures { result ≡ list_all is_table_within tables.now }
+{
+    tables.iter().all(|limits| is_table_in(limits))
+}
+
+fn are_memories_in(memories: &[Limits]) -> bool
+    ensures { result ≡ list_all is_memory_within memories.now }
+{
+    memories.iter().all(|limits| is_memory_in(limits))
+}
+
+fn are_elements_in(elements: &[ElementSegment]) -> bool
+    ensures { result ≡ list_all (λ e. nat_le (length e.functions) 10000) elements.now }
+{
+    elements
+        .iter()
+        .all(|segment| segment.functions.len() <= FUNCTIONS)
+}
+
+/// Whether each body has no more locals than it may have with the parameters of its function.
+fn are_bodies_in(types: &[FuncType], functions: &[u32], bodies: &[Body]) -> bool
+    ensures { result ≡ list_all (λ f. is_body_within types.now f.0 f.1) (zip functions.now bodies.now) }
+{
+    functions
+        .iter()
+        .zip(bodies.iter())
+        .all(|(index, body)| is_body_in(types, *index, body))
+}
+
+/// Whether each item keeps the limits on it.
+pub fn has_items_in(parts: &Parts) -> bool
+    ensures { result ≡ has_items_within parts.now }
+{
+    are_types_in(parts.types.as_slice())
+        && are_imports_in(parts.imports.as_slice())
+        && are_tables_in(parts.tables.as_slice())
+        && are_memories_in(parts.memories.as_slice())
+        && are_elements_in(parts.elements.as_slice())
+}
+
+/// Whether each function has its body, with no more locals than a body may have.
+pub fn has_bodies_in(parts: &Parts) -> bool
+    ensures { result ≡ has_bodies_within parts.now }
+{
+    parts.functions.len() == parts.bodies.len()
+        && are_bodies_in(
+            parts.types.as_slice(),
+            parts.functions.as_slice(),
+            parts.bodies.as_slice(),
+        )
+}
