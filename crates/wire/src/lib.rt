@@ -9,6 +9,8 @@ mod bounds;
 mod fault;
 mod numbers;
 mod reader;
+#[cfg(test)]
+mod tests;
 mod vectors;
 
 pub use bounds::Bounds;

@@ -89,6 +89,7 @@ impl<'a> Reader<'a> {
     pub fn read_u32_within(&mut self, limit: u32) -> Result<u32, ReadFault>
         ensures gives { Gives (λ n. (n, self.new.rest.now)) result (u32_within_at limit self.old.rest.now) }
         ensures keeps { self.new.bounds ≡ self.old.bounds }
+        ensures fits { IfOk result (λ n. n ≤ limit) }
     {
         let first = self.offset();
         let n = self.read_u32()?;

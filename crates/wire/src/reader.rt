@@ -165,8 +165,8 @@ impl<'a> Reader<'a> {
         ensures keeps { self.new.bounds ≡ self.old.bounds }
         ensures faults { IfErr result (IsMissingOr self.old.bounds (Malformed kinds.Number (self.old.bounds.end - length self.old.rest.now))) }
     {
-        let size = self.read_u32()?;
-        self.read_slice(size as usize)
+        let len = self.read_u32()?;
+        self.read_slice(len as usize)
     }
 
     /// A name (Core specification 1.0, section 5.2.4).
