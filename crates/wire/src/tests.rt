@@ -58,7 +58,7 @@ fn parts_of_stated_size(rt: HostRuntime) -> Result<(), Fail> {
 #[test]
 fn vectors_within_a_limit(rt: HostRuntime) -> Result<(), Fail> {
     let items = read_vector::<IndexItem>(&mut Reader::new(b"\x02\x07\x08"), rt.alloc(), 2)?;
-    assert_eq!(rt; items.as_slice(), &[7, 8]);
+    assert_eq!(rt; items.as_slice(), [7, 8].as_slice());
     match read_vector::<IndexItem>(&mut Reader::new(b"\x03\x07\x08\x09"), rt.alloc(), 2) {
         Ok(_) => assert!(rt; false),
         Err(fault) => {
