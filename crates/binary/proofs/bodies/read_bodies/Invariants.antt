@@ -1,0 +1,7 @@
+use Rattle.std.proofs.Common.{◌≡◌, drop}
+use Rattle.wire.proofs.Loop.{with_front}
+use Rattle.binary.specs.Reading.{bodies_at}
+use Rattle.binary.proofs.bodies.read_bodies.Given as goal
+
+abbrev pub invariant-loop-i : goal.invariant-loop-i
+invariant-loop-i l = with_front l.bodies.items (bodies_at l.types (drop l.i l.functions) l.reader.rest.now) ≡ bodies_at l.types l.functions l.fn.reader.rest.now

@@ -1,0 +1,9 @@
+use Rattle.std.proofs.Common.{◌≡◌, ◌-◌, length}
+use Rattle.binary.specs.Reading.{customs_at}
+use Rattle.binary.proofs.sections.read_customs.Given as goal
+
+abbrev pub invariant-loop : goal.invariant-loop
+invariant-loop l = record {
+  top : l.end ≡ length l.fn.reader.rest.now;
+  so_far : customs_at (l.end - l.counter) l.reader.rest.now ≡ customs_at (length l.fn.reader.rest.now) l.fn.reader.rest.now;
+}

@@ -1,0 +1,4 @@
+pub mod Counts
+pub mod Grammar
+pub mod Kinds
+pub mod Reading

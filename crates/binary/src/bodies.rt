@@ -1,0 +1,141 @@
+//! Bodies of functions: their locals and their code.
+
+ghost use Rattle.std.specs.Prelude.{◌≡◌, ◌<◌, ◌++◌, length, replicate, slice_index_or, IfOk};
+ghost use Rattle.wire.specs.Reading.{Gives};
+ghost use Rattle.types.specs.Limits.{param_count};
+ghost use Rattle.binary.specs.Reading.{groups_at, locals_at, body_at, bodies_at, code_section_at};
+
+use instructions::{read_expression, read_val_type};
+use std::alloc::{AllocError, Global};
+use types::{Body, FuncType, Sequence, ValType};
+use wire::{Fault, ReadFault, Reader};
+
+/// The most bytes of a body.
+const BODY_MAX: u32 = 65_536;
+
+/// The most locals of a function, with its parameters.
+const LOCALS_MAX: usize = 1000;
+
+/// The parameters of the type with this index, none if there is no such type.
+fn param_count(types: &[FuncType], index: u32) -> usize
+    ensures { result ≡ param_count types.now index }
+{
+    match types.get(index as usize) {
+        Some(func_type) => func_type.params.len(),
+        None => 0,
+    }
+}
+
+/// So many locals more of one type.
+fn push_locals(
+    locals: &mut Vec<ValType>,
+    number: u32,
+    val_type: ValType,
+) -> Result<(), AllocError>
+    ensures { IfOk result (λ _. locals.new.items ≡ locals.old.items ++ replicate number val_type) }
+{
+    for _ in 0..number {
+        locals.push(val_type)?;
+    }
+    Ok(())
+}
+
+/// Groups of locals, so many, each a number and a type, written out: no more locals than there is room for.
+fn read_groups(
+    reader: &mut Reader,
+    alloc: Global,
+    count: u32,
+    room: u32,
+) -> Result<Sequence<ValType>, ReadFault>
+    ensures { Gives (λ v. (v, reader.new.rest.now)) result (groups_at count room reader.old.rest.now) }
+{
+    let mut locals = Vec::new(alloc);
+    let mut left = room;
+    for _ in 0..count {
+        let number = reader.read_u32_within(left)?;
+        let val_type = read_val_type(reader)?;
+        push_locals(&mut locals, number, val_type)?;
+        left -= number;
+    }
+    Ok(Sequence::from_vec(locals))
+}
+
+/// The locals of a body: no more than there is room for.
+#[tactic(auto, unfolding(crate::specs::Reading::locals_at))]
+fn read_locals(
+    reader: &mut Reader,
+    alloc: Global,
+    room: u32,
+) -> Result<Sequence<ValType>, ReadFault>
+    ensures { Gives (λ v. (v, reader.new.rest.now)) result (locals_at room reader.old.rest.now) }
+{
+    let count = reader.read_u32()?;
+    read_groups(reader, alloc, count, room)
+}
+
+/// The body of a function with so many parameters (Core specification 1.0, section 5.5.13).
+#[tactic(auto, unfolding(crate::specs::Reading::body_at, crate::specs::Reading::body_contents_at, crate::specs::Reading::block_within_at))]
+fn read_body(reader: &mut Reader, alloc: Global, params: usize) -> Result<Body, ReadFault>
+    ensures { Gives (λ b. (b, reader.new.rest.now)) result (body_at params reader.old.rest.now) }
+{
+    let size = reader.read_u32_within(BODY_MAX)?;
+    let mut contents = reader.read_part(size as usize)?;
+    let room = LOCALS_MAX.saturating_sub(params);
+    let locals = read_locals(&mut contents, alloc, room as u32)?;
+    let code = read_expression(&mut contents, alloc)?;
+    contents.finish()?;
+    Ok(Body { locals, code })
+}
+
+/// The body of the function with this place among those of the module.
+fn read_body_of(
+    reader: &mut Reader,
+    alloc: Global,
+    types: &[FuncType],
+    functions: &[u32],
+    place: usize,
+) -> Result<Body, ReadFault>
+    requires { place < length functions.now }
+    ensures { Gives (λ b. (b, reader.new.rest.now)) result (body_at (param_count types.now (slice_index_or functions.now place 0)) reader.old.rest.now) }
+{
+    let params = param_count(types, functions[place]);
+    read_body(reader, alloc, params)
+}
+
+/// The bodies of the functions, given by the indices of their types.
+fn read_bodies(
+    reader: &mut Reader,
+    alloc: Global,
+    types: &[FuncType],
+    functions: &[u32],
+) -> Result<Sequence<Body>, ReadFault>
+    ensures { Gives (λ v. (v, reader.new.rest.now)) result (bodies_at types.now functions.now reader.old.rest.now) }
+{
+    let mut bodies = Vec::new(alloc);
+    for i in 0..functions.len() {
+        let body = read_body_of(reader, alloc, types, functions, i)?;
+        bodies.push(body)?;
+    }
+    Ok(Sequence::from_vec(bodies))
+}
+
+/// The contents of a code section: as many bodies as there are functions.
+#[tactic(auto, unfolding(crate::specs::Reading::code_section_at))]
+pub fn read_code_section(
+    reader: &mut Reader,
+    alloc: Global,
+    types: &[FuncType],
+    functions: &[u32],
+) -> Result<Sequence<Body>, ReadFault>
+    ensures { Gives (λ v. (v, reader.new.rest.now)) result (code_section_at types.now functions.now reader.old.rest.now) }
+{
+    let offset = reader.offset();
+    let count = reader.read_u32()?;
+    if count as usize != functions.len() {
+        return Err(ReadFault::Malformed {
+            kind: Fault::CountsDiffer,
+            offset,
+        });
+    }
+    read_bodies(reader, alloc, types, functions)
+}

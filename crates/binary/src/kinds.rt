@@ -1,0 +1,139 @@
+//! Single bytes that have a meaning.
+
+ghost use Rattle.std.specs.Prelude.{◌≡◌};
+ghost use Rattle.wire.specs.Reading.{Gives, tag_at};
+ghost use Rattle.binary.specs.Kinds.{external_kind_of, mutability_of, memory_flag_of, table_flag_of};
+ghost use Rattle.binary.specs.Reading.{coded_at};
+
+use wire::{Fault, ReadFault, Reader};
+
+/// What an import or an export is (Core specification 1.0, sections 5.5.5 and 5.5.10).
+#[derive(Clone, Copy)]
+pub enum ExternalKind {
+    Func,
+    Table,
+    Memory,
+    Global,
+}
+
+/// What stands behind the flag of limits (Core specification 1.0, section 5.3.4; threads proposal, section "Binary
+/// format").
+#[derive(Clone, Copy)]
+pub enum LimitsFlag {
+    Min,
+    MinMax,
+    SharedMinMax,
+}
+
+fn external_kind(byte: u8) -> Option<ExternalKind>
+    ensures { result ≡ external_kind_of byte }
+{
+    match byte {
+        0x00 => Some(ExternalKind::Func),
+        0x01 => Some(ExternalKind::Table),
+        0x02 => Some(ExternalKind::Memory),
+        0x03 => Some(ExternalKind::Global),
+        _ => None,
+    }
+}
+
+fn mutability(byte: u8) -> Option<bool>
+    ensures { result ≡ mutability_of byte }
+{
+    match byte {
+        0x00 => Some(false),
+        0x01 => Some(true),
+        _ => None,
+    }
+}
+
+fn memory_flag(byte: u8) -> Option<LimitsFlag>
+    ensures { result ≡ memory_flag_of byte }
+{
+    match byte {
+        0x00 => Some(LimitsFlag::Min),
+        0x01 => Some(LimitsFlag::MinMax),
+        0x03 => Some(LimitsFlag::SharedMinMax),
+        _ => None,
+    }
+}
+
+fn table_flag(byte: u8) -> Option<LimitsFlag>
+    ensures { result ≡ table_flag_of byte }
+{
+    match byte {
+        0x00 => Some(LimitsFlag::Min),
+        0x01 => Some(LimitsFlag::MinMax),
+        _ => None,
+    }
+}
+
+#[tactic(auto, unfolding(crate::specs::Reading::coded_at))]
+pub fn read_external_kind(reader: &mut Reader) -> Result<ExternalKind, ReadFault>
+    ensures { Gives (λ k. (k, reader.new.rest.now)) result (coded_at external_kind_of reader.old.rest.now) }
+{
+    let offset = reader.offset();
+    let Some(kind) = external_kind(reader.read_byte()?) else {
+        return Err(ReadFault::Malformed {
+            kind: Fault::UnknownByte,
+            offset,
+        });
+    };
+    Ok(kind)
+}
+
+#[tactic(auto, unfolding(crate::specs::Reading::coded_at))]
+pub fn read_mutability(reader: &mut Reader) -> Result<bool, ReadFault>
+    ensures { Gives (λ m. (m, reader.new.rest.now)) result (coded_at mutability_of reader.old.rest.now) }
+{
+    let offset = reader.offset();
+    let Some(mutable) = mutability(reader.read_byte()?) else {
+        return Err(ReadFault::Malformed {
+            kind: Fault::UnknownByte,
+            offset,
+        });
+    };
+    Ok(mutable)
+}
+
+#[tactic(auto, unfolding(crate::specs::Reading::coded_at))]
+pub fn read_memory_flag(reader: &mut Reader) -> Result<LimitsFlag, ReadFault>
+    ensures { Gives (λ f. (f, reader.new.rest.now)) result (coded_at memory_flag_of reader.old.rest.now) }
+{
+    let offset = reader.offset();
+    let Some(flag) = memory_flag(reader.read_byte()?) else {
+        return Err(ReadFault::Malformed {
+            kind: Fault::LimitsFlag,
+            offset,
+        });
+    };
+    Ok(flag)
+}
+
+#[tactic(auto, unfolding(crate::specs::Reading::coded_at))]
+pub fn read_table_flag(reader: &mut Reader) -> Result<LimitsFlag, ReadFault>
+    ensures { Gives (λ f. (f, reader.new.rest.now)) result (coded_at table_flag_of reader.old.rest.now) }
+{
+    let offset = reader.offset();
+    let Some(flag) = table_flag(reader.read_byte()?) else {
+        return Err(ReadFault::Malformed {
+            kind: Fault::LimitsFlag,
+            offset,
+        });
+    };
+    Ok(flag)
+}
+
+/// A byte that has to stand there.
+pub fn read_tag(reader: &mut Reader, tag: u8) -> Result<(), ReadFault>
+    ensures { Gives (λ _. reader.new.rest.now) result (tag_at tag reader.old.rest.now) }
+{
+    let offset = reader.offset();
+    if reader.read_byte()? != tag {
+        return Err(ReadFault::Malformed {
+            kind: Fault::UnknownByte,
+            offset,
+        });
+    }
+    Ok(())
+}

@@ -1,0 +1,153 @@
+//! Tables, memories, globals and function types.
+
+ghost use Rattle.wire.specs.Reading.{Gives};
+ghost use Rattle.binary.specs.Reading.{limits_after_at, table_at, memory_at, global_type_at, global_at, func_type_at};
+
+use crate::kinds::{
+    LimitsFlag, read_memory_flag, read_mutability, read_table_flag, read_tag,
+};
+use instructions::{read_expression, read_val_type};
+use types::{FuncType, GlobalType, Limits, ValType};
+use wire::{Item, ReadFault, Reader, read_vector};
+
+/// The most elements that a table may have at first.
+const TABLE_MIN_MAX: u32 = 10_000;
+
+/// The most pages that a memory may have.
+const PAGES_MAX: u32 = 64;
+
+/// The most parameters or results of a function type.
+const PARAMS_MAX: u32 = 1000;
+
+/// What stands behind the flag of limits.
+#[tactic(auto, unfolding(crate::specs::Reading::limits_after_at))]
+fn read_limits_after(
+    reader: &mut Reader,
+    flag: LimitsFlag,
+    most_min: u32,
+    most_max: u32,
+) -> Result<Limits, ReadFault>
+    ensures { Gives (λ l. (l, reader.new.rest.now)) result (limits_after_at most_min most_max flag reader.old.rest.now) }
+{
+    let min = reader.read_u32_within(most_min)?;
+    match flag {
+        LimitsFlag::Min => Ok(Limits {
+            min,
+            max: None,
+            shared: false,
+        }),
+        LimitsFlag::MinMax => Ok(Limits {
+            min,
+            max: Some(reader.read_u32_within(most_max)?),
+            shared: false,
+        }),
+        LimitsFlag::SharedMinMax => Ok(Limits {
+            min,
+            max: Some(reader.read_u32_within(most_max)?),
+            shared: true,
+        }),
+    }
+}
+
+/// A table type (Core specification 1.0, section 5.3.6).
+#[tactic(auto, unfolding(crate::specs::Reading::table_at))]
+pub fn read_table(reader: &mut Reader) -> Result<Limits, ReadFault>
+    ensures { Gives (λ l. (l, reader.new.rest.now)) result (table_at reader.old.rest.now) }
+{
+    read_tag(reader, 0x70)?;
+    let flag = read_table_flag(reader)?;
+    read_limits_after(reader, flag, TABLE_MIN_MAX, u32::MAX)
+}
+
+/// A memory type (Core specification 1.0, section 5.3.5).
+#[tactic(auto, unfolding(crate::specs::Reading::memory_at))]
+pub fn read_memory(reader: &mut Reader) -> Result<Limits, ReadFault>
+    ensures { Gives (λ l. (l, reader.new.rest.now)) result (memory_at reader.old.rest.now) }
+{
+    let flag = read_memory_flag(reader)?;
+    read_limits_after(reader, flag, PAGES_MAX, PAGES_MAX)
+}
+
+/// A global type (Core specification 1.0, section 5.3.7).
+#[tactic(auto, unfolding(crate::specs::Reading::global_type_at))]
+pub fn read_global_type(reader: &mut Reader) -> Result<GlobalType, ReadFault>
+    ensures { Gives (λ g. (g, reader.new.rest.now)) result (global_type_at reader.old.rest.now) }
+{
+    let val_type = read_val_type(reader)?;
+    let mutable = read_mutability(reader)?;
+    Ok(GlobalType { val_type, mutable })
+}
+
+/// The item of a table section.
+pub struct TableItem;
+
+impl Item for TableItem {
+    type Value = Limits;
+
+    ghost at = { table_at };
+
+    fn read(reader: &mut Reader, _alloc: std::alloc::Global) -> Result<Limits, ReadFault> {
+        read_table(reader)
+    }
+}
+
+/// The item of a memory section.
+pub struct MemoryItem;
+
+impl Item for MemoryItem {
+    type Value = Limits;
+
+    ghost at = { memory_at };
+
+    fn read(reader: &mut Reader, _alloc: std::alloc::Global) -> Result<Limits, ReadFault> {
+        read_memory(reader)
+    }
+}
+
+/// The item of a global section (Core specification 1.0, section 5.5.9).
+pub struct GlobalItem;
+
+impl Item for GlobalItem {
+    type Value = types::Global;
+
+    ghost at = { global_at };
+
+    #[tactic(auto, unfolding(crate::specs::Reading::global_at))]
+    fn read(reader: &mut Reader, alloc: std::alloc::Global) -> Result<types::Global, ReadFault> {
+        let global_type = read_global_type(reader)?;
+        let init = read_expression(reader, alloc)?;
+        Ok(types::Global { global_type, init })
+    }
+}
+
+/// A value type among parameters or results.
+struct ValTypeItem;
+
+impl Item for ValTypeItem {
+    ghost use Rattle.instructions.specs.Reading.{val_type_at};
+
+    type Value = ValType;
+
+    ghost at = { val_type_at };
+
+    fn read(reader: &mut Reader, _alloc: std::alloc::Global) -> Result<ValType, ReadFault> {
+        read_val_type(reader)
+    }
+}
+
+/// The item of a type section (Core specification 1.0, section 5.3.3).
+pub struct FuncTypeItem;
+
+impl Item for FuncTypeItem {
+    type Value = FuncType;
+
+    ghost at = { func_type_at };
+
+    #[tactic(auto, unfolding(crate::specs::Reading::func_type_at))]
+    fn read(reader: &mut Reader, alloc: std::alloc::Global) -> Result<FuncType, ReadFault> {
+        read_tag(reader, 0x60)?;
+        let params = read_vector::<ValTypeItem>(reader, alloc, PARAMS_MAX)?;
+        let results = read_vector::<ValTypeItem>(reader, alloc, PARAMS_MAX)?;
+        Ok(FuncType { params, results })
+    }
+}

@@ -1,0 +1,32 @@
+//! The module that bytes spell.
+
+ghost use Rattle.std.specs.Prelude.{◌≡◌, IfOk, MatchResult};
+ghost use Rattle.wire.specs.Reading.{Refuses};
+ghost use Rattle.types.specs.Modules.{IsModule};
+ghost use Rattle.types.specs.declared.parts.Parts.{Parts};
+ghost use Rattle.binary.specs.Grammar.{IsModuleText};
+
+use crate::parts::read_parts;
+use std::alloc::Global;
+use types::Module;
+use wire::{Fault, ReadFault};
+
+/// The module that the bytes spell (Core specification 1.0, section 5.5.15).
+pub fn read(alloc: Global, bytes: &[u8]) -> Result<Module, ReadFault>
+    // What is read is spelled so, and is a module.
+    ensures found { IfOk result (λ m. IsModuleText bytes.now m × IsModule m) }
+    // Where the bytes spell a module, it is that one, or memory ran out.
+    ensures only { (m : Parts) → IsModuleText bytes.now m → MatchResult result (λ found. found ≡ m) (λ e. Refuses e → ⊥) }
+    // The bytes spell one module at most.
+    ensures unique { (a b : Parts) → IsModuleText bytes.now a → IsModuleText bytes.now b → a ≡ b }
+{
+    let parts = read_parts(alloc, bytes)?;
+    match Module::from_parts(parts) {
+        Ok(module) => Ok(module),
+        // What bytes spell keeps the limits, so that this fault isn't answered of any bytes that spell a module.
+        Err(_) => Err(ReadFault::Malformed {
+            kind: Fault::Limit,
+            offset: bytes.len(),
+        }),
+    }
+}

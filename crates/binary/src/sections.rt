@@ -1,0 +1,113 @@
+//! Sections, with custom sections before them.
+
+ghost use Rattle.std.specs.Prelude.{length, true};
+ghost use Rattle.wire.specs.Reading.{Gives, end_at, vector_at};
+ghost use Rattle.binary.specs.Reading.{custom_at, customs_at, part_at, section_at, start_at, code_at};
+
+use crate::bodies::read_code_section;
+use std::alloc::Global;
+use types::{Body, FuncType, Sequence};
+use wire::{Fault, Item, ReadFault, Reader, read_vector};
+
+/// The id of the last kind of section.
+const DATA_ID: u8 = 11;
+
+/// A custom section (Core specification 1.0, section 5.5.3): a name, and anything.
+#[tactic(auto, unfolding(crate::specs::Reading::custom_at))]
+fn read_custom(reader: &mut Reader) -> Result<(), ReadFault>
+    ensures { Gives (λ _. (true, reader.new.rest.now)) result (custom_at reader.old.rest.now) }
+{
+    reader.read_byte()?;
+    let mut contents = reader.read_block()?;
+    contents.read_name()?;
+    Ok(())
+}
+
+/// Passes over custom sections.
+pub fn read_customs(reader: &mut Reader) -> Result<(), ReadFault>
+    ensures { Gives (λ _. reader.new.rest.now) result (customs_at (length reader.old.rest.now) reader.old.rest.now) }
+{
+    // Each takes a byte at least.
+    for _ in 0..reader.len() {
+        if !reader.front_is(0) {
+            return Ok(());
+        }
+        read_custom(reader)?;
+    }
+    Ok(())
+}
+
+/// The section with an id (Core specification 1.0, section 5.5.2), behind custom ones: a vector. It has no items if it
+/// isn't there.
+#[tactic(auto, unfolding(crate::specs::Reading::section_at, crate::specs::Reading::part_at, wire::specs::Reading::sized_at))]
+pub fn read_section<T: Item>(
+    reader: &mut Reader,
+    alloc: Global,
+    id: u8,
+    limit: u32,
+) -> Result<Sequence<T::Value>, ReadFault>
+    ensures { Gives (λ v. (v, reader.new.rest.now)) result (section_at id limit T.at reader.old.rest.now) }
+{
+    read_customs(reader)?;
+    if !reader.front_is(id) {
+        return Ok(Sequence::from_vec(Vec::new(alloc)));
+    }
+    reader.read_byte()?;
+    let mut contents = reader.read_block()?;
+    let items = read_vector::<T>(&mut contents, alloc, limit)?;
+    contents.finish()?;
+    Ok(items)
+}
+
+/// The start section (Core specification 1.0, section 5.5.11), behind custom ones, if it is there.
+#[tactic(auto, unfolding(crate::specs::Reading::part_at, crate::specs::Reading::start_at, crate::specs::Reading::start_function_at, wire::specs::Reading::sized_at))]
+pub fn read_start(reader: &mut Reader) -> Result<Option<u32>, ReadFault>
+    ensures { Gives (λ s. (s, reader.new.rest.now)) result (start_at reader.old.rest.now) }
+{
+    read_customs(reader)?;
+    if !reader.front_is(8) {
+        return Ok(None);
+    }
+    reader.read_byte()?;
+    let mut contents = reader.read_block()?;
+    let function = contents.read_u32()?;
+    contents.finish()?;
+    Ok(Some(function))
+}
+
+/// The code section (Core specification 1.0, section 5.5.13), behind custom ones. It has no bodies if it isn't there.
+#[tactic(auto, unfolding(crate::specs::Reading::part_at, crate::specs::Reading::code_at, wire::specs::Reading::sized_at))]
+pub fn read_code(
+    reader: &mut Reader,
+    alloc: Global,
+    types: &[FuncType],
+    functions: &[u32],
+) -> Result<Sequence<Body>, ReadFault>
+    ensures { Gives (λ v. (v, reader.new.rest.now)) result (code_at types.now functions.now reader.old.rest.now) }
+{
+    read_customs(reader)?;
+    if !reader.front_is(10) {
+        return Ok(Sequence::from_vec(Vec::new(alloc)));
+    }
+    reader.read_byte()?;
+    let mut contents = reader.read_block()?;
+    let bodies = read_code_section(&mut contents, alloc, types, functions)?;
+    contents.finish()?;
+    Ok(bodies)
+}
+
+/// That nothing is left of the input. A section that is left is unknown, or out of order.
+pub fn read_end(reader: &Reader) -> Result<(), ReadFault>
+    ensures { Gives (λ _. true) result (end_at reader.now.rest.now) }
+{
+    match reader.peek() {
+        None => Ok(()),
+        Some(id) => {
+            if id > DATA_ID {
+                Err(reader.fault(Fault::UnknownByte))
+            } else {
+                Err(reader.fault(Fault::SectionOrder))
+            }
+        }
+    }
+}

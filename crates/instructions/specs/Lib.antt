@@ -1,0 +1,4 @@
+pub mod Grammar
+pub mod Instructions
+pub mod Opcodes
+pub mod Reading

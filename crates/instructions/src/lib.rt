@@ -1,0 +1,20 @@
+//! Instructions and expressions in the binary format (Core specification 1.0, section 5.4; threads proposal, section
+//! "Binary format").
+//!
+//! `specs/Opcodes.antt` says which instruction each opcode begins, `specs/Grammar.antt` which bytes spell an
+//! instruction, and `specs/Reading.antt` computes the instructions from the bytes. `proofs/Laws.antt` has that the
+//! grammar and the reading agree.
+#![tactic(auto)]
+
+mod expression;
+mod immediates;
+mod opcodes;
+mod shaped;
+#[cfg(test)]
+mod tests;
+
+pub use expression::read_expression;
+pub use immediates::{read_block_type, read_memarg, read_val_type};
+pub use opcodes::{
+    AtomicShape, BareInstr, IndexInstr, Opener, Shape, shape_of_atomic, shape_of_opcode,
+};

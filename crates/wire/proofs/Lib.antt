@@ -1,0 +1,4 @@
+pub mod Laws
+pub mod Loop
+pub mod Text
+pub mod Tops
