@@ -1,6 +1,6 @@
 -- The grammar of instructions and expressions (Core specification 1.0, sections 5.3.1, 5.3.2 and 5.4; threads proposal,
 -- section "Binary format").
-use Rattle.std.specs.Prelude.{◌≡◌, ℕ, ◌<◌, ◌≤◌, List, [], ◌∷◌, length, Bool, true, false, Option, Some, None, Ok, nat_lt, if◌then◌else◌}
+use Rattle.std.specs.Prelude.{◌≡◌, ℕ, ◌<◌, List, [], ◌∷◌, length, Bool, true, false, Option, Some, None, Ok, nat_lt, if◌then◌else◌}
 use Rattle.wire.specs.Grammar.{Spelling, IsU32, IsS32, IsS64, IsVector}
 use Rattle.types.specs.declared.value.ValType.{ValType}
 use Rattle.types.specs.declared.value.ValType.TheVariants as types

@@ -5,7 +5,6 @@ use Rattle.wire.specs.declared.fault.Fault.{Fault}
 use Rattle.wire.specs.declared.fault.Fault.TheVariants as kinds
 use Rattle.types.specs.declared.value.ValType.{ValType}
 use Rattle.types.specs.declared.value.ValType.TheVariants as types
-use Rattle.types.specs.declared.event.RmwOp.{RmwOp}
 use Rattle.types.specs.declared.event.RmwOp.TheVariants as rmw
 use Rattle.types.specs.declared.operators.UnaryOp.TheVariants as unary
 use Rattle.types.specs.declared.operators.BinaryOp.TheVariants as binary
@@ -113,7 +112,7 @@ abbrev pub operators : ValType → List Opcode
 operators t =
     map (λ op. instr (shapes.Numeric (numeric.Unary t op))) (unary.Clz ∷ unary.Ctz ∷ unary.Popcnt ∷ [])
     ++ map (λ op. instr (shapes.Numeric (numeric.Binary t op)))
-        (binary.Add ∷ binary.Sub ∷ binary.Mul ∷ binary.DivS ∷ binary.DivU ∷ binary.RemS ∷ binary.RemU ∷ binary.And ∷ binary.Or ∷ binary.Xor ∷ binary.Shl ∷ binary.ShrS ∷ binary.ShrU ∷ binary.Rotl ∷ binary.Rotr ∷ [])
+    (binary.Add ∷ binary.Sub ∷ binary.Mul ∷ binary.DivS ∷ binary.DivU ∷ binary.RemS ∷ binary.RemU ∷ binary.And ∷ binary.Or ∷ binary.Xor ∷ binary.Shl ∷ binary.ShrS ∷ binary.ShrU ∷ binary.Rotl ∷ binary.Rotr ∷ [])
 
 -- The conversions, among those from and to floats.
 abbrev pub conversions : List Opcode

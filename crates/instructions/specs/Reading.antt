@@ -1,5 +1,5 @@
 -- Instructions and expressions, read from left to right.
-use Rattle.std.specs.Prelude.{◌≡◌, ℕ, zero, suc, List, [], ◌∷◌, length, Bool, true, false, Option, Some, None, Result, Ok, Err, nat_lt, nat_eq, if◌then◌else◌}
+use Rattle.std.specs.Prelude.{ℕ, zero, suc, List, [], ◌∷◌, length, Bool, true, false, Option, Some, None, Result, Ok, Err, nat_eq, if◌then◌else◌}
 use Rattle.wire.specs.Reading.{◌>>=◌, byte_at, front_is, tag_at, u32_at, s32_at, s64_at, vector_at}
 use Rattle.types.specs.declared.value.ValType.{ValType}
 use Rattle.types.specs.declared.value.ValType.TheVariants as types

@@ -97,9 +97,7 @@ fn read_const(reader: &mut Reader, val_type: ValType) -> Result<Instr, ReadFault
         ValType::I32 => Value::I32(reader.read_s32()?),
         ValType::I64 => Value::I64(reader.read_s64()?),
     };
-    Ok(Instr::Plain(PlainInstr::Numeric(NumericInstr::Const(
-        value,
-    ))))
+    Ok(Instr::Plain(PlainInstr::Numeric(NumericInstr::Const(value))))
 }
 
 /// The labels of `br_table`, and its default label (Core specification 1.0, section 5.4.1).
@@ -125,11 +123,7 @@ fn read_call_indirect(reader: &mut Reader) -> Result<Instr, ReadFault>
 
 /// The immediates of an instruction, behind its opcode.
 #[tactic(auto, unfolding(crate::specs::Reading::shaped_at, crate::specs::Reading::reserved_at))]
-pub fn read_shaped(
-    reader: &mut Reader,
-    alloc: Global,
-    shape: Shape,
-) -> Result<Instr, ReadFault>
+pub fn read_shaped(reader: &mut Reader, alloc: Global, shape: Shape) -> Result<Instr, ReadFault>
     ensures { Gives (λ i. (i, reader.new.rest.now)) result (shaped_at shape reader.old.rest.now) }
 {
     let instr = match shape {

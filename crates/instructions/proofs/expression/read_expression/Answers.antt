@@ -1,4 +1,4 @@
-use Rattle.std.proofs.Common.{◌≡◌, Bool, vec_len, ◌-◌, ◌+◌, ◌<◌, ◌++◌, ◌∷◌, [], false, reverse, length, arith, refl, sym}
+use Rattle.std.proofs.Common.{◌≡◌, Bool, vec_len, ◌-◌, ◌+◌, ◌++◌, ◌∷◌, [], false, reverse, length, arith}
 use Rattle.std.specs.Global.{Vec}
 use Rattle.std.proofs.lemmas.Result.{err_from_is_err_and}
 use Rattle.instructions.specs.Reading.{expression_at, code_at}
