@@ -1,5 +1,5 @@
 //! The state of the wait queue, and its steps.
-ghost use Rattle.std.specs.Prelude.{◌≡◌, ◌<◌, ◌↔◌, [], length, false, true, nat_lt, if◌then◌else◌, IsTrue, MatchOption};
+ghost use Rattle.std.specs.Prelude.{◌≡◌, ◌<◌, ◌↔◌, [], length, false, nat_lt, if◌then◌else◌, IsTrue, MatchOption};
 ghost use Rattle.std.specs.List.{list_all};
 ghost use Rattle.shared_memory.specs.WaitQueue.{IsFree, after_answer, after_question, answer_due, asked, first_queue, is_alive, is_asleep, is_among, is_stuck, leaves, next_id, settled, sleeps, starts, tells, wakes, woken_at};
 ghost use Rattle.waiters.specs.Queue.{AreNumbered, arg_of};

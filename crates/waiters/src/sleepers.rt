@@ -1,7 +1,7 @@
 //! Sleepers in the order in which they fell asleep, and whom of them a notify or settling wakes.
 ghost use Rattle.std.specs.Prelude.{◌≡◌, ◌<◌, ◌≤◌, ◌==◌, ◌++◌, [], ◌∷◌, not, length, take, filter};
 ghost use Rattle.shared_memory.specs.declared.sleeper.Sleeper.{Sleeper};
-ghost use Rattle.shared_memory.specs.WaitQueue.{amount, due_after, earlier, end_answer, ended, ends_at_once, ends_before, first_to_end, has_timeout, is_among, woken_at};
+ghost use Rattle.shared_memory.specs.WaitQueue.{amount, due_after, earlier, ends_at_once, ends_before, first_to_end, has_timeout, is_among, woken_at};
 ghost use Rattle.waiters.specs.Queue.{AreNumbered};
 
 use shared_memory::Sleeper;
