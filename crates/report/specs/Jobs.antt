@@ -1,8 +1,23 @@
 -- The jobs of the command line.
-use Rattle.std.specs.Prelude.{◌≤◌}
+use Rattle.std.specs.Prelude.{ℕ, ◌≤◌, List, length, Option}
+use Rattle.std.specs.Io.KnownBytes.{Appends}
+use Rattle.types.specs.declared.parts.Parts.{Parts}
+use Rattle.binary.specs.Grammar.{IsModuleText}
+use Rattle.report.specs.Lines.{functions_line}
 use Rattle.report.specs.declared.command_line.Job.{Job}
-use Rattle.report.specs.declared.command_line.Job.TheVariants.{Run}
+use Rattle.report.specs.declared.command_line.Job.TheVariants.{Check, Run}
 
 -- The numbers of a job are in their ranges.
 abbrev pub IsInRange : Job → Type 0
+IsInRange (Check file) = Unit {0}
 IsInRange (Run file invoke dump) = dump ≤ 4096
+
+-- The bytes are a module's text, and what was written is its line.
+pub record IsAccepted (bytes : List ℕ) (old new : Option (List ℕ)) : Type 0 where
+  pub parts : Parts
+  pub text : IsModuleText bytes parts
+  pub line : Appends old new (functions_line (length parts.functions))
+
+-- The bytes are no module's text.
+abbrev pub IsNoModule : List ℕ → Type 0
+IsNoModule bytes = (parts : Parts) → IsModuleText bytes parts → ⊥

@@ -28,3 +28,7 @@ hex_bytes bytes = flat_map hex_byte bytes
 -- The line of the first bytes, so many, or of all if there are fewer. There is none where none are wanted.
 abbrev pub bytes_line : ℕ → List ℕ → List ℕ
 bytes_line dump bytes = if dump == 0 then [] else codes "bytes" ++ hex_bytes (take dump bytes) ++ codes "\n"
+
+-- The line of an accepted module: how many functions of its own it has.
+abbrev pub functions_line : ℕ → List ℕ
+functions_line count = codes "ok functions " ++ decimal count ++ codes "\n"

@@ -12,6 +12,11 @@ pub const DUMP_MOST: u32 = 4096;
 /// What the command line asks for.
 #[derive(Clone, Copy, PartialEq, Eq, Debug)]
 pub enum Job<'a> {
+    /// Read a module, and say how many functions of its own it has.
+    Check {
+        /// The path of the module.
+        file: &'a str,
+    },
     /// Run a function of a module, and print how its threads ended.
     Run {
         /// The path of the module.
@@ -50,12 +55,23 @@ impl From<AllocError> for Usage {
     }
 }
 
-/// `run FILE --invoke NAME [--dump N]`
-fn run_command<'a>(alloc: Global) -> Result<Command<'a>, AllocError> {
-    let file = Arg::new(alloc, "file")
+/// The module's path, which every command takes.
+fn file_argument<'a>(alloc: Global) -> Arg<'a> {
+    Arg::new(alloc, "file")
         .value_name("FILE")
         .help("The module, in the binary format")
-        .required(true);
+        .required(true)
+}
+
+/// `check FILE`
+fn check_command<'a>(alloc: Global) -> Result<Command<'a>, AllocError> {
+    Command::new(alloc, "check")
+        .about("Reads a module, and says how many functions of its own it has")
+        .arg(file_argument(alloc))
+}
+
+/// `run FILE --invoke NAME [--dump N]`
+fn run_command<'a>(alloc: Global) -> Result<Command<'a>, AllocError> {
     let invoke = Arg::new(alloc, "invoke")
         .long("invoke")
         .value_name("NAME")
@@ -69,7 +85,7 @@ fn run_command<'a>(alloc: Global) -> Result<Command<'a>, AllocError> {
         .default_value("0");
     Command::new(alloc, "run")
         .about("Runs a function of a module, and prints how its threads ended")
-        .arg(file)?
+        .arg(file_argument(alloc))?
         .arg(invoke)?
         .arg(dump)
 }
@@ -80,6 +96,7 @@ fn commands<'a>(alloc: Global) -> Result<Command<'a>, AllocError> {
         .version("0.1.0")
         .about("A proved interpreter of WebAssembly modules whose threads share one linear memory")
         .subcommand_required(true)
+        .subcommand(check_command(alloc)?)?
         .subcommand(run_command(alloc)?)
 }
 
@@ -101,8 +118,13 @@ fn run_job<'a>(matches: &ArgMatches<'a>) -> Option<Job<'a>>
 fn job_of<'a>(matches: &ArgMatches<'a>) -> Option<Job<'a>>
     ensures { IfSome result IsInRange }
 {
-    let (_, matches) = matches.subcommand()?;
-    run_job(matches)
+    let (name, matches) = matches.subcommand()?;
+    if name == "check" {
+        let file = matches.get_str("file")?;
+        Some(Job::Check { file })
+    } else {
+        run_job(matches)
+    }
 }
 
 /// An error about words that the parser let pass though they are no job; it should never be seen.

@@ -1,10 +1,15 @@
 //! What a job prints, and with which status it ends.
-ghost use Rattle.std.specs.Prelude.{◌≤◌};
+ghost use Rattle.std.specs.Prelude.{◌≡◌, ◌≤◌, OnOk};
+ghost use Rattle.std.specs.Io.KnownBytes.{Appends};
+ghost use Rattle.report.specs.Lines.{functions_line};
+ghost use Rattle.report.specs.Jobs.{IsAccepted, IsNoModule};
 
 use crate::command_line::Job;
 use crate::first_path::{FirstFault, first, is_first_module};
+use binary::read;
 use std::alloc::Global;
-use std::io::Write;
+use std::io::{self, Write};
+use wire::ReadFault;
 
 /// The statuses with which the program ends, beside 0 and 1 for a run.
 const MODULE_REFUSED: u8 = 2;
@@ -15,20 +20,62 @@ const FAULT: u8 = 5;
 
 /// Does a job on a module's bytes: writes its lines to `out`, and at most one line about what went wrong to `err`.
 ///
-/// Answers the program's status: 0 where all threads ended well, 1 for a trap or stop, 2 for a refused module, 3 for a
-/// refused run, 5 where memory or a stream failed. A write to `err` that fails doesn't change it.
-pub fn perform<W: Write, E: Write>(
+/// `saved` has the bytes of the job's record, and `save` takes the record that it makes; no job of today has one.
+///
+/// Answers the program's status: 0 where the module was accepted or all threads ended well, 1 for a trap or stop, 2
+/// for a refused module, 3 for a refused run, 5 where memory or a stream failed. A write to `err` that fails doesn't
+/// change it.
+pub fn perform<W: Write, E: Write, S: Write>(
     alloc: Global,
     job: &Job,
     module: &[u8],
+    _saved: &[u8],
     out: &mut W,
     err: &mut E,
+    _save: &mut S,
 ) -> u8
     ensures { result ≤ 5 }
 {
     match *job {
+        Job::Check { .. } => check(alloc, module, out, err),
         Job::Run { invoke, dump, .. } => run(alloc, invoke, dump, module, out, err),
     }
+}
+
+/// Reads a module, and writes how many functions of its own it has.
+///
+/// Answers 0 only where the bytes are a module's text and its line was written, and 2 only where they are no module's.
+pub fn check<W: Write, E: Write>(alloc: Global, module: &[u8], out: &mut W, err: &mut E) -> u8
+    ensures accepted { result ≡ 0 → IsAccepted module.now (W.contents out.old) (W.contents out.new) }
+    ensures refused { result ≡ 2 → IsNoModule module.now }
+    ensures status { result ≤ 5 }
+{
+    match read(alloc, module) {
+        Ok(found) => match write_functions(out, found.parts().functions.len()) {
+            Ok(()) => 0,
+            Err(_) => {
+                say(err, "file fault: standard output");
+                FAULT
+            }
+        },
+        Err(ReadFault::OutOfMemory) => {
+            say(err, "no memory");
+            FAULT
+        }
+        Err(ReadFault::Malformed { kind, offset }) => {
+            let number = kind.number();
+            let _ = write!(err, "module refused: read {number} at {offset}\n");
+            MODULE_REFUSED
+        }
+    }
+}
+
+/// The line of an accepted module: `ok functions N`.
+fn write_functions<W: Write>(out: &mut W, count: usize) -> io::Result<()>
+    ensures { OnOk result (Appends (W.contents out.old) (W.contents out.new) (functions_line count)) }
+{
+    write!(out, "ok functions {count}\n")?;
+    out.flush()
 }
 
 /// Runs a module of the first path.

@@ -10,4 +10,4 @@ mod tests;
 
 pub use command_line::{Job, Usage, command};
 pub use first_path::{FirstFault, first, is_first_module};
-pub use job::perform;
+pub use job::{check, perform};

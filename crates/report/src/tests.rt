@@ -23,7 +23,7 @@ fn done(alloc: Global, address: u8, addend: u8, invoke: &str, dump: u32) -> (Vec
         invoke,
         dump,
     };
-    let status = perform(alloc, &job, &module, &mut out, &mut err);
+    let status = perform(alloc, &job, &module, b"", &mut out, &mut err, &mut Failing(0));
     (out, err, status)
 }
 
@@ -109,9 +109,54 @@ fn says_where_a_writer_failed(rt: HostRuntime) -> Result<(), Fail> {
         invoke: "f",
         dump: 0,
     };
-    let status = perform(rt.alloc(), &job, &ATOMIC_ADD, &mut Failing(1), &mut err);
+    let status = perform(
+        rt.alloc(),
+        &job,
+        &ATOMIC_ADD,
+        b"",
+        &mut Failing(1),
+        &mut err,
+        &mut Failing(0),
+    );
     assert_eq!(rt; err.as_slice(), b"file fault: standard output\n".as_slice());
     assert_eq!(rt; status, 5);
+    Ok(())
+}
+
+/// What `check` writes of these bytes, and its status.
+fn checked(alloc: Global, module: &[u8]) -> (Vec<u8>, Vec<u8>, u8) {
+    let mut out = Vec::new(alloc);
+    let mut err = Vec::new(alloc);
+    let job = Job::Check { file: "a.wasm" };
+    let status = perform(alloc, &job, module, b"", &mut out, &mut err, &mut Failing(0));
+    (out, err, status)
+}
+
+#[test]
+fn checks_modules(rt: HostRuntime) -> Result<(), Fail> {
+    let (out, err, status) = checked(rt.alloc(), &ATOMIC_ADD);
+    assert_eq!(rt; out.as_slice(), b"ok functions 1\n".as_slice());
+    assert_eq!(rt; (err.len(), status), (0, 0));
+    let (out, _, status) = checked(rt.alloc(), &[0x00, 0x61, 0x73, 0x6d, 0x01, 0x00, 0x00, 0x00]);
+    assert_eq!(rt; out.as_slice(), b"ok functions 0\n".as_slice());
+    assert_eq!(rt; status, 0);
+    let (out, err, status) = checked(rt.alloc(), &[0x00, 0x61, 0x73, 0x6d, 0x01, 0x00, 0x00]);
+    assert_eq!(rt; err.as_slice(), b"module refused: read 1 at 7\n".as_slice());
+    assert_eq!(rt; (out.len(), status), (0, 2));
+    let (_, err, status) = checked(rt.alloc(), b"");
+    assert_eq!(rt; err.as_slice(), b"module refused: read 1 at 0\n".as_slice());
+    assert_eq!(rt; status, 2);
+    Ok(())
+}
+
+#[test]
+fn checks_the_longest_count(rt: HostRuntime) -> Result<(), Fail> {
+    let module = [
+        0x00, 0x61, 0x73, 0x6d, 0x01, 0x00, 0x00, 0x00, 0x01, 0x05, 0xff, 0xff, 0xff, 0xff, 0x0f,
+    ];
+    let (_, err, status) = checked(rt.alloc(), &module);
+    assert_eq!(rt; err.as_slice(), b"module refused: read 11 at 10\n".as_slice());
+    assert_eq!(rt; status, 2);
     Ok(())
 }
 
