@@ -111,9 +111,10 @@ bodies_within types all [] bytes [] rest h = (All-nil _, All-nil _)
 bodies_within types all [] bytes (b ∷ bodies) rest h = absurd h
 bodies_within types all (f ∷ functions) bytes [] rest h = absurd h
 bodies_within types all (f ∷ functions) bytes (b ∷ bodies) rest h =
-    let more = bodies_within types all functions h.0 bodies rest h.2 in
-    (All-cons (λ p. IsBodyWithin types p.0 p.1) (f, b) (zip functions bodies) (body_within types f bytes b h.0 all h.1) more.0,
-     All-cons (λ b. IsExpression b.code) b bodies (nested h.1.2.0 b.code [] h.1.2.2) more.1)
+    let more = bodies_within types all functions h.0 bodies rest h.2 in (
+      All-cons (λ p. IsBodyWithin types p.0 p.1) (f, b) (zip functions bodies) (body_within types f bytes b h.0 all h.1) more.0,
+      All-cons (λ b. IsExpression b.code) b bodies (nested h.1.2.0 b.code [] h.1.2.2) more.1,
+    )
 
 no_bodies : (types : List FuncType) (functions : List ℕ) → AreWithin types functions []
 no_bodies types [] = (All-nil _, All-nil _)

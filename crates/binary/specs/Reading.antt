@@ -193,5 +193,5 @@ module_at bytes = if nat_lt 1048576 (length bytes) then None else (do
   rest ← customs_at (length segments.1) segments.1
   whole ← end_at rest
   if nat_eq (length functions.0) (length bodies.0)
-    then Some (record { types = types.0; imports = from.0; functions = functions.0; tables = tables.0; memories = memories.0; globals = globals.0; exports = exports.0; start = start.0; elements = elements.0; bodies = bodies.0; «data» = segments.0 })
-    else None)
+      then Some (record { types = types.0; imports = from.0; functions = functions.0; tables = tables.0; memories = memories.0; globals = globals.0; exports = exports.0; start = start.0; elements = elements.0; bodies = bodies.0; «data» = segments.0 })
+      else None)

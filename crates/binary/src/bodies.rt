@@ -27,11 +27,7 @@ fn param_count(types: &[FuncType], index: u32) -> usize
 }
 
 /// So many locals more of one type.
-fn push_locals(
-    locals: &mut Vec<ValType>,
-    number: u32,
-    val_type: ValType,
-) -> Result<(), AllocError>
+fn push_locals(locals: &mut Vec<ValType>, number: u32, val_type: ValType) -> Result<(), AllocError>
     ensures { IfOk result (λ _. locals.new.items ≡ locals.old.items ++ replicate number val_type) }
 {
     for _ in 0..number {

@@ -3,9 +3,7 @@
 ghost use Rattle.wire.specs.Reading.{Gives};
 ghost use Rattle.binary.specs.Reading.{limits_after_at, table_at, memory_at, global_type_at, global_at, func_type_at};
 
-use crate::kinds::{
-    LimitsFlag, read_memory_flag, read_mutability, read_table_flag, read_tag,
-};
+use crate::kinds::{LimitsFlag, read_memory_flag, read_mutability, read_table_flag, read_tag};
 use instructions::{read_expression, read_val_type};
 use types::{FuncType, GlobalType, Limits, ValType};
 use wire::{Item, ReadFault, Reader, read_vector};

@@ -6,7 +6,8 @@ use types::ExportDesc;
 const OPENING: &[u8] = b"\0asm\x01\0\0\0";
 
 /// A module with a type, a function, a shared memory, an export and a body.
-const MODULE: &[u8] = b"\0asm\x01\0\0\0\x01\x05\x01\x60\x00\x01\x7f\x03\x02\x01\x00\x05\x04\x01\x03\x01\x01\x07\x05\x01\x01\x66\x00\x00\x0a\x0c\x01\x0a\x00\x41\x00\x41\x05\xfe\x1e\x02\x00\x0b";
+const MODULE: &[u8] =
+    b"\0asm\x01\0\0\0\x01\x05\x01\x60\x00\x01\x7f\x03\x02\x01\x00\x05\x04\x01\x03\x01\x01\x07\x05\x01\x01\x66\x00\x00\x0a\x0c\x01\x0a\x00\x41\x00\x41\x05\xfe\x1e\x02\x00\x0b";
 
 /// The number and the offset of the fault, both 0 for a module.
 fn outcome(alloc: Global, bytes: &[u8]) -> (u8, usize) {
@@ -22,12 +23,14 @@ fn gives(alloc: Global, sections: &[u8], number: u8, offset: usize) -> Result<bo
     bytes.extend_from_slice(sections)?;
     Ok(outcome(alloc, bytes.as_slice()) == (number, offset))
 }
+
 #[test]
 fn opening(rt: HostRuntime) -> Result<(), Fail> {
     let alloc = rt.alloc();
     assert!(rt; gives(alloc, b"", 0, 0)?);
     Ok(())
 }
+
 #[test]
 fn ends_of_input(rt: HostRuntime) -> Result<(), Fail> {
     let alloc = rt.alloc();
@@ -39,6 +42,7 @@ fn ends_of_input(rt: HostRuntime) -> Result<(), Fail> {
     assert!(rt; gives(alloc, b"\x01\x05\x01\x60\x00\x01\x7f\x03", 1, 16)?);
     Ok(())
 }
+
 #[test]
 fn section_orders(rt: HostRuntime) -> Result<(), Fail> {
     let alloc = rt.alloc();
@@ -48,6 +52,7 @@ fn section_orders(rt: HostRuntime) -> Result<(), Fail> {
     assert!(rt; gives(alloc, b"\x05\x04\x01\x03\x01\x01\x05\x01\x00", 4, 14)?);
     Ok(())
 }
+
 #[test]
 fn sizes(rt: HostRuntime) -> Result<(), Fail> {
     let alloc = rt.alloc();
@@ -60,13 +65,35 @@ fn sizes(rt: HostRuntime) -> Result<(), Fail> {
     // a name that passes its section
     assert!(rt; gives(alloc, b"\x00\x01\x05", 5, 11)?);
     // a body that passes its section
-    assert!(rt; gives(alloc, b"\x01\x04\x01\x60\x00\x00\x03\x02\x01\x00\x0a\x04\x01\x03\x00\x0b", 5, 24)?);
+    assert!(rt;
+        gives(
+            alloc,
+            b"\x01\x04\x01\x60\x00\x00\x03\x02\x01\x00\x0a\x04\x01\x03\x00\x0b",
+            5,
+            24
+        )?
+    );
     // a body that needs more
-    assert!(rt; gives(alloc, b"\x01\x04\x01\x60\x00\x00\x03\x02\x01\x00\x0a\x04\x01\x01\x00\x0b", 5, 23)?);
+    assert!(rt;
+        gives(
+            alloc,
+            b"\x01\x04\x01\x60\x00\x00\x03\x02\x01\x00\x0a\x04\x01\x01\x00\x0b",
+            5,
+            23
+        )?
+    );
     // a body that needs less
-    assert!(rt; gives(alloc, b"\x01\x04\x01\x60\x00\x00\x03\x02\x01\x00\x0a\x05\x01\x03\x00\x0b\x0b", 5, 24)?);
+    assert!(rt;
+        gives(
+            alloc,
+            b"\x01\x04\x01\x60\x00\x00\x03\x02\x01\x00\x0a\x05\x01\x03\x00\x0b\x0b",
+            5,
+            24
+        )?
+    );
     Ok(())
 }
+
 #[test]
 fn numbers(rt: HostRuntime) -> Result<(), Fail> {
     let alloc = rt.alloc();
@@ -78,6 +105,7 @@ fn numbers(rt: HostRuntime) -> Result<(), Fail> {
     assert!(rt; gives(alloc, b"\x01\x85\x80\x80\x80\x00\x01\x60\x00\x01\x7f", 0, 0)?);
     Ok(())
 }
+
 #[test]
 fn unknown_bytes(rt: HostRuntime) -> Result<(), Fail> {
     let alloc = rt.alloc();
@@ -97,6 +125,7 @@ fn unknown_bytes(rt: HostRuntime) -> Result<(), Fail> {
     assert!(rt; gives(alloc, b"\x06\x04\x01\x70\x00\x0b", 7, 11)?);
     Ok(())
 }
+
 #[test]
 fn floats(rt: HostRuntime) -> Result<(), Fail> {
     let alloc = rt.alloc();
@@ -106,6 +135,7 @@ fn floats(rt: HostRuntime) -> Result<(), Fail> {
     assert!(rt; gives(alloc, b"\x06\x04\x01\x7c\x00\x0b", 8, 11)?);
     Ok(())
 }
+
 #[test]
 fn names(rt: HostRuntime) -> Result<(), Fail> {
     let alloc = rt.alloc();
@@ -115,17 +145,26 @@ fn names(rt: HostRuntime) -> Result<(), Fail> {
     assert!(rt; gives(alloc, b"\x07\x05\x01\x01\xff\x00\x00", 9, 12)?);
     Ok(())
 }
+
 #[test]
 fn counts_that_differ(rt: HostRuntime) -> Result<(), Fail> {
     let alloc = rt.alloc();
     // no code section
     assert!(rt; gives(alloc, b"\x01\x04\x01\x60\x00\x00\x03\x02\x01\x00", 10, 18)?);
     // no body
-    assert!(rt; gives(alloc, b"\x01\x04\x01\x60\x00\x00\x03\x02\x01\x00\x0a\x01\x00", 10, 20)?);
+    assert!(rt;
+        gives(
+            alloc,
+            b"\x01\x04\x01\x60\x00\x00\x03\x02\x01\x00\x0a\x01\x00",
+            10,
+            20
+        )?
+    );
     // a body too many
     assert!(rt; gives(alloc, b"\x0a\x04\x01\x02\x00\x0b", 10, 10)?);
     Ok(())
 }
+
 #[test]
 fn limits(rt: HostRuntime) -> Result<(), Fail> {
     let alloc = rt.alloc();
@@ -143,36 +182,109 @@ fn limits(rt: HostRuntime) -> Result<(), Fail> {
     assert!(rt; gives(alloc, b"\x04\x05\x01\x70\x00\x90\x4e", 0, 0)?);
     Ok(())
 }
+
 #[test]
 fn limits_of_bodies(rt: HostRuntime) -> Result<(), Fail> {
     let alloc = rt.alloc();
     // 1,001 locals
-    assert!(rt; gives(alloc, b"\x01\x04\x01\x60\x00\x00\x03\x02\x01\x00\x0a\x07\x01\x05\x01\xe9\x07\x7f\x0b", 11, 23)?);
+    assert!(rt;
+        gives(
+            alloc,
+            b"\x01\x04\x01\x60\x00\x00\x03\x02\x01\x00\x0a\x07\x01\x05\x01\xe9\x07\x7f\x0b",
+            11,
+            23
+        )?
+    );
     // 1,000 locals
-    assert!(rt; gives(alloc, b"\x01\x04\x01\x60\x00\x00\x03\x02\x01\x00\x0a\x07\x01\x05\x01\xe8\x07\x7f\x0b", 0, 0)?);
+    assert!(rt;
+        gives(
+            alloc,
+            b"\x01\x04\x01\x60\x00\x00\x03\x02\x01\x00\x0a\x07\x01\x05\x01\xe8\x07\x7f\x0b",
+            0,
+            0
+        )?
+    );
     // 1,000 locals and a parameter
-    assert!(rt; gives(alloc, b"\x01\x05\x01\x60\x01\x7f\x00\x03\x02\x01\x00\x0a\x07\x01\x05\x01\xe8\x07\x7f\x0b", 11, 24)?);
+    assert!(rt;
+        gives(
+            alloc,
+            b"\x01\x05\x01\x60\x01\x7f\x00\x03\x02\x01\x00\x0a\x07\x01\x05\x01\xe8\x07\x7f\x0b",
+            11,
+            24
+        )?
+    );
     // a body of 65,537 bytes
-    assert!(rt; gives(alloc, b"\x01\x04\x01\x60\x00\x00\x03\x02\x01\x00\x0a\x05\x01\x81\x80\x04\x00", 11, 21)?);
+    assert!(rt;
+        gives(
+            alloc,
+            b"\x01\x04\x01\x60\x00\x00\x03\x02\x01\x00\x0a\x05\x01\x81\x80\x04\x00",
+            11,
+            21
+        )?
+    );
     Ok(())
 }
+
 #[test]
 fn codes(rt: HostRuntime) -> Result<(), Fail> {
     let alloc = rt.alloc();
     // an atomic addition
-    assert!(rt; gives(alloc, b"\x01\x05\x01\x60\x00\x01\x7f\x03\x02\x01\x00\x05\x04\x01\x03\x01\x01\x07\x05\x01\x01\x66\x00\x00\x0a\x0c\x01\x0a\x00\x41\x00\x41\x05\xfe\x1e\x02\x00\x0b", 0, 0)?);
+    assert!(rt;
+        gives(
+            alloc,
+            b"\x01\x05\x01\x60\x00\x01\x7f\x03\x02\x01\x00\x05\x04\x01\x03\x01\x01\x07\x05\x01\x01\x66\x00\x00\x0a\x0c\x01\x0a\x00\x41\x00\x41\x05\xfe\x1e\x02\x00\x0b",
+            0,
+            0
+        )?
+    );
     // a constant of five bytes
-    assert!(rt; gives(alloc, b"\x01\x05\x01\x60\x00\x01\x7f\x03\x02\x01\x00\x05\x04\x01\x03\x01\x01\x07\x05\x01\x01\x66\x00\x00\x0a\x10\x01\x0e\x00\x41\x00\x41\x85\x80\x80\x80\x00\xfe\x1e\x02\x00\x0b", 0, 0)?);
+    assert!(rt;
+        gives(
+            alloc,
+            b"\x01\x05\x01\x60\x00\x01\x7f\x03\x02\x01\x00\x05\x04\x01\x03\x01\x01\x07\x05\x01\x01\x66\x00\x00\x0a\x10\x01\x0e\x00\x41\x00\x41\x85\x80\x80\x80\x00\xfe\x1e\x02\x00\x0b",
+            0,
+            0
+        )?
+    );
     // a constant of six bytes
-    assert!(rt; gives(alloc, b"\x01\x05\x01\x60\x00\x01\x7f\x03\x02\x01\x00\x05\x04\x01\x03\x01\x01\x07\x05\x01\x01\x66\x00\x00\x0a\x0e\x01\x0c\x00\x41\x80\x80\x80\x80\x80\x00\x1a\x41\x00\x0b", 6, 38)?);
+    assert!(rt;
+        gives(
+            alloc,
+            b"\x01\x05\x01\x60\x00\x01\x7f\x03\x02\x01\x00\x05\x04\x01\x03\x01\x01\x07\x05\x01\x01\x66\x00\x00\x0a\x0e\x01\x0c\x00\x41\x80\x80\x80\x80\x80\x00\x1a\x41\x00\x0b",
+            6,
+            38
+        )?
+    );
     // a float constant
-    assert!(rt; gives(alloc, b"\x01\x05\x01\x60\x00\x01\x7f\x03\x02\x01\x00\x05\x04\x01\x03\x01\x01\x07\x05\x01\x01\x66\x00\x00\x0a\x09\x01\x07\x00\x43\x00\x00\x00\x00\x0b", 8, 37)?);
+    assert!(rt;
+        gives(
+            alloc,
+            b"\x01\x05\x01\x60\x00\x01\x7f\x03\x02\x01\x00\x05\x04\x01\x03\x01\x01\x07\x05\x01\x01\x66\x00\x00\x0a\x09\x01\x07\x00\x43\x00\x00\x00\x00\x0b",
+            8,
+            37
+        )?
+    );
     // an else outside of an if
-    assert!(rt; gives(alloc, b"\x01\x05\x01\x60\x00\x01\x7f\x03\x02\x01\x00\x05\x04\x01\x03\x01\x01\x07\x05\x01\x01\x66\x00\x00\x0a\x05\x01\x03\x00\x05\x0b", 7, 37)?);
+    assert!(rt;
+        gives(
+            alloc,
+            b"\x01\x05\x01\x60\x00\x01\x7f\x03\x02\x01\x00\x05\x04\x01\x03\x01\x01\x07\x05\x01\x01\x66\x00\x00\x0a\x05\x01\x03\x00\x05\x0b",
+            7,
+            37
+        )?
+    );
     // a memory's flag in front of it
-    assert!(rt; gives(alloc, b"\x01\x05\x01\x60\x00\x01\x7f\x03\x02\x01\x00\x05\x03\x01\x02\x01\x07\x05\x01\x01\x66\x00\x00\x0a\x0c\x01\x0a\x00\x41\x00\x41\x05\xfe\x1e\x02\x00\x0b", 12, 22)?);
+    assert!(rt;
+        gives(
+            alloc,
+            b"\x01\x05\x01\x60\x00\x01\x7f\x03\x02\x01\x00\x05\x03\x01\x02\x01\x07\x05\x01\x01\x66\x00\x00\x0a\x0c\x01\x0a\x00\x41\x00\x41\x05\xfe\x1e\x02\x00\x0b",
+            12,
+            22
+        )?
+    );
     Ok(())
 }
+
 #[test]
 fn limits_flags(rt: HostRuntime) -> Result<(), Fail> {
     let alloc = rt.alloc();
@@ -184,6 +296,7 @@ fn limits_flags(rt: HostRuntime) -> Result<(), Fail> {
     assert!(rt; gives(alloc, b"\x05\x04\x01\x03\x01\x01", 0, 0)?);
     Ok(())
 }
+
 #[test]
 fn openings(rt: HostRuntime) -> Result<(), Fail> {
     let alloc = rt.alloc();
@@ -225,7 +338,8 @@ fn prefixes(rt: HostRuntime) -> Result<(), Fail> {
 #[test]
 fn every_section(rt: HostRuntime) -> Result<(), Fail> {
     let alloc = rt.alloc();
-    let bytes = b"\0asm\x01\0\0\0\x00\x02\x01a\x01\x05\x01\x60\x01\x7f\x00\x02\x07\x01\x01m\x01f\x00\x00\x03\x02\x01\x00\x04\x04\x01\x70\x00\x02\x05\x04\x01\x03\x01\x01\x06\x04\x01\x7e\x01\x0b\x07\x05\x01\x01e\x00\x01\x08\x01\x01\x09\x06\x01\x00\x0b\x02\x00\x01\x0a\x06\x01\x04\x01\x02\x7f\x0b\x0b\x06\x01\x00\x0b\x02AB\x00\x01\x00";
+    let bytes =
+        b"\0asm\x01\0\0\0\x00\x02\x01a\x01\x05\x01\x60\x01\x7f\x00\x02\x07\x01\x01m\x01f\x00\x00\x03\x02\x01\x00\x04\x04\x01\x70\x00\x02\x05\x04\x01\x03\x01\x01\x06\x04\x01\x7e\x01\x0b\x07\x05\x01\x01e\x00\x01\x08\x01\x01\x09\x06\x01\x00\x0b\x02\x00\x01\x0a\x06\x01\x04\x01\x02\x7f\x0b\x0b\x06\x01\x00\x0b\x02AB\x00\x01\x00";
     let module = read(alloc, bytes)?;
     let parts = module.parts();
     assert_eq!(rt; parts.types.len(), 1);

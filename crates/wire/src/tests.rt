@@ -5,12 +5,24 @@ use std::test::Fail;
 fn numbers_in_every_spelling(rt: HostRuntime) -> Result<(), Fail> {
     assert_eq!(rt; Reader::new(b"\x05").read_u32(), Ok(5));
     assert_eq!(rt; Reader::new(b"\x85\x80\x80\x80\x00").read_u32(), Ok(5));
-    assert_eq!(rt; Reader::new(b"\xff\xff\xff\xff\x0f").read_u32(), Ok(u32::MAX));
+    assert_eq!(rt;
+        Reader::new(b"\xff\xff\xff\xff\x0f").read_u32(),
+        Ok(u32::MAX)
+    );
     assert_eq!(rt; Reader::new(b"\x7f").read_s32(), Ok(u32::MAX));
-    assert_eq!(rt; Reader::new(b"\x80\x80\x80\x80\x78").read_s32(), Ok(0x8000_0000));
-    assert_eq!(rt; Reader::new(b"\xff\xff\xff\xff\x07").read_s32(), Ok(0x7fff_ffff));
+    assert_eq!(rt;
+        Reader::new(b"\x80\x80\x80\x80\x78").read_s32(),
+        Ok(0x8000_0000)
+    );
+    assert_eq!(rt;
+        Reader::new(b"\xff\xff\xff\xff\x07").read_s32(),
+        Ok(0x7fff_ffff)
+    );
     assert_eq!(rt; Reader::new(b"\x7f").read_s64(), Ok(u64::MAX));
-    assert_eq!(rt; Reader::new(b"\x80\x80\x80\x80\x80\x80\x80\x80\x80\x7f").read_s64(), Ok(0x8000_0000_0000_0000));
+    assert_eq!(rt;
+        Reader::new(b"\x80\x80\x80\x80\x80\x80\x80\x80\x80\x7f").read_s64(),
+        Ok(0x8000_0000_0000_0000)
+    );
     Ok(())
 }
 
@@ -30,10 +42,22 @@ fn end_at(offset: usize) -> ReadFault {
 
 #[test]
 fn numbers_that_are_refused(rt: HostRuntime) -> Result<(), Fail> {
-    assert_eq!(rt; Reader::new(b"\x80\x80\x80\x80\x80\x00").read_u32(), Err(number_at(0)));
-    assert_eq!(rt; Reader::new(b"\x80\x80\x80\x80\x10").read_u32(), Err(number_at(0)));
-    assert_eq!(rt; Reader::new(b"\x80\x80\x80\x80\x08").read_s32(), Err(number_at(0)));
-    assert_eq!(rt; Reader::new(b"\x80\x80\x80\x80\x68").read_s32(), Err(number_at(0)));
+    assert_eq!(rt;
+        Reader::new(b"\x80\x80\x80\x80\x80\x00").read_u32(),
+        Err(number_at(0))
+    );
+    assert_eq!(rt;
+        Reader::new(b"\x80\x80\x80\x80\x10").read_u32(),
+        Err(number_at(0))
+    );
+    assert_eq!(rt;
+        Reader::new(b"\x80\x80\x80\x80\x08").read_s32(),
+        Err(number_at(0))
+    );
+    assert_eq!(rt;
+        Reader::new(b"\x80\x80\x80\x80\x68").read_s32(),
+        Err(number_at(0))
+    );
     assert_eq!(rt; Reader::new(b"\x80\x80").read_u32(), Err(end_at(2)));
     let mut reader = Reader::new(b"\x00\xff\xff\xff\xff\x1f");
     assert_eq!(rt; reader.read_byte(), Ok(0));
@@ -48,10 +72,22 @@ fn parts_of_stated_size(rt: HostRuntime) -> Result<(), Fail> {
     assert_eq!(rt; part.read_name()?, "a");
     assert_eq!(rt; part.finish(), Ok(()));
     // more is needed than the size, which ends at 3
-    assert_eq!(rt; part.read_byte(), Err(ReadFault::Malformed { kind: Fault::Size, offset: 3 }));
+    assert_eq!(rt;
+        part.read_byte(),
+        Err(ReadFault::Malformed {
+            kind: Fault::Size,
+            offset: 3
+        })
+    );
     // the next size passes the input
     assert!(rt; reader.read_block().is_err());
-    assert_eq!(rt; Reader::new(b"\x01\xff").read_name(), Err(ReadFault::Malformed { kind: Fault::Name, offset: 1 }));
+    assert_eq!(rt;
+        Reader::new(b"\x01\xff").read_name(),
+        Err(ReadFault::Malformed {
+            kind: Fault::Name,
+            offset: 1
+        })
+    );
     Ok(())
 }
 
@@ -72,8 +108,14 @@ fn vectors_within_a_limit(rt: HostRuntime) -> Result<(), Fail> {
 #[test]
 fn printed_faults(rt: HostRuntime) -> Result<(), Fail> {
     let alloc = rt.alloc();
-    assert_eq!(rt; format!(in alloc; "{}", number_at(7))?.as_str(), "number too long, or wrong unused bits at 7");
-    assert_eq!(rt; format!(in alloc; "{}", ReadFault::OutOfMemory)?.as_str(), "no memory");
+    assert_eq!(rt;
+        format!(in alloc; "{}", number_at(7))?.as_str(),
+        "number too long, or wrong unused bits at 7"
+    );
+    assert_eq!(rt;
+        format!(in alloc; "{}", ReadFault::OutOfMemory)?.as_str(),
+        "no memory"
+    );
     assert_eq!(rt; ReadFault::OutOfMemory.kind().number(), 13);
     assert_eq!(rt; ReadFault::OutOfMemory.offset(), None);
     Ok(())
