@@ -1,6 +1,6 @@
 -- Which instruction an opcode begins (Core specification 1.0, section 5.4), and a number behind the prefix of atomic
 -- instructions (threads proposal, section "Binary format").
-use Rattle.std.specs.Prelude.{ℕ, zero, suc, ◌+◌, ◌-◌, List, [], ◌∷◌, ◌++◌, map, Option, Some, None, Result, Ok, Err, nat_lt, if◌then◌else◌, slice_index_or}
+use Rattle.std.specs.Prelude.{ℕ, zero, suc, ◌-◌, List, [], ◌∷◌, ◌++◌, map, Option, Some, None, Result, Ok, Err, nat_lt, if◌then◌else◌, slice_index_or}
 use Rattle.wire.specs.declared.fault.Fault.{Fault}
 use Rattle.wire.specs.declared.fault.Fault.TheVariants as kinds
 use Rattle.types.specs.declared.value.ValType.{ValType}

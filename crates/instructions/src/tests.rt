@@ -371,56 +371,40 @@ static OTHERS: [(u8, u8, Fault); 13] = [
     (0xff, 0xff, Fault::UnknownByte),
 ];
 
-/// The first bytes of what is refused, the fault, and the offset of the fault.
-static REFUSED: [([u8; 8], Fault, usize); 26] = [
+/// Eight bytes that are refused, in order, the fault, and the offset of the fault.
+static REFUSED: [(u64, Fault, usize); 26] = [
     // block types of floats, and an unknown one
-    ([0x02, 0x7d, 0, 0, 0, 0, 0, 0], Fault::Float, 1),
-    ([0x03, 0x7c, 0, 0, 0, 0, 0, 0], Fault::Float, 1),
-    ([0x04, 0x7b, 0, 0, 0, 0, 0, 0], Fault::UnknownByte, 1),
-    ([0x04, 0x41, 0, 0, 0, 0, 0, 0], Fault::UnknownByte, 1),
+    (0x027d_0000_0000_0000, Fault::Float, 1),
+    (0x037c_0000_0000_0000, Fault::Float, 1),
+    (0x047b_0000_0000_0000, Fault::UnknownByte, 1),
+    (0x0441_0000_0000_0000, Fault::UnknownByte, 1),
     // else outside of an if, a second time, and inside another block
-    ([0x05, 0, 0, 0, 0, 0, 0, 0], Fault::UnknownByte, 0),
-    ([0x02, 0x40, 0x05, 0, 0, 0, 0, 0], Fault::UnknownByte, 2),
-    ([0x04, 0x40, 0x05, 0x05, 0, 0, 0, 0], Fault::UnknownByte, 3),
-    (
-        [0x04, 0x40, 0x03, 0x40, 0x05, 0, 0, 0],
-        Fault::UnknownByte,
-        4,
-    ),
+    (0x0500_0000_0000_0000, Fault::UnknownByte, 0),
+    (0x0240_0500_0000_0000, Fault::UnknownByte, 2),
+    (0x0440_0505_0000_0000, Fault::UnknownByte, 3),
+    (0x0440_0340_0500_0000, Fault::UnknownByte, 4),
     // reserved bytes
-    ([0x11, 0, 0x01, 0, 0, 0, 0, 0], Fault::UnknownByte, 2),
-    ([0x3f, 0x01, 0, 0, 0, 0, 0, 0], Fault::UnknownByte, 1),
-    ([0x40, 0x01, 0, 0, 0, 0, 0, 0], Fault::UnknownByte, 1),
-    ([0xfe, 0x03, 0x80, 0, 0, 0, 0, 0], Fault::UnknownByte, 2),
+    (0x1100_0100_0000_0000, Fault::UnknownByte, 2),
+    (0x3f01_0000_0000_0000, Fault::UnknownByte, 1),
+    (0x4001_0000_0000_0000, Fault::UnknownByte, 1),
+    (0xfe03_8000_0000_0000, Fault::UnknownByte, 2),
     // numbers of no atomic instruction
-    ([0xfe, 0x04, 0, 0, 0, 0, 0, 0], Fault::UnknownByte, 1),
-    ([0xfe, 0x0f, 0, 0, 0, 0, 0, 0], Fault::UnknownByte, 1),
-    ([0xfe, 0x4f, 0, 0, 0, 0, 0, 0], Fault::UnknownByte, 1),
-    ([0xfe, 0x80, 0x01, 0, 0, 0, 0, 0], Fault::UnknownByte, 1),
+    (0xfe04_0000_0000_0000, Fault::UnknownByte, 1),
+    (0xfe0f_0000_0000_0000, Fault::UnknownByte, 1),
+    (0xfe4f_0000_0000_0000, Fault::UnknownByte, 1),
+    (0xfe80_0100_0000_0000, Fault::UnknownByte, 1),
     // numbers too long, or with wrong unused bits
-    ([0x0c, 0x80, 0x80, 0x80, 0x80, 0x80, 0, 0], Fault::Number, 1),
-    (
-        [0x01, 0x0c, 0x80, 0x80, 0x80, 0x80, 0x10, 0],
-        Fault::Number,
-        2,
-    ),
-    ([0x41, 0x80, 0x80, 0x80, 0x80, 0x10, 0, 0], Fault::Number, 1),
-    ([0x41, 0xff, 0xff, 0xff, 0xff, 0x0f, 0, 0], Fault::Number, 1),
-    (
-        [0x0e, 0x01, 0x80, 0x80, 0x80, 0x80, 0x10, 0],
-        Fault::Number,
-        2,
-    ),
-    (
-        [0x28, 0x00, 0x80, 0x80, 0x80, 0x80, 0x10, 0],
-        Fault::Number,
-        2,
-    ),
-    ([0xfe, 0x80, 0x80, 0x80, 0x80, 0x10, 0, 0], Fault::Number, 1),
+    (0x0c80_8080_8080_0000, Fault::Number, 1),
+    (0x010c_8080_8080_1000, Fault::Number, 2),
+    (0x4180_8080_8010_0000, Fault::Number, 1),
+    (0x41ff_ffff_ff0f_0000, Fault::Number, 1),
+    (0x0e01_8080_8080_1000, Fault::Number, 2),
+    (0x2800_8080_8080_1000, Fault::Number, 2),
+    (0xfe80_8080_8010_0000, Fault::Number, 1),
     // the end of the input
-    ([1, 1, 1, 1, 1, 1, 1, 1], Fault::EndOfInput, 8),
-    ([1, 1, 1, 1, 0x02, 0x40, 0x0b, 0x01], Fault::EndOfInput, 8),
-    ([0x0e, 0x09, 1, 1, 1, 1, 1, 1], Fault::EndOfInput, 8),
+    (0x0101_0101_0101_0101, Fault::EndOfInput, 8),
+    (0x0101_0101_0240_0b01, Fault::EndOfInput, 8),
+    (0x0e09_0101_0101_0101, Fault::EndOfInput, 8),
 ];
 
 /// The instruction before the final `end`.
@@ -574,7 +558,7 @@ fn refuses_other_opcodes(rt: HostRuntime) -> Result<(), Fail> {
 #[test]
 fn refuses_at_offsets(rt: HostRuntime) -> Result<(), Fail> {
     for (bytes, kind, offset) in REFUSED {
-        assert!(rt; is_refused(rt.alloc(), &bytes, kind, offset));
+        assert!(rt; is_refused(rt.alloc(), &bytes.to_be_bytes(), kind, offset));
     }
     assert!(rt; is_refused(rt.alloc(), b"", Fault::EndOfInput, 0));
     Ok(())
