@@ -35,6 +35,7 @@ among_rest m woken (x ∷ xs) h = by_test (among_rest m woken xs) (is_among x.th
         → ((b || is_among m xs) ≡ true) × (is_among m woken ≡ false)
     by_name r true e out k = (refl, subst (λ (n : ℕ). is_among n woken ≡ false) (eqb-true x.thread m e) out)
     by_name r false e out k = r k
+
     by_test : (is_among m (filter (λ (s : Sleeper). not (is_among s.thread woken)) xs) ≡ true → (is_among m xs ≡ true) × (is_among m woken ≡ false)) → (b : Bool) → is_among x.thread woken ≡ b
         → is_among m (cond (not b) (x ∷ filter (λ (s : Sleeper). not (is_among s.thread woken)) xs) (filter (λ (s : Sleeper). not (is_among s.thread woken)) xs)) ≡ true
         → (is_among m (x ∷ xs) ≡ true) × (is_among m woken ≡ false)

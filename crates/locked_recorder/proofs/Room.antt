@@ -114,16 +114,21 @@ first_among (x ∷ xs) s h = by_test (first_among xs) (has_timeout x) h
   where
     itself : is_among x.thread (x ∷ xs) ≡ true
     itself = ap (λ b. b || is_among x.thread xs) (eq-eqb x.thread x.thread refl)
+
     behind : (t : Sleeper) → is_among t.thread xs ≡ true → is_among t.thread (x ∷ xs) ≡ true
     behind t k = ap (λ b. eqb x.thread t.thread || b) k ∙ or-true (eqb x.thread t.thread)
+
     inner : (s t : Sleeper) → Some s ≡ Some t → s ≡ t
     inner s t e = cc
+
     by_order : ((t : Sleeper) → first_to_end xs ≡ Some t → is_among t.thread xs ≡ true) → (t : Sleeper) → first_to_end xs ≡ Some t → (b : Bool) → cond b t x ≡ s → is_among s.thread (x ∷ xs) ≡ true
     by_order f t e true k = subst (λ (y : Sleeper). is_among y.thread (x ∷ xs) ≡ true) k (behind t (f t e))
     by_order f t e false k = subst (λ (y : Sleeper). is_among y.thread (x ∷ xs) ≡ true) k itself
+
     by_first : ((t : Sleeper) → first_to_end xs ≡ Some t → is_among t.thread xs ≡ true) → (o : Option Sleeper) → first_to_end xs ≡ o → earlier x o ≡ s → is_among s.thread (x ∷ xs) ≡ true
     by_first f None e k = subst (λ (y : Sleeper). is_among y.thread (x ∷ xs) ≡ true) k itself
     by_first f (Some t) e k = by_order f t e (ends_before t x) k
+
     by_test : ((t : Sleeper) → first_to_end xs ≡ Some t → is_among t.thread xs ≡ true) → (b : Bool) → cond b (Some (earlier x (first_to_end xs))) (first_to_end xs) ≡ Some s → is_among s.thread (x ∷ xs) ≡ true
     by_test f true k = by_first f (first_to_end xs) refl (inner (earlier x (first_to_end xs)) s k)
     by_test f false k = behind s (f s k)
@@ -134,6 +139,7 @@ ended_among xs m h = by_first (first_to_end xs) refl h
     by_name : (s : Sleeper) → is_among s.thread xs ≡ true → (b : Bool) → eqb s.thread m ≡ b → (b || false) ≡ true → is_among m xs ≡ true
     by_name s k true e t = subst (λ (n : ℕ). is_among n xs ≡ true) (eqb-true s.thread m e) k
     by_name s k false e t = absurd (true≢false (sym t))
+
     by_first : (o : Option Sleeper) → first_to_end xs ≡ o → is_among m (option_map_or (λ s. s ∷ []) o xs) ≡ true → is_among m xs ≡ true
     by_first None e k = k
     by_first (Some s) e k = by_name s (first_among xs s e) (eqb s.thread m) refl k
@@ -189,9 +195,11 @@ told_lowers q n answer s due =
   where
     bad : answer_due q n ≡ None → ⊥
     bad e = let b : Some answer ≡ None = sym due ∙ e in cc
+
     awake : (b : Bool) → is_asleep q n ≡ b → is_asleep q n ≡ false
     awake true t = absurd (bad (s.apart n t))
     awake false t = t
+
     inside : (b : Bool) → ltb n 16 ≡ b → n < 16
     inside true t = ltb-true n 16 t
     inside false t = absurd (bad (get_or_past q.due n None (let p = s.places in let l = ltb-false n 16 t in omega arith)))
@@ -242,10 +250,13 @@ pushed limit m log n event reply spare legal is may below = by_test (is_exempt e
   where
     after : L
     after = log ++ entry n event reply ∷ []
+
     grown : length (log ++ entry n event reply ∷ []) ≡ length log + 1
     grown = length-append log (entry n event reply ∷ [])
+
     still : IsQueueLegal (log ++ entry n event reply ∷ [])
     still = legal_push log n event reply legal may
+
     by_test : (b : Bool) → is_exempt event ≡ b → Pushed limit log (log ++ entry n event reply ∷ [])
     by_test true t = let l = lowers m log n event reply is legal may t in let g = grown in record { legal = still; fits = omega arith; spare = omega arith }
     by_test false t = let l = below t in let b = bound (queue_after (log ++ entry n event reply ∷ [])) (sound_after (log ++ entry n event reply ∷ []) still) in let g = grown in record { legal = still; fits = omega arith; spare = omega arith }

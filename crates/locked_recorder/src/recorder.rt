@@ -6,7 +6,7 @@ ghost use Rattle.seats.specs.Moves.{keeper, others_of};
 ghost use Rattle.locked_recorder.specs.Rule.{opened};
 ghost use Rattle.locked_recorder.specs.Promises.{Begins, IsRecord};
 
-use crate::keeper::{check_all, Finished, Keeper};
+use crate::keeper::{Finished, Keeper, check_all};
 use crate::naming::Naming;
 use crate::prepared::Prepared;
 use crate::rule::{Board, Row};
@@ -172,7 +172,9 @@ impl<B: Naming + Send + Sync, W: Wait + Drop> SharedMemory for LockedRecorder<B,
     ghost names = { λ s. s.known };
 
     fn access(&self, seat: &mut LockedSeat<B>, event: Event) -> Reply {
-        self.desk.lock(&self.rt).access(&self.board.shared, &mut seat.caller, event)
+        self.desk
+            .lock(&self.rt)
+            .access(&self.board.shared, &mut seat.caller, event)
     }
 
     fn meet(&self, a: &mut LockedSeat<B>, b: &mut LockedSeat<B>) {

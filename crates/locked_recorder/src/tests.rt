@@ -158,11 +158,11 @@ fn two_threads_add(rt: HostRuntime) -> Result<(), Fail> {
     let mut first = 0u32;
     for entry in &end.log {
         if entry.thread == 0 {
-            first += 1;
+            first = first.saturating_add(1);
         }
     }
     assert_eq!(rt; first, 1000);
-    assert_eq!(rt; end.bytes[0], 208);
+    assert_eq!(rt; end.bytes.first().copied(), Some(208));
     assert_eq!(rt; end.pages, 1);
     Ok(())
 }
@@ -171,7 +171,15 @@ fn two_threads_add(rt: HostRuntime) -> Result<(), Fail> {
 fn a_meeting_tells(rt: HostRuntime) -> Result<(), Fail> {
     let prepared = Prepared::new(rt.alloc(), &PAGE, 2, 100)?;
     let (replies, end) = tell::<Brand, HostRuntime>(&rt, rt.alloc(), prepared)?;
-    assert_eq!(rt; replies, [Reply::Done, Reply::Value(1), Reply::Value(9), Reply::Value(2)]);
+    assert_eq!(rt;
+        replies,
+        [
+            Reply::Done,
+            Reply::Value(1),
+            Reply::Value(9),
+            Reply::Value(2)
+        ]
+    );
     assert_eq!(rt; end.log.len(), 4);
     assert_eq!(rt; end.pages, 2);
     assert_eq!(rt; end.bytes.len(), 131072);
@@ -181,8 +189,20 @@ fn a_meeting_tells(rt: HostRuntime) -> Result<(), Fail> {
 #[test]
 fn a_full_log_holds_back(rt: HostRuntime) -> Result<(), Fail> {
     let prepared = Prepared::new(rt.alloc(), &PAGE, 1, 3)?;
-    let (replies, limit, pages_max, name, end) = load_four_times::<Brand, HostRuntime>(&rt, rt.alloc(), prepared)?;
-    assert_eq!(rt; replies, [Reply::Value(0), Reply::Value(0), Reply::Value(0), Reply::Full]);
+    let (replies, limit, pages_max, name, end) = load_four_times::<Brand, HostRuntime>(
+        &rt,
+        rt.alloc(),
+        prepared,
+    )?;
+    assert_eq!(rt;
+        replies,
+        [
+            Reply::Value(0),
+            Reply::Value(0),
+            Reply::Value(0),
+            Reply::Full
+        ]
+    );
     assert_eq!(rt; limit, Some(3));
     assert_eq!(rt; pages_max, 1);
     assert_eq!(rt; name, 1);
@@ -195,9 +215,19 @@ fn faults_of_opening(rt: HostRuntime) -> Result<(), Fail> {
     let alloc = rt.alloc();
     assert!(rt; matches!(Prepared::new(alloc, &[0], 1, 3), Err(OpenFault::PastLimit)));
     assert!(rt; matches!(Prepared::new(alloc, &PAGE, 0, 3), Err(OpenFault::PastLimit)));
-    assert!(rt; matches!(Prepared::new(alloc, &PAGE, 65, 3), Err(OpenFault::PastLimit)));
+    assert!(rt;
+        matches!(
+            Prepared::new(alloc, &PAGE, 65, 3),
+            Err(OpenFault::PastLimit)
+        )
+    );
     assert!(rt; matches!(Prepared::new(alloc, &PAGE, 1, 0), Err(OpenFault::PastLimit)));
-    assert!(rt; matches!(Prepared::new(alloc, &PAGE, 1, 1_000_001), Err(OpenFault::PastLimit)));
+    assert!(rt;
+        matches!(
+            Prepared::new(alloc, &PAGE, 1, 1_000_001),
+            Err(OpenFault::PastLimit)
+        )
+    );
     assert!(rt; Prepared::new(alloc, &PAGE, 1, 1_000_000).is_ok());
     assert_eq!(rt; OpenFault::NoMemory.number(), 1);
     assert_eq!(rt; OpenFault::PastLimit.number(), 2);

@@ -56,7 +56,7 @@ invariant_of-self-2 g c =
     let items = c.push_reserved.ensures.items in
     let grown : c.push_reserved.new.self.items ≡ log ++ entry who.name c.args.event c.step-reply.result ∷ [] = items ∙ ap (λ (x : Entry). log ++ x ∷ []) name in
     let kept = subst (λ (l : List Entry). KeepsLog g.B.Naming.opening c.self.inside.limit cap c.step-reply.new.self l) (sym grown)
-      (subst (λ (m : Memory). KeepsLog g.B.Naming.opening c.self.inside.limit cap m (log ++ entry who.name c.args.event c.step-reply.result ∷ [])) (sym c.step-reply.ensures.state) e.keeps) in (
+    (subst (λ (m : Memory). KeepsLog g.B.Naming.opening c.self.inside.limit cap m (log ++ entry who.name c.args.event c.step-reply.result ∷ [])) (sym c.step-reply.ensures.state) e.keeps) in (
       c.record.ensures.desk.0 ∙ inv.0,
       c.record.ensures.desk.1 ∙ ap (λ (l : List Entry). (keeper (l ++ e0 ∷ []) [], [])) at ∙ ap (λ (l : List Entry). (keeper l [], [])) (sym items),
       inv.2,
@@ -82,8 +82,7 @@ invariant_of-seat-2 g c =
     let e0 : Entry = record { thread = c.seat.inside.name; event = c.args.event; reply = c.step-reply.result } in
     let name : e0 ≡ entry who.name c.args.event c.step-reply.result = ap (λ (n : ℕ). entry n c.args.event c.step-reply.result) known in
     let caller = c.record.ensures.caller.1 ∙ ap (λ (l : List Entry). (alone (seeing (l ++ e0 ∷ []) who), [])) at ∙ ap (λ (x : Entry). (alone (seeing (log ++ x ∷ []) who), [])) name in
-    let now : List Entry = log ++ entry who.name c.args.event c.step-reply.result ∷ [] in
-    (
+    let now : List Entry = log ++ entry who.name c.args.event c.step-reply.result ∷ [] in (
       c.record.ensures.caller.0 ∙ c.seat.invariant.0,
       is_one c.record.new.caller.me (seeing now who) caller,
       known ∙ ap (λ (m : Me ℕ View). (caller_in m.0).name) (sym caller),
