@@ -1,7 +1,7 @@
 -- What an entry and a full log leave, over plain variables.
-use Rattle.std.proofs.Common.{◌≡◌, ◌≢◌, ℕ, ◌+◌, ◌<◌, ◌≤◌, Bool, true, false, true≢false, cond, List, [], ◌∷◌, ◌++◌, length, refl, sym, ap, ◌∙◌, subst, arith, eqb, ne_eqb}
+use Rattle.std.proofs.Common.{◌≡◌, ℕ, ◌+◌, ◌<◌, ◌≤◌, Bool, true, false, true≢false, cond, List, [], ◌∷◌, ◌++◌, length, refl, sym, ap, ◌∙◌, subst, arith, eqb, ne_eqb}
 use Rattle.std.specs.Prelude.{Some, nat_le}
-use Rattle.std.proofs.lemmas.List.Elements.{All-append, All-nil, All-cons, All-head, All-tail}
+use Rattle.std.proofs.lemmas.List.Elements.{All-nil, All-cons, All-head, All-tail}
 use Rattle.types.specs.declared.event.Entry.{Entry}
 use Rattle.types.specs.declared.event.Event.{Event}
 use Rattle.types.specs.declared.event.Event.TheVariants.{Size, Grow, Load, Store, Rmw, Cmpxchg, Ask, Told}
@@ -9,9 +9,9 @@ use Rattle.types.specs.declared.event.Question.TheVariants.{Wait, Notify, Spawn,
 use Rattle.types.specs.declared.event.Reply.{Reply}
 use Rattle.types.specs.declared.event.Reply.TheVariants.{Value, Done, OutOfBounds, Again, Full}
 use Rattle.shared_memory.specs.Events.{IsEvent, is_of_queue, is_exempt}
-use Rattle.shared_memory.specs.Memory.{Memory, pages, reply_of, state_after, if_within, reply_to_question}
+use Rattle.shared_memory.specs.Memory.{Memory, pages, reply_of, state_after, if_within}
 use Rattle.shared_memory.specs.History.{entry, entries_of, IsEntry, AreEntries, memory_after}
-use Rattle.shared_memory.specs.Legal.{IsAllowed, MayEnter, IsQueueLegal}
+use Rattle.shared_memory.specs.Legal.{IsAllowed, MayEnter}
 use Rattle.shared_memory.specs.Access.{IsSeen, Answers, Accesses}
 use Rattle.shared_memory.proofs.Histories.{memory_after-append, IsMemoryLegal-entry, AreEntries-append, same_queue}
 use Rattle.seats.specs.declared.view.Caller.{Caller}

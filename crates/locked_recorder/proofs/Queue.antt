@@ -1,8 +1,7 @@
 -- What every queue keeps to that questions and answers lead to.
-use Rattle.std.proofs.Common.{cond, ◌≡◌, ◌≢◌, ℕ, ℤ, zero, suc, ◌+◌, ◌*◌, ◌<◌, ◌≤◌, Bool, true, false, true≢false, not, ◌||◌, List, [], ◌∷◌, ◌++◌, length, set, get_or, refl, sym, ap, ◌∙◌, subst, arith, length-append, eqb, eq-eqb, ne_eqb, eqb-true, ltb, ltb-true, ltb-false}
-use Rattle.std.specs.Prelude.{Option, Some, None, is_some}
-use Rattle.std.specs.List.{filter, list_any}
-use Rattle.std.specs.Option.{option_map_or}
+use Rattle.std.proofs.Common.{cond, ◌≡◌, ◌≢◌, ℕ, suc, ◌+◌, ◌<◌, ◌≤◌, Bool, true, false, true≢false, not, ◌||◌, List, [], ◌∷◌, ◌++◌, length, set, get_or, refl, sym, ap, ◌∙◌, subst, arith, length-append, eqb, eq-eqb, ne_eqb, eqb-true, ltb, ltb-true, ltb-false}
+use Rattle.std.specs.Prelude.{Option, Some, None}
+use Rattle.std.specs.List.{filter}
 use Rattle.std.proofs.Math.Bool.{or-true}
 use Rattle.std.proofs.lemmas.List.{length-set, get_or-set_same, get_or-set_other, get_or_past}
 use Rattle.types.specs.declared.event.Entry.{Entry}
@@ -11,12 +10,12 @@ use Rattle.types.specs.declared.event.Event.TheVariants.{Size, Grow, Load, Store
 use Rattle.types.specs.declared.event.Question.{Question}
 use Rattle.types.specs.declared.event.Question.TheVariants.{Wait, Notify, Spawn, Leave}
 use Rattle.types.specs.declared.event.Answer.{Answer}
-use Rattle.types.specs.declared.event.Answer.TheVariants.{Number, ForGood}
+use Rattle.types.specs.declared.event.Answer.TheVariants.{Number}
 use Rattle.types.specs.declared.event.Reply.{Reply}
 use Rattle.types.specs.declared.event.Reply.TheVariants.{Value, Done, OutOfBounds, Again, Full}
 use Rattle.shared_memory.specs.declared.sleeper.Sleeper.{Sleeper}
-use Rattle.shared_memory.specs.WaitQueue.{WaitQueue, first_queue, is_alive, is_among, is_asleep, answer_due, next_id, tells, due_after, wakes, sleeps, starts, leaves, woken_at, ends_at_once, ends_before, earlier, has_timeout, first_to_end, is_stuck, ended, end_answer, settled, asked, after_question, after_answer, IsFree, has_open_question}
-use Rattle.shared_memory.specs.History.{of_queue, queue_step, queue_from, queue_after, value_of}
+use Rattle.shared_memory.specs.WaitQueue.{WaitQueue, first_queue, is_among, is_asleep, answer_due, next_id, tells, due_after, wakes, sleeps, starts, leaves, woken_at, ends_at_once, is_stuck, ended, end_answer, settled, asked, after_question, after_answer, IsFree}
+use Rattle.shared_memory.specs.History.{of_queue, queue_step, queue_from, queue_after}
 use Rattle.shared_memory.specs.Legal.{IsAllowed, IsQueueLegalFrom, IsQueueLegal}
 
 -- 16 places for answers, 15 spawned threads at most, and nobody asleep to whom an answer is due

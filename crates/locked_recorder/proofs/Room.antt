@@ -1,5 +1,5 @@
 -- Each event that no limit holds back lowers what may still come past the limit.
-use Rattle.std.proofs.Common.{cond, ◌≡◌, ◌≢◌, ℕ, zero, suc, ◌+◌, ◌*◌, ◌<◌, ◌≤◌, Bool, true, false, true≢false, not, ◌||◌, List, [], ◌∷◌, ◌++◌, length, set, get_or, refl, sym, ap, ◌∙◌, subst, arith, length-append, eqb, eq-eqb, ne_eqb, eqb-true, ltb, ltb-true, ltb-false}
+use Rattle.std.proofs.Common.{cond, ◌≡◌, ◌≢◌, ℕ, zero, suc, ◌+◌, ◌<◌, ◌≤◌, Bool, true, false, true≢false, not, ◌||◌, List, [], ◌∷◌, ◌++◌, length, set, refl, sym, ap, ◌∙◌, subst, arith, length-append, eqb, eq-eqb, eqb-true, ltb, ltb-true, ltb-false}
 use Rattle.std.specs.Prelude.{Option, Some, None, is_some}
 use Rattle.std.specs.List.{filter, list_any}
 use Rattle.std.specs.Option.{option_map_or}
@@ -9,18 +9,16 @@ use Rattle.std.proofs.lemmas.List.{get_or-set_other, get_or_past}
 use Rattle.types.specs.declared.event.Entry.{Entry}
 use Rattle.types.specs.declared.event.Event.{Event}
 use Rattle.types.specs.declared.event.Event.TheVariants.{Size, Grow, Load, Store, Rmw, Cmpxchg, Ask, Told}
-use Rattle.types.specs.declared.event.Question.{Question}
 use Rattle.types.specs.declared.event.Question.TheVariants.{Wait, Notify, Spawn, Leave}
 use Rattle.types.specs.declared.event.Answer.{Answer}
-use Rattle.types.specs.declared.event.Answer.TheVariants.{Number, ForGood}
+use Rattle.types.specs.declared.event.Answer.TheVariants.{Number}
 use Rattle.types.specs.declared.event.Reply.{Reply}
-use Rattle.types.specs.declared.event.Reply.TheVariants.{Done}
 use Rattle.shared_memory.specs.declared.sleeper.Sleeper.{Sleeper}
 use Rattle.shared_memory.specs.Events.{is_of_queue, is_exempt}
 use Rattle.shared_memory.specs.Memory.{Memory, reply_of}
-use Rattle.shared_memory.specs.WaitQueue.{WaitQueue, first_queue, is_alive, is_among, is_asleep, answer_due, tells, due_after, wakes, leaves, ends_before, earlier, has_timeout, first_to_end, is_stuck, ended, end_answer, settled, asked, after_question, after_answer, IsFree, has_open_question}
-use Rattle.shared_memory.specs.History.{entry, of_queue, queue_step, queue_after}
-use Rattle.shared_memory.specs.Legal.{IsAllowed, IsQueueLegal, MayEnter}
+use Rattle.shared_memory.specs.WaitQueue.{WaitQueue, first_queue, is_among, is_asleep, answer_due, tells, wakes, leaves, ends_before, earlier, has_timeout, first_to_end, is_stuck, ended, end_answer, settled, after_question, after_answer, IsFree, has_open_question}
+use Rattle.shared_memory.specs.History.{entry, queue_step, queue_after}
+use Rattle.shared_memory.specs.Legal.{IsQueueLegal, MayEnter}
 use Rattle.shared_memory.proofs.Histories.{of_queue-quiet, of_queue-none, same_queue_legal, queue_after-entry, IsQueueLegal-entry}
 use Rattle.seats.specs.Callers.{one_if}
 use Rattle.locked_recorder.specs.Room.{open_questions, still_due, HasSpare}
