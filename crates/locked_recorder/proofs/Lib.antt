@@ -1,0 +1,4 @@
+pub mod Queue
+pub mod Room
+pub mod Moves
+pub mod Access

@@ -1,0 +1,5 @@
+use Rattle.locked_recorder.proofs.tests.a_meeting_tells.Given as goal
+
+-- the recorder that was just prepared
+abbrev pub ghosts-tell : goal.ghosts-tell
+ghosts-tell g a = record { table = a.prepared.table; opening = a.prepared.opening; limit = a.prepared.limit }

@@ -1,0 +1,55 @@
+-- What the recorder promises of its log.
+use Rattle.std.specs.Prelude.{ℕ, ◌+◌, ◌≤◌, ◌≡◌, ◌&&◌, Bool, true, false, not, nat_le, if◌then◌else◌, List, [], ◌∷◌, ◌++◌, length}
+use mathlib.Core.List.{IsPrefix}
+use Rattle.types.specs.declared.event.Entry.{Entry}
+use Rattle.types.specs.declared.event.Event.{Event}
+use Rattle.types.specs.declared.event.Reply.{Reply}
+use Rattle.types.specs.declared.event.Reply.TheVariants.{Full}
+use Rattle.shared_memory.specs.Events.{is_exempt}
+use Rattle.shared_memory.specs.Memory.{Memory, pages}
+use Rattle.shared_memory.specs.History.{entries_of, memory_after}
+use Rattle.shared_memory.specs.Legal.{IsQueueLegal}
+use Rattle.shared_memory.specs.Access.{IsSeen}
+use Rattle.one_memory.specs.Opening.{can_open}
+use Rattle.seats.specs.declared.view.Caller.{Caller}
+use Rattle.locked_recorder.specs.Room.{HasSpare}
+
+-- A log's limit is 1 to 1,000,000 entries, and its memory one that can be opened.
+abbrev pub can_record : List ℕ → ℕ → ℕ → Bool
+can_record image max limit = nat_le 1 limit && nat_le limit 1000000 && can_open image max
+
+abbrev pub is_full : Reply → Bool
+is_full Full = true
+is_full _ = false
+
+-- The log holds the event back: it has as many entries as its limit or more, and the event isn't one that it still takes.
+abbrev pub is_held : ℕ → Event → List Entry → Bool
+is_held limit event log = not (is_exempt event) && nat_le limit (length log)
+
+-- The log after a call: one entry longer, unless it was full.
+abbrev pub log_after : Bool → List Entry → Entry → List Entry
+log_after full log e = if full then log else log ++ e ∷ []
+
+-- What lies under the lock: the memory is the one after the log, the log is legal for the memory and for the wait
+-- queue, and it has room for what may still come.
+pub record KeepsLog (opening : Memory) (limit : ℕ) (capacity : ℕ) (memory : Memory) (log : List Entry) : Type 0 where
+  pub after : memory ≡ memory_after opening log
+  pub seen : IsSeen opening log
+  pub queue : IsQueueLegal log
+  pub spare : HasSpare limit log
+  pub reserved : limit + 48 ≤ capacity
+  pub small : limit ≤ 1000000
+
+-- A caller's list begins the log, which has no other entry of its name.
+pub record Begins (c : Caller) (log : List Entry) : Type 0 where
+  pub begins : IsPrefix c.seen log
+  pub own : entries_of c.name log ≡ entries_of c.name c.seen
+
+-- What is left of a run: a log that is legal for the memory and for the wait queue, of entries of the names 0 to 16
+-- alone, and the page count and the bytes after it.
+pub record IsRecord (opening : Memory) (log : List Entry) (count : ℕ) (contents : List ℕ) : Type 0 where
+  pub seen : IsSeen opening log
+  pub queue : IsQueueLegal log
+  pub others : (n : ℕ) → 17 ≤ n → entries_of n log ≡ []
+  pub pages_after : count ≡ pages (memory_after opening log)
+  pub bytes_after : contents ≡ (memory_after opening log).bytes

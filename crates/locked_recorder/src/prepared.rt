@@ -1,0 +1,71 @@
+//! The opening of a recorder, up to its name.
+ghost use Rattle.std.specs.Prelude.{◌≡◌, ◌↔◌, true, false, IfOk, OnOk, IsErrOf};
+ghost use Rattle.locked_recorder.specs.Promises.{can_record};
+
+use crate::rule::Board;
+use one_memory::{OneMemory, OpenFault};
+use seats::Place;
+use std::alloc::Global;
+use std::marker::Model;
+use types::Entry;
+
+/// The most entries that a limit may let a log have.
+const MOST_ENTRIES: u32 = 1_000_000;
+
+/// The entries that a log may still take past its limit: answers, and the last questions of threads.
+const PAST_LIMIT: usize = 48;
+
+/// A recorder that has no name yet. Contracts see by what it is to be named: its table, the memory before any entry,
+/// and the limit of its log.
+#[derive(Drop)]
+pub struct Prepared {
+    pub(crate) board: Board,
+    pub(crate) desk: Place,
+    pub(crate) memory: OneMemory,
+    pub(crate) limit: u32,
+    pub(crate) log: Vec<Entry>,
+}
+
+impl Model for Prepared {
+    ghost use Rattle.std.specs.Prelude.{◌≡◌, ◌+◌, ◌≤◌, [], vec_capacity};
+    ghost use Rattle.locked_recorder.specs.Rule.{MemoryName, opened};
+
+    ghost Value = { MemoryName };
+
+    ghost view = { λ p. record { table = p.board.shared.table_id; opening = p.memory; limit = p.limit } };
+
+    ghost invariant = { λ p. (p.desk.table_id ≡ p.board.shared.table_id) × (p.desk.me ≡ (opened, [])) × (p.board.shared.table_id.words ≡ 1) × (p.limit ≤ 1000000) × (p.log.items ≡ []) × (p.limit + 48 ≤ vec_capacity p.log) };
+}
+
+impl Prepared {
+    /// Prepares a recorder over a memory of these bytes and at most `max` pages, whose log takes `limit` entries, and
+    /// past it only `Told` and the question `Leave`. All that later calls need is reserved here and by
+    /// `LockedRecorder::open`.
+    ///
+    /// # Errors
+    /// `PastLimit` exactly where the image isn't whole pages of 65,536 bytes or passes `max` pages, `max` passes 64, or
+    /// `limit` isn't 1 to 1,000,000; otherwise `NoMemory` where the room can't be had.
+    pub fn new(alloc: Global, image: &[u8], max: u32, limit: u32) -> Result<Prepared, OpenFault>
+        ensures opened { IfOk result (λ p. (p.opening ≡ record { bytes = image.now; max = max }) × (p.limit ≡ limit)) }
+        ensures within { OnOk result (can_record image.now max limit ≡ true) }
+        ensures past_limit { IsErrOf result OpenFault.PastLimit ↔ (can_record image.now max limit ≡ false) }
+    {
+        if limit == 0 || limit > MOST_ENTRIES {
+            return Err(OpenFault::PastLimit);
+        }
+        let memory = OneMemory::open(alloc, image, max)?;
+        let Ok(log) = Vec::with_capacity(alloc, limit as usize + PAST_LIMIT) else {
+            return Err(OpenFault::NoMemory);
+        };
+        let Ok((board, desk)) = Board::of_words(alloc, &[0], &()) else {
+            return Err(OpenFault::NoMemory);
+        };
+        Ok(Prepared {
+            board,
+            desk,
+            memory,
+            limit,
+            log,
+        })
+    }
+}
