@@ -1,15 +1,14 @@
 -- The laws of types, of items of sections and of bodies.
-use Rattle.std.proofs.Common.{◌≡◌, ℕ, zero, suc, ◌-◌, ◌≤◌, Bool, true, false, cond, eqb, List, [], ◌∷◌, ◌++◌, length, replicate, Option, Some, None, refl, sym, ap, arith}
-use Rattle.types.specs.declared.value.ValType.{ValType}
+use Rattle.std.proofs.Common.{◌≡◌, ℕ, zero, suc, ◌-◌, ◌≤◌, true, false, cond, eqb, List, [], ◌∷◌, ◌++◌, length, replicate, Option, Some, None, refl, sym, ap, arith}
 use Rattle.types.specs.declared.parts.FuncType.{FuncType}
 use Rattle.types.specs.declared.parts.Body.{Body}
 use Rattle.types.specs.declared.parts.ImportDesc.TheVariants as imports
-use Rattle.wire.specs.Reading.{◌>>=◌, byte_at, tag_at, end_at, slice_at, u32_at, u32_within_at, block_at, name_at, vector_at}
-use Rattle.wire.specs.Grammar.{Spelling, IsU32, IsU32Within, IsBlock, IsName, IsVector}
-use Rattle.wire.proofs.Laws.{Law, bind_case, opt_case, take_is, when_ok, some_pair, end_case, tag_takes, slice_ok, u32_law, u32_within_law, block_law, name_law, vector_law, pure_law, map_law, then_law}
+use Rattle.wire.specs.Reading.{◌>>=◌, tag_at, end_at, slice_at, u32_at, u32_within_at, block_at, name_at, vector_at}
+use Rattle.wire.specs.Grammar.{Spelling, IsU32, IsU32Within}
+use Rattle.wire.proofs.Laws.{Law, bind_case, opt_case, take_is, when_ok, end_case, tag_takes, slice_ok, u32_law, u32_within_law, block_law, name_law, vector_law, pure_law, map_law, then_law}
 use Rattle.std.proofs.lemmas.Bool.{le-ltb, eqb-true, eq-eqb}
 use Rattle.std.proofs.lemmas.List.{take_at, drop_at, length-append}
-use Rattle.instructions.specs.Grammar.{IsValType, IsExpression}
+use Rattle.instructions.specs.Grammar.{IsValType}
 use Rattle.instructions.specs.Reading.{val_type_at, expression_at}
 use Rattle.instructions.proofs.Laws.{val_type_law, expression_law}
 use Rattle.binary.specs.declared.kinds.ExternalKind.{ExternalKind}

@@ -1,10 +1,10 @@
 -- The law of modules, and what a reader answers by it.
-use Rattle.std.proofs.Common.{◌≡◌, ℕ, ◌≤◌, cond, eqb, ltb, Bool, true, List, [], length, Option, Some, None, Result, Ok, Err, refl, sym, subst, ◌∙◌, arith}
+use Rattle.std.proofs.Common.{◌≡◌, ℕ, ◌≤◌, cond, eqb, ltb, true, List, [], length, Option, Some, None, Result, Ok, Err, refl, sym, subst, ◌∙◌, arith}
 use Rattle.std.specs.Prelude.{IfOk, MatchResult}
 use Rattle.std.proofs.lemmas.Bool.{eqb-true, eq-eqb, ltb-false, le-ltb}
 use Rattle.wire.specs.declared.fault.ReadFault.{ReadFault}
 use Rattle.wire.specs.declared.fault.ReadFault.TheVariants.{OutOfMemory, Malformed}
-use Rattle.wire.specs.Reading.{◌>>=◌, Gives, Fails, Refuses, u32_at, end_at}
+use Rattle.wire.specs.Reading.{Gives, Fails, Refuses, u32_at, end_at}
 use Rattle.wire.specs.Grammar.{IsU32}
 use Rattle.wire.proofs.Laws.{Law, gives, bind_case, opt_case, one, some_is, end_case, when_ok, unless_ok, u32_law}
 use Rattle.types.specs.declared.parts.Parts.{Parts}

@@ -1,5 +1,5 @@
 -- Expressions of the binary format are nested blocks with a final end.
-use Rattle.std.proofs.Common.{◌≡◌, ℕ, suc, ◌<◌, ◌≤◌, ◌⊎◌, inl, inr, Bool, true, false, ltb, cond, List, [], ◌∷◌, length, Option, Some, None, refl, sym, subst, ◌∙◌, arith}
+use Rattle.std.proofs.Common.{◌≡◌, ℕ, ◌<◌, ◌≤◌, inl, inr, Bool, true, false, List, [], ◌∷◌, length, Option, Some, refl, sym, subst, ◌∙◌, arith}
 use Rattle.std.proofs.lemmas.Bool.{cases_lt, le-ltb, lt-ltb}
 use Rattle.types.specs.declared.instr.Instr.{Instr}
 use Rattle.types.specs.declared.instr.Instr.TheVariants as instrs

@@ -1,8 +1,8 @@
 -- The laws of sections, with custom sections before them, and of the opening bytes.
-use Rattle.std.proofs.Common.{◌≡◌, ℕ, zero, suc, ◌+◌, ◌-◌, ◌<◌, ◌≤◌, Bool, true, false, cond, eqb, List, [], ◌∷◌, ◌++◌, length, Option, Some, None, refl, sym, ap, subst, ◌∙◌, arith, inl, inr, ◌⊎◌}
+use Rattle.std.proofs.Common.{◌≡◌, ℕ, zero, suc, ◌<◌, ◌≤◌, Bool, true, false, cond, eqb, List, [], ◌∷◌, ◌++◌, length, Option, Some, None, refl, sym, ap, subst, ◌∙◌, arith, inl, inr}
 use Rattle.std.proofs.lemmas.Bool.{eqb-true, eqb-false, eq-eqb, ne_eqb}
 use Rattle.wire.specs.Reading.{◌>>=◌, byte_at, tag_at, u32_at, block_at, name_at, sized_at, vector_at, front_is}
-use Rattle.wire.specs.Grammar.{Spelling, IsU32, IsBlock, IsName, IsSized, IsVector}
+use Rattle.wire.specs.Grammar.{Spelling, IsU32, IsBlock, IsName, IsVector}
 use Rattle.wire.proofs.Laws.{Law, either_ok, bind_case, opt_case, one, take_is, some_pair, some_is, tag_takes, u32_law, block_law, name_law, sized_law, vector_law, map_law}
 use Rattle.types.specs.declared.parts.FuncType.{FuncType}
 use Rattle.binary.specs.Grammar.{IsCustom, AreCustoms, IsHere, IsPart, IsSection, IsStartFunction, IsCodeSection, opening_bytes}

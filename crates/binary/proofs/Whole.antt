@@ -1,5 +1,5 @@
 -- What bytes spell keeps the limits and nests: it is a module.
-use Rattle.std.proofs.Common.{◌≡◌, ℕ, zero, suc, ◌+◌, ◌-◌, ◌<◌, ◌≤◌, ◌⊎◌, inl, inr, Bool, List, [], ◌∷◌, ◌++◌, length, length-append, replicate, count_by, Option, Some, None, IfSome, refl, sym, ap, subst, arith}
+use Rattle.std.proofs.Common.{◌≡◌, ℕ, zero, suc, ◌-◌, ◌<◌, ◌≤◌, ◌⊎◌, inl, inr, List, [], ◌∷◌, length, length-append, replicate, Some, None, IfSome, sym, ap, subst, arith}
 use Rattle.std.specs.List.{All, zip, slice_get, slice_index_or}
 use Rattle.std.proofs.lemmas.List.{length-replicate}
 use Rattle.std.proofs.lemmas.List.Elements.{All-nil, All-cons}
@@ -23,9 +23,8 @@ use Rattle.binary.specs.declared.kinds.ExternalKind.{ExternalKind}
 use Rattle.binary.specs.declared.kinds.ExternalKind.TheVariants as kinds
 use Rattle.binary.specs.declared.kinds.LimitsFlag.{LimitsFlag}
 use Rattle.binary.specs.declared.kinds.LimitsFlag.TheVariants as flags
-use Rattle.binary.specs.Kinds.{min_limits, min_max_limits}
 use Rattle.binary.specs.Counts.{function_room}
-use Rattle.binary.specs.Grammar.{IsLimitsAfter, IsMemory, IsTable, IsFuncType, IsGlobal, IsDescribed, IsImportDesc, IsImport, IsExport, IsElement, IsData, IsGroups, IsBody, AreBodies, IsCodeSection, IsHere, IsSection, IsModuleText}
+use Rattle.binary.specs.Grammar.{IsLimitsAfter, IsMemory, IsTable, IsFuncType, IsGlobal, IsDescribed, IsImport, IsExport, IsElement, IsData, IsGroups, IsBody, AreBodies, IsCodeSection, IsHere, IsSection, IsModuleText}
 use Rattle.binary.proofs.Nested.{nested}
 
 -- ---- sections

@@ -1,6 +1,6 @@
 -- Which bytes spell which module (Core specification 1.0, sections 5.3 and 5.5; threads proposal, section "Binary
 -- format"). The limits are this project's own.
-use Rattle.std.specs.Prelude.{◌≡◌, ◌≢◌, ℕ, zero, suc, ◌+◌, ◌-◌, ◌≤◌, ◌⊎◌, List, [], ◌∷◌, ◌++◌, length, replicate, Bool, true, false, Option, Some, None}
+use Rattle.std.specs.Prelude.{◌≡◌, ◌≢◌, ℕ, zero, suc, ◌-◌, ◌≤◌, ◌⊎◌, List, [], ◌∷◌, ◌++◌, length, replicate, Bool, true, false, Option, Some, None}
 use Rattle.types.specs.declared.value.ValType.{ValType}
 use Rattle.types.specs.declared.parts.Limits.{Limits}
 use Rattle.types.specs.declared.parts.FuncType.{FuncType}

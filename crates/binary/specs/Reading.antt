@@ -1,5 +1,5 @@
 -- Sections and modules, read from left to right.
-use Rattle.std.specs.Prelude.{◌≡◌, ℕ, zero, suc, ◌+◌, ◌-◌, List, [], ◌∷◌, ◌++◌, length, replicate, Bool, true, false, Option, Some, None, nat_lt, nat_eq, if◌then◌else◌}
+use Rattle.std.specs.Prelude.{ℕ, zero, suc, ◌-◌, List, [], ◌∷◌, ◌++◌, length, replicate, Bool, true, false, Option, Some, None, nat_lt, nat_eq, if◌then◌else◌}
 use Rattle.types.specs.declared.value.ValType.{ValType}
 use Rattle.types.specs.declared.parts.Limits.{Limits}
 use Rattle.types.specs.declared.parts.FuncType.{FuncType}

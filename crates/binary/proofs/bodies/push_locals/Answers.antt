@@ -1,4 +1,4 @@
-use Rattle.std.proofs.Common.{◌≡◌, ◌∷◌, [], replicate}
+use Rattle.std.proofs.Common.{◌∷◌, [], replicate}
 use Rattle.std.proofs.lemmas.Grind.{replicate_next}
 use Rattle.std.proofs.lemmas.List.{append_assoc}
 use Rattle.binary.proofs.bodies.push_locals.Goals as goal

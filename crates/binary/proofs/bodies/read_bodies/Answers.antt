@@ -1,4 +1,4 @@
-use Rattle.std.proofs.Common.{◌≡◌, arith, rules}
+use Rattle.std.proofs.Common.{arith, rules}
 use Rattle.std.proofs.lemmas.Result.{err_from_is_err_and}
 use Rattle.binary.specs.Reading.{bodies_at}
 use Rattle.binary.proofs.Loops.{bodies_on, bodies_end, bodies_done}

@@ -1,4 +1,3 @@
-use Rattle.std.proofs.Common.{◌≡◌}
 use Rattle.std.proofs.lemmas.Result.{err_from_is_err_and}
 use Rattle.binary.specs.Reading.{groups_at}
 use Rattle.binary.proofs.Loops.{groups_on, groups_end_number, groups_end_type, groups_done}

@@ -1,4 +1,4 @@
-use Rattle.std.proofs.Common.{◌≡◌, ◌∙◌}
+use Rattle.std.proofs.Common.{◌∙◌}
 use Rattle.binary.proofs.Whole.{is_whole}
 use Rattle.binary.proofs.module.read.Goals as goal
 

@@ -1,4 +1,4 @@
-use Rattle.std.proofs.Common.{◌≡◌, ℕ, length, List, ap, sym, ◌∙◌}
+use Rattle.std.proofs.Common.{◌≡◌, length, List, ap, ◌∙◌}
 use Rattle.types.specs.declared.parts.Import.{Import}
 use Rattle.binary.specs.Counts.{function_room}
 use Rattle.binary.proofs.Modules.{module_reads}

@@ -1,4 +1,4 @@
-use Rattle.std.proofs.Common.{◌≡◌, length, true, false, refl}
+use Rattle.std.proofs.Common.{◌≡◌, length, true, false}
 use Rattle.std.proofs.lemmas.Result.{err_from_is_err_and}
 use Rattle.wire.specs.Reading.{front_is}
 use Rattle.binary.specs.Reading.{customs_at}
