@@ -1,7 +1,7 @@
 //! Who sleeps.
 
 /// A thread that sleeps in the wait queue.
-#[derive(Clone, Copy, PartialEq, Eq, Debug)]
+#[derive(Clone, Copy, PartialEq, Eq, Debug, Default)]
 pub struct Sleeper {
     /// The thread's number, 0 to 15.
     pub thread: u32,

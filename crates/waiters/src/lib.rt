@@ -2,8 +2,8 @@
 #![tactic(auto)]
 
 mod queue;
-mod sleepers;
 #[cfg(test)]
 mod tests;
+mod waking;
 
 pub use queue::Queue;

@@ -4,7 +4,7 @@ ghost use Rattle.std.specs.List.{list_all};
 ghost use Rattle.shared_memory.specs.WaitQueue.{IsFree, after_answer, after_question, answer_due, asked, first_queue, is_alive, is_asleep, is_among, is_stuck, leaves, next_id, settled, sleeps, starts, tells, wakes, woken_at};
 ghost use Rattle.waiters.specs.Queue.{AreNumbered, arg_of};
 
-use crate::sleepers::{Sleepers, ends_at_once, first_to_end, is_among, tell_each};
+use crate::waking::{ends_at_once, first_to_end, is_among, tell_each, woken_at};
 use arrayvec::ArrayVec;
 use shared_memory::Sleeper;
 use std::marker::Model;
@@ -22,7 +22,7 @@ const NO_THREAD: u32 = 4_294_967_295;
 #[derive(Drop)]
 pub struct Queue {
     alive: ArrayVec<u32, 16>,
-    sleepers: Sleepers,
+    sleepers: ArrayVec<Sleeper, 16>,
     due: [Option<Answer>; 16],
     args: ArrayVec<u32, 15>,
 }
@@ -33,9 +33,9 @@ impl Model for Queue {
 
     ghost Value = { WaitQueue };
 
-    ghost view = { λ a. record { alive = a.alive.items; sleepers = a.sleepers; due = a.due; args = a.args.items } };
+    ghost view = { λ a. record { alive = a.alive.items; sleepers = a.sleepers.items; due = a.due; args = a.args.items } };
 
-    ghost invariant = { λ a. IsSound (record { alive = a.alive.items; sleepers = a.sleepers; due = a.due; args = a.args.items }) };
+    ghost invariant = { λ a. IsSound (record { alive = a.alive.items; sleepers = a.sleepers.items; due = a.due; args = a.args.items }) };
 }
 
 impl Queue {
@@ -48,7 +48,7 @@ impl Queue {
         alive.push(0);
         Queue {
             alive,
-            sleepers: Sleepers::new(),
+            sleepers: ArrayVec::new(),
             due: [None; 16],
             args: ArrayVec::new(),
         }
@@ -175,9 +175,9 @@ impl Queue {
         ensures after { self.new ≡ wakes (woken_at addr count self.old.sleepers) (Answer.Number 0) self.old }
         ensures woken { result ≡ length (woken_at addr count self.old.sleepers) }
     {
-        let woken = self.sleepers.woken_at(addr, count);
+        let woken = woken_at(self.sleepers.as_slice(), addr, count);
         self.wake(woken.as_slice(), Answer::Number(0));
-        woken.as_slice().len() as u32
+        woken.len() as u32
     }
 
     /// A thread with the next number comes alive, unless 15 were spawned already.
@@ -206,7 +206,7 @@ impl Queue {
         requires { AreNumbered woken.now }
         ensures { self.new ≡ wakes woken.now answer self.old }
     {
-        self.sleepers = self.sleepers.without(woken);
+        self.sleepers.retain(|s| !is_among(s.thread, woken));
         tell_each(&mut self.due, woken, answer);
     }
 
@@ -215,7 +215,7 @@ impl Queue {
         ensures { self.new ≡ wakes self.old.sleepers Answer.ForGood self.old }
     {
         tell_each(&mut self.due, self.sleepers.as_slice(), Answer::ForGood);
-        self.sleepers = Sleepers::new();
+        self.sleepers.clear();
     }
 
     /// Whether somebody is alive, and each live thread is asleep.

@@ -7,8 +7,8 @@ use Rattle.waiters.proofs.queue.Queue.settle.Goals as goal
 
 pub wake-requires : goal.wake-requires
 wake-requires c =
-    let first : first_to_end c.self.inside.sleepers ≡ Some c.in-Some.first = cc in
-    let numbered = first_has (λ (s : Sleeper). s.thread < 16) c.self.inside.sleepers c.self.invariant.within in
+    let first : first_to_end c.self.inside.sleepers.items ≡ Some c.in-Some.first = cc in
+    let numbered = first_has (λ (s : Sleeper). s.thread < 16) c.self.inside.sleepers.items c.self.invariant.within in
     All-cons (λ (s : Sleeper). s.thread < 16) c.in-Some.first []
     (subst (λ (o : Option Sleeper). IfSome o (λ (s : Sleeper). s.thread < 16)) first numbered)
     (All-nil (λ (s : Sleeper). s.thread < 16))

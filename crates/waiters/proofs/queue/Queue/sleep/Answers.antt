@@ -9,12 +9,12 @@ push-requires c =
     let awake = rw (← c.self.view_is) at c.requires.awake in
     let apart = apart_push _ c.args.s c.self.invariant.apart awake in
     let within = All-push (λ (s : Sleeper). s.thread < 16) _ c.args.s c.self.invariant.within c.requires.numbered in
-    omega (arith, few_sleepers _ within apart, length-append c.self.inside.sleepers (c.args.s ∷ []))
+    omega (arith, few_sleepers _ within apart, length-append c.self.inside.sleepers.items (c.args.s ∷ []))
 
 pub invariant_of-self : goal.invariant_of-self
 invariant_of-self c =
     let awake = rw (← c.self.view_is) at c.requires.awake in
-    rw c.push.ensures record {
+    rw c.push.ensures.items record {
       numbered = c.self.invariant.numbered;
       room = c.self.invariant.room;
       few = c.self.invariant.few;

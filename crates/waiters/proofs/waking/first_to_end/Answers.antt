@@ -4,7 +4,7 @@ use Rattle.std.proofs.lemmas.List.{reverse-reverse}
 use Rattle.std.proofs.lemmas.Iterator.Adapters.{YieldsList-from_rev_slice}
 use Rattle.std.proofs.lemmas.Iterator.Consumers.{YieldsList-end}
 use Rattle.shared_memory.specs.WaitQueue.{first_to_end}
-use Rattle.waiters.proofs.sleepers.first_to_end.Goals as goal
+use Rattle.waiters.proofs.waking.first_to_end.Goals as goal
 
 pub returns : goal.returns
 returns c =
