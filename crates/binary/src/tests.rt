@@ -1,7 +1,8 @@
+//! Faults with their offsets, worked out by hand, and what is read of each section.
 use crate::read;
 use std::alloc::{AllocError, Global};
 use std::test::Fail;
-use types::ExportDesc;
+use types::{ExportDesc, Module};
 
 const OPENING: &[u8] = b"\0asm\x01\0\0\0";
 
@@ -17,283 +18,143 @@ fn outcome(alloc: Global, bytes: &[u8]) -> (u8, usize) {
     }
 }
 
-/// Whether these sections behind the opening bytes have this outcome.
-fn gives(alloc: Global, sections: &[u8], number: u8, offset: usize) -> Result<bool, AllocError> {
+/// The sections behind the opening bytes, and the number and the offset of the fault, both 0 for a module.
+static CASES: [(&str, u8, usize); 49] = [
+    // opening
+    ("", 0, 0),
+    // ends of input
+    ("01", 1, 9), // an id without a size
+    ("01 05 01", 1, 11), // a section's size passes the input
+    ("01 05 01 60 00 01 7f 03", 1, 16), // the same of a second section
+    // section orders
+    ("03 01 00 01 01 00", 4, 11), // an id below the last one
+    ("05 04 01 03 01 01 05 01 00", 4, 14), // an id twice
+    // sizes
+    ("01 01 01", 5, 11), // contents that need more
+    ("01 02 00 00", 5, 11), // contents that need less
+    ("00 01 00 01 01 01", 5, 14), // contents that need more, behind a custom section
+    ("00 01 05", 5, 11), // a name that passes its section
+    ("01 04 01 60 00 00 03 02 01 00 0a 04 01 03 00 0b", 5, 24), // a body that passes its section
+    ("01 04 01 60 00 00 03 02 01 00 0a 04 01 01 00 0b", 5, 23), // a body that needs more
+    ("01 04 01 60 00 00 03 02 01 00 0a 05 01 03 00 0b 0b", 5, 24), // a body that needs less
+    // numbers
+    ("01 80 80 80 80 80 00", 6, 9), // a size of six bytes
+    ("01 05 80 80 80 80 10", 6, 10), // a count with a wrong unused bit
+    ("01 85 80 80 80 00 01 60 00 01 7f", 0, 0), // a size of five bytes
+    // unknown bytes
+    ("0c", 7, 8), // an id
+    ("01 02 01 61", 7, 11), // no function type
+    ("02 05 01 00 00 04 00", 7, 13), // the kind of an import
+    ("07 04 01 00 05 00", 7, 12), // the kind of an export
+    ("04 04 01 71 00 00", 7, 11), // an element type
+    ("06 04 01 7f 02 0b", 7, 12), // a mutability
+    ("06 04 01 70 00 0b", 7, 11), // a value type
+    // floats
+    ("01 05 01 60 01 7d 00", 8, 13), // a parameter
+    ("06 04 01 7c 00 0b", 8, 11), // a global
+    // names
+    ("00 02 01 ff", 9, 11), // of a custom section
+    ("07 05 01 01 ff 00 00", 9, 12), // of an export
+    // counts that differ
+    ("01 04 01 60 00 00 03 02 01 00", 10, 18), // no code section
+    ("01 04 01 60 00 00 03 02 01 00 0a 01 00", 10, 20), // no body
+    ("0a 04 01 02 00 0b", 10, 10), // a body too many
+    // limits
+    ("01 05 ff ff ff ff 0f", 11, 10), // a count
+    ("01 02 e9 07", 11, 10), // 1,001 types
+    ("05 03 01 00 41", 11, 12), // 65 pages
+    ("05 04 01 01 00 41", 11, 13), // 65 pages at most
+    ("04 05 01 70 00 91 4e", 11, 13), // a table of 10,001 elements
+    ("04 05 01 70 00 90 4e", 0, 0), // a table of 10,000 elements
+    // limits of bodies
+    (
+        "01 04 01 60 00 00 03 02 01 00 0a 07 01 05 01 e9 07 7f 0b",
+        11,
+        23,
+    ), // 1,001 locals
+    (
+        "01 04 01 60 00 00 03 02 01 00 0a 07 01 05 01 e8 07 7f 0b",
+        0,
+        0,
+    ), // 1,000 locals
+    (
+        "01 05 01 60 01 7f 00 03 02 01 00 0a 07 01 05 01 e8 07 7f 0b",
+        11,
+        24,
+    ), // 1,000 locals and a parameter
+    ("01 04 01 60 00 00 03 02 01 00 0a 05 01 81 80 04 00", 11, 21), // a body of 65,537 bytes
+    // codes
+    (
+        "01 05 01 60 00 01 7f 03 02 01 00 05 04 01 03 01 01 07 05 01 01 66 00 00 0a 0c 01 0a 00 41 00 41 05 fe 1e 02 00 0b",
+        0,
+        0,
+    ), // an atomic addition
+    (
+        "01 05 01 60 00 01 7f 03 02 01 00 05 04 01 03 01 01 07 05 01 01 66 00 00 0a 10 01 0e 00 41 00 41 85 80 80 80 00 fe 1e 02 00 0b",
+        0,
+        0,
+    ), // a constant of five bytes
+    (
+        "01 05 01 60 00 01 7f 03 02 01 00 05 04 01 03 01 01 07 05 01 01 66 00 00 0a 0e 01 0c 00 41 80 80 80 80 80 00 1a 41 00 0b",
+        6,
+        38,
+    ), // a constant of six bytes
+    (
+        "01 05 01 60 00 01 7f 03 02 01 00 05 04 01 03 01 01 07 05 01 01 66 00 00 0a 09 01 07 00 43 00 00 00 00 0b",
+        8,
+        37,
+    ), // a float constant
+    (
+        "01 05 01 60 00 01 7f 03 02 01 00 05 04 01 03 01 01 07 05 01 01 66 00 00 0a 05 01 03 00 05 0b",
+        7,
+        37,
+    ), // an else outside of an if
+    (
+        "01 05 01 60 00 01 7f 03 02 01 00 05 03 01 02 01 07 05 01 01 66 00 00 0a 0c 01 0a 00 41 00 41 05 fe 1e 02 00 0b",
+        12,
+        22,
+    ), // a memory's flag in front of it
+    // limits flags
+    ("05 03 01 02 01", 12, 11), // a memory
+    ("04 04 01 70 03 00", 12, 12), // a table
+    ("05 04 01 03 01 01", 0, 0), // a shared memory
+];
+
+/// The value of a digit of base 16, in lower case.
+fn digit(code: u8) -> u8 {
+    match code {
+        b'0'..=b'9' => code - b'0',
+        b'a'..=b'f' => code - b'a' + 10,
+        _ => 0,
+    }
+}
+
+/// The opening bytes, and these bytes, each of two digits and behind a space but for the first.
+fn module_of(alloc: Global, text: &str) -> Result<Vec<u8>, AllocError> {
     let mut bytes = Vec::from_slice(alloc, OPENING)?;
-    bytes.extend_from_slice(sections)?;
-    Ok(outcome(alloc, bytes.as_slice()) == (number, offset))
+    let mut high = None;
+    for code in text.as_bytes() {
+        if *code == b' ' {
+            continue;
+        }
+        match high {
+            None => high = Some(digit(*code)),
+            Some(value) => {
+                bytes.push((value % 16) * 16 + digit(*code) % 16)?;
+                high = None;
+            }
+        }
+    }
+    Ok(bytes)
 }
 
 #[test]
-fn opening(rt: HostRuntime) -> Result<(), Fail> {
-    let alloc = rt.alloc();
-    assert!(rt; gives(alloc, b"", 0, 0)?);
-    Ok(())
-}
-
-#[test]
-fn ends_of_input(rt: HostRuntime) -> Result<(), Fail> {
-    let alloc = rt.alloc();
-    // an id without a size
-    assert!(rt; gives(alloc, b"\x01", 1, 9)?);
-    // a section's size passes the input
-    assert!(rt; gives(alloc, b"\x01\x05\x01", 1, 11)?);
-    // the same of a second section
-    assert!(rt; gives(alloc, b"\x01\x05\x01\x60\x00\x01\x7f\x03", 1, 16)?);
-    Ok(())
-}
-
-#[test]
-fn section_orders(rt: HostRuntime) -> Result<(), Fail> {
-    let alloc = rt.alloc();
-    // an id below the last one
-    assert!(rt; gives(alloc, b"\x03\x01\x00\x01\x01\x00", 4, 11)?);
-    // an id twice
-    assert!(rt; gives(alloc, b"\x05\x04\x01\x03\x01\x01\x05\x01\x00", 4, 14)?);
-    Ok(())
-}
-
-#[test]
-fn sizes(rt: HostRuntime) -> Result<(), Fail> {
-    let alloc = rt.alloc();
-    // contents that need more
-    assert!(rt; gives(alloc, b"\x01\x01\x01", 5, 11)?);
-    // contents that need less
-    assert!(rt; gives(alloc, b"\x01\x02\x00\x00", 5, 11)?);
-    // contents that need more, behind a custom section
-    assert!(rt; gives(alloc, b"\x00\x01\x00\x01\x01\x01", 5, 14)?);
-    // a name that passes its section
-    assert!(rt; gives(alloc, b"\x00\x01\x05", 5, 11)?);
-    // a body that passes its section
-    assert!(rt;
-        gives(
-            alloc,
-            b"\x01\x04\x01\x60\x00\x00\x03\x02\x01\x00\x0a\x04\x01\x03\x00\x0b",
-            5,
-            24
-        )?
-    );
-    // a body that needs more
-    assert!(rt;
-        gives(
-            alloc,
-            b"\x01\x04\x01\x60\x00\x00\x03\x02\x01\x00\x0a\x04\x01\x01\x00\x0b",
-            5,
-            23
-        )?
-    );
-    // a body that needs less
-    assert!(rt;
-        gives(
-            alloc,
-            b"\x01\x04\x01\x60\x00\x00\x03\x02\x01\x00\x0a\x05\x01\x03\x00\x0b\x0b",
-            5,
-            24
-        )?
-    );
-    Ok(())
-}
-
-#[test]
-fn numbers(rt: HostRuntime) -> Result<(), Fail> {
-    let alloc = rt.alloc();
-    // a size of six bytes
-    assert!(rt; gives(alloc, b"\x01\x80\x80\x80\x80\x80\x00", 6, 9)?);
-    // a count with a wrong unused bit
-    assert!(rt; gives(alloc, b"\x01\x05\x80\x80\x80\x80\x10", 6, 10)?);
-    // a size of five bytes
-    assert!(rt; gives(alloc, b"\x01\x85\x80\x80\x80\x00\x01\x60\x00\x01\x7f", 0, 0)?);
-    Ok(())
-}
-
-#[test]
-fn unknown_bytes(rt: HostRuntime) -> Result<(), Fail> {
-    let alloc = rt.alloc();
-    // an id
-    assert!(rt; gives(alloc, b"\x0c", 7, 8)?);
-    // no function type
-    assert!(rt; gives(alloc, b"\x01\x02\x01\x61", 7, 11)?);
-    // the kind of an import
-    assert!(rt; gives(alloc, b"\x02\x05\x01\x00\x00\x04\x00", 7, 13)?);
-    // the kind of an export
-    assert!(rt; gives(alloc, b"\x07\x04\x01\x00\x05\x00", 7, 12)?);
-    // an element type
-    assert!(rt; gives(alloc, b"\x04\x04\x01\x71\x00\x00", 7, 11)?);
-    // a mutability
-    assert!(rt; gives(alloc, b"\x06\x04\x01\x7f\x02\x0b", 7, 12)?);
-    // a value type
-    assert!(rt; gives(alloc, b"\x06\x04\x01\x70\x00\x0b", 7, 11)?);
-    Ok(())
-}
-
-#[test]
-fn floats(rt: HostRuntime) -> Result<(), Fail> {
-    let alloc = rt.alloc();
-    // a parameter
-    assert!(rt; gives(alloc, b"\x01\x05\x01\x60\x01\x7d\x00", 8, 13)?);
-    // a global
-    assert!(rt; gives(alloc, b"\x06\x04\x01\x7c\x00\x0b", 8, 11)?);
-    Ok(())
-}
-
-#[test]
-fn names(rt: HostRuntime) -> Result<(), Fail> {
-    let alloc = rt.alloc();
-    // of a custom section
-    assert!(rt; gives(alloc, b"\x00\x02\x01\xff", 9, 11)?);
-    // of an export
-    assert!(rt; gives(alloc, b"\x07\x05\x01\x01\xff\x00\x00", 9, 12)?);
-    Ok(())
-}
-
-#[test]
-fn counts_that_differ(rt: HostRuntime) -> Result<(), Fail> {
-    let alloc = rt.alloc();
-    // no code section
-    assert!(rt; gives(alloc, b"\x01\x04\x01\x60\x00\x00\x03\x02\x01\x00", 10, 18)?);
-    // no body
-    assert!(rt;
-        gives(
-            alloc,
-            b"\x01\x04\x01\x60\x00\x00\x03\x02\x01\x00\x0a\x01\x00",
-            10,
-            20
-        )?
-    );
-    // a body too many
-    assert!(rt; gives(alloc, b"\x0a\x04\x01\x02\x00\x0b", 10, 10)?);
-    Ok(())
-}
-
-#[test]
-fn limits(rt: HostRuntime) -> Result<(), Fail> {
-    let alloc = rt.alloc();
-    // a count
-    assert!(rt; gives(alloc, b"\x01\x05\xff\xff\xff\xff\x0f", 11, 10)?);
-    // 1,001 types
-    assert!(rt; gives(alloc, b"\x01\x02\xe9\x07", 11, 10)?);
-    // 65 pages
-    assert!(rt; gives(alloc, b"\x05\x03\x01\x00\x41", 11, 12)?);
-    // 65 pages at most
-    assert!(rt; gives(alloc, b"\x05\x04\x01\x01\x00\x41", 11, 13)?);
-    // a table of 10,001 elements
-    assert!(rt; gives(alloc, b"\x04\x05\x01\x70\x00\x91\x4e", 11, 13)?);
-    // a table of 10,000 elements
-    assert!(rt; gives(alloc, b"\x04\x05\x01\x70\x00\x90\x4e", 0, 0)?);
-    Ok(())
-}
-
-#[test]
-fn limits_of_bodies(rt: HostRuntime) -> Result<(), Fail> {
-    let alloc = rt.alloc();
-    // 1,001 locals
-    assert!(rt;
-        gives(
-            alloc,
-            b"\x01\x04\x01\x60\x00\x00\x03\x02\x01\x00\x0a\x07\x01\x05\x01\xe9\x07\x7f\x0b",
-            11,
-            23
-        )?
-    );
-    // 1,000 locals
-    assert!(rt;
-        gives(
-            alloc,
-            b"\x01\x04\x01\x60\x00\x00\x03\x02\x01\x00\x0a\x07\x01\x05\x01\xe8\x07\x7f\x0b",
-            0,
-            0
-        )?
-    );
-    // 1,000 locals and a parameter
-    assert!(rt;
-        gives(
-            alloc,
-            b"\x01\x05\x01\x60\x01\x7f\x00\x03\x02\x01\x00\x0a\x07\x01\x05\x01\xe8\x07\x7f\x0b",
-            11,
-            24
-        )?
-    );
-    // a body of 65,537 bytes
-    assert!(rt;
-        gives(
-            alloc,
-            b"\x01\x04\x01\x60\x00\x00\x03\x02\x01\x00\x0a\x05\x01\x81\x80\x04\x00",
-            11,
-            21
-        )?
-    );
-    Ok(())
-}
-
-#[test]
-fn codes(rt: HostRuntime) -> Result<(), Fail> {
-    let alloc = rt.alloc();
-    // an atomic addition
-    assert!(rt;
-        gives(
-            alloc,
-            b"\x01\x05\x01\x60\x00\x01\x7f\x03\x02\x01\x00\x05\x04\x01\x03\x01\x01\x07\x05\x01\x01\x66\x00\x00\x0a\x0c\x01\x0a\x00\x41\x00\x41\x05\xfe\x1e\x02\x00\x0b",
-            0,
-            0
-        )?
-    );
-    // a constant of five bytes
-    assert!(rt;
-        gives(
-            alloc,
-            b"\x01\x05\x01\x60\x00\x01\x7f\x03\x02\x01\x00\x05\x04\x01\x03\x01\x01\x07\x05\x01\x01\x66\x00\x00\x0a\x10\x01\x0e\x00\x41\x00\x41\x85\x80\x80\x80\x00\xfe\x1e\x02\x00\x0b",
-            0,
-            0
-        )?
-    );
-    // a constant of six bytes
-    assert!(rt;
-        gives(
-            alloc,
-            b"\x01\x05\x01\x60\x00\x01\x7f\x03\x02\x01\x00\x05\x04\x01\x03\x01\x01\x07\x05\x01\x01\x66\x00\x00\x0a\x0e\x01\x0c\x00\x41\x80\x80\x80\x80\x80\x00\x1a\x41\x00\x0b",
-            6,
-            38
-        )?
-    );
-    // a float constant
-    assert!(rt;
-        gives(
-            alloc,
-            b"\x01\x05\x01\x60\x00\x01\x7f\x03\x02\x01\x00\x05\x04\x01\x03\x01\x01\x07\x05\x01\x01\x66\x00\x00\x0a\x09\x01\x07\x00\x43\x00\x00\x00\x00\x0b",
-            8,
-            37
-        )?
-    );
-    // an else outside of an if
-    assert!(rt;
-        gives(
-            alloc,
-            b"\x01\x05\x01\x60\x00\x01\x7f\x03\x02\x01\x00\x05\x04\x01\x03\x01\x01\x07\x05\x01\x01\x66\x00\x00\x0a\x05\x01\x03\x00\x05\x0b",
-            7,
-            37
-        )?
-    );
-    // a memory's flag in front of it
-    assert!(rt;
-        gives(
-            alloc,
-            b"\x01\x05\x01\x60\x00\x01\x7f\x03\x02\x01\x00\x05\x03\x01\x02\x01\x07\x05\x01\x01\x66\x00\x00\x0a\x0c\x01\x0a\x00\x41\x00\x41\x05\xfe\x1e\x02\x00\x0b",
-            12,
-            22
-        )?
-    );
-    Ok(())
-}
-
-#[test]
-fn limits_flags(rt: HostRuntime) -> Result<(), Fail> {
-    let alloc = rt.alloc();
-    // a memory
-    assert!(rt; gives(alloc, b"\x05\x03\x01\x02\x01", 12, 11)?);
-    // a table
-    assert!(rt; gives(alloc, b"\x04\x04\x01\x70\x03\x00", 12, 12)?);
-    // a shared memory
-    assert!(rt; gives(alloc, b"\x05\x04\x01\x03\x01\x01", 0, 0)?);
+fn faults_and_offsets(rt: HostRuntime) -> Result<(), Fail> {
+    for (sections, number, offset) in CASES {
+        let bytes = module_of(rt.alloc(), sections)?;
+        let found = outcome(rt.alloc(), bytes.as_slice());
+        assert!(rt; found == (number, offset), "{sections}");
+    }
     Ok(())
 }
 
@@ -335,35 +196,48 @@ fn prefixes(rt: HostRuntime) -> Result<(), Fail> {
     Ok(())
 }
 
+/// A module with every section.
+const WHOLE: &[u8] =
+    b"\0asm\x01\0\0\0\x00\x02\x01a\x01\x05\x01\x60\x01\x7f\x00\x02\x07\x01\x01m\x01f\x00\x00\x03\x02\x01\x00\x04\x04\x01\x70\x00\x02\x05\x04\x01\x03\x01\x01\x06\x04\x01\x7e\x01\x0b\x07\x05\x01\x01e\x00\x01\x08\x01\x01\x09\x06\x01\x00\x0b\x02\x00\x01\x0a\x06\x01\x04\x01\x02\x7f\x0b\x0b\x06\x01\x00\x0b\x02AB\x00\x01\x00";
+
+/// How many items each section has, in order of the sections, but for the start section.
+fn counts(module: &Module) -> [usize; 10] {
+    let parts = module.parts();
+    [
+        parts.types.len(),
+        parts.imports.len(),
+        parts.functions.len(),
+        parts.tables.len(),
+        parts.memories.len(),
+        parts.globals.len(),
+        parts.exports.len(),
+        parts.elements.len(),
+        parts.bodies.len(),
+        parts.data.len(),
+    ]
+}
+
 #[test]
 fn every_section(rt: HostRuntime) -> Result<(), Fail> {
-    let alloc = rt.alloc();
-    let bytes =
-        b"\0asm\x01\0\0\0\x00\x02\x01a\x01\x05\x01\x60\x01\x7f\x00\x02\x07\x01\x01m\x01f\x00\x00\x03\x02\x01\x00\x04\x04\x01\x70\x00\x02\x05\x04\x01\x03\x01\x01\x06\x04\x01\x7e\x01\x0b\x07\x05\x01\x01e\x00\x01\x08\x01\x01\x09\x06\x01\x00\x0b\x02\x00\x01\x0a\x06\x01\x04\x01\x02\x7f\x0b\x0b\x06\x01\x00\x0b\x02AB\x00\x01\x00";
-    let module = read(alloc, bytes)?;
+    let module = read(rt.alloc(), WHOLE)?;
+    assert_eq!(rt; counts(&module), [1; 10]);
+    assert_eq!(rt; module.parts().start, Some(1));
+    Ok(())
+}
+
+#[test]
+fn what_sections_hold(rt: HostRuntime) -> Result<(), Fail> {
+    let module = read(rt.alloc(), WHOLE)?;
     let parts = module.parts();
-    assert_eq!(rt; parts.types.len(), 1);
-    assert_eq!(rt; parts.imports.len(), 1);
-    assert_eq!(rt; parts.functions.as_slice(), [0].as_slice());
-    assert_eq!(rt; parts.tables.len(), 1);
-    assert_eq!(rt; parts.memories.len(), 1);
-    assert_eq!(rt; parts.globals.len(), 1);
-    assert_eq!(rt; parts.start, Some(1));
-    assert_eq!(rt; parts.elements.len(), 1);
-    match parts.exports.as_slice() {
-        [export] => {
-            assert_eq!(rt; export.name.as_str(), "e");
-            assert_eq!(rt; export.desc, ExportDesc::Func(1));
-        }
-        _ => assert!(rt; false),
+    for export in parts.exports.as_slice() {
+        assert_eq!(rt; export.name.as_str(), "e");
+        assert_eq!(rt; export.desc, ExportDesc::Func(1));
     }
-    match parts.bodies.as_slice() {
-        [body] => assert_eq!(rt; body.locals.len(), 2),
-        _ => assert!(rt; false),
+    for body in parts.bodies.as_slice() {
+        assert_eq!(rt; body.locals.len(), 2);
     }
-    match parts.data.as_slice() {
-        [segment] => assert_eq!(rt; segment.bytes.as_slice(), b"AB".as_slice()),
-        _ => assert!(rt; false),
+    for segment in parts.data.as_slice() {
+        assert_eq!(rt; segment.bytes.as_slice(), b"AB".as_slice());
     }
     Ok(())
 }

@@ -45,12 +45,12 @@ pub fn perform<W: Write, E: Write, S: Write>(
 /// Reads a module, and writes how many functions of its own it has.
 ///
 /// Answers 0 only where the bytes are a module's text and its line was written, and 2 only where they are no module's.
-pub fn check<W: Write, E: Write>(alloc: Global, module: &[u8], out: &mut W, err: &mut E) -> u8
-    ensures accepted { result ≡ 0 → IsAccepted module.now (W.contents out.old) (W.contents out.new) }
-    ensures refused { result ≡ 2 → IsNoModule module.now }
+pub fn check<W: Write, E: Write>(alloc: Global, bytes: &[u8], out: &mut W, err: &mut E) -> u8
+    ensures accepted { result ≡ 0 → IsAccepted bytes.now (W.contents out.old) (W.contents out.new) }
+    ensures refused { result ≡ 2 → IsNoModule bytes.now }
     ensures status { result ≤ 5 }
 {
-    match read(alloc, module) {
+    match read(alloc, bytes) {
         Ok(found) => match write_functions(out, found.parts().functions.len()) {
             Ok(()) => 0,
             Err(_) => {

@@ -23,7 +23,15 @@ fn done(alloc: Global, address: u8, addend: u8, invoke: &str, dump: u32) -> (Vec
         invoke,
         dump,
     };
-    let status = perform(alloc, &job, &module, b"", &mut out, &mut err, &mut Failing(0));
+    let status = perform(
+        alloc,
+        &job,
+        &module,
+        b"",
+        &mut out,
+        &mut err,
+        &mut Failing(0),
+    );
     (out, err, status)
 }
 
@@ -54,7 +62,10 @@ fn prints_a_trap(rt: HostRuntime) -> Result<(), Fail> {
 #[test]
 fn dumps_what_is_asked(rt: HostRuntime) -> Result<(), Fail> {
     let (out, _, status) = done(rt.alloc(), 60, 63, "f", 64);
-    assert!(rt; out.as_slice().starts_with(b"thread 0: ok i32:0\npages 1\nbytes 00 00 ".as_slice()));
+    assert!(rt;
+        out.as_slice()
+            .starts_with(b"thread 0: ok i32:0\npages 1\nbytes 00 00 ".as_slice())
+    );
     assert!(rt; out.as_slice().ends_with(b" 00 00 3f 00 00 00\n".as_slice()));
     assert_eq!(rt; out.len(), 225);
     assert_eq!(rt; status, 0);
@@ -128,7 +139,15 @@ fn checked(alloc: Global, module: &[u8]) -> (Vec<u8>, Vec<u8>, u8) {
     let mut out = Vec::new(alloc);
     let mut err = Vec::new(alloc);
     let job = Job::Check { file: "a.wasm" };
-    let status = perform(alloc, &job, module, b"", &mut out, &mut err, &mut Failing(0));
+    let status = perform(
+        alloc,
+        &job,
+        module,
+        b"",
+        &mut out,
+        &mut err,
+        &mut Failing(0),
+    );
     (out, err, status)
 }
 
@@ -137,7 +156,10 @@ fn checks_modules(rt: HostRuntime) -> Result<(), Fail> {
     let (out, err, status) = checked(rt.alloc(), &ATOMIC_ADD);
     assert_eq!(rt; out.as_slice(), b"ok functions 1\n".as_slice());
     assert_eq!(rt; (err.len(), status), (0, 0));
-    let (out, _, status) = checked(rt.alloc(), &[0x00, 0x61, 0x73, 0x6d, 0x01, 0x00, 0x00, 0x00]);
+    let (out, _, status) = checked(
+        rt.alloc(),
+        &[0x00, 0x61, 0x73, 0x6d, 0x01, 0x00, 0x00, 0x00],
+    );
     assert_eq!(rt; out.as_slice(), b"ok functions 0\n".as_slice());
     assert_eq!(rt; status, 0);
     let (out, err, status) = checked(rt.alloc(), &[0x00, 0x61, 0x73, 0x6d, 0x01, 0x00, 0x00]);
@@ -155,7 +177,10 @@ fn checks_the_longest_count(rt: HostRuntime) -> Result<(), Fail> {
         0x00, 0x61, 0x73, 0x6d, 0x01, 0x00, 0x00, 0x00, 0x01, 0x05, 0xff, 0xff, 0xff, 0xff, 0x0f,
     ];
     let (_, err, status) = checked(rt.alloc(), &module);
-    assert_eq!(rt; err.as_slice(), b"module refused: read 11 at 10\n".as_slice());
+    assert_eq!(rt;
+        err.as_slice(),
+        b"module refused: read 11 at 10\n".as_slice()
+    );
     assert_eq!(rt; status, 2);
     Ok(())
 }
