@@ -1,6 +1,8 @@
 //! A shared memory beside the sequential one.
 ghost use Rattle.std.specs.Prelude.{◌≡◌, false};
 ghost use Rattle.shared_memory.specs.Events.{IsEvent, is_of_queue};
+ghost use Rattle.shared_memory.specs.History.{memory_after};
+ghost use Rattle.shared_memory.specs.Legal.{IsMemoryLegal};
 
 use crate::conditions::{is_event, is_of_memory};
 use one_memory::OneMemory;
@@ -47,7 +49,10 @@ pub fn agree<M: SharedMemory>(
 
 /// Steps the events of a log on the sequential memory, and answers the place of the first entry whose event doesn't
 /// meet the conditions on events or whose reply isn't the sequential memory's.
-pub fn replay(log: &[Entry], one: &mut OneMemory) -> Option<usize> {
+pub fn replay(log: &[Entry], one: &mut OneMemory) -> Option<usize>
+    ensures legal { result ≡ None → IsMemoryLegal one.old log.now }
+    ensures after { result ≡ None → one.new ≡ memory_after one.old log.now }
+{
     for (i, entry) in log.iter().enumerate() {
         if !is_event(&entry.event) || one.step(&entry.event) != entry.reply {
             return Some(i);
