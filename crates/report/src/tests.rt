@@ -1,6 +1,6 @@
 //! What no clause says: printed text, statuses, and each call once with ample memory.
 use crate::{FirstFault, Job, Usage, command, first, perform};
-use std::alloc::Global;
+use std::alloc::{AllocError, Global};
 use std::io::{self, Write};
 use std::test::Fail;
 
@@ -151,37 +151,116 @@ fn checked(alloc: Global, module: &[u8]) -> (Vec<u8>, Vec<u8>, u8) {
     (out, err, status)
 }
 
+/// Modules, the status of `check`, and its one line on either stream.
+static CHECKS: [(&[u8], u8, &str); 9] = [
+    // the opening bytes alone
+    (b"\x00\x61\x73\x6d\x01\x00\x00\x00", 0, "ok functions 0\n"),
+    // without the last of them
+    (
+        b"\x00\x61\x73\x6d\x01\x00\x00",
+        2,
+        "module refused: read 1 at 7\n",
+    ),
+    // nothing
+    (b"", 2, "module refused: read 1 at 0\n"),
+    // the atomic add
+    (
+        b"\x00\x61\x73\x6d\x01\x00\x00\x00\x01\x05\x01\x60\x00\x01\x7f\x03\x02\x01\x00\x05\x04\x01\x03\x01\x01\x07\x05\x01\x01\x66\x00\x00\x0a\x0c\x01\x0a\x00\x41\x00\x41\x05\xfe\x1e\x02\x00\x0b",
+        0,
+        "ok functions 1\n",
+    ),
+    // its constant in five bytes
+    (
+        b"\x00\x61\x73\x6d\x01\x00\x00\x00\x01\x05\x01\x60\x00\x01\x7f\x03\x02\x01\x00\x05\x04\x01\x03\x01\x01\x07\x05\x01\x01\x66\x00\x00\x0a\x10\x01\x0e\x00\x41\x00\x41\x85\x80\x80\x80\x00\xfe\x1e\x02\x00\x0b",
+        0,
+        "ok functions 1\n",
+    ),
+    // a memory's flag that isn't one
+    (
+        b"\x00\x61\x73\x6d\x01\x00\x00\x00\x01\x05\x01\x60\x00\x01\x7f\x03\x02\x01\x00\x05\x03\x01\x02\x01\x07\x05\x01\x01\x66\x00\x00\x0a\x0c\x01\x0a\x00\x41\x00\x41\x05\xfe\x1e\x02\x00\x0b",
+        2,
+        "module refused: read 12 at 22\n",
+    ),
+    // a constant in six bytes
+    (
+        b"\x00\x61\x73\x6d\x01\x00\x00\x00\x01\x05\x01\x60\x00\x01\x7f\x03\x02\x01\x00\x05\x04\x01\x03\x01\x01\x07\x05\x01\x01\x66\x00\x00\x0a\x0e\x01\x0c\x00\x41\x80\x80\x80\x80\x80\x00\x1a\x41\x00\x0b",
+        2,
+        "module refused: read 6 at 38\n",
+    ),
+    // a float constant
+    (
+        b"\x00\x61\x73\x6d\x01\x00\x00\x00\x01\x05\x01\x60\x00\x01\x7f\x03\x02\x01\x00\x05\x04\x01\x03\x01\x01\x07\x05\x01\x01\x66\x00\x00\x0a\x09\x01\x07\x00\x43\x00\x00\x00\x00\x0b",
+        2,
+        "module refused: read 8 at 37\n",
+    ),
+    // a count past its limit
+    (
+        b"\x00\x61\x73\x6d\x01\x00\x00\x00\x01\x05\xff\xff\xff\xff\x0f",
+        2,
+        "module refused: read 11 at 10\n",
+    ),
+];
+
 #[test]
 fn checks_modules(rt: HostRuntime) -> Result<(), Fail> {
-    let (out, err, status) = checked(rt.alloc(), &ATOMIC_ADD);
-    assert_eq!(rt; out.as_slice(), b"ok functions 1\n".as_slice());
-    assert_eq!(rt; (err.len(), status), (0, 0));
-    let (out, _, status) = checked(
-        rt.alloc(),
-        &[0x00, 0x61, 0x73, 0x6d, 0x01, 0x00, 0x00, 0x00],
-    );
-    assert_eq!(rt; out.as_slice(), b"ok functions 0\n".as_slice());
-    assert_eq!(rt; status, 0);
-    let (out, err, status) = checked(rt.alloc(), &[0x00, 0x61, 0x73, 0x6d, 0x01, 0x00, 0x00]);
-    assert_eq!(rt; err.as_slice(), b"module refused: read 1 at 7\n".as_slice());
-    assert_eq!(rt; (out.len(), status), (0, 2));
-    let (_, err, status) = checked(rt.alloc(), b"");
-    assert_eq!(rt; err.as_slice(), b"module refused: read 1 at 0\n".as_slice());
-    assert_eq!(rt; status, 2);
+    for (module, wanted, line) in CHECKS {
+        let (out, err, status) = checked(rt.alloc(), module);
+        let said = if status == 0 { out } else { err };
+        assert!(rt; said.as_slice() == line.as_bytes(), "{line}");
+        assert!(rt; status == wanted, "{line}");
+    }
     Ok(())
 }
 
+/// Whether `check` says of this front of a module what it should.
+fn front_is_right(alloc: Global, count: usize) -> Result<bool, AllocError> {
+    let (out, err, _) = checked(alloc, &ATOMIC_ADD[..count.min(46)]);
+    let kind = match count {
+        19 | 25 | 32 => 10,
+        _ => 1,
+    };
+    let wanted = format!(in alloc; "module refused: read {kind} at {count}\n")?;
+    Ok(match count {
+        8 | 15 => out.as_slice() == b"ok functions 0\n".as_slice(),
+        _ => err.as_slice() == wanted.as_bytes(),
+    })
+}
+
 #[test]
-fn checks_the_longest_count(rt: HostRuntime) -> Result<(), Fail> {
-    let module = [
-        0x00, 0x61, 0x73, 0x6d, 0x01, 0x00, 0x00, 0x00, 0x01, 0x05, 0xff, 0xff, 0xff, 0xff, 0x0f,
-    ];
-    let (_, err, status) = checked(rt.alloc(), &module);
+fn checks_every_front(rt: HostRuntime) -> Result<(), Fail> {
+    for count in 0..46 {
+        assert!(rt; front_is_right(rt.alloc(), count)?, "{count}");
+    }
+    Ok(())
+}
+
+/// A module whose body begins with these bytes and has so many blocks inside one another.
+fn nested(alloc: Global, code: &[u8], depth: usize) -> Result<Vec<u8>, AllocError> {
+    let head =
+        b"\x00\x61\x73\x6d\x01\x00\x00\x00\x01\x04\x01\x60\x00\x00\x03\x02\x01\x00\x05\x04\x01\x03\x01\x01\x07\x05\x01\x01\x66\x00\x00";
+    let mut bytes = Vec::from_slice(alloc, head)?;
+    bytes.extend_from_slice(code)?;
+    for _ in 0..depth {
+        bytes.extend_from_slice(&[0x02, 0x40])?;
+    }
+    for _ in 0..depth {
+        bytes.push(0x0b)?;
+    }
+    bytes.push(0x0b)?;
+    Ok(bytes)
+}
+
+#[test]
+fn checks_nested_blocks(rt: HostRuntime) -> Result<(), Fail> {
+    let most = nested(rt.alloc(), b"\x0a\x82\x06\x01\xff\x05\x00", 255)?;
+    let (out, _, _) = checked(rt.alloc(), &most);
+    assert_eq!(rt; out.as_slice(), b"ok functions 1\n".as_slice());
+    let more = nested(rt.alloc(), b"\x0a\x85\x06\x01\x82\x06\x00", 256)?;
+    let (_, err, _) = checked(rt.alloc(), &more);
     assert_eq!(rt;
         err.as_slice(),
-        b"module refused: read 11 at 10\n".as_slice()
+        b"module refused: read 11 at 548\n".as_slice()
     );
-    assert_eq!(rt; status, 2);
     Ok(())
 }
 
