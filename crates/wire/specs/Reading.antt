@@ -14,7 +14,7 @@ abbrev pub Refuses : ReadFault → Type 0
 Refuses OutOfMemory = ⊥
 Refuses (Malformed kind offset) = Unit {0}
 
--- A fault other than want of memory comes only where reading gives nothing.
+-- A fault other than out of memory comes only where reading gives nothing.
 abbrev pub Fails : {Y : Type 0} → ReadFault → Option Y → Type 0
 Fails OutOfMemory read = Unit {0}
 Fails (Malformed kind offset) read = read ≡ None
