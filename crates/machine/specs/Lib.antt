@@ -1,0 +1,4 @@
+pub mod Program
+pub mod Config
+pub mod Access
+pub mod Step
