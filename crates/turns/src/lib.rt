@@ -1,0 +1,8 @@
+//! The turns of a thread: the steps of the thread machine over flat code with its table of branches.
+#![tactic(auto)]
+
+mod stack;
+mod state;
+mod variables;
+
+pub use state::{Caller, Progress, State, Step};
