@@ -1,2 +1,5 @@
 pub mod Views
+pub mod Places
 pub mod Values
+pub mod Slots
+pub mod Numbers

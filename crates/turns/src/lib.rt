@@ -1,6 +1,7 @@
 //! The turns of a thread: the steps of the thread machine over flat code with its table of branches.
 #![tactic(auto)]
 
+mod arithmetic;
 mod stack;
 mod state;
 mod variables;

@@ -1,8 +1,15 @@
 //! The stack of values.
 
-ghost use Rattle.std.specs.Prelude.{◌≡◌, ◌<◌, ◌∷◌, length, reverse, vec_len, vec_capacity};
+ghost use Rattle.std.specs.Prelude.{◌≡◌, ◌<◌, [], ◌∷◌, length, map, reverse, vec_len, vec_capacity};
+ghost use Rattle.types.specs.declared.value.ValType.{ValType};
+ghost use Rattle.types.specs.declared.value.Value.{Value};
+ghost use Rattle.types.specs.Values.{type_of};
+ghost use Rattle.typing.specs.Typing.{HasOnTop};
 
 use types::Value;
+
+/// The most values that may lie on the stack, the locals of all open functions counted (this project's own).
+pub(crate) const VALUES_MAX: usize = 65_536;
 
 /// Takes the topmost value.
 #[inline]
@@ -17,6 +24,32 @@ pub(crate) fn pop(values: &mut Vec<Value>) -> Value
     }
 }
 
+/// Takes the topmost number of 32 bits.
+#[inline]
+pub(crate) fn pop_i32(values: &mut Vec<Value>) -> u32
+    requires { HasOnTop (ValType.I32 ∷ []) (map type_of (reverse values.old.items)) }
+    ensures value { reverse values.old.items ≡ Value.I32 result ∷ reverse values.new.items }
+    ensures capacity { vec_capacity values.new ≡ vec_capacity values.old }
+{
+    match values.pop() {
+        Some(Value::I32(number)) => number,
+        _ => unreachable!(),
+    }
+}
+
+/// Takes the topmost number of 64 bits.
+#[inline]
+pub(crate) fn pop_i64(values: &mut Vec<Value>) -> u64
+    requires { HasOnTop (ValType.I64 ∷ []) (map type_of (reverse values.old.items)) }
+    ensures value { reverse values.old.items ≡ Value.I64 result ∷ reverse values.new.items }
+    ensures capacity { vec_capacity values.new ≡ vec_capacity values.old }
+{
+    match values.pop() {
+        Some(Value::I64(number)) => number,
+        _ => unreachable!(),
+    }
+}
+
 /// Puts a value on top.
 #[inline]
 pub(crate) fn push(values: &mut Vec<Value>, value: Value)
@@ -26,4 +59,3 @@ pub(crate) fn push(values: &mut Vec<Value>, value: Value)
 {
     values.push_reserved(value);
 }
-

@@ -1,0 +1,20 @@
+use Rattle.std.proofs.Common.{rules, ◌≡◌, ◌≢◌, ℕ, ◌+◌, ◌<◌, ◌≤◌, List, [], ◌∷◌, length, map, reverse, refl, sym, ◌∙◌, ap, arith}
+use Rattle.std.proofs.lemmas.Option.{slice_get_within}
+use Rattle.turns.proofs.Slots.{local_get_ready, local_get_full, local_gets}
+use Rattle.turns.proofs.variables.local_get.Goals as goal
+
+pub overflow_add-state : goal.overflow_add-state
+overflow_add-state c =
+    let h : c.args.state.now.pc < length c.args.state.now.code.now = slice_get_within _ _ _ c.requires.here in search rules
+
+pub overflow_add-place : goal.overflow_add-place
+overflow_add-place c = let h = local_get_ready c.args.state.now c.args.index c.requires in search rules
+
+pub index-value-requires : goal.index-value-requires
+index-value-requires c = let h = local_get_ready c.args.state.now c.args.index c.requires in search rules
+
+pub returns-then-len-eq-VALUES_MAX : goal.returns-then-len-eq-VALUES_MAX
+returns-then-len-eq-VALUES_MAX c = let e : length c.args.state.now.values.items ≡ 65536 = search rules in λ w k v st. local_get_full w c.args.state.now _ k c.args.index st c.requires e
+
+pub returns : goal.returns
+returns c = let e : length c.args.state.now.values.items ≢ 65536 = search rules in λ w k v st. local_gets w c.args.state.now _ k c.args.index c.index-value.result.now st c.requires c.index-value.ensures c.push.ensures.value e refl refl refl refl

@@ -1,0 +1,7 @@
+use Rattle.std.proofs.Common.{rules, ◌≡◌, ◌≢◌, ℕ, ◌+◌, ◌<◌, ◌≤◌, List, [], ◌∷◌, length, map, reverse, refl, sym, ◌∙◌, ap, arith}
+use Rattle.std.proofs.lemmas.Option.{slice_get_within}
+use Rattle.turns.proofs.Values.{traps_there}
+use Rattle.turns.proofs.variables.unreachable_instr.Goals as goal
+
+pub returns : goal.returns
+returns c = λ w k v st. traps_there w c.args.state.now _ k st c.requires
