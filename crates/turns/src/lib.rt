@@ -2,6 +2,7 @@
 #![tactic(auto)]
 
 mod arithmetic;
+mod control;
 mod stack;
 mod state;
 mod variables;
