@@ -1,3 +1,4 @@
 pub mod Stands
 pub mod Steps
 pub mod Numbers
+pub mod Branches

@@ -3,8 +3,9 @@
 
 mod arithmetic;
 mod control;
+mod leaving;
 mod stack;
 mod state;
 mod variables;
 
-pub use state::{Caller, Progress, State, Step};
+pub use state::{Caller, Program, Progress, State, Step};
