@@ -1,0 +1,6 @@
+pub mod Prefixes
+pub mod Entering
+pub mod AtOnce
+pub mod Turning
+pub mod Beginning
+pub mod Locks
