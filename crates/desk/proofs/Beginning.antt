@@ -85,7 +85,7 @@ there_step n t q event reply apart allowed sound there known =
       ]
     ]
 
-not_own : (n : ℕ) (e : Entry) (xs : List Entry) → entries_of n (e ∷ xs) ≡ [] → (e.thread ≢ n) × (entries_of n xs ≡ [])
+pub not_own : (n : ℕ) (e : Entry) (xs : List Entry) → entries_of n (e ∷ xs) ≡ [] → (e.thread ≢ n) × (entries_of n xs ≡ [])
 not_own n e xs none =
     cond_both (e.thread == n) (e ∷ entries_of n xs) (entries_of n xs) (λ w. w ≡ [] → (e.thread ≢ n) × (entries_of n xs ≡ []))
     (λ is bad. absurd (cc bad)) (λ isnt rest. ((λ same. eqb-false e.thread n isnt same), rest)) none
@@ -97,7 +97,7 @@ there_from n q (e ∷ xs) none legal sound there =
     there_from n (queue_step q e.thread e.event e.reply) xs parts.1 legal.1 (IsSound-step q e.thread e.event e.reply legal.0 sound)
     (there_step n e.thread q e.event e.reply parts.0 legal.0 sound there)
 
-none_of_queue : (n : ℕ) (xs : List Entry) → entries_of n xs ≡ [] → entries_of n (of_queue xs) ≡ []
+pub none_of_queue : (n : ℕ) (xs : List Entry) → entries_of n xs ≡ [] → entries_of n (of_queue xs) ≡ []
 none_of_queue n [] none = refl
 none_of_queue n (e ∷ xs) none =
     let parts : (e.thread ≢ n) × (entries_of n xs ≡ []) = not_own n e xs none in

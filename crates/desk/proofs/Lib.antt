@@ -3,4 +3,5 @@ pub mod Entering
 pub mod AtOnce
 pub mod Turning
 pub mod Beginning
+pub mod Surviving
 pub mod Locks

@@ -9,4 +9,4 @@ mod turn;
 
 pub use answers::{Asked, Full, Notified};
 pub use desk::Desk;
-pub use laws::a_wait_after_a_notify_reads_what_the_notifier_saw;
+pub use laws::{a_free_thread_stays_free, a_wait_after_a_notify_reads_what_the_notifier_saw};
