@@ -1,9 +1,9 @@
-//! Threads at a desk over a recorder: a script on one thread, a full log, all ids, and two threads at once.
+//! Threads at a desk over a recorder: a script on one thread, a full log, all ids, and two threads at once; and the
+//! dealing of a recorder's seats, which the measurements share.
 #![tactic(auto)]
 
 #[cfg(test)]
 mod calls;
-#[cfg(test)]
 mod dealt;
 #[cfg(test)]
 mod script;
@@ -11,3 +11,5 @@ mod script;
 mod tests;
 #[cfg(test)]
 mod together;
+
+pub use dealt::{Dealt, deal};
