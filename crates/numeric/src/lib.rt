@@ -1,0 +1,12 @@
+//! The numeric instructions (Core specification 1.0, section 4.3): each operator on integers of 32 and of 64 bits.
+#![tactic(auto)]
+
+mod compare;
+mod convert;
+mod narrow;
+mod wide;
+
+pub use compare::{i32_compare, i32_eqz, i64_compare, i64_eqz};
+pub use convert::{i32_wrap_i64, i64_extend_i32_s, i64_extend_i32_u};
+pub use narrow::{i32_binary, i32_unary};
+pub use wide::{i64_binary, i64_unary};
