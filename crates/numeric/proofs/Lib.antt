@@ -6,3 +6,4 @@ pub mod Signs
 pub mod Division
 pub mod Comparing
 pub mod Machine
+pub mod Typed

@@ -11,6 +11,7 @@ use Rattle.std.proofs.Math.Nat.{div-eq_of_lt}
 use Rattle.std.proofs.lemmas.Nat.{pow_pos, pow-add, shr_below, shr_split, mod_below, le-div, div-mul-add}
 use Rattle.numeric.specs.Bits.{ibits, first_bit}
 use Rattle.numeric.specs.Integers.{signed, unsigned, shifted_right}
+use Rattle.numeric.specs.Laws.{UnsignedOfSigned}
 use Rattle.numeric.proofs.Shifts.{shifted_right-zeros, shifted_right-ones}
 
 -- half of the integers have no sign
@@ -90,3 +91,15 @@ shifted_signed h k i within fits = elim (cases_lt i (2 ^ h)) [
       let top = from_top (suc h) k i within fits in
       omega arith)
 ]
+
+-- the two readings are inverse
+unsigned-signed-suc : (h i : ℕ) → i < 2 ^ suc h → unsigned (suc h) (signed (suc h) i) ≡ i
+unfolding unsigned
+unsigned-signed-suc h i fits = elim (cases_lt i (2 ^ h)) [
+  | inl low ↦ rw (signed-low h i low) refl
+  | inr high ↦ rw (signed-high h i high fits) (omega arith)
+]
+
+pub unsigned-signed : UnsignedOfSigned
+unsigned-signed zero i some fits = absurd (omega arith)
+unsigned-signed (suc h) i some fits = unsigned-signed-suc h i fits

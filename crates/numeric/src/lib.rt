@@ -3,10 +3,16 @@
 
 mod compare;
 mod convert;
+#[cfg(test)]
+mod expected;
+mod laws;
 mod narrow;
+#[cfg(test)]
+mod tests;
 mod wide;
 
 pub use compare::{i32_compare, i32_eqz, i64_compare, i64_eqz};
 pub use convert::{i32_wrap_i64, i64_extend_i32_s, i64_extend_i32_u};
+pub use laws::{below_stays, typed_results, unsigned_of_signed};
 pub use narrow::{i32_binary, i32_unary};
 pub use wide::{i64_binary, i64_unary};
