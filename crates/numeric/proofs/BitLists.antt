@@ -1,6 +1,6 @@
 -- Sequences of bits: the integer that parts of one and joined ones stand for.
 use Rattle.std.proofs.Common.{◌≡◌, ℕ, zero, suc, ◌+◌, ◌-◌, ◌*◌, ◌/◌, ◌%◌, ◌^◌, ◌<◌, ◌≤◌, List, [], ◌∷◌, ◌++◌, length, take, drop, replicate, refl, sym, ap, ap₂, ◌∙◌, subst, mod-eq_of_lt, arith}
-use Rattle.std.proofs.lemmas.Nat.{pow-add, pow_pos, mod-pow-add, shr-shr, field_of}
+use Rattle.std.proofs.lemmas.Nat.{pow-add, mod-pow-add, shr-shr, field_of}
 use Rattle.std.proofs.lemmas.List.{length-append, length-replicate}
 use Rattle.std.specs.Int.{bit_at}
 use Rattle.numeric.specs.Bits.{ibits, of_ibits}

@@ -1,20 +1,19 @@
 -- Signed quotients and remainders, and where a quotient doesn't fit.
-use Rattle.std.proofs.Common.{◌≡◌, ◌≢◌, ℕ, zero, suc, ◌+◌, ◌-◌, ◌*◌, ◌/◌, ◌%◌, ◌^◌, ◌<◌, ◌≤◌, ◌⊎◌, inl, inr, Bool, true, false, Result, Ok, Err, refl, sym, ap, ap₂, ◌∙◌, subst, arith}
-use Rattle.std.specs.Prelude.{SomeIff, Option, Some, None, cond, nat_eq, nat_lt, ℤ, pos, negsuc, neg_ℤ, ◌+ℤ◌, ◌-ℤ◌, ◌*ℤ◌, int_div, int_rem, int_lt, FitsSigned}
-use Rattle.std.specs.Int.{Width, w8, w16, w32, w64, w128, cast_signed, cast_unsigned, CanDivide}
+use Rattle.std.proofs.Common.{◌≡◌, ◌≢◌, ℕ, zero, suc, ◌+◌, ◌*◌, ◌/◌, ◌%◌, ◌^◌, ◌<◌, ◌≤◌, ◌⊎◌, inl, inr, true, false, Ok, Err, refl, sym, ap, ◌∙◌, subst, arith}
+use Rattle.std.specs.Prelude.{SomeIff, Some, cond, nat_eq, ℤ, pos, negsuc, neg_ℤ, ◌-ℤ◌, ◌*ℤ◌, int_div, int_rem, FitsSigned}
+use Rattle.std.specs.Int.{Width, cast_signed, cast_unsigned, CanDivide}
 use Rattle.std.specs.Int.Signed.{mag, mag_rem}
 use Rattle.std.specs.Ordering.{int_eq}
 use Rattle.std.proofs.lemmas.Int.{ints, quot-rem, of_z-to_z, to_z-of_z}
-use Rattle.std.proofs.lemmas.Bool.{cases_lt, cases_eq}
+use Rattle.std.proofs.lemmas.Bool.{cases_lt}
 use Rattle.std.proofs.lemmas.Bool.Decides.{nat_tests}
 use Rattle.std.proofs.lemmas.Nat.{pow_pos}
 use Rattle.std.proofs.Math.Nat.{div-le_self, div-mul-le_self}
 use Rattle.std.proofs.Math.IntN.{*ℤ_comm}
 use borrow.Author.Gap.{read_sfits}
 use mir.Val.{bits, hbits}
-use Rattle.types.specs.declared.outcome.Trap.{Trap}
 use Rattle.types.specs.declared.outcome.Trap.TheVariants as traps
-use Rattle.numeric.specs.Integers.{signed, unsigned, idiv_u, idiv_s, irem_u, irem_s}
+use Rattle.numeric.specs.Integers.{idiv_u, idiv_s, irem_u, irem_s}
 use Rattle.numeric.proofs.Signs.{half, signed-is, unsigned-is, passed}
 
 -- a number that fits isn't the least one that is too large

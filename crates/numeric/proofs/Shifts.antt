@@ -1,9 +1,9 @@
 -- Shifts and rotations of sequences of bits, as products and quotients by powers of two.
-use Rattle.std.proofs.Common.{◌≡◌, ℕ, [], zero, suc, ◌+◌, ◌-◌, ◌*◌, ◌/◌, ◌%◌, ◌^◌, ◌<◌, ◌≤◌, List, ◌++◌, length, take, drop, replicate, refl, sym, ap, ap₂, ◌∙◌, subst, bit_or, mod-eq_of_lt, arith}
+use Rattle.std.proofs.Common.{◌≡◌, ℕ, zero, suc, ◌+◌, ◌-◌, ◌*◌, ◌/◌, ◌%◌, ◌^◌, ◌<◌, ◌≤◌, length, take, drop, replicate, refl, sym, ap, ap₂, ◌∙◌, subst, bit_or, mod-eq_of_lt, arith}
 use Rattle.std.proofs.Math.Nat.{mod_self, div-eq_of_lt}
 use Rattle.std.proofs.lemmas.Nat.{pow-add, pow_pos, mod-pow-add, shl-shr, shr_below, or_shifted, mod_low}
 use Rattle.std.specs.Int.Bits.{or_shifted_r, or_self}
-use Rattle.std.proofs.lemmas.List.{length-append, length-replicate, length-take-le, length-drop}
+use Rattle.std.proofs.lemmas.List.{length-replicate, length-take-le, length-drop}
 use Rattle.numeric.specs.Bits.{ibits, of_ibits}
 use Rattle.numeric.specs.Integers.{shifted_left, shifted_right, rotated_left, rotated_right}
 use Rattle.numeric.proofs.BitLists.{length-ibits, of_ibits-append, of_ibits-take, of_ibits-drop, of_ibits-zeros, of_ibits-ones}

@@ -1,5 +1,5 @@
 -- The signed reading of integers, and that of the machine's signed types.
-use Rattle.std.proofs.Common.{◌≡◌, ℕ, zero, suc, ◌+◌, ◌-◌, ◌*◌, ◌/◌, ◌%◌, ◌^◌, ◌<◌, ◌≤◌, ◌⊎◌, inl, inr, Bool, true, false, refl, sym, ap, ap₂, ◌∙◌, subst, arith}
+use Rattle.std.proofs.Common.{◌≡◌, ℕ, zero, suc, ◌+◌, ◌-◌, ◌*◌, ◌/◌, ◌%◌, ◌^◌, ◌<◌, ◌≤◌, inl, inr, Bool, true, false, refl, ap, ◌∙◌, subst, arith}
 use Rattle.std.specs.Prelude.{cond, nat_lt, ℤ, pos, negsuc, ◌-ℤ◌}
 use Rattle.std.specs.Int.{Width, w8, w16, w32, w64, w128, cast_signed, cast_unsigned}
 use Rattle.std.proofs.lemmas.Int.{ints, of_z-to_z}

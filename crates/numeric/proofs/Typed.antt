@@ -6,13 +6,12 @@ use Rattle.types.specs.declared.value.ValType.{ValType}
 use Rattle.types.specs.declared.value.ValType.TheVariants as types
 use Rattle.types.specs.declared.value.Value.{Value}
 use Rattle.types.specs.declared.value.Value.TheVariants as values
-use Rattle.types.specs.declared.operators.ConvertOp.{ConvertOp}
 use Rattle.types.specs.declared.operators.ConvertOp.TheVariants as convert
 use Rattle.types.specs.declared.operators.NumericInstr.{NumericInstr}
 use Rattle.types.specs.declared.operators.NumericInstr.TheVariants as instrs
 use Rattle.numeric.specs.Integers.{ieqz, wrap, extend_u, extend_s}
-use Rattle.numeric.specs.Results.{width, value_of, unary_result, binary_result, compare_result, NumericResult, Lacks, Traps, Gives, with_integer, with_two, given, numeric_result}
-use Rattle.numeric.specs.Signatures.{takes, gives, result_type, converts_from}
+use Rattle.numeric.specs.Results.{width, value_of, unary_result, binary_result, compare_result, NumericResult, Traps, Gives, with_integer, with_two, given, numeric_result}
+use Rattle.numeric.specs.Signatures.{takes, result_type}
 use Rattle.numeric.specs.Laws.{HasTypes, TypedResults, onto, BelowStays}
 
 -- what an instruction makes of operands, with others below them

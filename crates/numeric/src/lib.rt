@@ -1,7 +1,6 @@
 //! The numeric instructions (Core specification 1.0, section 4.3): each operator on integers of 32 and of 64 bits.
 #![tactic(auto)]
 
-mod compare;
 mod convert;
 #[cfg(test)]
 mod expected;
@@ -11,8 +10,7 @@ mod narrow;
 mod tests;
 mod wide;
 
-pub use compare::{i32_compare, i32_eqz, i64_compare, i64_eqz};
 pub use convert::{i32_wrap_i64, i64_extend_i32_s, i64_extend_i32_u};
 pub use laws::{below_stays, typed_results, unsigned_of_signed};
-pub use narrow::{i32_binary, i32_unary};
-pub use wide::{i64_binary, i64_unary};
+pub use narrow::{i32_binary, i32_compare, i32_eqz, i32_unary};
+pub use wide::{i64_binary, i64_compare, i64_eqz, i64_unary};

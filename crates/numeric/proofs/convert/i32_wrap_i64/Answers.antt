@@ -1,4 +1,3 @@
-use Rattle.std.proofs.Common.{sym, arith}
 use Rattle.std.proofs.lemmas.Nat.{and_mask}
 use Rattle.numeric.specs.Integers.{wrap}
 use Rattle.numeric.proofs.convert.i32_wrap_i64.Goals as goal

@@ -1,4 +1,4 @@
-use Rattle.std.proofs.Common.{rules, sym, arith}
+use Rattle.std.proofs.Common.{rules}
 use Rattle.numeric.specs.Integers.{extend_u}
 use Rattle.numeric.proofs.convert.i64_extend_i32_u.Goals as goal
 

@@ -1,8 +1,8 @@
 use Rattle.std.proofs.Common.{arith}
 use Rattle.std.specs.Int.{w32}
 use Rattle.types.specs.declared.operators.CompareOp.TheVariants as compare
-use Rattle.numeric.proofs.compare.i32_compare.Goals as goal
-use Rattle.numeric.proofs.compare.i32_compare.Goals.{in-Eq, in-Ne, in-LtS, in-LtU, in-GtS, in-GtU, in-LeS, in-LeU, in-GeS, in-GeU}
+use Rattle.numeric.proofs.narrow.i32_compare.Goals as goal
+use Rattle.numeric.proofs.narrow.i32_compare.Goals.{in-Eq, in-Ne, in-LtS, in-LtU, in-GtS, in-GtU, in-LeS, in-LeU, in-GeS, in-GeU}
 use Rattle.numeric.proofs.Comparing.{compared}
 
 pub returns : goal.returns
