@@ -1,0 +1,5 @@
+pub mod Bits
+pub mod Integers
+pub mod Results
+pub mod Signatures
+pub mod Laws
