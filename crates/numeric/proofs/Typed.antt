@@ -11,12 +11,12 @@ use Rattle.types.specs.declared.operators.NumericInstr.{NumericInstr}
 use Rattle.types.specs.declared.operators.NumericInstr.TheVariants as instrs
 use Rattle.numeric.specs.Integers.{ieqz, wrap, extend_u, extend_s}
 use Rattle.numeric.specs.Results.{width, value_of, unary_result, binary_result, compare_result, NumericResult, Traps, Gives, with_integer, with_two, given, numeric_result}
-use Rattle.numeric.specs.Signatures.{takes, result_type}
+use Rattle.typing.specs.Typing.{numeric_takes, numeric_gives}
 use Rattle.numeric.specs.Laws.{HasTypes, TypedResults, onto, BelowStays}
 
 -- what an instruction makes of operands, with others below them
 pub data Works (n : NumericInstr) (operands low : List Value) (below : List ValType) : Type 0 where
-  Leaves : (v : Value) (rest : List Value) → numeric_result n operands ≡ Gives v rest → numeric_result n (operands ++ low) ≡ Gives v (rest ++ low) → type_of v ≡ result_type n → map type_of rest ≡ below → Works n operands low below
+  Leaves : (v : Value) (rest : List Value) → numeric_result n operands ≡ Gives v rest → numeric_result n (operands ++ low) ≡ Gives v (rest ++ low) → type_of v ≡ numeric_gives n → map type_of rest ≡ below → Works n operands low below
   Trapped : (trap : Trap) → numeric_result n operands ≡ Traps trap → numeric_result n (operands ++ low) ≡ Traps trap → Works n operands low below
 
 -- an operand of a type on top
@@ -42,7 +42,7 @@ type_of-value_of types.I32 i = refl
 type_of-value_of types.I64 i = refl
 
 -- an instruction on one operand
-on_one : (n : NumericInstr) (t : ValType) (answer : ℕ → Value) → ((operands : List Value) → numeric_result n operands ≡ with_integer t operands (λ i rest. Gives (answer i) rest)) → ((i : ℕ) → type_of (answer i) ≡ result_type n) →
+on_one : (n : NumericInstr) (t : ValType) (answer : ℕ → Value) → ((operands : List Value) → numeric_result n operands ≡ with_integer t operands (λ i rest. Gives (answer i) rest)) → ((i : ℕ) → type_of (answer i) ≡ numeric_gives n) →
     (operands low : List Value) (below : List ValType) → map type_of operands ≡ t ∷ below → Works n operands low below
 on_one n t answer meaning typed operands low below h =
     let a = top t operands below h in
@@ -54,12 +54,12 @@ on_one n t answer meaning typed operands low below h =
     a.typed)
 
 -- what an operator gave
-on_given : (n : NumericInstr) (t : ValType) (r : Result ℕ Trap) (operands rest low : List Value) (below : List ValType) → result_type n ≡ t → numeric_result n operands ≡ given t r rest → numeric_result n (operands ++ low) ≡ given t r (rest ++ low) → map type_of rest ≡ below → Works n operands low below
+on_given : (n : NumericInstr) (t : ValType) (r : Result ℕ Trap) (operands rest low : List Value) (below : List ValType) → numeric_gives n ≡ t → numeric_result n operands ≡ given t r rest → numeric_result n (operands ++ low) ≡ given t r (rest ++ low) → map type_of rest ≡ below → Works n operands low below
 on_given n t (Ok i) operands rest low below is p q h = Leaves (value_of t i) rest p q (type_of-value_of t i ∙ sym is) h
 on_given n t (Err trap) operands rest low below is p q h = Trapped trap p q
 
 -- an instruction on two operands, the second on top
-on_two : (n : NumericInstr) (t u : ValType) (answer : ℕ → ℕ → Result ℕ Trap) → result_type n ≡ u → ((operands : List Value) → numeric_result n operands ≡ with_two t operands (λ i j rest. given u (answer i j) rest)) →
+on_two : (n : NumericInstr) (t u : ValType) (answer : ℕ → ℕ → Result ℕ Trap) → numeric_gives n ≡ u → ((operands : List Value) → numeric_result n operands ≡ with_two t operands (λ i j rest. given u (answer i j) rest)) →
     (operands low : List Value) (below : List ValType) → map type_of operands ≡ t ∷ (t ∷ below) → Works n operands low below
 on_two n t u answer is meaning operands low below h =
     let b = top t operands (t ∷ below) h in
@@ -71,7 +71,7 @@ on_two n t u answer is meaning operands low below h =
     (meaning (value_of t b.integer ∷ (value_of t a.integer ∷ (a.rest ++ low))) ∙ taken t b.integer (value_of t a.integer ∷ (a.rest ++ low)) _ ∙ taken t a.integer (a.rest ++ low) _)
     a.typed)
 
-pub works : (n : NumericInstr) (operands low : List Value) (below : List ValType) → map type_of operands ≡ takes n ++ below → Works n operands low below
+pub works : (n : NumericInstr) (operands low : List Value) (below : List ValType) → map type_of operands ≡ numeric_takes n ++ below → Works n operands low below
 works (instrs.Const v) operands low below h = Leaves v operands refl refl refl h
 works (instrs.Unary t op) operands low below h = on_one (instrs.Unary t op) t (λ i. value_of t (unary_result (width t) op i)) (λ operands. refl) (λ i. type_of-value_of t _) operands low below h
 works (instrs.Binary t op) operands low below h = on_two (instrs.Binary t op) t t (binary_result (width t) op) refl (λ operands. refl) operands low below h

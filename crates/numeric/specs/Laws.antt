@@ -6,7 +6,7 @@ use Rattle.types.specs.declared.value.Value.{Value}
 use Rattle.types.specs.declared.operators.NumericInstr.{NumericInstr}
 use Rattle.numeric.specs.Integers.{signed, unsigned}
 use Rattle.numeric.specs.Results.{NumericResult, Lacks, Traps, Gives, numeric_result}
-use Rattle.numeric.specs.Signatures.{takes, gives}
+use Rattle.typing.specs.Typing.{numeric_takes, numeric_gives}
 
 -- The integer that stands for the signed number of an integer is that integer.
 abbrev pub UnsignedOfSigned : Type 0
@@ -16,12 +16,12 @@ UnsignedOfSigned = (N i : ℕ) → 0 < N → i < 2 ^ N → unsigned N (signed N 
 abbrev pub HasTypes : NumericInstr → List ValType → NumericResult → Type 0
 HasTypes n below Lacks = ⊥
 HasTypes n below (Traps trap) = ⊤
-HasTypes n below (Gives v rest) = type_of v ∷ map type_of rest ≡ gives n ++ below
+HasTypes n below (Gives v rest) = type_of v ∷ map type_of rest ≡ numeric_gives n ∷ below
 
 -- On operands of the types that it takes, with any below them, an instruction lacks nothing, and gives what its type says.
 abbrev pub TypedResults : Type 0
 TypedResults =
-    (n : NumericInstr) (operands : List Value) (below : List ValType) → map type_of operands ≡ takes n ++ below → HasTypes n below (numeric_result n operands)
+    (n : NumericInstr) (operands : List Value) (below : List ValType) → map type_of operands ≡ numeric_takes n ++ below → HasTypes n below (numeric_result n operands)
 
 -- The same result, with further operands below.
 abbrev pub onto : List Value → NumericResult → NumericResult
@@ -32,4 +32,4 @@ onto low (Gives v rest) = Gives v (rest ++ low)
 -- What lies below the operands that an instruction takes changes nothing, and stays.
 abbrev pub BelowStays : Type 0
 BelowStays =
-    (n : NumericInstr) (operands low : List Value) (below : List ValType) → map type_of operands ≡ takes n ++ below → numeric_result n (operands ++ low) ≡ onto low (numeric_result n operands)
+    (n : NumericInstr) (operands low : List Value) (below : List ValType) → map type_of operands ≡ numeric_takes n ++ below → numeric_result n (operands ++ low) ≡ onto low (numeric_result n operands)

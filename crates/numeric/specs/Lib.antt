@@ -1,5 +1,4 @@
 pub mod Bits
 pub mod Integers
 pub mod Results
-pub mod Signatures
 pub mod Laws
