@@ -16,11 +16,7 @@ use types::{Sequence, ValType};
 use typing::{Fault, Target};
 
 /// The label with this index: of the innermost block, or of one around it.
-fn find_label(
-    block: &OpenBlock,
-    outer: &[OpenBlock],
-    index: u32,
-) -> Result<BlockLabel, Problem>
+fn find_label(block: &OpenBlock, outer: &[OpenBlock], index: u32) -> Result<BlockLabel, Problem>
     ensures { IfOk result (λ l. slice_get (labels_at block.now outer.now) index ≡ Some (as_label l)) }
 {
     let index = index as usize;
@@ -126,21 +122,21 @@ pub fn check_br_table(
     block: &mut OpenBlock,
     outer: &[OpenBlock],
     indices: &Sequence<u32>,
-    default: u32,
+    default_index: u32,
     row: &mut Vec<Target>,
 ) -> Result<(), Problem>
     requires { row.old.items ≡ [] }
-    ensures { OnOk result (Checked (context_of scope.now) (labels_at block.old outer.now) (plain.BrTable indices.now default) block.old block.new row.new.items) }
+    ensures { OnOk result (Checked (context_of scope.now) (labels_at block.old outer.now) (plain.BrTable indices.now default_index) block.old block.new row.new.items) }
 {
-    let label = find_label(block, outer, default)?;
+    let default = find_label(block, outer, default_index)?;
     let indices = indices.as_slice();
     for index in indices {
         find_label(block, outer, *index)?;
     }
-    table_row(block, outer, indices, label, row)?;
-    row.push(label.target())?;
+    table_row(block, outer, indices, default, row)?;
+    row.push(default.target())?;
     take_one(block, ValType::I32)?;
-    take_result(block, label.carries)?;
+    take_result(block, default.carries)?;
     stop(block);
     Ok(())
 }

@@ -20,10 +20,16 @@ fn replace_numbers(block: &mut OpenBlock, instr: NumericInstr) -> Result<(), Pro
         NumericInstr::Binary(t, _) => replace(block, &[t, t], Some(t)),
         NumericInstr::Test(t) => replace(block, &[t], Some(ValType::I32)),
         NumericInstr::Compare(t, _) => replace(block, &[t, t], Some(ValType::I32)),
-        NumericInstr::Convert(ConvertOp::WrapI64) =>
-            replace(block, &[ValType::I64], Some(ValType::I32)),
-        NumericInstr::Convert(ConvertOp::ExtendI32S | ConvertOp::ExtendI32U) =>
-            replace(block, &[ValType::I32], Some(ValType::I64)),
+        NumericInstr::Convert(ConvertOp::WrapI64) => replace(
+            block,
+            &[ValType::I64],
+            Some(ValType::I32),
+        ),
+        NumericInstr::Convert(ConvertOp::ExtendI32S | ConvertOp::ExtendI32U) => replace(
+            block,
+            &[ValType::I32],
+            Some(ValType::I64),
+        ),
     }
 }
 

@@ -7,9 +7,7 @@ ghost use Rattle.bodies.specs.Scope.{context_of};
 use crate::block::OpenBlock;
 use crate::branches::{check_br, check_br_if, check_br_table, check_return, check_unreachable};
 use crate::calls::{check_call, check_call_indirect};
-use crate::memory::{
-    check_atomic, check_load, check_memory_grow, check_memory_size, check_store,
-};
+use crate::memory::{check_atomic, check_load, check_memory_grow, check_memory_size, check_store};
 use crate::numeric::check_numeric;
 use crate::parametric::{check_drop, check_fence, check_nop, check_select};
 use crate::problem::Problem;
@@ -36,8 +34,9 @@ pub fn check_plain(
         PlainInstr::Nop => check_nop(block),
         PlainInstr::Br(index) => check_br(scope, block, outer, *index, row),
         PlainInstr::BrIf(index) => check_br_if(scope, block, outer, *index, row),
-        PlainInstr::BrTable(indices, default) =>
-            check_br_table(scope, block, outer, indices, *default, row),
+        PlainInstr::BrTable(indices, default) => check_br_table(
+            scope, block, outer, indices, *default, row,
+        ),
         PlainInstr::Return => check_return(scope, block),
         PlainInstr::Call(index) => check_call(scope, block, *index),
         PlainInstr::CallIndirect(index) => check_call_indirect(scope, block, *index),

@@ -4,7 +4,6 @@ use Rattle.types.specs.declared.instr.PlainInstr.TheVariants as plain
 use Rattle.typing.specs.Typing.{results_of}
 use Rattle.bodies.specs.Scope.{context_of}
 use Rattle.bodies.specs.Blocks.{labels_at, as_label}
-
 use Rattle.bodies.proofs.Labels.{types_at, row_first}
 use Rattle.bodies.proofs.Moves.{takes_then, moved}
 use Rattle.bodies.proofs.Fitting.{checked_moves}
