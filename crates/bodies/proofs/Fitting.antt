@@ -1,5 +1,5 @@
 -- Instructions in a block, from what they take and put.
-use Rattle.std.proofs.Common.{◌≡◌, ℕ, List, [], ◌∷◌, ◌++◌, Option, Some, None, Bool, false, Result, OnOk, refl, sym, ◌∙◌, ap}
+use Rattle.std.proofs.Common.{◌≡◌, List, [], ◌∷◌, ◌++◌, Option, Some, None, Bool, false, Result, OnOk, refl, sym, ◌∙◌, ap}
 use Rattle.std.proofs.lemmas.Result.{on_ok_weaker}
 use Rattle.types.specs.declared.value.ValType.{ValType}
 use Rattle.types.specs.declared.value.ValType.TheVariants.{I32}
@@ -12,8 +12,8 @@ use Rattle.typing.specs.Placed.{Label, types_of, labels_of, goes_on, IsRow}
 use Rattle.bodies.specs.declared.block.Flow.TheVariants.{Free}
 use Rattle.bodies.specs.declared.block.OpenBlock.{OpenBlock}
 use Rattle.bodies.specs.declared.problem.Problem.{Problem}
-use Rattle.bodies.specs.Blocks.{is_live, Matches, Known, Takes, TakesAny, Puts, PutsAny, Moved, Checked, CheckedInside, CheckedAnywhere}
-use Rattle.bodies.proofs.Moves.{matching, known_some, moved_any}
+use Rattle.bodies.specs.Blocks.{is_live, Takes, TakesAny, Puts, PutsAny, Moved, Checked, CheckedInside, CheckedAnywhere}
+use Rattle.bodies.proofs.Moves.{matching, known_some}
 
 -- an instruction that goes on
 pub checked_moves : (c : Context) (labels : List Label) (op : PlainInstr) (takes gives : List ValType) (old new : OpenBlock) (targets : List Target) → Moved takes gives old new →

@@ -5,11 +5,11 @@ use Rattle.std.proofs.lemmas.Result.{on_ok_weaker}
 use Rattle.bodies.specs.declared.problem.Problem.{Problem}
 use Rattle.std.proofs.lemmas.List.{take_more, map-append, reverse-append}
 use Rattle.types.specs.declared.value.ValType.{ValType}
-use Rattle.types.specs.declared.value.ValType.TheVariants.{I32, I64}
+use Rattle.types.specs.declared.value.ValType.TheVariants.{I32}
 use Rattle.bodies.specs.declared.block.Flow.{Flow}
 use Rattle.bodies.specs.declared.block.Flow.TheVariants.{Live, Idle, Free}
 use Rattle.bodies.specs.declared.block.OpenBlock.{OpenBlock}
-use Rattle.bodies.specs.Blocks.{Matches, MayHave, Known, Takes, TakesAny, Puts, PutsAny, Moved}
+use Rattle.bodies.specs.Blocks.{Matches, MayHave, Known, Takes, Puts, Moved}
 
 -- some type fits what is known of an operand
 pub matching : (k : Option ValType) → (t : ValType) × Matches k t
@@ -67,10 +67,6 @@ moved_after ts us gs a b c x y = record {
       let p = y.known ws k in
       (ts ++ p.0, x.known p.0 p.1, (p.2.0, ap (λ (r : List ValType). ts ++ r) p.2.1 ∙ sym (append_assoc ts us p.2.0), p.2.2));
 }
-
--- an operand of a known type, and of any
-pub moved_any : (k : Option ValType) (a b : OpenBlock) → TakesAny k a b → (t : ValType) → Matches k t → Takes (t ∷ []) a b
-moved_any k a b x t m = record { shape = x.shape; flow = x.flow; known = λ us h. x.known t us m h }
 
 pub takes_more : (xs : List ValType) (i : ℕ) (d : ValType) (a b c : OpenBlock) → i < length xs → Takes (take i xs) a b → Takes (get_or xs i d ∷ []) b c → Takes (take (i + 1) xs) a c
 takes_more xs i d a b c h x y = rw (take_more xs i d h) (takes_then (take i xs) (get_or xs i d ∷ []) a b c x y)

@@ -1,5 +1,4 @@
-use Rattle.std.proofs.Common.{refl, [], ◌∷◌, ◌++◌}
-use Rattle.types.specs.declared.value.ValType.TheVariants.{I32}
+use Rattle.std.proofs.Common.{refl}
 use Rattle.types.specs.declared.instr.PlainInstr.TheVariants as plain
 use Rattle.typing.specs.Typing.{results_of}
 use Rattle.bodies.specs.Scope.{context_of}

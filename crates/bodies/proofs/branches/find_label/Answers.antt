@@ -1,4 +1,4 @@
-use Rattle.std.proofs.Common.{rules, ◌≡◌, ◌≢◌, ◌≤◌, length, arith}
+use Rattle.std.proofs.Common.{rules}
 use Rattle.bodies.proofs.Labels.{label_around}
 use Rattle.bodies.proofs.branches.find_label.Goals as goal
 

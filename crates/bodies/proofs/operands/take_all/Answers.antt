@@ -1,7 +1,5 @@
-use Rattle.std.proofs.Common.{◌≡◌, ◌≤◌, take, length, arith}
+use Rattle.std.proofs.Common.{◌≡◌, take, arith}
 use Rattle.std.proofs.lemmas.List.{take_all}
-use Rattle.types.specs.declared.value.ValType.{ValType}
-use Rattle.bodies.specs.Blocks.{Takes}
 use Rattle.bodies.proofs.Moves.{takes_none, takes_more}
 use Rattle.bodies.proofs.operands.take_all.Goals as goal
 

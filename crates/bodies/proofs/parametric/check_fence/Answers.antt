@@ -1,4 +1,4 @@
-use Rattle.std.proofs.Common.{refl, []}
+use Rattle.std.proofs.Common.{refl}
 use Rattle.types.specs.declared.instr.PlainInstr.TheVariants as plain
 use Rattle.bodies.proofs.Fitting.{checked_nothing}
 use Rattle.bodies.proofs.parametric.check_fence.Goals as goal
