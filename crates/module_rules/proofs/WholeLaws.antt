@@ -188,6 +188,10 @@ Tells-uses m =
     Tells-then _ _ (Tells-exports m) (λ e. Tells-both _ _ (Tells-start m.start) (Tells-both _ _ (Tells-elements m)
     (Tells-both _ _ (Tells-data m) (Tells-threads m e.0))))
 
+-- each function has a type that is there, with one result at most
+pub types_kept : (m : Parts) → fault_outside m ≡ None → All IsValidType m.types × All (λ index. index < length m.types) m.functions
+types_kept m h = let n = ((Tells-both (names_fault m) (uses_fault m) (Tells-names m) (Tells-uses m)).0 h).0 in (n.0, n.1.1.0)
+
 pub valid_with_bodies : (m : Parts) → fault_outside m ≡ None → HasValidBodies m → IsValid m
 valid_with_bodies m h b =
     let w = (Tells-both (names_fault m) (uses_fault m) (Tells-names m) (Tells-uses m)).0 h in

@@ -1,7 +1,7 @@
 //! All rules outside bodies, in order.
 
-ghost use Rattle.std.specs.Prelude.{◌≡◌};
-ghost use Rattle.typing.specs.Validity.{IsValid};
+ghost use Rattle.std.specs.Prelude.{◌≡◌, ◌<◌, length, All};
+ghost use Rattle.typing.specs.Validity.{IsValid, IsValidType};
 ghost use Rattle.module_rules.specs.Spaces.{IsSpacesOf};
 ghost use Rattle.module_rules.specs.Exported.{HasValidBodies};
 ghost use Rattle.module_rules.specs.Faults.{start_fault, names_fault, uses_fault, fault_outside};
@@ -50,10 +50,12 @@ fn first_fault(parts: &Parts, spaces: &IndexSpaces) -> Option<Fault>
 
 /// The first fault of a module outside the bodies of its functions. There is none exactly where the module is valid but
 /// for its bodies.
-#[tactic(auto, using(crate::proofs::WholeLaws::valid_with_bodies, crate::proofs::WholeLaws::no_fault))]
+#[tactic(auto, using(crate::proofs::WholeLaws::valid_with_bodies, crate::proofs::WholeLaws::no_fault, crate::proofs::WholeLaws::types_kept))]
 pub fn fault_outside_bodies(parts: &Parts, spaces: &IndexSpaces) -> Option<Fault>
     requires { IsSpacesOf parts.now spaces.now }
     ensures first { result ≡ fault_outside parts.now }
+    ensures types { result ≡ None → All IsValidType parts.now.types }
+    ensures functions { result ≡ None → All (λ index. index < length parts.now.types) parts.now.functions }
     ensures sound { result ≡ None → HasValidBodies parts.now → IsValid parts.now }
     ensures complete { IsValid parts.now → result ≡ None }
 {
