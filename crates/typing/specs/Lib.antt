@@ -6,3 +6,4 @@ pub mod Validity
 pub mod Image
 pub mod Faults
 pub mod Tabled
+pub mod Nested

@@ -6,9 +6,11 @@
 #![tactic(auto)]
 
 mod fault;
+mod laws;
 mod table;
 mod target;
 
 pub use fault::{Fault, Place, ValidFault};
+pub use laws::expression_stands_for_one_nesting;
 pub use table::Table;
 pub use target::Target;
