@@ -6,8 +6,8 @@ use types::{
     Body, Export, ExportDesc, FuncType, Import, ImportDesc, Instr, Limits, Module, Name, Parts,
     Sequence,
 };
-use validate::validate;
 use typing::Fault;
+use validate::validate;
 
 /// A module without anything.
 pub fn empty(alloc: Global) -> Parts {

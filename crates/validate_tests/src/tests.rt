@@ -21,11 +21,13 @@ fn answer(alloc: Global, bytes: &[u8]) -> Result<Answer, Fail> {
         Ok(_) => Ok(Answer::Valid),
         Err(ValidFault::OutOfMemory) => Err("no memory to validate".into()),
         Err(ValidFault::Outside(kind)) => Ok(Answer::Outside(kind)),
-        Err(ValidFault::InBody {
-            kind,
-            function,
-            instruction,
-        }) => Ok(Answer::InBody(kind, function, instruction)),
+        Err(
+            ValidFault::InBody {
+                kind,
+                function,
+                instruction,
+            },
+        ) => Ok(Answer::InBody(kind, function, instruction)),
     }
 }
 
@@ -56,8 +58,14 @@ fn a_shared_memory_has_a_maximum(rt: HostRuntime) -> Result<(), Fail> {
         shared: true,
     };
     let fault = Some(Fault::SharedWithoutMaximum);
-    assert_eq!(rt; fault_of(rt.alloc(), with_memory(rt.alloc(), limits)?)?, fault);
-    assert_eq!(rt; fault_of(rt.alloc(), with_imported_memory(rt.alloc(), limits)?)?, fault);
+    assert_eq!(rt;
+        fault_of(rt.alloc(), with_memory(rt.alloc(), limits)?)?,
+        fault
+    );
+    assert_eq!(rt;
+        fault_of(rt.alloc(), with_imported_memory(rt.alloc(), limits)?)?,
+        fault
+    );
     Ok(())
 }
 
@@ -134,7 +142,11 @@ fn counts_imported_functions(rt: HostRuntime) -> Result<(), Fail> {
     assert_eq!(rt; module.exported("wasi_thread_start"), Some(0));
     assert_eq!(rt; module.exported("memory"), None);
     assert!(rt; module.body(0).is_some_and(|body| body.code.len() == 4));
-    assert!(rt; module.func_type(0).is_some_and(|func_type| func_type.params.len() == 2));
+    assert!(rt;
+        module
+            .func_type(0)
+            .is_some_and(|func_type| func_type.params.len() == 2)
+    );
     assert!(rt; module.table(1).is_none());
     assert_eq!(rt; module.target(0, 0, 0), None);
     Ok(())
