@@ -6,8 +6,8 @@ use Rattle.wire.specs.declared.fault.ReadFault.TheVariants.{OutOfMemory as ReadO
 use Rattle.typing.specs.Validity.{IsValid}
 use Rattle.binary.specs.Grammar.{IsModuleText}
 use Rattle.report.specs.Lines.{functions_line}
-use Rattle.report.specs.declared.load.Refusal.{Refusal}
-use Rattle.report.specs.declared.load.Refusal.TheVariants.{Read, Validity}
+use Rattle.report.specs.declared.loading.Refusal.{Refusal}
+use Rattle.report.specs.declared.loading.Refusal.TheVariants.{Read, Validity}
 use Rattle.report.specs.declared.command_line.Job.{Job}
 use Rattle.report.specs.declared.command_line.Job.TheVariants.{Check, Run}
 

@@ -6,7 +6,7 @@ ghost use Rattle.report.specs.Jobs.{IsAccepted};
 
 use crate::command_line::Job;
 use crate::first_path::{FirstFault, first, is_first_module};
-use crate::load::{Refusal, load};
+use crate::loading::{Refusal, load};
 use std::alloc::Global;
 use std::io::{self, Write};
 use typing::ValidFault;
@@ -88,11 +88,13 @@ fn refuse<E: Write>(err: &mut E, refusal: Refusal) -> u8
             let number = kind.number();
             let _ = write!(err, "module refused: validity {number}\n");
         }
-        Refusal::Validity(ValidFault::InBody {
-            kind,
-            function,
-            instruction,
-        }) => {
+        Refusal::Validity(
+            ValidFault::InBody {
+                kind,
+                function,
+                instruction,
+            },
+        ) => {
             let number = kind.number();
             let _ = write!(
                 err,

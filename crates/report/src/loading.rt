@@ -32,7 +32,10 @@ pub fn load(alloc: Global, bytes: &[u8]) -> Result<ValidModule, Refusal>
 {
     let module = match read(alloc, bytes) {
         Ok(module) => module,
-        Err(fault) => return Err(Refusal::Read(fault)),
+        Err(ReadFault::OutOfMemory) => return Err(Refusal::Read(ReadFault::OutOfMemory)),
+        Err(ReadFault::Malformed { kind, offset }) => {
+            return Err(Refusal::Read(ReadFault::Malformed { kind, offset }));
+        }
     };
     match validate(alloc, module) {
         Ok(valid) => Ok(valid),
