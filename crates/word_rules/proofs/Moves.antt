@@ -24,7 +24,7 @@ use Rattle.seats.proofs.Totals.{total-push}
 use Rattle.seats.proofs.Seating.{seated-split, seated-join, seated-change, seated-push, seated-meet, seated-open}
 use Rattle.word_rules.specs.Words.{words_of, IsStored}
 use Rattle.word_rules.specs.Answers.{end_of, is_access, place_of, size_answer, word_answer, Makes, exchange_answer}
-use Rattle.word_rules.specs.Rule.{Kept, opened, list_after, Steps, StepsAs, IsEmpty}
+use Rattle.word_rules.specs.Rule.{Kept, MayTry, opened, list_after, Steps, StepsAs, IsEmpty}
 use Rattle.word_rules.proofs.Words.{set_back}
 use Rattle.word_rules.proofs.Memories.{Outlasts, outlasts}
 use Rattle.word_rules.proofs.Settling.{Settles, size_settles, word_settles, exchange_settles}
@@ -45,12 +45,6 @@ pub joins : (m : Memory) (id : ℕ) (v : View) (other : ℕ) (w : View) → Join
 joins m id v other w s r at apart there =
     record { log = r.log; stored = r.stored; seen = r.seen; words = r.words; seated = seated-join 0 r.log s.views id v other w r.seated at apart there }
 
--- What a caller may try: an event that meets its conditions, and one of the queue only with the queue right.
-pub record MayTry (c : Caller) (event : Event) : Type 0 where
-  pub known : c.name ≤ 16
-  pub is : IsEvent event
-  pub right : is_of_queue event ≡ true → c.has_queue_right ≡ true
-
 -- the history with one entry more is seen
 seen-entry : (m : Memory) (log : L) (c : Caller) (event : Event) (reply : Reply) → MayTry c event → IsSeen m log → reply ≡ reply_of (memory_after m log) event
     → IsSeen m (log ++ entry c.name event reply ∷ [])
@@ -66,7 +60,7 @@ SettlesAll opening c event answer place makes =
     → let found = get_or (words_of later) place 0 in Settles later event (answer found) place (makes found)
 
 -- what the caller has seen of the memory is no longer than what there is
-later_than : (m : Memory) (c : Caller) (log : L) → IsStored m → AreEntries log → GoesOn c log → length (memory_after m c.seen).bytes ≤ length (memory_after m log).bytes
+pub later_than : (m : Memory) (c : Caller) (log : L) → IsStored m → AreEntries log → GoesOn c log → length (memory_after m c.seen).bytes ≤ length (memory_after m log).bytes
 later_than m c log s all goes =
     let split : log ≡ c.seen ++ goes.0 = goes.1.list in
     let entries : AreEntries (c.seen ++ goes.0) = subst AreEntries split all in

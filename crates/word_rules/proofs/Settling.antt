@@ -3,7 +3,7 @@ use Rattle.std.proofs.Common.{◌≡◌, ◌≢◌, ℕ, zero, suc, ◌+◌, ◌
 use Rattle.std.specs.Prelude.{nat_le}
 use Rattle.std.specs.List.{splice}
 use Rattle.std.proofs.lemmas.Bool.{leb-true, leb-false}
-use Rattle.std.proofs.lemmas.List.{length-drop}
+use Rattle.std.proofs.lemmas.List.{length-drop, take_more}
 use prog.Atomic.{either}
 use Rattle.types.specs.declared.event.Event.{Event}
 use Rattle.types.specs.declared.event.Event.TheVariants.{Size, Grow, Load, Store, Rmw, Cmpxchg, Ask, Told}
@@ -18,7 +18,7 @@ use Rattle.lanes.proofs.Memories.{loaded_is_lane, splice_is_with_lane}
 use Rattle.word_rules.specs.Words.{data_words, words_of, IsStored}
 use Rattle.word_rules.specs.Answers.{end_of, is_access, place_of, refusal, size_answer, word_answer, Makes, made_reply, exchange_answer}
 use Rattle.word_rules.proofs.Words.{set_back, data_words-at, data_words-set, data_words-zeros, eight_bytes, AreBytes-drop}
-use Rattle.word_rules.proofs.Memories.{whole_pages, length-written, length-grown}
+use Rattle.word_rules.proofs.Memories.{whole_pages, length-written, length-grown, length-words_of}
 
 -- What a step settles of an event, where it leaves a new word at a place: the sequential memory's reply and the words
 -- after it; or nothing, and then no word changes.
@@ -147,6 +147,20 @@ words_grown m more s =
     let count : pages (grown m more) ≡ pages m + more = ap (λ n. n / 65536) long ∙ (let e : (length m.bytes + 65536 * more) / 65536 ≡ pages m + more = omega arith in e) in
     ap₂ (λ x xs. x ∷ xs) count (data_words-zeros (8192 * m.max) (length m.bytes / 8) (65536 * more) m.bytes (omega arith))
 
+-- A lane of the word that holds an address is what is loaded there.
+pub lane_is_loaded : (m : Memory) (addr width word : ℕ) → IsStored m → InWord addr width → addr + width ≤ length m.bytes → get_or (words_of m) (addr / 8 + 1) 0 ≡ word → lane_of word addr width ≡ loaded m addr width
+unfolding word_of
+lane_is_loaded m addr width word s lies within is = ap (λ w. lane_of w addr width) (sym is) ∙ loaded_is m addr width s lies within
+
+-- The words of a memory, one by one.
+pub words_of-more : (m : Memory) (k : ℕ) → k < 8192 * m.max → take (k + 1 + 1) (words_of m) ≡ take (k + 1) (words_of m) ++ le_number (take 8 (drop (8 * k) m.bytes)) ∷ []
+words_of-more m k h =
+    let ws : List ℕ = words_of m in
+    let long : k + 1 < length ws = omega (arith, length-words_of m) in
+    let word : get_or ws (k + 1) 0 ≡ le_number (take 8 (drop (8 * k) m.bytes)) =
+    next_place (data_words (8192 * m.max) m.bytes) (pages m) k ∙ data_words-at (8192 * m.max) k m.bytes h ∙ ap (λ n. le_number (take 8 (drop n m.bytes))) (let e : k * 8 ≡ 8 * k = omega arith in e) in
+    take_more ws (k + 1) 0 long ∙ ap (λ w. take (k + 1) ws ++ w ∷ []) word
+
 -- The place of a word is one of the memory's words.
 pub place_within : (m : Memory) (event : Event) → IsStored m → IsEvent event → end_of event ≤ length m.bytes → place_of event < 8192 * m.max + 1
 place_within m Size s is h = omega arith
@@ -271,6 +285,65 @@ touched_is m Size s is h may = absurd (true≢false (sym may))
 touched_is m (Load addr width reach) s is h may = absurd (true≢false (sym may))
 touched_is m (Ask question) s is h may = absurd (true≢false (sym may))
 touched_is m (Told answer) s is h may = absurd (true≢false (sym may))
+
+-- What a compare-exchange expects was there.
+pub expected_there : (m : Memory) (addr width expected replacement max old new : ℕ) → IsStored m → IsEvent (Cmpxchg addr width expected replacement) → addr + width ≤ length m.bytes
+    → Makes max (Cmpxchg addr width expected replacement) old new → get_or (words_of m) (addr / 8 + 1) 0 ≡ old → loaded m addr width ≡ expected
+unfolding word_of
+expected_there m addr width expected replacement max old new s is h makes found =
+    sym (loaded_is m addr width s (atomic_in_word addr width is.0) h) ∙ ap (λ w. lane_of w addr width) found ∙ makes.0
+
+pub makes_may_lose : (max : ℕ) (event : Event) (old new : ℕ) → Makes max event old new → may_lose event ≡ true
+makes_may_lose max Size old new makes = elim makes [ ]
+makes_may_lose max (Grow more) old new makes = refl
+makes_may_lose max (Load addr width reach) old new makes = elim makes [ ]
+makes_may_lose max (Store addr width reach value) old new makes = refl
+makes_may_lose max (Rmw op addr width value) old new makes = refl
+makes_may_lose max (Cmpxchg addr width expected replacement) old new makes = refl
+makes_may_lose max (Ask question) old new makes = elim makes [ ]
+makes_may_lose max (Told answer) old new makes = elim makes [ ]
+
+-- What the page count leaves open is a growth within the maximum, or an access within bounds.
+
+left_open : (end count : ℕ) → refusal end count ≡ None → end ≤ 65536 * count
+left_open end count e = by_test (nat_le end (65536 * count)) refl e
+  where
+    by_test : (b : Bool) → nat_le end (65536 * count) ≡ b → cond b None (Some OutOfBounds) ≡ None → end ≤ 65536 * count
+    by_test true t e = leb-true end (65536 * count) t
+    by_test false t e = absurd (cc (e))
+
+pub open_within : (max : ℕ) (event : Event) (count : ℕ) → size_answer max event count ≡ None → end_of event ≤ 65536 * count
+open_within max Size count e = omega arith
+open_within max (Grow more) count e = omega arith
+open_within max (Load addr width reach) count e = left_open reach count e
+open_within max (Store addr width reach value) count e = left_open reach count e
+open_within max (Rmw op addr width value) count e = left_open (addr + width) count e
+open_within max (Cmpxchg addr width expected replacement) count e = left_open (addr + width) count e
+open_within max (Ask (Wait addr width expected timeout)) count e = left_open (addr + width) count e
+open_within max (Ask (Notify addr woken)) count e = absurd (cc (e))
+open_within max (Ask (Spawn arg)) count e = omega arith
+open_within max (Ask Leave) count e = omega arith
+open_within max (Told answer) count e = omega arith
+
+pub open_growth : (max more count : ℕ) → size_answer max (Grow more) count ≡ None → count + more ≤ max
+open_growth max more count e = by_test (nat_le (count + more) max) refl e
+  where
+    by_test : (b : Bool) → nat_le (count + more) max ≡ b → cond b None (Some (Value 4294967295)) ≡ None → count + more ≤ max
+    by_test true t e = leb-true (count + more) max t
+    by_test false t e = absurd (cc (e))
+
+pub open_access : (max : ℕ) (event : Event) (count : ℕ) → size_answer max event count ≡ None → ((more : ℕ) → event ≢ Grow more) → is_access event ≡ true
+open_access max Size count e other = absurd (cc (e))
+open_access max (Grow more) count e other = absurd (other more refl)
+open_access max (Load addr width reach) count e other = refl
+open_access max (Store addr width reach value) count e other = refl
+open_access max (Rmw op addr width value) count e other = refl
+open_access max (Cmpxchg addr width expected replacement) count e other = refl
+open_access max (Ask (Wait addr width expected timeout)) count e other = refl
+open_access max (Ask (Notify addr woken)) count e other = absurd (cc (e))
+open_access max (Ask (Spawn arg)) count e other = absurd (cc (e))
+open_access max (Ask Leave) count e other = absurd (cc (e))
+open_access max (Told answer) count e other = absurd (cc (e))
 
 -- No word settles that a try was lost or that a log is full.
 

@@ -1,11 +1,12 @@
 -- The rule of the row of words, and what its steps tell.
-use Rattle.std.specs.Prelude.{ℕ, ◌≡◌, false, List, [], ◌∷◌, ◌++◌, Option, Some, None, slice_index}
+use Rattle.std.specs.Prelude.{ℕ, ◌≡◌, ◌+◌, ◌*◌, ◌≤◌, true, false, List, [], ◌∷◌, ◌++◌, Option, Some, None, slice_index}
 use Rattle.atomic_table.specs.Table.{State, Me}
 use Rattle.atomic_table.specs.Seated.{TableId}
 use Rattle.types.specs.declared.event.Entry.{Entry}
 use Rattle.types.specs.declared.event.Event.{Event}
 use Rattle.types.specs.declared.event.Event.TheVariants.{Size}
 use Rattle.types.specs.declared.event.Reply.{Reply}
+use Rattle.shared_memory.specs.Events.{IsEvent, is_of_queue}
 use Rattle.shared_memory.specs.Memory.{Memory}
 use Rattle.shared_memory.specs.History.{entry, memory_after}
 use Rattle.shared_memory.specs.Access.{IsSeen}
@@ -25,9 +26,27 @@ pub record Kept (opening : Memory) (s : State ℕ View) : Type 0 where
   pub words : s.words ≡ words_of (memory_after opening log)
   pub seated : AreSeated 0 log s.views
 
+-- The words of the memory of this name: one for the page count, and one for each eight bytes of the maximum.
+pub record IsRow (table : TableId) (opening : Memory) (own : TableId) (held : Memory) : Type 0 where
+  pub same : own ≡ table
+  pub count : own.words ≡ 8192 * opening.max + 1
+  pub slots : own.slots ≡ 0
+  pub key : held ≡ opening
+  pub stored : IsStored opening
+
+-- A seat on which these callers stand.
+abbrev pub crowd : List Caller → View
+crowd callers = record { keeps = false; log = []; callers = callers }
+
 -- At first all callers stand on one seat.
 abbrev pub opened : View
-opened = record { keeps = false; log = []; callers = fresh_from 17 0 }
+opened = crowd (fresh_from 17 0)
+
+-- What a caller may try: an event that meets its conditions, and one of the queue only with the queue right.
+pub record MayTry (c : Caller) (event : Event) : Type 0 where
+  pub known : c.name ≤ 16
+  pub is : IsEvent event
+  pub right : is_of_queue event ≡ true → c.has_queue_right ≡ true
 
 -- A caller's list after a step: all that was there, and behind it the caller's entry, if the step settled its reply.
 abbrev pub list_after : ℕ → Event → Option Reply → List Entry → List Entry
