@@ -1,5 +1,5 @@
 -- What a try leaves of its caller's list, from what its steps tell.
-use Rattle.std.proofs.Common.{◌≡◌, ◌≢◌, ℕ, ◌+◌, ◌*◌, ◌/◌, ◌<◌, ◌≤◌, Bool, true, false, true≢false, cond, List, [], ◌∷◌, ◌++◌, length, take, drop, get_or, Option, Some, None, refl, sym, ap, ◌∙◌, subst, arith, append_assoc, append-nil, eqb, eq-eqb, ne_eqb}
+use Rattle.std.proofs.Common.{◌≡◌, ◌≢◌, ℕ, ◌+◌, ◌*◌, ◌<◌, ◌≤◌, Bool, true, cond, List, [], ◌∷◌, ◌++◌, length, take, drop, get_or, Option, Some, None, refl, sym, ap, ◌∙◌, subst, arith, append_assoc, eqb, ne_eqb}
 use native.Mathlib.Decide.{ℕ_discrete}
 use mathlib.Core.Logic.{dite}
 use Rattle.types.specs.declared.event.Entry.{Entry}
@@ -8,18 +8,18 @@ use Rattle.types.specs.declared.event.Event.TheVariants.{Size, Grow, Load, Store
 use Rattle.types.specs.declared.event.Reply.{Reply}
 use Rattle.types.specs.declared.event.Reply.TheVariants.{Value, Done, OutOfBounds, Again, Full}
 use Rattle.shared_memory.specs.Numbers.{le_number}
-use Rattle.shared_memory.specs.Events.{IsEvent, is_of_queue, may_lose}
+use Rattle.shared_memory.specs.Events.{IsEvent, is_of_queue}
 use Rattle.shared_memory.specs.Memory.{Memory, pages, state_after, touched}
-use Rattle.shared_memory.specs.History.{entry, entries_of, AreEntries, memory_after}
-use Rattle.shared_memory.specs.Access.{Gains, IsSeen, Answers, Changes, WasThere, WasExpected, LosesTry, IsFull, Accesses}
+use Rattle.shared_memory.specs.History.{entry, AreEntries, memory_after}
+use Rattle.shared_memory.specs.Access.{Gains, IsSeen, Answers, Changes, WasThere, WasExpected, LosesTry, Accesses}
 use Rattle.shared_memory.proofs.Histories.{memory_after-append, AreEntries-prefix}
 use Rattle.seats.specs.declared.view.Caller.{Caller}
 use Rattle.seats.specs.Callers.{GoesOn, seeing}
 use Rattle.seats.proofs.GoingOn.{none_of}
 use Rattle.word_rules.specs.Words.{words_of, IsStored}
-use Rattle.word_rules.specs.Answers.{end_of, is_access, place_of, size_answer, Makes, made_reply, exchange_answer}
+use Rattle.word_rules.specs.Answers.{end_of, place_of, size_answer, Makes, made_reply, exchange_answer}
 use Rattle.word_rules.specs.Rule.{list_after, Steps}
-use Rattle.word_rules.proofs.Memories.{outlasts, whole_pages}
+use Rattle.word_rules.proofs.Memories.{outlasts}
 use Rattle.word_rules.proofs.Settling.{IsAnswer, touched_is, expected_there, makes_may_lose, open_within, place_within}
 use Rattle.word_rules.proofs.Moves.{later_than}
 
@@ -143,7 +143,7 @@ accesses-after opening event place found c w after reply s a =
     let name : w.name ≡ c.name = ap (λ (x : Caller). x.name) s.same in
     let right : w.has_queue_right ≡ c.has_queue_right = ap (λ (x : Caller). x.has_queue_right) s.same in
     accesses-later opening c.name c.has_queue_right event c.seen s.goes_on.0 w.seen after reply s.goes_on.1
-        (subst (λ (r : Bool). Accesses true opening None c.name r event w.seen after reply) right (subst (λ (n : ℕ). Accesses true opening None n w.has_queue_right event w.seen after reply) name a))
+    (subst (λ (r : Bool). Accesses true opening None c.name r event w.seen after reply) right (subst (λ (n : ℕ). Accesses true opening None n w.has_queue_right event w.seen after reply) name a))
 
 -- What an event touches is another where it spells another number, so some entry changed it.
 changed : (m : Memory) (event : Event) (others : L) → le_number (touched (memory_after m others) event) ≢ le_number (touched m event) → Changes m event others

@@ -1,5 +1,5 @@
 -- What a read-modify-write makes of two values fits their width.
-use Rattle.std.proofs.Common.{ℕ, ◌+◌, ◌-◌, ◌*◌, ◌%◌, ◌^◌, ◌<◌, mod-lt, bit_and, arith}
+use Rattle.std.proofs.Common.{ℕ, ◌+◌, ◌-◌, ◌*◌, ◌^◌, ◌<◌, mod-lt, arith}
 use Rattle.std.proofs.lemmas.Nat.{pow_pos, and_le_r, or_lt, xor_lt}
 use Rattle.types.specs.declared.event.RmwOp.{RmwOp}
 use Rattle.types.specs.declared.event.RmwOp.TheVariants as ops

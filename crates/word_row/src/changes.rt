@@ -63,7 +63,11 @@ pub fn by_size(pages_max: u32, event: Event, pages: u64) -> Option<Reply>
             return Some(Reply::Done);
         }
     };
-    if inside { None } else { Some(Reply::OutOfBounds) }
+    if inside {
+        None
+    } else {
+        Some(Reply::OutOfBounds)
+    }
 }
 
 /// The place of the word that an event reads or changes.

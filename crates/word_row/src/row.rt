@@ -210,13 +210,7 @@ impl<B: Naming> WordRow<B> {
     }
 
     // A change of the word that is there after the list seen.
-    fn exchange(
-        &self,
-        caller: &mut Standing<B>,
-        event: Event,
-        old: u64,
-        change: Change,
-    ) -> Reply
+    fn exchange(&self, caller: &mut Standing<B>, event: Event, old: u64, change: Change) -> Reply
         requires event { IsEvent event }
         requires within { end_of event ≤ length (memory_after B.opening caller.old.seen).bytes }
         requires change { IsChange B.opening.max event old change }

@@ -5,8 +5,7 @@ ghost use Rattle.shared_memory.specs.History.{memory_after};
 ghost use Rattle.word_rules.specs.Answers.{end_of, is_access, place_of, size_answer, word_answer, Makes, exchange_answer};
 ghost use Rattle.word_rules.specs.Rule.{IsRow, Steps};
 
-use crate::changes;
-use crate::steps;
+use crate::{changes, steps};
 use seats::Place;
 use std::marker::{Brand, Model, PhantomData};
 use types::Event;

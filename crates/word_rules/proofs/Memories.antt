@@ -1,7 +1,6 @@
 -- The memory along a history: its sizes and bytes are kept, its maximum stays, and it never shrinks.
-use Rattle.std.proofs.Common.{◌≡◌, ℕ, ◌+◌, ◌-◌, ◌*◌, ◌/◌, ◌%◌, ◌<◌, ◌≤◌, Bool, true, false, cond, List, [], ◌∷◌, ◌++◌, length, take, drop, replicate, refl, sym, ap, ◌∙◌, subst, All, arith, length-append, eqb}
+use Rattle.std.proofs.Common.{◌≡◌, ℕ, ◌+◌, ◌*◌, ◌/◌, ◌%◌, ◌<◌, ◌≤◌, Bool, true, false, cond, List, [], ◌∷◌, ◌++◌, length, take, drop, replicate, refl, ap, ◌∙◌, arith, length-append, eqb}
 use Rattle.std.specs.Prelude.{nat_le}
-use Rattle.std.specs.List.{splice}
 use Rattle.std.proofs.Math.Dec.{leb}
 use Rattle.std.proofs.lemmas.Bool.{leb-true}
 use Rattle.std.proofs.lemmas.List.{length-take-le, length-drop, length-replicate}
@@ -11,12 +10,11 @@ use Rattle.types.specs.declared.event.Event.{Event}
 use Rattle.types.specs.declared.event.Event.TheVariants.{Size, Grow, Load, Store, Rmw, Cmpxchg, Ask, Told}
 use Rattle.shared_memory.specs.Numbers.{le_bytes}
 use Rattle.shared_memory.specs.Memory.{Memory, pages, loaded, written, combined, can_grow, grown, if_within, state_after}
-use Rattle.shared_memory.specs.Events.{IsEvent, IsPart}
+use Rattle.shared_memory.specs.Events.{IsEvent}
 use Rattle.shared_memory.specs.History.{IsEntry, AreEntries, memory_after}
 use Rattle.lanes.proofs.Bytes.{length-le_bytes, All-le_bytes}
-use Rattle.one_memory.specs.Opening.{IsSized}
 use Rattle.word_rules.specs.Words.{data_words, words_of, bytes_of, memory_of, IsStored}
-use Rattle.word_rules.proofs.Words.{AreBytes, AreBytes-take, AreBytes-drop, bytes_of-data_words, length-data_words}
+use Rattle.word_rules.proofs.Words.{AreBytes-take, AreBytes-drop, bytes_of-data_words, length-data_words}
 
 -- What one memory is to a later one: it has the same maximum, and no more bytes.
 pub record Outlasts (m later : Memory) : Type 0 where
@@ -95,7 +93,7 @@ outlasts-event m (Store addr width reach value) s is =
     outlasts-within m (written m addr width value) reach s (λ h. outlasts-written m addr width value s (omega arith))
 outlasts-event m (Rmw op addr width value) s is =
     outlasts-within m (written m addr width (combined op width (loaded m addr width) value)) (addr + width) s
-        (λ h. outlasts-written m addr width (combined op width (loaded m addr width) value) s h)
+    (λ h. outlasts-written m addr width (combined op width (loaded m addr width) value) s h)
 outlasts-event m (Cmpxchg addr width expected replacement) s is =
     outlasts-within m _ (addr + width) s (λ h. by_test h (eqb (loaded m addr width) expected))
   where

@@ -1,5 +1,5 @@
 -- Each move of the seats, and each step of a caller, keeps the rule.
-use Rattle.std.proofs.Common.{◌≡◌, ◌≢◌, ℕ, ◌+◌, ◌*◌, ◌-◌, ◌^◌, ◌<◌, ◌≤◌, suc, Bool, true, false, List, [], ◌∷◌, ◌++◌, length, set, get_or, Option, Some, None, refl, sym, ap, ◌∙◌, subst, ⊎_elim, arith, eqb}
+use Rattle.std.proofs.Common.{◌≡◌, ℕ, ◌+◌, ◌-◌, ◌^◌, ◌<◌, ◌≤◌, suc, true, false, List, [], ◌∷◌, ◌++◌, length, set, get_or, Option, Some, None, refl, sym, ap, ◌∙◌, subst, ⊎_elim, arith, eqb}
 use mathlib.Core.Option.{some}
 use lib.ListN.{get_elem?}
 use prog.Atomic.{either}
@@ -9,22 +9,21 @@ use Rattle.atomic_table.proofs.Lists.{at_snoc}
 use Rattle.types.specs.declared.event.Entry.{Entry}
 use Rattle.types.specs.declared.event.Event.{Event}
 use Rattle.types.specs.declared.event.Reply.{Reply}
-use Rattle.shared_memory.specs.Events.{IsEvent, is_of_queue}
-use Rattle.shared_memory.specs.Memory.{Memory, reply_of, state_after}
+use Rattle.shared_memory.specs.Memory.{Memory, reply_of}
 use Rattle.shared_memory.specs.History.{entry, IsEntry, AreEntries, memory_after}
 use Rattle.shared_memory.specs.Access.{IsSeen}
 use Rattle.shared_memory.proofs.Histories.{memory_after-append, IsMemoryLegal-entry, AreEntries-append, AreEntries-prefix, AreEntries-rest}
 use Rattle.seats.specs.declared.view.Caller.{Caller}
 use Rattle.seats.specs.declared.view.View.{View}
-use Rattle.seats.specs.Callers.{GoesOn, AllGoOn, total, named, rights, keepers, fresh, fresh_from, seeing}
+use Rattle.seats.specs.Callers.{GoesOn, named, rights, keepers, fresh, fresh_from, seeing}
 use Rattle.seats.specs.Moves.{IsOne, caller_in, alone, nobody, others_stay, first_goes, together, met, MeetsAs}
-use Rattle.seats.specs.Seating.{Fits, AreSeated}
+use Rattle.seats.specs.Seating.{Fits}
 use Rattle.seats.proofs.GoingOn.{goes_on-self}
 use Rattle.seats.proofs.Totals.{total-push}
 use Rattle.seats.proofs.Seating.{seated-split, seated-join, seated-change, seated-push, seated-meet, seated-open}
 use Rattle.word_rules.specs.Words.{words_of, IsStored}
 use Rattle.word_rules.specs.Answers.{end_of, is_access, place_of, size_answer, word_answer, Makes, exchange_answer}
-use Rattle.word_rules.specs.Rule.{Kept, MayTry, opened, list_after, Steps, StepsAs, IsEmpty}
+use Rattle.word_rules.specs.Rule.{Kept, MayTry, opened, StepsAs, IsEmpty}
 use Rattle.word_rules.proofs.Words.{set_back}
 use Rattle.word_rules.proofs.Memories.{Outlasts, outlasts}
 use Rattle.word_rules.proofs.Settling.{Settles, size_settles, word_settles, exchange_settles}
@@ -123,14 +122,14 @@ steps : (m : Memory) (slots id place : ℕ) (me : M) (event : Event) (answer : �
     → SettlesAll m (caller_in me.0) event answer place makes → Allows (Kept m) slots id me place makes (λ n x. StepsAs m event (answer n) place me n x)
 steps m slots id place me event answer makes one may settles =
     subst (λ (x : M). Allows (Kept m) slots id x place makes (λ n y. StepsAs m event (answer n) place x n y)) (sym one)
-        (steps_at m slots id place (caller_in me.0) event answer makes may settles)
+    (steps_at m slots id place (caller_in me.0) event answer makes may settles)
 
 -- A load of the size word.
 pub notes : (m : Memory) (slots id : ℕ) (me : M) (event : Event) → IsOne me → MayTry (caller_in me.0) event
     → Allows (Kept m) slots id me 0 (λ n. n) (λ n x. StepsAs m event (size_answer m.max event n) 0 me n x)
 notes m slots id me event one may =
     steps m slots id 0 me event (λ n. size_answer m.max event n) (λ n. n) one may
-        (λ later o _. subst (λ (most : ℕ). Settles later event (size_answer most event (get_or (words_of later) 0 0)) 0 (get_or (words_of later) 0 0)) o.max (size_settles later event o.stored))
+    (λ later o _. subst (λ (most : ℕ). Settles later event (size_answer most event (get_or (words_of later) 0 0)) 0 (get_or (words_of later) 0 0)) o.max (size_settles later event o.stored))
 
 -- A load of a data word, by a caller that has seen that the access lies within the memory.
 pub reads : (m : Memory) (slots id : ℕ) (me : M) (event : Event) → IsOne me → MayTry (caller_in me.0) event → is_access event ≡ true
@@ -145,7 +144,7 @@ pub exchanges : (m : Memory) (slots id old new : ℕ) (me : M) (event : Event) �
     → Allows (Kept m) slots id me (place_of event) (λ n. either (eqb n old) new n) (λ n x. StepsAs m event (exchange_answer event old n) (place_of event) me n x)
 exchanges m slots id old new me event one may within fits makes =
     steps m slots id (place_of event) me event (λ n. exchange_answer event old n) (λ n. either (eqb n old) new n) one may
-        (λ later o more. exchange_settles later event old new o.stored may.is (omega arith) fits (subst (λ (most : ℕ). Makes most event old new) (sym o.max) makes))
+    (λ later o more. exchange_settles later event old new o.stored may.is (omega arith) fits (subst (λ (most : ℕ). Makes most event old new) (sym o.max) makes))
 
 abbrev two : Caller → Caller → View
 two a b = record { keeps = false; log = []; callers = a ∷ b ∷ [] }

@@ -1,10 +1,10 @@
 -- The words of bytes: how many, each one, one replaced, zeros behind them, and the bytes again.
-use Rattle.std.proofs.Common.{◌≡◌, ℕ, zero, suc, ◌+◌, ◌-◌, ◌*◌, ◌/◌, ◌%◌, ◌^◌, ◌<◌, ◌≤◌, List, [], ◌∷◌, ◌++◌, length, take, drop, set, get_or, replicate, refl, sym, ap, ap₂, ◌∙◌, subst, All, arith, append-nil, append_assoc, length-append}
+use Rattle.std.proofs.Common.{◌≡◌, ℕ, zero, suc, ◌+◌, ◌-◌, ◌*◌, ◌^◌, ◌<◌, ◌≤◌, List, [], ◌∷◌, ◌++◌, length, take, drop, set, get_or, replicate, refl, sym, ap, ap₂, ◌∙◌, subst, All, arith}
 use Rattle.std.specs.List.{splice}
 use Rattle.std.proofs.lemmas.List.{take_at, drop_at, take-append-le, drop-append-le, drop-drop, take-take, drop-take, length-take-le, length-drop, nil_from_length, take-append-drop, drop-replicate}
 use Rattle.std.proofs.lemmas.List.Elements.{All-take, All-drop}
 use Rattle.shared_memory.specs.Numbers.{le_number, le_bytes}
-use Rattle.lanes.proofs.Bytes.{length-le_bytes, le_number-le_bytes-fits, le_bytes-le_number, All-le_bytes}
+use Rattle.lanes.proofs.Bytes.{length-le_bytes, le_number-le_bytes-fits, le_bytes-le_number}
 use Rattle.word_rules.specs.Words.{data_words, bytes_of}
 
 abbrev B : Type 0
@@ -76,7 +76,7 @@ data_words-zeros (suc count) zero k bytes e =
 data_words-zeros (suc count) (suc eights) k bytes e =
     let long : 8 ≤ length bytes = omega arith in
     ap₂ (λ x xs. x ∷ xs) (ap le_number (take-append-le 8 bytes (replicate k 0) long))
-        (ap (data_words count) (drop-append-le 8 bytes (replicate k 0) long) ∙ data_words-zeros count eights k (drop 8 bytes) (omega (arith, length-drop 8 bytes)))
+    (ap (data_words count) (drop-append-le 8 bytes (replicate k 0) long) ∙ data_words-zeros count eights k (drop 8 bytes) (omega (arith, length-drop 8 bytes)))
 
 -- the bytes of words are the bytes again
 

@@ -1,5 +1,5 @@
 -- A memory as a row of 64-bit words.
-use Rattle.std.specs.Prelude.{ℕ, zero, suc, ◌+◌, ◌*◌, ◌<◌, List, [], ◌∷◌, ◌++◌, All, take, drop}
+use Rattle.std.specs.Prelude.{ℕ, zero, suc, ◌*◌, ◌<◌, List, [], ◌∷◌, ◌++◌, All, take, drop}
 use Rattle.shared_memory.specs.Numbers.{le_number, le_bytes}
 use Rattle.shared_memory.specs.Memory.{Memory, pages}
 use Rattle.one_memory.specs.Opening.{IsSized}

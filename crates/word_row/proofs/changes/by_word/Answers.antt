@@ -1,7 +1,6 @@
 use Rattle.std.proofs.Common.{ℕ, ◌*◌, ◌^◌, ◌<◌, sym, subst}
 use Rattle.shared_memory.specs.Events.{IsEvent}
 use Rattle.types.specs.declared.event.Event.TheVariants.{Rmw}
-use Rattle.lanes.specs.Words.{lane_of}
 use Rattle.lanes.proofs.Lanes.{lane_of-fits}
 use Rattle.word_rules.proofs.Settling.{atomic_in_word}
 use Rattle.word_row.proofs.Combined.{combined-fits}

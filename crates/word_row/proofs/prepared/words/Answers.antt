@@ -1,4 +1,4 @@
-use Rattle.std.proofs.Common.{ℕ, ◌≡◌, ◌+◌, ◌*◌, ◌<◌, ◌++◌, ◌∷◌, [], List, length, take, drop, sym, ap, ◌∙◌, arith, length-append}
+use Rattle.std.proofs.Common.{ℕ, ◌≡◌, ◌+◌, ◌*◌, ◌++◌, ◌∷◌, [], List, length, take, drop, sym, ap, ◌∙◌, arith, length-append}
 use Rattle.std.proofs.lemmas.List.{take_all}
 use Rattle.shared_memory.specs.Numbers.{le_number}
 use Rattle.shared_memory.specs.Memory.{Memory}
@@ -15,7 +15,7 @@ loop-k-preserved c =
     let pushed = c.push_reserved-in-loop-k.ensures.items in
     let word : c.word_at.result ≡ le_number (take 8 (drop (8 * k) m.bytes)) = c.word_at.ensures.word ∙ ap (λ (x : Memory). le_number (take 8 (drop (8 * k) x.bytes))) i.same in
     let items = pushed ∙ ap (λ (x : ℕ). c.loop-k.words.items ++ x ∷ []) word ∙ ap (λ (l : List ℕ). l ++ le_number (take 8 (drop (8 * k) m.bytes)) ∷ []) i.items
-        ∙ sym (words_of-more m k (omega (arith, c.max.ensures))) in
+    ∙ sym (words_of-more m k (omega (arith, c.max.ensures))) in
     record {
       items = items;
       count = ap length pushed ∙ (let e = length-append c.loop-k.words.items (c.word_at.result ∷ []) in let n = i.count in omega arith);

@@ -5,7 +5,6 @@ use Rattle.std.proofs.lemmas.List.{map-id}
 use Rattle.std.proofs.lemmas.Iterator.Adapters.{YieldsList-from_vec}
 use Rattle.std.proofs.lemmas.Iterator.Consumers.{YieldsList-end}
 use Rattle.std.proofs.lemmas.List.Elements.{All-append, All-nil, All-cons}
-use Rattle.types.specs.declared.event.Entry.{Entry}
 use Rattle.seats.specs.declared.view.Caller.{Caller}
 use Rattle.seats.specs.Callers.{GoesOn, AllGoOn}
 use Rattle.word_row.specs.declared.seat.WordSeat.{WordSeat}

@@ -2,11 +2,10 @@ use Rattle.std.proofs.Common.{◌≡◌, ◌<◌, ◌*◌, ◌+◌, ◌/◌, ℕ
 use Rattle.std.specs.Prelude.{slice_get}
 use Rattle.std.specs.Mem.Slots.{slots_items, slots_counts}
 use Rattle.shared_memory.specs.Memory.{Memory, pages}
-use Rattle.lanes.specs.Words.{lane_of}
-use Rattle.word_rules.specs.Words.{memory_of, words_of, IsStored}
+use Rattle.word_rules.specs.Words.{memory_of, words_of}
 use Rattle.word_rules.proofs.Memories.{length-words_of}
 use Rattle.word_rules.proofs.Settling.{holds}
-use Rattle.word_row.proofs.Closing.{IsByte, byte_within, byte_past, byte_is, found_at}
+use Rattle.word_row.proofs.Closing.{byte_within, byte_past, byte_is, found_at}
 use Rattle.word_row.proofs.closed.ClosedRow.byte.Goals as goal
 
 pub returns-then-addr-pages : goal.returns-then-addr-pages

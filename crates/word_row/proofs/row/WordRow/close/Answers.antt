@@ -1,8 +1,6 @@
-use Rattle.std.proofs.Common.{ℕ, ◌≡◌, ◌<◌, ◌∙◌, sym, subst, arith}
+use Rattle.std.proofs.Common.{◌∙◌, subst, arith}
 use Rattle.std.specs.Mem.Slots.{slots_items}
-use Rattle.atomic_table.specs.Table.{State}
 use Rattle.shared_memory.specs.Memory.{Memory}
-use Rattle.seats.specs.declared.view.View.{View}
 use Rattle.word_rules.specs.Rule.{Kept}
 use Rattle.word_rules.proofs.Moves.{arrives}
 use Rattle.word_row.proofs.Closing.{stands_for}

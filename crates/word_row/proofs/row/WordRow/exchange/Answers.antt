@@ -5,4 +5,4 @@ pub returns-else-found-old-clause-outcome : goal.returns-else-found-old-clause-o
 returns-else-found-old-clause-outcome g c =
     let row = c.args.self.now.row in
     lost g.B.Naming.opening c.args.event c.args.old c.exchange-found.result c.args.change.new c.args.caller.now c.exchange-found.new.self row.stored c.requires.event c.requires.within c.requires.change.makes
-        c.requires.word c.exchange-found.ensures c.if-found-old.false
+    c.requires.word c.exchange-found.ensures c.if-found-old.false

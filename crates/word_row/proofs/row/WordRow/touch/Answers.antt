@@ -1,10 +1,9 @@
 use Rattle.std.proofs.Common.{ℕ}
 use Rattle.types.specs.declared.event.Event.{Event}
 use Rattle.shared_memory.specs.Memory.{Memory}
-use Rattle.seats.specs.declared.view.Caller.{Caller}
 use Rattle.word_rules.specs.Answers.{place_of, word_answer}
 use Rattle.word_rules.proofs.Settling.{word_is_answer}
-use Rattle.word_row.proofs.Access.{answered, Shows, shows, accesses-after, still_within}
+use Rattle.word_row.proofs.Access.{answered, shows, accesses-after, still_within}
 use Rattle.word_row.proofs.row.WordRow.touch.Goals as goal
 
 pub exchange-requires-clause-within : goal.exchange-requires-clause-within
