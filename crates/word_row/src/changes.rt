@@ -1,9 +1,9 @@
 //! What the page count and the word of an access settle of an event.
-ghost use Rattle.std.specs.Prelude.{◌≡◌, ◌+◌, ◌*◌, ◌%◌, ◌^◌, ◌<◌, ◌≤◌, ◌⊎◌, ℕ, true, nat_le};
+ghost use Rattle.std.specs.Prelude.{◌≡◌, ◌+◌, ◌*◌, ◌%◌, ◌^◌, ◌<◌, ◌≤◌, ◌⊎◌, ℕ, true};
 ghost use Rattle.shared_memory.specs.Events.{IsEvent, IsAtomic, FitsWidth};
 ghost use Rattle.shared_memory.specs.Memory.{combined};
 ghost use Rattle.lanes.specs.Words.{lane_of, IsWithLane};
-ghost use Rattle.word_rules.specs.Answers.{size_answer, is_access, place_of};
+ghost use Rattle.word_rules.specs.Answers.{refusal, size_answer, is_access, place_of};
 ghost use Rattle.word_row.specs.Changes.{IsNext};
 
 use lanes::{lane, with_lane};
@@ -28,13 +28,18 @@ pub enum Next {
     Exchange(Change),
 }
 
-/// Whether `width` bytes at an address end within so many pages, at most 64. The end may pass the last address.
-fn is_within(addr: u64, width: u8, pages: u64) -> bool
+/// The refusal of an access of `width` bytes at an address, where it ends past so many pages, at most 64. The end may
+/// pass the last address.
+fn refuse(addr: u64, width: u8, pages: u64) -> Option<Reply>
     requires { pages ≤ 64 }
-    ensures { result ≡ nat_le (addr + width) (65536 * pages) }
+    ensures { result ≡ refusal (addr + width) pages }
 {
     let length = PAGE * pages;
-    addr <= length && u64::from(width) <= length - addr
+    if addr <= length && u64::from(width) <= length - addr {
+        None
+    } else {
+        Some(Reply::OutOfBounds)
+    }
 }
 
 /// The reply that the page count settles: a page count, a refusal, or that of an event that reads no byte. `None` for
@@ -43,30 +48,18 @@ pub fn by_size(pages_max: u32, event: Event, pages: u64) -> Option<Reply>
     requires { pages ≤ 64 }
     ensures { result ≡ size_answer pages_max event pages }
 {
-    let inside = match event {
-        Event::Size => return Some(Reply::Value(pages)),
-        Event::Grow(more) => {
-            if pages + u64::from(more) <= u64::from(pages_max) {
-                return None;
-            }
-            return Some(Reply::Value(u64::from(u32::MAX)));
-        }
-        Event::Load { reach, .. } | Event::Store { reach, .. } => is_within(reach, 0, pages),
+    match event {
+        Event::Size => Some(Reply::Value(pages)),
+        Event::Grow(more) if pages + u64::from(more) <= u64::from(pages_max) => None,
+        Event::Grow(_) => Some(Reply::Value(u64::from(u32::MAX))),
+        Event::Load { reach, .. } | Event::Store { reach, .. } => refuse(reach, 0, pages),
         Event::Rmw { addr, width, .. }
         | Event::Cmpxchg { addr, width, .. }
-        | Event::Ask(Question::Wait { addr, width, .. }) => is_within(addr, width, pages),
-        Event::Ask(Question::Notify { addr, .. }) if is_within(addr, 4, pages) => {
-            return Some(Reply::Done);
+        | Event::Ask(Question::Wait { addr, width, .. }) => refuse(addr, width, pages),
+        Event::Ask(Question::Notify { addr, .. }) => {
+            refuse(addr, 4, pages).or(Some(Reply::Done))
         }
-        Event::Ask(Question::Notify { .. }) => false,
-        Event::Ask(Question::Spawn { .. } | Question::Leave) | Event::Told(_) => {
-            return Some(Reply::Done);
-        }
-    };
-    if inside {
-        None
-    } else {
-        Some(Reply::OutOfBounds)
+        Event::Ask(Question::Spawn { .. } | Question::Leave) | Event::Told(_) => Some(Reply::Done),
     }
 }
 
