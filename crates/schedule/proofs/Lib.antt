@@ -1,0 +1,13 @@
+pub mod Basics
+pub mod Standing
+pub mod Between
+pub mod Apart
+pub mod Weaving
+pub mod Schedule
+pub mod Unique
+pub mod Seen
+pub mod Others
+pub mod Budgets
+pub mod Orderly
+pub mod Covered
+pub mod Following

@@ -1,0 +1,54 @@
+-- What a life says of the order of its acts, and how a loop makes one.
+use Rattle.std.proofs.Common.{◌≡◌, ◌≢◌, ℕ, zero, suc, ◌<◌, ◌≤◌, inl, inr, List, [], ◌∷◌, ◌++◌, refl, sym, ◌∙◌, ap, subst, arith}
+use Rattle.schedule.proofs.Standing.{Stands}
+use Rattle.schedule.specs.Histories.{Place, Place.Due, Place.Free, Place.Open, Place.Unstarted}
+use Rattle.schedule.specs.System.{Act, Act.Heard, Act.Made, Step, Step.Acts, Step.Full, Step.Lost, Step.Own, System, Want.Awaits, Want.Gone, put}
+use Rattle.schedule.specs.ThreadRun.{Fits, IsThreadRun, acts, after_step}
+use Rattle.schedule.proofs.Basics.{same_or_not, put-same, put-other}
+use Rattle.schedule.proofs.Seen.{Path'}
+
+module _ {X T E V A : Type 0} (s : System X T E V A) where
+  -- who awaits makes no event, and who is gone nothing
+  pub awaits_no_event : (r : List (Step E V A)) (t end : T) (e : E) (v : V) (more : List (Act E V A)) → s.wants t ≡ Awaits → IsThreadRun s t r end → acts r ≡ Made e v ∷ more → ⊥
+  awaits_no_event [] t end e v more h l is = cc
+  awaits_no_event (Own ∷ r) t end e v more h l is = cc (h, l.0)
+  awaits_no_event (Lost x ∷ r) t end e v more h l is = cc (h, l.0.0)
+  awaits_no_event (Full x ∷ r) t end e v more h l is = cc (h, l.0.0)
+  awaits_no_event (Acts (Made x y) ∷ r) t end e v more h l is = cc (h, l.0)
+  awaits_no_event (Acts (Heard a) ∷ r) t end e v more h l is = cc
+
+  pub gone_no_act : (r : List (Step E V A)) (t end : T) → s.wants t ≡ Gone → IsThreadRun s t r end → r ≡ []
+  gone_no_act [] t end h l = refl
+  gone_no_act (Own ∷ r) t end h l = absurd (cc (h, l.0))
+  gone_no_act (Lost x ∷ r) t end h l = absurd (cc (h, l.0.0))
+  gone_no_act (Full x ∷ r) t end h l = absurd (cc (h, l.0.0))
+  gone_no_act (Acts (Made x y) ∷ r) t end h l = absurd (cc (h, l.0))
+  gone_no_act (Acts (Heard a) ∷ r) t end h l = absurd (cc (h, l.0))
+
+  -- so an event is of one without an open question
+  pub free_at_event : (p : Place A) (steps r : List (Step E V A)) (end t : T) (e : E) (v : V) (more : List (Act E V A)) → Stands s steps end p t r → acts r ≡ Made e v ∷ more → p ≢ Unstarted → p ≡ Free
+  free_at_event Unstarted steps r end t e v more h is some = absurd (some refl)
+  free_at_event Free steps r end t e v more h is some = refl
+  free_at_event Open steps r end t e v more h is some = absurd (awaits_no_event r t end e v more h.0 h.1 is)
+  free_at_event (Due a) steps r end t e v more h is some = absurd (awaits_no_event r h.0 end e v more h.2 h.3 is)
+
+  -- a loop that makes one step more
+  pub path_snoc : (r : List (Step E V A)) (t t' : T) (x : Step E V A) → Path' s t r t' → Fits s t' x → Path' s t (r ++ x ∷ []) (after_step s t' x)
+  path_snoc [] t t' x p f = (subst (λ z. Fits s z x) (sym p) f, ap (λ z. after_step s z x) p)
+  path_snoc (y ∷ r) t t' x p f = (p.0, path_snoc r (after_step s t y) t' x p.1 f)
+
+-- lists, one for each number below n, as a map
+pub chosen : {B : Type 0} (n : ℕ) (P : ℕ → List B → Type 0) → ((k : ℕ) → k < n → (r : List B) × P k r)
+    → (f : ℕ → List B) × ((k : ℕ) → k < n → P k (f k)) × ((k : ℕ) → n ≤ k → f k ≡ [])
+chosen zero P h = ((λ k. []), (λ k l. absurd (omega arith)), (λ k l. refl))
+chosen (suc n) P h =
+    let c = chosen n P (λ k l. let l' : k < suc n = omega arith in h k l') in
+    let here : n < suc n = omega arith in
+    let g = h n here in (
+      put c.0 n g.0,
+      (λ k l. elim (same_or_not k n) [
+        | inl e ↦ subst (λ z. P z (put c.0 n g.0 z)) (sym e) (subst (λ z. P n z) (sym (put-same c.0 n g.0)) g.1)
+        | inr ne ↦ (let lt : k < n = omega arith in subst (λ z. P k z) (sym (put-other c.0 n g.0 k ne)) (c.1 k lt))
+      ]),
+      (λ k l. let ne : k ≢ n = omega arith in let le : n ≤ k = omega arith in put-other c.0 n g.0 k ne ∙ c.2 k le),
+    )
