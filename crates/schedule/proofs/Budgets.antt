@@ -1,17 +1,11 @@
 -- A thread with a budget keeps the laws of a thread.
 use Rattle.std.proofs.Common.{◌≡◌, ℕ, zero, suc, ◌-◌, Bool, true, false, not, ◌⊎◌, inl, inr, refl, sym, ◌∙◌, ap, subst, arith, Option}
 use Rattle.schedule.specs.Machine.{Machine, MachineLaws, Thread, Thread.Absent, Thread.Leaves, Thread.Left, Thread.Over, Thread.Runs, Wish, Wish.Asks, Wish.Ends, Wish.Goes, Wish.Waits, system, takes_by, thread_full, thread_goes, thread_lost, thread_takes, thread_wants, thread_wants_a, wanted, wants_a}
-use Rattle.schedule.specs.System.{Want.Awaits, Want.Calls, Want.Gone, Want.Turns}
+use Rattle.schedule.specs.System.{Want, Want.Awaits, Want.Calls, Want.Gone, Want.Turns}
 use Rattle.schedule.specs.ThreadRun.{Laws}
+use Rattle.schedule.proofs.Leaving.{never_gone}
 
 module _ {C E V A O : Type 0} (k : Machine C E V A O) (l : MachineLaws k) where
-  never_gone : (n : ℕ) (w : Wish E O) → wanted k n w ≡ Gone → ⊥
-  never_gone n Waits h = cc
-  never_gone n (Ends o) h = cc
-  never_gone n Goes h = cc
-  never_gone zero (Asks e) h = cc
-  never_gone (suc n) (Asks e) h = cc
-
   waits_awaits : (c : C) (n : ℕ) → k.wishes c ≡ Waits → wanted k n (k.wishes c) ≡ Awaits
   waits_awaits c n h = ap (wanted k n) h
 
@@ -56,14 +50,14 @@ module _ {C E V A O : Type 0} (k : Machine C E V A O) (l : MachineLaws k) where
   pub own_stays : (t : Thread C O) → thread_wants k t ≡ Turns → thread_wants k (thread_goes k t) ≡ Gone → ⊥
   own_stays Absent h g = cc
   own_stays (Runs c zero) h g = cc
-  own_stays (Runs c (suc n)) h g = never_gone n (k.wishes (k.goes c)) g
+  own_stays (Runs c (suc n)) h g = never_gone k n (k.wishes (k.goes c)) g
   own_stays (Over x n) h g = cc
   own_stays (Leaves x n) h g = cc
   own_stays (Left x n) h g = cc
 
   pub lost_stays : (p : E → Bool) (t : Thread C O) → thread_wants_a k p t ≡ true → thread_wants k (thread_lost k t) ≡ Gone → ⊥
   lost_stays p Absent h g = cc
-  lost_stays p (Runs c n) h g = never_gone (n - 1) (k.wishes c) g
+  lost_stays p (Runs c n) h g = never_gone k (n - 1) (k.wishes c) g
   lost_stays p (Over x n) h g = cc
   lost_stays p (Leaves x n) h g = cc
   lost_stays p (Left x n) h g = cc

@@ -7,7 +7,9 @@ pub mod Schedule
 pub mod Unique
 pub mod Seen
 pub mod Others
+pub mod Leaving
 pub mod Budgets
 pub mod Orderly
 pub mod Covered
 pub mod Following
+pub mod Worked

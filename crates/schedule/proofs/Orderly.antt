@@ -1,11 +1,11 @@
--- What a life says of the order of its acts, and how a loop makes one.
+-- What a run says of the order of its acts, and how a loop makes one.
 use Rattle.std.proofs.Common.{◌≡◌, ◌≢◌, ℕ, zero, suc, ◌<◌, ◌≤◌, inl, inr, List, [], ◌∷◌, ◌++◌, refl, sym, ◌∙◌, ap, subst, arith}
 use Rattle.schedule.proofs.Standing.{Stands}
 use Rattle.schedule.specs.Histories.{Place, Place.Due, Place.Free, Place.Open, Place.Unstarted}
-use Rattle.schedule.specs.System.{Act, Act.Heard, Act.Made, Step, Step.Acts, Step.Full, Step.Lost, Step.Own, System, Want.Awaits, Want.Gone, put}
-use Rattle.schedule.specs.ThreadRun.{Fits, IsThreadRun, acts, after_step}
+use Rattle.schedule.specs.System.{Act, Act.Heard, Act.Made, Entry, Step, Step.Acts, Step.Full, Step.Lost, Step.Own, System, Want, Want.Awaits, Want.Gone, put}
+use Rattle.schedule.specs.ThreadRun.{Fits, IsThreadRun, Reaches, acts, after_step}
+use Rattle.schedule.specs.Tries.{Sees, SeesAll, TryRules}
 use Rattle.schedule.proofs.Basics.{same_or_not, put-same, put-other}
-use Rattle.schedule.proofs.Seen.{Path'}
 
 module _ {X T E V A : Type 0} (s : System X T E V A) where
   -- who awaits makes no event, and who is gone nothing
@@ -33,9 +33,16 @@ module _ {X T E V A : Type 0} (s : System X T E V A) where
   free_at_event (Due a) steps r end t e v more h is some = absurd (awaits_no_event r h.0 end e v more h.2 h.3 is)
 
   -- a loop that makes one step more
-  pub path_snoc : (r : List (Step E V A)) (t t' : T) (x : Step E V A) → Path' s t r t' → Fits s t' x → Path' s t (r ++ x ∷ []) (after_step s t' x)
+  pub path_snoc : (r : List (Step E V A)) (t t' : T) (x : Step E V A) → Reaches s t r t' → Fits s t' x → Reaches s t (r ++ x ∷ []) (after_step s t' x)
   path_snoc [] t t' x p f = (subst (λ z. Fits s z x) (sym p) f, ap (λ z. after_step s z x) p)
   path_snoc (y ∷ r) t t' x p f = (p.0, path_snoc r (after_step s t y) t' x p.1 f)
+
+module _ {X T E V A W : Type 0} (s : System X T E V A) (rules : TryRules X E W) where
+  -- and what it saw by the way
+  pub sees_snoc : (first : X) (n : ℕ) (r : List (Step E V A)) (before mid after : List (Entry E V A)) (p : Step E V A) → SeesAll s rules first n before r mid → Sees s rules first n p mid after
+      → SeesAll s rules first n before (r ++ p ∷ []) after
+  sees_snoc first n [] before mid after p h sees = (after, subst (λ z. Sees s rules first n p z after) (sym h) sees, refl)
+  sees_snoc first n (x ∷ r) before mid after p h sees = (h.0, h.1, sees_snoc first n r h.0 mid after p h.2 sees)
 
 -- lists, one for each number below n, as a map
 pub chosen : {B : Type 0} (n : ℕ) (P : ℕ → List B → Type 0) → ((k : ℕ) → k < n → (r : List B) × P k r)

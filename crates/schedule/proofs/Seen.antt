@@ -5,7 +5,7 @@ use Rattle.schedule.proofs.Standing.{Facts}
 use Rattle.schedule.specs.Histories.{IsFreeAt, IsLegalEntry, IsLegalHistory, IsOrdered, Place, Place.Due, Place.Free, Place.Open, Place.Unstarted, if_made, next_places, next_shared, placed, starts_at, without_answers}
 use Rattle.schedule.specs.Scheduled.{after_event, after_turn, entries_by, entries_made, full_step, heard_step, hears_any, if_may, lost_step, or_started, scheduled_run, steps_by, steps_made, with_thread}
 use Rattle.schedule.specs.System.{Act, Act.Heard, Act.Made, Entry, Kind, Kind.Fills, Kind.Loses, Kind.Turn, Mark, State, Step, Step.Acts, Step.Full, Step.Lost, Step.Own, System, Want, Want.Awaits, Want.Calls, Want.Gone, Want.Turns, put}
-use Rattle.schedule.specs.ThreadRun.{Fits, IsThreadRun, after_step}
+use Rattle.schedule.specs.ThreadRun.{Fits, IsThreadRun, Reaches, after_step}
 use Rattle.schedule.proofs.Basics.{same_is, other_is, at_each, put-same, put-other}
 
 module _ {A : Type 0} where
@@ -58,11 +58,7 @@ module _ {X T E V A : Type 0} (s : System X T E V A) where
   legal_flat [] x q h o = tt
   legal_flat (e ∷ H) x q h o = legal_step x q e.thread e.act H h.0 o.0 (legal_flat H (next_shared s x e.thread e.act) (next_places s x q e.thread e.act) h.1 o.1)
 
-  abbrev pub Path' : T → List (Step E V A) → T → Type 0
-  Path' t [] f = t ≡ f
-  Path' t (p ∷ r) f = Fits s t p × Path' (after_step s t p) r f
-
-  pub run_of_path : (r : List (Step E V A)) (t f : T) → Path' t r f → s.wants f ≡ Gone → IsThreadRun s t r f
+  pub run_of_path : (r : List (Step E V A)) (t f : T) → Reaches s t r f → s.wants f ≡ Gone → IsThreadRun s t r f
   run_of_path [] t f p g = (ap s.wants p ∙ g, p)
   run_of_path (x ∷ r) t f p g = (p.0, run_of_path r (after_step s t x) f p.1 g)
 
@@ -80,12 +76,12 @@ module _ {X T E V A : Type 0} (s : System X T E V A) where
   -- from a thread to what it is at the end, by the steps that were made of it
   abbrev pub StartsSo : Option T → T → T → List (Step E V A) → Type 0
   StartsSo None t f r = Unit {0}
-  StartsSo (Some x) t f r = Path' x r f
+  StartsSo (Some x) t f r = Reaches s x r f
 
   abbrev pub Ext : Place A → T → T → List (Step E V A) → Option T → Type 0
   Ext Unstarted t f r b = StartsSo b t f r
-  Ext Free t f r b = Path' t r f
-  Ext Open t f r b = Path' t r f
+  Ext Free t f r b = Reaches s t r f
+  Ext Open t f r b = Reaches s t r f
   Ext (Due a) t f r b = Unit {0}
 
   ext_nil : (p : Place A) (t : T) → Ext p t t [] None

@@ -6,3 +6,4 @@ pub mod Tries
 pub mod Schedules
 pub mod Machine
 pub mod Theorems
+pub mod Example

@@ -75,6 +75,11 @@ module _ {X T E V A : Type 0} (s : System X T E V A) where
   IsThreadRun t [] end = (s.wants t ≡ Gone) × (t ≡ end)
   IsThreadRun t (p ∷ steps) end = Fits t p × IsThreadRun (after_step t p) steps end
 
+  -- The thread comes to another by these steps.
+  abbrev pub Reaches : T → List (Step E V A) → T → Type 0
+  Reaches t [] end = t ≡ end
+  Reaches t (p ∷ steps) end = Fits t p × Reaches (after_step t p) steps end
+
   -- The thread leaves next, and loses no try of it; or it gives up first, by a turn of its own.
   abbrev pub IsLeaving : E → T → Type 0
   IsLeaving leave t = (s.wants t ≡ Calls leave) × (s.may_lose t ≡ false)

@@ -6,7 +6,8 @@
 //! `A` the answers, `W` what events touch, `C` the configurations of a machine and `O` its outcomes.
 #![tactic(auto)]
 
-ghost use Rattle.schedule.specs.Theorems.{OneSchedule, ScheduleFollows, EveryOtherGivesTheSame, ThreadsWithBudgetsKeepTheLaws, ActsAndLossesFixTheEnd, ScheduledRunsGoOn};
+ghost use Rattle.schedule.specs.Theorems.{OneSchedule, ScheduleFollows, EveryOtherGivesTheSame, ThreadsWithBudgetsKeepTheLaws, ThreadsLeaveLast, ActsAndLossesFixTheEnd, ScheduledRunsGoOn};
+ghost use Rattle.schedule.specs.Example.{WorkedRun, NoAnswerOfAnother, NoEntryAfterLeave};
 
 /// The schedule of a history makes the history, gives every thread's end and the shared state after the history.
 pub fn one_schedule<X, T, E, V, A>()
@@ -29,6 +30,11 @@ pub fn threads_with_budgets_keep_the_laws<C, E, V, A, O, X>()
     ensures { ThreadsWithBudgetsKeepTheLaws C E V A O X }
 {}
 
+/// Such a thread enters a leave and the answer to it last, whatever ends it.
+pub fn threads_leave_last<C, E, V, A, O, X>()
+    ensures { ThreadsLeaveLast C E V A O X }
+{}
+
 /// A thread's acts, and how many tries it lost between them, fix its end.
 pub fn acts_and_losses_fix_the_end<X, T, E, V, A>()
     ensures { ActsAndLossesFixTheEnd X T E V A }
@@ -37,4 +43,19 @@ pub fn acts_and_losses_fix_the_end<X, T, E, V, A>()
 /// What the scheduled machine comes to is a function of its schedule alone, mark after mark.
 pub fn scheduled_runs_go_on<X, T, E, V, A>()
     ensures { ScheduledRunsGoOn X T E V A }
+{}
+
+/// A worked run: one thread starts another and sleeps, the other loses a try, adds and wakes it, and both leave.
+pub fn a_worked_run()
+    ensures { WorkedRun }
+{}
+
+/// An answer told to another thread is not legal.
+pub fn no_answer_of_another_thread()
+    ensures { NoAnswerOfAnother }
+{}
+
+/// No threads run so that one enters an event after it has left.
+pub fn no_entry_after_leave()
+    ensures { NoEntryAfterLeave }
 {}
