@@ -1,5 +1,5 @@
 -- Entries of others in a history: what of a thread goes on over them.
-use Rattle.std.proofs.Common.{◌≡◌, ◌≢◌, ℕ, zero, suc, ◌+◌, ◌≤◌, ◌==◌, inl, inr, Bool, true, false, cond, List, [], ◌∷◌, ◌++◌, length, refl, sym, ◌∙◌, ap, subst, arith, append_assoc, Option, Some, None}
+use Rattle.std.proofs.Common.{◌≡◌, ◌≢◌, ℕ, zero, suc, ◌+◌, ◌≤◌, ◌==◌, inl, inr, Bool, true, false, cond, List, [], ◌∷◌, ◌++◌, length, refl, sym, ◌∙◌, ap, subst, arith, append_assoc, append-nil, Option, Some, None}
 use Rattle.schedule.specs.Histories.{acts_of, next_shared, shared_after, starts_at}
 use Rattle.schedule.specs.System.{Act, Entry, Step, System}
 use Rattle.schedule.specs.ThreadRun.{after_first_act, found_full, losses}
@@ -36,6 +36,18 @@ module _ {E V A : Type 0} (n : ℕ) where
 
   pub acts_here : (a : Act E V A) (H : List (Entry E V A)) → acts_of n (record { thread = n; act = a } ∷ H) ≡ a ∷ acts_of n H
   acts_here a H = ap (λ b. cond b (a ∷ acts_of n H) (acts_of n H)) (same_is n)
+
+  pub acts_both : (F G : List (Entry E V A)) → acts_of n (F ++ G) ≡ acts_of n F ++ acts_of n G
+  acts_both [] G = refl
+  acts_both (f ∷ F) G = one (f.thread == n) (acts_both F G)
+    where
+      one : (b : Bool) → acts_of n (F ++ G) ≡ acts_of n F ++ acts_of n G
+          → cond b (f.act ∷ acts_of n (F ++ G)) (acts_of n (F ++ G)) ≡ cond b (f.act ∷ acts_of n F) (acts_of n F) ++ acts_of n G
+      one true e = ap (λ z. f.act ∷ z) e
+      one false e = e
+
+  pub none_behind : (F G : List (Entry E V A)) → acts_of n G ≡ [] → acts_of n (F ++ G) ≡ acts_of n F
+  none_behind F G e = acts_both F G ∙ (ap (λ z. acts_of n F ++ z) e ∙ append-nil (acts_of n F))
 
 pub length_over : {B : Type 0} (xs ys : List B) → length (xs ++ ys) ≡ length xs + length ys
 length_over [] ys = omega arith

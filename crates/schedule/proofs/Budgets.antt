@@ -1,7 +1,7 @@
 -- A thread with a budget keeps the laws of a thread.
 use Rattle.std.proofs.Common.{◌≡◌, ℕ, zero, suc, ◌-◌, Bool, true, false, not, ◌⊎◌, inl, inr, refl, sym, ◌∙◌, ap, subst, arith, Option}
 use Rattle.schedule.specs.Machine.{Machine, MachineLaws, Thread, Thread.Absent, Thread.Leaves, Thread.Left, Thread.Over, Thread.Runs, Wish, Wish.Asks, Wish.Ends, Wish.Goes, Wish.Waits, system, takes_by, thread_full, thread_goes, thread_lost, thread_takes, thread_wants, thread_wants_a, wanted, wants_a}
-use Rattle.schedule.specs.System.{Want, Want.Awaits, Want.Calls, Want.Gone, Want.Turns}
+use Rattle.schedule.specs.System.{Want.Awaits, Want.Calls, Want.Gone, Want.Turns}
 use Rattle.schedule.specs.ThreadRun.{Laws}
 use Rattle.schedule.proofs.Leaving.{never_gone}
 

@@ -1,7 +1,7 @@
 -- A thread with a budget enters a leave and its answer last.
-use Rattle.std.proofs.Common.{◌≡◌, ℕ, zero, suc, ◌-◌, Bool, true, false, not, List, [], ◌∷◌, ◌++◌, refl, sym, ◌∙◌, ap, subst, Option, Some, None}
+use Rattle.std.proofs.Common.{◌≡◌, ℕ, zero, suc, ◌-◌, List, [], ◌∷◌, refl, sym, ap, subst, Option}
 use Rattle.schedule.specs.Machine.{Machine, Thread, Thread.Leaves, Thread.Left, Thread.Over, Thread.Runs, Wish, Wish.Asks, Wish.Ends, Wish.Goes, Wish.Waits, system, takes_by, wanted}
-use Rattle.schedule.specs.System.{Act, Act.Heard, Act.Made, Step, Step.Acts, Step.Full, Step.Lost, Step.Own, System, Want, Want.Calls, Want.Gone}
+use Rattle.schedule.specs.System.{Act, Act.Heard, Act.Made, Step, Step.Acts, Step.Full, Step.Lost, Step.Own, System, Want.Calls, Want.Gone}
 use Rattle.schedule.specs.ThreadRun.{IsThreadRun, acts}
 use Rattle.schedule.specs.Theorems.{LeavesLast}
 

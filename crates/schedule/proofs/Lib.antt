@@ -2,7 +2,7 @@ pub mod Basics
 pub mod Standing
 pub mod Between
 pub mod Apart
-pub mod Weaving
+pub mod Marks
 pub mod Schedule
 pub mod Unique
 pub mod Seen
@@ -12,4 +12,5 @@ pub mod Budgets
 pub mod Orderly
 pub mod Covered
 pub mod Following
+pub mod Laws
 pub mod Worked

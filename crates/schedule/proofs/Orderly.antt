@@ -1,11 +1,12 @@
 -- What a run says of the order of its acts, and how a loop makes one.
-use Rattle.std.proofs.Common.{◌≡◌, ◌≢◌, ℕ, zero, suc, ◌<◌, ◌≤◌, inl, inr, List, [], ◌∷◌, ◌++◌, refl, sym, ◌∙◌, ap, subst, arith}
+use Rattle.std.proofs.Common.{◌≡◌, ◌≢◌, ℕ, zero, suc, ◌<◌, ◌≤◌, inl, inr, List, [], ◌∷◌, ◌++◌, refl, sym, ◌∙◌, ap, subst, arith, append-nil, append_assoc}
 use Rattle.schedule.proofs.Standing.{Stands}
-use Rattle.schedule.specs.Histories.{Place, Place.Due, Place.Free, Place.Open, Place.Unstarted}
-use Rattle.schedule.specs.System.{Act, Act.Heard, Act.Made, Entry, Step, Step.Acts, Step.Full, Step.Lost, Step.Own, System, Want, Want.Awaits, Want.Gone, put}
+use Rattle.schedule.specs.Histories.{Place, Place.Due, Place.Free, Place.Open, Place.Unstarted, acts_of}
+use Rattle.schedule.specs.System.{Act, Act.Heard, Act.Made, Entry, Step, Step.Acts, Step.Full, Step.Lost, Step.Own, System, Want.Awaits, Want.Gone, put}
 use Rattle.schedule.specs.ThreadRun.{Fits, IsThreadRun, Reaches, acts, after_step}
 use Rattle.schedule.specs.Tries.{Sees, SeesAll, TryRules}
 use Rattle.schedule.proofs.Basics.{same_or_not, put-same, put-other}
+use Rattle.schedule.proofs.Apart.{acts_both, none_behind, acts_here}
 
 module _ {X T E V A : Type 0} (s : System X T E V A) where
   -- who awaits makes no event, and who is gone nothing
@@ -43,6 +44,19 @@ module _ {X T E V A W : Type 0} (s : System X T E V A) (rules : TryRules X E W) 
       → SeesAll s rules first n before (r ++ p ∷ []) after
   sees_snoc first n [] before mid after p h sees = (after, subst (λ z. Sees s rules first n p z after) (sym h) sees, refl)
   sees_snoc first n (x ∷ r) before mid after p h sees = (h.0, h.1, sees_snoc first n r h.0 mid after p h.2 sees)
+
+  -- whose own entries are the acts
+  pub acts_seen : (first : X) (n : ℕ) (r : List (Step E V A)) (before last : List (Entry E V A)) → SeesAll s rules first n before r last → acts_of n last ≡ acts_of n before ++ acts r
+  acts_seen first n [] before last h = sym (append-nil (acts_of n before) ∙ ap (acts_of n) h)
+  acts_seen first n (Own ∷ r) before last h = acts_seen first n r h.0 last h.2 ∙ ap (λ z. acts_of n z ++ acts r) h.1
+  acts_seen first n (Lost e ∷ r) before last h = acts_seen first n r h.0 last h.2 ∙ ap (λ z. z ++ acts r) (ap (acts_of n) h.1.list ∙ none_behind n before h.1.others h.1.apart)
+  acts_seen first n (Full e ∷ r) before last h = acts_seen first n r h.0 last h.2 ∙ ap (λ z. z ++ acts r) (ap (acts_of n) h.1.list ∙ none_behind n before h.1.others h.1.apart)
+  acts_seen first n (Acts a ∷ r) before last h =
+      let did = h.1 in
+      let one : acts_of n h.0 ≡ acts_of n before ++ a ∷ [] =
+      ap (acts_of n) did.list ∙ (acts_both n did.so_far (record { thread = n; act = a } ∷ did.behind)
+      ∙ (λ i. (ap (acts_of n) did.gains ∙ none_behind n before did.others did.apart) i ++ (acts_here n a did.behind ∙ ap (λ z. a ∷ z) did.apart_behind) i)) in
+      acts_seen first n r h.0 last h.2 ∙ (ap (λ z. z ++ acts r) one ∙ append_assoc (acts_of n before) (a ∷ []) (acts r))
 
 -- lists, one for each number below n, as a map
 pub chosen : {B : Type 0} (n : ℕ) (P : ℕ → List B → Type 0) → ((k : ℕ) → k < n → (r : List B) × P k r)

@@ -1,4 +1,4 @@
--- Every other list along the history gives the same.
+-- Every other schedule of the history gives the same ends.
 use Rattle.std.proofs.Common.{◌≡◌, ◌≢◌, ℕ, ◌⊎◌, inl, inr, Bool, true, false, List, [], ◌∷◌, ◌++◌, refl, sym, ◌∙◌, ap, subst, Option, Some, None}
 use Rattle.schedule.proofs.Standing.{Facts, Stands, tries}
 use Rattle.schedule.specs.Histories.{IsClosed, IsLegalEntry, IsLegalHistory, Place, Place.Due, Place.Free, Place.Open, Place.Unstarted, StartedRun, StartedRunAt, if_made, next_places, next_shared, placed, places_after, shared_after, without_answers}
@@ -51,18 +51,18 @@ module _ {X T E V A : Type 0} (s : System X T E V A) where
     none_of_two (Some x) b h = absurd (cc)
     none_of_two None b h = (refl, h)
 
-    birth_step : (steps : ℕ → List (Step E V A)) (ends : ℕ → T) (x : X) (n : ℕ) (act : Act E V A) (G : List (Entry E V A)) (t : T) → StartedRunAt s steps ends x n act
+    start_step : (steps : ℕ → List (Step E V A)) (ends : ℕ → T) (x : X) (n : ℕ) (act : Act E V A) (G : List (Entry E V A)) (t : T) → StartedRunAt s steps ends x n act
         → (start_of s m (next_shared s x n act) G ≡ Some t → IsThreadRun s t (steps m) (ends m))
         → start_of s m x (if_made n act G) ≡ Some t → IsThreadRun s t (steps m) (ends m)
-    birth_step steps ends x n (Made e v) G t h ih b =
+    start_step steps ends x n (Made e v) G t h ih b =
         elim (first_of_two (s.starts x n e m) (start_of s m (s.after x n e) G) t b) [ inl k ↦ h m t k | inr k ↦ ih k.1 ]
-    birth_step steps ends x n (Heard a) G t h ih b = ih b
+    start_step steps ends x n (Heard a) G t h ih b = ih b
 
-    starts_birth : (steps : ℕ → List (Step E V A)) (ends : ℕ → T) (H : List (Entry E V A)) (x : X) (t : T) → StartedRun s steps ends x H
+    run_of_started : (steps : ℕ → List (Step E V A)) (ends : ℕ → T) (H : List (Entry E V A)) (x : X) (t : T) → StartedRun s steps ends x H
         → start_of s m x (without_answers H) ≡ Some t → IsThreadRun s t (steps m) (ends m)
-    starts_birth steps ends [] x t h b = absurd (cc)
-    starts_birth steps ends (e ∷ H) x t h b =
-        birth_step steps ends x e.thread e.act (without_answers H) t h.0 (λ k. starts_birth steps ends H (next_shared s x e.thread e.act) t h.1 k) b
+    run_of_started steps ends [] x t h b = absurd (cc)
+    run_of_started steps ends (e ∷ H) x t h b =
+        start_step steps ends x e.thread e.act (without_answers H) t h.0 (λ k. run_of_started steps ends H (next_shared s x e.thread e.act) t h.1 k) b
 
     pub stays_placed : (st : Option T) (gv : Option A) (o : Bool) (p : Place A) → p ≡ Unstarted → st ≡ None → o ≡ false → ((a : A) → gv ≡ Some a → p ≡ Open) → placed st gv o p ≡ Unstarted
     stays_placed (Some x) gv o p u b ob hg = absurd (cc)
@@ -83,11 +83,11 @@ module _ {X T E V A : Type 0} (s : System X T E V A) where
         let apart : m ≢ n = λ z. cc (u, h, ap q z) in
         (put-other q n Free m apart ∙ u, b)
 
-    unborn_stays : (H : List (Entry E V A)) (x : X) (q : ℕ → Place A) → IsLegalHistory s x q H → q m ≡ Unstarted → start_of s m x (without_answers H) ≡ None → places_after s x q H m ≡ Unstarted
-    unborn_stays [] x q l u b = u
-    unborn_stays (e ∷ H) x q l u b =
+    unstarted_stays : (H : List (Entry E V A)) (x : X) (q : ℕ → Place A) → IsLegalHistory s x q H → q m ≡ Unstarted → start_of s m x (without_answers H) ≡ None → places_after s x q H m ≡ Unstarted
+    unstarted_stays [] x q l u b = u
+    unstarted_stays (e ∷ H) x q l u b =
         let k = stays_step x q e.thread e.act (without_answers H) l.0 u b in
-        unborn_stays H (next_shared s x e.thread e.act) (next_places s x q e.thread e.act) l.1 k.0 k.1
+        unstarted_stays H (next_shared s x e.thread e.act) (next_places s x q e.thread e.act) l.1 k.0 k.1
 
 module _ {X T E V A : Type 0} (s : System X T E V A) (laws : Facts s) where
   ready_at : (p : Place A) (t : T) → IsClosed p → (p ≡ Unstarted → s.wants t ≡ Gone) → Ready s (flat p) t
@@ -96,14 +96,14 @@ module _ {X T E V A : Type 0} (s : System X T E V A) (laws : Facts s) where
   ready_at Open t c h = absurd c
   ready_at (Due a) t c h = absurd c
 
-  born_ends : (b : Option T) (t f end : T) (r steps : List (Step E V A)) → StartsSo s b t f r → (b ≡ None → ⊥) → ((x : T) → b ≡ Some x → IsThreadRun s x steps end)
+  started_ends : (b : Option T) (t f end : T) (r steps : List (Step E V A)) → StartsSo s b t f r → (b ≡ None → ⊥) → ((x : T) → b ≡ Some x → IsThreadRun s x steps end)
       → s.wants f ≡ Gone → tries r ≡ tries steps → f ≡ end
-  born_ends None t f end r steps x none some g e = absurd (none refl)
-  born_ends (Some y) t f end r steps x none some g e = unique s laws r steps y f end (run_of_path s r y f x g) (some y refl) e
+  started_ends None t f end r steps x none some g e = absurd (none refl)
+  started_ends (Some y) t f end r steps x none some g e = unique s laws r steps y f end (run_of_path s r y f x g) (some y refl) e
 
   ends_at : (p : Place A) (b : Option T) (t f end : T) (r steps : List (Step E V A)) → IsClosed p → Ext s (flat p) t f r b → Stands s steps end p t steps
       → (p ≡ Unstarted → b ≡ None → ⊥) → ((x : T) → b ≡ Some x → IsThreadRun s x steps end) → s.wants f ≡ Gone → tries r ≡ tries steps → f ≡ end
-  ends_at Unstarted b t f end r steps c x l none some g e = born_ends b t f end r steps x (none refl) some g e
+  ends_at Unstarted b t f end r steps c x l none some g e = started_ends b t f end r steps x (none refl) some g e
   ends_at Free b t f end r steps c x l none some g e = unique s laws r steps t f end (run_of_path s r t f x g) l e
   ends_at Open b t f end r steps c x l none some g e = absurd c
   ends_at (Due a) b t f end r steps c x l none some g e = absurd c
@@ -122,8 +122,8 @@ module _ {X T E V A : Type 0} (s : System X T E V A) (laws : Facts s) where
               ends_at (q m) (start_of s m w.shared (without_answers H)) (w.threads m) ((scheduled_run s w S).threads m) (ends m) (steps_made s m w S) (steps m) (run.closed m)
               (subst (λ G. Ext s (flat (q m)) (w.threads m) ((scheduled_run s w S).threads m) (steps_made s m w S) (start_of s m w.shared G)) makes.events (x m))
               (stands_first s laws steps ends (q m) (w.threads m) (ends m) (steps m) (run.closed m) (run.runs m))
-              (λ u b. h (unborn_stays s m H w.shared q run.legal u b))
-              (λ y b. starts_birth s m steps ends H w.shared y run.started b)
+              (λ u b. h (unstarted_stays s m H w.shared q run.legal u b))
+              (λ y b. run_of_started s m steps ends H w.shared y run.started b)
               (gone m h) (same m);
         }
 

@@ -8,7 +8,7 @@ use Rattle.schedule.specs.System.{Act, Act.Heard, Act.Made, Entry, Kind.Turn, Ma
 use Rattle.schedule.specs.ThreadRun.{IsThreadRun, acts, after_first_act, after_step}
 use Rattle.schedule.proofs.Basics.{same_is, other_is, at_each, put-same, put-other, scheduled_run-append, entries_made-append, steps_made-append}
 use Rattle.schedule.proofs.Orderly.{free_at_event}
-use Rattle.schedule.proofs.Weaving.{through, Front, front, First, first, split, awaited, not_done, ended}
+use Rattle.schedule.proofs.Marks.{through, Front, front, First, first, split, awaited, not_done, ended}
 
 module _ {X T E V A : Type 0} (s : System X T E V A) where
   -- what the marks for one event do
@@ -127,7 +127,7 @@ module _ {X T E V A : Type 0} (s : System X T E V A) (laws : Facts s) (steps : �
       (λ i. placed (st n) (gv n) (sym (put-same (λ (j : ℕ). false) n o) i) (sym free i))
       (sym (k.threads_are n ∙ ap (λ z. or_started (st n) (hears_any s z (gv n))) (put-same w.threads n t2)))
       (sym (put-same r n (after_first_act (r n))))
-      (stands_here s (steps n) (after_first_act (r n)) (ends n) t2 (st n) (gv n) o (λ x z. cc (free, g.legal.0.2 n x z)) (λ a z. (g.legal.0.3 n a z).1 refl) (λ z. laws.opened t1 e v f.fits z) f.lives) in
+      (stands_here s (steps n) (after_first_act (r n)) (ends n) t2 (st n) (gv n) o (λ x z. cc (free, g.legal.0.2 n x z)) (λ a z. (g.legal.0.3 n a z).1 refl) (λ z. laws.opened t1 e v f.fits z) f.runs) in
       let others : (m : ℕ) → m ≢ n → Stands s (steps m) (ends m) (q2 m) (w2.threads m) (r2 m) = λ m h.
       stands_by s (steps m) (ends m) (placed (st m) (gv m) false (q m)) (q2 m) (or_started (st m) (hears_any s (w.threads m) (gv m))) (w2.threads m) (r m) (r2 m)
       (λ i. placed (st m) (gv m) (sym (put-other (λ (j : ℕ). false) n o m h) i) (q m))

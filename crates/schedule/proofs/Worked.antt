@@ -1,16 +1,18 @@
 -- The worked example.
-use Rattle.std.proofs.Common.{◌≡◌, ◌≢◌, ℕ, zero, suc, ◌+◌, ◌<◌, ◌==◌, ◌⊎◌, inl, inr, Bool, true, false, cond, List, [], ◌∷◌, ◌++◌, length, refl, sym, ◌∙◌, ap, subst, arith, Option, Some, None}
+use Rattle.std.proofs.Common.{◌≡◌, ◌≢◌, ℕ, ◌<◌, ◌==◌, inl, inr, true, false, cond, List, [], ◌∷◌, ◌++◌, length, refl, sym, ◌∙◌, ap, subst, arith, Option, Some, None}
 use Rattle.schedule.proofs.Standing.{facts}
 use Rattle.schedule.specs.Histories.{IsClosed, IsLegalHistory, Place, Place.Free, Place.Open, Place.Unstarted, acts_of, places_after}
-use Rattle.schedule.specs.Machine.{MachineLaws, Thread, Thread.Absent, Thread.Left, Thread.Runs, Wish, Wish.Asks, Wish.Waits}
-use Rattle.schedule.specs.Schedules.{AllHaveSeen, ThreadsRun}
-use Rattle.schedule.specs.System.{Act, Act.Heard, Act.Made, Entry, Step, Want, Want.Gone, put}
-use Rattle.schedule.specs.ThreadRun.{IsThreadRun, Laws, acts}
+use Rattle.schedule.specs.Machine.{MachineLaws, Thread, Thread.Absent, Thread.Left, Thread.Runs, Wish.Asks, Wish.Waits}
+use Rattle.schedule.specs.Scheduled.{scheduled_run, steps_made}
+use Rattle.schedule.specs.Schedules.{AllGone, AllHaveSeen, LoseAsMany, Makes, ThreadsRun, schedule_of}
+use Rattle.schedule.specs.System.{Act, Act.Heard, Act.Made, Entry, Step, Want.Gone, put}
+use Rattle.schedule.specs.ThreadRun.{IsThreadRun, Laws, acts, losses_between}
 use Rattle.schedule.specs.Tries.{HasRoom, HasSeen, SeesAct, SeesLost, is_act_exempt}
-use Rattle.schedule.specs.Example.{Event, Event.Add, Event.Wait, Event.Notify, Event.Spawn, Event.Leave, is_question, is_leave, Shared, answers_by, starts_by, Instruction, Instruction.Think, Instruction.Do, Configuration, Configuration.At, Configuration.Waiting, Outcome, Outcome.Done, wishes, goes_on, machine, first_program, other_program, example, first_state, first_places, made, heard, beginning, ending, history, first_steps, other_steps, steps, ends, rules, WorkedRun, NoAnswerOfAnother, NoEntryAfterLeave}
-use Rattle.schedule.proofs.Basics.{same_is, other_is, same_or_not, at_each, put-same, put-other}
+use Rattle.schedule.specs.Example.{Event, Event.Add, Event.Wait, Event.Notify, Event.Spawn, Event.Leave, is_question, Instruction.Think, Instruction.Do, Configuration, Configuration.At, Configuration.Waiting, Outcome, Outcome.Done, wishes, goes_on, machine, first_program, other_program, example, first_state, first_places, made, heard, beginning, history, first_steps, other_steps, steps, ends, rules, WorkedRun, another, AnotherSchedule, NoAnswerOfAnother, NoEntryAfterLeave}
+use Rattle.schedule.proofs.Basics.{other_is, same_or_not, at_each, put-other}
 use Rattle.schedule.proofs.Budgets.{laws}
 use Rattle.schedule.proofs.Schedule.{one_schedule}
+use Rattle.schedule.proofs.Others.{other_schedule}
 use Rattle.schedule.proofs.Following.{follows}
 use Rattle.schedule.proofs.Leaving.{leaves_last}
 
@@ -279,6 +281,36 @@ worked =
       other_end = refl;
       follows = follows example rules example_laws first_state first_places steps ends history run seen one;
       gives = one.gives;
+    }
+
+no_steps_made : (m : ℕ) → m ≢ 0 → m ≢ 1 → steps_made example m first_state another ≡ []
+unfolding put
+no_steps_made m h0 h1 =
+    let f0 : (0 == m) ≡ false = other_is 0 m (λ z. h0 (sym z)) in
+    let f1 : (1 == m) ≡ false = other_is 1 m (λ z. h1 (sym z)) in
+    let e0 : (m == 0) ≡ false = other_is m 0 h0 in
+    let e1 : (m == 1) ≡ false = other_is m 1 h1 in
+    simp (f0, f1, e0, e1)
+
+pub another_schedule : AnotherSchedule
+unfolding put
+another_schedule =
+    let one = one_schedule example (facts example example_laws) steps ends first_state first_places history run in
+    let makes : Makes example first_state history another = record {
+      events = refl;
+      answers = of_each (λ m. acts (steps_made example m first_state another) ≡ acts_of m history) refl refl (λ m h0 h1. ap acts (no_steps_made m h0 h1) ∙ no_more_entries m h0 h1);
+    } in
+    let as_many : LoseAsMany example first_state (schedule_of history steps) another =
+    of_each (λ m. losses_between (steps_made example m first_state (schedule_of history steps)) ≡ losses_between (steps_made example m first_state another)) refl refl
+    (λ m h0 h1. ap losses_between (one.makes_steps m ∙ (no_more_steps m h0 h1 ∙ sym (no_steps_made m h0 h1)))) in
+    let gone : AllGone example first_state first_places history another =
+    of_each (λ m. places history m ≢ Unstarted → example.wants ((scheduled_run example first_state another).threads m) ≡ Gone) (λ z. refl) (λ z. refl)
+    (λ m h0 h1 z. absurd (z (never_started m h0 h1))) in
+    record {
+      makes = makes;
+      losses = as_many;
+      gone = gone;
+      gives = other_schedule example (facts example example_laws) first_state first_places steps ends history run another makes as_many gone;
     }
 
 pub no_answer_of_another : NoAnswerOfAnother

@@ -1,10 +1,10 @@
 -- A worked example: two threads over one word and a queue in which one thread can sleep.
-use Rattle.std.specs.Prelude.{ℕ, ◌≡◌, ◌+◌, ◌==◌, Bool, true, false, not, cond, List, [], ◌∷◌, ◌++◌, Option, Some, None}
-use Rattle.schedule.specs.System.{Act, Act.Made, Act.Heard, Step, Step.Own, Step.Lost, Step.Acts, Entry, Kind, Kind.Turn, Kind.Loses, Mark, System, State, put}
+use Rattle.std.specs.Prelude.{ℕ, ◌≡◌, ◌+◌, ◌==◌, Bool, true, false, cond, List, [], ◌∷◌, ◌++◌, Option, Some, None}
+use Rattle.schedule.specs.System.{Act.Made, Act.Heard, Step, Step.Own, Step.Lost, Step.Acts, Entry, Kind, Kind.Turn, Kind.Loses, Mark, System, State, put}
 use Rattle.schedule.specs.Scheduled.{scheduled_run}
 use Rattle.schedule.specs.Histories.{Place, Place.Unstarted, Place.Free, IsLegalHistory}
 use Rattle.schedule.specs.Tries.{TryRules}
-use Rattle.schedule.specs.Schedules.{schedule_of, ThreadsRun, AllHaveSeen, Follows, GivesEnds}
+use Rattle.schedule.specs.Schedules.{schedule_of, ThreadsRun, AllHaveSeen, Follows, Makes, LoseAsMany, AllGone, GivesEnds}
 use Rattle.schedule.specs.Machine.{Wish, Wish.Goes, Wish.Asks, Wish.Waits, Wish.Ends, Machine, MachineLaws, Thread, Thread.Absent, Thread.Runs, Thread.Left, system}
 
 -- A number is added to the word; a thread sleeps if the word is this one; who sleeps is woken; a thread starts; one leaves.
@@ -17,24 +17,15 @@ pub data Event : Type 0 where
 
 abbrev pub is_question : Event → Bool
 is_question (Add k) = false
-is_question (Wait k) = true
-is_question Notify = true
-is_question Spawn = true
-is_question Leave = true
+is_question _ = true
 
 abbrev pub is_add : Event → Bool
 is_add (Add k) = true
-is_add (Wait k) = false
-is_add Notify = false
-is_add Spawn = false
-is_add Leave = false
+is_add _ = false
 
 abbrev pub is_leave : Event → Bool
-is_leave (Add k) = false
-is_leave (Wait k) = false
-is_leave Notify = false
-is_leave Spawn = false
 is_leave Leave = true
+is_leave _ = false
 
 -- The word, who sleeps, and the number of the next thread.
 pub record Shared : Type 0 where
@@ -202,6 +193,19 @@ pub record WorkedRun : Type 0 where
   pub other_end : (scheduled_run example first_state (schedule_of history steps)).threads 1 ≡ Left Done 6
   pub follows : Follows example rules first_state first_places history (schedule_of history steps)
   pub gives : GivesEnds example first_state first_places ends history (schedule_of history steps)
+
+-- Another schedule: thread 1 thinks and loses its try at once, before thread 0 adds. The first mark has no step, since a
+-- spawn is never lost.
+abbrev pub another : List Mark
+another =
+    mark 0 Loses ∷ (mark 0 Turn ∷ (mark 1 Turn ∷ (mark 1 Loses ∷ (mark 0 Turn ∷ (mark 0 Turn ∷ (mark 1 Turn ∷ (mark 1 Turn ∷ (mark 1 Turn ∷ (mark 0 Turn ∷ [])))))))))
+
+-- It makes the history with as many lost tries, leaves both threads gone, and so gives the same ends.
+pub record AnotherSchedule : Type 0 where
+  pub makes : Makes example first_state history another
+  pub losses : LoseAsMany example first_state (schedule_of history steps) another
+  pub gone : AllGone example first_state first_places history another
+  pub gives : GivesEnds example first_state first_places ends history another
 
 -- Thread 1 hears what thread 0 was told: no legal history goes on so.
 abbrev pub NoAnswerOfAnother : Type 0

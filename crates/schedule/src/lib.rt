@@ -7,7 +7,7 @@
 #![tactic(auto)]
 
 ghost use Rattle.schedule.specs.Theorems.{OneSchedule, ScheduleFollows, EveryOtherGivesTheSame, ThreadsWithBudgetsKeepTheLaws, ThreadsLeaveLast, ActsAndLossesFixTheEnd, ScheduledRunsGoOn};
-ghost use Rattle.schedule.specs.Example.{WorkedRun, NoAnswerOfAnother, NoEntryAfterLeave};
+ghost use Rattle.schedule.specs.Example.{WorkedRun, AnotherSchedule, NoAnswerOfAnother, NoEntryAfterLeave};
 
 /// The schedule of a history makes the history, gives every thread's end and the shared state after the history.
 pub fn one_schedule<X, T, E, V, A>()
@@ -48,6 +48,11 @@ pub fn scheduled_runs_go_on<X, T, E, V, A>()
 /// A worked run: one thread starts another and sleeps, the other loses a try, adds and wakes it, and both leave.
 pub fn a_worked_run()
     ensures { WorkedRun }
+{}
+
+/// Another schedule of that history, in which a thread loses its try earlier, gives the same ends.
+pub fn another_schedule_gives_the_same()
+    ensures { AnotherSchedule }
 {}
 
 /// An answer told to another thread is not legal.

@@ -1,6 +1,5 @@
 use Rattle.schedule.proofs.every_other_gives_the_same.Goals as goal
-use Rattle.schedule.proofs.Standing.{facts}
-use Rattle.schedule.proofs.Others.{other_schedule}
+use Rattle.schedule.proofs.Laws as laws
 
 pub returns : goal.returns
-returns g c = λ s laws first places steps ends H run S makes same gone. other_schedule s (facts s laws) first places steps ends H run S makes same gone
+returns g c = laws.every_other_gives_the_same g.row.X.Denot g.row.T.Denot g.row.E.Denot g.row.V.Denot g.row.A.Denot

@@ -1,6 +1,5 @@
 use Rattle.schedule.proofs.one_schedule.Goals as goal
-use Rattle.schedule.proofs.Standing.{facts}
-use Rattle.schedule.proofs.Schedule.{one_schedule}
+use Rattle.schedule.proofs.Laws as laws
 
 pub returns : goal.returns
-returns g c = λ s laws w q steps ends H run. one_schedule s (facts s laws) steps ends w q H run
+returns g c = laws.one_schedule g.row.X.Denot g.row.T.Denot g.row.E.Denot g.row.V.Denot g.row.A.Denot

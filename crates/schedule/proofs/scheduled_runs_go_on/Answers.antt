@@ -1,5 +1,5 @@
 use Rattle.schedule.proofs.scheduled_runs_go_on.Goals as goal
-use Rattle.schedule.proofs.Basics.{scheduled_run-append, entries_made-append, steps_made-append}
+use Rattle.schedule.proofs.Laws as laws
 
 pub returns : goal.returns
-returns g c = λ s w S S'. record { run = scheduled_run-append s w S S'; entries = entries_made-append s w S S'; steps = λ m. steps_made-append s m w S S' }
+returns g c = laws.scheduled_runs_go_on g.row.X.Denot g.row.T.Denot g.row.E.Denot g.row.V.Denot g.row.A.Denot

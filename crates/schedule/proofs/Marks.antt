@@ -90,18 +90,18 @@ module _ {X T E V A : Type 0} (s : System X T E V A) where
   -- the first act, and what is left after it
   pub record First (t : T) (r : List (Step E V A)) (end : T) (a : Act E V A) (more : List (Act E V A)) : Type 0 where
     pub fits : Fits s (through t r) (Acts a)
-    pub lives : IsThreadRun s (after_step s (through t r) (Acts a)) (after_first_act r) end
+    pub runs : IsThreadRun s (after_step s (through t r) (Acts a)) (after_first_act r) end
     pub left : acts (after_first_act r) ≡ more
 
   pub first : (r : List (Step E V A)) (t end : T) (a : Act E V A) (more : List (Act E V A)) → IsThreadRun s t r end → acts r ≡ a ∷ more → First t r end a more
   first [] t end a more l e = absurd (cc)
-  first (Own ∷ r) t end a more l e = let f = first r (s.own_turn t) end a more l.1 e in record { fits = f.fits; lives = f.lives; left = f.left }
-  first (Lost x ∷ r) t end a more l e = let f = first r (s.lost t) end a more l.1 e in record { fits = f.fits; lives = f.lives; left = f.left }
-  first (Full x ∷ r) t end a more l e = let f = first r (s.full t) end a more l.1 e in record { fits = f.fits; lives = f.lives; left = f.left }
+  first (Own ∷ r) t end a more l e = let f = first r (s.own_turn t) end a more l.1 e in record { fits = f.fits; runs = f.runs; left = f.left }
+  first (Lost x ∷ r) t end a more l e = let f = first r (s.lost t) end a more l.1 e in record { fits = f.fits; runs = f.runs; left = f.left }
+  first (Full x ∷ r) t end a more l e = let f = first r (s.full t) end a more l.1 e in record { fits = f.fits; runs = f.runs; left = f.left }
   first (Acts b ∷ r) t end a more l e =
       let same : b ≡ a = cc in
       let same_left : acts r ≡ more = cc in
-      record { fits = subst (λ c. Fits s t (Acts c)) same l.0; lives = subst (λ c. IsThreadRun s (after_step s t (Acts c)) r end) same l.1; left = same_left }
+      record { fits = subst (λ c. Fits s t (Acts c)) same l.0; runs = subst (λ c. IsThreadRun s (after_step s t (Acts c)) r end) same l.1; left = same_left }
 
   pub split : (r : List (Step E V A)) (a : Act E V A) (more : List (Act E V A)) → acts r ≡ a ∷ more → r ≡ before_first_act r ++ (Acts a ∷ after_first_act r)
   split [] a more e = absurd (cc)
