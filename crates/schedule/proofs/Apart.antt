@@ -133,14 +133,14 @@ module _ {X T E V A W : Type 0} (s : System X T E V A) (rules : TryRules X E W) 
   none_later (o ∷ H) x =
       let x' : X = next_shared s x o.thread o.act in
       true_case (o.thread == n) (HasEnough s rules n x' H [] × HasEnoughLater s rules H n x' []) (HasEnoughLater s rules H n x' [])
-      (λ k. ((λ e h. absurd (cc (h))), none_later H x')) (λ k. none_later H x')
+      (λ k. ((λ e h. absurd h), none_later H x')) (λ k. none_later H x')
 
   pub none_once : (H : List (Entry E V A)) (x : X) → HasEnoughOnceStarted s rules H n x []
   none_once [] x = tt
   none_once (o ∷ H) x =
       let x' : X = next_shared s x o.thread o.act in
       some_case (starts_at s n x o.thread o.act) (HasEnough s rules n x' H [] × HasEnoughLater s rules H n x' []) (HasEnoughOnceStarted s rules H n x' [])
-      (λ t k. ((λ e h. absurd (cc (h))), none_later H x')) (λ k. none_once H x')
+      (λ t k. ((λ e h. absurd h), none_later H x')) (λ k. none_once H x')
 
   -- full logs
   pub full_over : (others H : List (Entry E V A)) (count : ℕ) (steps : List (Step E V A)) → acts_of n others ≡ [] → IsFullOnlyAtLimit s rules H n (count + length others) steps

@@ -1,8 +1,8 @@
 -- The schedule of a history follows it.
 use Rattle.std.proofs.Common.{◌≡◌, ◌≢◌, ℕ, suc, ◌+◌, ◌⊎◌, inl, inr, true, false, List, [], ◌∷◌, ◌++◌, length, refl, sym, ◌∙◌, ap, subst, arith, append_assoc, Option, Some, None}
 use Rattle.schedule.specs.Histories.{acts_of, next_shared, shared_after}
-use Rattle.schedule.specs.System.{Entry, Step, Step.Acts, Step.Full, Step.Lost, Step.Own, System, Want.Calls}
-use Rattle.schedule.specs.ThreadRun.{IsGivingUp, IsLeaving, IsThreadRun, Laws, acts, after_step, first_lost, losses}
+use Rattle.schedule.specs.System.{Entry, Step, Step.Acts, Step.Full, Step.Lost, Step.Own, System, Want, Want.Calls}
+use Rattle.schedule.specs.ThreadRun.{IsGivingUp, IsLeaving, IsLost, IsThreadRun, Laws, acts, after_step, losses}
 use Rattle.schedule.specs.Tries.{HasChanges, HasEnough, HasEnoughLater, HasReached, HasRoom, IsChanged, IsFullOnlyAtLimit, SeesAll, TryRules, is_act_exempt}
 use Rattle.schedule.proofs.Apart.{if_same, acts_over, acts_here, length_over, shared_over, no_changes, one_more, enough_over, later_over, later_by, none_later, full_over, full_by, full_found, none_full, HasRoomItself, room_apart, room_over}
 
@@ -98,58 +98,56 @@ module _ {X T E V A W : Type 0} (s : System X T E V A) (rules : TryRules X E W) 
       counted a b c d e h k = omega arith
 
   -- a try that is lost is one of the same event as the one lost before it
-  leaving_loses_none : Laws s → (leave : E) → ((t : T) → s.may_fill t ≡ true → s.wants t ≡ Calls leave → ⊥) → (r : List (Step E V A)) (t end : T) → IsLeaving s leave t → IsThreadRun s t r end → first_lost r ≡ None
-  leaving_loses_none laws leave fills [] t end h run = refl
-  leaving_loses_none laws leave fills (Own ∷ r) t end h run = absurd (cc (h.0, run.0))
-  leaving_loses_none laws leave fills (Lost y ∷ r) t end h run = absurd (cc (h.1, run.0.1))
-  leaving_loses_none laws leave fills (Full y ∷ r) t end h run = absurd (fills t run.0.1 h.0)
-  leaving_loses_none laws leave fills (Acts a ∷ r) t end h run = refl
+  leaving_loses_none : (leave : E) → ((t : T) → s.may_fill t ≡ true → s.wants t ≡ Calls leave → ⊥) → (r : List (Step E V A)) (t end : T) → IsLeaving s leave t → IsThreadRun s t r end
+      → (z : E) → IsLost z r → ⊥
+  leaving_loses_none leave fills [] t end h run z k = k
+  leaving_loses_none leave fills (Own ∷ r) t end h run z k = cc (h.0, run.0)
+  leaving_loses_none leave fills (Lost y ∷ r) t end h run z k = cc (h.1, run.0.1)
+  leaving_loses_none leave fills (Full y ∷ r) t end h run z k = fills t run.0.1 h.0
+  leaving_loses_none leave fills (Acts a ∷ r) t end h run z k = k
+
+  -- none is lost, or one is
+  lost_or_none : (r : List (Step E V A)) → (losses r ≡ 0) ⊎ ((z : E) × IsLost z r)
+  lost_or_none [] = inl refl
+  lost_or_none (Own ∷ r) = lost_or_none r
+  lost_or_none (Lost y ∷ r) = inr (y, inl refl)
+  lost_or_none (Full y ∷ r) = lost_or_none r
+  lost_or_none (Acts a ∷ r) = inl refl
 
   module _ (laws : Laws s) where
-    again_same : (r : List (Step E V A)) (t end : T) (e z : E) → s.wants t ≡ Calls e → IsThreadRun s t r end → first_lost r ≡ Some z → z ≡ e
-    again_same [] t end e z h run is = absurd (cc (is))
-    again_same (Own ∷ r) t end e z h run is = absurd (cc (h, run.0))
-    again_same (Lost y ∷ r) t end e z h run is = cc (h, run.0.0, is)
-    again_same (Full y ∷ r) t end e z h run is =
-        absurd (cc (is, leaving_loses_none laws laws.leave laws.leave_fills r (s.full t) end (laws.full_leaves t run.0.1) run.1))
-    again_same (Acts a ∷ r) t end e z h run is = absurd (cc (is))
-
-    lost_same : (r : List (Step E V A)) (t end : T) (e z : E) → (s.wants t ≡ Calls e) ⊎ IsGivingUp s laws.leave t → IsThreadRun s t r end → first_lost r ≡ Some z → z ≡ e
-    lost_same r t end e z (inl h) run is = again_same r t end e z h run is
-    lost_same [] t end e z (inr h) run is = absurd (cc (is))
-    lost_same (Own ∷ r) t end e z (inr h) run is = absurd (cc (is, leaving_loses_none laws laws.leave laws.leave_fills r (s.own_turn t) end h.1 run.1))
-    lost_same (Lost y ∷ r) t end e z (inr h) run is = absurd (cc (h.0, run.0.0))
-    lost_same (Full y ∷ r) t end e z (inr h) run is = absurd (cc (h.0, run.0.0))
-    lost_same (Acts a ∷ r) t end e z (inr h) run is = absurd (cc (is))
-
-    none_lost : (r : List (Step E V A)) → first_lost r ≡ None → losses r ≡ 0
-    none_lost [] h = refl
-    none_lost (Own ∷ r) h = none_lost r h
-    none_lost (Lost y ∷ r) h = absurd (cc (h))
-    none_lost (Full y ∷ r) h = none_lost r h
-    none_lost (Acts a ∷ r) h = refl
+    lost_same : (r : List (Step E V A)) (t end : T) (e z : E) → (s.wants t ≡ Calls e) ⊎ IsGivingUp s laws.leave t → IsThreadRun s t r end → IsLost z r → z ≡ e
+    lost_same [] t end e z h run k = absurd k
+    lost_same (Own ∷ r) t end e z (inl h) run k = absurd (cc (h, run.0))
+    lost_same (Own ∷ r) t end e z (inr h) run k = absurd (leaving_loses_none laws.leave laws.leave_fills r (s.own_turn t) end h.1 run.1 z k)
+    lost_same (Lost y ∷ r) t end e z (inl h) run (inl k) = cc (h, run.0.0, k)
+    lost_same (Lost y ∷ r) t end e z (inl h) run (inr k) =
+        let same : y ≡ e = cc (h, run.0.0) in
+        lost_same r (s.lost t) end y z (laws.lost_again t y run.0.1 run.0.0) run.1 k ∙ same
+    lost_same (Lost y ∷ r) t end e z (inr h) run k = absurd (cc (h.0, run.0.0))
+    lost_same (Full y ∷ r) t end e z (inl h) run k = absurd (leaving_loses_none laws.leave laws.leave_fills r (s.full t) end (laws.full_leaves t run.0.1) run.1 z k)
+    lost_same (Full y ∷ r) t end e z (inr h) run k = absurd (cc (h.0, run.0.0))
+    lost_same (Acts a ∷ r) t end e z h run k = absurd k
 
     -- up to the next act, others change what is touched as often as tries of it are lost
     pub enough : (r : List (Step E V A)) (t end : T) (count : ℕ) (x : X) (H : List (Entry E V A)) → IsThreadRun s t r end → Ahead r count x H → HasEnough s rules n x H r
-    enough [] t end count x H run h = λ e is. absurd (cc (is))
+    enough [] t end count x H run h = λ e is. absurd is
     enough (Own ∷ r) t end count x H run h = enough r (s.own_turn t) end count x H run.1 h
     enough (Lost y ∷ r) t end count x H run h = λ e is.
-        let same : y ≡ e = cc (is) in
+        let again : (s.wants (s.lost t) ≡ Calls y) ⊎ IsGivingUp s laws.leave (s.lost t) = laws.lost_again t y run.0.1 run.0.0 in
         let x' : X = shared_after s x h.0 in
         let behind : HasChanges s rules h.1 (losses r) n y x' =
-        at_next (first_lost r) refl (λ z k. let eq : z ≡ y = lost_same r (s.lost t) end y z (laws.lost_again t y run.0.1 run.0.0) run.1 k in
-        subst (λ v. HasChanges s rules h.1 (losses r) n v x') eq (enough r (s.lost t) end (count + length h.0) x' h.1 run.1 h.6 z k)) in
+        elim (lost_or_none r) [
+          | inl k ↦ subst (λ v. HasChanges s rules h.1 v n y x') (sym k) (no_changes s rules n h.1 y x')
+          | inr k ↦ subst (λ v. HasChanges s rules h.1 (losses r) n v x') (lost_same r (s.lost t) end y k.0 again run.1 k.1)
+              (enough r (s.lost t) end (count + length h.0) x' h.1 run.1 h.6 k.0 k.1)
+        ] in
+        let same : y ≡ e = elim is [ inl k ↦ k | inr k ↦ sym (lost_same r (s.lost t) end y e again run.1 k) ] in
         subst (λ v. HasChanges s rules H (suc (losses r)) n v x) same
         (subst (λ v. HasChanges s rules v (suc (losses r)) n y x) (sym h.2) (one_more s rules n h.0 h.1 (losses r) y x h.3 h.5 behind))
-      where
-        at_next : (o : Option E) → first_lost r ≡ o → ((z : E) → first_lost r ≡ Some z → HasChanges s rules h.1 (losses r) n y (shared_after s x h.0))
-            → HasChanges s rules h.1 (losses r) n y (shared_after s x h.0)
-        at_next None k f = subst (λ v. HasChanges s rules h.1 v n y (shared_after s x h.0)) (sym (none_lost r k)) (no_changes s rules n h.1 y (shared_after s x h.0))
-        at_next (Some z) k f = f z k
     enough (Full y ∷ r) t end count x H run h =
         subst (λ v. HasEnough s rules n x v (Full y ∷ r)) (sym h.2)
         (enough_over s rules n h.0 h.1 x r h.3 (enough r (s.full t) end (count + length h.0) (shared_after s x h.0) h.1 run.1 h.5))
-    enough (Acts a ∷ r) t end count x H run h = λ e is. absurd (cc (is))
+    enough (Acts a ∷ r) t end count x H run h = λ e is. absurd is
 
     pub enough_later : (r : List (Step E V A)) (t end : T) (count : ℕ) (x : X) (H : List (Entry E V A)) → IsThreadRun s t r end → Ahead r count x H → HasEnoughLater s rules H n x r
     enough_later [] t end count x H run h = none_later s rules n H x

@@ -115,9 +115,9 @@ module _ {X T E V A W : Type 0} (s : System X T E V A) (rules : TryRules X E W) 
 
     nothing_covered : (m : ℕ) (p : Place A) → AreLossesCovered s rules p m w.shared H []
     nothing_covered m Unstarted = none_once s rules m H w.shared
-    nothing_covered m Free = ((λ e h. absurd (cc (h))), none_later s rules m H w.shared)
-    nothing_covered m Open = ((λ e h. absurd (cc (h))), none_later s rules m H w.shared)
-    nothing_covered m (Due a) = ((λ e h. absurd (cc (h))), none_later s rules m H w.shared)
+    nothing_covered m Free = ((λ e h. absurd h), none_later s rules m H w.shared)
+    nothing_covered m Open = ((λ e h. absurd h), none_later s rules m H w.shared)
+    nothing_covered m (Due a) = ((λ e h. absurd h), none_later s rules m H w.shared)
 
     of_thread : AllHaveSeen s rules w q steps H → (m : ℕ) → Of q w.shared H steps m
     of_thread seen m = elim (is_unstarted (places_after s w.shared q H m)) [

@@ -115,10 +115,10 @@ machine = record {
 
 -- Thread 0 starts the other one, adds 5, and sleeps while the word is 5; the other one thinks, adds 1 and notifies.
 abbrev pub first_program : List Instruction
-first_program = Do Spawn ∷ (Do (Add 5) ∷ (Do (Wait 5) ∷ []))
+first_program = Do Spawn ∷ Do (Add 5) ∷ Do (Wait 5) ∷ []
 
 abbrev pub other_program : List Instruction
-other_program = Think ∷ (Do (Add 1) ∷ (Do Notify ∷ []))
+other_program = Think ∷ Do (Add 1) ∷ Do Notify ∷ []
 
 abbrev pub starts_by : Shared → Event → ℕ → Option (Thread Configuration Outcome)
 starts_by x (Add k) m = None
@@ -150,21 +150,21 @@ heard n a = record { thread = n; act = Heard a }
 
 -- Thread 1 is there, and thread 0 has added 5 and sleeps; so far thread 1 lost a try to add 1.
 abbrev pub beginning : List (Entry Event (Option ℕ) ℕ)
-beginning = made 0 Spawn None ∷ (heard 0 1 ∷ (made 0 (Add 5) (Some 0) ∷ (made 0 (Wait 5) (Some 5) ∷ [])))
+beginning = made 0 Spawn None ∷ heard 0 1 ∷ made 0 (Add 5) (Some 0) ∷ made 0 (Wait 5) (Some 5) ∷ []
 
 -- It adds, and wakes thread 0, which hears of it later; both leave.
 abbrev pub ending : List (Entry Event (Option ℕ) ℕ)
 ending =
-    made 1 (Add 1) (Some 5) ∷ (made 1 Notify None ∷ (heard 1 1 ∷ (made 1 Leave None ∷ (heard 0 0 ∷ (heard 1 0 ∷ (made 0 Leave None ∷ (heard 0 0 ∷ [])))))))
+    made 1 (Add 1) (Some 5) ∷ made 1 Notify None ∷ heard 1 1 ∷ made 1 Leave None ∷ heard 0 0 ∷ heard 1 0 ∷ made 0 Leave None ∷ heard 0 0 ∷ []
 
 abbrev pub history : List (Entry Event (Option ℕ) ℕ)
 history = beginning ++ ending
 
 abbrev pub first_steps : List (Step Event (Option ℕ) ℕ)
-first_steps = Acts (Made Spawn None) ∷ (Acts (Heard 1) ∷ (Acts (Made (Add 5) (Some 0)) ∷ (Acts (Made (Wait 5) (Some 5)) ∷ (Acts (Heard 0) ∷ (Acts (Made Leave None) ∷ (Acts (Heard 0) ∷ []))))))
+first_steps = Acts (Made Spawn None) ∷ Acts (Heard 1) ∷ Acts (Made (Add 5) (Some 0)) ∷ Acts (Made (Wait 5) (Some 5)) ∷ Acts (Heard 0) ∷ Acts (Made Leave None) ∷ Acts (Heard 0) ∷ []
 
 abbrev pub other_steps : List (Step Event (Option ℕ) ℕ)
-other_steps = Own ∷ (Lost (Add 1) ∷ (Acts (Made (Add 1) (Some 5)) ∷ (Acts (Made Notify None) ∷ (Acts (Heard 1) ∷ (Acts (Made Leave None) ∷ (Acts (Heard 0) ∷ []))))))
+other_steps = Own ∷ Lost (Add 1) ∷ Acts (Made (Add 1) (Some 5)) ∷ Acts (Made Notify None) ∷ Acts (Heard 1) ∷ Acts (Made Leave None) ∷ Acts (Heard 0) ∷ []
 
 abbrev pub steps : ℕ → List (Step Event (Option ℕ) ℕ)
 steps = put (put (λ (m : ℕ). []) 1 other_steps) 0 first_steps
@@ -187,7 +187,7 @@ pub record WorkedRun : Type 0 where
   pub seen : AllHaveSeen example rules first_state first_places steps history
   pub schedule :
       schedule_of history steps
-      ≡ mark 0 Turn ∷ (mark 0 Turn ∷ (mark 0 Turn ∷ (mark 1 Turn ∷ (mark 1 Loses ∷ (mark 1 Turn ∷ (mark 1 Turn ∷ (mark 1 Turn ∷ (mark 0 Turn ∷ []))))))))
+      ≡ mark 0 Turn ∷ mark 0 Turn ∷ mark 0 Turn ∷ mark 1 Turn ∷ mark 1 Loses ∷ mark 1 Turn ∷ mark 1 Turn ∷ mark 1 Turn ∷ mark 0 Turn ∷ []
   pub word : (scheduled_run example first_state (schedule_of history steps)).shared.word ≡ 6
   pub first_end : (scheduled_run example first_state (schedule_of history steps)).threads 0 ≡ Left Done 7
   pub other_end : (scheduled_run example first_state (schedule_of history steps)).threads 1 ≡ Left Done 6
@@ -198,7 +198,7 @@ pub record WorkedRun : Type 0 where
 -- spawn is never lost.
 abbrev pub another : List Mark
 another =
-    mark 0 Loses ∷ (mark 0 Turn ∷ (mark 1 Turn ∷ (mark 1 Loses ∷ (mark 0 Turn ∷ (mark 0 Turn ∷ (mark 1 Turn ∷ (mark 1 Turn ∷ (mark 1 Turn ∷ (mark 0 Turn ∷ [])))))))))
+    mark 0 Loses ∷ mark 0 Turn ∷ mark 1 Turn ∷ mark 1 Loses ∷ mark 0 Turn ∷ mark 0 Turn ∷ mark 1 Turn ∷ mark 1 Turn ∷ mark 1 Turn ∷ mark 0 Turn ∷ []
 
 -- It makes the history with as many lost tries, leaves both threads gone, and so gives the same ends.
 pub record AnotherSchedule : Type 0 where
@@ -209,7 +209,7 @@ pub record AnotherSchedule : Type 0 where
 
 -- Thread 1 hears what thread 0 was told: no legal history goes on so.
 abbrev pub NoAnswerOfAnother : Type 0
-NoAnswerOfAnother = (more : List (Entry Event (Option ℕ) ℕ)) → IsLegalHistory example first_state.shared first_places (made 0 Spawn None ∷ (heard 1 1 ∷ more)) → ⊥
+NoAnswerOfAnother = (more : List (Entry Event (Option ℕ) ℕ)) → IsLegalHistory example first_state.shared first_places (made 0 Spawn None ∷ heard 1 1 ∷ more) → ⊥
 
 -- Thread 0 adds once more after it has left: no threads run so.
 abbrev pub NoEntryAfterLeave : Type 0

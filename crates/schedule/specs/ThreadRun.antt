@@ -19,7 +19,7 @@ module _ {E V A : Type 0} where
   after_first_act (Full e ∷ steps) = after_first_act steps
   after_first_act (Acts a ∷ steps) = steps
 
-  -- How many tries are lost before the first act, and of which event: a thread that lost a try tries the same again.
+  -- How many tries are lost before the first act, and that one of them was of this event.
   abbrev pub losses : List (Step E V A) → ℕ
   losses [] = 0
   losses (Own ∷ steps) = losses steps
@@ -27,12 +27,12 @@ module _ {E V A : Type 0} where
   losses (Full e ∷ steps) = losses steps
   losses (Acts a ∷ steps) = 0
 
-  abbrev pub first_lost : List (Step E V A) → Option E
-  first_lost [] = None
-  first_lost (Own ∷ steps) = first_lost steps
-  first_lost (Lost e ∷ steps) = Some e
-  first_lost (Full e ∷ steps) = first_lost steps
-  first_lost (Acts a ∷ steps) = None
+  abbrev pub IsLost : E → List (Step E V A) → Type 0
+  IsLost e [] = ⊥
+  IsLost e (Own ∷ steps) = IsLost e steps
+  IsLost e (Lost x ∷ steps) = (x ≡ e) ⊎ IsLost e steps
+  IsLost e (Full x ∷ steps) = IsLost e steps
+  IsLost e (Acts a ∷ steps) = ⊥
 
   -- Whether a try before the first act found the log full.
   abbrev pub found_full : List (Step E V A) → Bool

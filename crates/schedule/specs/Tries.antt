@@ -1,7 +1,7 @@
 -- Lost tries and full logs: what a thread saw at each of its steps, and what then stands in the history.
 use Rattle.std.specs.Prelude.{ℕ, suc, zero, ◌≡◌, ◌≢◌, ◌==◌, ◌<◌, ◌≤◌, ◌⊎◌, Bool, true, false, List, [], ◌∷◌, ◌++◌, length, Option, Some, None}
 use Rattle.schedule.specs.System.{Act, Act.Made, Act.Heard, Step, Step.Own, Step.Lost, Step.Full, Step.Acts, Entry, Mark, Kind, Kind.Turn, Kind.Loses, Kind.Fills, System}
-use Rattle.schedule.specs.ThreadRun.{after_first_act, losses, first_lost, found_full}
+use Rattle.schedule.specs.ThreadRun.{after_first_act, losses, IsLost, found_full}
 use Rattle.schedule.specs.Histories.{Place, Place.Unstarted, Place.Free, Place.Open, Place.Due, acts_of, next_shared, shared_after, places_after, starts_at}
 
 -- Of a shared state X and events E: whether tries can be lost, what an event touches, which another changes where a try of
@@ -103,9 +103,9 @@ module _ {X T E V A W : Type 0} (s : System X T E V A) (rules : TryRules X E W) 
       × (((rules.touched (next_shared s x h.thread h.act) e ≢ rules.touched x e) × HasChanges H count n e (next_shared s x h.thread h.act))
       ⊎ HasChanges H (suc count) n e (next_shared s x h.thread h.act))
 
-  -- As many as the tries that the thread loses before its next act.
+  -- For each event of which the thread loses a try before its next act, as many as the tries that it loses there.
   abbrev pub HasEnough : ℕ → X → List (Entry E V A) → List (Step E V A) → Type 0
-  HasEnough n x H steps = (e : E) → first_lost steps ≡ Some e → HasChanges H (losses steps) n e x
+  HasEnough n x H steps = (e : E) → IsLost e steps → HasChanges H (losses steps) n e x
 
   -- So after each entry of the thread,
   abbrev pub HasEnoughLater : List (Entry E V A) → ℕ → X → List (Step E V A) → Type 0
