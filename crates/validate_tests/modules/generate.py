@@ -30,7 +30,7 @@ def answer_of(words, name):
 
 cases = re.findall(r"^== (\w+): (.*)\n((?:(?!==).*\n?)*)", (here / "modules.txt").read_text(), re.M)
 assert len({name for name, _, _ in cases}) == len(cases), "a name stands twice"
-lines = []
+lines, all_bytes, numbers = [], [], {}
 with tempfile.TemporaryDirectory() as folder:
     text, binary = folder + "/m.wat", folder + "/m.wasm"
     for name, answer, module in cases:
@@ -45,9 +45,13 @@ with tempfile.TemporaryDirectory() as folder:
         accepted = run(["wasm-validate", *features, binary]).returncode == 0
         if not own and accepted != (words == ["valid"]):
             sys.exit(f"{name}: wasm-validate says {'valid' if accepted else 'not valid'}")
-        bytes_ = pathlib.Path(binary).read_bytes()
-        literal = ", ".join(f"0x{b:02x}" for b in bytes_)
-        lines.append(f"    Case {{\n        name: \"{name}\",\n        answer: {answer_of(words, name)},\n        bytes: &[{literal}],\n    }},\n")
+        start = len(all_bytes)
+        all_bytes += pathlib.Path(binary).read_bytes()
+        numbers[name] = len(lines)
+        lines.append(f"    // {name}\n    Case {{\n        answer: {answer_of(words, name)},\n        start: {start},\n        end: {len(all_bytes)},\n    }},\n")
+
+# The modules that tests ask for by name.
+NAMED = ["data_over_data", "data_to_the_end", "globals", "table_of_labels", "spawns"]
 
 head = """//! Modules in the binary format, with what the validator answers of them. Written by modules/generate.py from
 //! modules/modules.txt.
@@ -66,13 +70,18 @@ pub enum Answer {
     InBody(Fault, usize, usize),
 }
 
-/// A module's name here, the answer, and its bytes.
+/// A module: the answer, and where its bytes start and end in `BYTES`.
+#[derive(Clone, Copy)]
 pub struct Case {
-    pub name: &'static str,
     pub answer: Answer,
-    pub bytes: &'static [u8],
+    pub start: usize,
+    pub end: usize,
 }
 
 """
-(here / "../src/table.rt").write_text(head + f"pub static CASES: [Case; {len(cases)}] = [\n" + "".join(lines) + "];\n")
+consts = "".join(f"pub const {name.upper()}: usize = {numbers[name]};\n\n" for name in NAMED)
+literal = ", ".join(f"0x{b:02x}" for b in all_bytes)
+(here / "../src/table.rt").write_text(
+    head + consts + f"pub static CASES: [Case; {len(cases)}] = [\n" + "".join(lines) + "];\n\n"
+    + f"/// The modules one behind another.\npub static BYTES: [u8; {len(all_bytes)}] = [{literal}];\n")
 print(len(cases), "modules")

@@ -1,7 +1,9 @@
 use crate::sections::{
     empty, fault_of, with_exports, with_imported_memory, with_memory, with_table,
 };
-use crate::table::{Answer, CASES};
+use crate::table::{
+    Answer, BYTES, CASES, Case, DATA_OVER_DATA, DATA_TO_THE_END, GLOBALS, SPAWNS, TABLE_OF_LABELS,
+};
 use binary::read;
 use std::alloc::Global;
 use std::test::Fail;
@@ -31,21 +33,23 @@ fn answer(alloc: Global, bytes: &[u8]) -> Result<Answer, Fail> {
     }
 }
 
-/// The valid module of this name in the table.
-fn valid(alloc: Global, name: &str) -> Result<ValidModule, Fail> {
-    let case = CASES
-        .iter()
-        .find(|case| case.name == name)
-        .ok_or("no such module")?;
-    let module = read(alloc, case.bytes)?;
+/// The bytes of a module of the table.
+fn bytes_of(case: &Case) -> Result<&'static [u8], Fail> {
+    Ok(BYTES.get(case.start..case.end).ok_or("no such bytes")?)
+}
+
+/// The valid module with this number in the table.
+fn valid(alloc: Global, number: usize) -> Result<ValidModule, Fail> {
+    let case = CASES.get(number).ok_or("no such module")?;
+    let module = read(alloc, bytes_of(case)?)?;
     Ok(validate(alloc, module)?)
 }
 
 #[test]
 fn answers_as_the_table_says(rt: HostRuntime) -> Result<(), Fail> {
-    for case in &CASES {
-        let found = answer(rt.alloc(), case.bytes)?;
-        assert_eq!(rt; found, case.answer, "{}", case.name);
+    for (number, case) in CASES.iter().enumerate() {
+        let found = answer(rt.alloc(), bytes_of(case)?)?;
+        assert_eq!(rt; found, case.answer, "module {number}");
     }
     Ok(())
 }
@@ -98,7 +102,7 @@ fn takes_1000_exports(rt: HostRuntime) -> Result<(), Fail> {
 
 #[test]
 fn writes_segments_over_one_another(rt: HostRuntime) -> Result<(), Fail> {
-    let module = valid(rt.alloc(), "data_over_data")?;
+    let module = valid(rt.alloc(), DATA_OVER_DATA)?;
     let image = module.image(rt.alloc())?;
     assert_eq!(rt; image.len(), 65_536);
     assert_eq!(rt; image.get(..8), Some(b"\0\0abXY\0\0".as_slice()));
@@ -109,9 +113,9 @@ fn writes_segments_over_one_another(rt: HostRuntime) -> Result<(), Fail> {
 
 #[test]
 fn a_memory_has_64_pages_at_most(rt: HostRuntime) -> Result<(), Fail> {
-    let module = valid(rt.alloc(), "data_to_the_end")?;
+    let module = valid(rt.alloc(), DATA_TO_THE_END)?;
     assert_eq!(rt; module.pages_max(), 64);
-    let module = valid(rt.alloc(), "globals")?;
+    let module = valid(rt.alloc(), GLOBALS)?;
     assert_eq!(rt; module.pages_max(), 0);
     assert_eq!(rt; module.image(rt.alloc())?.len(), 0);
     Ok(())
@@ -119,7 +123,7 @@ fn a_memory_has_64_pages_at_most(rt: HostRuntime) -> Result<(), Fail> {
 
 #[test]
 fn tells_where_branches_lead(rt: HostRuntime) -> Result<(), Fail> {
-    let module = valid(rt.alloc(), "table_of_labels")?;
+    let module = valid(rt.alloc(), TABLE_OF_LABELS)?;
     for (which, to) in [5, 6, 7].iter().enumerate() {
         let target = Target {
             to: *to,
@@ -136,7 +140,7 @@ fn tells_where_branches_lead(rt: HostRuntime) -> Result<(), Fail> {
 
 #[test]
 fn counts_imported_functions(rt: HostRuntime) -> Result<(), Fail> {
-    let module = valid(rt.alloc(), "spawns")?;
+    let module = valid(rt.alloc(), SPAWNS)?;
     assert!(rt; module.starts_threads());
     assert_eq!(rt; module.imported_functions(), 1);
     assert_eq!(rt; module.exported("wasi_thread_start"), Some(0));
