@@ -1,7 +1,7 @@
 -- The schedule of a history follows it.
 use Rattle.std.proofs.Common.{◌≡◌, ◌≢◌, ℕ, suc, ◌+◌, ◌⊎◌, inl, inr, true, false, List, [], ◌∷◌, ◌++◌, length, refl, sym, ◌∙◌, ap, subst, arith, append_assoc, Option, Some, None}
 use Rattle.schedule.specs.Histories.{acts_of, next_shared, shared_after}
-use Rattle.schedule.specs.System.{Entry, Step, Step.Acts, Step.Full, Step.Lost, Step.Own, System, Want, Want.Calls}
+use Rattle.schedule.specs.System.{Entry, Step, Step.Acts, Step.Full, Step.Lost, Step.Own, System, Want.Calls}
 use Rattle.schedule.specs.ThreadRun.{IsGivingUp, IsLeaving, IsLost, IsThreadRun, Laws, acts, after_step, losses}
 use Rattle.schedule.specs.Tries.{HasChanges, HasEnough, HasEnoughLater, HasReached, HasRoom, IsChanged, IsFullOnlyAtLimit, SeesAll, TryRules, is_act_exempt}
 use Rattle.schedule.proofs.Apart.{if_same, acts_over, acts_here, length_over, shared_over, no_changes, one_more, enough_over, later_over, later_by, none_later, full_over, full_by, full_found, none_full, HasRoomItself, room_apart, room_over}
