@@ -26,7 +26,8 @@ pub record Kept (opening : Memory) (s : State ℕ View) : Type 0 where
   pub words : s.words ≡ words_of (memory_after opening log)
   pub seated : AreSeated 0 log s.views
 
--- The words of the memory of this name: one for the page count, and one for each eight bytes of the maximum.
+-- The table of a row under its name: its key is the memory before any entry, which can stand in words, and it has one
+-- word for the page count and one for each eight bytes of the maximum.
 pub record IsRow (table : TableId) (opening : Memory) (own : TableId) (held : Memory) : Type 0 where
   pub same : own ≡ table
   pub count : own.words ≡ 8192 * opening.max + 1
