@@ -1,5 +1,5 @@
 -- What is known of an open block and its operands.
-use Rattle.std.specs.Prelude.{◌≡◌, ◌+◌, List, [], ◌∷◌, ◌++◌, map, reverse, Option, Some, None, Bool, true, false}
+use Rattle.std.specs.Prelude.{◌≡◌, List, [], ◌∷◌, ◌++◌, map, reverse, Option, Some, None, Bool, true, false}
 use Rattle.std.specs.Bool.{⊤}
 use Rattle.types.specs.declared.value.ValType.{ValType}
 use Rattle.types.specs.declared.instr.PlainInstr.{PlainInstr}
