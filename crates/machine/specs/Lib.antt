@@ -1,0 +1,6 @@
+pub mod Program
+pub mod Config
+pub mod Access
+pub mod Step
+pub mod State
+pub mod Examples
