@@ -3,4 +3,4 @@ use Rattle.desk.proofs.Surviving.{free_accessed}
 use Rattle.bench_desk.proofs.work.give.Goals as goal
 
 pub returns : goal.returns
-returns g c = record { free = free_accessed _ _ _ _ _ _ _ _ refl c.requires.free _ c.access.ensures.outcome }
+returns g c = record { free = rw c.access.ensures.name (free_accessed _ _ _ _ _ _ _ _ refl c.requires.free _ c.access.ensures.outcome) }
