@@ -3,24 +3,11 @@ use Rattle.std.proofs.Common.{◌≡◌, ℕ, zero, suc, ◌+◌, ◌-◌, ◌*�
 use Rattle.std.specs.List.{splice}
 use Rattle.std.proofs.lemmas.Nat.{pow-add, pow_pos, mod-pow-add, shr-shr, shr_below}
 use Rattle.shared_memory.specs.Numbers.{le_number, le_bytes}
+use Rattle.shared_memory.proofs.Numbers.{le_number-le_bytes}
 
 -- one byte more multiplies what the bytes can spell by 256
 pub pow_byte-suc : (k : ℕ) → 2 ^ (8 * suc k) ≡ 256 * 2 ^ (8 * k)
 pow_byte-suc k = let e : 8 * suc k ≡ 8 + 8 * k = omega arith in ap (λ j. 2 ^ j) e ∙ pow-add 2 8 (8 * k)
-
--- the bytes are as many as were asked for
-pub length-le_bytes : (n w : ℕ) → length (le_bytes n w) ≡ n
-length-le_bytes zero w = refl
-length-le_bytes (suc n) w = let r = length-le_bytes n (w / 256) in omega arith
-
--- the bytes of a number spell it, but for what is cut off at the top
-pub le_number-le_bytes : (n w : ℕ) → le_number (le_bytes n w) ≡ w % 2 ^ (8 * n)
-le_number-le_bytes zero w = omega arith
-le_number-le_bytes (suc n) w =
-    let r = le_number-le_bytes n (w / 256) in
-    let e : 8 * suc n ≡ 8 * n + 8 = omega arith in
-    let split = ap (λ j. w % 2 ^ j) e ∙ mod-pow-add w (8 * n) 8 in
-    omega arith
 
 -- all but the first bytes are those of the number shifted down
 pub drop-le_bytes : (n k w : ℕ) → drop k (le_bytes n w) ≡ le_bytes (n - k) (w / 2 ^ (8 * k))

@@ -7,7 +7,8 @@ use Rattle.std.proofs.lemmas.Slice.{drop-append-drop}
 use Rattle.std.specs.List.{splice}
 use Rattle.shared_memory.specs.Numbers.{le_number, le_bytes}
 use Rattle.lanes.specs.Words.{lane_of, IsWithLane}
-use Rattle.lanes.proofs.Bytes.{length-le_bytes, le_number-le_bytes, le_number-middle-le_bytes, le_bytes-splice}
+use Rattle.shared_memory.proofs.Numbers.{length-le_bytes, le_number-le_bytes}
+use Rattle.lanes.proofs.Bytes.{le_number-middle-le_bytes, le_bytes-splice}
 
 -- a lane is the word shifted down, and cut off above
 pub lane_of-number : (word addr width : ℕ) → addr % 8 + width ≤ 8 → lane_of word addr width ≡ word / 2 ^ (8 * (addr % 8)) % 2 ^ (8 * width)

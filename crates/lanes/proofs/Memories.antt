@@ -5,7 +5,7 @@ use Rattle.std.proofs.Math.Seq.{take-add}
 use Rattle.std.specs.List.{splice}
 use Rattle.shared_memory.specs.Numbers.{le_number, le_bytes}
 use Rattle.lanes.specs.Words.{lane_of, IsWithLane}
-use Rattle.lanes.proofs.Bytes.{length-le_bytes}
+use Rattle.shared_memory.proofs.Numbers.{length-le_bytes}
 
 -- the place of an address: its word's first address, and the rest
 place : (addr : ℕ) → addr ≡ addr / 8 * 8 + addr % 8

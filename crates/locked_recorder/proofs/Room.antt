@@ -22,7 +22,8 @@ use Rattle.shared_memory.specs.Legal.{IsQueueLegal, MayEnter}
 use Rattle.shared_memory.proofs.Histories.{of_queue-quiet, of_queue-none, same_queue_legal, queue_after-entry, IsQueueLegal-entry}
 use Rattle.seats.specs.Callers.{one_if}
 use Rattle.locked_recorder.specs.Room.{open_questions, still_due, HasSpare}
-use Rattle.locked_recorder.proofs.Queue.{IsSound, among_rest, due_other, length-rest, due_taken, sound_after}
+use Rattle.shared_memory.proofs.Soundness.{IsSound, IsSound-after}
+use Rattle.locked_recorder.proofs.Queue.{among_rest, due_other, length-rest, due_taken, few_alive}
 
 abbrev L : Type 0
 L = List Entry
@@ -195,16 +196,16 @@ told_lowers q n answer s due =
     bad e = let b : Some answer ≡ None = sym due ∙ e in cc
 
     awake : (b : Bool) → is_asleep q n ≡ b → is_asleep q n ≡ false
-    awake true t = absurd (bad (s.apart n t))
+    awake true t = absurd (bad (s.unanswered n t))
     awake false t = t
 
     inside : (b : Bool) → ltb n 16 ≡ b → n < 16
     inside true t = ltb-true n 16 t
-    inside false t = absurd (bad (get_or_past q.due n None (let p = s.places in let l = ltb-false n 16 t in omega arith)))
+    inside false t = absurd (bad (get_or_past q.due n None (let p = s.due_length in let l = ltb-false n 16 t in omega arith)))
 
 bound : (q : WaitQueue) → IsSound q → still_due q ≤ 48
 unfolding still_due
-bound q s = let a = s.few_alive in let b = s.few_args in let c = open_bound q 16 in omega arith
+bound q s = let a = few_alive q s in let b = s.few in let c = open_bound q 16 in omega arith
 
 -- the log, with one entry more
 
@@ -224,7 +225,7 @@ lowers m log n (Ask Leave) reply is legal may exempt =
     let k = ap still_due e in omega arith
 lowers m log n (Told answer) reply is legal may exempt =
     let e = queue_after-entry log n (Told answer) reply refl in
-    let r = told_lowers (queue_after log) n answer (sound_after log legal) (may refl) in
+    let r = told_lowers (queue_after log) n answer (IsSound-after log legal) (may refl) in
     let k = ap still_due e in omega arith
 lowers m log n Size reply is legal may exempt = absurd (true≢false (sym exempt))
 lowers m log n (Grow more) reply is legal may exempt = absurd (true≢false (sym exempt))
@@ -257,7 +258,7 @@ pushed limit m log n event reply spare legal is may below = by_test (is_exempt e
 
     by_test : (b : Bool) → is_exempt event ≡ b → Pushed limit log (log ++ entry n event reply ∷ [])
     by_test true t = let l = lowers m log n event reply is legal may t in let g = grown in record { legal = still; fits = omega arith; spare = omega arith }
-    by_test false t = let l = below t in let b = bound (queue_after (log ++ entry n event reply ∷ [])) (sound_after (log ++ entry n event reply ∷ []) still) in let g = grown in record { legal = still; fits = omega arith; spare = omega arith }
+    by_test false t = let l = below t in let b = bound (queue_after (log ++ entry n event reply ∷ [])) (IsSound-after (log ++ entry n event reply ∷ []) still) in let g = grown in record { legal = still; fits = omega arith; spare = omega arith }
 
 -- at first
 pub first_spare : (limit : ℕ) → HasSpare limit []

@@ -2,3 +2,5 @@ pub mod Program
 pub mod Config
 pub mod Access
 pub mod Step
+pub mod State
+pub mod Examples

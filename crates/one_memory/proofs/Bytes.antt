@@ -1,22 +1,10 @@
 -- Numbers read and written byte by byte.
-use Rattle.std.proofs.Common.{◌≡◌, ℕ, ◌+◌, ◌-◌, ◌*◌, ◌/◌, ◌%◌, ◌^◌, ◌<◌, ◌≤◌, List, [], ◌∷◌, length, get_or, set, take, drop, refl, sym, ap, append_assoc, lit<, zero, suc, arith}
+use Rattle.std.proofs.Common.{◌≡◌, ℕ, ◌+◌, ◌-◌, ◌*◌, ◌/◌, ◌%◌, ◌^◌, ◌<◌, ◌≤◌, List, [], ◌∷◌, length, get_or, set, take, drop, refl, append_assoc, lit<, suc, arith}
 use Rattle.std.specs.List.{splice}
-use Rattle.std.proofs.lemmas.Nat.{pow-add, mod-pow-add}
-use Rattle.std.proofs.Math.Nat.{pow-le-pow_right, mod-one}
+use Rattle.std.proofs.lemmas.Nat.{pow-add}
+use Rattle.std.proofs.Math.Nat.{pow-le-pow_right}
 use Rattle.std.proofs.lemmas.List.{drop_more, take_more_set, drop-set-lt, take-append-drop}
 use Rattle.shared_memory.specs.Numbers.{le_number, le_bytes}
-
--- A number in so many bytes has so many bytes.
-pub length-le_bytes : (width n : ℕ) → length (le_bytes width n) ≡ width
-length-le_bytes zero n = refl
-length-le_bytes (suc width) n = ap (λ k. suc k) (length-le_bytes width (n / 256))
-
--- The bytes of a number spell it modulo their width.
-pub le_number-le_bytes : (width n : ℕ) → le_number (le_bytes width n) ≡ n % 2 ^ (8 * width)
-le_number-le_bytes zero n = sym (mod-one n)
-le_number-le_bytes (suc width) n =
-    let e : 8 * suc width ≡ 8 * width + 8 = omega arith in
-    rw (e, mod-pow-add n (8 * width) 8, le_number-le_bytes width (n / 256)) (omega arith)
 
 -- One byte more below a number.
 pub byte_below : (k n b : ℕ) → n < 2 ^ (8 * k) → b < 256 → n * 256 + b < 2 ^ (8 * (k + 1))

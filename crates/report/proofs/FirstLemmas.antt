@@ -1,5 +1,5 @@
 -- One add to a page of zeros.
-use Rattle.std.proofs.Common.{◌≡◌, ℕ, ◌+◌, ◌-◌, ◌*◌, ◌%◌, ◌^◌, ◌<◌, ◌≤◌, ◌/◌, Bool, true, false, List, [], ◌∷◌, ◌++◌, length, take, drop, replicate, refl, Option, nat_eq, sym, ap, ◌∙◌, subst, arith, Result, Ok, Err, cond, ◌↔◌, IsErrOf}
+use Rattle.std.proofs.Common.{◌≡◌, ℕ, ◌+◌, ◌-◌, ◌*◌, ◌%◌, ◌^◌, ◌<◌, ◌≤◌, ◌/◌, Bool, true, false, List, ◌++◌, length, take, drop, replicate, refl, Option, ap, ◌∙◌, subst, arith, Result, cond, ◌↔◌, IsErrOf}
 use Rattle.std.proofs.lemmas.List.{take-replicate, drop-replicate, length-replicate}
 use Rattle.std.proofs.Common.{length-append, length-take, length-drop}
 use Rattle.std.specs.List.{splice}

@@ -1,5 +1,5 @@
 -- The first path: the modules of one atomic add, and what they print.
-use Rattle.std.specs.Prelude.{ℕ, ◌≡◌, ◌+◌, ◌%◌, ◌==◌, ◌<◌, Bool, if◌then◌else◌, List, [], ◌∷◌, ◌++◌, replicate, codes, Option, Some}
+use Rattle.std.specs.Prelude.{ℕ, ◌≡◌, ◌+◌, ◌%◌, ◌==◌, ◌<◌, Bool, if◌then◌else◌, List, [], ◌∷◌, ◌++◌, replicate, Option, Some}
 use Rattle.std.specs.List.{splice}
 use Rattle.std.specs.Io.KnownBytes.{Appends}
 use Rattle.types.specs.declared.value.Value.TheVariants as values

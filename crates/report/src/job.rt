@@ -1,14 +1,15 @@
 //! What a job prints, and with which status it ends.
-ghost use Rattle.std.specs.Prelude.{◌≡◌, ◌≤◌, OnOk};
+ghost use Rattle.std.specs.Prelude.{◌≡◌, ◌≤◌, ◌⊎◌, OnOk};
 ghost use Rattle.std.specs.Io.KnownBytes.{Appends};
 ghost use Rattle.report.specs.Lines.{functions_line};
-ghost use Rattle.report.specs.Jobs.{IsAccepted, IsNoModule};
+ghost use Rattle.report.specs.Jobs.{IsAccepted};
 
 use crate::command_line::Job;
 use crate::first_path::{FirstFault, first, is_first_module};
-use binary::read;
+use crate::loading::{Refusal, load};
 use std::alloc::Global;
 use std::io::{self, Write};
+use typing::ValidFault;
 use wire::ReadFault;
 
 /// The statuses with which the program ends, beside 0 and 1 for a run.
@@ -42,32 +43,66 @@ pub fn perform<W: Write, E: Write, S: Write>(
     }
 }
 
-/// Reads a module, and writes how many functions of its own it has.
+/// Reads a module and validates it, and writes how many functions of its own it has.
 ///
-/// Answers 0 only where the bytes are a module's text and its line was written, and 2 only where they are no module's.
+/// Answers 0 only where the bytes are the text of a valid module and its line was written, 2 for a refused module, and
+/// 5 where memory or the stream failed.
 pub fn check<W: Write, E: Write>(alloc: Global, bytes: &[u8], out: &mut W, err: &mut E) -> u8
     ensures accepted { result ≡ 0 → IsAccepted bytes.now (W.contents out.old) (W.contents out.new) }
-    ensures refused { result ≡ 2 → IsNoModule bytes.now }
-    ensures status { result ≤ 5 }
+    ensures status { (result ≡ 0) ⊎ (result ≡ 2) ⊎ (result ≡ 5) }
 {
-    match read(alloc, bytes) {
-        Ok(found) => match write_functions(out, found.parts().functions.len()) {
-            Ok(()) => 0,
-            Err(_) => {
-                say(err, "file fault: standard output");
-                FAULT
-            }
-        },
-        Err(ReadFault::OutOfMemory) => {
-            say(err, "no memory");
+    match load(alloc, bytes) {
+        Ok(found) => accept(found.parts().functions.len(), out, err),
+        Err(refusal) => refuse(err, refusal),
+    }
+}
+
+/// Writes the line of an accepted module, and answers the status: 0, or 5 where the stream failed.
+fn accept<W: Write, E: Write>(functions: usize, out: &mut W, err: &mut E) -> u8
+    ensures written { result ≡ 0 → Appends (W.contents out.old) (W.contents out.new) (functions_line functions) }
+    ensures status { (result ≡ 0) ⊎ (result ≡ 5) }
+{
+    match write_functions(out, functions) {
+        Ok(()) => 0,
+        Err(_) => {
+            say(err, "file fault: standard output");
             FAULT
         }
-        Err(ReadFault::Malformed { kind, offset }) => {
+    }
+}
+
+/// Says why a module was refused, and answers the status: 2, or 5 where memory ran out.
+fn refuse<E: Write>(err: &mut E, refusal: Refusal) -> u8
+    ensures { (result ≡ 2) ⊎ (result ≡ 5) }
+{
+    match refusal {
+        Refusal::Read(ReadFault::OutOfMemory) | Refusal::Validity(ValidFault::OutOfMemory) => {
+            say(err, "no memory");
+            return FAULT;
+        }
+        Refusal::Read(ReadFault::Malformed { kind, offset }) => {
             let number = kind.number();
             let _ = write!(err, "module refused: read {number} at {offset}\n");
-            MODULE_REFUSED
+        }
+        Refusal::Validity(ValidFault::Outside(kind)) => {
+            let number = kind.number();
+            let _ = write!(err, "module refused: validity {number}\n");
+        }
+        Refusal::Validity(
+            ValidFault::InBody {
+                kind,
+                function,
+                instruction,
+            },
+        ) => {
+            let number = kind.number();
+            let _ = write!(
+                err,
+                "module refused: validity {number} in function {function} at {instruction}\n"
+            );
         }
     }
+    MODULE_REFUSED
 }
 
 /// The line of an accepted module: `ok functions N`.

@@ -152,7 +152,7 @@ fn checked(alloc: Global, module: &[u8]) -> (Vec<u8>, Vec<u8>, u8) {
 }
 
 /// Modules, the status of `check`, and its one line on either stream.
-static CHECKS: [(&[u8], u8, &str); 9] = [
+static CHECKS: [(&[u8], u8, &str); 13] = [
     // the opening bytes alone
     (b"\x00\x61\x73\x6d\x01\x00\x00\x00", 0, "ok functions 0\n"),
     // without the last of them
@@ -198,6 +198,30 @@ static CHECKS: [(&[u8], u8, &str); 9] = [
         b"\x00\x61\x73\x6d\x01\x00\x00\x00\x01\x05\xff\xff\xff\xff\x0f",
         2,
         "module refused: read 11 at 10\n",
+    ),
+    // the atomic add with an alignment below its width
+    (
+        b"\x00\x61\x73\x6d\x01\x00\x00\x00\x01\x05\x01\x60\x00\x01\x7f\x03\x02\x01\x00\x05\x04\x01\x03\x01\x01\x07\x05\x01\x01\x66\x00\x00\x0a\x0c\x01\x0a\x00\x41\x00\x41\x05\xfe\x1e\x01\x00\x0b",
+        2,
+        "module refused: validity 10 in function 0 at 2\n",
+    ),
+    // labels of a table that carry other types
+    (
+        b"\x00\x61\x73\x6d\x01\x00\x00\x00\x01\x05\x01\x60\x00\x01\x7f\x03\x02\x01\x00\x05\x04\x01\x03\x01\x01\x07\x05\x01\x01\x66\x00\x00\x0a\x12\x01\x10\x00\x02\x7f\x02\x40\x41\x00\x0e\x01\x00\x01\x0b\x41\x00\x0b\x0b",
+        2,
+        "module refused: validity 1 in function 0 at 3\n",
+    ),
+    // a shared memory without a maximum is no text; one whose minimum passes its maximum isn't valid
+    (
+        b"\x00\x61\x73\x6d\x01\x00\x00\x00\x05\x04\x01\x03\x02\x01",
+        2,
+        "module refused: validity 11\n",
+    ),
+    // a start section
+    (
+        b"\x00\x61\x73\x6d\x01\x00\x00\x00\x01\x04\x01\x60\x00\x00\x03\x02\x01\x00\x08\x01\x00\x0a\x04\x01\x02\x00\x0b",
+        2,
+        "module refused: validity 17\n",
     ),
 ];
 

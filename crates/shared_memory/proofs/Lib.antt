@@ -9,3 +9,4 @@ pub mod Turns
 pub mod Spawning
 pub mod Prefixes
 pub mod Props
+pub mod Numbers

@@ -1,5 +1,5 @@
 -- What was found and printed is that of the one module that the bytes are.
-use Rattle.std.proofs.Common.{◌≡◌, ◌∙◌, Ok, arith}
+use Rattle.std.proofs.Common.{◌∙◌, Ok}
 use Rattle.report.specs.First.{is_aligned}
 use Rattle.report.proofs.FirstLemmas.{here, lines_are, status_of}
 use Rattle.report.proofs.first_path.first.Goals as goal

@@ -1,5 +1,5 @@
 -- The image is a page of zeros.
-use Rattle.std.proofs.Common.{◌≡◌, ◌∙◌, ap, List, ℕ}
+use Rattle.std.proofs.Common.{◌∙◌, ap, List, ℕ}
 use Rattle.shared_memory.specs.Memory.{Memory}
 use Rattle.report.specs.First.{zeros}
 use Rattle.report.proofs.first_path.open_page.Goals as goal

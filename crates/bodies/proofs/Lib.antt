@@ -1,0 +1,5 @@
+pub mod Moves
+pub mod Fitting
+pub mod Labels
+pub mod Passes
+pub mod Whole

@@ -1,0 +1,3 @@
+pub mod Scope
+pub mod Blocks
+pub mod Passes

@@ -1,0 +1,7 @@
+pub mod Prefixes
+pub mod Entering
+pub mod AtOnce
+pub mod Turning
+pub mod Beginning
+pub mod Surviving
+pub mod Locks

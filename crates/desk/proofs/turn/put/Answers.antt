@@ -1,0 +1,35 @@
+use Rattle.std.proofs.Common.{refl, sym, ◌∙◌}
+use Rattle.desk.proofs.Entering.{sound_beside}
+use Rattle.desk.proofs.Turning.{puts_asleep, puts_told, some_due, never_for_good}
+use Rattle.desk.proofs.turn.put.Goals as goal
+
+pub returns-then-falls_asleep-clause-asked : goal.returns-then-falls_asleep-clause-asked
+returns-then-falls_asleep-clause-asked g c =
+    let step = rw c.in-Some.is at (c.in_ok-loaded.ensures.step) in
+    let asked = rw c.in-Some.is at (c.in_ok-loaded.ensures.asked) in
+    puts_asleep _ c.args.queue.now c.ask.new.queue _ c.args.question c.in-Some.loaded _ _ c.requires.free (sound_beside _ _ c.requires.beside) step
+    (c.in_ok-loaded.ensures.beside) asked (sym c.falls_asleep.ensures ∙ c.if-falls_asleep.true)
+
+pub hear-requires-clause-due : goal.hear-requires-clause-due
+hear-requires-clause-due g c κs within =
+    let step = rw c.in-Some.is at (c.in_ok-loaded.ensures.step) in
+    rw (c.in_ok-loaded.ensures.name)
+    (some_due c.args.queue.now c.ask.new.queue _ c.args.question c.in-Some.loaded c.requires.free (sound_beside _ _ c.requires.beside) step
+    (sym c.falls_asleep.ensures ∙ c.if-falls_asleep.false))
+
+pub unreachable-requires : goal.unreachable-requires
+unreachable-requires g c =
+    let step = rw c.in-Some.is at (c.in_ok-loaded.ensures.step) in
+    let due = rw (c.in_ok-loaded.ensures.name) at (c.in-ForGood.ensures.due) in
+    never_for_good c.args.queue.now c.ask.new.queue _ c.args.question c.in-Some.loaded c.requires.free (sound_beside _ _ c.requires.beside) step
+    (sym c.falls_asleep.ensures ∙ c.if-falls_asleep.false) due
+
+pub returns-clause-asked : goal.returns-clause-asked
+returns-clause-asked g c =
+    let step = rw c.in-Some.is at (c.in_ok-loaded.ensures.step) in
+    let asked = rw c.in-Some.is at (c.in_ok-loaded.ensures.asked) in
+    let due = rw (c.in_ok-loaded.ensures.name) at (c.in-Number.ensures.due) in
+    let took = rw (c.in_ok-loaded.ensures.name) at (c.in-Number.ensures.after) in
+    let heard = rw (c.in_ok-loaded.ensures.name) at (c.in-Number.ensures.heard) in
+    puts_told _ c.args.queue.now c.ask.new.queue c.hear.new.queue _ c.in-Some.loaded _ _ _ _ c.requires.free (sound_beside _ _ c.requires.beside)
+    (c.in-Number.ensures.beside) heard due took c.args.question c.in-Number.number asked step (sym c.falls_asleep.ensures ∙ c.if-falls_asleep.false) refl

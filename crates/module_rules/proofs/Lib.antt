@@ -1,0 +1,4 @@
+pub mod Types
+pub mod Rules
+pub mod ExportLaws
+pub mod WholeLaws

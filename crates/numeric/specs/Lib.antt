@@ -1,0 +1,4 @@
+pub mod Bits
+pub mod Integers
+pub mod Results
+pub mod Laws

@@ -1,0 +1,16 @@
+//! The numeric instructions (Core specification 1.0, section 4.3): each operator on integers of 32 and of 64 bits.
+#![tactic(auto)]
+
+mod convert;
+#[cfg(test)]
+mod expected;
+mod laws;
+mod narrow;
+#[cfg(test)]
+mod tests;
+mod wide;
+
+pub use convert::{i32_wrap_i64, i64_extend_i32_s, i64_extend_i32_u};
+pub use laws::{below_stays, typed_results, unsigned_of_signed};
+pub use narrow::{i32_binary, i32_compare, i32_eqz, i32_unary};
+pub use wide::{i64_binary, i64_compare, i64_eqz, i64_unary};

@@ -1,0 +1,16 @@
+pub mod Basics
+pub mod Standing
+pub mod Between
+pub mod Apart
+pub mod Marks
+pub mod Schedule
+pub mod Unique
+pub mod Seen
+pub mod Others
+pub mod Leaving
+pub mod Budgets
+pub mod Orderly
+pub mod Covered
+pub mod Following
+pub mod Laws
+pub mod Worked

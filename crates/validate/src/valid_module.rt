@@ -1,0 +1,164 @@
+//! Valid modules.
+
+ghost use Rattle.std.specs.Prelude.{◌≡◌, ◌↔◌, ℕ, ◌+◌, ◌<◌, ◌≤◌, length, Some, None, IsTrue, IfOk, IfSome, IsErrAnd};
+ghost use Rattle.std.specs.Option.{MatchOption};
+ghost use Rattle.std.specs.List.{slice_get};
+ghost use Rattle.types.specs.Modules.{IsModule};
+ghost use Rattle.typing.specs.Context.{imported_functions, memories_of};
+ghost use Rattle.typing.specs.Image.{opening_image, opening_pages, pages_max_of};
+ghost use Rattle.typing.specs.Tabled.{IsValidated, target_at};
+ghost use Rattle.module_rules.specs.Exported.{IsExported};
+ghost use Rattle.module_rules.specs.Faults.{fault_outside};
+ghost use Rattle.validate.specs.Refusals.{IsRefusal};
+
+use crate::check::check_parts;
+use crate::image::opening_image;
+use module_rules::exported_function;
+use std::alloc::{AllocError, Global};
+use std::marker::Model;
+use types::{Body, FuncType, Limits, Module, Parts};
+use typing::{Table, Target, ValidFault};
+
+/// The most pages of a memory that states no maximum.
+const PAGES: u32 = 64;
+
+/// A valid module with the table of branches of each body. In contracts it is the module's parts and the tables' rows.
+#[derive(Drop, Debug)]
+pub struct ValidModule {
+    module: Module,
+    /// The table of each body, in order.
+    tables: Vec<Table>,
+    /// How many functions are imported.
+    imported: usize,
+    /// The memory, imported or not.
+    memory: Option<Limits>,
+}
+
+impl Model for ValidModule {
+    ghost use Rattle.std.specs.Prelude.{◌≡◌, length};
+    ghost use Rattle.std.specs.List.{slice_get};
+    ghost use Rattle.typing.specs.Context.{imported_functions, memories_of};
+    ghost use Rattle.typing.specs.Tabled.{WithTables, IsValidated};
+
+    ghost Value = { WithTables };
+
+    ghost view = { λ v. record { parts = v.module; tables = v.tables.items } };
+
+    ghost invariant = { λ v. IsValidated (record { parts = v.module; tables = v.tables.items }) × (v.imported ≡ length (imported_functions v.module)) × (v.memory ≡ slice_get (memories_of v.module) 0) };
+}
+
+impl ValidModule {
+    /// The module's parts.
+    pub fn parts(&self) -> &Parts
+        ensures parts { result.now ≡ self.now.parts }
+        ensures validated { IsValidated self.now }
+        ensures tested { IsModule self.now.parts }
+    {
+        self.module.parts()
+    }
+
+    /// The opening bytes of the memory: its pages of zeros, with the data segments written over them in order.
+    #[tactic(auto, using(crate::proofs::ImageLaws::segments_within))]
+    pub fn image(&self, alloc: Global) -> Result<Vec<u8>, AllocError>
+        ensures { IfOk result (λ image. image.items ≡ opening_image self.now.parts) }
+    {
+        opening_image(alloc, self.opening_pages(), self.parts().data.as_slice())
+    }
+
+    /// The pages of the opening memory, 0 without a memory.
+    pub fn opening_pages(&self) -> u32
+        ensures { result ≡ opening_pages self.now.parts }
+    {
+        match self.memory {
+            Some(memory) => memory.min,
+            None => 0,
+        }
+    }
+
+    /// The most pages that the memory may have: 64 where none are stated, 0 without a memory.
+    pub fn pages_max(&self) -> u32
+        ensures { result ≡ pages_max_of self.now.parts }
+    {
+        match self.memory {
+            Some(memory) => memory.max.unwrap_or(PAGES),
+            None => 0,
+        }
+    }
+
+    /// How many functions are imported: 0, or more where `thread-spawn` is.
+    pub fn imported_functions(&self) -> usize
+        ensures { result ≡ length (imported_functions self.now.parts) }
+    {
+        self.imported
+    }
+
+    /// Whether the module can start threads: it imports `thread-spawn`.
+    pub fn starts_threads(&self) -> bool
+        ensures { IsTrue result ↔ 0 < length (imported_functions self.now.parts) }
+    {
+        self.imported > 0
+    }
+
+    /// The table of branches of a function's body; functions of the module itself, from 0.
+    pub fn table(&self, own: usize) -> Option<&Table>
+        ensures { MatchOption result (slice_get self.now.tables own ≡ None) (λ table. slice_get self.now.tables own ≡ Some table.now) }
+    {
+        self.tables.get(own)
+    }
+
+    /// Where a branch of an instruction leads. `function` counts imported functions, `instruction` the instructions of
+    /// its body and `which` the targets of the instruction, each from 0. None where there is no such target, as of an
+    /// imported function.
+    pub fn target(&self, function: usize, instruction: usize, which: usize) -> Option<Target>
+        ensures own { (own : ℕ) → function ≡ length (imported_functions self.now.parts) + own → result ≡ target_at self.now own instruction which }
+        ensures imported { function < length (imported_functions self.now.parts) → result ≡ None }
+    {
+        let own = function.checked_sub(self.imported)?;
+        self.table(own)?.target(instruction, which)
+    }
+
+    /// A function's body; functions of the module itself, from 0.
+    pub fn body(&self, own: usize) -> Option<&Body>
+        ensures { MatchOption result (slice_get self.now.parts.bodies own ≡ None) (λ body. slice_get self.now.parts.bodies own ≡ Some body.now) }
+    {
+        self.parts().bodies.as_slice().get(own)
+    }
+
+    /// A function's type; functions of the module itself, from 0.
+    pub fn func_type(&self, own: usize) -> Option<&FuncType>
+        ensures { MatchOption result (length self.now.parts.functions ≤ own) (λ t. (index : ℕ) × (slice_get self.now.parts.functions own ≡ Some index) × (slice_get self.now.parts.types index ≡ Some t.now)) }
+    {
+        let parts = self.parts();
+        let index = *parts.functions.as_slice().get(own)?;
+        parts.types.as_slice().get(index as usize)
+    }
+
+    /// The function of the module itself, from 0, that is exported by a name. None where no export has the name, or what
+    /// it names isn't a function of the module itself.
+    pub fn exported(&self, name: &str) -> Option<usize>
+        ensures { (own : ℕ) → (result ≡ Some own) ↔ IsExported self.now.parts name.now own }
+    {
+        exported_function(self.parts(), self.imported, name)
+    }
+}
+
+/// Validates a module.
+///
+/// # Errors
+/// `ValidFault::OutOfMemory` where memory is refused. Otherwise the first fault: of the rules outside bodies in the
+/// order types, imports, types of functions, tables, memories, globals, exports, start, element segments, data segments
+/// and the entry of threads, then of the bodies in order. A fault in a body has its place.
+pub fn validate(alloc: Global, module: Module) -> Result<ValidModule, ValidFault>
+    ensures valid { IfOk result (λ v. (v.parts ≡ «module») × IsValidated v) }
+    ensures outside { IfSome (fault_outside «module») (λ kind. IsErrAnd result (λ fault. IsRefusal kind fault)) }
+{
+    match check_parts(alloc, module.parts()) {
+        Ok(findings) => Ok(ValidModule {
+            module,
+            tables: findings.tables,
+            imported: findings.imported,
+            memory: findings.memory,
+        }),
+        Err(fault) => Err(fault),
+    }
+}

@@ -1,0 +1,9 @@
+//! Tests of the validator: modules that wabt made from their text, with answers worked out by hand.
+#![tactic(auto)]
+
+#[cfg(test)]
+mod sections;
+#[cfg(test)]
+mod table;
+#[cfg(test)]
+mod tests;

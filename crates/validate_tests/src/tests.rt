@@ -1,0 +1,163 @@
+use crate::sections::{
+    empty, fault_of, with_exports, with_imported_memory, with_memory, with_table,
+};
+use crate::table::{
+    Answer, BYTES, CASES, Case, DATA_OVER_DATA, DATA_TO_THE_END, GLOBALS, SPAWNS, TABLE_OF_LABELS,
+};
+use binary::read;
+use std::alloc::Global;
+use std::test::Fail;
+use types::{Export, ExportDesc, Limits, Name, Sequence};
+use typing::{Fault, Target, ValidFault};
+use validate::{ValidModule, validate};
+use wire::ReadFault;
+
+/// What is answered of a module's bytes.
+fn answer(alloc: Global, bytes: &[u8]) -> Result<Answer, Fail> {
+    let module = match read(alloc, bytes) {
+        Ok(module) => module,
+        Err(ReadFault::OutOfMemory) => return Err("no memory to read".into()),
+        Err(ReadFault::Malformed { .. }) => return Ok(Answer::Unread),
+    };
+    match validate(alloc, module) {
+        Ok(_) => Ok(Answer::Valid),
+        Err(ValidFault::OutOfMemory) => Err("no memory to validate".into()),
+        Err(ValidFault::Outside(kind)) => Ok(Answer::Outside(kind)),
+        Err(
+            ValidFault::InBody {
+                kind,
+                function,
+                instruction,
+            },
+        ) => Ok(Answer::InBody(kind, function, instruction)),
+    }
+}
+
+/// The bytes of a module of the table.
+fn bytes_of(case: &Case) -> Result<&'static [u8], Fail> {
+    Ok(BYTES.get(case.start..case.end).ok_or("no such bytes")?)
+}
+
+/// The valid module with this number in the table.
+fn valid(alloc: Global, number: usize) -> Result<ValidModule, Fail> {
+    let case = CASES.get(number).ok_or("no such module")?;
+    let module = read(alloc, bytes_of(case)?)?;
+    Ok(validate(alloc, module)?)
+}
+
+#[test]
+fn answers_as_the_table_says(rt: HostRuntime) -> Result<(), Fail> {
+    for (number, case) in CASES.iter().enumerate() {
+        let found = answer(rt.alloc(), bytes_of(case)?)?;
+        assert_eq!(rt; found, case.answer, "module {number}");
+    }
+    Ok(())
+}
+
+#[test]
+fn a_shared_memory_has_a_maximum(rt: HostRuntime) -> Result<(), Fail> {
+    let limits = Limits {
+        min: 1,
+        max: None,
+        shared: true,
+    };
+    let fault = Some(Fault::SharedWithoutMaximum);
+    assert_eq!(rt;
+        fault_of(rt.alloc(), with_memory(rt.alloc(), limits)?)?,
+        fault
+    );
+    assert_eq!(rt;
+        fault_of(rt.alloc(), with_imported_memory(rt.alloc(), limits)?)?,
+        fault
+    );
+    Ok(())
+}
+
+#[test]
+fn a_table_is_not_shared(rt: HostRuntime) -> Result<(), Fail> {
+    let limits = Limits {
+        min: 1,
+        max: Some(2),
+        shared: true,
+    };
+    let parts = with_table(rt.alloc(), limits)?;
+    assert_eq!(rt; fault_of(rt.alloc(), parts)?, Some(Fault::Limits));
+    Ok(())
+}
+
+#[test]
+fn takes_1000_exports(rt: HostRuntime) -> Result<(), Fail> {
+    let parts = with_exports(rt.alloc(), 1000)?;
+    assert_eq!(rt; fault_of(rt.alloc(), parts)?, None);
+    let mut parts = with_exports(rt.alloc(), 999)?;
+    let mut exports = parts.exports.into_vec();
+    exports.push(Export {
+        name: Name::from_string(String::from_str(rt.alloc(), "0")?),
+        desc: ExportDesc::Func(0),
+    })?;
+    parts.exports = Sequence::from_vec(exports);
+    assert_eq!(rt; fault_of(rt.alloc(), parts)?, Some(Fault::DuplicateExport));
+    Ok(())
+}
+
+#[test]
+fn writes_segments_over_one_another(rt: HostRuntime) -> Result<(), Fail> {
+    let module = valid(rt.alloc(), DATA_OVER_DATA)?;
+    let image = module.image(rt.alloc())?;
+    assert_eq!(rt; image.len(), 65_536);
+    assert_eq!(rt; image.get(..8), Some(b"\0\0abXY\0\0".as_slice()));
+    assert_eq!(rt; image.last().copied(), Some(b'z'));
+    assert_eq!(rt; module.pages_max(), 3);
+    Ok(())
+}
+
+#[test]
+fn a_memory_has_64_pages_at_most(rt: HostRuntime) -> Result<(), Fail> {
+    let module = valid(rt.alloc(), DATA_TO_THE_END)?;
+    assert_eq!(rt; module.pages_max(), 64);
+    let module = valid(rt.alloc(), GLOBALS)?;
+    assert_eq!(rt; module.pages_max(), 0);
+    assert_eq!(rt; module.image(rt.alloc())?.len(), 0);
+    Ok(())
+}
+
+#[test]
+fn tells_where_branches_lead(rt: HostRuntime) -> Result<(), Fail> {
+    let module = valid(rt.alloc(), TABLE_OF_LABELS)?;
+    for (which, to) in [5, 6, 7].iter().enumerate() {
+        let target = Target {
+            to: *to,
+            height: 0,
+            carried: 0,
+        };
+        assert_eq!(rt; module.target(0, 3, which), Some(target));
+    }
+    assert_eq!(rt; module.target(0, 3, 3), None);
+    assert_eq!(rt; module.target(0, 2, 0), None);
+    assert_eq!(rt; module.target(1, 3, 0), None);
+    Ok(())
+}
+
+#[test]
+fn counts_imported_functions(rt: HostRuntime) -> Result<(), Fail> {
+    let module = valid(rt.alloc(), SPAWNS)?;
+    assert!(rt; module.starts_threads());
+    assert_eq!(rt; module.imported_functions(), 1);
+    assert_eq!(rt; module.exported("wasi_thread_start"), Some(0));
+    assert_eq!(rt; module.exported("memory"), None);
+    assert!(rt; module.body(0).is_some_and(|body| body.code.len() == 4));
+    assert!(rt;
+        module
+            .func_type(0)
+            .is_some_and(|func_type| func_type.params.len() == 2)
+    );
+    assert!(rt; module.table(1).is_none());
+    assert_eq!(rt; module.target(0, 0, 0), None);
+    Ok(())
+}
+
+#[test]
+fn an_empty_module_is_valid(rt: HostRuntime) -> Result<(), Fail> {
+    assert_eq!(rt; fault_of(rt.alloc(), empty(rt.alloc()))?, None);
+    Ok(())
+}

@@ -1,0 +1,4 @@
+pub mod Access
+pub mod Combined
+pub mod Closing
+pub mod Opening

@@ -1,0 +1,16 @@
+-- What the word of an access settles in the code: a reply, or a change of the word with the reply that it then has.
+use Rattle.std.specs.Prelude.{ℕ, ◌≡◌, Some, None}
+use Rattle.types.specs.declared.event.Event.{Event}
+use Rattle.word_rules.specs.Answers.{word_answer, Makes, made_reply}
+use Rattle.word_row.specs.declared.changes.Change.{Change}
+use Rattle.word_row.specs.declared.changes.Next.{Next}
+use Rattle.word_row.specs.declared.changes.Next.TheVariants.{Answer, Exchange}
+
+-- A change makes one word of another, and has the reply that the event then gets.
+pub record IsChange (max : ℕ) (event : Event) (word : ℕ) (change : Change) : Type 0 where
+  pub makes : Makes max event word change.new
+  pub reply : change.reply ≡ made_reply event word
+
+abbrev pub IsNext : ℕ → Event → ℕ → Next → Type 0
+IsNext max event word (Answer reply) = word_answer event word ≡ Some reply
+IsNext max event word (Exchange change) = (word_answer event word ≡ None) × IsChange max event word change

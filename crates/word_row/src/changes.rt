@@ -1,0 +1,164 @@
+//! What the page count and the word of an access settle of an event.
+ghost use Rattle.std.specs.Prelude.{◌≡◌, ◌+◌, ◌*◌, ◌%◌, ◌^◌, ◌<◌, ◌≤◌, ◌⊎◌, ℕ, true};
+ghost use Rattle.shared_memory.specs.Events.{IsEvent, IsAtomic, FitsWidth};
+ghost use Rattle.shared_memory.specs.Memory.{combined};
+ghost use Rattle.lanes.specs.Words.{lane_of, IsWithLane};
+ghost use Rattle.word_rules.specs.Answers.{refusal, size_answer, is_access, place_of};
+ghost use Rattle.word_row.specs.Changes.{IsNext};
+
+use lanes::{lane, with_lane};
+use types::{Event, Question, Reply, RmwOp};
+
+/// The bytes of a page.
+const PAGE: u64 = 65536;
+
+/// What an exchange makes of a word, and the reply that the event gets where it was made.
+#[derive(Clone, Copy)]
+pub struct Change {
+    pub new: u64,
+    pub reply: Reply,
+}
+
+/// What the word of an access settles.
+#[derive(Clone, Copy)]
+pub enum Next {
+    /// The reply, without a change of the word.
+    Answer(Reply),
+    /// The word is to be exchanged.
+    Exchange(Change),
+}
+
+/// The refusal of an access of `width` bytes at an address, where it ends past so many pages, at most 64. The end may
+/// pass the last address.
+fn refuse(addr: u64, width: u8, pages: u64) -> Option<Reply>
+    requires { pages ≤ 64 }
+    ensures { result ≡ refusal (addr + width) pages }
+{
+    let length = PAGE * pages;
+    if addr <= length && u64::from(width) <= length - addr {
+        None
+    } else {
+        Some(Reply::OutOfBounds)
+    }
+}
+
+/// The reply that the page count settles: a page count, a refusal, or that of an event that reads no byte. `None` for
+/// an access within bounds and a growth that can succeed. The count is at most 64.
+pub fn by_size(pages_max: u32, event: Event, pages: u64) -> Option<Reply>
+    requires { pages ≤ 64 }
+    ensures { result ≡ size_answer pages_max event pages }
+{
+    match event {
+        Event::Size => Some(Reply::Value(pages)),
+        Event::Grow(more) if pages + u64::from(more) <= u64::from(pages_max) => None,
+        Event::Grow(_) => Some(Reply::Value(u64::from(u32::MAX))),
+        Event::Load { reach, .. } | Event::Store { reach, .. } => refuse(reach, 0, pages),
+        Event::Rmw { addr, width, .. }
+        | Event::Cmpxchg { addr, width, .. }
+        | Event::Ask(Question::Wait { addr, width, .. }) => refuse(addr, width, pages),
+        Event::Ask(Question::Notify { addr, .. }) => {
+            refuse(addr, 4, pages).or(Some(Reply::Done))
+        }
+        Event::Ask(Question::Spawn { .. } | Question::Leave) | Event::Told(_) => Some(Reply::Done),
+    }
+}
+
+/// The place of the word that an event reads or changes.
+pub fn word_place(event: Event) -> usize
+    ensures { result ≡ place_of event }
+{
+    match event {
+        Event::Load { addr, .. }
+        | Event::Store { addr, .. }
+        | Event::Rmw { addr, .. }
+        | Event::Cmpxchg { addr, .. }
+        | Event::Ask(Question::Wait { addr, .. }) => (addr / 8) as usize + 1,
+        _ => 0,
+    }
+}
+
+/// A number modulo the width.
+fn low_bytes(number: u64, width: u8) -> u64
+    requires { (width ≡ 1) ⊎ (width ≡ 2) ⊎ (width ≡ 4) ⊎ (width ≡ 8) }
+    ensures { result ≡ number % 2 ^ (8 * width) }
+{
+    match width {
+        1 => number % (1 << 8),
+        2 => number % (1 << 16),
+        4 => number % (1 << 32),
+        _ => number,
+    }
+}
+
+/// What a read-modify-write makes of the old value and its operand, modulo the width (threads proposal, section
+/// "Read-Modify-Write").
+fn combine(op: RmwOp, width: u8, old: u64, value: u64) -> u64
+    requires width { (width ≡ 1) ⊎ (width ≡ 2) ⊎ (width ≡ 4) ⊎ (width ≡ 8) }
+    requires value { value < 2 ^ (8 * width) }
+    ensures { result ≡ combined op width old value }
+{
+    match op {
+        RmwOp::Add => low_bytes(old.wrapping_add(value), width),
+        RmwOp::Sub => low_bytes(old.wrapping_sub(value), width),
+        RmwOp::And => old & value,
+        RmwOp::Or => old | value,
+        RmwOp::Xor => old ^ value,
+        RmwOp::Xchg => value,
+    }
+}
+
+/// A lane replaced in a word, with the reply to that.
+fn replace(word: u64, addr: u64, width: u8, value: u64, reply: Reply) -> Next
+    requires some { 1 ≤ width }
+    requires one_word { addr % 8 + width ≤ 8 }
+    requires fits { value < 2 ^ (8 * width) }
+    ensures { (new : ℕ) × (result ≡ Next.Exchange (record { new = new; reply = reply })) × IsWithLane word addr width value new }
+{
+    Next::Exchange(Change {
+        new: with_lane(word, addr, width, value),
+        reply,
+    })
+}
+
+/// What the word of an access settles.
+pub fn by_word(event: Event, word: u64) -> Next
+    requires event { IsEvent event }
+    requires access { is_access event ≡ true }
+    ensures { (max : ℕ) → IsNext max event word result }
+{
+    match event {
+        Event::Load { addr, width, .. } | Event::Ask(Question::Wait { addr, width, .. }) => {
+            Next::Answer(Reply::Value(lane(word, addr, width)))
+        }
+        Event::Store {
+            addr,
+            width,
+            value,
+            ..
+        } => replace(word, addr, width, value, Reply::Done),
+        Event::Rmw {
+            op,
+            addr,
+            width,
+            value,
+        } => {
+            let loaded = lane(word, addr, width);
+            let value = combine(op, width, loaded, value);
+            replace(word, addr, width, value, Reply::Value(loaded))
+        }
+        Event::Cmpxchg {
+            addr,
+            width,
+            expected,
+            replacement,
+        } => {
+            let loaded = lane(word, addr, width);
+            if loaded == expected {
+                replace(word, addr, width, replacement, Reply::Value(loaded))
+            } else {
+                Next::Answer(Reply::Value(loaded))
+            }
+        }
+        Event::Size | Event::Grow(_) | Event::Ask(_) | Event::Told(_) => unreachable!(),
+    }
+}

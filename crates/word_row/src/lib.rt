@@ -1,0 +1,22 @@
+//! A shared memory as a row of 64-bit words, which threads change by single atomic steps. No call waits.
+//!
+//! Word 0 of a table is the page count, and each further word has eight bytes of the memory, the lowest first. An
+//! access notes the page count, loads its word, and where it changes that word exchanges it whole, if it is still the
+//! one that was loaded. Where another thread has changed the word meanwhile, the try is lost, and may be made again.
+#![tactic(auto)]
+
+mod changes;
+mod closed;
+mod prepared;
+mod row;
+mod seat;
+mod steps;
+#[cfg(test)]
+mod tests;
+
+pub use closed::ClosedRow;
+pub use one_memory::OpenFault;
+pub use prepared::Prepared;
+pub use row::WordRow;
+pub use seat::WordSeat;
+pub use word_rules::Naming;

@@ -1,0 +1,4 @@
+pub mod Words
+pub mod Memories
+pub mod Settling
+pub mod Moves
