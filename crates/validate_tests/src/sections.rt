@@ -1,11 +1,10 @@
 //! Modules section by section, for what the binary format can't spell and for large ones.
 
+ghost use Rattle.std.specs.Prelude.{◌<◌};
+
 use std::alloc::{AllocError, Global};
 use std::test::Fail;
-use types::{
-    Body, Export, ExportDesc, FuncType, Import, ImportDesc, Instr, Limits, Module, Name, Parts,
-    Sequence,
-};
+use types::{Export, ExportDesc, Import, ImportDesc, Limits, Module, Name, Parts, Sequence};
 use typing::Fault;
 use validate::validate;
 
@@ -37,51 +36,69 @@ pub fn fault_of(alloc: Global, parts: Parts) -> Result<Option<Fault>, Fail> {
 
 /// A module with this one memory.
 pub fn with_memory(alloc: Global, limits: Limits) -> Result<Parts, AllocError> {
-    let mut parts = empty(alloc);
-    parts.memories = Sequence::from_vec(vec![in alloc; limits]?);
-    Ok(parts)
+    let memories = Sequence::from_vec(vec![in alloc; limits]?);
+    Ok(Parts {
+        memories,
+        ..empty(alloc)
+    })
+}
+
+fn name(alloc: Global, text: &str) -> Result<Name, AllocError> {
+    Ok(Name::from_string(String::from_str(alloc, text)?))
 }
 
 /// A module that imports this one memory.
 pub fn with_imported_memory(alloc: Global, limits: Limits) -> Result<Parts, AllocError> {
     let import = Import {
-        module: Name::from_string(String::from_str(alloc, "env")?),
-        name: Name::from_string(String::from_str(alloc, "memory")?),
+        module: name(alloc, "env")?,
+        name: name(alloc, "memory")?,
         desc: ImportDesc::Memory(limits),
     };
-    let mut parts = empty(alloc);
-    parts.imports = Sequence::from_vec(vec![in alloc; import]?);
-    Ok(parts)
+    let imports = Sequence::from_vec(vec![in alloc; import]?);
+    Ok(Parts {
+        imports,
+        ..empty(alloc)
+    })
 }
 
 /// A module with this one table.
 pub fn with_table(alloc: Global, limits: Limits) -> Result<Parts, AllocError> {
-    let mut parts = empty(alloc);
-    parts.tables = Sequence::from_vec(vec![in alloc; limits]?);
-    Ok(parts)
+    let tables = Sequence::from_vec(vec![in alloc; limits]?);
+    Ok(Parts {
+        tables,
+        ..empty(alloc)
+    })
 }
 
-/// A module with one function, exported by the numbers below `count` as names.
-pub fn with_exports(alloc: Global, count: u32) -> Result<Parts, AllocError> {
+/// So many exports of the first memory, each by a number as its name; the numbers begin again at `names`, which isn't 0.
+fn numbered_exports(alloc: Global, count: u32, names: u32) -> Result<Sequence<Export>, AllocError>
+    requires { 0 < names }
+{
     let mut exports = Vec::new(alloc);
     for number in 0..count {
+        let number = number % names;
         exports.push(Export {
             name: Name::from_string(format!(in alloc; "{number}")?),
-            desc: ExportDesc::Func(0),
+            desc: ExportDesc::Memory(0),
         })?;
     }
-    let func_type = FuncType {
-        params: Sequence::from_vec(Vec::new(alloc)),
-        results: Sequence::from_vec(Vec::new(alloc)),
+    Ok(Sequence::from_vec(exports))
+}
+
+/// A module that exports its memory so many times, by so many names.
+pub fn with_exports(alloc: Global, count: u32, names: u32) -> Result<Parts, AllocError>
+    requires { 0 < names }
+{
+    let limits = Limits {
+        min: 1,
+        max: None,
+        shared: false,
     };
-    let body = Body {
-        locals: Sequence::from_vec(Vec::new(alloc)),
-        code: Sequence::from_vec(vec![in alloc; Instr::End]?),
-    };
-    let mut parts = empty(alloc);
-    parts.types = Sequence::from_vec(vec![in alloc; func_type]?);
-    parts.functions = Sequence::from_vec(vec![in alloc; 0]?);
-    parts.bodies = Sequence::from_vec(vec![in alloc; body]?);
-    parts.exports = Sequence::from_vec(exports);
-    Ok(parts)
+    let exports = numbered_exports(alloc, count, names)?;
+    let memories = Sequence::from_vec(vec![in alloc; limits]?);
+    Ok(Parts {
+        memories,
+        exports,
+        ..empty(alloc)
+    })
 }

@@ -7,7 +7,7 @@ use crate::table::{
 use binary::read;
 use std::alloc::Global;
 use std::test::Fail;
-use types::{Export, ExportDesc, Limits, Name, Sequence};
+use types::Limits;
 use typing::{Fault, Target, ValidFault};
 use validate::{ValidModule, validate};
 use wire::ReadFault;
@@ -87,15 +87,9 @@ fn a_table_is_not_shared(rt: HostRuntime) -> Result<(), Fail> {
 
 #[test]
 fn takes_1000_exports(rt: HostRuntime) -> Result<(), Fail> {
-    let parts = with_exports(rt.alloc(), 1000)?;
+    let parts = with_exports(rt.alloc(), 1000, 1000)?;
     assert_eq!(rt; fault_of(rt.alloc(), parts)?, None);
-    let mut parts = with_exports(rt.alloc(), 999)?;
-    let mut exports = parts.exports.into_vec();
-    exports.push(Export {
-        name: Name::from_string(String::from_str(rt.alloc(), "0")?),
-        desc: ExportDesc::Func(0),
-    })?;
-    parts.exports = Sequence::from_vec(exports);
+    let parts = with_exports(rt.alloc(), 1000, 999)?;
     assert_eq!(rt; fault_of(rt.alloc(), parts)?, Some(Fault::DuplicateExport));
     Ok(())
 }
