@@ -1,6 +1,8 @@
 #!/usr/bin/env python3
-"""Writes a module of about 1 MiB with 10,000 functions, for reading benchmarks."""
+"""Writes a module of nearly 1 MiB, for benchmarks of reading and validating: `functions` has 10,000 small functions, `blocks` has
+15 of nearly 64 KiB each, whose code is blocks with a branch out of each."""
 import sys
+
 
 def number(n):
     out = bytearray()
@@ -10,22 +12,29 @@ def number(n):
         if not n:
             return bytes(out)
 
+
 def section(identifier, contents):
     return bytes([identifier]) + number(len(contents)) + contents
 
-def body():
+
+def small():
     # local.get 0; then constants, additions and stores of an i32 in turn
     code = b"\x20\x00"
     for k in range(7):
         code += b"\x41" + bytes([k]) + b"\x6a" + b"\x22\x01" + b"\x1a" + b"\x20\x01" + b"\x20\x00" + b"\x71"
-    code += b"\x0b"
-    contents = b"\x01\x01\x7f" + code
-    return number(len(contents)) + contents
+    return b"\x01\x01\x7f" + code + b"\x0b"
 
-count = 10000
+
+def blocks():
+    # block; local.get 0; i32.const 7; i32.add; local.tee 0; i32.eqz; br_if 0; end
+    step = b"\x02\x40\x20\x00\x41\x07\x6a\x22\x00\x45\x0d\x00\x0b"
+    return b"\x00" + step * 5000 + b"\x20\x00\x0b"
+
+
+count, body = {"functions": (10000, small()), "blocks": (15, blocks())}[sys.argv[1]]
 module = b"\0asm\x01\0\0\0"
 module += section(1, number(1) + b"\x60\x01\x7f\x01\x7f")
 module += section(3, number(count) + b"\x00" * count)
-module += section(10, number(count) + body() * count)
-open(sys.argv[1], "wb").write(module)
+module += section(10, number(count) + (number(len(body)) + body) * count)
+open(sys.argv[2], "wb").write(module)
 print(len(module), "bytes,", count, "functions")
