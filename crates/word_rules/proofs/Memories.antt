@@ -12,7 +12,8 @@ use Rattle.shared_memory.specs.Numbers.{le_bytes}
 use Rattle.shared_memory.specs.Memory.{Memory, pages, loaded, written, combined, can_grow, grown, if_within, state_after}
 use Rattle.shared_memory.specs.Events.{IsEvent}
 use Rattle.shared_memory.specs.History.{IsEntry, AreEntries, memory_after}
-use Rattle.lanes.proofs.Bytes.{length-le_bytes, All-le_bytes}
+use Rattle.shared_memory.proofs.Numbers.{length-le_bytes}
+use Rattle.lanes.proofs.Bytes.{All-le_bytes}
 use Rattle.word_rules.specs.Words.{data_words, words_of, bytes_of, memory_of, IsStored}
 use Rattle.word_rules.proofs.Words.{AreBytes-take, AreBytes-drop, bytes_of-data_words, length-data_words}
 

@@ -4,7 +4,8 @@ use Rattle.std.specs.List.{splice}
 use Rattle.std.proofs.lemmas.List.{take_at, drop_at, take-append-le, drop-append-le, drop-drop, take-take, drop-take, length-take-le, length-drop, nil_from_length, take-append-drop, drop-replicate}
 use Rattle.std.proofs.lemmas.List.Elements.{All-take, All-drop}
 use Rattle.shared_memory.specs.Numbers.{le_number, le_bytes}
-use Rattle.lanes.proofs.Bytes.{length-le_bytes, le_number-le_bytes-fits, le_bytes-le_number}
+use Rattle.shared_memory.proofs.Numbers.{length-le_bytes}
+use Rattle.lanes.proofs.Bytes.{le_number-le_bytes-fits, le_bytes-le_number}
 use Rattle.word_rules.specs.Words.{data_words, bytes_of}
 
 abbrev B : Type 0
