@@ -1,0 +1,4 @@
+pub mod Laws
+pub mod Repeated
+pub mod Lines
+pub mod Hex

@@ -1,0 +1,9 @@
+//! Texts of words and numbers, and readers that take exactly these: numbers have no leading zeros, and one space or
+//! one line feed stands behind a word.
+#![tactic(auto)]
+
+mod front;
+mod items;
+
+pub use front::{after, hex_digit, number_then, number_within, signed_then};
+pub use items::{HexByte, Item, several};
