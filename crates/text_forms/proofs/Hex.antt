@@ -76,3 +76,10 @@ hex_again x rest le =
     let low = hex_back (x % 16) (small_or_not (x % 16)) (omega arith) in
     let sum : 16 * (x / 16) + x % 16 ≡ x = omega arith in
     rw (high, low, sum) refl
+
+above : (n : ℕ) → (n < 10) ⊎ (10 ≤ n) → 48 ≤ hex_digit n
+above n (inl lt) = rw (low_digit n lt) (omega arith)
+above n (inr ge) = rw (high_digit n ge) (omega arith)
+
+pub hex_is_digit : (n : ℕ) → 48 ≤ hex_digit n
+hex_is_digit n = above n (small_or_not n)

@@ -2,3 +2,4 @@ pub mod Laws
 pub mod Repeated
 pub mod Lines
 pub mod Hex
+pub mod Written

@@ -34,3 +34,8 @@ hex_text (b ∷ bytes) = hex_digit (b / 16) ∷ hex_digit (b % 16) ∷ hex_text 
 abbrev pub texts : {A : Type 0} → (ℕ → A → List ℕ → List ℕ) → ℕ → List A → List ℕ → List ℕ
 texts text i [] rest = rest
 texts text i (x ∷ xs) rest = text i x (texts text (i + 1) xs rest)
+
+-- The texts of items, each by its place.
+abbrev pub pieces : {A : Type 0} → (ℕ → A → List ℕ) → ℕ → List A → List ℕ
+pieces piece i [] = []
+pieces piece i (x ∷ xs) = piece i x ++ pieces piece (i + 1) xs

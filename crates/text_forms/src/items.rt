@@ -1,9 +1,12 @@
 //! Items one after the other.
 
-ghost use Rattle.std.specs.Prelude.{◌≡◌, ◌<◌, IfOk, IfSome};
+ghost use Rattle.std.specs.Prelude.{◌≡◌, ◌<◌, ◌≤◌, length, IfOk, IfSome};
 ghost use Rattle.text_forms.specs.Reading.{several, hex_value};
 
+use crate::front::hex_digit;
+use crate::print::Printed;
 use std::alloc::{AllocError, Global};
+use std::io::{self, Write};
 
 /// A kind of item: a type without values, which says how the item at a place is read. So a crate above may say it of
 /// types of another crate.
@@ -27,7 +30,8 @@ pub fn several<T: Item>(
     most: usize,
     bytes: &[u8],
 ) -> Result<(Vec<T::Value>, &[u8]), AllocError>
-    ensures { IfOk result (λ r. (r.0.items, r.1.now) ≡ several T.at 0 most bytes.now) }
+    ensures reads { IfOk result (λ r. (r.0.items, r.1.now) ≡ several T.at 0 most bytes.now) }
+    ensures few { IfOk result (λ r. length r.0.items ≤ most) }
 {
     let mut items = Vec::new(alloc);
     let mut rest = bytes;
@@ -73,5 +77,18 @@ impl Item for HexByte {
             }
             _ => None,
         }
+    }
+}
+
+impl Printed for HexByte {
+    ghost use Rattle.std.specs.Prelude.{[], ◌∷◌, ◌/◌, ◌%◌};
+    ghost use Rattle.text_forms.specs.Texts.{hex_digit};
+
+    type Value = u8;
+
+    ghost piece = { λ place byte. hex_digit (byte / 16) ∷ hex_digit (byte % 16) ∷ [] };
+
+    fn write<W: Write>(writer: &mut W, _place: usize, byte: u8) -> io::Result<()> {
+        writer.write_all(&[hex_digit(byte / 16), hex_digit(byte % 16)])
     }
 }

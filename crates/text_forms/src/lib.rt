@@ -4,6 +4,8 @@
 
 mod front;
 mod items;
+mod print;
 
 pub use front::{after, hex_digit, number_then, number_within, signed_then};
 pub use items::{HexByte, Item, several};
+pub use print::{Printed, write_items};
