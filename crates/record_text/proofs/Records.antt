@@ -30,7 +30,7 @@ use Rattle.record_text.proofs.Events.{entry_text, entry_takes, entry_again}
 
 -- ---- values
 
-abbrev value_front : Value → List ℕ → List ℕ
+abbrev pub value_front : Value → List ℕ → List ℕ
 value_front v rest = value_text v ++ rest
 
 typed_takes : (f : ℕ → Value) (word : List ℕ) (max : ℕ) → ((n : ℕ) (rest : List ℕ) → word ++ (decimal n ++ rest) ≡ value_front (f n) rest) → ((n : ℕ) → n ≤ max → IsValue (f n)) → Takes value_front IsValue (made (λ n. Some (f n)) (behind word (number_within max)))
@@ -40,14 +40,14 @@ typed_takes f word max same fit = record { taken = λ bytes v rest e.
     let w = within_takes max q.0 p.0.0 p.0.1 q.2 in
     move (λ x r. (bytes ≡ value_front x r) × IsValue x) (f p.0.0) v p.0.1 rest p.2 (after_takes word bytes q.0 q.1 ∙ ap (λ (t : List ℕ). word ++ t) w.0 ∙ same p.0.0 p.0.1, fit p.0.0 w.1) }
 
-value_taken : (bytes : List ℕ) (v : Value) (rest : List ℕ) → value_at bytes ≡ Some (v, rest) → (bytes ≡ value_front v rest) × IsValue v
+pub value_taken : (bytes : List ℕ) (v : Value) (rest : List ℕ) → value_at bytes ≡ Some (v, rest) → (bytes ≡ value_front v rest) × IsValue v
 value_taken bytes v rest e = (first_takes value_front IsValue
     (made (λ n. Some (values.I32 n)) (behind (codes "i32:") (number_within (2 ^ 32 - 1))))
     (made (λ n. Some (values.I64 n)) (behind (codes "i64:") (number_within (2 ^ 64 - 1))))
     (typed_takes values.I32 (codes "i32:") (2 ^ 32 - 1) (λ n rest. refl) (λ n h. h))
     (typed_takes values.I64 (codes "i64:") (2 ^ 64 - 1) (λ n rest. refl) (λ n h. h))).taken bytes v rest e
 
-value_back : (v : Value) (rest : List ℕ) → begins_plain rest ≡ true → IsValue v → value_at (value_front v rest) ≡ Some (v, rest)
+pub value_back : (v : Value) (rest : List ℕ) → begins_plain rest ≡ true → IsValue v → value_at (value_front v rest) ≡ Some (v, rest)
 unfolding after
 value_back (values.I32 n) rest plain fit = first_again (made (λ n. Some (values.I32 n)) (behind (codes "i32:") (number_within (2 ^ 32 - 1)))) (made (λ n. Some (values.I64 n)) (behind (codes "i64:") (number_within (2 ^ 64 - 1)))) (value_front (values.I32 n) rest) _ (ap (λ (o : Option (ℕ × List ℕ)). o >>= λ x. Some (values.I32 x.0, x.1)) (within_again (2 ^ 32 - 1) n rest (omega arith) fit plain))
 value_back (values.I64 n) rest plain fit = ap (λ (o : Option (ℕ × List ℕ)). o >>= λ x. Some (values.I64 x.0, x.1)) (within_again (2 ^ 64 - 1) n rest (omega arith) fit plain)

@@ -13,7 +13,7 @@ use Rattle.types.specs.declared.outcome.ThreadReport.{ThreadReport}
 use Rattle.types.specs.Values.{value_text}
 use Rattle.text_forms.specs.Reading.{◌>>=◌, Reader, after, number_at, number_then, behind, both, made, word_for, first, several, listed, hex_byte_at}
 use Rattle.text_forms.specs.Texts.{line, words_line, lines_text, texts, hex_text, hex_digit}
-use Rattle.text_forms.proofs.Laws.{Law, bind_some, move, after_takes, after_again, begins_plain, number_text, number_law, behind_text, behind_law, both_text, both_law, made_takes, made_again, word_takes, first_takes, first_again, second_again, law_from, only_some, some_is, gives}
+use Rattle.text_forms.proofs.Laws.{Law, bind_some, move, after_takes, after_again, begins_plain, number_text, number_law, behind_text, behind_law, both_text, both_law, made_takes, made_again, word_takes, first_takes, first_again, second_again, law_from, chosen, only_some, some_is, gives}
 use Rattle.text_forms.proofs.Lines.{lines_of_items}
 use Rattle.text_forms.proofs.Hex.{hex_byte_text, hex_takes, hex_again, hex_is_digit}
 use Rattle.text_forms.proofs.Repeated.{AllFit, IsSeveral, several_takes, several_again, listed_law}
@@ -155,13 +155,23 @@ LimitFits n = (1 ≤ n) × (n ≤ 1000000)
 limit_plain : Law (behind_text (codes "limit ") ended) (λ n. n ≤ 1000000) (behind (codes "limit ") (number_then 1000000 (10 ∷ [])))
 limit_plain = behind_law (codes "limit ") _ _ _ (number_law 1000000 10 [] (omega arith) refl)
 
+none_some : (y : ℕ) (o : Option ℕ) → o ≡ None → o ≡ Some y → ⊥
+none_some y o p q = cc
+
+above : (x : ℕ) → (x == 0) ≡ false → 1 ≤ x
+above x e = grind (arith, nat_tests, e)
+
 limit_there : (x y : ℕ) (rest : List ℕ) → x ≤ 1000000 → above_zero x ≡ Some y → (behind_text (codes "limit ") ended x rest ≡ behind_text (codes "limit ") ended y rest) × LimitFits y
-limit_there zero y rest le e = absurd cc
-limit_there (suc x) y rest le e = subst (λ (z : ℕ). (behind_text (codes "limit ") ended (suc x) rest ≡ behind_text (codes "limit ") ended z rest) × LimitFits z) (some_is (suc x) y e) (refl, (omega arith, le))
+limit_there x y rest le e =
+    elim (chosen (x == 0) None (Some x) (Some y) e) [
+      | inl t ↦ absurd (none_some y None refl t.1)
+      | inr t ↦ subst (λ (z : ℕ). (behind_text (codes "limit ") ended x rest ≡ behind_text (codes "limit ") ended z rest) × LimitFits z) (some_is x y t.1) (refl, (above x t.0, le))
+    ]
 
 limit_to : (n : ℕ) → 1 ≤ n → above_zero n ≡ Some n
-limit_to zero le = absurd (omega arith)
-limit_to (suc n) le = refl
+limit_to n le =
+    let t : (n == 0) ≡ false = grind (arith, nat_tests) in
+    rw t refl
 
 limit_law : Law (behind_text (codes "limit ") ended) LimitFits limit_at
 limit_law = law_from _ _ _ (made_takes above_zero _ _ _ _ LimitFits limit_plain limit_there) (λ n rest fit. made_again above_zero _ _ _ limit_plain n n rest fit.1 (limit_to n fit.0))
@@ -278,16 +288,18 @@ record_fits : (h : Header) (b : Body) → HeaderFits h → BodyFits ((h.1).1).1 
 record_fits h b f g = record {
   invoke = (f.0).0;
   bytes = fit_all IsByte 0 h.0 (f.0).1;
+  numbers = record {
+    fuel = ((f.1).1).0;
+    limit_low = (((f.1).1).1).0;
+    limit = (((f.1).1).1).1;
+    log = (g.1).0;
+    ends_low = (((g.1).1).1).0;
+    ends = ((((g.1).1).1).1).0;
+    pages = ((((g.1).1).1).1).1;
+  };
   args = fit_all IsValue 0 (h.1).0 (f.1).0;
-  fuel = ((f.1).1).0;
-  limit_low = (((f.1).1).1).0;
-  limit = (((f.1).1).1).1;
   log = fit_all IsEntry 0 b.0 g.0;
-  log_length = (g.1).0;
   ends = fit_ends 0 (b.1).0 ((g.1).1).0;
-  ends_low = (((g.1).1).1).0;
-  ends_length = ((((g.1).1).1).1).0;
-  pages = ((((g.1).1).1).1).1;
 }
 
 nothing_is : {A : Type 0} (bytes : List ℕ) (x y : A) → nothing_left bytes x ≡ Some y → (bytes ≡ []) × (x ≡ y)
@@ -316,8 +328,10 @@ unfolding record_at
 record_again r fit =
     let h = header_of r in
     let b = body_of r in
-    let hf : HeaderFits h = ((fit.invoke, all_fit IsByte 0 r.invoke fit.bytes), (all_fit IsValue 0 r.args fit.args, (fit.fuel, (fit.limit_low, fit.limit)))) in
-    let bf : BodyFits r.limit b = (all_fit IsEntry 0 r.log fit.log, (fit.log_length, (ends_fit 0 r.ends fit.ends (omega (arith, fit.ends_length)), (fit.ends_low, (fit.ends_length, fit.pages))))) in
+    let n = fit.numbers in
+    let hf : HeaderFits h = ((fit.invoke, all_fit IsByte 0 r.invoke fit.bytes), (all_fit IsValue 0 r.args fit.args, (n.fuel, (n.limit_low, n.limit)))) in
+    let few : 0 + length r.ends ≤ 16 = omega (arith, n.ends) in
+    let bf : BodyFits r.limit b = (all_fit IsEntry 0 r.log fit.log, (n.log, (ends_fit 0 r.ends fit.ends few, (n.ends_low, (n.ends, n.pages))))) in
     ap record_at (record_is h b) ∙ rw (header_law.again h (body_text b []) hf, body_again r.limit b [] bf) refl
 
 pub one_record : (r s : RecordParts) → IsRecord r → IsRecord s → record_text r ≡ record_text s → r ≡ s

@@ -20,15 +20,21 @@ abbrev pub end_lines : ℕ → List ThreadReport → List (List (List ℕ))
 end_lines thread [] = []
 end_lines thread (report ∷ reports) = end_words thread report ∷ end_lines (thread + 1) reports
 
--- The lines of a record, each as its words.
-abbrev pub record_lines : RecordParts → List (List (List ℕ))
-record_lines r =
+-- The first five lines of a record, each as its words.
+abbrev pub header_lines : RecordParts → List (List (List ℕ))
+header_lines r =
     (codes "wathread-record" ∷ codes "1" ∷ [])
     ∷ (codes "invoke" ∷ name_word r.invoke ∷ [])
     ∷ (codes "args" ∷ map value_text r.args)
     ∷ (codes "fuel" ∷ decimal r.fuel ∷ [])
     ∷ (codes "limit" ∷ decimal r.limit ∷ [])
-    ∷ (map entry_words r.log
+    ∷ []
+
+-- The lines of a record.
+abbrev pub record_lines : RecordParts → List (List (List ℕ))
+record_lines r =
+    header_lines r
+    ++ (map entry_words r.log
     ++ (end_lines 0 r.ends
     ++ (codes "pages" ∷ decimal r.pages ∷ [])
     ∷ (codes "finish" ∷ [])
@@ -38,17 +44,21 @@ record_lines r =
 abbrev pub record_text : RecordParts → List ℕ
 record_text r = lines_text (record_lines r)
 
--- The ranges of a record. Spent units are no more than a budget can have.
-pub record IsRecord (r : RecordParts) : Type 0 where
-  pub invoke : is_utf8 r.invoke ≡ true
-  pub bytes : All (λ b. b ≤ 255) r.invoke
-  pub args : All IsValue r.args
+-- The numbers and the lengths of a record.
+pub record HasNumbers (r : RecordParts) : Type 0 where
   pub fuel : r.fuel ≤ 1000000000000
   pub limit_low : 1 ≤ r.limit
   pub limit : r.limit ≤ 1000000
-  pub log : All IsEntry r.log
-  pub log_length : length r.log ≤ r.limit + 48
-  pub ends : All IsReport r.ends
+  pub log : length r.log ≤ r.limit + 48
   pub ends_low : 1 ≤ length r.ends
-  pub ends_length : length r.ends ≤ 16
+  pub ends : length r.ends ≤ 16
   pub pages : r.pages ≤ 64
+
+-- The ranges of a record.
+pub record IsRecord (r : RecordParts) : Type 0 where
+  pub invoke : is_utf8 r.invoke ≡ true
+  pub bytes : All (λ b. b ≤ 255) r.invoke
+  pub numbers : HasNumbers r
+  pub args : All IsValue r.args
+  pub log : All IsEntry r.log
+  pub ends : All IsReport r.ends

@@ -1,5 +1,6 @@
 //! Reading the first five lines.
 
+ghost use Rattle.std.specs.Prelude.{◌≤◌, IfOk, IfSome};
 ghost use Rattle.text_forms.specs.Reading.{Reads};
 ghost use Rattle.record_text.specs.Faults.{Gives};
 ghost use Rattle.record_text.specs.Reading.{named, invoke_at, args_at, fuel_at, limit_at, header_at};
@@ -20,10 +21,11 @@ pub struct Header {
 }
 
 /// The name of these bytes, at least one, where they are UTF-8.
+#[tactic(auto, using(crate::proofs::Names::empty_named))]
 fn name_of(bytes: Vec<u8>) -> Option<Name>
     ensures { Reads (λ n. n) result (named bytes.items) }
 {
-    if bytes.is_empty() {
+    if bytes.as_slice().is_empty() {
         return None;
     }
     match String::from_utf8(bytes) {
@@ -75,6 +77,7 @@ fn fuel_at(bytes: &[u8]) -> Option<(u64, &[u8])>
 
 fn limit_at(bytes: &[u8]) -> Option<(u32, &[u8])>
     ensures reads { Reads (λ r. (r.0, r.1.now)) result (limit_at bytes.now) }
+    ensures within { IfSome result (λ r. r.0 ≤ 1000000) }
 {
     let rest = after(b"limit ", bytes)?;
     let (limit, rest) = number_then(1_000_000, b"\n", rest)?;
@@ -87,7 +90,8 @@ fn limit_at(bytes: &[u8]) -> Option<(u32, &[u8])>
 /// The first five lines.
 #[tactic(auto, unfolding(crate::specs::Reading::header_at))]
 pub fn header_in(alloc: Global, bytes: &[u8]) -> Result<(Header, &[u8]), RecordFault>
-    ensures { Gives (λ r. ((r.0.invoke, (r.0.args, (r.0.fuel, r.0.limit))), r.1.now)) result (header_at bytes.now) }
+    ensures limit { IfOk result (λ r. r.0.limit ≤ 1000000) }
+    ensures gives { Gives (λ r. ((r.0.invoke, (r.0.args, (r.0.fuel, r.0.limit))), r.1.now)) result (header_at bytes.now) }
 {
     let Some(rest) = after(b"wathread-record 1\n", bytes) else {
         return Err(RecordFault::Header(1));

@@ -1,9 +1,10 @@
 //! The ranges of a record, as tests.
 
-ghost use Rattle.std.specs.Prelude.{◌↔◌, IsTrue};
+ghost use Rattle.std.specs.Prelude.{◌≡◌, ◌≤◌, ◌↔◌, IsTrue, true};
 ghost use Rattle.std.specs.List.{All};
+ghost use Rattle.std.specs.Str.{is_utf8};
 ghost use Rattle.record_text.specs.Conditions.{IsValue, IsEntry, IsReport};
-ghost use Rattle.record_text.specs.Text.{IsRecord};
+ghost use Rattle.record_text.specs.Text.{HasNumbers, IsRecord};
 
 use crate::conditions::{is_event, is_reply_to};
 use crate::parts::RecordParts;
@@ -63,11 +64,15 @@ fn are_reports(ends: &[ThreadReport]) -> bool
     true
 }
 
-/// Whether the parts are within the ranges of a record.
-pub fn is_record_in(parts: &RecordParts) -> bool
-    ensures { IsTrue result ↔ IsRecord parts.now }
+/// A name is UTF-8, and its bytes are bytes: an empty function, for the fact.
+fn name_is_text(name: &str)
+    ensures utf8 { is_utf8 name.now ≡ true }
+    ensures bytes { All (λ b. b ≤ 255) name.now }
+{}
+
+fn has_numbers_in(parts: &RecordParts) -> bool
+    ensures { IsTrue result ↔ HasNumbers parts.now }
 {
-    let _name = parts.invoke.as_str().as_bytes();
     parts.fuel <= 1_000_000_000_000
         && parts.limit >= 1
         && parts.limit <= 1_000_000
@@ -75,7 +80,21 @@ pub fn is_record_in(parts: &RecordParts) -> bool
         && parts.ends.len() >= 1
         && parts.ends.len() <= 16
         && parts.pages <= 64
-        && are_values(parts.args.as_slice())
-        && are_entries(parts.log.as_slice())
-        && are_reports(parts.ends.as_slice())
+}
+
+/// Whether the parts are within the ranges of a record.
+pub fn is_record_in(parts: &RecordParts) -> bool
+    ensures { IsTrue result ↔ IsRecord parts.now }
+{
+    name_is_text(parts.invoke.as_str());
+    if !has_numbers_in(parts) {
+        return false;
+    }
+    if !are_values(parts.args.as_slice()) {
+        return false;
+    }
+    if !are_entries(parts.log.as_slice()) {
+        return false;
+    }
+    are_reports(parts.ends.as_slice())
 }

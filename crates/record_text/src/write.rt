@@ -1,12 +1,10 @@
 //! Writing a record.
 
-ghost use Rattle.std.specs.Prelude.{◌≡◌, OnOk, codes, [], ◌∷◌, ◌++◌, map};
-ghost use Rattle.types.specs.Values.{value_text};
+ghost use Rattle.std.specs.Prelude.{◌≡◌, OnOk, codes, [], ◌∷◌};
 ghost use Rattle.std.specs.Io.KnownBytes.{Appends};
-ghost use Rattle.std.specs.Fmt.{decimal};
-ghost use Rattle.text_forms.specs.Texts.{line, spaced};
-ghost use Rattle.record_text.specs.Text.{record_text, name_word};
-ghost use Rattle.record_text.specs.Words.{op_word, event_words, question_words, reply_word, entry_words, outcome_words, end_words};
+ghost use Rattle.text_forms.specs.Texts.{line, spaced, lines_text};
+ghost use Rattle.record_text.specs.Text.{record_text, name_word, header_lines};
+ghost use Rattle.record_text.specs.Words.{op_word, event_words, question_words, reply_word, outcome_words};
 
 use crate::end::EndLine;
 use crate::entry::EntryLine;
@@ -152,7 +150,7 @@ impl Printed for EndLine {
 impl Printed for Argument {
     ghost use Rattle.std.specs.Prelude.{◌∷◌};
     ghost use Rattle.types.specs.Values.{value_text};
-
+    
     type Value = Value;
 
     ghost piece = { λ place value. 32 ∷ value_text value };
@@ -172,7 +170,7 @@ fn write_invoke<W: Write>(writer: &mut W, name: &str) -> io::Result<()>
 }
 
 fn write_header<W: Write>(writer: &mut W, parts: &RecordParts) -> io::Result<()>
-    ensures { OnOk result (Appends (W.contents writer.old) (W.contents writer.new) (line (codes "wathread-record" ∷ codes "1" ∷ []) (line (codes "invoke" ∷ name_word parts.now.invoke ∷ []) (line (codes "args" ∷ map value_text parts.now.args) (line (codes "fuel" ∷ decimal parts.now.fuel ∷ []) (line (codes "limit" ∷ decimal parts.now.limit ∷ []) [])))))) }
+    ensures { OnOk result (Appends (W.contents writer.old) (W.contents writer.new) (lines_text (header_lines parts.now))) }
 {
     write!(writer, "wathread-record 1\ninvoke ")?;
     write_invoke(writer, parts.invoke.as_str())?;
@@ -180,7 +178,8 @@ fn write_header<W: Write>(writer: &mut W, parts: &RecordParts) -> io::Result<()>
     write_items::<Argument, W>(writer, parts.args.as_slice())?;
     let fuel = parts.fuel;
     let limit = parts.limit;
-    write!(writer, "\nfuel {fuel}\nlimit {limit}\n")
+    write!(writer, "\nfuel {fuel}\nlimit {limit}\n")?;
+    Ok(())
 }
 
 fn write_parts<W: Write>(writer: &mut W, parts: &RecordParts) -> io::Result<()>
@@ -190,7 +189,8 @@ fn write_parts<W: Write>(writer: &mut W, parts: &RecordParts) -> io::Result<()>
     write_items::<EntryLine, W>(writer, parts.log.as_slice())?;
     write_items::<EndLine, W>(writer, parts.ends.as_slice())?;
     let pages = parts.pages;
-    write!(writer, "pages {pages}\nfinish\n")
+    write!(writer, "pages {pages}\nfinish\n")?;
+    Ok(())
 }
 
 /// Writes the text of the record. Where it answers no error, the writer took exactly that text.
