@@ -20,7 +20,7 @@ use Rattle.text_forms.proofs.Lines.{words_line_spaced}
 use Rattle.record_text.specs.Words.{op_word, event_words, reply_word, entry_words}
 use Rattle.record_text.specs.Conditions.{Fits8, Fits32, Fits64, EventFits, ReplyFits, IsEntry, is_event, is_reply_to}
 use Rattle.record_text.specs.Reading.{u8_at, u32_at, u64_at, op_at, load_at, store_at, rmw_at, cmpxchg_at, wait_at, notify_at, spawn_at, grow_at, told_at, access_at, plain_at, event_at, reply_at, entry_of, entry_at}
-use Rattle.record_text.proofs.Tests.{event_found, event_made}
+use Rattle.record_text.proofs.Decided.{event_found, event_made}
 
 -- a reader whose values a constructor takes
 by_takes : {A B : Type 0} (f : A → B) (text : A → List ℕ → List ℕ) (Fits : A → Type 0) (at : Reader A) (uext : B → List ℕ → List ℕ) (Gits : B → Type 0) → Law text Fits at

@@ -1,5 +1,5 @@
 pub mod Faults
-pub mod Tests
+pub mod Decided
 pub mod Events
 pub mod Written
 pub mod Records

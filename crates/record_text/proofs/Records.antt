@@ -34,11 +34,13 @@ abbrev pub value_front : Value → List ℕ → List ℕ
 value_front v rest = value_text v ++ rest
 
 typed_takes : (f : ℕ → Value) (word : List ℕ) (max : ℕ) → ((n : ℕ) (rest : List ℕ) → word ++ (decimal n ++ rest) ≡ value_front (f n) rest) → ((n : ℕ) → n ≤ max → IsValue (f n)) → Takes value_front IsValue (made (λ n. Some (f n)) (behind word (number_within max)))
-typed_takes f word max same fit = record { taken = λ bytes v rest e.
-    let p = bind_some (behind word (number_within max) bytes) (λ x. Some (f x.0, x.1)) (v, rest) e in
-    let q = bind_some (after word bytes) (λ r. number_within max r) p.0 p.1 in
-    let w = within_takes max q.0 p.0.0 p.0.1 q.2 in
-    move (λ x r. (bytes ≡ value_front x r) × IsValue x) (f p.0.0) v p.0.1 rest p.2 (after_takes word bytes q.0 q.1 ∙ ap (λ (t : List ℕ). word ++ t) w.0 ∙ same p.0.0 p.0.1, fit p.0.0 w.1) }
+typed_takes f word max same fit = record {
+  taken = λ bytes v rest e.
+      let p = bind_some (behind word (number_within max) bytes) (λ x. Some (f x.0, x.1)) (v, rest) e in
+      let q = bind_some (after word bytes) (λ r. number_within max r) p.0 p.1 in
+      let w = within_takes max q.0 p.0.0 p.0.1 q.2 in
+      move (λ x r. (bytes ≡ value_front x r) × IsValue x) (f p.0.0) v p.0.1 rest p.2 (after_takes word bytes q.0 q.1 ∙ ap (λ (t : List ℕ). word ++ t) w.0 ∙ same p.0.0 p.0.1, fit p.0.0 w.1);
+}
 
 pub value_taken : (bytes : List ℕ) (v : Value) (rest : List ℕ) → value_at bytes ≡ Some (v, rest) → (bytes ≡ value_front v rest) × IsValue v
 value_taken bytes v rest e = (first_takes value_front IsValue
@@ -57,14 +59,16 @@ abbrev outcome_text : Outcome → List ℕ → List ℕ
 outcome_text o rest = spaced (outcome_words o) rest
 
 result_takes : Takes outcome_text IsOutcome (behind (codes "ok ") result_at)
-result_takes = record { taken = λ bytes o rest e.
-    let p = bind_some (after (codes "ok ") bytes) (λ r. result_at r) (o, rest) e in
-    let q = bind_some (value_at p.0) (λ v. after (32 ∷ []) v.1 >>= λ r. Some (outcomes.Done (Some v.0), r)) (o, rest) p.2 in
-    let s = bind_some (after (32 ∷ []) q.0.1) (λ r. Some (outcomes.Done (Some q.0.0), r)) (o, rest) q.2 in
-    let t = value_taken p.0 q.0.0 q.0.1 q.1 in
-    let u = after_takes (32 ∷ []) q.0.1 s.0 s.1 in
-    let whole : bytes ≡ outcome_text (outcomes.Done (Some q.0.0)) s.0 = after_takes (codes "ok ") bytes p.0 p.1 ∙ ap (λ (z : List ℕ). codes "ok " ++ z) (t.0 ∙ ap (λ (z : List ℕ). value_text q.0.0 ++ z) u) in
-    move (λ x r. (bytes ≡ outcome_text x r) × IsOutcome x) (outcomes.Done (Some q.0.0)) o s.0 rest s.2 (whole, t.1) }
+result_takes = record {
+  taken = λ bytes o rest e.
+      let p = bind_some (after (codes "ok ") bytes) (λ r. result_at r) (o, rest) e in
+      let q = bind_some (value_at p.0) (λ v. after (32 ∷ []) v.1 >>= λ r. Some (outcomes.Done (Some v.0), r)) (o, rest) p.2 in
+      let s = bind_some (after (32 ∷ []) q.0.1) (λ r. Some (outcomes.Done (Some q.0.0), r)) (o, rest) q.2 in
+      let t = value_taken p.0 q.0.0 q.0.1 q.1 in
+      let u = after_takes (32 ∷ []) q.0.1 s.0 s.1 in
+      let whole : bytes ≡ outcome_text (outcomes.Done (Some q.0.0)) s.0 = after_takes (codes "ok ") bytes p.0 p.1 ∙ ap (λ (z : List ℕ). codes "ok " ++ z) (t.0 ∙ ap (λ (z : List ℕ). value_text q.0.0 ++ z) u) in
+      move (λ x r. (bytes ≡ outcome_text x r) × IsOutcome x) (outcomes.Done (Some q.0.0)) o s.0 rest s.2 (whole, t.1);
+}
 
 result_back : (v : Value) (rest : List ℕ) → IsValue v → result_at (value_text v ++ 32 ∷ rest) ≡ Some (outcomes.Done (Some v), rest)
 unfolding after

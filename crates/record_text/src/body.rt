@@ -72,11 +72,7 @@ fn ends_in(alloc: Global, line: usize, bytes: &[u8]) -> Result<(Ends, &[u8]), Re
 
 /// What stands behind the first five lines, where the log took so many entries before it was full.
 #[tactic(auto, unfolding(crate::specs::Reading::body_at))]
-pub fn body_in(
-    alloc: Global,
-    limit: u32,
-    bytes: &[u8],
-) -> Result<(RecordBody, &[u8]), RecordFault>
+pub fn body_in(alloc: Global, limit: u32, bytes: &[u8]) -> Result<(RecordBody, &[u8]), RecordFault>
     requires { limit ≤ 1000000 }
     ensures { Gives (λ r. ((r.0.log, (r.0.ends, r.0.pages)), r.1.now)) result (body_at limit bytes.now) }
 {

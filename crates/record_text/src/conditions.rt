@@ -55,7 +55,9 @@ fn is_question(question: Question) -> bool
             width,
             expected,
             timeout: _,
-        } => { (width == 4 || width == 8) && (is_atomic(addr, width) && fits_width(width, expected)) }
+        } => {
+            (width == 4 || width == 8) && (is_atomic(addr, width) && fits_width(width, expected))
+        }
         Question::Notify { addr, count: _ } => addr % 4 == 0,
         Question::Spawn { arg: _ } | Question::Leave => true,
     }

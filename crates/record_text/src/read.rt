@@ -20,9 +20,7 @@ fn parts_in(alloc: Global, bytes: &[u8]) -> Result<RecordParts, RecordFault>
     let (header, rest) = header_in(alloc, bytes)?;
     let (body, rest) = body_in(alloc, header.limit, rest)?;
     if !rest.is_empty() {
-        return Err(RecordFault::Unreadable(
-            body.log.len() + body.ends.len() + 8,
-        ));
+        return Err(RecordFault::Unreadable(body.log.len() + body.ends.len() + 8));
     }
     Ok(RecordParts {
         invoke: header.invoke,

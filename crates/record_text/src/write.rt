@@ -150,7 +150,7 @@ impl Printed for EndLine {
 impl Printed for Argument {
     ghost use Rattle.std.specs.Prelude.{◌∷◌};
     ghost use Rattle.types.specs.Values.{value_text};
-    
+
     type Value = Value;
 
     ghost piece = { λ place value. 32 ∷ value_text value };

@@ -228,20 +228,24 @@ both_law {A} {B} text Fits at uext Gits bt l m = record {
 pub made_takes : {A B : Type 0} (to : A → Option B) (text : A → List ℕ → List ℕ) (Fits : A → Type 0) (at : Reader A) (uext : B → List ℕ → List ℕ) (Gits : B → Type 0) → Law text Fits at
     → ((x : A) (y : B) (rest : List ℕ) → Fits x → to x ≡ Some y → (text x rest ≡ uext y rest) × Gits y)
     → Takes uext Gits (made to at)
-made_takes {A} {B} to text Fits at uext Gits l there = record { taken = λ bytes y rest e.
+made_takes {A} {B} to text Fits at uext Gits l there = record {
+  taken = λ bytes y rest e.
       let p = bind_some (at bytes) (λ x. to x.0 >>= λ y. Some (y, x.1)) (y, rest) e in
       let q = bind_some (to p.0.0) (λ y. Some (y, p.0.1)) (y, rest) p.2 in
       let t = l.takes bytes p.0.0 p.0.1 p.1 in
       let u = there p.0.0 q.0 p.0.1 t.1 q.1 in
-      move (λ (z : B) (r : List ℕ). (bytes ≡ uext z r) × Gits z) q.0 y p.0.1 rest q.2 (t.0 ∙ u.0, u.1) }
+      move (λ (z : B) (r : List ℕ). (bytes ≡ uext z r) × Gits z) q.0 y p.0.1 rest q.2 (t.0 ∙ u.0, u.1);
+}
 
 pub made_again : {A B : Type 0} (to : A → Option B) (text : A → List ℕ → List ℕ) (Fits : A → Type 0) (at : Reader A) → Law text Fits at → (x : A) (y : B) (rest : List ℕ) → Fits x → to x ≡ Some y → made to at (text x rest) ≡ Some (y, rest)
 made_again to text Fits at l x y rest f e = rw (l.again x rest f, e) refl
 
 pub word_takes : {A : Type 0} (x : A) (word : List ℕ) (text : A → List ℕ → List ℕ) (Fits : A → Type 0) → ((rest : List ℕ) → word ++ rest ≡ text x rest) → Fits x → Takes text Fits (word_for x word)
-word_takes {A} x word text Fits same fits = record { taken = λ bytes y rest e.
+word_takes {A} x word text Fits same fits = record {
+  taken = λ bytes y rest e.
       let p = bind_some (after word bytes) (λ r. Some (x, r)) (y, rest) e in
-      move (λ (z : A) (r : List ℕ). (bytes ≡ text z r) × Fits z) x y p.0 rest p.2 (after_takes word bytes p.0 p.1 ∙ same p.0, fits) }
+      move (λ (z : A) (r : List ℕ). (bytes ≡ text z r) × Fits z) x y p.0 rest p.2 (after_takes word bytes p.0 p.1 ∙ same p.0, fits);
+}
 
 pub word_again : {A : Type 0} (x : A) (word rest : List ℕ) → word_for x word (word ++ rest) ≡ Some (x, rest)
 word_again x word rest = rw (after_again word rest) refl
@@ -251,8 +255,10 @@ or_takes P (Some x) p z f g e = f e
 or_takes P None p z f g e = g e
 
 pub first_takes : {A : Type 0} (text : A → List ℕ → List ℕ) (Fits : A → Type 0) (at bt : Reader A) → Takes text Fits at → Takes text Fits bt → Takes text Fits (first at bt)
-first_takes {A} text Fits at bt l m = record { taken = λ bytes x rest e.
-      or_takes (λ (z : A × List ℕ). (bytes ≡ text z.0 z.1) × Fits z.0) (at bytes) (bt bytes) (x, rest) (λ h. l.taken bytes x rest h) (λ h. m.taken bytes x rest h) e }
+first_takes {A} text Fits at bt l m = record {
+  taken = λ bytes x rest e.
+      or_takes (λ (z : A × List ℕ). (bytes ≡ text z.0 z.1) × Fits z.0) (at bytes) (bt bytes) (x, rest) (λ h. l.taken bytes x rest h) (λ h. m.taken bytes x rest h) e;
+}
 
 pub first_again : {A : Type 0} (at bt : Reader A) (bytes : List ℕ) (z : A × List ℕ) → at bytes ≡ Some z → first at bt bytes ≡ Some z
 first_again at bt bytes z e = rw e refl
