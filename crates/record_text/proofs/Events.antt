@@ -1,21 +1,19 @@
 -- The laws of events, replies and entries.
-use Rattle.std.proofs.Common.{◌≡◌, ℕ, ◌+◌, ◌-◌, ◌^◌, ◌<◌, ◌≤◌, true, false, not, cond, List, [], ◌∷◌, ◌++◌, Option, Some, None, refl, sym, ap, subst, ◌∙◌, arith, ◌&&◌}
+use Rattle.std.proofs.Common.{◌≡◌, ℕ, ◌-◌, ◌^◌, ◌≤◌, List, [], ◌∷◌, ◌++◌, Some, refl, sym, ap, subst, ◌∙◌, arith, ◌&&◌}
 use Rattle.std.specs.Prelude.{codes}
 use Rattle.std.specs.Fmt.{decimal}
 use Rattle.types.specs.declared.event.RmwOp.{RmwOp}
 use Rattle.types.specs.declared.event.RmwOp.TheVariants as ops
 use Rattle.types.specs.declared.event.Event.{Event}
 use Rattle.types.specs.declared.event.Event.TheVariants.{Size, Grow, Load, Store, Rmw, Cmpxchg, Ask, Told}
-use Rattle.types.specs.declared.event.Question.{Question}
 use Rattle.types.specs.declared.event.Question.TheVariants.{Wait, Notify, Spawn, Leave}
-use Rattle.types.specs.declared.event.Answer.{Answer}
 use Rattle.types.specs.declared.event.Answer.TheVariants.{Number, ForGood}
 use Rattle.types.specs.declared.event.Reply.{Reply}
 use Rattle.types.specs.declared.event.Reply.TheVariants as replies
 use Rattle.types.specs.declared.event.Entry.{Entry}
 use Rattle.text_forms.specs.Reading.{Reader, FitsSigned64, after, number_at, number_then, behind, both, made, word_for, first, signed_then}
-use Rattle.text_forms.specs.Texts.{line, spaced, words_line}
-use Rattle.text_forms.proofs.Laws.{Law, Takes, number_text, number_law, signed_text, signed_law, behind_text, behind_law, both_text, both_law, made_takes, made_again, word_takes, first_takes, first_again, second_again, law_from, only_some, some_is, and_parts}
+use Rattle.text_forms.specs.Texts.{line, spaced}
+use Rattle.text_forms.proofs.Laws.{Law, Takes, number_text, number_law, signed_text, signed_law, behind_text, behind_law, both_text, both_law, made_takes, made_again, word_takes, first_takes, first_again, law_from, only_some, some_is, and_parts}
 use Rattle.text_forms.proofs.Lines.{words_line_spaced}
 use Rattle.record_text.specs.Words.{op_word, event_words, reply_word, entry_words}
 use Rattle.record_text.specs.Conditions.{Fits8, Fits32, Fits64, EventFits, ReplyFits, IsEntry, is_event, is_reply_to}

@@ -1,7 +1,6 @@
 -- Names as bytes.
 use Rattle.std.proofs.Common.{◌≡◌, ℕ, ◌+◌, ◌/◌, ◌%◌, Bool, true, false, List, [], ◌∷◌, ◌++◌, Option, Some, None, Result, refl, ap, subst, arith}
-use Rattle.std.specs.Prelude.{length, ◌==◌, OnOk, ◌≤◌, ◌<◌}
-use Rattle.std.specs.List.{All}
+use Rattle.std.specs.Prelude.{length, ◌==◌, OnOk}
 use Rattle.std.specs.Io.KnownBytes.{Appends}
 use Rattle.std.proofs.lemmas.Bool.Decides.{nat_tests}
 use Rattle.std.specs.Str.{IsUtf8, is_utf8}

@@ -1,13 +1,10 @@
 -- The laws of values, ends, the first five lines and whole records.
-use Rattle.std.proofs.Common.{◌≡◌, ℕ, ◌+◌, ◌-◌, ◌^◌, ◌<◌, ◌≤◌, Bool, true, false, not, cond, List, [], ◌∷◌, ◌++◌, Option, Some, None, refl, sym, ap, subst, ◌∙◌, arith, ◌&&◌, map, append_assoc}
-use Rattle.std.specs.Prelude.{codes, length, ◌==◌, nat_le, if◌then◌else◌}
-use Rattle.std.specs.List.{All}
-use Rattle.std.specs.Str.{is_utf8}
+use Rattle.std.proofs.Common.{◌≡◌, ℕ, ◌-◌, ◌^◌, ◌<◌, ◌≤◌, Bool, true, false, cond, List, [], ◌∷◌, ◌++◌, Option, Some, None, refl, sym, ap, subst, ◌∙◌, arith}
+use Rattle.std.specs.Prelude.{codes, ◌==◌}
 use Rattle.std.specs.Fmt.{decimal}
 use Rattle.std.proofs.lemmas.Bool.Decides.{nat_tests}
 use Rattle.types.specs.declared.value.Value.{Value}
 use Rattle.types.specs.declared.value.Value.TheVariants as values
-use Rattle.types.specs.declared.event.Entry.{Entry}
 use Rattle.types.specs.declared.outcome.Trap.{Trap}
 use Rattle.types.specs.declared.outcome.Trap.TheVariants as traps
 use Rattle.types.specs.declared.outcome.Stop.{Stop}
@@ -17,16 +14,13 @@ use Rattle.types.specs.declared.outcome.Outcome.TheVariants as outcomes
 use Rattle.types.specs.declared.outcome.ThreadReport.{ThreadReport}
 use Rattle.types.specs.Values.{value_text}
 use Rattle.types.specs.Outcomes.{trap_number, stop_number}
-use Rattle.text_forms.specs.Reading.{◌>>=◌, Reader, after, number_at, number_within, number_then, behind, both, made, word_for, first, several, listed, hex_byte_at}
-use Rattle.text_forms.specs.Texts.{line, spaced, words_line, lines_text, texts, hex_text}
-use Rattle.text_forms.proofs.Laws.{Law, Takes, bind_some, move, after_takes, after_again, within_takes, within_again, begins_plain, number_text, number_law, behind_text, behind_law, both_text, both_law, made_takes, made_again, word_takes, first_takes, first_again, second_again, law_from, takes_from, only_some, some_is, and_parts}
-use Rattle.text_forms.proofs.Lines.{words_line_spaced, lines_of_items}
-use Rattle.text_forms.proofs.Hex.{hex_byte_text, hex_takes, hex_again}
-use Rattle.text_forms.proofs.Repeated.{AllFit, several_takes, several_again, listed_law}
-use Rattle.record_text.specs.Words.{entry_words, result_word, outcome_words, end_words}
-use Rattle.record_text.specs.Conditions.{IsValue, IsEntry, IsOutcome, IsReport}
-use Rattle.record_text.specs.Reading.{value_at, arg_at, result_at, trap_of, stop_of, trap_at, stop_at, outcome_at, report_of, end_at, entry_at, named, invoke_at, args_at}
-use Rattle.record_text.proofs.Events.{entry_text, entry_takes, entry_again}
+use Rattle.text_forms.specs.Reading.{◌>>=◌, after, number_within, number_then, behind, both, made, first}
+use Rattle.text_forms.specs.Texts.{line, spaced}
+use Rattle.text_forms.proofs.Laws.{Law, Takes, bind_some, move, after_takes, within_takes, within_again, begins_plain, number_text, number_law, behind_text, behind_law, both_text, both_law, made_takes, made_again, word_takes, first_takes, first_again, law_from, only_some, some_is}
+use Rattle.text_forms.proofs.Lines.{words_line_spaced}
+use Rattle.record_text.specs.Words.{outcome_words, end_words}
+use Rattle.record_text.specs.Conditions.{IsValue, IsOutcome, IsReport}
+use Rattle.record_text.specs.Reading.{value_at, result_at, trap_of, stop_of, trap_at, stop_at, outcome_at, report_of, end_at}
 
 -- ---- values
 

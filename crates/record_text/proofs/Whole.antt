@@ -1,5 +1,5 @@
 -- The laws of the first five lines, of what stands behind them, and of whole records.
-use Rattle.std.proofs.Common.{◌≡◌, ℕ, zero, suc, ◌+◌, ◌-◌, ◌^◌, ◌/◌, ◌%◌, ◌<◌, ◌≤◌, Bool, true, false, not, cond, List, [], ◌∷◌, ◌++◌, Option, Some, None, Result, Ok, Err, inl, inr, ◌⊎◌, refl, sym, ap, subst, ◌∙◌, arith, ◌&&◌, map, append_assoc, length-append}
+use Rattle.std.proofs.Common.{◌≡◌, ℕ, ◌+◌, ◌/◌, ◌%◌, ◌≤◌, true, false, List, [], ◌∷◌, ◌++◌, Option, Some, None, Result, Ok, Err, inl, inr, ◌⊎◌, refl, sym, ap, subst, ◌∙◌, arith, map, length-append}
 use Rattle.std.specs.Prelude.{codes, length, ◌==◌}
 use Rattle.std.specs.List.{All}
 use Rattle.std.proofs.lemmas.List.Elements.{All-nil, All-head, All-tail, All-cons}
@@ -11,15 +11,15 @@ use Rattle.types.specs.declared.value.Value.{Value}
 use Rattle.types.specs.declared.event.Entry.{Entry}
 use Rattle.types.specs.declared.outcome.ThreadReport.{ThreadReport}
 use Rattle.types.specs.Values.{value_text}
-use Rattle.text_forms.specs.Reading.{◌>>=◌, Reader, after, number_at, number_then, behind, both, made, word_for, first, several, listed, hex_byte_at}
+use Rattle.text_forms.specs.Reading.{◌>>=◌, Reader, after, number_at, number_then, behind, made, word_for, first, several, listed, hex_byte_at}
 use Rattle.text_forms.specs.Texts.{line, words_line, lines_text, texts, hex_text, hex_digit}
-use Rattle.text_forms.proofs.Laws.{Law, bind_some, move, after_takes, after_again, begins_plain, number_text, number_law, behind_text, behind_law, both_text, both_law, made_takes, made_again, word_takes, first_takes, first_again, second_again, law_from, chosen, only_some, some_is, gives}
+use Rattle.text_forms.proofs.Laws.{Law, bind_some, move, after_takes, after_again, begins_plain, number_text, number_law, behind_text, behind_law, both_text, both_law, made_takes, made_again, word_takes, first_takes, second_again, law_from, chosen, only_some, some_is, gives}
 use Rattle.text_forms.proofs.Lines.{lines_of_items}
 use Rattle.text_forms.proofs.Hex.{hex_byte_text, hex_takes, hex_again, hex_is_digit}
 use Rattle.text_forms.proofs.Repeated.{AllFit, IsSeveral, several_takes, several_again, listed_law}
-use Rattle.record_text.specs.Words.{entry_words, end_words}
+use Rattle.record_text.specs.Words.{entry_words}
 use Rattle.record_text.specs.Conditions.{IsValue, IsEntry, IsReport}
-use Rattle.record_text.specs.Text.{name_word, end_lines, record_lines, record_text, IsRecord}
+use Rattle.record_text.specs.Text.{name_word, end_lines, record_text, IsRecord}
 use Rattle.record_text.specs.Reading.{value_at, arg_at, end_at, entry_at, named, invoke_at, args_at, fuel_at, limit_at, above_zero, pages_at, header_at, Header, some_items, ends_at, body_at, Body, parts_of, nothing_left, record_at, first_line, last_line}
 use Rattle.record_text.specs.declared.parts.RecordParts.{RecordParts}
 use Rattle.record_text.specs.declared.fault.RecordFault.{RecordFault}

@@ -1,6 +1,6 @@
 -- What reading gives is the text of what fits, and each text of what fits is read again.
 use Rattle.std.proofs.Common.{◌≡◌, ℕ, zero, suc, ◌+◌, ◌-◌, ◌*◌, ◌/◌, ◌%◌, ◌^◌, ◌<◌, ◌≤◌, Bool, true, false, cond, not, List, [], ◌∷◌, ◌++◌, Option, Some, None, refl, sym, ap, subst, ◌∙◌, append_assoc, arith, inl, inr, ◌⊎◌, ◌&&◌}
-use Rattle.std.specs.Prelude.{nat_lt, nat_le, ◌==◌, length, pos, negsuc, ℤ}
+use Rattle.std.specs.Prelude.{nat_lt, nat_le, ◌==◌, pos, negsuc, ℤ}
 use Rattle.std.specs.Fmt.{decimal, signed_decimal}
 use Rattle.std.proofs.lemmas.Fmt.{decimal_step, decimal_digit, decimal_by_steps}
 use Rattle.std.proofs.lemmas.Bool.Decides.{nat_tests}

@@ -1,7 +1,6 @@
 -- Items one after the other: what is read are their texts, and the loop that reads them.
 use Rattle.std.proofs.Common.{◌≡◌, ℕ, zero, suc, ◌+◌, ◌-◌, ◌<◌, ◌≤◌, List, [], ◌∷◌, ◌++◌, Option, Some, None, refl, sym, ap, ◌∙◌, append_assoc, arith}
 use Rattle.std.specs.Prelude.{length}
-use Rattle.std.specs.List.{All}
 use Rattle.std.proofs.lemmas.List.{append-nil}
 use Rattle.text_forms.specs.Reading.{◌>>=◌, Reader, more_of, several, listed, after}
 use Rattle.text_forms.specs.Texts.{texts}

@@ -1,5 +1,5 @@
 -- Writing one text after another.
-use Rattle.std.proofs.Common.{◌≡◌, ℕ, zero, suc, ◌+◌, ◌≤◌, ◌<◌, List, [], ◌∷◌, ◌++◌, Option, Some, None, refl, sym, ap, subst, ◌∙◌, append_assoc, arith, take, get_or, length}
+use Rattle.std.proofs.Common.{◌≡◌, ℕ, ◌+◌, ◌<◌, List, [], ◌∷◌, ◌++◌, Option, Some, None, refl, sym, ap, subst, ◌∙◌, append_assoc, arith, take, get_or, length}
 use Rattle.std.proofs.lemmas.List.{take_more, append-nil, length-take}
 use Rattle.std.specs.Io.KnownBytes.{Appends}
 use Rattle.text_forms.specs.Texts.{pieces, texts, words_line, line}

@@ -1,5 +1,5 @@
 -- Texts of lines and words.
-use Rattle.std.specs.Prelude.{ℕ, ◌+◌, ◌/◌, ◌%◌, zero, suc, List, [], ◌∷◌, ◌++◌, nat_lt, if◌then◌else◌}
+use Rattle.std.specs.Prelude.{ℕ, ◌+◌, ◌/◌, ◌%◌, List, [], ◌∷◌, ◌++◌, nat_lt, if◌then◌else◌}
 
 -- The words, a space before each, and a line feed behind the last, in front of other bytes.
 abbrev pub words_line : List (List ℕ) → List ℕ → List ℕ

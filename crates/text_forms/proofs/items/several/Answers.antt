@@ -1,4 +1,4 @@
-use Rattle.std.proofs.Common.{◌-◌, ◌+◌, ap, ◌∙◌, List, arith}
+use Rattle.std.proofs.Common.{arith}
 use Rattle.std.proofs.lemmas.Grind.{common_steps}
 use Rattle.text_forms.specs.Reading.{several}
 use Rattle.text_forms.proofs.Repeated.{goes_on, stops_here, is_done}
