@@ -1,0 +1,7 @@
+pub mod Faults
+pub mod Decided
+pub mod Events
+pub mod Written
+pub mod Records
+pub mod Whole
+pub mod Names

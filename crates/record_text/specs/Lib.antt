@@ -1,0 +1,5 @@
+pub mod Words
+pub mod Conditions
+pub mod Text
+pub mod Reading
+pub mod Faults

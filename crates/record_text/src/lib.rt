@@ -1,0 +1,24 @@
+//! The record of a run as a text: what a record holds, its one text, the writer and the reader of it.
+#![tactic(auto)]
+
+mod body;
+mod conditions;
+mod end;
+mod entry;
+mod event;
+mod fault;
+mod header;
+mod parts;
+mod ranges;
+mod read;
+mod record;
+#[cfg(test)]
+mod tests;
+mod value;
+mod write;
+
+pub use fault::{RecordFault, WriteFault};
+pub use parts::RecordParts;
+pub use read::read_record;
+pub use record::{Record, one_text};
+pub use write::write_record;
