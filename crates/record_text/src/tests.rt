@@ -1,6 +1,6 @@
 //! Records, forged records and cut records.
 
-use crate::{RecordFault, WriteFault, read_record, write_record};
+use crate::{Record, RecordFault, WriteFault, read_record, write_record};
 use std::alloc::{AllocError, Global};
 use std::io::{self, Write};
 use std::test::Fail;
@@ -92,6 +92,10 @@ fn says_what_a_record_holds(rt: HostRuntime) -> Result<(), Fail> {
     assert_eq!(rt; parts.log.len(), 3);
     assert_eq!(rt; parts.ends.len(), 1);
     assert_eq!(rt; parts.pages, 1);
+    let again = Record::new(parts).ok().ok_or("within its ranges")?;
+    let mut parts = again.into_parts();
+    parts.pages = 65;
+    assert!(rt; Record::new(parts).is_err());
     Ok(())
 }
 
