@@ -48,7 +48,7 @@ with tempfile.TemporaryDirectory() as folder:
         start = len(all_bytes)
         all_bytes += pathlib.Path(binary).read_bytes()
         numbers[name] = len(lines)
-        lines.append(f"    // {name}\n    Case {{\n        answer: {answer_of(words, name)},\n        start: {start},\n        end: {len(all_bytes)},\n    }},\n")
+        lines.append(f"    Case {{\n        answer: {answer_of(words, name)}, // {name}\n        start: {start},\n        end: {len(all_bytes)},\n    }},\n")
 
 # The modules that tests ask for by name.
 NAMED = ["data_over_data", "data_to_the_end", "globals", "table_of_labels", "spawns"]
@@ -81,7 +81,8 @@ pub struct Case {
 """
 consts = "".join(f"pub const {name.upper()}: usize = {numbers[name]};\n\n" for name in NAMED)
 literal = ", ".join(f"0x{b:02x}" for b in all_bytes)
-(here / "../src/table.rt").write_text(
-    head + consts + f"pub static CASES: [Case; {len(cases)}] = [\n" + "".join(lines) + "];\n\n"
+(here / "../src/table.rt").write_text(head + consts + f"pub static CASES: [Case; {len(cases)}] = [\n" + "".join(lines) + "];\n")
+(here / "../src/bytes.rt").write_text(
+    "//! The bytes of the modules of the table. Written by modules/generate.py from modules/modules.txt.\n\n"
     + f"/// The modules one behind another.\npub static BYTES: [u8; {len(all_bytes)}] = [{literal}];\n")
 print(len(cases), "modules")

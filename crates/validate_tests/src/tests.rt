@@ -1,8 +1,9 @@
+use crate::bytes::BYTES;
 use crate::sections::{
     empty, fault_of, with_exports, with_imported_memory, with_memory, with_table,
 };
 use crate::table::{
-    Answer, BYTES, CASES, Case, DATA_OVER_DATA, DATA_TO_THE_END, GLOBALS, SPAWNS, TABLE_OF_LABELS,
+    Answer, CASES, Case, DATA_OVER_DATA, DATA_TO_THE_END, GLOBALS, SPAWNS, TABLE_OF_LABELS,
 };
 use binary::read;
 use std::alloc::Global;
