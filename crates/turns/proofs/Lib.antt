@@ -1,11 +1,5 @@
-pub mod Views
-pub mod Places
-pub mod Cuts
 pub mod Values
 pub mod Slots
-pub mod Blocks
-pub mod Branch
-pub mod Returns
 pub mod Exits
 pub mod Numbers
 pub mod Follow

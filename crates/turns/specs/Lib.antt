@@ -1,4 +1,1 @@
-pub mod Stands
-pub mod Steps
 pub mod Numbers
-pub mod Branches

@@ -1,7 +1,7 @@
 use Rattle.std.proofs.Common.{rules, ◌<◌, [], ◌∷◌, length, refl}
 use Rattle.std.proofs.lemmas.Option.{slice_get_within}
 use Rattle.turns.proofs.Values.{select_ready, selects}
-use Rattle.turns.proofs.Views.{tops_below, some_on}
+use Rattle.stands.proofs.Views.{tops_below, some_on}
 use Rattle.turns.proofs.variables.select.Goals as goal
 
 pub overflow_add-state : goal.overflow_add-state

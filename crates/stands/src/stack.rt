@@ -9,11 +9,11 @@ ghost use Rattle.typing.specs.Typing.{HasOnTop};
 use types::Value;
 
 /// The most values that may lie on the stack, the locals of all open functions counted (this project's own).
-pub(crate) const VALUES_MAX: usize = 65_536;
+pub const VALUES_MAX: usize = 65_536;
 
 /// Takes the topmost value.
 #[inline]
-pub(crate) fn pop(values: &mut Vec<Value>) -> Value
+pub fn pop(values: &mut Vec<Value>) -> Value
     requires { 0 < length values.old.items }
     ensures value { reverse values.old.items ≡ result ∷ reverse values.new.items }
     ensures capacity { vec_capacity values.new ≡ vec_capacity values.old }
@@ -26,7 +26,7 @@ pub(crate) fn pop(values: &mut Vec<Value>) -> Value
 
 /// Takes the topmost number of 32 bits.
 #[inline]
-pub(crate) fn pop_i32(values: &mut Vec<Value>) -> u32
+pub fn pop_i32(values: &mut Vec<Value>) -> u32
     requires { HasOnTop (ValType.I32 ∷ []) (map type_of (reverse values.old.items)) }
     ensures value { reverse values.old.items ≡ Value.I32 result ∷ reverse values.new.items }
     ensures capacity { vec_capacity values.new ≡ vec_capacity values.old }
@@ -39,7 +39,7 @@ pub(crate) fn pop_i32(values: &mut Vec<Value>) -> u32
 
 /// Takes the topmost number of 64 bits.
 #[inline]
-pub(crate) fn pop_i64(values: &mut Vec<Value>) -> u64
+pub fn pop_i64(values: &mut Vec<Value>) -> u64
     requires { HasOnTop (ValType.I64 ∷ []) (map type_of (reverse values.old.items)) }
     ensures value { reverse values.old.items ≡ Value.I64 result ∷ reverse values.new.items }
     ensures capacity { vec_capacity values.new ≡ vec_capacity values.old }
@@ -52,7 +52,7 @@ pub(crate) fn pop_i64(values: &mut Vec<Value>) -> u64
 
 /// Puts a value on top.
 #[inline]
-pub(crate) fn push(values: &mut Vec<Value>, value: Value)
+pub fn push(values: &mut Vec<Value>, value: Value)
     requires { vec_len values.old < vec_capacity values.old }
     ensures value { reverse values.new.items ≡ value ∷ reverse values.old.items }
     ensures capacity { vec_capacity values.new ≡ vec_capacity values.old }

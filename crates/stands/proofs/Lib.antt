@@ -1,0 +1,6 @@
+pub mod Views
+pub mod Places
+pub mod Cuts
+pub mod Blocks
+pub mod Branch
+pub mod Returns

@@ -1,0 +1,3 @@
+pub mod Stands
+pub mod Steps
+pub mod Branches

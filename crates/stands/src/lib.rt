@@ -1,0 +1,9 @@
+//! The state of a thread over flat code with its table of branches, and which configuration of the thread machine it
+//! stands for.
+#![tactic(auto)]
+
+mod stack;
+mod state;
+
+pub use stack::{VALUES_MAX, pop, pop_i32, pop_i64, push};
+pub use state::{Caller, Program, Progress, State, Step};

@@ -1,0 +1,8 @@
+//! What it is to be a thread that makes its turns one by one, whoever gives the replies and the answers.
+#![tactic(auto)]
+
+mod gate;
+mod turn;
+
+pub use gate::{Gate, OpenGate};
+pub use turn::{Given, TakesTurns, Turn};
