@@ -2,8 +2,10 @@
 //! stands for.
 #![tactic(auto)]
 
+mod functions;
 mod stack;
 mod state;
 
+pub use functions::{code_of, table_of};
 pub use stack::{VALUES_MAX, pop, pop_i32, pop_i64, push};
 pub use state::{Caller, Program, Progress, State, Step};
