@@ -1,0 +1,10 @@
+;; Adds the numbers below 20,000,000: ten instructions a round.
+(module
+  (func $sum (param $n i32) (result i64)
+    (local $i i32) (local $sum i64)
+    (loop $next
+      (local.set $sum (i64.add (local.get $sum) (i64.extend_i32_u (local.get $i))))
+      (br_if $next (i32.lt_u (local.tee $i (i32.add (local.get $i) (i32.const 1))) (local.get $n))))
+    local.get $sum)
+  (func (export "run") (result i64)
+    (call $sum (i32.const 20000000))))
