@@ -1,0 +1,140 @@
+//! Runs of modules by the program: over which memory, and what is printed.
+ghost use Rattle.std.specs.Prelude.{◌≤◌};
+
+use crate::args::read_args;
+use crate::lines::write_end;
+use crate::recording::{RecordRunFault, record_run};
+use crate::words::run_on_words;
+use record_text::{Record, write_record};
+use replay::EndState;
+use spawn_host::RunFault;
+use std::alloc::{AllocError, Global};
+use std::io::{self, Write};
+use std::sync::Wait;
+use std::thread::Threads;
+use takes_turns::OpenGate;
+use types::{Outcome, Value};
+use validate::ValidModule;
+
+/// How a run is asked for.
+pub(crate) struct Wanted<'a> {
+    pub(crate) invoke: &'a str,
+    pub(crate) on_words: bool,
+    pub(crate) fuel: u64,
+    pub(crate) limit: u32,
+    pub(crate) save: Option<&'a str>,
+    pub(crate) dump: u32,
+    pub(crate) args: &'a [&'a str],
+}
+
+/// Why a run wasn't made, or what came of it couldn't be written.
+#[derive(Clone, Copy, PartialEq, Eq, Debug)]
+pub(crate) enum Trouble {
+    UnknownExport,
+    WrongArguments,
+    NoThread,
+    NoMemory,
+    /// Standard output failed.
+    Output,
+    /// The file of the record failed.
+    Save,
+}
+
+impl From<AllocError> for Trouble {
+    fn from(_: AllocError) -> Trouble {
+        Trouble::NoMemory
+    }
+}
+
+impl From<RunFault> for Trouble {
+    fn from(fault: RunFault) -> Trouble {
+        match fault {
+            RunFault::NoMemory => Trouble::NoMemory,
+            RunFault::UnknownExport => Trouble::UnknownExport,
+            RunFault::WrongArguments => Trouble::WrongArguments,
+            RunFault::NoThread => Trouble::NoThread,
+        }
+    }
+}
+
+impl From<RecordRunFault> for Trouble {
+    fn from(fault: RecordRunFault) -> Trouble {
+        match fault {
+            RecordRunFault::Run(fault) => Trouble::from(fault),
+            RecordRunFault::Open(_) | RecordRunFault::NoMemory => Trouble::NoMemory,
+        }
+    }
+}
+
+/// The values of the arguments of an exported function.
+fn args_of(
+    alloc: Global,
+    module: &ValidModule,
+    wanted: &Wanted,
+) -> Result<Vec<Value>, Trouble> {
+    let Some(own) = module.exported(wanted.invoke) else {
+        return Err(Trouble::UnknownExport);
+    };
+    let Some(func_type) = module.func_type(own) else {
+        return Err(Trouble::UnknownExport);
+    };
+    match read_args(alloc, func_type.params.as_slice(), wanted.args)? {
+        Some(args) => Ok(args),
+        None => Err(Trouble::WrongArguments),
+    }
+}
+
+/// Runs the function, prints the lines, and writes the record where one is wanted. Answers the status: 0 where all
+/// threads ended well, 1 for a trap or stop.
+pub(crate) fn run_module<R, W, S>(
+    rt: &R,
+    alloc: Global,
+    module: &ValidModule,
+    wanted: &Wanted,
+    out: &mut W,
+    save: &mut S,
+) -> Result<u8, Trouble>
+where
+    R: Threads + Wait + Sync,
+    W: Write,
+    S: Write,
+    requires { wanted.now.fuel ≤ 1000000000000 }
+    ensures { IfOk result (λ status. status ≤ 1) }
+{
+    let args = args_of(alloc, module, wanted)?;
+    let (invoke, fuel, limit) = (wanted.invoke, wanted.fuel, wanted.limit);
+    if wanted.on_words {
+        let end = run_on_words(rt, alloc, module, invoke, &args, fuel)?;
+        return print(out, &end, wanted.dump);
+    }
+    let (record, end) = record_run(rt, alloc, module, invoke, &args, fuel, limit, &OpenGate)?;
+    let status = print(out, &end, wanted.dump)?;
+    if wanted.save.is_some() {
+        keep(&record, save)?;
+    }
+    Ok(status)
+}
+
+/// Prints how the threads ended and what the memory is, and answers the status.
+pub(crate) fn print<W: Write>(out: &mut W, end: &EndState, dump: u32) -> Result<u8, Trouble>
+    ensures { IfOk result (λ status. status ≤ 1) }
+{
+    match write_end(out, end, dump) {
+        Ok(()) => {
+            let all_well = end
+                .threads
+                .iter()
+                .all(|report| matches!(report.outcome, Outcome::Done(_)));
+            Ok(u8::from(!all_well))
+        }
+        Err(_) => Err(Trouble::Output),
+    }
+}
+
+/// Writes a record to its file.
+fn keep<S: Write>(record: &Record, save: &mut S) -> Result<(), Trouble> {
+    match write_record(record, save) {
+        Ok(()) => Ok(()),
+        Err(_) => Err(Trouble::Save),
+    }
+}
