@@ -1,0 +1,6 @@
+//! Runs one thread to its end, over a memory and a desk that it shares with others.
+#![tactic(auto)]
+
+mod running;
+
+pub use running::ThreadEnd;
