@@ -9,6 +9,7 @@ use Rattle.types.specs.declared.value.Value.{Value}
 use Rattle.types.specs.declared.value.Value.TheVariants as values
 use Rattle.types.specs.declared.event.Event.{Event}
 use Rattle.types.specs.declared.event.Event.TheVariants as events
+use Rattle.types.specs.declared.outcome.Trap.TheVariants as traps
 use Rattle.types.specs.declared.event.Question.TheVariants.{Wait, Notify, Spawn, Leave}
 use Rattle.types.specs.declared.operators.AtomicOp.{AtomicOp}
 use Rattle.types.specs.declared.operators.AtomicOp.TheVariants as atomic
@@ -135,15 +136,27 @@ stores_asks c bytes addr n rest below (Halfway low) = tt
 stores_asks c bytes addr n rest below Asked = tt
 
 atomics_asks : (p : Program) (c : Config) (op : AtomicOp) (arg : MemArg) (rest : Code) (vs : List Value) → IsAsking (atomics p c op arg rest vs)
-atomics_asks p c atomic.Notify arg rest vs = number_asks types.I32 vs _ (λ count more. aligned_asks more arg 4 _ (λ addr below n. (refl, refl)))
+atomics_asks p c atomic.Notify arg rest vs = number_asks types.I32 vs _ (λ count more. aligned_asks more arg 4 (λ addr below. Asks (events.Ask (Notify addr count)) (λ _. waits c rest below)) (λ addr below n. (refl, refl)))
 atomics_asks p c (atomic.Wait t) arg rest vs =
     number_asks types.I64 vs _ (λ timeout more. number_asks t more _ (λ expected further.
-    aligned_asks further arg (type_bytes t) _ (λ addr below. if_asks p.shared _ _ (λ n. (refl, refl)) tt)))
-atomics_asks p c (atomic.Load w) arg rest vs = aligned_asks vs arg (access_bytes w) _ (λ addr below. tt)
-atomics_asks p c (atomic.Store w) arg rest vs = number_asks (access_type w) vs _ (λ n more. aligned_asks more arg (access_bytes w) _ (λ addr below. tt))
-atomics_asks p c (atomic.Rmw op w) arg rest vs = number_asks (access_type w) vs _ (λ n more. aligned_asks more arg (access_bytes w) _ (λ addr below. tt))
+    aligned_asks further arg (type_bytes t) _ (λ addr below.
+    if_asks p.shared (Asks (events.Ask (Wait addr (type_bytes t) expected (signed 64 timeout))) (λ _. waits c rest below)) (Traps traps.NotShared) (λ n. (refl, refl)) tt)))
+atomics_asks p c (atomic.Load w) arg rest vs =
+    aligned_asks vs arg (access_bytes w) (λ addr below. Asks (events.Load addr (access_bytes w) (addr + access_bytes w)) (λ n. with_rest c rest (answered_value w n ∷ below)))
+    (λ addr below. tt)
+atomics_asks p c (atomic.Store w) arg rest vs =
+    number_asks (access_type w) vs _ (λ n more.
+    aligned_asks more arg (access_bytes w) (λ addr below. Asks (events.Store addr (access_bytes w) (addr + access_bytes w) (cut (access_bytes w) n)) (λ _. with_rest c rest below))
+    (λ addr below. tt))
+atomics_asks p c (atomic.Rmw op w) arg rest vs =
+    number_asks (access_type w) vs _ (λ n more.
+    aligned_asks more arg (access_bytes w) (λ addr below. Asks (events.Rmw op addr (access_bytes w) (cut (access_bytes w) n)) (λ old. with_rest c rest (answered_value w old ∷ below)))
+    (λ addr below. tt))
 atomics_asks p c (atomic.Cmpxchg w) arg rest vs =
-    number_asks (access_type w) vs _ (λ replacement more. number_asks (access_type w) more _ (λ expected further. aligned_asks further arg (access_bytes w) _ (λ addr below. tt)))
+    number_asks (access_type w) vs _ (λ replacement more. number_asks (access_type w) more _ (λ expected further.
+    aligned_asks further arg (access_bytes w)
+    (λ addr below. Asks (events.Cmpxchg addr (access_bytes w) expected (cut (access_bytes w) replacement)) (λ old. with_rest c rest (answered_value w old ∷ below)))
+    (λ addr below. tt)))
 
 -- instructions
 

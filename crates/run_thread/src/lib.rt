@@ -2,5 +2,6 @@
 #![tactic(auto)]
 
 mod running;
+mod serving;
 
-pub use running::ThreadEnd;
+pub use running::{ThreadEnd, run_thread};
