@@ -87,12 +87,3 @@ pub record Attends (p : Program) (loses : Bool) (opening : Memory) (limit : Opti
   pub here : IsHere now
   pub comes : Comes p loses opening limit n first now before after
   pub ended : IsEndOf turn now
-
--- It has come to its end.
-pub record ComesToEnd (p : Program) (loses : Bool) (opening : Memory) (limit : Option ℕ) (n : ℕ) (first : Running) (outcome : Outcome) (Stands : Running → Type 0)
-    (before after : List Entry) : Type 0 where
-  pub now : Running
-  pub stands : Stands now
-  pub here : IsHere now
-  pub comes : Comes p loses opening limit n first now before after
-  pub ended : outcome_of now ≡ Some outcome

@@ -5,8 +5,9 @@ ghost use Rattle.shared_memory.specs.WaitQueue.{IsFree};
 ghost use Rattle.shared_memory.specs.History.{queue_after};
 ghost use Rattle.schedule.specs.System.{Want.Calls};
 ghost use Rattle.takes_turns.specs.Turns.{Running, outcome_of, wants_of, IsGiven, IsTurned};
+ghost use Rattle.takes_turns.specs.declared.turn.Turn.{Turn};
 ghost use Rattle.run_thread.specs.Ends.{IsHere, IsLast, RunsOut};
-ghost use Rattle.run_thread.specs.Serving.{Attends, ComesToEnd};
+ghost use Rattle.run_thread.specs.Serving.{Attends};
 
 use crate::serving::{Served, serve};
 use desk::Desk;
@@ -68,8 +69,32 @@ fn attend<T: TakesTurns, M: SharedMemory, W: Wait + Drop, G: Gate>(
     }
 }
 
-/// Makes turns until the thread has ended.
-fn run_turns<T: TakesTurns, M: SharedMemory, W: Wait + Drop, G: Gate, R: Wait>(
+/// Makes a turn of the thread's own, or one try of the event that it wants.
+fn step<T: TakesTurns, M: SharedMemory, W: Wait + Drop, G: Gate>(
+    thread: &mut T,
+    memory: &M,
+    seat: &mut M::Seat,
+    desk: &Desk<M, W>,
+    gate: &G,
+) -> Turn
+    requires here { (t : Running) × T.stands thread.old t × IsHere t }
+    requires free { IsFree (queue_after (M.seen seat.old)) (M.name seat.old) }
+    ensures program { T.program thread.new ≡ T.program thread.old }
+    ensures fuel { T.fuel thread.new ≡ T.fuel thread.old }
+    ensures name { M.name seat.new ≡ M.name seat.old }
+    ensures right { M.has_queue_right seat.new ≡ M.has_queue_right seat.old }
+    ensures free { IsFree (queue_after (M.seen seat.new)) (M.name seat.old) }
+    ensures stepped { (t : Running) → T.stands thread.old t → IsHere t → Attends (T.program thread.old) M.LOSES M.opening (M.limit memory.now) (M.name seat.old) t result (T.stands thread.new) (M.seen seat.old) (M.seen seat.new) }
+{
+    let name = memory.name(seat);
+    match advance(thread, name, gate, Given::Nothing) {
+        Turn::Wants(event) => attend(thread, memory, seat, desk, gate, event),
+        turn => turn,
+    }
+}
+
+/// Makes steps until the thread has ended.
+fn run_steps<T: TakesTurns, M: SharedMemory, W: Wait + Drop, G: Gate, R: Wait>(
     rt: &R,
     thread: &mut T,
     memory: &M,
@@ -84,15 +109,10 @@ fn run_turns<T: TakesTurns, M: SharedMemory, W: Wait + Drop, G: Gate, R: Wait>(
     ensures name { M.name seat.new ≡ M.name seat.old }
     ensures right { M.has_queue_right seat.new ≡ M.has_queue_right seat.old }
     ensures free { IsFree (queue_after (M.seen seat.new)) (M.name seat.old) }
-    ensures ended { (t : Running) → T.stands thread.old t → IsHere t → ComesToEnd (T.program thread.old) M.LOSES M.opening (M.limit memory.now) (M.name seat.old) t result (T.stands thread.new) (M.seen seat.old) (M.seen seat.new) }
+    ensures ended { (t : Running) → T.stands thread.old t → IsHere t → Attends (T.program thread.old) M.LOSES M.opening (M.limit memory.now) (M.name seat.old) t (Turn.Ended result) (T.stands thread.new) (M.seen seat.old) (M.seen seat.new) }
 {
-    let name = memory.name(seat);
     for _ in rt.forever() {
-        let turn = match advance(thread, name, gate, Given::Nothing) {
-            Turn::Wants(event) => attend(thread, memory, seat, desk, gate, event),
-            turn => turn,
-        };
-        if let Turn::Ended(outcome) = turn {
+        if let Turn::Ended(outcome) = step(thread, memory, seat, desk, gate) {
             return outcome;
         }
     }
@@ -119,7 +139,7 @@ pub fn run_thread<T: TakesTurns + Drop, M: SharedMemory, W: Wait + Drop, G: Gate
     ensures ran { (t : Running) → T.stands thread t → IsHere t → RunsOut (T.program thread) M.LOSES M.opening (M.limit memory.now) (M.name seat) t result.outcome result.spent (T.fuel thread) (M.seen seat) (M.seen result.seat) }
     ensures last { IsLast M.opening (M.name seat) (M.seen result.seat) }
 {
-    let outcome = run_turns(rt, &mut thread, memory, &mut seat, desk, gate);
+    let outcome = run_steps(rt, &mut thread, memory, &mut seat, desk, gate);
     desk.end(memory, &mut seat);
     let spent = thread.spent();
     ThreadEnd {
