@@ -133,3 +133,23 @@ module _ (p : Program) (t : Running) where
       comes = comes_own (wants_of p t) refl;
       ended = ended_by p t given.Nothing turn turned.answer;
     }
+
+-- one after the other
+module _ (p : Program) (loses : Bool) (opening_memory : Memory) (limit : Option ℕ) (n : ℕ) (t : Running) where
+  pub attends_none : (Stands : Running → Type 0) (before : List Entry) → Stands t → IsHere t → Attends p loses opening_memory limit n t turns.Moved Stands before before
+  attends_none Stands before stands here = record { now = t; stands = stands; here = here; comes = comes_none loses opening_memory limit n p t before; ended = tt }
+
+  pub attends_then : (first turn : Turn) (Stands Stands' : Running → Type 0) (before middle after : List Entry) → Attends p loses opening_memory limit n t first Stands before middle
+      → ((x : Running) → Stands x → IsHere x → Attends p loses opening_memory limit n x turn Stands' middle after) → Attends p loses opening_memory limit n t turn Stands' before after
+  attends_then first turn Stands Stands' before middle after h more =
+      let k = more h.now h.stands h.here in record {
+        now = k.now;
+        stands = k.stands;
+        here = k.here;
+        comes = comes_then loses opening_memory limit n p t h.now k.now before middle after h.comes k.comes;
+        ended = k.ended;
+      }
+
+  pub attends_moved : (turn : Turn) (Stands : Running → Type 0) (before after : List Entry) → Attends p loses opening_memory limit n t turn Stands before after
+      → Attends p loses opening_memory limit n t turns.Moved Stands before after
+  attends_moved turn Stands before after h = record { now = h.now; stands = h.stands; here = h.here; comes = h.comes; ended = tt }

@@ -15,8 +15,10 @@ advance-requires-in-Answered-2 g c =
     let w = c.requires.wanted in
     let did = c.in-Answered.ensures.served in
     let first = c.advance-in-Answered.ensures.turned w.0 w.1 (w.2, c.args.event, w.3) in
-    record { given = may_be_told p m.LOSES m.opening (m.limit c.args.memory.now) (m.name c.args.seat.now) w.0 c.args.event w.2 w.3 (m.seen c.args.seat.now) (m.seen c.serve.new.seat)
-        did.reply did.opened _ _ first _ c.advance-in-Answered.ensures.program c.in-Answered.answer }
+    record {
+      given = may_be_told p m.LOSES m.opening (m.limit c.args.memory.now) (m.name c.args.seat.now) w.0 c.args.event w.2 w.3 (m.seen c.args.seat.now) (m.seen c.serve.new.seat)
+          did.reply did.opened _ _ first _ c.advance-in-Answered.ensures.program c.in-Answered.answer;
+    }
 
 pub advance-requires-in-Open-2 : goal.advance-requires-in-Open-2
 advance-requires-in-Open-2 g c =
@@ -25,8 +27,10 @@ advance-requires-in-Open-2 g c =
     let w = c.requires.wanted in
     let did = c.in-Open.ensures.served in
     let first = c.advance-in-Open.ensures.turned w.0 w.1 (w.2, c.args.event, w.3) in
-    record { given = may_be_told p m.LOSES m.opening (m.limit c.args.memory.now) (m.name c.args.seat.now) w.0 c.args.event w.2 w.3 (m.seen c.args.seat.now) (m.seen c.serve.new.seat)
-        did.reply did.opened _ _ first _ c.advance-in-Open.ensures.program c.collect-answer.result }
+    record {
+      given = may_be_told p m.LOSES m.opening (m.limit c.args.memory.now) (m.name c.args.seat.now) w.0 c.args.event w.2 w.3 (m.seen c.args.seat.now) (m.seen c.serve.new.seat)
+          did.reply did.opened _ _ first _ c.advance-in-Open.ensures.program c.collect-answer.result;
+    }
 
 pub returns-in-Replied-clause-attended : goal.returns-in-Replied-clause-attended
 returns-in-Replied-clause-attended g c t stands none want =
