@@ -4,5 +4,9 @@
 //! A plain access that touches two aligned words of 8 bytes is two events, the low part first (this project's own).
 #![tactic(auto)]
 
+mod loaded;
+mod loads;
+mod operands;
 mod parts;
 
+pub use loads::{load, load_replied};
