@@ -1,4 +1,5 @@
-//! The parts of a plain access: the bytes in its first aligned word of 8 bytes, and those in the next one.
+//! The parts of a plain access: the bytes in its first aligned word of 8 bytes, and those in the next one. Each part has the end
+//! of the whole access as its reach, so that it is tested against the bounds of the whole.
 
 ghost use Rattle.std.specs.Prelude.{◌≡◌, ◌+◌, ◌*◌, ◌%◌, ◌^◌, ◌<◌, ◌≤◌, true, false};
 ghost use Rattle.machine.specs.Access as access;
@@ -45,7 +46,7 @@ pub(crate) fn low_load(addr: u64, bytes: u8) -> Event
     }
 }
 
-/// The load of the bytes in the second word.
+/// The load of the bytes in the second word, where there are some.
 #[inline]
 pub(crate) fn high_load(addr: u64, bytes: u8) -> Event
     requires ends { addr + bytes < 2 ^ 64 }

@@ -1,4 +1,4 @@
-use Rattle.std.proofs.Common.{◌<◌, length, refl, arith, rules}
+use Rattle.std.proofs.Common.{◌<◌, length, refl, rules}
 use Rattle.accesses.proofs.Replies.{answer_room, tells}
 use Rattle.accesses.proofs.answers.hear.Goals as goal
 

@@ -1,4 +1,4 @@
-use Rattle.std.proofs.Common.{reverse, refl, sym, ap, ap₂, subst, ◌%◌, ◌^◌, ◌∙◌}
+use Rattle.std.proofs.Common.{reverse, refl, sym, ap₂, subst, ◌%◌, ◌^◌, ◌∙◌}
 use Rattle.std.proofs.lemmas.Option.{slice_get_within}
 use Rattle.machine.specs.Access.{in_one_word, joined}
 use Rattle.accesses.specs.Done.{IsTop}

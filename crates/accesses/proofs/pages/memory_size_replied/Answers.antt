@@ -1,4 +1,4 @@
-use Rattle.std.proofs.Common.{rules, ◌<◌, length, refl, ◌∙◌}
+use Rattle.std.proofs.Common.{rules, ◌<◌, length, refl}
 use Rattle.std.proofs.lemmas.Option.{slice_get_within}
 use Rattle.numeric.specs.Integers.{wrap}
 use Rattle.accesses.proofs.Paging.{size_room, size_replied}

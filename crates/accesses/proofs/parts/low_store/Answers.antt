@@ -1,4 +1,4 @@
-use Rattle.std.proofs.Common.{ap, arith}
+use Rattle.std.proofs.Common.{arith}
 use Rattle.accesses.proofs.Cuts.{first_stored}
 use Rattle.accesses.proofs.parts.low_store.Goals as goal
 
