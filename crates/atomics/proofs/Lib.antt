@@ -1,2 +1,4 @@
 pub mod Masks
 pub mod Settled
+pub mod Taken
+pub mod Turns

@@ -1,5 +1,5 @@
 -- The low bits of a number, and the rest of a stack.
-use Rattle.std.proofs.Common.{◌≡◌, ℕ, ◌-◌, ◌*◌, ◌/◌, ◌%◌, ◌^◌, ◌≤◌, List, ◌++◌, length, take, drop, reverse, refl, sym, ap, ◌∙◌, inl, inr, bit_and, arith}
+use Rattle.std.proofs.Common.{◌≡◌, ℕ, ◌-◌, ◌/◌, ◌%◌, ◌^◌, ◌≤◌, List, ◌++◌, length, take, drop, reverse, sym, ap, ◌∙◌, inl, inr, bit_and, arith}
 use Rattle.std.proofs.lemmas.Nat.{and_mask}
 use Rattle.atomics.specs.Requests.{IsWidth}
 use Rattle.std.proofs.lemmas.Nat.Bits.{ones_shr}

@@ -1,4 +1,3 @@
-use Rattle.std.proofs.Common.{ap, ◌∙◌}
 use Rattle.atomics.proofs.Masks.{left_below}
 use Rattle.atomics.proofs.operands.drop_top.Goals as goal
 
