@@ -91,11 +91,12 @@ pub(crate) fn rmw(
 {
     let bytes = width.bytes();
     let addr = address_at(values, 1, arg, bytes)?;
+    let operand = number_at(values, 0);
     Ok(Event::Rmw {
         op,
         addr,
         width: bytes,
-        value: cut(number_at(values, 0), bytes),
+        value: cut(operand, bytes),
     })
 }
 
@@ -107,10 +108,11 @@ pub(crate) fn cmpxchg(values: &[Value], width: AccessWidth, arg: MemArg) -> Resu
 {
     let bytes = width.bytes();
     let addr = address_at(values, 2, arg, bytes)?;
+    let (expected, replacement) = (number_at(values, 1), number_at(values, 0));
     Ok(Event::Cmpxchg {
         addr,
         width: bytes,
-        expected: number_at(values, 1),
-        replacement: cut(number_at(values, 0), bytes),
+        expected,
+        replacement: cut(replacement, bytes),
     })
 }
