@@ -27,8 +27,7 @@ pub(crate) fn await_answer(state: &mut State, taken: usize)
     requires inside { state.old.pc < length state.old.code.now }
     ensures { Settles state.old state.new taken [] Progress.Asked }
 {
-    drop_top(&mut state.values, taken);
-    state.pc += 1;
+    finish(state, taken);
     state.progress = Progress::Asked;
 }
 
@@ -41,7 +40,6 @@ pub(crate) fn give(state: &mut State, taken: usize, width: AccessWidth, number: 
     requires inside { state.old.pc < length state.old.code.now }
     ensures { Settles state.old state.new taken (answered_value width number ∷ []) state.old.progress }
 {
-    drop_top(&mut state.values, taken);
+    finish(state, taken);
     push(&mut state.values, answered(width, number));
-    state.pc += 1;
 }
