@@ -1,0 +1,2 @@
+//! The theorem of one schedule for the threads of a module.
+#![tactic(auto)]
