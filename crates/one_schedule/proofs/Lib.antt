@@ -1,3 +1,5 @@
 pub mod Dues
 pub mod Places
 pub mod Asked
+pub mod Entries
+pub mod Linked
