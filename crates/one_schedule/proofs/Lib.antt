@@ -3,3 +3,4 @@ pub mod Places
 pub mod Asked
 pub mod Entries
 pub mod Linked
+pub mod Beginning
