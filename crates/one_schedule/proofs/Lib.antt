@@ -4,3 +4,4 @@ pub mod Asked
 pub mod Entries
 pub mod Linked
 pub mod Beginning
+pub mod Seen
