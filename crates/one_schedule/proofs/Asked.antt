@@ -1,33 +1,30 @@
 -- A question in a system of threads over the memory and the wait queue: whom it starts, whom it gives an answer, and where
 -- all threads are after it.
-use Rattle.std.proofs.Common.{◌≡◌, ◌≢◌, ℕ, ◌+◌, ◌<◌, ◌≤◌, ◌==◌, ◌&&◌, Bool, true, false, not, cond, List, [], ◌∷◌, ◌++◌, length, Option, Some, None, refl, sym, ◌∙◌, ap, subst, ◌⊎◌, inl, inr, arith, length-append}
-use Rattle.std.specs.Prelude.{nat_lt, nat_le}
-use Rattle.std.proofs.lemmas.Bool.{cases_eq, cases_lt, cases_order, both_ways, cond-true, cond-false, cond_both, lt-ltb, le-ltb, and_parts, and_from, and_left, and_right, eqb-true, eq-eqb, ne_eqb}
+use Rattle.std.proofs.Common.{◌≡◌, ◌≢◌, ℕ, ◌+◌, ◌<◌, ◌≤◌, ◌==◌, ◌&&◌, true, false, [], ◌∷◌, ◌++◌, length, Option, Some, None, refl, sym, ◌∙◌, ap, inl, inr, arith, length-append}
+use Rattle.std.specs.Prelude.{nat_lt}
+use Rattle.std.proofs.lemmas.Bool.{cases_eq, cases_lt, cond-true, cond-false, cond_both, lt-ltb, le-ltb, and_from, and_left, and_right, eq-eqb, ne_eqb}
 use Rattle.types.specs.declared.event.Event.{Event}
 use Rattle.types.specs.declared.event.Event.TheVariants as events
 use Rattle.types.specs.declared.event.Question.{Question}
 use Rattle.types.specs.declared.event.Question.TheVariants.{Wait, Notify, Spawn, Leave}
 use Rattle.types.specs.declared.event.Answer.{Answer}
-use Rattle.types.specs.declared.event.Reply.{Reply}
-use Rattle.types.specs.declared.event.Reply.TheVariants as replies
 use Rattle.types.specs.declared.outcome.Outcome.{Outcome}
-use Rattle.shared_memory.specs.Memory.{Memory, loaded, reply_to_question}
-use Rattle.shared_memory.specs.WaitQueue.{WaitQueue, is_asleep, answer_due, next_id, after_question, IsFree}
-use Rattle.shared_memory.specs.History.{queue_step}
+use Rattle.shared_memory.specs.Memory.{Memory}
+use Rattle.shared_memory.specs.WaitQueue.{WaitQueue, answer_due, next_id, after_question, IsFree}
 use Rattle.shared_memory.proofs.Soundness.{IsSound}
 use Rattle.shared_memory.proofs.Others.{IsQuiet, Keeps}
 use Rattle.shared_memory.proofs.Standing.{IsAbsent}
 use Rattle.shared_memory.proofs.Spawning.{unborn}
 use Rattle.schedule.specs.System.{put}
-use Rattle.schedule.specs.Histories.{Place, Place.Unstarted, Place.Free, Place.Open, Place.Due, placed}
+use Rattle.schedule.specs.Histories.{Place, Place.Unstarted, Place.Free, placed}
 use Rattle.schedule.specs.Machine.{Thread, Thread.Runs}
 use Rattle.schedule.proofs.Basics.{put-other}
 use Rattle.machine.specs.State.{State}
-use Rattle.scheduled.specs.Shared.{Shared, is_question, starts_by, without_dues}
+use Rattle.scheduled.specs.Shared.{Shared, starts_by, without_dues}
 use Rattle.scheduled.specs.Threads.{machine_of}
 use Rattle.one_schedule.specs.Runs.{Start}
-use Rattle.one_schedule.proofs.Dues.{none_due, question_same}
-use Rattle.one_schedule.proofs.Places.{place_of, place_unstarted, place_free, place_given, args_by, question_args, given_none, given_open, kept, known_asker}
+use Rattle.one_schedule.proofs.Dues.{none_due}
+use Rattle.one_schedule.proofs.Places.{place_of, place_unstarted, place_free, place_given, args_by, question_args, given_none, kept, known_asker}
 
 -- what is shared beside a queue
 abbrev pub shared_of : Memory → WaitQueue → Shared

@@ -1,5 +1,5 @@
 -- Which threads a history starts, and that they run.
-use Rattle.std.proofs.Common.{◌≡◌, ◌≢◌, ℕ, ◌+◌, ◌<◌, ◌≤◌, ◌==◌, Bool, true, false, cond, List, [], ◌∷◌, ◌++◌, length, Option, Some, None, refl, sym, ◌∙◌, ap, subst, ◌⊎◌, inl, inr, arith, zero, suc, append-nil, append_assoc}
+use Rattle.std.proofs.Common.{◌≡◌, ℕ, ◌<◌, List, [], ◌∷◌, ◌++◌, length, Option, Some, None, refl, sym, ◌∙◌, ap, subst, arith, zero, suc, append-nil}
 use Rattle.std.specs.Prelude.{nat_lt, slice_get}
 use Rattle.std.proofs.lemmas.Bool.{cond-true, cond_both, lt-ltb}
 use Rattle.std.proofs.lemmas.Option.{slice_get_within, slice_get-get_or}
@@ -11,17 +11,16 @@ use Rattle.types.specs.declared.event.Answer.{Answer}
 use Rattle.types.specs.declared.event.Reply.{Reply}
 use Rattle.types.specs.declared.event.Reply.TheVariants as replies
 use Rattle.types.specs.declared.event.Entry as entries
-use Rattle.types.specs.declared.outcome.Outcome.{Outcome}
 use Rattle.shared_memory.specs.Memory.{Memory, reply_of, state_after}
 use Rattle.shared_memory.specs.WaitQueue.{WaitQueue, first_queue, next_id, after_question, after_answer}
-use Rattle.shared_memory.specs.History.{entry, queue_step, queue_from, queue_after}
+use Rattle.shared_memory.specs.History.{queue_step, queue_from, queue_after}
 use Rattle.shared_memory.specs.Legal.{IsLegal}
 use Rattle.shared_memory.proofs.Soundness.{IsSound, IsSound-first}
 use Rattle.waiters.specs.Queue.{arg_of}
 use Rattle.schedule.specs.System.{Step}
 use Rattle.schedule.specs.ThreadRun.{IsThreadRun}
-use Rattle.schedule.specs.Histories.{Place, Place.Unstarted, next_shared, next_places, StartedRunAt, StartedRun}
-use Rattle.schedule.specs.Machine.{Thread, Thread.Runs}
+use Rattle.schedule.specs.Histories.{Place, next_shared, next_places, StartedRunAt, StartedRun}
+use Rattle.schedule.specs.Machine.{Thread.Runs}
 use Rattle.machine.specs.State.{State}
 use Rattle.scheduled.specs.Shared.{Shared, act_by}
 use Rattle.one_schedule.specs.Runs.{Start, system_of, first_shared, first_places, as_acts, if_spawned, begins_in}
@@ -43,7 +42,7 @@ slice_get-last (y ∷ xs) x = slice_get-last xs x
 
 -- arguments of spawns stay
 
-abbrev Grows : List ℕ → List ℕ → Type 0
+abbrev pub Grows : List ℕ → List ℕ → Type 0
 Grows xs ys = (more : List ℕ) × (ys ≡ xs ++ more)
 
 grows_same : (xs ys : List ℕ) → ys ≡ xs → Grows xs ys
@@ -65,7 +64,7 @@ grows_ask q n question replies.Done = grows_question q n question 0
 grows_ask q n question replies.Again = grows_question q n question 0
 grows_ask q n question replies.Full = grows_question q n question 0
 
-grows_step : (q : WaitQueue) (n : ℕ) (event : Event) (reply : Reply) → Grows q.args (queue_step q n event reply).args
+pub grows_step : (q : WaitQueue) (n : ℕ) (event : Event) (reply : Reply) → Grows q.args (queue_step q n event reply).args
 unfolding after_answer
 grows_step q n (events.Ask question) reply = grows_ask q n question reply
 grows_step q n event reply = grows_same q.args q.args refl
@@ -105,10 +104,10 @@ known_begins b H (suc k) known =
 -- Each thread that the history starts runs.
 
 -- whoever has an argument in the end
-abbrev Runs_by : Start → WaitQueue → (ℕ → List (Step Event Reply Answer)) → (ℕ → Begun) → Type 0
-Runs_by b last steps ends = (m arg : ℕ) → arg_of last m ≡ Some arg → IsThreadRun (system_of b) (Runs (b.spawned m arg) b.fuel) (steps m) (ends m)
+abbrev pub RunBy : Start → WaitQueue → (ℕ → List (Step Event Reply Answer)) → (ℕ → Begun) → Type 0
+RunBy b last steps ends = (m arg : ℕ) → arg_of last m ≡ Some arg → IsThreadRun (system_of b) (Runs (b.spawned m arg) b.fuel) (steps m) (ends m)
 
-module _ (b : Start) (last : WaitQueue) (steps : ℕ → List (Step Event Reply Answer)) (ends : ℕ → Begun) (runs : Runs_by b last steps ends) where
+module _ (b : Start) (last : WaitQueue) (steps : ℕ → List (Step Event Reply Answer)) (ends : ℕ → Begun) (runs : RunBy b last steps ends) where
   -- a thread that an entry starts
   started_runs : (mem : Memory) (q : WaitQueue) (n : ℕ) (event : Event) (reply : Reply) (H : List entries.Entry) → last ≡ queue_from (queue_step q n event reply) H
       → reply ≡ reply_of mem event → (m : ℕ) (t : Begun) → started b mem q event m ≡ Some t → IsThreadRun (system_of b) t (steps m) (ends m)
@@ -134,13 +133,14 @@ module _ (b : Start) (last : WaitQueue) (steps : ℕ → List (Step Event Reply 
   started_from mem q places x [] legal sound stand same is = tt
   started_from mem q places x (e ∷ H) legal sound stand same is =
       let step : EntryStep b mem q places e.thread e.event e.reply = head_step mem q e H legal b places sound stand in
-      subst (λ (y : Shared). StartedRun (system_of b) steps ends y (as_acts (e ∷ H))) (sym same)
-      (started_at mem q e.thread e.event e.reply H is legal.memory.0,
-      started_from (state_after mem e.event) (queue_step q e.thread e.event e.reply)
-      (next_places (system_of b) (shared_of mem q) places e.thread (act_by e.event e.reply)) (next_shared (system_of b) (shared_of mem q) e.thread (act_by e.event e.reply)) H
-      (tail_legal mem q e H legal) (tail_sound mem q e H legal sound) step.stand step.shared is)
+      subst (λ (y : Shared). StartedRun (system_of b) steps ends y (as_acts (e ∷ H))) (sym same) (
+        started_at mem q e.thread e.event e.reply H is legal.memory.0,
+        started_from (state_after mem e.event) (queue_step q e.thread e.event e.reply)
+            (next_places (system_of b) (shared_of mem q) places e.thread (act_by e.event e.reply)) (next_shared (system_of b) (shared_of mem q) e.thread (act_by e.event e.reply)) H
+            (tail_legal mem q e H legal) (tail_sound mem q e H legal sound) step.stand step.shared is,
+      )
 
-pub started_run : (b : Start) (H : List entries.Entry) (steps : ℕ → List (Step Event Reply Answer)) (ends : ℕ → Begun) → IsLegal b.opening H → Runs_by b (queue_after H) steps ends
+pub started_run : (b : Start) (H : List entries.Entry) (steps : ℕ → List (Step Event Reply Answer)) (ends : ℕ → Begun) → IsLegal b.opening H → RunBy b (queue_after H) steps ends
     → StartedRun (system_of b) steps ends (first_shared b) (as_acts H)
 started_run b H steps ends legal runs =
     started_from b (queue_after H) steps ends runs b.opening first_queue first_places (first_shared b) H (legal_from b.opening H legal) IsSound-first first_stand (first_is b) (queue_after-all H)

@@ -1,16 +1,15 @@
 -- The wait queue without the answers that are due goes on as the whole one does: no question looks at them, so they are
 -- laid over those that a question makes due.
-use Rattle.std.proofs.Common.{◌≡◌, ◌≢◌, ℕ, ◌+◌, ◌<◌, ◌≤◌, ◌==◌, Bool, true, false, not, cond, List, [], ◌∷◌, ◌++◌, length, Option, Some, None, refl, sym, ◌∙◌, ap, subst, ◌⊎◌, inl, inr, arith, get_or, set, replicate, get_or-set_other, get_or-set_same, length-set}
-use Rattle.std.specs.Prelude.{ℤ, nat_lt, take}
-use Rattle.std.specs.List.{filter}
+use Rattle.std.proofs.Common.{◌≡◌, ℕ, ◌≤◌, ◌==◌, Bool, true, false, not, cond, List, [], ◌∷◌, length, Option, Some, None, refl, sym, ◌∙◌, ap, subst, inl, inr, arith, get_or, set, replicate, get_or-set_other, get_or-set_same, length-set}
+use Rattle.std.specs.Prelude.{nat_lt}
 use Rattle.std.proofs.lemmas.Bool.{cases_eq, cases_lt}
-use Rattle.std.proofs.lemmas.List.{length-replicate, get_or-replicate, get_or_past}
+use Rattle.std.proofs.lemmas.List.{get_or-replicate, get_or_past}
 use Rattle.types.specs.declared.event.Question.{Question}
 use Rattle.types.specs.declared.event.Question.TheVariants.{Wait, Notify, Spawn, Leave}
 use Rattle.types.specs.declared.event.Answer.{Answer}
 use Rattle.types.specs.declared.event.Answer.TheVariants.{Number}
 use Rattle.shared_memory.specs.declared.sleeper.Sleeper.{Sleeper}
-use Rattle.shared_memory.specs.WaitQueue.{WaitQueue, is_alive, is_among, is_asleep, answer_due, next_id, tells, wakes, sleeps, starts, leaves, woken_at, ends_at_once, ended, end_answer, is_stuck, settled, asked, due_after, after_question}
+use Rattle.shared_memory.specs.WaitQueue.{WaitQueue, answer_due, next_id, woken_at, ends_at_once, ended, end_answer, is_stuck, settled, asked, due_after, after_question}
 use Rattle.scheduled.specs.Shared.{without_dues}
 
 -- one answer over another

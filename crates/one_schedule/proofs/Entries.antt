@@ -1,7 +1,7 @@
 -- One entry of a legal history in the system of threads over the memory and the wait queue.
-use Rattle.std.proofs.Common.{◌≡◌, ◌≢◌, ℕ, ◌+◌, ◌<◌, ◌≤◌, ◌==◌, ◌&&◌, Bool, true, false, cond, List, [], ◌∷◌, length, Option, Some, None, refl, sym, ◌∙◌, ap, subst, ◌⊎◌, inl, inr, arith, get_or, set, get_or-set_other, get_or-set_same, length-set}
+use Rattle.std.proofs.Common.{◌≡◌, ◌≢◌, ℕ, ◌+◌, ◌==◌, ◌&&◌, Bool, true, false, cond, length, Option, Some, None, refl, sym, ◌∙◌, ap, subst, inl, inr, arith, get_or-set_other}
 use Rattle.std.specs.Prelude.{nat_lt, nat_le}
-use Rattle.std.proofs.lemmas.Bool.{cases_eq, cases_lt, cond_both, and_parts, ltb-true, eqb-true}
+use Rattle.std.proofs.lemmas.Bool.{cases_eq, cond_both, and_parts, ltb-true, eqb-true}
 use Rattle.types.specs.declared.event.Event.{Event}
 use Rattle.types.specs.declared.event.Event.TheVariants as events
 use Rattle.types.specs.declared.event.Question.{Question}
@@ -10,20 +10,20 @@ use Rattle.types.specs.declared.event.Answer.{Answer}
 use Rattle.types.specs.declared.event.Reply.{Reply}
 use Rattle.types.specs.declared.event.Reply.TheVariants as replies
 use Rattle.shared_memory.specs.Memory.{Memory, loaded, reply_of, reply_to_question, state_after}
-use Rattle.shared_memory.specs.WaitQueue.{WaitQueue, is_asleep, answer_due, next_id, after_question, after_answer, IsFree}
+use Rattle.shared_memory.specs.WaitQueue.{WaitQueue, is_asleep, answer_due, next_id, after_answer, IsFree}
 use Rattle.shared_memory.specs.History.{queue_step}
 use Rattle.shared_memory.specs.Legal.{IsAllowed, IsInTurn}
 use Rattle.shared_memory.proofs.Soundness.{IsSound, awake_if_due}
-use Rattle.shared_memory.proofs.Others.{IsQuiet, Keeps, Keeps-step}
+use Rattle.shared_memory.proofs.Others.{IsQuiet}
 use Rattle.shared_memory.proofs.Turns.{quiet_answer}
 use Rattle.schedule.specs.System.{put}
-use Rattle.schedule.specs.Histories.{Place, Place.Unstarted, Place.Free, Place.Open, Place.Due, placed, next_shared, next_places, IsLegalEntry}
-use Rattle.schedule.specs.Machine.{Thread, Thread.Runs}
+use Rattle.schedule.specs.Histories.{Place, Place.Unstarted, Place.Free, Place.Open, placed, next_shared, next_places, IsLegalEntry}
+use Rattle.schedule.specs.Machine.{Thread.Runs}
 use Rattle.schedule.proofs.Basics.{put-same, put-other}
-use Rattle.scheduled.specs.Shared.{Shared, is_question, starts_by, without_dues, act_by}
+use Rattle.scheduled.specs.Shared.{is_question, without_dues, act_by}
 use Rattle.one_schedule.specs.Runs.{Start, system_of}
 use Rattle.one_schedule.proofs.Dues.{none_due, question_same}
-use Rattle.one_schedule.proofs.Places.{place_of, place_due, place_unstarted, place_open, place_told, place_free, started_place, given_open}
+use Rattle.one_schedule.proofs.Places.{place_of, place_due, place_unstarted, place_told, place_free, started_place, given_open}
 use Rattle.one_schedule.proofs.Asked.{Begun, IsSpawn, started, shared_of, placed_same, question_after}
 
 -- threads stand where the queue has them
@@ -35,7 +35,7 @@ pub is_spawn : (b : Start) (mem : Memory) (q : WaitQueue) (event : Event) (m : �
 is_spawn b mem q (events.Ask (Spawn arg)) m t is =
     cond_both (nat_lt m 16 && (m == next_id q)) (Some (Runs (b.spawned m arg) b.fuel)) None (λ w. w ≡ Some t → IsSpawn b q (events.Ask (Spawn arg)) m t)
     (λ both e. let parts : (nat_lt m 16 ≡ true) × ((m == next_id q) ≡ true) = and_parts (nat_lt m 16) (m == next_id q) both in
-      record { arg = arg; event_is = refl; number = eqb-true m (next_id q) parts.1; room = ltb-true m 16 parts.0; thread = cc e })
+    record { arg = arg; event_is = refl; number = eqb-true m (next_id q) parts.1; room = ltb-true m 16 parts.0; thread = cc e })
     (λ isnt e. absurd (cc e)) is
 is_spawn b mem q event m t is = absurd (cc is)
 

@@ -5,3 +5,5 @@ pub mod Entries
 pub mod Linked
 pub mod Beginning
 pub mod Seen
+pub mod Idle
+pub mod Running

@@ -1,5 +1,5 @@
 -- A legal history of entries is a legal history of acts, and both come to the same memory, queue and places.
-use Rattle.std.proofs.Common.{◌≡◌, ◌≢◌, ℕ, ◌+◌, ◌<◌, ◌≤◌, ◌==◌, Bool, true, false, cond, List, [], ◌∷◌, ◌++◌, length, Option, Some, None, refl, sym, ◌∙◌, ap, subst, ◌⊎◌, inl, inr, arith, zero, suc}
+use Rattle.std.proofs.Common.{◌≡◌, ℕ, List, [], ◌∷◌, ◌++◌, refl, sym, ◌∙◌, subst, inl, inr, arith}
 use Rattle.std.proofs.lemmas.Bool.{cases_eq}
 use Rattle.types.specs.declared.event.Event.{Event}
 use Rattle.types.specs.declared.event.Event.TheVariants as events
@@ -7,12 +7,11 @@ use Rattle.types.specs.declared.event.Answer.{Answer}
 use Rattle.types.specs.declared.event.Reply.{Reply}
 use Rattle.types.specs.declared.event.Entry as entries
 use Rattle.shared_memory.specs.Memory.{Memory, state_after}
-use Rattle.shared_memory.specs.WaitQueue.{WaitQueue, first_queue, next_id}
+use Rattle.shared_memory.specs.WaitQueue.{WaitQueue, first_queue}
 use Rattle.shared_memory.specs.History.{entry, of_queue, memory_after, queue_step, queue_from, queue_after}
 use Rattle.shared_memory.specs.Legal.{IsAllowed, IsMemoryLegal, IsQueueLegalFrom, IsQueueLegal, IsWellFormedFrom, IsWellFormed, IsLegal}
 use Rattle.shared_memory.proofs.Histories.{IsMemoryLegal-prefix, IsQueueLegal-prefix, IsWellFormed-prefix}
 use Rattle.shared_memory.proofs.Soundness.{IsSound, IsSound-step, IsSound-first}
-use Rattle.schedule.specs.System.{put}
 use Rattle.schedule.specs.Histories.{Place, Place.Unstarted, Place.Free, next_shared, next_places, shared_after, places_after, IsLegalHistory}
 use Rattle.schedule.proofs.Basics.{put-same, put-other}
 use Rattle.scheduled.specs.Shared.{Shared, act_by}
@@ -84,10 +83,10 @@ linked_from b mem q places x [] legal sound stand is = record { legal = tt; shar
 linked_from b mem q places x (e ∷ H) legal sound stand is =
     let step : EntryStep b mem q places e.thread e.event e.reply = head_step mem q e H legal b places sound stand in
     let rest : Linked b (state_after mem e.event) (queue_step q e.thread e.event e.reply)
-        (next_places (system_of b) (shared_of mem q) places e.thread (act_by e.event e.reply)) (next_shared (system_of b) (shared_of mem q) e.thread (act_by e.event e.reply)) H =
+    (next_places (system_of b) (shared_of mem q) places e.thread (act_by e.event e.reply)) (next_shared (system_of b) (shared_of mem q) e.thread (act_by e.event e.reply)) H =
     linked_from b (state_after mem e.event) (queue_step q e.thread e.event e.reply)
-        (next_places (system_of b) (shared_of mem q) places e.thread (act_by e.event e.reply)) (next_shared (system_of b) (shared_of mem q) e.thread (act_by e.event e.reply)) H
-        (tail_legal mem q e H legal) (tail_sound mem q e H legal sound) step.stand step.shared in
+    (next_places (system_of b) (shared_of mem q) places e.thread (act_by e.event e.reply)) (next_shared (system_of b) (shared_of mem q) e.thread (act_by e.event e.reply)) H
+    (tail_legal mem q e H legal) (tail_sound mem q e H legal sound) step.stand step.shared in
     subst (λ (y : Shared). Linked b mem q places y (e ∷ H)) (sym is) (record { legal = (step.legal, rest.legal); shared = rest.shared; stand = rest.stand })
 
 -- at first

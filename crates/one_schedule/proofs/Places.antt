@@ -1,22 +1,17 @@
 -- The place of a thread, as the wait queue has it, and what a question makes of it.
-use Rattle.std.proofs.Common.{◌≡◌, ◌≢◌, ℕ, ◌+◌, ◌<◌, ◌≤◌, ◌==◌, ◌&&◌, ◌||◌, Bool, true, false, not, cond, List, [], ◌∷◌, ◌++◌, length, Option, Some, None, refl, sym, ◌∙◌, ap, subst, ◌⊎◌, inl, inr, arith, get_or, length-append}
-use Rattle.std.specs.Prelude.{nat_lt, is_some, suc, zero}
-use Rattle.std.proofs.lemmas.Bool.{cases_eq, cases_lt, cases_Bool, both_ways, cond-true, cond-false, cond_both, lt-ltb, le-ltb, or_cases, or_left, and_parts, ltb-true, eqb-true, ne_eqb}
-use Rattle.types.specs.declared.event.Event.{Event}
+use Rattle.std.proofs.Common.{◌≡◌, ◌≢◌, ℕ, ◌<◌, ◌≤◌, ◌==◌, Bool, true, false, not, cond, List, [], ◌∷◌, ◌++◌, Option, Some, None, refl, sym, ◌∙◌, ap, subst, inl, inr}
+use Rattle.std.specs.Prelude.{nat_lt, is_some}
+use Rattle.std.proofs.lemmas.Bool.{cases_eq, cases_Bool, both_ways, cond-true, cond-false, cond_both, lt-ltb, le-ltb, or_cases, or_left}
 use Rattle.types.specs.declared.event.Event.TheVariants as events
 use Rattle.types.specs.declared.event.Question.{Question}
 use Rattle.types.specs.declared.event.Question.TheVariants.{Wait, Notify, Spawn, Leave}
 use Rattle.types.specs.declared.event.Answer.{Answer}
 use Rattle.types.specs.declared.event.Answer.TheVariants.{Number}
-use Rattle.types.specs.declared.event.Reply.{Reply}
 use Rattle.types.specs.declared.event.Reply.TheVariants as replies
 use Rattle.shared_memory.specs.declared.sleeper.Sleeper.{Sleeper}
-use Rattle.shared_memory.specs.WaitQueue.{WaitQueue, is_alive, is_asleep, answer_due, next_id, tells, wakes, sleeps, starts, ends_at_once, ended, end_answer, is_stuck, settled, asked, after_question, IsFree, has_open_question}
-use Rattle.shared_memory.specs.History.{queue_step}
+use Rattle.shared_memory.specs.WaitQueue.{WaitQueue, is_asleep, answer_due, next_id, tells, wakes, sleeps, starts, ends_at_once, ended, end_answer, is_stuck, settled, asked, after_question, IsFree, has_open_question}
 use Rattle.shared_memory.proofs.Soundness.{IsSound, IsSound-step, awake_if_due}
 use Rattle.shared_memory.proofs.Others.{IsQuiet, Keeps, Keeps-step}
-use Rattle.shared_memory.proofs.Standing.{IsAbsent}
-use Rattle.shared_memory.proofs.Spawning.{unborn}
 use Rattle.shared_memory.proofs.Turns.{open_step}
 use Rattle.schedule.specs.System.{put}
 use Rattle.schedule.specs.Histories.{Place, Place.Unstarted, Place.Free, Place.Open, Place.Due, placed}

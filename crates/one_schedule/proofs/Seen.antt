@@ -1,20 +1,18 @@
 -- What a thread saw of a recorded history, it saw of the history of acts.
-use Rattle.std.proofs.Common.{◌≡◌, ◌≢◌, ℕ, ◌+◌, ◌<◌, ◌≤◌, ◌==◌, Bool, true, false, cond, List, [], ◌∷◌, ◌++◌, length, map, Option, Some, None, refl, sym, ◌∙◌, ap, subst}
-use Rattle.std.proofs.lemmas.Bool.{cond_both, cond-true, cond-false, eqb-false, ne_eqb}
+use Rattle.std.proofs.Common.{◌≡◌, ℕ, ◌<◌, ◌≤◌, ◌==◌, Bool, List, [], ◌∷◌, ◌++◌, length, Option, Some, None, refl, sym, ◌∙◌, ap, subst}
+use Rattle.std.proofs.lemmas.Bool.{cond_both, cond-false}
 use Rattle.std.proofs.lemmas.List.{map-append, length-map}
 use Rattle.types.specs.declared.event.Event.{Event}
 use Rattle.types.specs.declared.event.Event.TheVariants as events
 use Rattle.types.specs.declared.event.Answer.{Answer}
 use Rattle.types.specs.declared.event.Reply.{Reply}
-use Rattle.types.specs.declared.event.Reply.TheVariants as replies
 use Rattle.types.specs.declared.event.Entry as entries
 use Rattle.types.specs.declared.outcome.Outcome.{Outcome}
-use Rattle.shared_memory.specs.Events.{is_exempt}
 use Rattle.shared_memory.specs.Memory.{Memory, state_after, touched}
-use Rattle.shared_memory.specs.History.{entry, entries_of, memory_after}
+use Rattle.shared_memory.specs.History.{entries_of, memory_after}
 use Rattle.shared_memory.specs.Access as access
 use Rattle.shared_memory.specs.Access.{Changes}
-use Rattle.schedule.specs.System.{Want.Calls, Act, Act.Made, Act.Heard, Step, Step.Own, Step.Lost, Step.Full, Step.Acts, Entry}
+use Rattle.schedule.specs.System.{Want.Calls, Act, Act.Made, Act.Heard, Step, Step.Own, Step.Lost, Step.Full, Step.Acts}
 use Rattle.schedule.specs.ThreadRun.{IsThreadRun}
 use Rattle.schedule.specs.Histories.{acts_of, next_shared, shared_after}
 use Rattle.schedule.specs.Tries as tries
@@ -23,7 +21,7 @@ use Rattle.machine.specs.Program.{Program}
 use Rattle.machine.specs.State.{State}
 use Rattle.scheduled.specs.Shared.{Shared, act_by, act_of, try_rules, over_memory_and_queue}
 use Rattle.scheduled.specs.Threads.{machine_of}
-use Rattle.scheduled.specs.Seeing.{event_of, reply_with, entered, SeesLost, SeesFull, SeesAct, Sees, SeesAll}
+use Rattle.scheduled.specs.Seeing.{event_of, reply_with, entered, SeesLost, SeesFull, SeesAct, SeesAll}
 use Rattle.scheduled.proofs.Asking.{wants_no_answer}
 use Rattle.one_schedule.specs.Runs.{Start, system_of, first_shared, acted, as_acts}
 

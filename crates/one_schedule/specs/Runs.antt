@@ -1,18 +1,18 @@
 -- The threads of a module that ran together, and the history that they made: as the theorem of one schedule asks for them.
-use Rattle.std.specs.Prelude.{ℕ, zero, suc, ◌≡◌, ◌≢◌, Bool, List, [], ◌∷◌, ◌++◌, map, Option, Some, None}
+use Rattle.std.specs.Prelude.{ℕ, zero, suc, ◌≡◌, Bool, List, [], ◌++◌, map, Option, Some, None}
 use Rattle.types.specs.declared.event.Event.{Event}
 use Rattle.types.specs.declared.event.Reply.{Reply}
 use Rattle.types.specs.declared.event.Answer.{Answer}
 use Rattle.types.specs.declared.event.Entry as entries
 use Rattle.types.specs.declared.outcome.Outcome.{Outcome}
 use Rattle.shared_memory.specs.Memory.{Memory}
-use Rattle.shared_memory.specs.WaitQueue.{WaitQueue, first_queue}
+use Rattle.shared_memory.specs.WaitQueue.{first_queue}
 use Rattle.shared_memory.specs.History.{entries_of, queue_after}
 use Rattle.waiters.specs.Queue.{arg_of}
 use Rattle.schedule.specs.System.{Entry, System, put}
 use Rattle.schedule.specs.System as systems
 use Rattle.schedule.specs.Histories.{Place, Place.Unstarted, Place.Free}
-use Rattle.schedule.specs.Machine.{Thread, Thread.Absent, Thread.Runs}
+use Rattle.schedule.specs.Machine.{Thread, Thread.Absent, Thread.Runs, Thread.Left}
 use Rattle.machine.specs.Program.{Program}
 use Rattle.machine.specs.State.{State}
 use Rattle.scheduled.specs.Shared.{Shared, over_memory_and_queue, act_of}
@@ -75,3 +75,11 @@ pub record HasRun (b : Start) (loses : Bool) (limit : Option ℕ) (H : List entr
 abbrev pub AllHaveRun : Start → Bool → Option ℕ → List entries.Entry → (ℕ → Outcome) → (ℕ → ℕ) → Type 0
 AllHaveRun b loses limit H outcomes lefts =
     (n : ℕ) (c : State) → begins_in b H n ≡ Some c → HasRun b loses limit H n c (outcomes n) (lefts n)
+
+-- How each thread stands in the end.
+abbrev pub end_if : Option State → Outcome → ℕ → Thread State Outcome
+end_if None outcome left = Absent
+end_if (Some c) outcome left = Left outcome left
+
+abbrev pub ends_of : Start → List entries.Entry → (ℕ → Outcome) → (ℕ → ℕ) → ℕ → Thread State Outcome
+ends_of b H outcomes lefts n = end_if (begins_in b H n) (outcomes n) (lefts n)
