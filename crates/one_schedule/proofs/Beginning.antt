@@ -14,7 +14,6 @@ use Rattle.types.specs.declared.event.Entry as entries
 use Rattle.shared_memory.specs.Memory.{Memory, reply_of, state_after}
 use Rattle.shared_memory.specs.WaitQueue.{WaitQueue, first_queue, next_id, after_question, after_answer}
 use Rattle.shared_memory.specs.History.{queue_step, queue_from, queue_after}
-use Rattle.shared_memory.specs.Legal.{IsLegal}
 use Rattle.shared_memory.proofs.Soundness.{IsSound, IsSound-first}
 use Rattle.waiters.specs.Queue.{arg_of}
 use Rattle.schedule.specs.System.{Step}
@@ -27,7 +26,7 @@ use Rattle.one_schedule.specs.Runs.{Start, system_of, first_shared, first_places
 use Rattle.one_schedule.proofs.Places.{args_by, question_args}
 use Rattle.one_schedule.proofs.Asked.{Begun, IsSpawn, started, shared_of}
 use Rattle.one_schedule.proofs.Entries.{StandAt, EntryStep, is_spawn}
-use Rattle.one_schedule.proofs.Linked.{IsLegalFrom, legal_from, head_step, tail_legal, tail_sound, first_is, first_stand, queue_after-all}
+use Rattle.one_schedule.proofs.Linked.{IsStarted, IsLegalFrom, legal_from, head_step, tail_legal, tail_sound, first_is, first_stand, queue_after-all}
 
 -- lists that grow
 
@@ -140,7 +139,7 @@ module _ (b : Start) (last : WaitQueue) (steps : ℕ → List (Step Event Reply 
             (tail_legal mem q e H legal) (tail_sound mem q e H legal sound) step.stand step.shared is,
       )
 
-pub started_run : (b : Start) (H : List entries.Entry) (steps : ℕ → List (Step Event Reply Answer)) (ends : ℕ → Begun) → IsLegal b.opening H → RunBy b (queue_after H) steps ends
+pub started_run : (b : Start) (H : List entries.Entry) (steps : ℕ → List (Step Event Reply Answer)) (ends : ℕ → Begun) → IsStarted b.opening H → RunBy b (queue_after H) steps ends
     → StartedRun (system_of b) steps ends (first_shared b) (as_acts H)
 started_run b H steps ends legal runs =
     started_from b (queue_after H) steps ends runs b.opening first_queue first_places (first_shared b) H (legal_from b.opening H legal) IsSound-first first_stand (first_is b) (queue_after-all H)

@@ -1,5 +1,5 @@
 -- One entry of a legal history in the system of threads over the memory and the wait queue.
-use Rattle.std.proofs.Common.{◌≡◌, ◌≢◌, ℕ, ◌+◌, ◌==◌, ◌&&◌, Bool, true, false, cond, length, Option, Some, None, refl, sym, ◌∙◌, ap, subst, inl, inr, arith, get_or-set_other}
+use Rattle.std.proofs.Common.{◌<◌, ◌≡◌, ◌≢◌, ℕ, ◌+◌, ◌==◌, ◌&&◌, Bool, true, false, cond, length, Option, Some, None, refl, sym, ◌∙◌, ap, subst, inl, inr, arith, get_or-set_other}
 use Rattle.std.specs.Prelude.{nat_lt, nat_le}
 use Rattle.std.proofs.lemmas.Bool.{cases_eq, cond_both, and_parts, ltb-true, eqb-true}
 use Rattle.types.specs.declared.event.Event.{Event}
@@ -12,7 +12,7 @@ use Rattle.types.specs.declared.event.Reply.TheVariants as replies
 use Rattle.shared_memory.specs.Memory.{Memory, loaded, reply_of, reply_to_question, state_after}
 use Rattle.shared_memory.specs.WaitQueue.{WaitQueue, is_asleep, answer_due, next_id, after_answer, IsFree}
 use Rattle.shared_memory.specs.History.{queue_step}
-use Rattle.shared_memory.specs.Legal.{IsAllowed, IsInTurn}
+use Rattle.shared_memory.specs.Legal.{IsAllowed}
 use Rattle.shared_memory.proofs.Soundness.{IsSound, awake_if_due}
 use Rattle.shared_memory.proofs.Others.{IsQuiet}
 use Rattle.shared_memory.proofs.Turns.{quiet_answer}
@@ -74,23 +74,27 @@ no_full m (Notify addr count) is =
 no_full m (Spawn arg) is = absurd (cc is)
 no_full m Leave is = absurd (cc is)
 
-module _ (b : Start) (mem : Memory) (q : WaitQueue) (places : ℕ → Place Answer) (n : ℕ) (sound : IsSound q) (free : IsFree q n) (stand : StandAt q places) where
+module _ (q : WaitQueue) (places : ℕ → Place Answer) (stand : StandAt q places) where
   -- from where all stand, to where they stand by another map
   at_places : (B : Type 0) (o : Option B) (a : Option Answer) (opens : Bool) (m : ℕ) (p : Place Answer) → placed o a opens (place_of q m) ≡ p → placed o a opens (places m) ≡ p
   at_places B o a opens m p is = ap (λ w. placed o a opens w) (stand m) ∙ is
 
+  there : (n : ℕ) → n < next_id q → places n ≡ Unstarted → ⊥
+  there n known is = started_place q n known (sym (stand n) ∙ is)
+
+module _ (b : Start) (mem : Memory) (q : WaitQueue) (places : ℕ → Place Answer) (n : ℕ) (sound : IsSound q) (free : IsFree q n) (stand : StandAt q places) where
   within_value : (question : Question) (v : ℕ) → AskStep b mem q places n question (replies.Value v) (replies.Value v)
   within_value question v = record {
     gives = λ m a is. ((λ apart. stand m ∙ given_open q n question v sound free m a is apart), (λ e. refl));
     shared = sym (question_same q n question v sound.due_length);
-    stand = λ m. at_places Begun _ _ _ m _ (question_after b mem q n question v sound free m);
+    stand = λ m. at_places q places stand Begun _ _ _ m _ (question_after b mem q n question v sound free m);
   }
 
   within_done : (question : Question) → AskStep b mem q places n question replies.Done replies.Done
   within_done question = record {
     gives = λ m a is. ((λ apart. stand m ∙ given_open q n question 0 sound free m a is apart), (λ e. refl));
     shared = sym (question_same q n question 0 sound.due_length);
-    stand = λ m. at_places Begun _ _ _ m _ (question_after b mem q n question 0 sound free m);
+    stand = λ m. at_places q places stand Begun _ _ _ m _ (question_after b mem q n question 0 sound free m);
   }
 
   -- a question out of bounds moves nothing
@@ -98,7 +102,7 @@ module _ (b : Start) (mem : Memory) (q : WaitQueue) (places : ℕ → Place Answ
   outside question none = record {
     gives = λ m a is. absurd (cc (is, none_due m));
     shared = refl;
-    stand = λ m. at_places Begun _ _ _ m _
+    stand = λ m. at_places q places stand Begun _ _ _ m _
         (ap (λ o. placed o (answer_due (without_dues q) m) (put (λ (k : ℕ). false) n false m) (place_of q m)) (none m) ∙ placed_same Begun q n m (place_of q m));
   }
 
@@ -112,13 +116,10 @@ module _ (b : Start) (mem : Memory) (q : WaitQueue) (places : ℕ → Place Answ
   ask_step question replies.Again is = absurd (no_again mem question is)
   ask_step question replies.Full is = absurd (no_full mem question is)
 
-  there : places n ≡ Unstarted → ⊥
-  there is = started_place q n (sound.named n free.alive) (sym (stand n) ∙ is)
-
   question_step : (question : Question) (reply : Reply) → reply ≡ reply_to_question mem question → EntryStep b mem q places n (events.Ask question) reply
   question_step question reply is =
       let step : AskStep b mem q places n question reply (reply_to_question mem question) = subst (λ (r : Reply). AskStep b mem q places n question reply r) is (ask_step question reply is) in record {
-        legal = (there, is, (λ m t e. stand m ∙ starts_unstarted b mem q (events.Ask question) m t e), step.gives);
+        legal = (there q places stand n (sound.named n free.alive), is, (λ m t e. stand m ∙ starts_unstarted b mem q (events.Ask question) m t e), step.gives);
         shared = ap (λ (w : WaitQueue). record { memory = mem; queue = w }) step.shared;
         stand = step.stand;
       }
@@ -148,11 +149,11 @@ heard_step b mem q places n a reply sound due stand = record {
 
 -- any entry
 pub entry_step : (b : Start) (mem : Memory) (q : WaitQueue) (places : ℕ → Place Answer) (n : ℕ) (event : Event) (reply : Reply) → IsSound q → StandAt q places
-    → reply ≡ reply_of mem event → IsAllowed q n event → IsInTurn q n event → EntryStep b mem q places n event reply
-entry_step b mem q places n (events.Ask question) reply sound stand is allowed turn = question_step b mem q places n sound turn stand question reply is
-entry_step b mem q places n (events.Told a) reply sound stand is allowed turn = heard_step b mem q places n a reply sound allowed stand
-entry_step b mem q places n event reply sound stand is allowed turn = record {
-  legal = (there b mem q places n sound turn stand, is, (λ m t e. absurd (cc e)), (λ m a e. absurd (cc (e, none_due m))));
+    → reply ≡ reply_of mem event → IsAllowed q n event → n < next_id q → EntryStep b mem q places n event reply
+entry_step b mem q places n (events.Ask question) reply sound stand is allowed known = question_step b mem q places n sound allowed stand question reply is
+entry_step b mem q places n (events.Told a) reply sound stand is allowed known = heard_step b mem q places n a reply sound allowed stand
+entry_step b mem q places n event reply sound stand is allowed known = record {
+  legal = (there q places stand n known, is, (λ m t e. absurd (cc e)), (λ m a e. absurd (cc (e, none_due m))));
   shared = refl;
-  stand = λ m. at_places b mem q places n sound turn stand Begun None _ _ m _ (placed_same Begun q n m (place_of q m));
+  stand = λ m. at_places q places stand Begun None _ _ m _ (placed_same Begun q n m (place_of q m));
 }

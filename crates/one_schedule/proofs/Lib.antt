@@ -6,4 +6,5 @@ pub mod Linked
 pub mod Beginning
 pub mod Seen
 pub mod Idle
+pub mod Order
 pub mod Running

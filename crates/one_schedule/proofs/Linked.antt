@@ -1,5 +1,5 @@
 -- A legal history of entries is a legal history of acts, and both come to the same memory, queue and places.
-use Rattle.std.proofs.Common.{◌≡◌, ℕ, List, [], ◌∷◌, ◌++◌, refl, sym, ◌∙◌, subst, inl, inr, arith}
+use Rattle.std.proofs.Common.{◌<◌, ◌≡◌, ℕ, List, [], ◌∷◌, ◌++◌, refl, sym, ◌∙◌, subst, inl, inr, arith}
 use Rattle.std.proofs.lemmas.Bool.{cases_eq}
 use Rattle.types.specs.declared.event.Event.{Event}
 use Rattle.types.specs.declared.event.Event.TheVariants as events
@@ -7,10 +7,10 @@ use Rattle.types.specs.declared.event.Answer.{Answer}
 use Rattle.types.specs.declared.event.Reply.{Reply}
 use Rattle.types.specs.declared.event.Entry as entries
 use Rattle.shared_memory.specs.Memory.{Memory, state_after}
-use Rattle.shared_memory.specs.WaitQueue.{WaitQueue, first_queue}
+use Rattle.shared_memory.specs.WaitQueue.{WaitQueue, first_queue, next_id}
 use Rattle.shared_memory.specs.History.{entry, of_queue, memory_after, queue_step, queue_from, queue_after}
-use Rattle.shared_memory.specs.Legal.{IsAllowed, IsMemoryLegal, IsQueueLegalFrom, IsQueueLegal, IsWellFormedFrom, IsWellFormed, IsLegal}
-use Rattle.shared_memory.proofs.Histories.{IsMemoryLegal-prefix, IsQueueLegal-prefix, IsWellFormed-prefix}
+use Rattle.shared_memory.specs.Legal.{IsAllowed, IsMemoryLegal, IsQueueLegalFrom, IsQueueLegal}
+use Rattle.shared_memory.proofs.Histories.{IsMemoryLegal-prefix, IsQueueLegal-prefix}
 use Rattle.shared_memory.proofs.Soundness.{IsSound, IsSound-step, IsSound-first}
 use Rattle.schedule.specs.Histories.{Place, Place.Unstarted, Place.Free, next_shared, next_places, shared_after, places_after, IsLegalHistory}
 use Rattle.schedule.proofs.Basics.{put-same, put-other}
@@ -41,21 +41,36 @@ pub queue_after-all : (H : List entries.Entry) → queue_after H ≡ queue_from 
 unfolding queue_after
 queue_after-all H = all_from first_queue H
 
--- legal from a memory and a queue on
+-- Each entry is of a thread that was started.
+abbrev pub AreStartedFrom : WaitQueue → List entries.Entry → Type 0
+AreStartedFrom q [] = Unit {0}
+AreStartedFrom q (e ∷ H) = (e.thread < next_id q) × AreStartedFrom (queue_step q e.thread e.event e.reply) H
+
+started_prefix : (q : WaitQueue) (xs ys : List entries.Entry) → AreStartedFrom q (xs ++ ys) → AreStartedFrom q xs
+started_prefix q [] ys started = tt
+started_prefix q (x ∷ xs) ys started = (started.0, started_prefix (queue_step q x.thread x.event x.reply) xs ys started.1)
+
+-- A history that is legal for the memory and the wait queue, of threads that were started.
+pub record IsStarted (mem : Memory) (H : List entries.Entry) : Type 0 where
+  pub memory : IsMemoryLegal mem H
+  pub queue : IsQueueLegal H
+  pub started : AreStartedFrom first_queue H
+
+-- such a one from a memory and a queue on
 pub record IsLegalFrom (mem : Memory) (q : WaitQueue) (H : List entries.Entry) : Type 0 where
   pub memory : IsMemoryLegal mem H
   pub queue : IsQueueLegalFrom q (of_queue H)
-  pub form : IsWellFormedFrom q H
+  pub started : AreStartedFrom q H
 
-pub legal_from : (mem : Memory) (H : List entries.Entry) → IsLegal mem H → IsLegalFrom mem first_queue H
-unfolding IsQueueLegal IsWellFormed
-legal_from mem H legal = record { memory = legal.memory; queue = legal.queue; form = legal.form }
+pub legal_from : (mem : Memory) (H : List entries.Entry) → IsStarted mem H → IsLegalFrom mem first_queue H
+unfolding IsQueueLegal
+legal_from mem H legal = record { memory = legal.memory; queue = legal.queue; started = legal.started }
 
-pub prefix_legal : (mem : Memory) (xs ys : List entries.Entry) → IsLegal mem (xs ++ ys) → IsLegal mem xs
+pub prefix_legal : (mem : Memory) (xs ys : List entries.Entry) → IsStarted mem (xs ++ ys) → IsStarted mem xs
 prefix_legal mem xs ys legal = record {
   memory = IsMemoryLegal-prefix mem xs ys legal.memory;
   queue = IsQueueLegal-prefix xs ys legal.queue;
-  form = IsWellFormed-prefix xs ys legal.form;
+  started = started_prefix first_queue xs ys legal.started;
 }
 
 module _ (mem : Memory) (q : WaitQueue) (e : entries.Entry) (H : List entries.Entry) (legal : IsLegalFrom mem q (e ∷ H)) where
@@ -63,13 +78,13 @@ module _ (mem : Memory) (q : WaitQueue) (e : entries.Entry) (H : List entries.En
   head_allowed = (rest_legal q e.thread e.event e.reply H legal.queue).0
 
   pub tail_legal : IsLegalFrom (state_after mem e.event) (queue_step q e.thread e.event e.reply) H
-  tail_legal = record { memory = legal.memory.1; queue = (rest_legal q e.thread e.event e.reply H legal.queue).1; form = legal.form.1 }
+  tail_legal = record { memory = legal.memory.1; queue = (rest_legal q e.thread e.event e.reply H legal.queue).1; started = legal.started.1 }
 
   pub tail_sound : IsSound q → IsSound (queue_step q e.thread e.event e.reply)
   tail_sound sound = IsSound-step q e.thread e.event e.reply head_allowed sound
 
   pub head_step : (b : Start) (places : ℕ → Place Answer) → IsSound q → StandAt q places → EntryStep b mem q places e.thread e.event e.reply
-  head_step b places sound stand = entry_step b mem q places e.thread e.event e.reply sound stand legal.memory.0 head_allowed legal.form.0
+  head_step b places sound stand = entry_step b mem q places e.thread e.event e.reply sound stand legal.memory.0 head_allowed legal.started.0
 
 -- What a history is in the system, from something shared and from places on.
 pub record Linked (b : Start) (mem : Memory) (q : WaitQueue) (places : ℕ → Place Answer) (x : Shared) (H : List entries.Entry) : Type 0 where
@@ -104,9 +119,9 @@ first_stand m =
     ]
 
 -- so a legal history is one
-pub linked : (b : Start) (H : List entries.Entry) → IsLegal b.opening H → Linked b b.opening first_queue first_places (first_shared b) H
+pub linked : (b : Start) (H : List entries.Entry) → IsStarted b.opening H → Linked b b.opening first_queue first_places (first_shared b) H
 linked b H legal = linked_from b b.opening first_queue first_places (first_shared b) H (legal_from b.opening H legal) IsSound-first first_stand (first_is b)
 
 -- after it threads stand where its queue has them
-pub stand_after : (b : Start) (H : List entries.Entry) → IsLegal b.opening H → StandAt (queue_after H) (places_after (system_of b) (first_shared b) first_places (as_acts H))
+pub stand_after : (b : Start) (H : List entries.Entry) → IsStarted b.opening H → StandAt (queue_after H) (places_after (system_of b) (first_shared b) first_places (as_acts H))
 stand_after b H legal = subst (λ (q : WaitQueue). StandAt q (places_after (system_of b) (first_shared b) first_places (as_acts H))) (sym (queue_after-all H)) (Linked.stand (linked b H legal))

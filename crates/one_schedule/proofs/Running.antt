@@ -1,15 +1,13 @@
 -- Threads that ran, and made a legal history together, are threads of a run as the theorem of one schedule asks for it.
-use Rattle.std.proofs.Common.{◌≡◌, ◌≢◌, ℕ, ◌<◌, ◌≤◌, Bool, List, [], ◌∷◌, ◌++◌, Option, Some, None, refl, sym, ◌∙◌, ap, subst, ◌⊎◌, inl, inr, arith, zero, suc, append_assoc, append-nil}
+use Rattle.std.proofs.Common.{◌≡◌, ◌≢◌, ℕ, ◌<◌, ◌≤◌, Bool, List, [], ◌++◌, Option, Some, None, refl, sym, ◌∙◌, ap, subst, ◌⊎◌, inl, inr, arith, zero, suc, append_assoc}
 use Rattle.std.proofs.lemmas.Bool.{cases_eq, cases_lt}
 use Rattle.types.specs.declared.event.Event.{Event}
 use Rattle.types.specs.declared.event.Answer.{Answer}
 use Rattle.types.specs.declared.event.Reply.{Reply}
 use Rattle.types.specs.declared.event.Entry as entries
 use Rattle.types.specs.declared.outcome.Outcome.{Outcome}
-use Rattle.shared_memory.specs.Memory.{Memory}
 use Rattle.shared_memory.specs.WaitQueue.{next_id}
 use Rattle.shared_memory.specs.History.{queue_after}
-use Rattle.shared_memory.specs.Legal.{IsLegal}
 use Rattle.waiters.specs.Queue.{arg_of}
 use Rattle.schedule.specs.System.{Want.Gone, Step, Step.Own, Step.Lost, Step.Full, Step.Acts, Mark, put}
 use Rattle.schedule.specs.System as systems
@@ -27,37 +25,17 @@ use Rattle.schedule.proofs.Laws.{one_schedule, schedule_follows, every_other_giv
 use Rattle.machine.specs.State.{State}
 use Rattle.scheduled.specs.Shared.{Shared, try_rules}
 use Rattle.scheduled.specs.Threads.{machine_of}
-use Rattle.scheduled.specs.Seeing.{RunsToEnd, SeesAll, entered}
+use Rattle.scheduled.specs.Seeing.{RunsToEnd}
 use Rattle.scheduled.proofs.Threads.{system_laws}
 use Rattle.scheduled.proofs.Asking.{machine_laws}
 use Rattle.one_schedule.specs.Runs.{Start, system_of, first_shared, first_state, first_places, as_acts, begins_in, if_spawned, HasRun, AllHaveRun, end_if, ends_of}
 use Rattle.one_schedule.specs.Theorem.{AllHaveLeft, GivesTheSame, IsOneRun, ThreadsMakeOneRun}
 use Rattle.one_schedule.proofs.Places.{place_unstarted, started_place}
-use Rattle.one_schedule.proofs.Linked.{Linked, linked, prefix_legal, stand_after}
+use Rattle.one_schedule.proofs.Linked.{IsStarted, Linked, linked, prefix_legal, stand_after}
 use Rattle.one_schedule.proofs.Beginning.{begins_known, known_begins, started_run}
 use Rattle.one_schedule.proofs.Idle.{idle}
+use Rattle.one_schedule.proofs.Order.{sees_more, all_started}
 use Rattle.one_schedule.proofs.Seen.{as_acts-append, others_acts, memory_along, back_run, seen_acts}
-
--- a list that is seen goes on
-
-sees_more : (loses : Bool) (opening : Memory) (limit : Option ℕ) (n : ℕ) (before last : List entries.Entry) (steps : List (Step Event Reply Answer)) → SeesAll loses opening limit n before steps last
-    → (more : List entries.Entry) × (last ≡ before ++ more)
-sees_more loses opening limit n before last [] sees = ([], sym (append-nil before ∙ sees))
-sees_more loses opening limit n before last (Own ∷ steps) sees =
-    let rest = sees_more loses opening limit n sees.0 last steps sees.2 in
-    (rest.0, rest.1 ∙ ap (λ w. w ++ rest.0) sees.1)
-sees_more loses opening limit n before last (Lost event ∷ steps) sees =
-    let rest = sees_more loses opening limit n sees.0 last steps sees.2 in
-    (sees.1.others ++ rest.0, rest.1 ∙ (ap (λ w. w ++ rest.0) sees.1.list ∙ append_assoc before sees.1.others rest.0))
-sees_more loses opening limit n before last (Full event ∷ steps) sees =
-    let rest = sees_more loses opening limit n sees.0 last steps sees.2 in
-    (sees.1.others ++ rest.0, rest.1 ∙ (ap (λ w. w ++ rest.0) sees.1.list ∙ append_assoc before sees.1.others rest.0))
-sees_more loses opening limit n before last (Acts act ∷ steps) sees =
-    let rest = sees_more loses opening limit n sees.0 last steps sees.2 in
-    let did = sees.1 in
-    let own : List entries.Entry = entered n act ∷ did.behind in
-    let list : sees.0 ≡ before ++ (did.others ++ own) = did.list ∙ (ap (λ w. w ++ own) did.gains ∙ append_assoc before did.others own) in
-    ((did.others ++ own) ++ rest.0, rest.1 ∙ (ap (λ w. w ++ rest.0) list ∙ append_assoc before (did.others ++ own) rest.0))
 
 laws : (b : Start) → Laws (system_of b)
 laws b = system_laws State (machine_of b.program) b.spawned b.fuel (machine_laws b.program)
@@ -70,7 +48,7 @@ first_cases n = elim (cases_eq n 0) [
   | inr apart ↦ inr (apart, put-other (λ (m : ℕ). Unstarted) 0 Free n apart)
 ]
 
-module _ (b : Start) (loses : Bool) (limit : Option ℕ) (H : List entries.Entry) (outcomes : ℕ → Outcome) (lefts : ℕ → ℕ) (legal : IsLegal b.opening H)
+module _ (b : Start) (loses : Bool) (limit : Option ℕ) (H : List entries.Entry) (outcomes : ℕ → Outcome) (lefts : ℕ → ℕ) (legal : IsStarted b.opening H)
     (ran : AllHaveRun b loses limit H outcomes lefts) where
   -- the steps of each thread
 
@@ -186,7 +164,7 @@ module _ (b : Start) (loses : Bool) (limit : Option ℕ) (H : List entries.Entry
       let run : RunsToEnd b.program loses b.opening limit n (Runs c b.fuel) (outcomes n) (lefts n) r.before r.last = r.run in
       let more : (more : List entries.Entry) × (r.last ≡ r.before ++ more) = sees_more loses b.opening limit n r.before r.last run.steps run.sees in
       let list : H ≡ r.before ++ (more.0 ++ r.unseen) = r.history ∙ (ap (λ w. w ++ r.unseen) more.1 ∙ append_assoc r.before more.0 r.unseen) in
-      let before_legal : IsLegal b.opening r.before = prefix_legal b.opening r.before (more.0 ++ r.unseen) (subst (IsLegal b.opening) list legal) in
+      let before_legal : IsStarted b.opening r.before = prefix_legal b.opening r.before (more.0 ++ r.unseen) (subst (IsStarted b.opening) list legal) in
       record {
         begun = as_acts r.before;
         started = λ none. started_place (queue_after r.before) n (begins_known b r.before n c r.begun) (sym (stand_after b r.before before_legal n) ∙ none);
@@ -232,4 +210,10 @@ module _ (b : Start) (loses : Bool) (limit : Option ℕ) (H : List entries.Entry
   }
 
 pub threads_make_one_run : ThreadsMakeOneRun
-threads_make_one_run b loses limit H outcomes lefts legal ran = is_one_run b loses limit H outcomes lefts legal ran
+threads_make_one_run b loses limit H outcomes lefts together =
+    let started : IsStarted b.opening H = record {
+      memory = together.memory;
+      queue = together.queue;
+      started = all_started b loses limit H outcomes lefts together.threads together.entries;
+    } in
+    is_one_run b loses limit H outcomes lefts started together.threads

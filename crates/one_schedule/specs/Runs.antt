@@ -8,6 +8,7 @@ use Rattle.types.specs.declared.outcome.Outcome.{Outcome}
 use Rattle.shared_memory.specs.Memory.{Memory}
 use Rattle.shared_memory.specs.WaitQueue.{first_queue}
 use Rattle.shared_memory.specs.History.{entries_of, queue_after}
+use Rattle.shared_memory.specs.Legal.{IsMemoryLegal, IsQueueLegal}
 use Rattle.waiters.specs.Queue.{arg_of}
 use Rattle.schedule.specs.System.{Entry, System, put}
 use Rattle.schedule.specs.System as systems
@@ -75,6 +76,18 @@ pub record HasRun (b : Start) (loses : Bool) (limit : Option ℕ) (H : List entr
 abbrev pub AllHaveRun : Start → Bool → Option ℕ → List entries.Entry → (ℕ → Outcome) → (ℕ → ℕ) → Type 0
 AllHaveRun b loses limit H outcomes lefts =
     (n : ℕ) (c : State) → begins_in b H n ≡ Some c → HasRun b loses limit H n c (outcomes n) (lefts n)
+
+-- Each entry is of a thread that the history starts.
+abbrev pub AreOfThreads : Start → List entries.Entry → Type 0
+AreOfThreads b H = (n : ℕ) → begins_in b H n ≡ None → entries_of n H ≡ []
+
+-- Threads made a history together: it is legal for the memory and for the wait queue, each thread ran to its end in it, and
+-- nobody else entered anything.
+pub record RanTogether (b : Start) (loses : Bool) (limit : Option ℕ) (H : List entries.Entry) (outcomes : ℕ → Outcome) (lefts : ℕ → ℕ) : Type 0 where
+  pub memory : IsMemoryLegal b.opening H
+  pub queue : IsQueueLegal H
+  pub threads : AllHaveRun b loses limit H outcomes lefts
+  pub entries : AreOfThreads b H
 
 -- How each thread stands in the end.
 abbrev pub end_if : Option State → Outcome → ℕ → Thread State Outcome

@@ -6,14 +6,13 @@ use Rattle.types.specs.declared.event.Answer.{Answer}
 use Rattle.types.specs.declared.event.Entry as entries
 use Rattle.types.specs.declared.outcome.Outcome.{Outcome}
 use Rattle.shared_memory.specs.History.{memory_after}
-use Rattle.shared_memory.specs.Legal.{IsLegal}
 use Rattle.schedule.specs.System.{Step, Mark}
 use Rattle.schedule.specs.Scheduled.{scheduled_run}
 use Rattle.schedule.specs.Schedules.{schedule_of, ThreadsRun, AllHaveSeen, Makes, LoseAsMany, Follows}
 use Rattle.schedule.specs.Machine.{Thread.Left}
 use Rattle.machine.specs.State.{State}
 use Rattle.scheduled.specs.Shared.{try_rules}
-use Rattle.one_schedule.specs.Runs.{Start, system_of, first_state, first_places, as_acts, begins_in, ends_of, AllHaveRun}
+use Rattle.one_schedule.specs.Runs.{Start, system_of, first_state, first_places, as_acts, begins_in, ends_of, RanTogether}
 
 -- Along a schedule all threads that the history starts have left.
 abbrev pub AllHaveLeft : Start → List entries.Entry → List Mark → Type 0
@@ -42,8 +41,8 @@ pub record IsOneRun (b : Start) (loses : Bool) (limit : Option ℕ) (H : List en
       → LoseAsMany (system_of b) (first_state b) (schedule_of (as_acts H) steps) S → AllHaveLeft b H S
       → GivesTheSame b H outcomes lefts S
 
--- Threads that ran to their ends, and made a legal history together, made one run.
+-- Threads that made a history together made one run.
 abbrev pub ThreadsMakeOneRun : Type 0
 ThreadsMakeOneRun =
     (b : Start) (loses : Bool) (limit : Option ℕ) (H : List entries.Entry) (outcomes : ℕ → Outcome) (lefts : ℕ → ℕ)
-    → IsLegal b.opening H → AllHaveRun b loses limit H outcomes lefts → IsOneRun b loses limit H outcomes lefts
+    → RanTogether b loses limit H outcomes lefts → IsOneRun b loses limit H outcomes lefts
