@@ -8,3 +8,4 @@ pub mod Seen
 pub mod Idle
 pub mod Order
 pub mod Running
+pub mod Leaving

@@ -15,7 +15,8 @@ use Rattle.types.specs.declared.instr.PlainInstr.TheVariants as plain
 use Rattle.types.specs.declared.parts.FuncType.{FuncType}
 use Rattle.types.specs.declared.event.Event.{Event}
 use Rattle.types.specs.declared.event.Event.TheVariants as events
-use Rattle.types.specs.declared.event.Question.TheVariants.{Wait, Notify}
+use Rattle.types.specs.declared.event.Question.{Question}
+use Rattle.types.specs.declared.event.Question.TheVariants.{Wait, Notify, Spawn, Leave}
 use Rattle.types.specs.declared.event.Reply.{Reply}
 use Rattle.types.specs.declared.event.Reply.TheVariants as replies
 use Rattle.types.specs.declared.event.Answer.{Answer}
@@ -35,8 +36,9 @@ use Rattle.machine.specs.State.{State, At, Over, replied, replied_by}
 use Rattle.scheduled.specs.Shared.{is_question}
 use Rattle.scheduled.specs.Threads.{wish_of, wishes, machine_of}
 
--- A question leaves its thread waiting, and no instruction asks to be told an answer.
+-- A question leaves its thread waiting, and no instruction asks to leave, or to be told an answer.
 abbrev LeavesWaiting : Next → Type 0
+LeavesWaiting (Asks (events.Ask Leave) go) = ⊥
 LeavesWaiting (Asks (events.Ask question) go) = (n : ℕ) → (go n).progress ≡ Asked
 LeavesWaiting (Asks (events.Told answer) go) = ⊥
 LeavesWaiting _ = Unit {0}
@@ -235,10 +237,16 @@ next_waits p c (Halfway n) = limited_waits _ (runs_waits p c c.frame.code c.fram
 waits_then : (p : Program) (c : Config) → c.progress ≡ Asked → wish_of (next p c) ≡ Wish.Waits
 waits_then p c is = ap (λ (progress : Progress). wish_of (next_by p c progress)) is
 
+asked_then : (question : Question) (go : ℕ → Config) → LeavesWaiting (Asks (events.Ask question) go) → (n : ℕ) → (go n).progress ≡ Asked
+asked_then (Wait addr width expected timeout) go well n = well n
+asked_then (Notify addr count) go well n = well n
+asked_then (Spawn arg) go well n = well n
+asked_then Leave go well n = absurd well
+
 asked_opened : (p : Program) (c : Config) (event : Event) (go : ℕ → Config) (reply : Reply) → LeavesWaiting (Asks event go) → is_question event reply ≡ true
     → wishes p (replied_by c (Asks event go) reply) ≡ Wish.Waits
-asked_opened p c (events.Ask question) go (replies.Value n) well opens = waits_then p (go n) (well n)
-asked_opened p c (events.Ask question) go replies.Done well opens = waits_then p (go 0) (well 0)
+asked_opened p c (events.Ask question) go (replies.Value n) well opens = waits_then p (go n) (asked_then question go well n)
+asked_opened p c (events.Ask question) go replies.Done well opens = waits_then p (go 0) (asked_then question go well 0)
 asked_opened p c event go reply well opens = absurd (cc opens)
 
 opened_by : (p : Program) (c : Config) (go : Next) → LeavesWaiting go → (event : Event) (reply : Reply) → wish_of go ≡ Wish.Asks event → is_question event reply ≡ true
@@ -259,22 +267,32 @@ opened p (Over outcome) event reply asks opens = absurd (cc asks)
 pub machine_laws : (p : Program) → MachineLaws (machine_of p)
 machine_laws p = record { opened = opened p; exempt = refl }
 
--- no state wishes to be told an answer as an event
+-- no state wishes to be told an answer as an event, or to leave before it has ended
 
-asks_no_answer : (go : Next) → LeavesWaiting go → (answer : Answer) → wish_of go ≡ Wish.Asks (events.Told answer) → ⊥
-asks_no_answer Stuck well answer asks = absurd (cc asks)
-asks_no_answer (Goes after) well answer asks = absurd (cc asks)
-asks_no_answer (Traps trap) well answer asks = absurd (cc asks)
-asks_no_answer (Finishes result) well answer asks = absurd (cc asks)
-asks_no_answer (Hears go) well answer asks = absurd (cc asks)
-asks_no_answer (Asks (events.Told told) go) well answer asks = well
-asks_no_answer (Asks event go) well answer asks = absurd (cc asks)
+abbrev pub IsOfThreads : Event → Type 0
+IsOfThreads (events.Ask Leave) = ⊥
+IsOfThreads (events.Told answer) = ⊥
+IsOfThreads _ = Unit {0}
 
-wishes_no_answer : (p : Program) (s : State) (answer : Answer) → wishes p s ≡ Wish.Asks (events.Told answer) → ⊥
-wishes_no_answer p (At c) answer asks = asks_no_answer (next p c) (IsWell.waits (next_waits p c c.progress)) answer asks
-wishes_no_answer p (Over outcome) answer asks = absurd (cc asks)
+asks_by : (event : Event) (go : ℕ → Config) → LeavesWaiting (Asks event go) → IsOfThreads event
+asks_by (events.Ask Leave) go well = well
+asks_by (events.Told answer) go well = well
+asks_by event go well = tt
 
-wants_by : (p : Program) (left : ℕ) (wish : Wish Event Outcome) (answer : Answer) → (wish ≡ Wish.Asks (events.Told answer) → ⊥) → wanted (machine_of p) left wish ≡ Calls (events.Told answer) → ⊥
+wishes_by : (go : Next) → LeavesWaiting go → (event : Event) → wish_of go ≡ Wish.Asks event → IsOfThreads event
+wishes_by Stuck well event asks = absurd (cc asks)
+wishes_by (Goes after) well event asks = absurd (cc asks)
+wishes_by (Traps trap) well event asks = absurd (cc asks)
+wishes_by (Finishes result) well event asks = absurd (cc asks)
+wishes_by (Hears go) well event asks = absurd (cc asks)
+wishes_by (Asks this go) well event asks = let same : this ≡ event = cc asks in subst IsOfThreads same (asks_by this go well)
+
+pub wishes_of_threads : (p : Program) (s : State) (event : Event) → wishes p s ≡ Wish.Asks event → IsOfThreads event
+wishes_of_threads p (At c) event asks = wishes_by (next p c) (IsWell.waits (next_waits p c c.progress)) event asks
+wishes_of_threads p (Over outcome) event asks = absurd (cc asks)
+
+wants_by : (p : Program) (left : ℕ) (wish : Wish Event Outcome) (answer : Answer) → (wish ≡ Wish.Asks (events.Told answer) → ⊥) → wanted (machine_of p) left wish ≡ Calls (events.Told answer)
+    → ⊥
 wants_by p zero Wish.Goes answer never is = absurd (cc is)
 wants_by p (suc n) Wish.Goes answer never is = absurd (cc is)
 wants_by p zero Wish.Waits answer never is = absurd (cc is)
@@ -286,7 +304,7 @@ wants_by p (suc n) (Wish.Asks event) answer never is = let same : event ≡ even
 
 pub wants_no_answer : (p : Program) (t : Thread State Outcome) (answer : Answer) → thread_wants (machine_of p) t ≡ Calls (events.Told answer) → ⊥
 wants_no_answer p Thread.Absent answer is = absurd (cc is)
-wants_no_answer p (Thread.Runs c left) answer is = wants_by p left (wishes p c) answer (wishes_no_answer p c answer) is
+wants_no_answer p (Thread.Runs c left) answer is = wants_by p left (wishes p c) answer (wishes_of_threads p c (events.Told answer)) is
 wants_no_answer p (Thread.Over outcome left) answer is = absurd (cc is)
 wants_no_answer p (Thread.Leaves outcome left) answer is = absurd (cc is)
 wants_no_answer p (Thread.Left outcome left) answer is = absurd (cc is)
