@@ -7,5 +7,7 @@ pub mod Beginning
 pub mod Seen
 pub mod Idle
 pub mod Order
-pub mod Running
 pub mod Leaving
+pub mod Alive
+pub mod Turns
+pub mod Running

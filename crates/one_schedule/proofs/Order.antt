@@ -85,7 +85,7 @@ next_after xs ys =
 
 module _ (b : Start) (loses : Bool) (limit : Option ℕ) (H : List entries.Entry) (outcomes : ℕ → Outcome) (lefts : ℕ → ℕ)
     (ran : AllHaveRun b loses limit H outcomes lefts) (of_threads : AreOfThreads b H) where
-  entry_started : (xs ys : List entries.Entry) (e : entries.Entry) → H ≡ xs ++ e ∷ ys → e.thread < next_id (queue_after xs)
+  pub entry_started : (xs ys : List entries.Entry) (e : entries.Entry) → H ≡ xs ++ e ∷ ys → e.thread < next_id (queue_after xs)
   entry_started xs ys e is = by_beginning (begins_in b H e.thread) refl
     where
       by_beginning : (o : Option State) → begins_in b H e.thread ≡ o → e.thread < next_id (queue_after xs)

@@ -38,7 +38,7 @@ place_there q n known = cond-true (nat_lt n (next_id q)) (cond (is_asleep q n) O
 pub place_open : (q : WaitQueue) (n : ℕ) → n < next_id q → is_asleep q n ≡ true → place_of q n ≡ Open
 place_open q n known asleep = place_there q n known ∙ cond-true (is_asleep q n) Open (place_due (answer_due q n)) asleep
 
-place_awake : (q : WaitQueue) (n : ℕ) → n < next_id q → is_asleep q n ≡ false → place_of q n ≡ place_due (answer_due q n)
+pub place_awake : (q : WaitQueue) (n : ℕ) → n < next_id q → is_asleep q n ≡ false → place_of q n ≡ place_due (answer_due q n)
 place_awake q n known awake = place_there q n known ∙ cond-false (is_asleep q n) Open (place_due (answer_due q n)) awake
 
 pub place_told : (q : WaitQueue) (n : ℕ) (a : Answer) → n < next_id q → is_asleep q n ≡ false → answer_due q n ≡ Some a → place_of q n ≡ Due a

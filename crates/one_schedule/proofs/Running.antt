@@ -28,13 +28,16 @@ use Rattle.scheduled.specs.Threads.{machine_of}
 use Rattle.scheduled.specs.Seeing.{RunsToEnd}
 use Rattle.scheduled.proofs.Threads.{system_laws}
 use Rattle.scheduled.proofs.Asking.{machine_laws}
-use Rattle.one_schedule.specs.Runs.{Start, system_of, first_shared, first_state, first_places, as_acts, begins_in, if_spawned, HasRun, AllHaveRun, end_if, ends_of}
+use Rattle.one_schedule.specs.Runs.{Start, system_of, first_shared, first_state, first_places, as_acts, begins_in, if_spawned, HasRun, AllHaveRun, AreOfThreads, end_if, ends_of}
 use Rattle.one_schedule.specs.Theorem.{AllHaveLeft, GivesTheSame, IsOneRun, ThreadsMakeOneRun}
 use Rattle.one_schedule.proofs.Places.{place_unstarted, started_place}
 use Rattle.one_schedule.proofs.Linked.{IsStarted, Linked, linked, prefix_legal, stand_after}
 use Rattle.one_schedule.proofs.Beginning.{begins_known, known_begins, started_run}
 use Rattle.one_schedule.proofs.Idle.{idle}
-use Rattle.one_schedule.proofs.Order.{sees_more, all_started}
+use Rattle.one_schedule.proofs.Order.{sees_more, entry_started, all_started}
+use Rattle.one_schedule.proofs.Leaving.{LeaveIsLast, leave_last}
+use Rattle.one_schedule.proofs.Turns.{all_turns}
+use Rattle.shared_memory.specs.Legal.{IsWellFormed}
 use Rattle.one_schedule.proofs.Seen.{as_acts-append, others_acts, memory_along, back_run, seen_acts}
 
 laws : (b : Start) → Laws (system_of b)
@@ -197,17 +200,35 @@ module _ (b : Start) (loses : Bool) (limit : Option ℕ) (H : List entries.Entry
       let end : (outcome : Outcome) × (more : ℕ) × (systems.State.threads (scheduled_run (system_of b) (first_state b) S) n ≡ Left outcome more) = left n begun.0 begun.1 in
       ap (systems.System.wants (system_of b)) end.2
 
-  pub is_one_run : IsOneRun b loses limit H outcomes lefts
-  is_one_run = record {
-    steps = steps;
-    run = threads_run;
-    seen = all_seen;
-    follows = schedule_follows Shared (Thread State Outcome) Event Reply Answer (List ℕ) (system_of b) (try_rules loses limit) (laws b) (first_state b) first_places steps ends (as_acts H) threads_run all_seen;
-    gives = gives_the_same (schedule_of (as_acts H) steps)
-        (IsOneSchedule.gives (one_schedule Shared (Thread State Outcome) Event Reply Answer (system_of b) (laws b) (first_state b) first_places steps ends (as_acts H) threads_run));
-    others = λ S makes losses left. gives_the_same S
-        (every_other_gives_the_same Shared (Thread State Outcome) Event Reply Answer (system_of b) (laws b) (first_state b) first_places steps ends (as_acts H) threads_run S makes losses (all_gone S left));
-  }
+  one : IsOneSchedule (system_of b) (first_state b) first_places steps ends (as_acts H) (schedule_of (as_acts H) steps)
+  one = one_schedule Shared (Thread State Outcome) Event Reply Answer (system_of b) (laws b) (first_state b) first_places steps ends (as_acts H) threads_run
+
+  -- each thread's leave and its answer are its last
+  leaves_last : (n : ℕ) → LeaveIsLast (acts (steps n))
+  leaves_last n =
+      elim (cases_lt n (next_id (queue_after H))) [
+        | inl known ↦ (let begun : (c : State) × (begins_in b H n ≡ Some c) = known_begins b H n known in
+            leave_last b.program b.spawned b.fuel (steps n) (Runs begun.0 b.fuel) (ends n) (thread_run n begun.0 begun.1))
+        | inr past ↦ subst (λ (r : List (Step Event Reply Answer)). LeaveIsLast (acts r)) (sym (no_steps n past)) tt
+      ]
+
+  module _ (of_threads : AreOfThreads b H) where
+    turns : IsWellFormed H
+    turns =
+        all_turns b H legal (entry_started b loses limit H outcomes lefts ran of_threads) (IsOneSchedule.ordered one)
+        (λ n. subst LeaveIsLast (acts_are n) (leaves_last n))
+
+    pub is_one_run : IsOneRun b loses limit H outcomes lefts
+    is_one_run = record {
+      turns = turns;
+      steps = steps;
+      run = threads_run;
+      seen = all_seen;
+      follows = schedule_follows Shared (Thread State Outcome) Event Reply Answer (List ℕ) (system_of b) (try_rules loses limit) (laws b) (first_state b) first_places steps ends (as_acts H) threads_run all_seen;
+      gives = gives_the_same (schedule_of (as_acts H) steps) (IsOneSchedule.gives one);
+      others = λ S makes losses left. gives_the_same S
+          (every_other_gives_the_same Shared (Thread State Outcome) Event Reply Answer (system_of b) (laws b) (first_state b) first_places steps ends (as_acts H) threads_run S makes losses (all_gone S left));
+    }
 
 pub threads_make_one_run : ThreadsMakeOneRun
 threads_make_one_run b loses limit H outcomes lefts together =
@@ -216,4 +237,4 @@ threads_make_one_run b loses limit H outcomes lefts together =
       queue = together.queue;
       started = all_started b loses limit H outcomes lefts together.threads together.entries;
     } in
-    is_one_run b loses limit H outcomes lefts started together.threads
+    is_one_run b loses limit H outcomes lefts started together.threads together.entries

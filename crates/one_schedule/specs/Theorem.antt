@@ -6,6 +6,7 @@ use Rattle.types.specs.declared.event.Answer.{Answer}
 use Rattle.types.specs.declared.event.Entry as entries
 use Rattle.types.specs.declared.outcome.Outcome.{Outcome}
 use Rattle.shared_memory.specs.History.{memory_after}
+use Rattle.shared_memory.specs.Legal.{IsWellFormed}
 use Rattle.schedule.specs.System.{Step, Mark}
 use Rattle.schedule.specs.Scheduled.{scheduled_run}
 use Rattle.schedule.specs.Schedules.{schedule_of, ThreadsRun, AllHaveSeen, Makes, LoseAsMany, Follows}
@@ -27,11 +28,12 @@ pub record GivesTheSame (b : Start) (H : List entries.Entry) (outcomes : ℕ →
   pub threads : (n : ℕ) (c : State) → begins_in b H n ≡ Some c
       → (scheduled_run (system_of b) (first_state b) S).threads n ≡ Left (outcomes n) (lefts n)
 
--- A history is that of one run. Each thread has steps by which it runs to its end, whose acts are its entries, and which saw
--- the history as far as it went. The schedule of the history with these steps follows the history, and gives the same memory
+-- A history is that of one run. Each entry comes in its thread's turn. Each thread has steps by which it runs to its end, whose
+-- acts are its entries, and which saw the history as far as it went. The schedule of the history with these steps follows the history, and gives the same memory
 -- and ends. Every other schedule that makes the history, with as many lost tries of each thread between its entries, and on
 -- which all threads leave, gives the same too.
 pub record IsOneRun (b : Start) (loses : Bool) (limit : Option ℕ) (H : List entries.Entry) (outcomes : ℕ → Outcome) (lefts : ℕ → ℕ) : Type 0 where
+  pub turns : IsWellFormed H
   pub steps : ℕ → List (Step Event Reply Answer)
   pub run : ThreadsRun (system_of b) (first_state b) first_places steps (ends_of b H outcomes lefts) (as_acts H)
   pub seen : AllHaveSeen (system_of b) (try_rules loses limit) (first_state b) first_places steps (as_acts H)
