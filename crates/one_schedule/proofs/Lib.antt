@@ -1,0 +1,13 @@
+pub mod Dues
+pub mod Places
+pub mod Asked
+pub mod Entries
+pub mod Linked
+pub mod Beginning
+pub mod Seen
+pub mod Idle
+pub mod Order
+pub mod Leaving
+pub mod Alive
+pub mod Turns
+pub mod Running
