@@ -12,3 +12,4 @@ pub mod Alive
 pub mod Turns
 pub mod Running
 pub mod Worked
+pub mod Later
