@@ -11,8 +11,7 @@ use Rattle.shared_memory.specs.History.{of_queue, queue_step, queue_from, queue_
 use Rattle.shared_memory.specs.Legal.{IsAllowed, IsQueueLegalFrom, IsQueueLegal}
 use Rattle.shared_memory.proofs.Histories.{of_queue-append, queue_from-append, IsQueueLegalFrom-rest}
 use Rattle.waiters.specs.Queue.{arg_of}
-use Rattle.machine.specs.State.{State}
-use Rattle.one_schedule.specs.Runs.{Start, if_spawned, begins_in}
+use Rattle.one_schedule.specs.Runs.{if_spawned, begins_in}
 use Rattle.one_schedule.specs.Beginnings.{BeginningsStay, NobodyBeginsLater}
 use Rattle.one_schedule.proofs.Beginning.{arg_from}
 use Rattle.one_schedule.proofs.Linked.{rest_legal, queue_after-all}
