@@ -74,7 +74,7 @@ arg_step q n event reply (suc k) arg is =
     let grows : Grows q.args (queue_step q n event reply).args = grows_step q n event reply in
     ap (λ w. slice_get w k) grows.1 ∙ slice_get-more q.args grows.0 k arg is
 
-arg_from : (q : WaitQueue) (H : List entries.Entry) (m arg : ℕ) → arg_of q m ≡ Some arg → arg_of (queue_from q H) m ≡ Some arg
+pub arg_from : (q : WaitQueue) (H : List entries.Entry) (m arg : ℕ) → arg_of q m ≡ Some arg → arg_of (queue_from q H) m ≡ Some arg
 arg_from q [] m arg is = is
 arg_from q (e ∷ H) m arg is = arg_from (queue_step q e.thread e.event e.reply) H m arg (arg_step q e.thread e.event e.reply m arg is)
 

@@ -11,3 +11,5 @@ pub mod Leaving
 pub mod Alive
 pub mod Turns
 pub mod Running
+pub mod Worked
+pub mod Later

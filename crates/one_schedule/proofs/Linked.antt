@@ -22,7 +22,7 @@ use Rattle.one_schedule.proofs.Entries.{StandAt, EntryStep, entry_step}
 
 -- the queue's part of a history, and all of it
 
-rest_legal : (q : WaitQueue) (n : ℕ) (event : Event) (reply : Reply) (H : List entries.Entry) → IsQueueLegalFrom q (of_queue (entry n event reply ∷ H))
+pub rest_legal : (q : WaitQueue) (n : ℕ) (event : Event) (reply : Reply) (H : List entries.Entry) → IsQueueLegalFrom q (of_queue (entry n event reply ∷ H))
     → IsAllowed q n event × IsQueueLegalFrom (queue_step q n event reply) (of_queue H)
 rest_legal q n (events.Ask question) reply H legal = legal
 rest_legal q n (events.Told a) reply H legal = legal

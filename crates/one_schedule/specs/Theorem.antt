@@ -29,9 +29,9 @@ pub record GivesTheSame (b : Start) (H : List entries.Entry) (outcomes : ℕ →
       → (scheduled_run (system_of b) (first_state b) S).threads n ≡ Left (outcomes n) (lefts n)
 
 -- A history is that of one run. Each entry comes in its thread's turn. Each thread has steps by which it runs to its end, whose
--- acts are its entries, and which saw the history as far as it went. The schedule of the history with these steps follows the history, and gives the same memory
--- and ends. Every other schedule that makes the history, with as many lost tries of each thread between its entries, and on
--- which all threads leave, gives the same too.
+-- acts are its entries, and which saw the history as far as it went. The schedule of the history with these steps follows it,
+-- and gives the same memory and ends. Every other schedule that makes the history, with as many lost tries of each thread
+-- between its entries, and on which all threads leave, gives the same too.
 pub record IsOneRun (b : Start) (loses : Bool) (limit : Option ℕ) (H : List entries.Entry) (outcomes : ℕ → Outcome) (lefts : ℕ → ℕ) : Type 0 where
   pub turns : IsWellFormed H
   pub steps : ℕ → List (Step Event Reply Answer)
