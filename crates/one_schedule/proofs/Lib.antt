@@ -1,0 +1,15 @@
+pub mod Dues
+pub mod Places
+pub mod Asked
+pub mod Entries
+pub mod Linked
+pub mod Beginning
+pub mod Seen
+pub mod Idle
+pub mod Order
+pub mod Leaving
+pub mod Alive
+pub mod Turns
+pub mod Running
+pub mod Worked
+pub mod Later

@@ -1,0 +1,150 @@
+//! A thread from its start to its end.
+ghost use Rattle.std.specs.Prelude.{◌≡◌, None};
+ghost use Rattle.shared_memory.specs.Events.{IsEvent};
+ghost use Rattle.shared_memory.specs.WaitQueue.{IsFree};
+ghost use Rattle.shared_memory.specs.History.{queue_after};
+ghost use Rattle.schedule.specs.System.{Want.Calls};
+ghost use Rattle.takes_turns.specs.Turns.{Running, outcome_of, wants_of, IsGiven, IsTurned};
+ghost use Rattle.takes_turns.specs.declared.turn.Turn.{Turn};
+ghost use Rattle.run_thread.specs.Ends.{IsHere, IsLast, RunsOut};
+ghost use Rattle.run_thread.specs.Serving.{Attends};
+
+use crate::serving::{Served, serve};
+use desk::Desk;
+use shared_memory::SharedMemory;
+use std::sync::Wait;
+use takes_turns::{Gate, Given, TakesTurns, Turn};
+use types::{Event, Outcome, Reply};
+
+/// How a thread ended, with its seat and the units that it spent.
+#[derive(Drop)]
+pub struct ThreadEnd<S> {
+    pub outcome: Outcome,
+    pub seat: S,
+    pub spent: u64,
+}
+
+/// A turn behind the gate.
+fn advance<T: TakesTurns, G: Gate>(thread: &mut T, name: u32, gate: &G, given: Given) -> Turn
+    requires given { (t : Running) × T.stands thread.old t × IsGiven (T.program thread.old) t given }
+    ensures program { T.program thread.new ≡ T.program thread.old }
+    ensures fuel { T.fuel thread.new ≡ T.fuel thread.old }
+    ensures turned { (t : Running) → T.stands thread.old t → IsGiven (T.program thread.old) t given → IsTurned (T.program thread.old) t given result (T.stands thread.new) }
+{
+    gate.at(name, thread.spent());
+    thread.turn(given)
+}
+
+/// Makes one try of the event that the thread wants, and gives it what comes of it.
+fn attend<T: TakesTurns, M: SharedMemory, W: Wait + Drop, G: Gate>(
+    thread: &mut T,
+    memory: &M,
+    seat: &mut M::Seat,
+    desk: &Desk<M, W>,
+    gate: &G,
+    event: Event,
+) -> Turn
+    requires wanted { (t : Running) × T.stands thread.old t × (outcome_of t ≡ None) × (wants_of (T.program thread.old) t ≡ Calls event) }
+    requires event { IsEvent event }
+    requires free { IsFree (queue_after (M.seen seat.old)) (M.name seat.old) }
+    ensures program { T.program thread.new ≡ T.program thread.old }
+    ensures fuel { T.fuel thread.new ≡ T.fuel thread.old }
+    ensures name { M.name seat.new ≡ M.name seat.old }
+    ensures right { M.has_queue_right seat.new ≡ M.has_queue_right seat.old }
+    ensures free { IsFree (queue_after (M.seen seat.new)) (M.name seat.old) }
+    ensures attended { (t : Running) → T.stands thread.old t → outcome_of t ≡ None → wants_of (T.program thread.old) t ≡ Calls event → Attends (T.program thread.old) M.LOSES M.opening (M.limit memory.now) (M.name seat.old) t result (T.stands thread.new) (M.seen seat.old) (M.seen seat.new) }
+{
+    let name = memory.name(seat);
+    match serve(memory, seat, desk, event) {
+        Served::Replied(reply) => advance(thread, name, gate, Given::Reply(reply)),
+        Served::Answered(answer) => {
+            advance(thread, name, gate, Given::Reply(Reply::Done));
+            advance(thread, name, gate, Given::Told(answer))
+        }
+        Served::Open => {
+            advance(thread, name, gate, Given::Reply(Reply::Done));
+            let answer = desk.collect(memory, seat);
+            advance(thread, name, gate, Given::Told(answer))
+        }
+    }
+}
+
+/// Makes a turn of the thread's own, or one try of the event that it wants.
+fn step<T: TakesTurns, M: SharedMemory, W: Wait + Drop, G: Gate>(
+    thread: &mut T,
+    memory: &M,
+    seat: &mut M::Seat,
+    desk: &Desk<M, W>,
+    gate: &G,
+) -> Turn
+    requires here { (t : Running) × T.stands thread.old t × IsHere t }
+    requires free { IsFree (queue_after (M.seen seat.old)) (M.name seat.old) }
+    ensures program { T.program thread.new ≡ T.program thread.old }
+    ensures fuel { T.fuel thread.new ≡ T.fuel thread.old }
+    ensures name { M.name seat.new ≡ M.name seat.old }
+    ensures right { M.has_queue_right seat.new ≡ M.has_queue_right seat.old }
+    ensures free { IsFree (queue_after (M.seen seat.new)) (M.name seat.old) }
+    ensures stepped { (t : Running) → T.stands thread.old t → IsHere t → Attends (T.program thread.old) M.LOSES M.opening (M.limit memory.now) (M.name seat.old) t result (T.stands thread.new) (M.seen seat.old) (M.seen seat.new) }
+{
+    let name = memory.name(seat);
+    match advance(thread, name, gate, Given::Nothing) {
+        Turn::Wants(event) => attend(thread, memory, seat, desk, gate, event),
+        turn => turn,
+    }
+}
+
+/// Makes steps until the thread has ended.
+fn run_steps<T: TakesTurns, M: SharedMemory, W: Wait + Drop, G: Gate, R: Wait>(
+    rt: &R,
+    thread: &mut T,
+    memory: &M,
+    seat: &mut M::Seat,
+    desk: &Desk<M, W>,
+    gate: &G,
+) -> Outcome
+    requires here { (t : Running) × T.stands thread.old t × IsHere t }
+    requires free { IsFree (queue_after (M.seen seat.old)) (M.name seat.old) }
+    ensures program { T.program thread.new ≡ T.program thread.old }
+    ensures fuel { T.fuel thread.new ≡ T.fuel thread.old }
+    ensures name { M.name seat.new ≡ M.name seat.old }
+    ensures right { M.has_queue_right seat.new ≡ M.has_queue_right seat.old }
+    ensures free { IsFree (queue_after (M.seen seat.new)) (M.name seat.old) }
+    ensures ended { (t : Running) → T.stands thread.old t → IsHere t → Attends (T.program thread.old) M.LOSES M.opening (M.limit memory.now) (M.name seat.old) t (Turn.Ended result) (T.stands thread.new) (M.seen seat.old) (M.seen seat.new) }
+{
+    for _ in rt.forever() {
+        if let Turn::Ended(outcome) = step(thread, memory, seat, desk, gate) {
+            return outcome;
+        }
+    }
+    unreachable!()
+}
+
+/// Runs a thread to its end, by turns of its own, tries of accesses and questions to the desk; then the thread leaves.
+///
+/// A lost try and a full log are given to the thread too, which says what they cost. The gate is called before each turn.
+/// It isn't promised that this returns: a call of the desk may wait, and a thread of whose configuration nothing is
+/// defined never ends.
+pub fn run_thread<T: TakesTurns + Drop, M: SharedMemory, W: Wait + Drop, G: Gate, R: Wait>(
+    rt: &R,
+    mut thread: T,
+    memory: &M,
+    mut seat: M::Seat,
+    desk: &Desk<M, W>,
+    gate: &G,
+) -> ThreadEnd<M::Seat>
+    requires here { (t : Running) × T.stands thread t × IsHere t }
+    requires free { IsFree (queue_after (M.seen seat)) (M.name seat) }
+    ensures name { M.name result.seat ≡ M.name seat }
+    ensures right { M.has_queue_right result.seat ≡ M.has_queue_right seat }
+    ensures ran { (t : Running) → T.stands thread t → IsHere t → RunsOut (T.program thread) M.LOSES M.opening (M.limit memory.now) (M.name seat) t result.outcome result.spent (T.fuel thread) (M.seen seat) (M.seen result.seat) }
+    ensures last { IsLast M.opening (M.name seat) (M.seen result.seat) }
+{
+    let outcome = run_steps(rt, &mut thread, memory, &mut seat, desk, gate);
+    desk.end(memory, &mut seat);
+    let spent = thread.spent();
+    ThreadEnd {
+        outcome,
+        seat,
+        spent,
+    }
+}
