@@ -5,10 +5,12 @@ ghost use Rattle.report.specs.Lines.{functions_line};
 ghost use Rattle.report.specs.Jobs.{IsAccepted};
 
 use crate::command_line::Job;
-use crate::first_path::{FirstFault, first, is_first_module};
 use crate::loading::{Refusal, load};
+use crate::running::{Trouble, Wanted, run_module};
 use std::alloc::Global;
 use std::io::{self, Write};
+use std::sync::Wait;
+use std::thread::Threads;
 use typing::ValidFault;
 use wire::ReadFault;
 
@@ -21,25 +23,53 @@ const FAULT: u8 = 5;
 
 /// Does a job on a module's bytes: writes its lines to `out`, and at most one line about what went wrong to `err`.
 ///
-/// `saved` has the bytes of the job's record, and `save` takes the record that it makes; no job of today has one.
+/// `saved` has the bytes of the job's record, and `save` takes the record that it makes, after the lines.
 ///
 /// Answers the program's status: 0 where the module was accepted or all threads ended well, 1 for a trap or stop, 2
-/// for a refused module, 3 for a refused run, 5 where memory or a stream failed. A write to `err` that fails doesn't
-/// change it.
-pub fn perform<W: Write, E: Write, S: Write>(
+/// for a refused module, 3 for a refused run, 4 for a refused record, 5 where memory, a thread or a stream failed. A write
+/// to `err` that fails doesn't change it.
+pub fn perform<R, W, E, S>(
+    rt: &R,
     alloc: Global,
     job: &Job,
     module: &[u8],
-    _saved: &[u8],
+    saved: &[u8],
     out: &mut W,
     err: &mut E,
-    _save: &mut S,
+    save: &mut S,
 ) -> u8
+where
+    R: Threads + Wait + Sync,
+    W: Write,
+    E: Write,
+    S: Write,
+    requires { IsInRange job.now }
     ensures { result ≤ 5 }
 {
-    match *job {
+    match job {
         Job::Check { .. } => check(alloc, module, out, err),
-        Job::Run { invoke, dump, .. } => run(alloc, invoke, dump, module, out, err),
+        Job::Run {
+            file: _,
+            invoke,
+            on_words,
+            fuel,
+            limit,
+            save: path,
+            dump,
+            args,
+        } => {
+            let wanted = Wanted {
+                invoke: *invoke,
+                on_words: *on_words,
+                fuel: *fuel,
+                limit: *limit,
+                save: *path,
+                dump: *dump,
+                args: args.as_slice(),
+            };
+            run(rt, alloc, &wanted, module, out, err, save)
+        }
+        Job::Replay { dump, .. } => replay_saved(alloc, *dump, module, saved, out, err),
     }
 }
 
@@ -113,33 +143,62 @@ fn write_functions<W: Write>(out: &mut W, count: usize) -> io::Result<()>
     out.flush()
 }
 
-/// Runs a module of the first path.
-fn run<W: Write, E: Write>(
+/// Runs a module.
+fn run<R, W, E, S>(
+    rt: &R,
     alloc: Global,
-    invoke: &str,
-    dump: u32,
+    wanted: &Wanted,
     module: &[u8],
     out: &mut W,
     err: &mut E,
+    save: &mut S,
 ) -> u8
+where
+    R: Threads + Wait + Sync,
+    W: Write,
+    E: Write,
+    S: Write,
+    requires { wanted.now.fuel ≤ 1000000000000 }
     ensures { result ≤ 5 }
 {
-    if invoke != "f" && is_first_module(module) {
-        say(err, "run refused: unknown export");
-        return RUN_REFUSED;
-    }
-    match first(alloc, module, dump, out) {
+    let valid = match load(alloc, module) {
+        Ok(valid) => valid,
+        Err(refusal) => return refuse(err, refusal),
+    };
+    match run_module(rt, alloc, &valid, wanted, out, save) {
         Ok(status) => status,
-        Err(FirstFault::NotHere) => {
-            say(err, "module refused: not in the first path");
-            MODULE_REFUSED
+        Err(trouble) => complain(err, trouble, wanted.save),
+    }
+}
+
+/// Says why there was no run, or why its lines or its record couldn't be written, and answers the status.
+fn complain<E: Write>(err: &mut E, trouble: Trouble, path: Option<&str>) -> u8
+    ensures { result ≤ 5 }
+{
+    match trouble {
+        Trouble::UnknownExport => {
+            say(err, "run refused: unknown export");
+            RUN_REFUSED
         }
-        Err(FirstFault::Memory) => {
+        Trouble::WrongArguments => {
+            say(err, "run refused: wrong arguments");
+            RUN_REFUSED
+        }
+        Trouble::NoThread => {
+            say(err, "no thread");
+            FAULT
+        }
+        Trouble::NoMemory => {
             say(err, "no memory");
             FAULT
         }
-        Err(FirstFault::Writer) => {
+        Trouble::Output => {
             say(err, "file fault: standard output");
+            FAULT
+        }
+        Trouble::Save => {
+            let path = path.unwrap_or("the record");
+            let _ = write!(err, "file fault: {path}\n");
             FAULT
         }
     }

@@ -6,6 +6,20 @@ ghost use Rattle.report.specs.Lines.{thread_line, pages_line, bytes_line, hex_by
 use std::io::{self, Write};
 use types::Outcome;
 
+/// The lines of a run: one a thread, the page count, and the first bytes where a dump is wanted.
+pub(crate) fn write_end<W: Write>(out: &mut W, end: &EndState, dump: u32) -> io::Result<()>
+    ensures { OnOk result (Appends (W.contents out.old) (W.contents out.new) (end_lines end.now.threads.items end.now.pages dump end.now.bytes.items)) }
+{
+    let mut thread = 0;
+    for report in end.threads.iter() {
+        write_thread(out, thread, report.outcome)?;
+        thread += 1;
+    }
+    write_pages(out, end.pages)?;
+    write_bytes(out, dump, &end.bytes)?;
+    out.flush()
+}
+
 /// The line of a thread: `thread T: ` and its outcome.
 pub(crate) fn write_thread<W: Write>(out: &mut W, thread: u32, outcome: Outcome) -> io::Result<()>
     ensures { OnOk result (Appends (W.contents out.old) (W.contents out.new) (thread_line thread outcome)) }
