@@ -19,7 +19,7 @@ use Rattle.types.specs.declared.outcome.Trap.TheVariants as traps
 use Rattle.types.specs.Nesting.{Code, Then}
 use Rattle.types.specs.Values.{type_of}
 use Rattle.typing.specs.Typing.{HasOnTop}
-use Rattle.typing.specs.Placed.{goes_on}
+use Rattle.typing.specs.Placed.{Flat, goes_on}
 use Rattle.typing.specs.Context.{imported_functions, functions_of}
 use Rattle.typing.specs.Tabled.{WithTables, IsValidated}
 use Rattle.machine.specs.Config.{Config, Progress as Reached, Fresh as NotBegun, Halfway as FirstPart, Asked as Due, Next, Goes, Traps, Asks, values_in, values_of}
@@ -202,3 +202,114 @@ spawn_replied w s n c st above x number u e k p g v =
       answer_fits = less;
     } in
     rw (spawn_next w s c st above x u) stands
+
+-- a number of 32 bits on top
+pub record Number (vs : List Value) (ts : List ValType) : Type 0 where
+  pub number : ℕ
+  pub below : List Value
+  pub is : vs ≡ values.I32 number ∷ below
+  pub typed : map type_of below ≡ ts
+
+pub number_on : (vs : List Value) (ts : List ValType) → map type_of vs ≡ types.I32 ∷ ts → Number vs ts
+number_on [] ts h = absurd cc
+number_on (values.I32 n ∷ below) ts h = record { number = n; below = below; is = refl; typed = cc }
+number_on (values.I64 n ∷ below) ts h = absurd cc
+
+pub functions_are : (w : WithTables) (s : State) (c : Config) (st : Stands w s c) → st.body.context.functions ≡ functions_of w.parts
+functions_are w s c st = ap (λ (b : Flat). b.context.functions) st.own.flat
+
+pub types_are : (w : WithTables) (s : State) (c : Config) (st : Stands w s c) → st.body.context.types ≡ w.parts.types
+types_are w s c st = ap (λ (b : Flat). b.context.types) st.own.flat
+
+spawn_is : (p : Program) (c : Config) (f : ℕ) (t : FuncType) (rest : Code) (operands below : List Value) (arg : ℕ) → f < p.imported →
+    operands ≡ values.I32 arg ∷ below → calls p c f t rest operands ≡ Asks (Ask (Spawn arg)) (λ _. waits c rest below)
+spawn_is p c f t rest operands below arg h e = let g : nat_lt f p.imported ≡ true = search arith in rw (g, e) refl
+
+-- ---- Calls
+
+-- the function of a call, with its type
+pub record CallAt (w : WithTables) (s : State) (c : Config) (st : Stands w s c) (f : ℕ) : Type 0 where
+  pub index : ℕ
+  pub func_type : FuncType
+  pub tail : List ValType
+  pub at : AtPlain st.body [] c.frame (plain.Call f) s.pc
+  pub function : slice_get (functions_of w.parts) f ≡ Some index
+  pub typed : slice_get w.parts.types index ≡ Some func_type
+  pub operands_typed : map type_of c.frame.operands ≡ reverse func_type.params ++ tail
+  pub middle : at.middle ≡ func_type.results ++ tail
+  pub runs : runs (program_of w.parts) c c.frame.code c.frame.operands ≡ calls (program_of w.parts) c f func_type at.rest c.frame.operands
+
+call_runs : (p : Program) (c : Config) (f index : ℕ) (t : FuncType) (rest : Code) → c.frame.code ≡ Then (plain.Call f) rest → slice_get p.functions f ≡ Some index →
+    slice_get p.types index ≡ Some t → runs p c c.frame.code c.frame.operands ≡ calls p c f t rest c.frame.operands
+call_runs p c f index t rest h e g = rw (h, e, g) refl
+
+pub call_at : (w : WithTables) (s : State) (c : Config) (f : ℕ) (st : Stands w s c) → IsAt s (Plain (plain.Call f)) → Undue (reached s.progress) → CallAt w s c st f
+call_at w s c f st h u =
+    let at = at_undue w s c (plain.Call f) st h u in
+    let fits = at.fits in
+    let function : slice_get (functions_of w.parts) f ≡ Some fits.0 = ap (λ (x : List ℕ). slice_get x f) (sym (functions_are w s c st)) ∙ fits.1 in
+    let typed : slice_get w.parts.types fits.0 ≡ Some fits.2.0 = ap (λ (x : List FuncType). slice_get x fits.0) (sym (types_are w s c st)) ∙ fits.2.1 in
+    record {
+      index = fits.0;
+      func_type = fits.2.0;
+      tail = fits.2.2.0;
+      at = at;
+      function = function;
+      typed = typed;
+      operands_typed = fits.2.2.1;
+      middle = fits.2.2.2;
+      runs = call_runs (program_of w.parts) c f fits.0 fits.2.0 at.rest at.code_is function typed;
+    }
+
+-- of an imported function
+pub call_spawns : (w : WithTables) (s : State) (c : Config) (st : Stands w s c) (f : ℕ) → IsValidated w → f < s.program.imported → CallAt w s c st f → Spawns w s c st []
+call_spawns w s c st f v k x =
+    let low : f < length (imported_functions w.parts) = let e = st.program.imported in omega arith in
+    let spawn = spawn_type w.parts v.valid f x.index x.func_type low x.function x.typed in
+    let top = number_on c.frame.operands x.tail (x.operands_typed ∙ ap (λ (ts : List ValType). reverse ts ++ x.tail) spawn.0) in
+    record {
+      arg = top.number;
+      rest = x.at.rest;
+      below = top.below;
+      runs = x.runs ∙ spawn_is (program_of w.parts) c f x.func_type x.at.rest c.frame.operands top.below top.number low top.is;
+      frame = waits_there w s c st (plain.Call f) x.at (types.I32 ∷ []) x.tail top.below refl (x.middle ∙ ap (λ (ts : List ValType). ts ++ x.tail) spawn.1) top.typed;
+      values = st.values ∙ ap (λ (y : List Value). y ++ (belows c.frame.labels ++ (reverse c.frame.locals ++ st.lower))) top.is;
+    }
+
+pub call_asks : (s : State) (f : ℕ) → Begins s (Plain (plain.Call f)) → f < s.program.imported → HasOnTop (types.I32 ∷ []) (map type_of (reverse s.values.items))
+call_asks s f b k =
+    let w = b.sound.0 in let c = b.sound.1 in let st = b.sound.3 in
+    let x = call_spawns w s c st f b.sound.2 k (call_at w s c f st b.here (rw b.fresh tt)) in
+    (map type_of (values_on (waiting_frame c.frame x.rest x.below) st.lower), ap (map type_of) x.values)
+
+pub call_wants : (w : WithTables) (s : State) (c : Config) (f arg : ℕ) (below : List Value) → IsValidated w → Stands w s c → Begins s (Plain (plain.Call f)) →
+    f < s.program.imported → reverse s.values.items ≡ values.I32 arg ∷ below → Steps w c (next (program_of w.parts) c) (Wants (Ask (Spawn arg))) s
+call_wants w s c f arg below v st b k h =
+    let x = call_spawns w s c st f v k (call_at w s c f st b.here (rw b.fresh tt)) in
+    let same : values.I32 arg ∷ below ≡ values.I32 x.arg ∷ values_on (waiting_frame c.frame x.rest x.below) st.lower = sym h ∙ x.values in
+    spawn_wants w s c st [] x arg b.fresh cc
+
+-- of a function of the module itself
+own_call : (w : WithTables) (s : State) (c : Config) (st : Stands w s c) (f : ℕ) → s.program.imported ≤ f → (x : CallAt w s c st f) →
+    CallsOwn w s s c st x.at.rest c.frame.operands f x.index x.func_type x.tail
+own_call w s c st f k x = record {
+  own = let e = st.program.imported in omega arith;
+  function = x.function;
+  typed = x.typed;
+  midway = unmoved s;
+  operands_typed = x.operands_typed;
+  values = st.values;
+}
+
+pub call_ready : (s : State) (f : ℕ) → Begins s (Plain (plain.Call f)) → HasBodies s → s.program.imported ≤ f → CanEnter s (f - s.program.imported)
+call_ready s f b bodies k =
+    let w = b.sound.0 in let c = b.sound.1 in let st = b.sound.3 in
+    let x = call_at w s c f st b.here (rw b.fresh tt) in
+    can_enter w s s c st x.at.rest c.frame.operands f x.index x.func_type x.tail b.sound.2 bodies (own_call w s c st f k x) st.room (slice_get_within _ _ _ b.here)
+
+pub call_enters : (w : WithTables) (s n : State) (c : Config) (step : Step) (f : ℕ) → IsValidated w → Stands w s c → Begins s (Plain (plain.Call f)) → HasBodies s →
+    s.program.imported ≤ f → IsEntered s (f - s.program.imported) step n → Steps w c (next (program_of w.parts) c) step n
+call_enters w s n c step f v st b bodies k e =
+    let x = call_at w s c f st b.here (rw b.fresh tt) in
+    enters_own w s s n c st step x.at.rest c.frame.operands f x.index x.func_type x.tail v bodies b.fresh (own_call w s c st f k x)
+    (λ below h. waits_there w s c st (plain.Call f) x.at x.func_type.results x.tail below refl x.middle h) e x.runs
