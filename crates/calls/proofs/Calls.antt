@@ -114,7 +114,7 @@ enters_own w s old n c st step rest operands f index t tail v bodies fresh x wai
     (wait split.gone split.gone_typed) whole (subst (λ (i : ℕ). IsEntered old i step n) at e)
     (r ∙ own_is (program_of w.parts) c f t (function_of_body k.body) rest operands x.own body
     ∙ front_is operands (reverse t.params) tail (length t.params)
-    (λ args below. opens c (inner c rest args below t k.body)) split (sym (length-reverse t.params)))
+    (λ args below. opens c (inner c rest args below t (function_of_body k.body))) split (sym (length-reverse t.params)))
 
 -- ---- The imported function
 

@@ -1,3 +1,4 @@
 pub mod Opening
 pub mod Functions
 pub mod Calls
+pub mod Replied

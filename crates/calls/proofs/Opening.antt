@@ -20,7 +20,7 @@ use Rattle.typing.specs.Placed.{Flat, IsPlaced, IsTabled, own_label}
 use Rattle.typing.specs.Tabled.{WithTables, IsValidated, flat_body}
 use Rattle.typing.proofs.Nested.{nested_of_flat}
 use Rattle.machine.specs.Config.{Frame, Config, Fresh as NotBegun, Goes, Traps, values_in, values_of}
-use Rattle.machine.specs.Program.{program_of, zero_of}
+use Rattle.machine.specs.Program.{Function, program_of, function_of_body, zero_of}
 use Rattle.machine.specs.Step.{next, runs, opens}
 use Rattle.stands.specs.declared.state.Caller.{Caller}
 use Rattle.stands.specs.declared.state.Program.{Program as Prog}
@@ -36,15 +36,15 @@ use Rattle.calls.specs.Entering.{IsFunction, IsOpened, Enters, IsEntered, caller
 -- ---- The frames
 
 -- the frame of a function that was just opened
-abbrev pub opened_frame : FuncType → Body → List Value → Frame
-opened_frame t body args = record { locals = reverse args ++ map zero_of body.locals; code = nested_of body.code; operands = []; labels = []; arity = length t.results }
+abbrev pub opened_frame : FuncType → Function → List Value → Frame
+opened_frame t own args = record { locals = reverse args ++ map zero_of own.locals; code = own.code; operands = []; labels = []; arity = length t.results }
 
 -- the frame that waits for it
 abbrev pub waiting_frame : Frame → Code → List Value → Frame
 waiting_frame f rest below = record f { code = rest; operands = below }
 
-abbrev pub inner : Config → Code → List Value → List Value → FuncType → Body → Config
-inner c rest args below t body = record c { frame = opened_frame t body args; callers = waiting_frame c.frame rest below ∷ c.callers }
+abbrev pub inner : Config → Code → List Value → List Value → FuncType → Function → Config
+inner c rest args below t own = record c { frame = opened_frame t own args; callers = waiting_frame c.frame rest below ∷ c.callers }
 
 zeros_typed : (ts : List ValType) → map type_of (map zero_of ts) ≡ ts
 zeros_typed [] = refl
@@ -68,7 +68,7 @@ tabled : (w : WithTables) (own : ℕ) (b : Flat) (o : IsOwn w own b) → IsValid
 tabled w own b o v = v.tabled own o.index o.func_type o.body o.rows o.function o.typed o.body_is o.rows_are
 
 frame_of : (m : Parts) (t : FuncType) (body : Body) (rows : List (List Target)) (args : List Value) → IsTabled (flat_body m t body rows) →
-    map type_of args ≡ reverse t.params → FrameAt (flat_body m t body rows) [] (opened_frame t body args) 0
+    map type_of args ≡ reverse t.params → FrameAt (flat_body m t body rows) [] (opened_frame t (function_of_body body) args) 0
 frame_of m t body rows args x h = record {
   statics = own_label (flat_body m t body rows) ∷ [];
   stop = x.last;
@@ -131,7 +131,7 @@ opened_stands : (w : WithTables) (s old n : State) (c : Config) (st : Stands w s
     FrameAt st.body b.context.results (waiting_frame c.frame rest below) (s.pc + 1) →
     reverse old.values.items ≡ args ++ values_on (waiting_frame c.frame rest below) st.lower →
     length n.callers.items < 1000 → length n.values.items ≤ 65536 → IsOpened old n own o.func_type o.body o.rows →
-    Stands w n (record (inner c rest args below o.func_type o.body) { progress = NotBegun })
+    Stands w n (record (inner c rest args below o.func_type (function_of_body o.body)) { progress = NotBegun })
 opened_stands w s old n c st rest args below own b o v m fresh at f h few room x =
     let lower = values_on (waiting_frame c.frame rest below) st.lower in
     let long : length args ≡ length o.func_type.params =
@@ -169,7 +169,7 @@ opened_stands w s old n c st rest args below own b o v m fresh at f h few room x
 -- how many values there are with those of the opened function
 opened_values : (w : WithTables) (s old : State) (c : Config) (st : Stands w s c) (rest : Code) (args below : List Value) (t : FuncType) (body : Body) →
     reverse old.values.items ≡ args ++ values_on (waiting_frame c.frame rest below) st.lower →
-    values_of (inner c rest args below t body) ≡ length old.values.items + length body.locals
+    values_of (inner c rest args below t (function_of_body body)) ≡ length old.values.items + length body.locals
 opened_values w s old c st rest args below t body h =
     let waiting = waiting_frame c.frame rest below in
     let lower = values_on waiting st.lower in
@@ -204,10 +204,10 @@ pub opening : (w : WithTables) (s old n : State) (c : Config) (st : Stands w s c
     IsValidated w → Midway s old → s.progress ≡ Fresh → map type_of args ≡ reverse o.func_type.params →
     FrameAt st.body b.context.results (waiting_frame c.frame rest below) (s.pc + 1) →
     reverse old.values.items ≡ args ++ values_on (waiting_frame c.frame rest below) st.lower → IsEntered old own step n →
-    runs (program_of w.parts) c c.frame.code c.frame.operands ≡ opens c (inner c rest args below o.func_type o.body) →
+    runs (program_of w.parts) c c.frame.code c.frame.operands ≡ opens c (inner c rest args below o.func_type (function_of_body o.body)) →
     Steps w c (next (program_of w.parts) c) step n
 opening w s old n c st step rest args below own b o v m fresh at f h x r =
-    let after = inner c rest args below o.func_type o.body in
+    let after = inner c rest args below o.func_type (function_of_body o.body) in
     let p = program_of w.parts in
     let e = x o.func_type o.body o.rows (subst (λ (q : Prog). IsFunction q own o.func_type o.body o.rows) (sym (ap (λ (y : Still). y.program) m.same)) (is_function w s.program own b st.program o)) in
     let many : length c.callers ≡ length old.callers.items =
