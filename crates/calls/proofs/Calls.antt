@@ -221,7 +221,7 @@ functions_are w s c st = ap (λ (b : Flat). b.context.functions) st.own.flat
 pub types_are : (w : WithTables) (s : State) (c : Config) (st : Stands w s c) → st.body.context.types ≡ w.parts.types
 types_are w s c st = ap (λ (b : Flat). b.context.types) st.own.flat
 
-spawn_is : (p : Program) (c : Config) (f : ℕ) (t : FuncType) (rest : Code) (operands below : List Value) (arg : ℕ) → f < p.imported →
+pub spawn_is : (p : Program) (c : Config) (f : ℕ) (t : FuncType) (rest : Code) (operands below : List Value) (arg : ℕ) → f < p.imported →
     operands ≡ values.I32 arg ∷ below → calls p c f t rest operands ≡ Asks (Ask (Spawn arg)) (λ _. waits c rest below)
 spawn_is p c f t rest operands below arg h e = let g : nat_lt f p.imported ≡ true = search arith in rw (g, e) refl
 
