@@ -1,6 +1,7 @@
 -- Indirect calls are the machine's steps.
-use Rattle.std.proofs.Common.{◌≡◌, ℕ, ◌+◌, ◌-◌, ◌<◌, ◌≤◌, List, [], ◌∷◌, ◌++◌, length, map, reverse, Option, Some, None, slice_get, nat_lt, Bool, true, false, if◌then◌else◌, inl, inr, refl, sym, ◌∙◌, ap, subst, arith}
-use Rattle.std.proofs.lemmas.List.{length-reverse}
+use Rattle.std.proofs.Common.{◌≡◌, ℕ, ◌+◌, ◌-◌, ◌<◌, ◌≤◌, List, [], ◌∷◌, ◌++◌, length, map, reverse, take, Option, Some, None, slice_get, nat_lt, Bool, true, false, if◌then◌else◌, inl, inr, refl, sym, ◌∙◌, ap, subst, arith, length-append}
+use Rattle.std.proofs.lemmas.List.{length-reverse, reverse-append, reverse-reverse}
+use Rattle.std.proofs.Math.Seq.{take-append_seam}
 use Rattle.std.proofs.lemmas.Option.{slice_get_within}
 use Rattle.std.proofs.lemmas.Bool.{cases_lt}
 use Rattle.types.specs.declared.value.ValType.{ValType}
@@ -175,6 +176,36 @@ pub record Found (s : State) (type_index place f : ℕ) : Type 0 where
   pub stated_is : slice_get s.program.parts.now.types type_index ≡ Some stated
   pub same : same_type func_type stated ≡ true
 
+pub element_typed : (s : State) (type_index place f : ℕ) → Begins s (Plain (plain.CallIndirect type_index)) → slice_get s.program.elements.items place ≡ Some (Some f) →
+    (t : FuncType) × HasType s.program f t
+element_typed s type_index place f b e =
+    let w = b.sound.0 in let st = b.sound.3 in
+    let t = typed_function w.parts b.sound.2.valid f (in_table w.parts b.sound.2.valid place f (ap (λ (x : List (Option ℕ)). slice_get x place) (sym st.program.elements) ∙ e)) in
+    (t.func_type, has_type w s.program f st.program t)
+
+pub stated_there : (s : State) (type_index : ℕ) → Begins s (Plain (plain.CallIndirect type_index)) → (t : FuncType) × (slice_get s.program.parts.now.types type_index ≡ Some t)
+stated_there s type_index b =
+    let w = b.sound.0 in let c = b.sound.1 in let st = b.sound.3 in
+    let x = indirect_at w s c type_index st b.here (rw b.fresh tt) in
+    (x.stated, ap (λ (m : Parts). slice_get m.types type_index) st.program.parts ∙ x.typed)
+
+pub found_by : (s : State) (type_index place f : ℕ) (below : List Value) (answer : Bool) → Begins s (Plain (plain.CallIndirect type_index)) →
+    reverse s.values.items ≡ values.I32 place ∷ below → slice_get s.program.elements.items place ≡ Some (Some f) →
+    ((t stated : FuncType) → HasType s.program f t → slice_get s.program.parts.now.types type_index ≡ Some stated → answer ≡ same_type t stated) → answer ≡ true →
+    Found s type_index place f
+found_by s type_index place f below answer b top element answers holds =
+    let t = element_typed s type_index place f b element in let stated = stated_there s type_index b in
+    record {
+      below = below;
+      func_type = t.0;
+      stated = stated.0;
+      top = top;
+      element = element;
+      has_type = t.1;
+      stated_is = stated.1;
+      same = sym (answers t.0 stated.0 t.1 stated.1) ∙ holds;
+    }
+
 pub found_tested : (w : WithTables) (s : State) (c : Config) (st : Stands w s c) (type_index place f : ℕ) → IsAt s (Plain (plain.CallIndirect type_index)) →
     Undue (reached s.progress) → Found s type_index place f → Tested w s c st type_index place f
 found_tested w s c st type_index place f h u x =
@@ -200,19 +231,6 @@ indirect_empty w s c type_index place below st b h e =
     let x = indirect_at w s c type_index st b.here (rw b.fresh tt) in
     traps_now w s s c st traps.UninitializedElement (rw b.fresh tt) (placed_runs w s c st type_index place (Some None) x (same_place w s c st type_index place below x h) e)
 
-pub element_typed : (s : State) (type_index place f : ℕ) → Begins s (Plain (plain.CallIndirect type_index)) → slice_get s.program.elements.items place ≡ Some (Some f) →
-    (t : FuncType) × HasType s.program f t
-element_typed s type_index place f b e =
-    let w = b.sound.0 in let st = b.sound.3 in
-    let t = typed_function w.parts b.sound.2.valid f (in_table w.parts b.sound.2.valid place f (ap (λ (x : List (Option ℕ)). slice_get x place) (sym st.program.elements) ∙ e)) in
-    (t.func_type, has_type w s.program f st.program t)
-
-pub stated_there : (s : State) (type_index : ℕ) → Begins s (Plain (plain.CallIndirect type_index)) → (t : FuncType) × (slice_get s.program.parts.now.types type_index ≡ Some t)
-stated_there s type_index b =
-    let w = b.sound.0 in let c = b.sound.1 in let st = b.sound.3 in
-    let x = indirect_at w s c type_index st b.here (rw b.fresh tt) in
-    (x.stated, ap (λ (m : Parts). slice_get m.types type_index) st.program.parts ∙ x.typed)
-
 pub indirect_differs : (w : WithTables) (s : State) (c : Config) (type_index place f : ℕ) (below : List Value) (found stated : FuncType) → Stands w s c →
     Begins s (Plain (plain.CallIndirect type_index)) → reverse s.values.items ≡ values.I32 place ∷ below → slice_get s.program.elements.items place ≡ Some (Some f) →
     HasType s.program f found → slice_get s.program.parts.now.types type_index ≡ Some stated → same_type found stated ≡ false →
@@ -234,6 +252,18 @@ argument_there s type_index place f b k x =
     let w = b.sound.0 in let c = b.sound.1 in let st = b.sound.3 in
     let y = indirect_spawns w s c st type_index place f b.sound.2 k (found_tested w s c st type_index place f b.here (rw b.fresh tt) x) in
     (y.arg, values_on (waiting_frame c.frame y.rest y.below) st.lower, y.values)
+
+-- the values below the topmost one
+pub below_top : (vs rest : List Value) (v : Value) (n : ℕ) → reverse vs ≡ v ∷ rest → n ≡ length vs → reverse (take (n - 1) vs) ≡ rest
+below_top vs rest v n h e =
+    let o : vs ≡ reverse rest ++ (v ∷ []) = sym (reverse-reverse vs) ∙ ap reverse h ∙ reverse-append (v ∷ []) rest in
+    let k : n - 1 ≡ length (reverse rest) = let a = ap length o in let b = length-append (reverse rest) (v ∷ []) in omega arith in
+    ap (λ (x : List Value). reverse (take (n - 1) x)) o ∙ ap (λ (m : ℕ). reverse (take m (reverse rest ++ (v ∷ [])))) k
+    ∙ ap reverse (take-append_seam (reverse rest) (v ∷ [])) ∙ reverse-reverse rest
+
+-- what the table was seen to have
+pub read_at : (elements slice : List (Option ℕ)) (place : ℕ) (r o : Option (Option ℕ)) → r ≡ slice_get slice place → slice ≡ elements → r ≡ o → slice_get elements place ≡ o
+read_at elements slice place r o h e k = ap (λ (x : List (Option ℕ)). slice_get x place) (sym e) ∙ sym h ∙ k
 
 pub indirect_wants : (w : WithTables) (s : State) (c : Config) (type_index place f arg : ℕ) (below : List Value) → IsValidated w → Stands w s c →
     Begins s (Plain (plain.CallIndirect type_index)) → f < s.program.imported → Found s type_index place f →

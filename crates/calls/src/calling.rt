@@ -8,7 +8,7 @@ ghost use Rattle.stands.specs.Steps.{Begins, IsStep, Wanting, IsReplied};
 ghost use Rattle.calls.specs.Entering.{HasBodies};
 
 use crate::entering::enter;
-use crate::indices::{is_of_type, top_i32};
+use crate::indices::{element_at, is_of_type, top_i32};
 use stands::{Progress, State, Step, pop};
 use types::{Event, Instr, PlainInstr, Question, Trap};
 
@@ -36,10 +36,10 @@ pub fn call_indirect(state: &mut State, type_index: u32) -> Step
     ensures { IsStep state.old result state.new }
 {
     let place = top_i32(state.values.as_slice());
-    let function = match state.program.elements.get(place as usize) {
+    let function = match element_at(state.program.elements.as_slice(), place as usize) {
         None => return Step::Trapped(Trap::UndefinedElement),
         Some(None) => return Step::Trapped(Trap::UninitializedElement),
-        Some(Some(function)) => *function as usize,
+        Some(Some(function)) => function as usize,
     };
     if !is_of_type(&state.program, function, type_index as usize) {
         return Step::Trapped(Trap::SignatureMismatch);
