@@ -1,6 +1,4 @@
-use Rattle.std.proofs.Common.{rules, ◌≡◌, ◌<◌, ◌≤◌, ap, sym, ◌∙◌, arith, subst, List, reverse, map}
-use Rattle.types.specs.declared.value.ValType.TheVariants.{I32}
-use Rattle.types.specs.Values.{type_of}
+use Rattle.std.proofs.Common.{ap, sym, ◌∙◌, reverse}
 use Rattle.calls.proofs.Calls.{call_asks, call_wants, call_ready, call_enters}
 use Rattle.calls.proofs.calling.call.Goals as goal
 

@@ -1,4 +1,4 @@
-use Rattle.std.proofs.Common.{rules, ◌≡◌, List, ◌∷◌, ◌-◌, length, map, reverse, take, true, false, Some, None, slice_get, refl, sym, ◌∙◌, ap}
+use Rattle.std.proofs.Common.{rules, ◌≡◌, List, ◌∷◌, ◌-◌, length, map, reverse, take, Some, None, refl, sym, ◌∙◌, ap}
 use Rattle.types.specs.declared.value.Value.{Value}
 use Rattle.types.specs.declared.value.Value.TheVariants as values
 use Rattle.types.specs.Values.{type_of}

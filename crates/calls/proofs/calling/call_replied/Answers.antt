@@ -1,4 +1,4 @@
-use Rattle.std.proofs.Common.{rules, ◌≡◌, ◌<◌, length, refl}
+use Rattle.std.proofs.Common.{rules, ◌<◌, length, refl}
 use Rattle.std.proofs.lemmas.Option.{slice_get_within}
 use Rattle.calls.proofs.Replied.{call_pops, call_heard}
 use Rattle.calls.proofs.calling.call_replied.Goals as goal
