@@ -1,7 +1,7 @@
 use Rattle.std.proofs.Common.{rules, ◌<◌, length, refl}
 use Rattle.std.proofs.lemmas.Option.{slice_get_within}
-use Rattle.calls.proofs.Indirect.{indirect_pops, indirect_pops_again, indirect_heard}
-use Rattle.calls.proofs.calling.call_indirect_replied.Goals as goal
+use Rattle.calls.proofs.TableCalls.{indirect_pops, indirect_pops_again, indirect_heard}
+use Rattle.calls.proofs.indirect.call_indirect_replied.Goals as goal
 
 pub pop-requires : goal.pop-requires
 pop-requires c = indirect_pops c.args.state.now c.args.type_index c.requires

@@ -2,8 +2,8 @@ use Rattle.std.proofs.Common.{rules, ◌≡◌, List, ◌∷◌, ◌-◌, length
 use Rattle.types.specs.declared.value.Value.{Value}
 use Rattle.types.specs.declared.value.Value.TheVariants as values
 use Rattle.types.specs.Values.{type_of}
-use Rattle.calls.proofs.Indirect.{indirect_asks, indirect_undefined, indirect_empty, element_typed, stated_there, indirect_differs, found_by, argument_there, below_top, read_at, indirect_wants, indirect_ready, indirect_enters}
-use Rattle.calls.proofs.calling.call_indirect.Goals as goal
+use Rattle.calls.proofs.TableCalls.{indirect_asks, indirect_undefined, indirect_empty, element_typed, stated_there, indirect_differs, found_by, argument_there, below_top, read_at, indirect_wants, indirect_ready, indirect_enters}
+use Rattle.calls.proofs.indirect.call_indirect.Goals as goal
 
 pub top_i32-place-requires : goal.top_i32-place-requires
 top_i32-place-requires c = rw c.as_slice.ensures.value (indirect_asks c.args.state.now c.args.type_index c.requires.begins)
