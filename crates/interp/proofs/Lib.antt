@@ -1,0 +1,3 @@
+pub mod Callable
+pub mod Defined
+pub mod Turned

@@ -1,0 +1,8 @@
+//! The concrete thread: it runs flat code by its table of branches, and makes its turns as the thread machine does.
+#![tactic(auto)]
+
+mod dispatch;
+mod opening;
+mod thread;
+
+pub use thread::Thread;
