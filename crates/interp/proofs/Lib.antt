@@ -1,3 +1,4 @@
 pub mod Callable
 pub mod Defined
 pub mod Turned
+pub mod Here
