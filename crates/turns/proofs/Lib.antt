@@ -3,3 +3,4 @@ pub mod Slots
 pub mod Exits
 pub mod Numbers
 pub mod Follow
+pub mod Branching

@@ -8,7 +8,7 @@ mod leaving;
 mod variables;
 
 pub use arithmetic::{constant, operator};
-pub use control::{block, else_part, end, if_start, loop_start, return_now};
+pub use control::{block, br, br_if, br_table, else_part, end, if_start, loop_start, return_now};
 pub use variables::{
     drop_value, fence, global_get, global_set, local_get, local_set, local_tee, nop, select,
     unreachable_instr,
