@@ -1,0 +1,5 @@
+pub mod Cuts
+pub mod Replies
+pub mod Loading
+pub mod Storing
+pub mod Paging

@@ -1,0 +1,11 @@
+use Rattle.std.proofs.Common.{◌<◌, length, refl, rules}
+use Rattle.accesses.proofs.Replies.{answer_room, tells}
+use Rattle.accesses.proofs.answers.hear.Goals as goal
+
+pub push-requires : goal.push-requires
+push-requires c =
+    let h : length c.args.state.now.values.items < 65536 = answer_room c.requires.sound.0 _ c.requires.sound.1 c.requires.sound.3 c.requires.due in
+    search rules
+
+pub returns : goal.returns
+returns c = λ w k v st. tells w c.args.state.now _ k c.args.number st c.requires.due refl refl refl refl c.push.ensures.value

@@ -1,0 +1,19 @@
+//! Plain memory instructions as steps of the thread machine over flat code (Core specification 1.0, section 4.4.4), and
+//! the answer to a question.
+//!
+//! A plain access that touches two aligned words of 8 bytes is two events, the low part first, and both are tested against the
+//! bounds of the whole access (this project's own).
+#![tactic(auto)]
+
+mod answers;
+mod loaded;
+mod loads;
+mod operands;
+mod pages;
+mod parts;
+mod stores;
+
+pub use answers::hear;
+pub use loads::{load, load_replied};
+pub use pages::{memory_grow, memory_grow_replied, memory_size, memory_size_replied};
+pub use stores::{store, store_replied};
