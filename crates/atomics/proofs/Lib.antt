@@ -1,0 +1,4 @@
+pub mod Masks
+pub mod Settled
+pub mod Taken
+pub mod Turns
