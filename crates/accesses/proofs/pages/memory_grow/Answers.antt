@@ -1,6 +1,7 @@
 use Rattle.std.proofs.Common.{reverse, subst}
 use Rattle.accesses.specs.Done.{IsTop}
-use Rattle.accesses.proofs.Paging.{comes_next, grow_ready, grow_wants}
+use Rattle.accesses.proofs.Replies.{comes_next}
+use Rattle.accesses.proofs.Paging.{grow_ready, grow_wants}
 use Rattle.accesses.proofs.pages.memory_grow.Goals as goal
 
 pub top_i32-requires : goal.top_i32-requires
