@@ -1,6 +1,6 @@
 //! The operands of an atomic instruction.
 
-ghost use Rattle.std.specs.Prelude.{◌≡◌, ℕ, ◌+◌, ◌<◌, ◌≤◌, List, Some, length, map, reverse, drop, nat_eq, ◌%◌, ◌^◌, IfOk, vec_capacity};
+ghost use Rattle.std.specs.Prelude.{◌≡◌, ℕ, ◌+◌, ◌<◌, ◌≤◌, Some, length, map, reverse, drop, nat_eq, ◌%◌, ◌^◌, IfOk, vec_capacity};
 ghost use Rattle.std.specs.List.{slice_get};
 ghost use Rattle.types.specs.declared.value.ValType.{ValType};
 ghost use Rattle.types.specs.declared.value.Value.{Value};

@@ -1,6 +1,6 @@
 //! What the reply to an atomic instruction's event makes of a thread.
 
-ghost use Rattle.std.specs.Prelude.{◌≡◌, ◌≤◌, ◌<◌, [], ◌∷◌, length};
+ghost use Rattle.std.specs.Prelude.{◌≤◌, ◌<◌, [], ◌∷◌, length};
 ghost use Rattle.stands.specs.declared.state.Progress.{Progress};
 ghost use Rattle.machine.specs.Access.{answered_value};
 ghost use Rattle.atomics.specs.Replies.{Settles};

@@ -8,7 +8,7 @@ ghost use Rattle.machine.specs.Program.{Program};
 ghost use Rattle.atomics.specs.Requests.{Wants};
 
 use crate::operands::{address_at, cut, i32_at, number_at};
-use types::{AccessWidth, AtomicOp, Event, MemArg, Question, RmwOp, Trap, ValType, Value};
+use types::{AccessWidth, Event, MemArg, Question, RmwOp, Trap, ValType, Value};
 
 /// `memory.atomic.notify`
 #[inline]

@@ -1,7 +1,6 @@
 //! Atomic instructions as steps of the thread machine.
 
 ghost use Rattle.std.specs.Prelude.{◌≡◌, map, reverse};
-ghost use Rattle.types.specs.declared.operators.AtomicOp.{AtomicOp};
 ghost use Rattle.types.specs.declared.instr.Instr.{Instr};
 ghost use Rattle.types.specs.declared.instr.PlainInstr.{PlainInstr};
 ghost use Rattle.types.specs.Values.{type_of};
@@ -13,7 +12,7 @@ ghost use Rattle.atomics.specs.Requests.{Wants};
 use crate::replies::{await_answer, finish, give};
 use crate::requests::{cmpxchg, load, notify, rmw, store, wait};
 use stands::{State, Step};
-use types::{AtomicOp, Event, Instr, MemArg, PlainInstr, Trap, Value};
+use types::{AtomicOp, Event, MemArg, Trap, Value};
 
 /// The event that an atomic instruction wants, or its trap.
 #[inline]
