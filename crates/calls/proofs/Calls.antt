@@ -1,9 +1,8 @@
 -- Calls are the machine's steps.
-use Rattle.std.proofs.Common.{◌≡◌, ℕ, zero, suc, ◌+◌, ◌-◌, ◌<◌, ◌≤◌, List, [], ◌∷◌, ◌++◌, length, map, reverse, sum_by, Option, Some, None, slice_get, nat_lt, Bool, true, false, if◌then◌else◌, inl, inr, refl, sym, ◌∙◌, ap, subst, arith, length-append, append_assoc}
+use Rattle.std.proofs.Common.{◌≡◌, ℕ, ◌+◌, ◌-◌, ◌<◌, ◌≤◌, List, [], ◌∷◌, ◌++◌, length, map, reverse, sum_by, Some, slice_get, nat_lt, true, false, refl, sym, ◌∙◌, ap, subst, arith, length-append, append_assoc}
 use Rattle.std.specs.Option.{option_map}
 use Rattle.std.proofs.lemmas.List.{length-reverse, length-map}
 use Rattle.std.proofs.lemmas.Option.{slice_get-map, slice_get_within}
-use Rattle.std.proofs.lemmas.Bool.{cases_lt}
 use Rattle.types.specs.declared.value.ValType.{ValType}
 use Rattle.types.specs.declared.value.ValType.TheVariants as types
 use Rattle.types.specs.declared.value.Value.{Value}
@@ -15,16 +14,15 @@ use Rattle.types.specs.declared.parts.FuncType.{FuncType}
 use Rattle.types.specs.declared.parts.Parts.{Parts}
 use Rattle.types.specs.declared.event.Event.TheVariants.{Ask}
 use Rattle.types.specs.declared.event.Question.TheVariants.{Spawn}
-use Rattle.types.specs.declared.outcome.Trap.TheVariants as traps
 use Rattle.types.specs.Nesting.{Code, Then}
 use Rattle.types.specs.Values.{type_of}
 use Rattle.typing.specs.Typing.{HasOnTop}
 use Rattle.typing.specs.Placed.{Flat, goes_on}
 use Rattle.typing.specs.Context.{imported_functions, functions_of}
 use Rattle.typing.specs.Tabled.{WithTables, IsValidated}
-use Rattle.machine.specs.Config.{Config, Progress as Reached, Fresh as NotBegun, Halfway as FirstPart, Asked as Due, Next, Goes, Traps, Asks, values_in, values_of}
+use Rattle.machine.specs.Config.{Config, Progress as Reached, Fresh as NotBegun, Halfway as FirstPart, Asked as Due, Asks, values_in, values_of}
 use Rattle.machine.specs.Program.{Program, Function, program_of, function_of_body}
-use Rattle.machine.specs.Step.{next, next_by, runs, limited, opens, calls, calls_own, calls_spawn, waits}
+use Rattle.machine.specs.Step.{next, next_by, runs, limited, opens, calls, calls_own, waits}
 use Rattle.stands.specs.declared.state.Program.{Program as Prog}
 use Rattle.stands.specs.declared.state.State.{State}
 use Rattle.stands.specs.declared.state.Progress.TheVariants.{Fresh, Asked}
@@ -32,11 +30,11 @@ use Rattle.stands.specs.declared.state.Step.{Step}
 use Rattle.stands.specs.declared.state.Step.TheVariants.{Wants}
 use Rattle.stands.specs.Stands.{belows, values_on, FrameAt, Stands, reached, due}
 use Rattle.stands.specs.Steps.{Steps, Replies, Begins, IsAt}
-use Rattle.stands.proofs.Views.{AtPlain, Still, still, at_plain, at_fresh, not_due, next_fresh, off, tops_of, fits_room, all_values, values_long, within}
+use Rattle.stands.proofs.Views.{AtPlain, Still, still, at_plain, fits_room, all_values, values_long}
 use Rattle.stands.proofs.Branch.{split_types, front_is}
 use Rattle.calls.specs.Entering.{IsFunction, CanEnter, IsEntered, HasBodies}
 use Rattle.calls.proofs.Opening.{Midway, waiting_frame, inner, opening, is_function}
-use Rattle.calls.proofs.Functions.{Called, called, own_of, spawn_type}
+use Rattle.calls.proofs.Functions.{called, own_of, spawn_type}
 
 -- a state is as it was
 pub unmoved : (s : State) → Midway s s
@@ -83,8 +81,8 @@ can_enter w s old c st rest operands f index t tail v bodies x room place =
       is = subst (λ (i : ℕ). IsFunction old.program i t k.body k.rows) at
           (subst (λ (y : Prog). IsFunction y (f - length (imported_functions w.parts)) t k.body k.rows) (sym program) is);
       arguments =
-        (let a = ap length x.operands_typed in let b = length-map operands type_of in let d = length-append (reverse t.params) tail in let e = length-reverse t.params in
-        let g = ap length x.values in let h = length-reverse old.values.items in let i = length-append operands (belows c.frame.labels ++ (reverse c.frame.locals ++ st.lower)) in omega arith);
+          (let a = ap length x.operands_typed in let b = length-map operands type_of in let d = length-append (reverse t.params) tail in let e = length-reverse t.params in
+          let g = ap length x.values in let h = length-reverse old.values.items in let i = length-append operands (belows c.frame.labels ++ (reverse c.frame.locals ++ st.lower)) in omega arith);
       room = room;
       behind = rw (x.midway.pc, ap (λ (y : Still). length y.code) x.midway.same) place;
     }

@@ -2,4 +2,4 @@ pub mod Opening
 pub mod Functions
 pub mod Calls
 pub mod Replied
-pub mod Indirect
+pub mod TableCalls

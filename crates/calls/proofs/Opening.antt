@@ -1,5 +1,5 @@
 -- A function that is opened over its arguments is the machine's step.
-use Rattle.std.proofs.Common.{◌≡◌, ℕ, suc, ◌+◌, ◌<◌, ◌≤◌, List, [], ◌∷◌, ◌++◌, length, map, reverse, sum_by, slice_get, nat_lt, true, false, ◌⊎◌, inl, inr, refl, sym, ◌∙◌, ap, subst, arith, append_assoc, length-append}
+use Rattle.std.proofs.Common.{◌≡◌, ℕ, suc, ◌+◌, ◌<◌, ◌≤◌, List, [], ◌∷◌, ◌++◌, length, map, reverse, sum_by, slice_get, nat_lt, true, false, inl, inr, refl, sym, ◌∙◌, ap, subst, arith, append_assoc, length-append}
 use Rattle.std.proofs.lemmas.List.{length-reverse, length-map, map-append, reverse-append, reverse-reverse}
 use Rattle.std.proofs.lemmas.List.Sums.{sum_by-cons}
 use Rattle.std.proofs.lemmas.Bool.{cases_lt}
@@ -11,7 +11,6 @@ use Rattle.types.specs.declared.parts.FuncType.{FuncType}
 use Rattle.types.specs.declared.parts.GlobalType.{GlobalType}
 use Rattle.types.specs.declared.parts.Body.{Body}
 use Rattle.types.specs.declared.parts.Parts.{Parts}
-use Rattle.types.specs.declared.instr.Instr.{Instr}
 use Rattle.types.specs.Nesting.{Code}
 use Rattle.types.specs.Values.{type_of}
 use Rattle.typing.specs.declared.target.Target.{Target}
@@ -27,11 +26,11 @@ use Rattle.stands.specs.declared.state.Program.{Program as Prog}
 use Rattle.stands.specs.declared.state.State.{State}
 use Rattle.stands.specs.declared.state.Progress.TheVariants.{Fresh}
 use Rattle.stands.specs.declared.state.Step.{Step}
-use Rattle.stands.specs.declared.state.Step.TheVariants.{Moved, Trapped}
-use Rattle.stands.specs.Stands.{belows, values_on, FrameAt, IsOwn, IsProgram, AreCallers, Stands, reached}
+use Rattle.stands.specs.declared.state.Step.TheVariants.{Trapped}
+use Rattle.stands.specs.Stands.{values_on, FrameAt, IsOwn, IsProgram, AreCallers, Stands, reached}
 use Rattle.stands.specs.Steps.{Steps}
 use Rattle.stands.proofs.Views.{Still, still, moved, next_fresh, no_room, not_due, all_values, values_long}
-use Rattle.calls.specs.Entering.{IsFunction, IsOpened, Enters, IsEntered, caller_of}
+use Rattle.calls.specs.Entering.{IsFunction, IsOpened, IsEntered, caller_of}
 
 -- ---- The frames
 
@@ -124,7 +123,8 @@ callers_wait w s old c st rest below results m f = (
   ap (λ (x : Still). x.base) m.same ∙ st.base,
   ap (λ (x : Still). x.operands) m.same ∙ st.operands,
   ap (λ (x : Still). x.results) m.same ∙ st.results,
-  rw (ap (λ (x : Still). x.callers) m.same) st.callers)
+  rw (ap (λ (x : Still). x.callers) m.same) st.callers,
+)
 
 opened_stands : (w : WithTables) (s old n : State) (c : Config) (st : Stands w s c) (rest : Code) (args below : List Value) (own : ℕ) (b : Flat) (o : IsOwn w own b) →
     IsValidated w → Midway s old → s.progress ≡ Fresh → map type_of args ≡ reverse o.func_type.params →
@@ -151,8 +151,8 @@ opened_stands w s old n c st rest args below own b o v m fresh at f h few room x
       values = values_opened old.values.items n.values.items args (map zero_of o.body.locals) lower h x.values;
       base = let p = x.base in omega arith;
       operands =
-        (let p = x.operands in let q = ap length x.values ∙ length-append old.values.items (map zero_of o.body.locals) in
-        let r = length-append (reverse args) (map zero_of o.body.locals) in let t = length-reverse args in omega arith);
+          (let p = x.operands in let q = ap length x.values ∙ length-append old.values.items (map zero_of o.body.locals) in
+          let r = length-append (reverse args) (map zero_of o.body.locals) in let t = length-reverse args in omega arith);
       results = x.results ∙ ap length (sym results);
       callers = rw x.callers (callers_wait w s old c st rest below b.context.results m f);
       globals = x.globals ∙ m.globals ∙ st.globals;
@@ -234,6 +234,6 @@ opening w s old n c st step rest args below own b o v m fresh at f h x r =
                 (let a = ap length y.1.values in let d = length-append old.values.items (map zero_of o.body.locals) in let g = length-map o.body.locals zero_of in omega arith) in
                 let stands = opened_stands w s old n c st rest args below own b o v m fresh at f h callers values y.1 in
                 rw y.0 (moved w s n c (record after { progress = NotBegun }) st fresh stands
-                    (goes ∙ ap (λ q. Goes (record after { progress = q })) (not_due w s c st fresh)))
+                (goes ∙ ap (λ q. Goes (record after { progress = q })) (not_due w s c st fresh)))
           ]
     ]

@@ -1,5 +1,5 @@
 -- Calls that started a thread: the question was asked.
-use Rattle.std.proofs.Common.{◌≡◌, ℕ, ◌+◌, ◌-◌, ◌<◌, ◌≤◌, List, [], ◌∷◌, ◌++◌, length, map, reverse, take, drop, Option, Some, None, slice_get, nat_lt, nat_le, Bool, true, false, if◌then◌else◌, inl, inr, refl, sym, ◌∙◌, ap, subst, arith}
+use Rattle.std.proofs.Common.{◌≡◌, ℕ, ◌+◌, ◌-◌, ◌<◌, ◌≤◌, List, [], ◌∷◌, length, reverse, take, drop, Option, Some, None, slice_get, nat_lt, nat_le, Bool, true, false, if◌then◌else◌, inl, inr, sym, ◌∙◌, ap, subst, arith}
 use Rattle.std.proofs.lemmas.List.{length-reverse}
 use Rattle.std.proofs.lemmas.Bool.{cases_lt}
 use Rattle.types.specs.declared.value.Value.{Value}
@@ -10,16 +10,16 @@ use Rattle.types.specs.declared.outcome.Trap.TheVariants.{StackExhausted}
 use Rattle.types.specs.declared.parts.FuncType.{FuncType}
 use Rattle.types.specs.Nesting.{Code}
 use Rattle.typing.specs.Tabled.{WithTables, IsValidated}
-use Rattle.machine.specs.Config.{Config, Progress as Reached, Fresh as NotBegun, Halfway as FirstPart, Asked as Due, Next, Goes, Traps, Asks, Stuck, values_of}
+use Rattle.machine.specs.Config.{Config, Progress as Reached, Fresh as NotBegun, Halfway as FirstPart, Asked as Due, Goes, Traps, Stuck, values_of}
 use Rattle.machine.specs.Program.{Program, Function, program_of}
-use Rattle.machine.specs.Step.{next, next_by, runs, limited, if_room, opens, calls, calls_own, calls_spawn, on_some}
+use Rattle.machine.specs.Step.{next, next_by, limited, opens, calls, calls_own, calls_spawn, on_some}
 use Rattle.stands.specs.declared.state.State.{State}
 use Rattle.stands.specs.declared.state.Progress.TheVariants.{Asked}
 use Rattle.stands.specs.Stands.{values_on, Stands, reached}
-use Rattle.stands.specs.Steps.{Replies, Wanting, IsAsking, IsAt}
+use Rattle.stands.specs.Steps.{Replies, Wanting, IsAsking}
 use Rattle.stands.proofs.Views.{still}
 use Rattle.calls.proofs.Opening.{waiting_frame, inner}
-use Rattle.calls.proofs.Calls.{Undue, next_undue, Spawns, spawn_replied, CallAt, call_at, call_spawns}
+use Rattle.calls.proofs.Calls.{Undue, next_undue, spawn_replied, call_at, call_spawns}
 
 -- ---- What asks nothing
 

@@ -25,6 +25,14 @@ pub(crate) fn top_i32(values: &[Value]) -> u32
     }
 }
 
+/// What the table has at a place, if there is the place.
+#[inline]
+pub(crate) fn element_at(elements: &[Option<u32>], place: usize) -> Option<Option<u32>>
+    ensures { result ≡ slice_get elements.now place }
+{
+    elements.get(place).copied()
+}
+
 /// Whether a function's type is the one with an index: types are equal where they take and give the same.
 #[inline]
 pub(crate) fn is_of_type(program: &Program, function: usize, type_index: usize) -> bool

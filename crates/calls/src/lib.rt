@@ -1,8 +1,10 @@
 //! Calls of functions, as steps of the thread machine over flat code with its table of branches.
 #![tactic(auto)]
 
-mod calling;
+mod direct;
 mod entering;
 mod indices;
+mod indirect;
 
-pub use calling::{call, call_indirect, call_indirect_replied, call_replied};
+pub use direct::{call, call_replied};
+pub use indirect::{call_indirect, call_indirect_replied};

@@ -1,7 +1,7 @@
-use Rattle.std.proofs.Common.{rules, ◌≡◌, ◌<◌, length, refl}
+use Rattle.std.proofs.Common.{rules, ◌<◌, length, refl}
 use Rattle.std.proofs.lemmas.Option.{slice_get_within}
 use Rattle.calls.proofs.Replied.{call_pops, call_heard}
-use Rattle.calls.proofs.calling.call_replied.Goals as goal
+use Rattle.calls.proofs.direct.call_replied.Goals as goal
 
 pub pop-requires : goal.pop-requires
 pop-requires c = call_pops c.args.state.now c.args.function c.requires

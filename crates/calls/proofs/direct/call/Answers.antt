@@ -1,8 +1,6 @@
-use Rattle.std.proofs.Common.{rules, ◌≡◌, ◌<◌, ◌≤◌, ap, sym, ◌∙◌, arith, subst, List, reverse, map}
-use Rattle.types.specs.declared.value.ValType.TheVariants.{I32}
-use Rattle.types.specs.Values.{type_of}
+use Rattle.std.proofs.Common.{ap, sym, ◌∙◌, reverse}
 use Rattle.calls.proofs.Calls.{call_asks, call_wants, call_ready, call_enters}
-use Rattle.calls.proofs.calling.call.Goals as goal
+use Rattle.calls.proofs.direct.call.Goals as goal
 
 pub top_i32-arg-requires : goal.top_i32-arg-requires
 top_i32-arg-requires c = rw c.as_slice.ensures.value (call_asks c.args.state.now c.args.function c.requires.begins c.if-function-imported.true)
