@@ -2,3 +2,5 @@ pub mod Callable
 pub mod Defined
 pub mod Turned
 pub mod Here
+pub mod Begun
+pub mod Starting

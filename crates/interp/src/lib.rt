@@ -2,6 +2,7 @@
 #![tactic(auto)]
 
 mod dispatch;
+mod entry;
 mod opening;
 mod thread;
 
