@@ -47,13 +47,13 @@ fn as_places(alloc: Global, functions: &[u32]) -> Result<Vec<Option<u32>>, Alloc
         .collect(alloc)
 }
 
-/// Writes a segment's functions at its offset.
-fn write_elements(places: &mut [Option<u32>], start: usize, functions: &[Option<u32>])
-    requires { start + length functions.now ≤ length places.old }
-    ensures { places.new ≡ splice places.old start (start + length functions.now) functions.now }
+/// Writes items over those from a place on.
+fn write_at<T: Copy>(items: &mut [T], start: usize, more: &[T])
+    requires { start + length more.now ≤ length items.old }
+    ensures { items.new ≡ splice items.old start (start + length more.now) more.now }
 {
-    let written = &mut places[start..start + functions.len()];
-    written.copy_from_slice(functions);
+    let written = &mut items[start..start + more.len()];
+    written.copy_from_slice(more);
 }
 
 /// The table before the first turn: empty places, with the element segments written over them in order (Core specification
@@ -70,7 +70,7 @@ fn opening_table(alloc: Global, parts: &Parts) -> Result<Vec<Option<u32>>, Alloc
     for segment in parts.elements.as_slice() {
         let functions = as_places(alloc, segment.functions.as_slice())?;
         let start = offset(segment.offset.as_slice()) as usize;
-        write_elements(&mut places, start, functions.as_slice());
+        write_at(&mut places, start, functions.as_slice());
     }
     Ok(places)
 }
@@ -151,5 +151,5 @@ pub(crate) fn overwrite(values: &mut Vec<Value>, args: &[Value])
     ensures items { values.new.items ≡ args.now ++ drop (length args.now) values.old.items }
     ensures capacity { vec_capacity values.new ≡ vec_capacity values.old }
 {
-    values[..args.len()].copy_from_slice(args);
+    write_at(values, 0, args);
 }
