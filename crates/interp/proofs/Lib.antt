@@ -1,4 +1,3 @@
-pub mod Callable
 pub mod Defined
 pub mod Turned
 pub mod Here
