@@ -99,6 +99,13 @@ impl ValidModule {
         self.imported > 0
     }
 
+    /// The tables of branches of all bodies, in order.
+    pub fn tables(&self) -> &[Table]
+        ensures { result.now ≡ self.now.tables }
+    {
+        self.tables.as_slice()
+    }
+
     /// The table of branches of a function's body; functions of the module itself, from 0.
     pub fn table(&self, own: usize) -> Option<&Table>
         ensures { MatchOption result (slice_get self.now.tables own ≡ None) (λ table. slice_get self.now.tables own ≡ Some table.now) }

@@ -1,0 +1,5 @@
+pub mod Opening
+pub mod Functions
+pub mod Calls
+pub mod Replied
+pub mod TableCalls

@@ -1,0 +1,10 @@
+//! Calls of functions, as steps of the thread machine over flat code with its table of branches.
+#![tactic(auto)]
+
+mod direct;
+mod entering;
+mod indices;
+mod indirect;
+
+pub use direct::{call, call_replied};
+pub use indirect::{call_indirect, call_indirect_replied};

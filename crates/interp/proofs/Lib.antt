@@ -1,0 +1,5 @@
+pub mod Defined
+pub mod Turned
+pub mod Here
+pub mod Begun
+pub mod Starting

@@ -1,0 +1,51 @@
+use Rattle.std.proofs.Common.{rules, ◌≡◌, ◌+◌, ◌≤◌, ◌++◌, List, length, map, refl, sym, ◌∙◌, ap, subst, arith}
+use Rattle.std.specs.List.{slice_get}
+use Rattle.types.specs.declared.value.ValType.{ValType}
+use Rattle.types.specs.declared.value.Value.{Value}
+use Rattle.types.specs.declared.parts.FuncType.{FuncType}
+use Rattle.types.specs.declared.parts.Body.{Body}
+use Rattle.types.specs.declared.parts.Parts.{Parts}
+use Rattle.types.specs.Values.{type_of}
+use Rattle.machine.specs.Program.{zero_of, opening_globals}
+use Rattle.interp.proofs.Begun.{one_function}
+use Rattle.interp.proofs.Starting.{starts, few_values}
+use Rattle.interp.proofs.entry.start.Goals as goal
+
+pub opening_values-requires : goal.opening_values-requires
+opening_values-requires c =
+    let r = c.requires in
+    let same : c.in-Some-body.body.now ≡ r.1 = (let x = r.2.body_is in let y = c.in-Some-body.ensures in cc) in
+    let locals : c.as_slice.result.now ≡ r.1.locals = c.as_slice.ensures ∙ ap (λ (b : Body). b.locals) same in
+    let l = ap length locals in
+    let few = few_values c.args.valid.now.parts c.args.own r.0 r.1 c.args.args.now c.parts-parts.ensures.tested r.2 r.3 in
+    omega arith
+
+pub returns-clause-stands : goal.returns-clause-stands
+returns-clause-stands c = λ t body f.
+    let r = c.requires in
+    let m = c.args.valid.now.parts in
+    let one = one_function m c.args.own r.0 t r.1 body r.2 f in
+    let fit : map type_of c.args.args.now ≡ t.params = r.3 ∙ ap (λ (x : FuncType). x.params) one.0 in
+    let same : c.in-Some-body.body.now ≡ body = (let x = f.body_is in let y = c.in-Some-body.ensures in cc) in
+    let found = c.in-Some.ensures in
+    let index : found.0 ≡ f.index = (let x = f.typed in let y = found.1 in cc) in
+    let type_is : c.in-Some.func_type.now ≡ t =
+    (let x = f.type_is in let y = ap (λ i. slice_get m.types i) index in let z = found.2 in cc) in
+    let locals : c.as_slice.result.now ≡ body.locals = c.as_slice.ensures ∙ ap (λ (b : Body). b.locals) same in
+    starts c.args.valid.now _ c.args.own t body c.in-Some-table.table.now c.args.args.now c.parts-parts.ensures.validated c.parts-parts.ensures.tested.bodies f fit
+    (record {
+      program = c.in_ok-program.ensures;
+      function = refl;
+      rows_are = c.in-Some-table.ensures;
+      code = c.as_slice-2.ensures ∙ ap (λ (b : Body). b.code) same;
+      table = refl;
+      pc = refl;
+      base = refl;
+      operands = search rules;
+      results = c.len-2.ensures ∙ ap (λ (x : FuncType). length x.results) type_is;
+      values = c.in_ok-values.ensures.items ∙ ap (λ (ts : List ValType). c.args.args.now ++ map zero_of ts) locals;
+      globals = c.in_ok-opening_globals.ensures ∙ ap opening_globals c.parts-parts.ensures.parts;
+      callers = c.in_ok-with_capacity.ensures.items;
+      progress = refl;
+      few = few_values m c.args.own t body c.args.args.now c.parts-parts.ensures.tested f fit;
+    })

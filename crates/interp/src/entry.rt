@@ -1,0 +1,54 @@
+//! The start of a function.
+
+ghost use Rattle.std.specs.Prelude.{◌≡◌, map, IfOk};
+ghost use Rattle.types.specs.declared.parts.FuncType.{FuncType};
+ghost use Rattle.types.specs.declared.parts.Body.{Body};
+ghost use Rattle.types.specs.Values.{type_of};
+ghost use Rattle.interp.specs.Starts.{IsFunction, StandsAt, start_of};
+
+use crate::opening::{opening_globals, opening_values, program};
+use stands::{Progress, State};
+use std::alloc::{AllocError, Global};
+use types::Value;
+use validate::ValidModule;
+
+/// The most functions that may be open.
+const OPEN_MAX: usize = 1_000;
+
+/// The state in which a function of the module itself starts with these arguments.
+pub(crate) fn start<'m>(
+    alloc: Global,
+    valid: &'m ValidModule,
+    own: usize,
+    args: &[Value],
+) -> Result<State<'m>, AllocError>
+    requires { (t : FuncType) × (body : Body) × IsFunction valid.now.parts own t body × (map type_of args.now ≡ t.params) }
+    ensures function { IfOk result (λ s. s.function ≡ own) }
+    ensures stands { IfOk result (λ s. (t : FuncType) (body : Body) → IsFunction valid.now.parts own t body → StandsAt valid.now.parts s (start_of valid.now.parts t body args.now)) }
+{
+    let parts = valid.parts();
+    let Some(func_type) = valid.func_type(own) else {
+        unreachable!();
+    };
+    let Some(body) = valid.body(own) else {
+        unreachable!();
+    };
+    let Some(table) = valid.table(own) else {
+        unreachable!();
+    };
+    let values = opening_values(alloc, args, body.locals.as_slice())?;
+    Ok(State {
+        program: program(alloc, valid)?,
+        function: own,
+        code: body.code.as_slice(),
+        table,
+        pc: 0,
+        base: 0,
+        operands: values.len(),
+        results: func_type.results.len(),
+        values,
+        globals: opening_globals(alloc, parts)?,
+        callers: Vec::with_capacity(alloc, OPEN_MAX)?,
+        progress: Progress::Fresh,
+    })
+}

@@ -1,0 +1,9 @@
+//! The concrete thread: it runs flat code by its table of branches, and makes its turns as the thread machine does.
+#![tactic(auto)]
+
+mod dispatch;
+mod entry;
+mod opening;
+mod thread;
+
+pub use thread::Thread;

@@ -1,0 +1,155 @@
+//! What a thread has before its first turn.
+
+ghost use Rattle.std.specs.Prelude.{◌≡◌, ◌+◌, ◌≤◌, ◌<◌, ◌++◌, length, map, take, drop, replicate, fold, Option, Some, None, IfOk, All, vec_len, vec_capacity};
+ghost use Rattle.std.specs.List.{slice_get, splice};
+ghost use Rattle.typing.specs.Image.{offset_of};
+ghost use Rattle.typing.specs.Validity.{IsValid};
+ghost use Rattle.machine.specs.Program.{constant_of, opening_globals, opening_table, size_of_table, with_elements, zero_of};
+ghost use Rattle.stands.specs.Stands.{IsProgram};
+
+use module_rules::{IndexSpaces, offset};
+use stands::{Program, VALUES_MAX};
+use std::alloc::{AllocError, Global};
+use types::{Instr, NumericInstr, Parts, PlainInstr, ValType, Value};
+use validate::ValidModule;
+
+/// The value of a constant expression.
+fn constant(code: &[Instr]) -> Value
+    ensures { result ≡ constant_of code.now }
+{
+    let Some(first) = code.first() else {
+        return Value::I32(0);
+    };
+    match first {
+        Instr::Plain(PlainInstr::Numeric(NumericInstr::Const(value))) => *value,
+        _ => Value::I32(0),
+    }
+}
+
+/// The globals before the first turn.
+pub(crate) fn opening_globals(alloc: Global, parts: &Parts) -> Result<Vec<Value>, AllocError>
+    ensures { IfOk result (λ globals. globals.items ≡ opening_globals parts.now) }
+{
+    let mut globals = Vec::new(alloc);
+    for global in parts.globals.as_slice() {
+        globals.push(constant(global.init.as_slice()))?;
+    }
+    Ok(globals)
+}
+
+/// A segment's functions, as places of a table have them.
+fn as_places(alloc: Global, functions: &[u32]) -> Result<Vec<Option<u32>>, AllocError>
+    ensures { IfOk result (λ places. places.items ≡ map Some functions.now) }
+{
+    functions
+        .iter()
+        .map(|function| Some(*function))
+        .collect(alloc)
+}
+
+/// Writes items over those from a place on.
+fn write_at<T: Copy>(items: &mut [T], start: usize, more: &[T])
+    requires { start + length more.now ≤ length items.old }
+    ensures { items.new ≡ splice items.old start (start + length more.now) more.now }
+{
+    let written = &mut items[start..start + more.len()];
+    written.copy_from_slice(more);
+}
+
+/// The table before the first turn: empty places, with the element segments written over them in order (Core specification
+/// 1.0, section 4.5.4).
+fn opening_table(alloc: Global, parts: &Parts) -> Result<Vec<Option<u32>>, AllocError>
+    requires { All (λ e. offset_of e.offset + length e.functions ≤ size_of_table (slice_get parts.now.tables 0)) parts.now.elements }
+    ensures { IfOk result (λ places. places.items ≡ opening_table parts.now) }
+{
+    let size = match parts.tables.as_slice().first() {
+        Some(limits) => limits.min,
+        None => 0,
+    };
+    let mut places = vec![in alloc; None; size as usize]?;
+    for segment in parts.elements.as_slice() {
+        let functions = as_places(alloc, segment.functions.as_slice())?;
+        let start = offset(segment.offset.as_slice()) as usize;
+        write_at(&mut places, start, functions.as_slice());
+    }
+    Ok(places)
+}
+
+/// What a thread of a module runs.
+pub(crate) fn program<'m>(alloc: Global, valid: &'m ValidModule) -> Result<Program<'m>, AllocError>
+    ensures { IfOk result (λ p. IsProgram valid.now p) }
+{
+    let parts = valid.parts();
+    let spaces = IndexSpaces::of(alloc, parts)?;
+    let shared = match spaces.memories.first() {
+        Some(memory) => memory.shared,
+        None => false,
+    };
+    Ok(Program {
+        parts,
+        tables: valid.tables(),
+        functions: spaces.functions,
+        imported: spaces.imported,
+        elements: opening_table(alloc, parts)?,
+        shared,
+    })
+}
+
+/// The zero of a type, with which a local begins (Core specification 1.0, section 4.4.7).
+fn zero(val_type: ValType) -> Value
+    ensures { result ≡ zero_of val_type }
+{
+    match val_type {
+        ValType::I32 => Value::I32(0),
+        ValType::I64 => Value::I64(0),
+    }
+}
+
+/// Puts values on top.
+fn push_all(values: &mut Vec<Value>, more: &[Value])
+    requires { vec_len values.old + length more.now ≤ vec_capacity values.old }
+    ensures items { values.new.items ≡ values.old.items ++ more.now }
+    ensures capacity { vec_capacity values.new ≡ vec_capacity values.old }
+{
+    for value in more {
+        values.push_reserved(*value);
+    }
+}
+
+/// Puts a zero of each type on top.
+fn push_zeros(values: &mut Vec<Value>, val_types: &[ValType])
+    requires { vec_len values.old + length val_types.now ≤ vec_capacity values.old }
+    ensures items { values.new.items ≡ values.old.items ++ map zero_of val_types.now }
+    ensures capacity { vec_capacity values.new ≡ vec_capacity values.old }
+{
+    for val_type in val_types {
+        values.push_reserved(zero(*val_type));
+    }
+}
+
+/// The values of a function that starts: its arguments, and a zero for each other local. There is room for all values
+/// that may ever lie on the stack.
+pub(crate) fn opening_values(
+    alloc: Global,
+    args: &[Value],
+    locals: &[ValType],
+) -> Result<Vec<Value>, AllocError>
+    requires { length args.now + length locals.now ≤ 65536 }
+    ensures items { IfOk result (λ values. values.items ≡ args.now ++ map zero_of locals.now) }
+    ensures room { IfOk result (λ values. 65536 ≤ vec_capacity values) }
+{
+    let mut values = Vec::with_capacity(alloc, VALUES_MAX)?;
+    push_all(&mut values, args);
+    push_zeros(&mut values, locals);
+    Ok(values)
+}
+
+/// Replaces the first values.
+#[inline]
+pub(crate) fn overwrite(values: &mut Vec<Value>, args: &[Value])
+    requires { length args.now ≤ length values.old.items }
+    ensures items { values.new.items ≡ args.now ++ drop (length args.now) values.old.items }
+    ensures capacity { vec_capacity values.new ≡ vec_capacity values.old }
+{
+    write_at(values, 0, args);
+}
