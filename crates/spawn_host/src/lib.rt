@@ -1,0 +1,8 @@
+//! Runs the threads of a module as real threads, over one shared memory.
+#![tactic(auto)]
+
+mod report;
+mod rounds;
+mod worker;
+
+pub use report::{RunEnd, RunFault};
