@@ -1,1 +1,4 @@
 pub mod Levelling
+pub mod Growing
+pub mod Pairing
+pub mod Duties

@@ -1,2 +1,5 @@
 pub mod Level
 pub mod Works
+pub mod Pairs
+pub mod Crew
+pub mod Duties

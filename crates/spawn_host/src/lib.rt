@@ -1,6 +1,7 @@
 //! Runs the threads of a module as real threads, over one shared memory.
 #![tactic(auto)]
 
+mod crew;
 mod report;
 mod rounds;
 mod worker;
