@@ -2,3 +2,4 @@ pub mod Levelling
 pub mod Growing
 pub mod Pairing
 pub mod Duties
+pub mod Arguments

@@ -3,3 +3,4 @@ pub mod Works
 pub mod Pairs
 pub mod Crew
 pub mod Duties
+pub mod Composed

@@ -2,6 +2,7 @@
 #![tactic(auto)]
 
 mod crew;
+mod host;
 mod report;
 mod rounds;
 mod worker;
