@@ -3,3 +3,4 @@ pub mod Growing
 pub mod Pairing
 pub mod Duties
 pub mod Arguments
+pub mod OneList
