@@ -1,7 +1,8 @@
 -- From what each part of a run gives to one history.
-use Rattle.std.proofs.Common.{◌≡◌, ◌≢◌, ℕ, zero, suc, ◌+◌, ◌<◌, ◌≤◌, Bool, true, List, [], ◌∷◌, ◌++◌, length, Option, Some, None, refl, sym, ◌∙◌, ap, subst, arith, append-nil, append_assoc, length-append, get_or, slice_get, take, drop, below_more}
+use Rattle.std.proofs.Common.{◌≡◌, ◌≢◌, ℕ, zero, suc, ◌+◌, ◌<◌, ◌≤◌, Bool, true, List, [], ◌∷◌, ◌++◌, length, Option, Some, None, refl, sym, ◌∙◌, ap, subst, arith, ◌⊎◌, inl, inr, append-nil, append_assoc, length-append, get_or, slice_get, take, drop, below_more}
+use Rattle.std.proofs.lemmas.Bool.{cases_lt}
 use Rattle.std.proofs.lemmas.Grind.{common_steps}
-use Rattle.std.proofs.lemmas.List.{append_cancel_left}
+use Rattle.std.proofs.lemmas.List.{append_cancel_left, get_or_default}
 use mathlib.Core.List.{IsPrefix}
 use Rattle.types.specs.declared.value.ValType.{ValType}
 use Rattle.types.specs.declared.value.Value.{Value}
@@ -173,3 +174,183 @@ module _ (loses : Bool) (opening : Memory) (limit : Option ℕ) (n : ℕ) (histo
       → Placed (length (WaitQueue.args (queue_after history))) k report
   placed_of p begins fuel k None is h = none_past (WaitQueue.args (queue_after history)) k (subst (λ j. arg_of (queue_after history) j ≡ None) is h.0)
   placed_of p begins fuel k (Some report) is h = got_within (WaitQueue.args (queue_after history)) k h.0 (subst (λ j. arg_of (queue_after history) j ≡ Some h.0) is h.1)
+
+-- what the first thread's report says
+abbrev LeadsTo : {T : Type 0} → Bool → Memory → Option ℕ → (T → Program) → (T → ℕ) → (T → Running → Type 0) → T → List ThreadReport → List Entry → Type 0
+LeadsTo {T = T} loses opening limit program fuel stands first threads history =
+    (d : ThreadReport) (t : Running) → stands first t → IsHere t → IsReport loses opening limit 0 (program first) t (fuel first) (get_or threads 0 d) [] history
+
+first_case : {T : Type 0} (loses : Bool) (opening : Memory) (limit : Option ℕ) (program : T → Program) (fuel : T → ℕ) (stands : T → Running → Type 0) (first : T) (report : Option ThreadReport)
+    (others : List ThreadReport) (before last history : List Entry) → before ≡ [] → IsPrefix last history → entries_of 0 history ≡ entries_of 0 last
+    → WorksFirst loses opening limit 0 (program first) (fuel first) (stands first) report before last
+    → LeadsTo loses opening limit program fuel stands first (with_report report others) history × (length (with_report report others) ≡ suc (length others))
+    × ((k : ℕ) (d : ThreadReport) → get_or (with_report report others) (suc k) d ≡ get_or others k d)
+first_case loses opening limit program fuel stands first None others before last history new prefix owned works = absurd works
+first_case loses opening limit program fuel stands first (Some report) others before last history new prefix owned works = (
+  (λ d t stands_so here.
+      report_by loses opening limit 0 history (program first) t (fuel first) report [] last refl prefix owned
+      (subst (λ b. RunsOut (program first) loses opening limit 0 t report.outcome report.spent (fuel first) b last) new (works.ran t stands_so here))),
+  refl,
+  (λ k d. refl),
+)
+
+module _
+    {S T : Type 0} (loses : Bool) (opening : Memory) (limit : Option ℕ) (name : S → ℕ) (right : S → Bool) (seen : S → List Entry) (program : T → Program) (fuel : T → ℕ)
+    (stands : T → Running → Type 0) (begins : T → List ValType → (List Value → Config) → Type 0) (first : T) (spawned : List T)
+    (seats0 : List S) (seat desk : S) (work : List S) (hub : S) (ends : List (WorkerEnd S)) (threads : List ThreadReport) (all : List S)
+    (parts : seats0 ≡ (seat ∷ work) ++ desk ∷ []) (len : length work ≡ 15)
+    (names : (k : ℕ) (d : S) → k < 17 → name (get_or seats0 k d) ≡ k) (fresh : (k : ℕ) (d : S) → k < 17 → seen (get_or seats0 k d) ≡ [])
+    (crew : IsCrew loses opening limit name seen program fuel stands begins first seat spawned work ends)
+    (threads_are : threads ≡ reported ends) (hub' : S) (home home' : List S) (home_is : home ≡ seats_of ends)
+    (all_are : all ≡ home' ++ hub' ∷ []) (level : Level opening name right seen hub hub' home home')
+    (legal : IsQueueLegal (seen hub)) (hub_name : name hub ≡ 16) (hub_silent : entries_of 16 (seen hub) ≡ []) where
+  abbrev history : List Entry
+  history = seen hub'
+
+  len_others : length crew.others ≡ 15
+  len_others = three_lengths (EndsWork loses opening limit name seen program fuel begins) spawned work crew.others crew.worked ∙ len
+
+  home_parts : home ≡ WorkerEnd.seat crew.head ∷ seats_of crew.others
+  home_parts = home_is ∙ ap (λ (l : List (WorkerEnd S)). seats_of l) crew.parts
+
+  len_home : length home ≡ 16
+  len_home = ap length home_parts ∙ ap suc (seats_length crew.others ∙ len_others)
+
+  len' : length home' ≡ 16
+  len' = level.len ∙ len_home
+
+  seat_name : name seat ≡ 0
+  seat_name = ap (λ l. name (get_or l 0 desk)) (sym parts) ∙ names 0 desk (omega arith)
+
+  seat_fresh : seen seat ≡ []
+  seat_fresh = ap (λ l. seen (get_or l 0 desk)) (sym parts) ∙ fresh 0 desk (omega arith)
+
+  work_is : (k : ℕ) → k < 15 → get_or seats0 (suc k) desk ≡ get_or work k desk
+  work_is k lt = ap (λ l. get_or l (suc k) desk) parts ∙ get_or-left work desk k desk (omega (arith, len, lt))
+
+  work_name : (k : ℕ) → k < 15 → name (get_or work k desk) ≡ suc k
+  work_name k lt = ap name (sym (work_is k lt)) ∙ names (suc k) desk (omega (arith, lt))
+
+  work_fresh : (k : ℕ) → k < 15 → seen (get_or work k desk) ≡ []
+  work_fresh k lt = ap seen (sym (work_is k lt)) ∙ fresh (suc k) desk (omega (arith, lt))
+
+  worker : (k : ℕ) (e : T) → k < 15 → EndsWork loses opening limit name seen program fuel begins (get_or spawned k e) (get_or work k desk) (get_or crew.others k crew.head)
+  worker k e lt = three_at (EndsWork loses opening limit name seen program fuel begins) spawned work crew.others k e desk crew.head crew.worked (omega (arith, len, lt))
+
+  end_seat : (k : ℕ) → k < 15 → get_or home (suc k) desk ≡ WorkerEnd.seat (get_or crew.others k crew.head)
+  end_seat k lt = ap (λ l. get_or l (suc k) desk) home_parts ∙ seats_at crew.others k desk crew.head (omega (arith, len_others, lt))
+
+  home_name : (k : ℕ) → k < 16 → name (get_or home k desk) ≡ k
+  home_name zero lt = ap (λ l. name (get_or l 0 desk)) home_parts ∙ (crew.ended.name_is ∙ seat_name)
+  home_name (suc k) lt =
+      let below : k < 15 = omega (arith, lt) in
+      ap name (end_seat k below) ∙ ((worker k first below).name_is ∙ work_name k below)
+
+  owned : (k : ℕ) → k < 16 → entries_of k history ≡ entries_of k (seen (get_or home k desk))
+  owned k lt =
+      let inside : k < length home = omega (arith, len_home, lt) in
+      let goes = rw (home_name k lt) at (level.goes k desk inside).owned in
+      ap (entries_of k) (sym (level.one k desk inside)) ∙ goes
+
+  holds : (k : ℕ) → k < 16 → IsPrefix (seen (get_or home k desk)) history
+  holds k lt = level.holds k desk (omega (arith, len_home, lt))
+
+  queue : IsQueueLegal history
+  queue = same_queue_legal history (seen hub) level.hub_goes.queue legal
+
+  worker_case : (k : ℕ) (e : T) → k < 15
+      → CaseOf loses opening limit (suc k) history (program (get_or spawned k e)) (begins (get_or spawned k e)) (fuel (get_or spawned k e)) (WorkerEnd.report (get_or crew.others k crew.head))
+  worker_case k e lt =
+      let w = worker k e lt in
+      let up : suc k < 16 = omega (arith, lt) in
+      let works = rw (work_name k lt) at w.works in
+      case_of loses opening limit (suc k) history (program (get_or spawned k e)) (begins (get_or spawned k e)) (fuel (get_or spawned k e)) (WorkerEnd.report (get_or crew.others k crew.head))
+      (seen (get_or work k desk)) (seen (WorkerEnd.seat (get_or crew.others k crew.head))) (work_fresh k lt)
+      (subst (λ s. IsPrefix (seen s) history) (end_seat k lt) (holds (suc k) up)) (owned (suc k) up ∙ ap (λ s. entries_of (suc k) (seen s)) (end_seat k lt)) queue works
+
+  abbrev spawns : ℕ
+  spawns = length (WaitQueue.args (queue_after history))
+
+  few : spawns ≤ 15
+  few = (IsSound-after history queue).few
+
+  counted : Counts crew.others spawns
+  counted =
+      counts crew.others spawns crew.head
+      (λ k lt. let below : k < 15 = omega (arith, len_others, lt) in
+      placed_of loses opening limit (suc k) history (program (get_or spawned k first)) (begins (get_or spawned k first)) (fuel (get_or spawned k first)) k
+      (WorkerEnd.report (get_or crew.others k crew.head)) refl (worker_case k first below))
+      (omega (arith, few, len_others))
+
+  threads_list : threads ≡ with_report (WorkerEnd.report crew.head) (reported crew.others)
+  threads_list = threads_are ∙ ap (λ (l : List (WorkerEnd S)). reported l) crew.parts
+
+  head_case : LeadsTo loses opening limit program fuel stands first (with_report (WorkerEnd.report crew.head) (reported crew.others)) history
+      × (length (with_report (WorkerEnd.report crew.head) (reported crew.others)) ≡ suc (length (reported crew.others)))
+      × ((k : ℕ) (d : ThreadReport) → get_or (with_report (WorkerEnd.report crew.head) (reported crew.others)) (suc k) d ≡ get_or (reported crew.others) k d)
+  head_case =
+      let zeroth : 0 < 16 = omega arith in
+      let head_is : get_or home 0 desk ≡ WorkerEnd.seat crew.head = ap (λ l. get_or l 0 desk) home_parts in
+      let works = rw seat_name at crew.ended.works in
+      first_case loses opening limit program fuel stands first (WorkerEnd.report crew.head) (reported crew.others) (seen seat) (seen (WorkerEnd.seat crew.head)) history seat_fresh
+      (subst (λ s. IsPrefix (seen s) history) head_is (holds 0 zeroth)) (owned 0 zeroth ∙ ap (λ s. entries_of 0 (seen s)) head_is) works
+
+  silent_by : (k : ℕ) (o : Option ThreadReport) (e : T) → arg_of (queue_after history) (suc k) ≡ None
+      → CaseOf loses opening limit (suc k) history (program (get_or spawned k e)) (begins (get_or spawned k e)) (fuel (get_or spawned k e)) o → entries_of (suc k) history ≡ []
+  silent_by k None e none h = h.1
+  silent_by k (Some report) e none h = absurd (cc (none, h.1))
+
+  silent : (n : ℕ) → n ≤ 16 → n ≢ 0 → arg_of (queue_after history) n ≡ None → entries_of n history ≡ []
+  silent zero le some none = absurd (some refl)
+  silent (suc k) le some none = elim (below_or k le) [
+    | inl lt ↦ silent_by k (WorkerEnd.report (get_or crew.others k crew.head)) first none (worker_case k first lt)
+    | inr is ↦ (let owned16 = rw hub_name at level.hub_goes.owned in subst (λ j. entries_of (suc j) history ≡ []) (sym is) (owned16 ∙ hub_silent))
+  ]
+    where
+      below_or : (k : ℕ) → suc k ≤ 16 → (k < 15) ⊎ (k ≡ 15)
+      below_or k le = elim (cases_lt k 15) [ inl lt ↦ inl (omega (arith, lt)) | inr past ↦ inr (omega (arith, le, past)) ]
+
+  works_by : (k arg : ℕ) (e : T) (o : Option ThreadReport) (report : ThreadReport) → o ≡ Some report → arg_of (queue_after history) (suc k) ≡ Some arg
+      → CaseOf loses opening limit (suc k) history (program (get_or spawned k e)) (begins (get_or spawned k e)) (fuel (get_or spawned k e)) o
+      → IsSpawnReport loses opening limit (suc k) arg (program (get_or spawned k e)) (begins (get_or spawned k e)) (fuel (get_or spawned k e)) report history
+  works_by k arg e None report is has h = absurd (cc is)
+  works_by k arg e (Some r) report is has h =
+      let same : h.0 ≡ arg = cc (h.1, has) in
+      let same_report : r ≡ report = cc is in
+      subst (λ x. IsSpawnReport loses opening limit (suc k) arg (program (get_or spawned k e)) (begins (get_or spawned k e)) (fuel (get_or spawned k e)) x history) same_report
+      (subst (λ a. IsSpawnReport loses opening limit (suc k) a (program (get_or spawned k e)) (begins (get_or spawned k e)) (fuel (get_or spawned k e)) r history) same h.2)
+
+  works : (k arg : ℕ) (d : ThreadReport) (e : T) → arg_of (queue_after history) (suc k) ≡ Some arg
+      → IsSpawnReport loses opening limit (suc k) arg (program (get_or spawned k e)) (begins (get_or spawned k e)) (fuel (get_or spawned k e)) (get_or threads (suc k) d) history
+  works k arg d e has =
+      let placed : k < spawns = got_within (WaitQueue.args (queue_after history)) k arg has in
+      let below : k < 15 = omega (arith, placed, few) in
+      let at : get_or threads (suc k) d ≡ get_or (reported crew.others) k d = ap (λ l. get_or l (suc k) d) threads_list ∙ head_case.2 k d in
+      subst (λ x. IsSpawnReport loses opening limit (suc k) arg (program (get_or spawned k e)) (begins (get_or spawned k e)) (fuel (get_or spawned k e)) x history) (sym at)
+      (works_by k arg e (WorkerEnd.report (get_or crew.others k crew.head)) (get_or (reported crew.others) k d) (counted.each k d crew.head placed) has (worker_case k e below))
+
+  all_at : (k : ℕ) (d : S) → k < 16 → get_or all k d ≡ get_or home' k d
+  all_at k d lt = ap (λ l. get_or l k d) all_are ∙ get_or-left home' hub' k d (omega (arith, len', lt))
+
+  all_last : (d : S) → get_or all 16 d ≡ hub'
+  all_last d = ap (λ l. get_or l 16 d) all_are ∙ subst (λ (k : ℕ). get_or (home' ++ hub' ∷ []) k d ≡ hub') len' (get_or-last home' hub' d)
+
+  pub composed : IsComposed loses opening limit name seen program fuel stands begins first spawned threads all
+  composed = record {
+    history = history;
+    len = ap length all_are ∙ length-append home' (hub' ∷ []) ∙ ap (λ (k : ℕ). k + 1) len';
+    names = λ k d lt.
+        below_more (λ (j : ℕ). name (get_or all j d) ≡ j) 16
+        (λ j low. let inside : j < length home = omega (arith, len_home, low) in
+        rw (all_at j d low) ((level.goes j d inside).name_is ∙ (ap name (get_or_default home j d desk inside) ∙ home_name j low)))
+        (rw (all_last d) (level.hub_goes.name_is ∙ hub_name)) k lt;
+    seen_by = λ k d lt.
+        below_more (λ (j : ℕ). seen (get_or all j d) ≡ history) 16
+        (λ j low. rw (all_at j d low) (level.one j d (omega (arith, len_home, low)))) (rw (all_last d) refl) k lt;
+    legal = level.legal (omega (arith, len_home));
+    queue = queue;
+    silent = silent;
+    count = ap length threads_list ∙ (head_case.1 ∙ (let e = counted.count in omega (arith, e)));
+    leads = λ d t stands_so here. subst (λ l. IsReport loses opening limit 0 (program first) t (fuel first) (get_or l 0 d) [] history) (sym threads_list) (head_case.0 d t stands_so here);
+    works = works;
+  }

@@ -66,4 +66,4 @@ pub record IsComposed {S T : Type 0} (loses : Bool) (opening : Memory) (limit : 
   pub leads : (d : ThreadReport) (t : Running) → stands first t → IsHere t → IsReport loses opening limit 0 (program first) t (fuel first) (slice_index_or threads 0 d) [] history
   pub works : (k arg : ℕ) (d : ThreadReport) (e : T) → arg_of (queue_after history) (suc k) ≡ Some arg
       → IsSpawnReport loses opening limit (suc k) arg (program (slice_index_or spawned k e)) (begins (slice_index_or spawned k e)) (fuel (slice_index_or spawned k e))
-        (slice_index_or threads (suc k) d) history
+      (slice_index_or threads (suc k) d) history

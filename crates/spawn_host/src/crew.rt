@@ -103,7 +103,7 @@ fn join_all<T: TakesTurns, M: SharedMemory, R: Threads>(
 }
 
 /// Runs the first thread in the calling one, and a worker for each other.
-fn run_crew<'s, E, T, M, W, G, R>(
+pub(crate) fn run_crew<'s, E, T, M, W, G, R>(
     scope: &Scope<'s, E>,
     rt: &'s R,
     alloc: Global,

@@ -7,4 +7,5 @@ mod report;
 mod rounds;
 mod worker;
 
+pub use host::run_all;
 pub use report::{RunEnd, RunFault};
