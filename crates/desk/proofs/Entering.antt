@@ -4,23 +4,24 @@ use Rattle.std.specs.Prelude.{Result, Ok, Err, IfOk, OnErr}
 use Rattle.std.proofs.lemmas.List.{append_cancel_left}
 use mathlib.Core.List.{IsPrefix}
 use Rattle.types.specs.declared.event.Entry.{Entry}
+use Rattle.types.specs.declared.event.Event.TheVariants.{Ask}
 use Rattle.types.specs.declared.event.Question.{Question}
 use Rattle.types.specs.declared.event.Answer.{Answer}
 use Rattle.types.specs.declared.event.Question.TheVariants.{Wait, Notify, Spawn, Leave}
 use Rattle.types.specs.declared.event.Reply.{Reply}
-use Rattle.types.specs.declared.event.Reply.TheVariants.{Value, Done}
+use Rattle.types.specs.declared.event.Reply.TheVariants.{Value, Done, OutOfBounds}
 use Rattle.shared_memory.specs.Memory.{Memory}
 use Rattle.shared_memory.specs.WaitQueue.{WaitQueue, answer_due, after_answer, IsFree}
 use Rattle.shared_memory.specs.History.{entries_of, queue_after}
 use Rattle.shared_memory.specs.Legal.{IsQueueLegal}
-use Rattle.shared_memory.specs.Access.{Meets}
+use Rattle.shared_memory.specs.Access.{HasRoom, Meets}
 use Rattle.shared_memory.proofs.Histories.{entries_of-append, same_queue, same_queue_legal}
 use Rattle.shared_memory.proofs.Soundness.{IsSound, IsSound-after}
 use Rattle.shared_memory.proofs.Standing.{alive_prefix, free_prefix, open_prefix}
 use Rattle.desk.specs.declared.answers.Full.{Full}
 use Rattle.desk.specs.declared.answers.Asked.{Asked}
 use Rattle.desk.specs.declared.answers.Asked.TheVariants as asked
-use Rattle.desk.specs.Calls.{IsBeside, IsWaiting, Enters, Misses, Hears, Sleeps, Leaves, Collects, Refused, Puts, taken}
+use Rattle.desk.specs.Calls.{IsBeside, IsWaiting, Enters, FindsRoom, Misses, Hears, Sleeps, Leaves, Collects, Refused, Puts, asked_with, taken}
 use Rattle.desk.proofs.Prefixes.{prefix_same, prefix_both}
 use Rattle.desk.proofs.AtOnce.{free_heard}
 
@@ -83,24 +84,63 @@ pub met_silent : (opening : Memory) (n m : ℕ) (right right' : Bool) (mine desk
 met_silent opening n m right right' mine desks both met named silent =
     subst (λ (k : ℕ). entries_of k both ≡ entries_of k desks) named met.own_b ∙ silent
 
+-- room for a question, told from an earlier list
+pub room_from : (opening : Memory) (limit : Option ℕ) (n : ℕ) (question : Question) (reply : Reply) (mine both after : List Entry) → Enters opening n [] mine both
+    → FindsRoom limit n question reply both after → FindsRoom limit n question reply mine after
+room_from opening limit n question reply mine both after first found =
+    let same : both ++ found.others ≡ mine ++ (first.added ++ found.others) = ap (λ w. w ++ found.others) first.list ∙ append_assoc mine first.added found.others in record {
+      others = first.added ++ found.others;
+      rest = found.rest;
+      list = found.list ∙ ap (λ w. w ++ asked_with n question reply ∷ found.rest) same;
+      apart = entries_of-append n first.added found.others ∙ (ap (λ w. w ++ entries_of n found.others) first.of_caller ∙ found.apart);
+      room = subst (HasRoom limit (Ask question)) same found.room;
+    }
+
+-- and to a later one
+pub room_then : (opening : Memory) (limit : Option ℕ) (n : ℕ) (question : Question) (reply : Reply) (own before middle after : List Entry) → Enters opening n own middle after
+    → FindsRoom limit n question reply before middle → FindsRoom limit n question reply before after
+room_then opening limit n question reply own before middle after more found = record {
+  others = found.others;
+  rest = found.rest ++ more.added;
+  list = more.list ∙ (ap (λ w. w ++ more.added) found.list ∙ append_assoc (before ++ found.others) (asked_with n question reply ∷ found.rest) more.added);
+  apart = found.apart;
+  room = found.room;
+}
+
 -- what a call did, told from the list before the meeting
-module _ (opening : Memory) (n : ℕ) (mine both after : List Entry) (first : Enters opening n [] mine both) where
-  misses_from : (question : Question) → Misses opening n question both after → Misses opening n question mine after
-  misses_from question did = record { enters = enters_then opening n [] _ mine both after first did.enters; free = did.free }
+module _ (opening : Memory) (limit : Option ℕ) (n : ℕ) (mine both after : List Entry) (first : Enters opening n [] mine both) where
+  misses_from : (question : Question) → Misses opening limit n question both after → Misses opening limit n question mine after
+  misses_from question did = record {
+    enters = enters_then opening n [] _ mine both after first did.enters;
+    room = room_from opening limit n question OutOfBounds mine both after first did.room;
+    free = did.free;
+  }
 
-  hears_from : (question : Question) (reply : Reply) (number : ℕ) → Hears opening n question reply number both after → Hears opening n question reply number mine after
-  hears_from question reply number did = record { enters = enters_then opening n [] _ mine both after first did.enters; free = did.free }
+  hears_from : (question : Question) (reply : Reply) (number : ℕ) → Hears opening limit n question reply number both after → Hears opening limit n question reply number mine after
+  hears_from question reply number did = record {
+    enters = enters_then opening n [] _ mine both after first did.enters;
+    room = room_from opening limit n question reply mine both after first did.room;
+    free = did.free;
+  }
 
-  sleeps_from : (question : Question) (reply : Reply) → Sleeps opening n question reply both after → Sleeps opening n question reply mine after
-  sleeps_from question reply did = record { enters = enters_then opening n [] _ mine both after first did.enters; waiting = did.waiting }
+  sleeps_from : (question : Question) (reply : Reply) → Sleeps opening limit n question reply both after → Sleeps opening limit n question reply mine after
+  sleeps_from question reply did = record {
+    enters = enters_then opening n [] _ mine both after first did.enters;
+    room = room_from opening limit n question reply mine both after first did.room;
+    waiting = did.waiting;
+  }
 
-  leaves_from : Leaves opening n both after → Leaves opening n mine after
-  leaves_from did = record { enters = enters_then opening n [] _ mine both after first did.enters; gone = did.gone }
+  leaves_from : Leaves opening limit n both after → Leaves opening limit n mine after
+  leaves_from did = record {
+    enters = enters_then opening n [] _ mine both after first did.enters;
+    room = room_from opening limit n Leave Done mine both after first did.room;
+    gone = did.gone;
+  }
 
-  pub refused_from : (limit : Option ℕ) → Refused opening limit n both after → Refused opening limit n mine after
-  refused_from limit did = record { enters = enters_then opening n [] [] mine both after first did.enters; free = did.free; reached = did.reached }
+  pub refused_from : Refused opening limit n both after → Refused opening limit n mine after
+  refused_from did = record { enters = enters_then opening n [] [] mine both after first did.enters; free = did.free; reached = did.reached }
 
-  pub puts_from : (question : Question) (got : Asked) → Puts opening n question both after got → Puts opening n question mine after got
+  pub puts_from : (question : Question) (got : Asked) → Puts opening limit n question both after got → Puts opening limit n question mine after got
   puts_from (Wait addr width expected timeout) asked.OutOfBounds did = misses_from (Wait addr width expected timeout) did
   puts_from (Wait addr width expected timeout) (asked.Told number) did = (did.0, hears_from (Wait addr width expected timeout) (Value did.0) number did.1, did.2)
   puts_from (Wait addr width expected timeout) asked.Asleep did = (sleeps_from (Wait addr width expected timeout) (Value expected) did.0, did.1)
@@ -115,19 +155,19 @@ module _ (opening : Memory) (n : ℕ) (mine both after : List Entry) (first : En
   puts_from Leave asked.Asleep did = did
 
 -- the list after a call begins with the list before
-pub puts_prefix : (opening : Memory) (n : ℕ) (before after : List Entry) (question : Question) (got : Asked) → Puts opening n question before after got → IsPrefix before after
-puts_prefix opening n before after (Wait addr width expected timeout) asked.OutOfBounds did = enters_prefix opening n _ before after did.enters
-puts_prefix opening n before after (Wait addr width expected timeout) (asked.Told number) did = enters_prefix opening n _ before after did.1.enters
-puts_prefix opening n before after (Wait addr width expected timeout) asked.Asleep did = enters_prefix opening n _ before after did.0.enters
-puts_prefix opening n before after (Notify addr count) asked.OutOfBounds did = enters_prefix opening n _ before after did.enters
-puts_prefix opening n before after (Notify addr count) (asked.Told number) did = enters_prefix opening n _ before after did.enters
-puts_prefix opening n before after (Notify addr count) asked.Asleep did = absurd did
-puts_prefix opening n before after (Spawn arg) asked.OutOfBounds did = absurd did
-puts_prefix opening n before after (Spawn arg) (asked.Told number) did = enters_prefix opening n _ before after did.enters
-puts_prefix opening n before after (Spawn arg) asked.Asleep did = absurd did
-puts_prefix opening n before after Leave asked.OutOfBounds did = absurd did
-puts_prefix opening n before after Leave (asked.Told number) did = enters_prefix opening n _ before after did.enters
-puts_prefix opening n before after Leave asked.Asleep did = absurd did
+pub puts_prefix : (opening : Memory) (limit : Option ℕ) (n : ℕ) (before after : List Entry) (question : Question) (got : Asked) → Puts opening limit n question before after got → IsPrefix before after
+puts_prefix opening limit n before after (Wait addr width expected timeout) asked.OutOfBounds did = enters_prefix opening n _ before after did.enters
+puts_prefix opening limit n before after (Wait addr width expected timeout) (asked.Told number) did = enters_prefix opening n _ before after did.1.enters
+puts_prefix opening limit n before after (Wait addr width expected timeout) asked.Asleep did = enters_prefix opening n _ before after did.0.enters
+puts_prefix opening limit n before after (Notify addr count) asked.OutOfBounds did = enters_prefix opening n _ before after did.enters
+puts_prefix opening limit n before after (Notify addr count) (asked.Told number) did = enters_prefix opening n _ before after did.enters
+puts_prefix opening limit n before after (Notify addr count) asked.Asleep did = absurd did
+puts_prefix opening limit n before after (Spawn arg) asked.OutOfBounds did = absurd did
+puts_prefix opening limit n before after (Spawn arg) (asked.Told number) did = enters_prefix opening n _ before after did.enters
+puts_prefix opening limit n before after (Spawn arg) asked.Asleep did = absurd did
+puts_prefix opening limit n before after Leave asked.OutOfBounds did = absurd did
+puts_prefix opening limit n before after Leave (asked.Told number) did = enters_prefix opening n _ before after did.enters
+puts_prefix opening limit n before after Leave asked.Asleep did = absurd did
 
 -- a call between two meetings, of which the first gave the caller the queue right
 module _ (opening : Memory) (n m p : ℕ) (right right' right2 right3 : Bool) (mine desks both after all : List Entry) (q r : WaitQueue)
@@ -143,13 +183,13 @@ module _ (opening : Memory) (n m p : ℕ) (right right' right2 right3 : Bool) (m
   abbrev first : Enters opening n [] mine both
   first = met_enters opening n m right right' mine desks both q met has beside
 
-  module _ (question : Question) (got : Asked) (did : Puts opening n question both after got) where
+  module _ (limit : Option ℕ) (question : Question) (got : Asked) (did : Puts opening limit n question both after got) where
     pub put_beside : IsBeside r all
-    put_beside = call_beside (puts_prefix opening n both after question got did)
+    put_beside = call_beside (puts_prefix opening limit n both after question got did)
 
-    pub put_did : Puts opening n question mine all got
+    pub put_did : Puts opening limit n question mine all got
     put_did =
-        subst (λ (l : List Entry). Puts opening n question mine l got) (sym (all_is (puts_prefix opening n both after question got did))) (puts_from opening n mine both after first question got did)
+        subst (λ (l : List Entry). Puts opening limit n question mine l got) (sym (all_is (puts_prefix opening limit n both after question got did))) (puts_from opening limit n mine both after first question got did)
 
   module _ (limit : Option ℕ) (did : Refused opening limit n both after) where
     pub refused_beside : IsBeside r all
@@ -157,7 +197,7 @@ module _ (opening : Memory) (n m p : ℕ) (right right' right2 right3 : Bool) (m
 
     pub refused_did : Refused opening limit n mine all
     refused_did =
-        subst (λ (l : List Entry). Refused opening limit n mine l) (sym (all_is (enters_prefix opening n [] both after did.enters))) (refused_from opening n mine both after first limit did)
+        subst (λ (l : List Entry). Refused opening limit n mine l) (sym (all_is (enters_prefix opening n [] both after did.enters))) (refused_from opening limit n mine both after first did)
 
   module _ (answer : Answer) (waiting : IsWaiting (queue_after mine) n) (due : answer_due q n ≡ Some answer) (took : r ≡ after_answer q n)
       (did : Enters opening n (taken n answer ∷ []) both after) where
@@ -193,12 +233,12 @@ module _ (opening : Memory) (n m p : ℕ) (right right' right2 right3 : Bool) (m
 module _ (opening : Memory) (n m p : ℕ) (right right' right2 right3 : Bool) (mine desks both after all : List Entry) (q r : WaitQueue) (question : Question) (limit : Option ℕ)
     (met : Meets opening n m right right' mine desks both) (has : right' ≡ true) (beside : IsBeside q desks)
     (next : IsBeside r after) (last : Meets opening n p right2 right3 after both all) where
-  pub put_result_beside : (o : Result Asked Full) → IfOk o (λ got. Puts opening n question both after got) → OnErr o (Refused opening limit n both after) → IsBeside r all
-  put_result_beside (Ok got) did full = put_beside opening n m p right right' right2 right3 mine desks both after all q r met has beside next last question got did
+  pub put_result_beside : (o : Result Asked Full) → IfOk o (λ got. Puts opening limit n question both after got) → OnErr o (Refused opening limit n both after) → IsBeside r all
+  put_result_beside (Ok got) did full = put_beside opening n m p right right' right2 right3 mine desks both after all q r met has beside next last limit question got did
   put_result_beside (Err fault) did full = refused_beside opening n m p right right' right2 right3 mine desks both after all q r met has beside next last limit full
 
-  pub put_result_did : (o : Result Asked Full) → IfOk o (λ got. Puts opening n question both after got) → IfOk o (λ got. Puts opening n question mine all got)
-  put_result_did (Ok got) did = put_did opening n m p right right' right2 right3 mine desks both after all q r met has beside next last question got did
+  pub put_result_did : (o : Result Asked Full) → IfOk o (λ got. Puts opening limit n question both after got) → IfOk o (λ got. Puts opening limit n question mine all got)
+  put_result_did (Ok got) did = put_did opening n m p right right' right2 right3 mine desks both after all q r met has beside next last limit question got did
   put_result_did (Err fault) did = did
 
   pub put_result_full : (o : Result Asked Full) → OnErr o (Refused opening limit n both after) → OnErr o (Refused opening limit n mine all)

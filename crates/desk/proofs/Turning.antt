@@ -16,12 +16,12 @@ use Rattle.shared_memory.specs.Memory.{Memory, loaded, reply_of, reply_to_questi
 use Rattle.shared_memory.specs.WaitQueue.{WaitQueue, first_queue, answer_due, ends_at_once, after_answer, IsFree}
 use Rattle.shared_memory.specs.History.{entry, entries_of, of_queue, memory_after, queue_step, queue_after}
 use Rattle.shared_memory.specs.Legal.{IsMemoryLegal, IsAllowed, IsQueueLegal, MayEnter}
-use Rattle.shared_memory.specs.Access.{Gains, Answers, Accesses, IsFull}
+use Rattle.shared_memory.specs.Access.{HasRoom, Gains, Answers, Accesses, IsFull}
 use Rattle.shared_memory.proofs.Histories.{entries_of-append, entries_of-own, of_queue-quiet, same_queue, same_queue_legal, queue_after-entry, IsQueueLegal-entry, IsMemoryLegal-rest}
 use Rattle.shared_memory.proofs.Soundness.{IsSound}
 use Rattle.desk.specs.declared.answers.Asked.TheVariants as asked
-use Rattle.desk.specs.Calls.{IsBeside, IsWaiting, IsGone, Enters, Hears, Asks, Refused, Puts, CanMiss, falls_asleep, reply_with, step_of, asked_with, taken}
-use Rattle.desk.proofs.Entering.{enters_then}
+use Rattle.desk.specs.Calls.{IsBeside, IsWaiting, IsGone, Enters, FindsRoom, Hears, Asks, Refused, Puts, CanMiss, falls_asleep, reply_with, step_of, asked_with, taken}
+use Rattle.desk.proofs.Entering.{enters_then, room_then}
 use Rattle.desk.proofs.AtOnce.{HasNumber, TellsNumber, StaysAt, number_due, sound_step, alive_step, left_step, free_heard, gone_heard, waiting_step}
 
 -- beside a list
@@ -87,6 +87,17 @@ outside_reply m (Notify addr count) is = tt
 outside_reply m (Spawn arg) is = absurd (cc is)
 outside_reply m Leave is = absurd (cc is)
 
+-- a question that is entered found room
+pub answers_room : (opening : Memory) (limit : Option ℕ) (n : ℕ) (right : Bool) (question : Question) (reply : Reply) (before after : List Entry)
+    → Answers opening limit n right (Ask question) reply before after → FindsRoom limit n question reply before after
+answers_room opening limit n right question reply before after a = record {
+  others = a.others;
+  rest = [];
+  list = a.list ∙ ap (λ w. w ++ asked_with n question reply ∷ []) a.gains.list;
+  apart = a.gains.apart;
+  room = subst (HasRoom limit (Ask question)) a.gains.list a.room;
+}
+
 -- a question that is asked
 module _ (opening : Memory) (limit : Option ℕ) (q : WaitQueue) (n : ℕ) (right : Bool) (question : Question) (before after : List Entry) (has : right ≡ true)
     (beside : IsBeside q before) (free : IsFree q n) where
@@ -100,19 +111,21 @@ module _ (opening : Memory) (limit : Option ℕ) (q : WaitQueue) (n : ℕ) (righ
     asks_beside =
         subst (λ (r : Reply). IsBeside (queue_step q n (Ask question) r) after) (sym reply_is) (answers_beside opening limit q n right (Ask question) reply before after refl has beside free a)
 
-    pub asks_with : Asks opening n question (Some v) before after
+    pub asks_with : Asks opening limit n question (Some v) before after
     asks_with = record {
       enters = subst (λ (r : Reply). Enters opening n (asked_with n question r ∷ []) before after) (sym reply_is)
           (answers_enters opening limit q n right (Ask question) reply before after refl has beside free a);
+      room = subst (λ (r : Reply). FindsRoom limit n question r before after) (sym reply_is) (answers_room opening limit n right question reply before after a);
       can = tt;
     }
 
     pub asks_step : step_of question (Some v) n q ≡ queue_step q n (Ask question) reply
     asks_step = ap (λ (r : Reply). queue_step q n (Ask question) r) reply_is
 
-  pub asks_outside : Answers opening limit n right (Ask question) OutOfBounds before after → Asks opening n question None before after
+  pub asks_outside : Answers opening limit n right (Ask question) OutOfBounds before after → Asks opening limit n question None before after
   asks_outside a = record {
     enters = answers_enters opening limit q n right (Ask question) OutOfBounds before after refl has beside free a;
+    room = answers_room opening limit n right question OutOfBounds before after a;
     can = outside_reply (memory_after opening a.so_far) question (answers_reply opening limit q n right (Ask question) OutOfBounds before after refl has beside free a);
   }
 
@@ -147,30 +160,33 @@ module _ (loses : Bool) (opening : Memory) (limit : Option ℕ) (q : WaitQueue) 
       answers_enters opening limit q n right (Told answer) Done before after refl has beside due (told_done loses opening limit q n right answer reply before after has beside due a)
 
 -- a question out of bounds
-pub puts_outside : (opening : Memory) (q : WaitQueue) (n : ℕ) (question : Question) (before after : List Entry) → IsFree q n → IsBeside q after → Asks opening n question None before after
-    → Puts opening n question before after asked.OutOfBounds
-puts_outside opening q n (Wait addr width expected timeout) before after free beside a = record { enters = a.enters; free = subst (λ (w : WaitQueue). IsFree w n) beside.tied free }
-puts_outside opening q n (Notify addr count) before after free beside a = record { enters = a.enters; free = subst (λ (w : WaitQueue). IsFree w n) beside.tied free }
-puts_outside opening q n (Spawn arg) before after free beside a = a.can
-puts_outside opening q n Leave before after free beside a = a.can
+pub puts_outside : (opening : Memory) (limit : Option ℕ) (q : WaitQueue) (n : ℕ) (question : Question) (before after : List Entry) → IsFree q n → IsBeside q after → Asks opening limit n question None before after
+    → Puts opening limit n question before after asked.OutOfBounds
+puts_outside opening limit q n (Wait addr width expected timeout) before after free beside a =
+    record { enters = a.enters; room = a.room; free = subst (λ (w : WaitQueue). IsFree w n) beside.tied free }
+puts_outside opening limit q n (Notify addr count) before after free beside a =
+    record { enters = a.enters; room = a.room; free = subst (λ (w : WaitQueue). IsFree w n) beside.tied free }
+puts_outside opening limit q n (Spawn arg) before after free beside a = a.can
+puts_outside opening limit q n Leave before after free beside a = a.can
 
 -- a question that sleeps
-pub puts_asleep : (opening : Memory) (q r : WaitQueue) (n : ℕ) (question : Question) (v : ℕ) (before after : List Entry) → IsFree q n → IsSound q → r ≡ step_of question (Some v) n q
-    → IsBeside r after → Asks opening n question (Some v) before after → falls_asleep question v ≡ true → Puts opening n question before after asked.Asleep
-puts_asleep opening q r n (Wait addr width expected timeout) v before after free sound step beside a asleep =
+pub puts_asleep : (opening : Memory) (limit : Option ℕ) (q r : WaitQueue) (n : ℕ) (question : Question) (v : ℕ) (before after : List Entry) → IsFree q n → IsSound q → r ≡ step_of question (Some v) n q
+    → IsBeside r after → Asks opening limit n question (Some v) before after → falls_asleep question v ≡ true → Puts opening limit n question before after asked.Asleep
+puts_asleep opening limit q r n (Wait addr width expected timeout) v before after free sound step beside a asleep =
     let parts : ((v == expected) ≡ true) × (not (ends_at_once timeout) ≡ true) = and_parts (v == expected) (not (ends_at_once timeout)) asleep in (
       record {
         enters = subst (λ (k : ℕ). Enters opening n (asked_with n (Wait addr width expected timeout) (Value k) ∷ []) before after) (eqb-true v expected parts.0) a.enters;
+        room = subst (λ (k : ℕ). FindsRoom limit n (Wait addr width expected timeout) (Value k) before after) (eqb-true v expected parts.0) a.room;
         waiting = subst (λ (w : WaitQueue). IsWaiting w n) (sym step ∙ beside.tied) (waiting_step q n addr width expected timeout v free sound);
       },
       not-true (ends_at_once timeout) parts.1,
     )
-puts_asleep opening q r n (Notify addr count) v before after free sound step beside a asleep = absurd (cc asleep)
-puts_asleep opening q r n (Spawn arg) v before after free sound step beside a asleep = absurd (cc asleep)
-puts_asleep opening q r n Leave v before after free sound step beside a asleep = absurd (cc asleep)
+puts_asleep opening limit q r n (Notify addr count) v before after free sound step beside a asleep = absurd (cc asleep)
+puts_asleep opening limit q r n (Spawn arg) v before after free sound step beside a asleep = absurd (cc asleep)
+puts_asleep opening limit q r n Leave v before after free sound step beside a asleep = absurd (cc asleep)
 
 -- a question that is answered at once
-module _ (opening : Memory) (q q1 q2 : WaitQueue) (n : ℕ) (v : ℕ) (before middle after : List Entry) (answer : Answer) (free : IsFree q n) (sound : IsSound q)
+module _ (opening : Memory) (limit : Option ℕ) (q q1 q2 : WaitQueue) (n : ℕ) (v : ℕ) (before middle after : List Entry) (answer : Answer) (free : IsFree q n) (sound : IsSound q)
     (beside : IsBeside q2 after) (heard : Enters opening n (taken n answer ∷ []) middle after) (due : answer_due q1 n ≡ Some answer) (took : q2 ≡ after_answer q1 n) where
   -- the number that is due is the answer taken
   answer_is : (question : Question) → q1 ≡ step_of question (Some v) n q → (awake : falls_asleep question v ≡ false) → Number (TellsNumber.number (number_due q n free sound question v awake)) ≡ answer
@@ -186,16 +202,17 @@ module _ (opening : Memory) (q q1 q2 : WaitQueue) (n : ℕ) (v : ℕ) (before mi
       subst (λ (w : WaitQueue). IsFree w n) (ap (λ (w : WaitQueue). after_answer w n) (sym step) ∙ (sym took ∙ beside.tied))
       (free_heard (step_of question (Some v) n q) n answer (due_step question step) (sound_step q n free sound question v) (alive_step q n question v stays free.alive))
 
-  hears : (question : Question) (number : ℕ) → Asks opening n question (Some v) before middle → q1 ≡ step_of question (Some v) n q → StaysAt question → answer ≡ Number number
-      → Hears opening n question (reply_with question (Some v)) number before after
+  hears : (question : Question) (number : ℕ) → Asks opening limit n question (Some v) before middle → q1 ≡ step_of question (Some v) n q → StaysAt question → answer ≡ Number number
+      → Hears opening limit n question (reply_with question (Some v)) number before after
   hears question number a step stays is = record {
     enters = subst (λ (k : Answer). Enters opening n (asked_with n question (reply_with question (Some v)) ∷ taken n k ∷ []) before after) is
         (enters_then opening n (asked_with n question (reply_with question (Some v)) ∷ []) (taken n answer ∷ []) before middle after a.enters heard);
+    room = room_then opening limit n question (reply_with question (Some v)) (taken n answer ∷ []) before middle after heard a.room;
     free = free_step question step stays;
   }
 
-  pub puts_told : (question : Question) (number : ℕ) → Asks opening n question (Some v) before middle → q1 ≡ step_of question (Some v) n q → falls_asleep question v ≡ false
-      → answer ≡ Number number → Puts opening n question before after (asked.Told number)
+  pub puts_told : (question : Question) (number : ℕ) → Asks opening limit n question (Some v) before middle → q1 ≡ step_of question (Some v) n q → falls_asleep question v ≡ false
+      → answer ≡ Number number → Puts opening limit n question before after (asked.Told number)
   puts_told (Wait addr width expected timeout) number a step awake is =
       let told = number_due q n free sound (Wait addr width expected timeout) v awake in
       let both : Number told.number ≡ Number number = answer_is (Wait addr width expected timeout) step awake ∙ is in
@@ -208,6 +225,7 @@ module _ (opening : Memory) (q q1 q2 : WaitQueue) (n : ℕ) (v : ℕ) (before mi
       let zero_is : Number 0 ≡ answer = ap Number (sym told.fits) ∙ answer_is Leave step awake in record {
         enters = subst (λ (k : Answer). Enters opening n (asked_with n Leave Done ∷ taken n k ∷ []) before after) (sym zero_is)
             (enters_then opening n (asked_with n Leave Done ∷ []) (taken n answer ∷ []) before middle after a.enters heard);
+        room = room_then opening limit n Leave Done (taken n answer ∷ []) before middle after heard a.room;
         gone = subst (λ (w : WaitQueue). IsGone w n) (ap (λ (w : WaitQueue). after_answer w n) (sym step) ∙ (sym took ∙ beside.tied))
             (gone_heard (step_of Leave (Some v) n q) n answer (due_step Leave step) (sound_step q n free sound Leave v) (left_step q n v));
       }

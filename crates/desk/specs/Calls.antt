@@ -13,7 +13,7 @@ use Rattle.shared_memory.specs.Memory.{Memory}
 use Rattle.shared_memory.specs.WaitQueue.{WaitQueue, is_alive, has_open_question, ends_at_once, IsFree}
 use Rattle.shared_memory.specs.History.{entry, entries_of, queue_step, queue_after}
 use Rattle.shared_memory.specs.Legal.{IsQueueLegal}
-use Rattle.shared_memory.specs.Access.{IsSeen, HasReached}
+use Rattle.shared_memory.specs.Access.{IsSeen, HasRoom, HasReached}
 use Rattle.waiters.specs.Queue.{arg_of}
 use Rattle.desk.specs.declared.answers.Asked.{Asked}
 use Rattle.desk.specs.declared.answers.Asked.TheVariants as asked
@@ -51,19 +51,30 @@ pub record Enters (opening : Memory) (n : ℕ) (own before after : List Entry) :
   pub seen : IsSeen opening after
   pub legal : IsQueueLegal after
 
+-- The log had room for a question: before it there stood what the caller had seen, and entries of others.
+pub record FindsRoom (limit : Option ℕ) (n : ℕ) (question : Question) (reply : Reply) (before after : List Entry) : Type 0 where
+  pub others : List Entry
+  pub rest : List Entry
+  pub list : after ≡ (before ++ others) ++ asked_with n question reply ∷ rest
+  pub apart : entries_of n others ≡ []
+  pub room : HasRoom limit (Ask question) (before ++ others)
+
 -- A question out of bounds: it has its answer in its reply, and the thread goes on.
-pub record Misses (opening : Memory) (n : ℕ) (question : Question) (before after : List Entry) : Type 0 where
+pub record Misses (opening : Memory) (limit : Option ℕ) (n : ℕ) (question : Question) (before after : List Entry) : Type 0 where
   pub enters : Enters opening n (asked_with n question OutOfBounds ∷ []) before after
+  pub room : FindsRoom limit n question OutOfBounds before after
   pub free : IsFree (queue_after after) n
 
 -- A question and its answer, in one call.
-pub record Hears (opening : Memory) (n : ℕ) (question : Question) (reply : Reply) (number : ℕ) (before after : List Entry) : Type 0 where
+pub record Hears (opening : Memory) (limit : Option ℕ) (n : ℕ) (question : Question) (reply : Reply) (number : ℕ) (before after : List Entry) : Type 0 where
   pub enters : Enters opening n (asked_with n question reply ∷ taken n (Number number) ∷ []) before after
+  pub room : FindsRoom limit n question reply before after
   pub free : IsFree (queue_after after) n
 
 -- A question that stays open.
-pub record Sleeps (opening : Memory) (n : ℕ) (question : Question) (reply : Reply) (before after : List Entry) : Type 0 where
+pub record Sleeps (opening : Memory) (limit : Option ℕ) (n : ℕ) (question : Question) (reply : Reply) (before after : List Entry) : Type 0 where
   pub enters : Enters opening n (asked_with n question reply ∷ []) before after
+  pub room : FindsRoom limit n question reply before after
   pub waiting : IsWaiting (queue_after after) n
 
 -- The number with which a wait is answered at once: 1 where another value was there, 2 where the timeout is 0.
@@ -72,25 +83,26 @@ IsAtOnce expected timeout loaded number =
     ((loaded ≢ expected) × (number ≡ 1)) ⊎ ((loaded ≡ expected) × (ends_at_once timeout ≡ true) × (number ≡ 2))
 
 -- What a wait does, by what it got. It sleeps exactly where the value is there and the timeout isn't 0.
-abbrev pub Waits : Memory → ℕ → ℕ → ℕ → ℕ → ℤ → List Entry → List Entry → Asked → Type 0
-Waits opening n addr width expected timeout before after asked.OutOfBounds = Misses opening n (Wait addr width expected timeout) before after
-Waits opening n addr width expected timeout before after (asked.Told number) =
-    (loaded : ℕ) × Hears opening n (Wait addr width expected timeout) (Value loaded) number before after × IsAtOnce expected timeout loaded number
-Waits opening n addr width expected timeout before after asked.Asleep =
-    Sleeps opening n (Wait addr width expected timeout) (Value expected) before after × (ends_at_once timeout ≡ false)
+abbrev pub Waits : Memory → Option ℕ → ℕ → ℕ → ℕ → ℕ → ℤ → List Entry → List Entry → Asked → Type 0
+Waits opening limit n addr width expected timeout before after asked.OutOfBounds = Misses opening limit n (Wait addr width expected timeout) before after
+Waits opening limit n addr width expected timeout before after (asked.Told number) =
+    (loaded : ℕ) × Hears opening limit n (Wait addr width expected timeout) (Value loaded) number before after × IsAtOnce expected timeout loaded number
+Waits opening limit n addr width expected timeout before after asked.Asleep =
+    Sleeps opening limit n (Wait addr width expected timeout) (Value expected) before after × (ends_at_once timeout ≡ false)
 
 -- What a notify does, by what it got.
-abbrev pub Notifies : Memory → ℕ → ℕ → ℕ → List Entry → List Entry → Notified → Type 0
-Notifies opening n addr count before after notified.OutOfBounds = Misses opening n (Notify addr count) before after
-Notifies opening n addr count before after (notified.Woke number) = Hears opening n (Notify addr count) Done number before after
+abbrev pub Notifies : Memory → Option ℕ → ℕ → ℕ → ℕ → List Entry → List Entry → Notified → Type 0
+Notifies opening limit n addr count before after notified.OutOfBounds = Misses opening limit n (Notify addr count) before after
+Notifies opening limit n addr count before after (notified.Woke number) = Hears opening limit n (Notify addr count) Done number before after
 
 -- What a spawn does: its number is the id of the new thread, or 4294967295 where none is left.
-abbrev pub Spawns : Memory → ℕ → ℕ → List Entry → List Entry → ℕ → Type 0
-Spawns opening n arg before after number = Hears opening n (Spawn arg) Done number before after
+abbrev pub Spawns : Memory → Option ℕ → ℕ → ℕ → List Entry → List Entry → ℕ → Type 0
+Spawns opening limit n arg before after number = Hears opening limit n (Spawn arg) Done number before after
 
 -- What an end does.
-pub record Leaves (opening : Memory) (n : ℕ) (before after : List Entry) : Type 0 where
+pub record Leaves (opening : Memory) (limit : Option ℕ) (n : ℕ) (before after : List Entry) : Type 0 where
   pub enters : Enters opening n (asked_with n Leave Done ∷ taken n (Number 0) ∷ []) before after
+  pub room : FindsRoom limit n Leave Done before after
   pub gone : IsGone (queue_after after) n
 
 -- The answer of an open question was taken, and the thread goes on.
@@ -141,8 +153,9 @@ abbrev pub IsAskedWith : Question → Option ℕ → Type 0
 IsAskedWith question (Some loaded) = Unit {0}
 IsAskedWith question None = CanMiss question
 
-pub record Asks (opening : Memory) (n : ℕ) (question : Question) (loaded : Option ℕ) (before after : List Entry) : Type 0 where
+pub record Asks (opening : Memory) (limit : Option ℕ) (n : ℕ) (question : Question) (loaded : Option ℕ) (before after : List Entry) : Type 0 where
   pub enters : Enters opening n (asked_with n question (reply_with question loaded) ∷ []) before after
+  pub room : FindsRoom limit n question (reply_with question loaded) before after
   pub can : IsAskedWith question loaded
 
 -- A question that sleeps: a wait, where the value is there and the timeout isn't 0.
@@ -153,17 +166,17 @@ falls_asleep (Spawn arg) loaded = false
 falls_asleep Leave loaded = false
 
 -- What a question does, by what it got.
-abbrev pub Puts : Memory → ℕ → Question → List Entry → List Entry → Asked → Type 0
-Puts opening n (Wait addr width expected timeout) before after got = Waits opening n addr width expected timeout before after got
-Puts opening n (Notify addr count) before after asked.OutOfBounds = Misses opening n (Notify addr count) before after
-Puts opening n (Notify addr count) before after (asked.Told number) = Hears opening n (Notify addr count) Done number before after
-Puts opening n (Notify addr count) before after asked.Asleep = ⊥
-Puts opening n (Spawn arg) before after asked.OutOfBounds = ⊥
-Puts opening n (Spawn arg) before after (asked.Told number) = Spawns opening n arg before after number
-Puts opening n (Spawn arg) before after asked.Asleep = ⊥
-Puts opening n Leave before after asked.OutOfBounds = ⊥
-Puts opening n Leave before after (asked.Told number) = Leaves opening n before after
-Puts opening n Leave before after asked.Asleep = ⊥
+abbrev pub Puts : Memory → Option ℕ → ℕ → Question → List Entry → List Entry → Asked → Type 0
+Puts opening limit n (Wait addr width expected timeout) before after got = Waits opening limit n addr width expected timeout before after got
+Puts opening limit n (Notify addr count) before after asked.OutOfBounds = Misses opening limit n (Notify addr count) before after
+Puts opening limit n (Notify addr count) before after (asked.Told number) = Hears opening limit n (Notify addr count) Done number before after
+Puts opening limit n (Notify addr count) before after asked.Asleep = ⊥
+Puts opening limit n (Spawn arg) before after asked.OutOfBounds = ⊥
+Puts opening limit n (Spawn arg) before after (asked.Told number) = Spawns opening limit n arg before after number
+Puts opening limit n (Spawn arg) before after asked.Asleep = ⊥
+Puts opening limit n Leave before after asked.OutOfBounds = ⊥
+Puts opening limit n Leave before after (asked.Told number) = Leaves opening limit n before after
+Puts opening limit n Leave before after asked.Asleep = ⊥
 
 -- A thread was spawned, or nobody is alive who could spawn it.
 abbrev pub MayBegin : WaitQueue → ℕ → Type 0

@@ -85,7 +85,7 @@ impl<M: SharedMemory, W: Wait + Drop> Desk<M, W> {
         requires free { IsFree (queue_after (M.seen seat.old)) (M.name seat.old) }
         ensures name { M.name seat.new ≡ M.name seat.old }
         ensures right { M.has_queue_right seat.new ≡ M.has_queue_right seat.old }
-        ensures asked { IfOk result (λ asked. Waits M.opening (M.name seat.old) addr width expected timeout (M.seen seat.old) (M.seen seat.new) asked) }
+        ensures asked { IfOk result (λ asked. Waits M.opening (M.limit memory.now) (M.name seat.old) addr width expected timeout (M.seen seat.old) (M.seen seat.new) asked) }
         ensures full { OnErr result (Refused M.opening (M.limit memory.now) (M.name seat.old) (M.seen seat.old) (M.seen seat.new)) }
         ensures reads { WaitsReadWhatNotifiersSaw M.opening (M.seen seat.new) }
     {
@@ -133,7 +133,7 @@ impl<M: SharedMemory, W: Wait + Drop> Desk<M, W> {
         requires free { IsFree (queue_after (M.seen seat.old)) (M.name seat.old) }
         ensures name { M.name seat.new ≡ M.name seat.old }
         ensures right { M.has_queue_right seat.new ≡ M.has_queue_right seat.old }
-        ensures notified { IfOk result (λ notified. Notifies M.opening (M.name seat.old) addr count (M.seen seat.old) (M.seen seat.new) notified) }
+        ensures notified { IfOk result (λ notified. Notifies M.opening (M.limit memory.now) (M.name seat.old) addr count (M.seen seat.old) (M.seen seat.new) notified) }
         ensures full { OnErr result (Refused M.opening (M.limit memory.now) (M.name seat.old) (M.seen seat.old) (M.seen seat.new)) }
         ensures reads { WaitsReadWhatNotifiersSaw M.opening (M.seen seat.new) }
     {
@@ -152,7 +152,7 @@ impl<M: SharedMemory, W: Wait + Drop> Desk<M, W> {
         requires free { IsFree (queue_after (M.seen seat.old)) (M.name seat.old) }
         ensures name { M.name seat.new ≡ M.name seat.old }
         ensures right { M.has_queue_right seat.new ≡ M.has_queue_right seat.old }
-        ensures spawned { IfOk result (λ id. Spawns M.opening (M.name seat.old) arg (M.seen seat.old) (M.seen seat.new) id) }
+        ensures spawned { IfOk result (λ id. Spawns M.opening (M.limit memory.now) (M.name seat.old) arg (M.seen seat.old) (M.seen seat.new) id) }
         ensures full { OnErr result (Refused M.opening (M.limit memory.now) (M.name seat.old) (M.seen seat.old) (M.seen seat.new)) }
     {
         let question = Question::Spawn { arg };
@@ -186,7 +186,7 @@ impl<M: SharedMemory, W: Wait + Drop> Desk<M, W> {
         requires free { IsFree (queue_after (M.seen seat.old)) (M.name seat.old) }
         ensures name { M.name seat.new ≡ M.name seat.old }
         ensures right { M.has_queue_right seat.new ≡ M.has_queue_right seat.old }
-        ensures left { Leaves M.opening (M.name seat.old) (M.seen seat.old) (M.seen seat.new) }
+        ensures left { Leaves M.opening (M.limit memory.now) (M.name seat.old) (M.seen seat.old) (M.seen seat.new) }
     {
         let asked = self.state.lock(&self.rt).put(memory, seat, Question::Leave);
         self.changed.notify_all();

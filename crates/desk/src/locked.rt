@@ -81,7 +81,7 @@ impl<M: SharedMemory> Locked<M> {
         requires free { IsFree (queue_after (M.seen seat.old)) (M.name seat.old) }
         ensures name { M.name seat.new ≡ M.name seat.old }
         ensures right { M.has_queue_right seat.new ≡ M.has_queue_right seat.old }
-        ensures asked { IfOk result (λ asked. Puts M.opening (M.name seat.old) question (M.seen seat.old) (M.seen seat.new) asked) }
+        ensures asked { IfOk result (λ asked. Puts M.opening (M.limit memory.now) (M.name seat.old) question (M.seen seat.old) (M.seen seat.new) asked) }
         ensures full { OnErr result (Refused M.opening (M.limit memory.now) (M.name seat.old) (M.seen seat.old) (M.seen seat.new)) }
         ensures unchanged { OnErr result (self.new.queue ≡ self.old.queue) }
         ensures exempt { OnErr result (is_exempt (Ask question) ≡ false) }

@@ -27,7 +27,7 @@ fn ask<M: SharedMemory>(
     ensures right { M.has_queue_right seat.new ≡ true }
     ensures beside { IsBeside queue.new (M.seen seat.new) }
     ensures step { IfOk result (λ loaded. queue.new ≡ step_of question loaded (M.name seat.old) queue.old) }
-    ensures asked { IfOk result (λ loaded. Asks M.opening (M.name seat.old) question loaded (M.seen seat.old) (M.seen seat.new)) }
+    ensures asked { IfOk result (λ loaded. Asks M.opening (M.limit memory.now) (M.name seat.old) question loaded (M.seen seat.old) (M.seen seat.new)) }
     ensures full { OnErr result (Refused M.opening (M.limit memory.now) (M.name seat.old) (M.seen seat.old) (M.seen seat.new)) }
     ensures unchanged { OnErr result (queue.new ≡ queue.old) }
     ensures exempt { OnErr result (is_exempt (Ask question) ≡ false) }
@@ -99,7 +99,7 @@ pub(crate) fn put<M: SharedMemory>(
     ensures name { M.name seat.new ≡ M.name seat.old }
     ensures right { M.has_queue_right seat.new ≡ true }
     ensures beside { IsBeside queue.new (M.seen seat.new) }
-    ensures asked { IfOk result (λ asked. Puts M.opening (M.name seat.old) question (M.seen seat.old) (M.seen seat.new) asked) }
+    ensures asked { IfOk result (λ asked. Puts M.opening (M.limit memory.now) (M.name seat.old) question (M.seen seat.old) (M.seen seat.new) asked) }
     ensures full { OnErr result (Refused M.opening (M.limit memory.now) (M.name seat.old) (M.seen seat.old) (M.seen seat.new)) }
     ensures unchanged { OnErr result (queue.new ≡ queue.old) }
     ensures exempt { OnErr result (is_exempt (Ask question) ≡ false) }

@@ -29,10 +29,11 @@ without_dues q = record q { due = replicate 16 None }
 abbrev pub queue_by : Shared → ℕ → Event → WaitQueue
 queue_by x n e = queue_step x.queue n e (reply_of x.memory e)
 
--- A question is open, unless its reply was out of bounds.
+-- A question with its value, or done, is open. One out of bounds has its answer in its reply; a lost try and a full log
+-- enter nothing.
 abbrev pub is_question : Event → Reply → Bool
-is_question (events.Ask question) replies.OutOfBounds = false
-is_question (events.Ask question) reply = true
+is_question (events.Ask question) (replies.Value v) = true
+is_question (events.Ask question) replies.Done = true
 is_question _ reply = false
 
 module _ {C : Type 0} (k : Machine C Event Reply Answer Outcome) (start : ℕ → ℕ → C) (fuel : ℕ) where

@@ -7,7 +7,7 @@ pub returns-then-falls_asleep-clause-asked : goal.returns-then-falls_asleep-clau
 returns-then-falls_asleep-clause-asked g c =
     let step = rw c.in-Some.is at (c.in_ok-loaded.ensures.step) in
     let asked = rw c.in-Some.is at (c.in_ok-loaded.ensures.asked) in
-    puts_asleep _ c.args.queue.now c.ask.new.queue _ c.args.question c.in-Some.loaded _ _ c.requires.free (sound_beside _ _ c.requires.beside) step
+    puts_asleep _ _ c.args.queue.now c.ask.new.queue _ c.args.question c.in-Some.loaded _ _ c.requires.free (sound_beside _ _ c.requires.beside) step
     (c.in_ok-loaded.ensures.beside) asked (sym c.falls_asleep.ensures ∙ c.if-falls_asleep.true)
 
 pub hear-requires-clause-due : goal.hear-requires-clause-due
@@ -31,5 +31,5 @@ returns-clause-asked g c =
     let due = rw (c.in_ok-loaded.ensures.name) at (c.in-Number.ensures.due) in
     let took = rw (c.in_ok-loaded.ensures.name) at (c.in-Number.ensures.after) in
     let heard = rw (c.in_ok-loaded.ensures.name) at (c.in-Number.ensures.heard) in
-    puts_told _ c.args.queue.now c.ask.new.queue c.hear.new.queue _ c.in-Some.loaded _ _ _ _ c.requires.free (sound_beside _ _ c.requires.beside)
+    puts_told _ _ c.args.queue.now c.ask.new.queue c.hear.new.queue _ c.in-Some.loaded _ _ _ _ c.requires.free (sound_beside _ _ c.requires.beside)
     (c.in-Number.ensures.beside) heard due took c.args.question c.in-Number.number asked step (sym c.falls_asleep.ensures ∙ c.if-falls_asleep.false) refl
