@@ -12,7 +12,7 @@ use Rattle.schedule.proofs.Marks.{Front}
 use Rattle.replay_rules.specs.Logs.{MakesLog}
 use Rattle.replay_rules.specs.Walk.{ComesTo, Settles, FindsFull, CanMake, after_made}
 
-put_put : {B : Type 0} (f : ℕ → B) (n : ℕ) (a b : B) (m : ℕ) → put (put f n a) n b m ≡ put f n b m
+pub put_put : {B : Type 0} (f : ℕ → B) (n : ℕ) (a b : B) (m : ℕ) → put (put f n a) n b m ≡ put f n b m
 unfolding put
 put_put f n a b m = go (m == n)
   where
