@@ -18,12 +18,15 @@ use Rattle.types.specs.declared.event.Event.TheVariants as events
 use Rattle.types.specs.declared.event.Question.TheVariants.{Wait, Notify}
 use Rattle.types.specs.declared.event.Reply.{Reply}
 use Rattle.types.specs.declared.event.Reply.TheVariants as replies
+use Rattle.types.specs.declared.event.Answer.{Answer}
+use Rattle.types.specs.declared.outcome.Outcome.{Outcome}
 use Rattle.types.specs.declared.outcome.Trap.TheVariants as traps
 use Rattle.types.specs.Nesting.{Code, Empty, Then, BlockThen, LoopThen, IfThen, IfElseThen}
 use Rattle.types.specs.Widths.{type_bytes, access_type, access_bytes}
 use Rattle.numeric.specs.Integers.{signed}
 use Rattle.numeric.specs.Results.{NumericResult, NumericResult.Traps, numeric_result}
-use Rattle.schedule.specs.Machine.{Wish, Wish.Asks, MachineLaws}
+use Rattle.schedule.specs.System.{Want.Calls}
+use Rattle.schedule.specs.Machine.{Wish, MachineLaws, Thread, wanted, thread_wants}
 use Rattle.machine.specs.Program.{Program, Function, zero_of}
 use Rattle.machine.specs.Config.{Label, Frame, Progress, Fresh, Halfway, Asked, Config, values_of, Next, Stuck, Goes, Traps, Finishes, Asks, Hears}
 use Rattle.machine.specs.Access.{cut, answered_value}
@@ -32,9 +35,10 @@ use Rattle.machine.specs.State.{State, At, Over, replied, replied_by}
 use Rattle.scheduled.specs.Shared.{is_question}
 use Rattle.scheduled.specs.Threads.{wish_of, wishes, machine_of}
 
--- A question leaves its thread waiting.
+-- A question leaves its thread waiting, and no instruction asks to be told an answer.
 abbrev LeavesWaiting : Next → Type 0
 LeavesWaiting (Asks (events.Ask question) go) = (n : ℕ) → (go n).progress ≡ Asked
+LeavesWaiting (Asks (events.Told answer) go) = ⊥
 LeavesWaiting _ = Unit {0}
 
 record IsWell (go : Next) : Type 0 where
@@ -254,3 +258,35 @@ opened p (Over outcome) event reply asks opens = absurd (cc asks)
 
 pub machine_laws : (p : Program) → MachineLaws (machine_of p)
 machine_laws p = record { opened = opened p; exempt = refl }
+
+-- no state wishes to be told an answer as an event
+
+asks_no_answer : (go : Next) → LeavesWaiting go → (answer : Answer) → wish_of go ≡ Wish.Asks (events.Told answer) → ⊥
+asks_no_answer Stuck well answer asks = absurd (cc asks)
+asks_no_answer (Goes after) well answer asks = absurd (cc asks)
+asks_no_answer (Traps trap) well answer asks = absurd (cc asks)
+asks_no_answer (Finishes result) well answer asks = absurd (cc asks)
+asks_no_answer (Hears go) well answer asks = absurd (cc asks)
+asks_no_answer (Asks (events.Told told) go) well answer asks = well
+asks_no_answer (Asks event go) well answer asks = absurd (cc asks)
+
+wishes_no_answer : (p : Program) (s : State) (answer : Answer) → wishes p s ≡ Wish.Asks (events.Told answer) → ⊥
+wishes_no_answer p (At c) answer asks = asks_no_answer (next p c) (IsWell.waits (next_waits p c c.progress)) answer asks
+wishes_no_answer p (Over outcome) answer asks = absurd (cc asks)
+
+wants_by : (p : Program) (left : ℕ) (wish : Wish Event Outcome) (answer : Answer) → (wish ≡ Wish.Asks (events.Told answer) → ⊥) → wanted (machine_of p) left wish ≡ Calls (events.Told answer) → ⊥
+wants_by p zero Wish.Goes answer never is = absurd (cc is)
+wants_by p (suc n) Wish.Goes answer never is = absurd (cc is)
+wants_by p zero Wish.Waits answer never is = absurd (cc is)
+wants_by p (suc n) Wish.Waits answer never is = absurd (cc is)
+wants_by p zero (Wish.Ends outcome) answer never is = absurd (cc is)
+wants_by p (suc n) (Wish.Ends outcome) answer never is = absurd (cc is)
+wants_by p zero (Wish.Asks event) answer never is = absurd (cc is)
+wants_by p (suc n) (Wish.Asks event) answer never is = let same : event ≡ events.Told answer = cc is in never (ap Wish.Asks same)
+
+pub wants_no_answer : (p : Program) (t : Thread State Outcome) (answer : Answer) → thread_wants (machine_of p) t ≡ Calls (events.Told answer) → ⊥
+wants_no_answer p Thread.Absent answer is = absurd (cc is)
+wants_no_answer p (Thread.Runs c left) answer is = wants_by p left (wishes p c) answer (wishes_no_answer p c answer) is
+wants_no_answer p (Thread.Over outcome left) answer is = absurd (cc is)
+wants_no_answer p (Thread.Leaves outcome left) answer is = absurd (cc is)
+wants_no_answer p (Thread.Left outcome left) answer is = absurd (cc is)
