@@ -1,0 +1,4 @@
+//! Replays a recorded run by one thread.
+#![tactic(auto)]
+
+mod settle;
