@@ -1,1 +1,4 @@
 pub mod Turning
+pub mod Places
+pub mod Asking
+pub mod Living

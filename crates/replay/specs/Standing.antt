@@ -3,13 +3,15 @@ use Rattle.std.specs.Prelude.{ℕ, ◌≡◌, Bool, true, List, length, Option, 
 use Rattle.std.specs.List.{slice_get}
 use Rattle.types.specs.declared.value.ValType.{ValType}
 use Rattle.types.specs.declared.value.Value.{Value}
+use Rattle.types.specs.declared.event.Event.{Event}
+use Rattle.types.specs.declared.event.Reply.{Reply}
 use Rattle.types.specs.declared.event.Answer.{Answer}
 use Rattle.types.specs.declared.outcome.Outcome.{Outcome}
 use Rattle.shared_memory.specs.Memory.{Memory}
 use Rattle.shared_memory.specs.Events.{IsEvent}
 use Rattle.shared_memory.specs.WaitQueue.{WaitQueue, is_alive, next_id}
 use Rattle.shared_memory.proofs.Soundness.{IsSound}
-use Rattle.schedule.specs.System.{Want.Calls, Want.Awaits}
+use Rattle.schedule.specs.System.{Want.Calls, Want.Awaits, System, put}
 use Rattle.schedule.specs.System as systems
 use Rattle.schedule.specs.Histories.{Place, Place.Unstarted, Place.Free, Place.Open, Place.Due}
 use Rattle.schedule.specs.Machine.{Thread.Absent, Thread.Runs, Thread.Over, Thread.Leaves, Thread.Left, thread_hears}
@@ -23,7 +25,7 @@ use Rattle.takes_turns.specs.Turns.{Running, outcome_of, wants_of, left_of}
 use Rattle.takes_turns.specs.declared.turn.Turn.{Turn}
 use Rattle.takes_turns.specs.declared.turn.Turn.TheVariants as turns
 use Rattle.replay_rules.specs.Walk.{ComesTo}
-use Rattle.replay.specs.Recorded.{spawn_types}
+use Rattle.replay.specs.Recorded.{spawn_types, spawned_in}
 
 -- The thread was started, and hasn't asked to leave.
 abbrev pub IsHere : Running → Type 0
@@ -48,6 +50,18 @@ pub record SettlesAs (p : Program) (t : Running) (turn : Turn) (Stands : Running
   pub stands : Stands settled
   pub here : IsHere settled
   pub says : Says p settled turn
+
+-- Where the scheduled machine stands: the program, the call of a spawned thread and the budget, its state, and the threads' places.
+pub record Standing : Type 0 where
+  pub program : Program
+  pub worker : List Value → Config
+  pub budget : ℕ
+  pub memory : Memory
+  pub state : systems.State Shared Running
+  pub places : ℕ → Place Answer
+
+abbrev pub system_at : Standing → System Shared Running Event Reply Answer
+system_at s = over_memory_and_queue (machine_of s.program) (spawned_in s.worker) s.budget
 
 module _ {S : Type 0} (stands : S → Running → Type 0) (begins : S → List ValType → (List Value → Config) → Type 0) (program : S → Program) (fuel : S → ℕ) where
   -- A thread stands at its place: it runs;
@@ -91,13 +105,18 @@ module _ {S : Type 0} (stands : S → Running → Type 0) (begins : S → List V
   StandsAt p worker Open t slot (Some outcome) alive = (left : ℕ) × (t ≡ Leaves outcome left) × IsGone slot left
   StandsAt p worker (Due answer) t slot (Some outcome) alive = (left : ℕ) × (t ≡ Left outcome left) × IsGone slot left
 
-  -- The walk's threads, memory and queue, how many threads were started, and how each left, are the scheduled machine's.
-  pub record IsStanding (p : Program) (worker : List Value → Config) (budget : ℕ) (threads : List S) (memory : Memory) (queue : WaitQueue) (begun : ℕ)
-      (ends : List (Option Outcome)) (w : systems.State Shared Running) (q : ℕ → Place Answer) : Type 0 where
-    pub shared : w.shared ≡ record { memory = memory; queue = without_dues queue }
-    pub places : (m : ℕ) → q m ≡ place_of queue m
+  -- A walk's threads and queue, how many threads were started, and how each ended that asked to leave, are those of the
+  -- scheduled machine.
+  pub record IsStanding (s : Standing) (threads : List S) (queue : WaitQueue) (begun : ℕ) (ends : List (Option Outcome)) : Type 0 where
+    pub shared : s.state.shared ≡ record { memory = s.memory; queue = without_dues queue }
+    pub places : (m : ℕ) → s.places m ≡ place_of queue m
     pub sound : IsSound queue
     pub started : begun ≡ next_id queue
     pub slots : length ends ≡ 16
-    pub alike : (m : ℕ) (x : S) → slice_get threads m ≡ Some x → (program x ≡ p) × (fuel x ≡ budget)
-    pub each : (m : ℕ) → StandsAt p worker (q m) (w.threads m) (slice_get threads m) (get_or ends m None) (is_alive queue m)
+    pub alike : (m : ℕ) (x : S) → slice_get threads m ≡ Some x → (program x ≡ s.program) × (fuel x ≡ s.budget)
+    pub each : (m : ℕ) → StandsAt s.program s.worker (s.places m) (s.state.threads m) (slice_get threads m) (get_or ends m None) (is_alive queue m)
+
+  -- After an answer that was due to a thread, only its place is another.
+  pub record IsToldOn (s : Standing) (n : ℕ) (answer : Answer) (threads : List S) (queue : WaitQueue) (begun : ℕ) (ends : List (Option Outcome)) : Type 0 where
+    pub due : s.places n ≡ Due answer
+    pub standing : IsStanding (record s { places = put s.places n Free }) threads queue begun ends
