@@ -1,5 +1,5 @@
 -- Where a walk along a log stands: its threads, its memory and its queue are those of the scheduled machine.
-use Rattle.std.specs.Prelude.{ℕ, ◌≡◌, Bool, true, List, length, Option, Some, None, get_or}
+use Rattle.std.specs.Prelude.{ℕ, ◌≡◌, Bool, true, List, length, Option, Some, None, get_or, slice_set}
 use Rattle.std.specs.List.{slice_get}
 use Rattle.types.specs.declared.value.ValType.{ValType}
 use Rattle.types.specs.declared.value.Value.{Value}
@@ -21,7 +21,8 @@ use Rattle.machine.specs.State.{State}
 use Rattle.scheduled.specs.Shared.{Shared, without_dues, over_memory_and_queue}
 use Rattle.scheduled.specs.Threads.{machine_of}
 use Rattle.one_schedule.proofs.Places.{place_of}
-use Rattle.takes_turns.specs.Turns.{Running, outcome_of, wants_of, left_of}
+use Rattle.takes_turns.specs.Turns.{Running, outcome_of, wants_of, left_of, IsGiven, IsTurned}
+use Rattle.takes_turns.specs.declared.turn.Given.{Given}
 use Rattle.takes_turns.specs.declared.turn.Turn.{Turn}
 use Rattle.takes_turns.specs.declared.turn.Turn.TheVariants as turns
 use Rattle.replay_rules.specs.Walk.{ComesTo}
@@ -120,3 +121,21 @@ module _ {S : Type 0} (stands : S → Running → Type 0) (begins : S → List V
   pub record IsToldOn (s : Standing) (n : ℕ) (answer : Answer) (threads : List S) (queue : WaitQueue) (begun : ℕ) (ends : List (Option Outcome)) : Type 0 where
     pub due : s.places n ≡ Due answer
     pub standing : IsStanding (record s { places = put s.places n Free }) threads queue begun ends
+
+module _ {S : Type 0} (stands : S → Running → Type 0) (program : S → Program) (fuel : S → ℕ) where
+  -- One of the threads is another; its program and its budget are the same.
+  pub record IsReplaced (x : S) (threads : List S) (n : ℕ) (after : List S) : Type 0 where
+    pub now : S
+    pub list : after ≡ slice_set threads n now
+    pub same_program : program now ≡ program x
+    pub same_fuel : fuel now ≡ fuel x
+
+  -- It made a turn;
+  pub record IsTurnedAt (x : S) (given : Given) (turn : Turn) (threads : List S) (n : ℕ) (after : List S) : Type 0 where
+    pub replaced : IsReplaced x threads n after
+    pub turned : (t : Running) → stands x t → IsGiven (program x) t given → IsTurned (program x) t given turn (stands replaced.now)
+
+  -- or made turns of its own until it wanted more.
+  pub record SettlesAt (x : S) (turn : Turn) (threads : List S) (n : ℕ) (after : List S) : Type 0 where
+    pub replaced : IsReplaced x threads n after
+    pub settled : (t : Running) → stands x t → IsHere t → SettlesAs (program x) t turn (stands replaced.now)

@@ -12,7 +12,8 @@ ghost use Rattle.machine.specs.Config.{Config};
 ghost use Rattle.takes_turns.specs.Turns.{Running};
 ghost use Rattle.replay.specs.Standing.{IsStanding, Standing, IsToldOn};
 
-use std::alloc::Global;
+use crate::equal::is_same_answer;
+use crate::turns::turn_at;
 use takes_turns::{Given, TakesTurns};
 use types::{Answer, Outcome};
 use waiters::Queue;
@@ -50,13 +51,19 @@ impl Stage {
         ensures told { result ≡ true → (s : Standing) → IsStanding T.stands T.begins T.program T.fuel s threads.old self.old.queue self.old.started self.old.ends → IsToldOn T.stands T.begins T.program T.fuel s n answer threads.new self.new.queue self.new.started self.new.ends }
         ensures refused { result ≡ false → (s : Standing) → IsStanding T.stands T.begins T.program T.fuel s threads.old self.old.queue self.old.started self.old.ends → s.places n ≡ Due answer → ⊥ }
     {
-        if self.queue.told(n) != Some(answer) {
+        let Some(due) = self.queue.told(n) else {
+            return false;
+        };
+        if !is_same_answer(due, answer) {
             return false;
         }
         let place = n as usize;
-        if self.ends[place].is_none() {
-            threads[place].turn(Given::Told(answer));
+        match self.ends[place] {
+            None => {
+                turn_at(threads, place, Given::Told(answer));
+                true
+            }
+            Some(_) => true,
         }
-        true
     }
 }
