@@ -1,0 +1,26 @@
+//! Turns of one of the threads.
+ghost use Rattle.std.specs.Prelude.{◌≡◌, ◌<◌, length, Some, slice_set};
+ghost use Rattle.std.specs.List.{slice_get};
+ghost use Rattle.takes_turns.specs.Turns.{Running, IsGiven, IsTurned};
+ghost use Rattle.replay.specs.Standing.{IsHere, SettlesAs, IsTurnedAt, SettlesAt};
+
+use crate::settle::settle;
+use takes_turns::{Given, TakesTurns, Turn};
+
+/// A turn of the thread of this number.
+pub(crate) fn turn_at<T: TakesTurns>(threads: &mut [T], n: usize, given: Given) -> Turn
+    requires within { n < length threads.old }
+    requires given { (x : T) → slice_get threads.old n ≡ Some x → (t : Running) × T.stands x t × IsGiven (T.program x) t given }
+    ensures turned { (x : T) → slice_get threads.old n ≡ Some x → IsTurnedAt T.stands T.program T.fuel x given result threads.old n threads.new }
+{
+    threads[n].turn(given)
+}
+
+/// Turns of its own of the thread of this number, until it wants more.
+pub(crate) fn settle_at<T: TakesTurns>(threads: &mut [T], n: usize, fuel: u64) -> Turn
+    requires within { n < length threads.old }
+    requires here { (x : T) → slice_get threads.old n ≡ Some x → (T.fuel x ≡ fuel) × (t : Running) × T.stands x t × IsHere t }
+    ensures settled { (x : T) → slice_get threads.old n ≡ Some x → SettlesAt T.stands T.program T.fuel x result threads.old n threads.new }
+{
+    settle(&mut threads[n], fuel)
+}
