@@ -1,0 +1,39 @@
+-- What the workers promise, and have done.
+use Rattle.std.proofs.Common.{◌≡◌, ℕ, Bool, List, [], ◌∷◌, ◌++◌, Option, refl, sym, ◌∙◌, ap, subst}
+use Rattle.std.specs.declared.thread.PromisedHandle.{PromisedHandle}
+use Rattle.types.specs.declared.value.ValType.{ValType}
+use Rattle.types.specs.declared.value.Value.{Value}
+use Rattle.types.specs.declared.event.Entry.{Entry}
+use Rattle.shared_memory.specs.Memory.{Memory}
+use Rattle.machine.specs.Program.{Program}
+use Rattle.machine.specs.Config.{Config}
+use Rattle.takes_turns.specs.Turns.{Running}
+use Rattle.spawn_host.specs.declared.worker.WorkerEnd.{WorkerEnd}
+use Rattle.spawn_host.specs.declared.crew.Duty.{Duty}
+use Rattle.spawn_host.specs.Pairs.{Together, AllThree}
+use Rattle.spawn_host.specs.Works.{EndsWork}
+use Rattle.spawn_host.specs.Crew.{EndsFirst, IsCrew}
+use Rattle.spawn_host.specs.Duties.{IsDuty, IsDone, Joined}
+use Rattle.spawn_host.proofs.Pairing.{three_then}
+
+module _ {T M S : Type 0} (loses : Bool) (opening : Memory) (limit : M → Option ℕ) (name : S → ℕ) (seen : S → List Entry) (program : T → Program) (fuel : T → ℕ)
+    (stands : T → Running → Type 0) (begins : T → List ValType → (List Value → Config) → Type 0) (memory : M) where
+  did : (thread : T) (seat : S) (handle : PromisedHandle (WorkerEnd S) (Duty T M S)) (end : WorkerEnd S) → IsDuty memory thread seat handle
+      → IsDone loses opening limit name seen program fuel begins handle end → EndsWork loses opening (limit memory) name seen program fuel begins thread seat end
+  did thread seat handle end duty done =
+      subst (λ m. EndsWork loses opening (limit m) name seen program fuel begins thread seat end) duty.memory_is
+      (subst (λ t. EndsWork loses opening (limit handle.promise.memory.value) name seen program fuel begins t seat end) duty.thread_is
+      (subst (λ s. EndsWork loses opening (limit handle.promise.memory.value) name seen program fuel begins handle.promise.thread.value s end) duty.seat_is done))
+
+  pub crew_of : (first : T) (seat : S) (threads : List T) (seats : List S) (handles : List (PromisedHandle (WorkerEnd S) (Duty T M S))) (head : WorkerEnd S) (before ends : List (WorkerEnd S))
+      → EndsFirst loses opening (limit memory) name seen program fuel stands first seat head → before ≡ head ∷ [] → AllThree (IsDuty memory) threads seats handles
+      → Joined (IsDone loses opening limit name seen program fuel begins) handles before ends
+      → IsCrew loses opening (limit memory) name seen program fuel stands begins first seat threads seats ends
+  crew_of first seat threads seats handles head before ends ended one duties joined = record {
+    head = head;
+    others = joined.joined;
+    parts = joined.list ∙ ap (λ w. w ++ joined.joined) one;
+    ended = ended;
+    worked = three_then (IsDuty memory) (IsDone loses opening limit name seen program fuel begins) (EndsWork loses opening (limit memory) name seen program fuel begins) did
+        threads seats handles joined.joined duties joined.done;
+  }

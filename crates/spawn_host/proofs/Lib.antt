@@ -1,0 +1,6 @@
+pub mod Levelling
+pub mod Growing
+pub mod Pairing
+pub mod Duties
+pub mod Arguments
+pub mod OneList

@@ -1,0 +1,1 @@
+use Rattle.spawn_host.proofs.host.split.Goals as goal

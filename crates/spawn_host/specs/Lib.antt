@@ -1,0 +1,6 @@
+pub mod Level
+pub mod Works
+pub mod Pairs
+pub mod Crew
+pub mod Duties
+pub mod Composed

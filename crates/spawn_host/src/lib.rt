@@ -1,0 +1,11 @@
+//! Runs the threads of a module as real threads, over one shared memory.
+#![tactic(auto)]
+
+mod crew;
+mod host;
+mod report;
+mod rounds;
+mod worker;
+
+pub use host::run_all;
+pub use report::{RunEnd, RunFault};
