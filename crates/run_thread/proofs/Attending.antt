@@ -8,7 +8,7 @@ use Rattle.types.specs.declared.event.Entry.{Entry}
 use Rattle.types.specs.declared.outcome.Outcome.{Outcome}
 use Rattle.shared_memory.specs.Memory.{Memory}
 use Rattle.schedule.specs.System.{Act.Made, Act.Heard, Step.Own, Step.Acts, Want, Want.Turns, Want.Calls, Want.Awaits, Want.Gone}
-use Rattle.schedule.specs.Machine.{Thread.Absent, Thread.Runs, Thread.Over, Thread.Leaves, Thread.Left, thread_takes, thread_hears, thread_goes}
+use Rattle.schedule.specs.Machine.{Thread.Absent, Thread.Runs, Thread.Over, Thread.Leaves, Thread.Left, thread_goes}
 use Rattle.machine.specs.Program.{Program}
 use Rattle.machine.specs.State.{At, heard}
 use Rattle.scheduled.specs.Threads.{machine_of}
@@ -18,14 +18,15 @@ use Rattle.takes_turns.specs.declared.turn.Given.TheVariants as given
 use Rattle.takes_turns.specs.declared.turn.Turn.{Turn}
 use Rattle.takes_turns.specs.declared.turn.Turn.TheVariants as turns
 use Rattle.run_thread.specs.Ends.{IsHere, Comes}
-use Rattle.run_thread.specs.Serving.{IsOpen, MayTry, try_of, Attends}
+use Rattle.run_thread.specs.Serving.{IsOpen, MayTry, try_of, Attends, Steps}
 use Rattle.run_thread.proofs.Coming.{comes_none, comes_by, comes_then}
-use Rattle.run_thread.proofs.Turning.{Opening, opening, open_done, fits_try, after_try, here_try, ended_by}
+use Rattle.run_thread.proofs.Turning.{Opening, opening, open_done, fits_try, after_try, here_try, less_after, ended_by}
+use Rattle.run_thread.proofs.Paying.{paid_reply, paid_answer, paid_own}
 
 module _ (p : Program) (loses : Bool) (opening_memory : Memory) (limit : Option ℕ) (n : ℕ) (t : Running) (e : Event)
     (none : outcome_of t ≡ None) (want : wants_of p t ≡ Calls e) (before after : List Entry) where
   -- a reply
-  pub attends_reply : (reply : Reply) (turn : Turn) (Stands : Running → Type 0) → MayTry e reply → Sees loses opening_memory limit n (try_of e reply) before after
+  abbrev attends_reply : (reply : Reply) (turn : Turn) (Stands : Running → Type 0) → MayTry e reply → Sees loses opening_memory limit n (try_of e reply) before after
       → IsTurned p t (given.Reply reply) turn Stands → Attends p loses opening_memory limit n t turn Stands before after
   attends_reply reply turn Stands may sees turned = record {
     now = after_reply p t reply;
@@ -34,6 +35,13 @@ module _ (p : Program) (loses : Bool) (opening_memory : Memory) (limit : Option 
     comes = comes_by loses opening_memory limit n p t (after_reply p t reply) (try_of e reply) before after
         (λ start fuel. (fits_try p t e none want reply may start fuel, after_try p t e none want reply start fuel)) sees;
     ended = ended_by p t (given.Reply reply) turn turned.answer;
+  }
+
+  pub steps_reply : (reply : Reply) (turn : Turn) (Stands : Running → Type 0) → MayTry e reply → Sees loses opening_memory limit n (try_of e reply) before after
+      → IsTurned p t (given.Reply reply) turn Stands → Steps p loses opening_memory limit n t turn Stands before after
+  steps_reply reply turn Stands may sees turned = record {
+    attends = attends_reply reply turn Stands may sees turned;
+    paid = paid_reply p t reply turn turned.answer (less_after p t e none want reply);
   }
 
   -- a question, of which the thread is told that it was asked
@@ -54,7 +62,7 @@ module _ (p : Program) (loses : Bool) (opening_memory : Memory) (limit : Option 
     may_be_told q same answer = (awaiting, awaiting_stands, subst (λ z. IsGiven z awaiting (given.Told answer)) (sym same) (awaiting_given answer))
 
     -- and its answer
-    pub attends_answer : (answer : Answer) (middle : List Entry) (turn : Turn) (Stands : Running → Type 0) → SeesAct limit n (Made e reply) before middle → SeesAct limit n (Heard answer) middle after
+    abbrev attends_answer : (answer : Answer) (middle : List Entry) (turn : Turn) (Stands : Running → Type 0) → SeesAct limit n (Made e reply) before middle → SeesAct limit n (Heard answer) middle after
         → IsTurned p awaiting (given.Told answer) turn Stands → Attends p loses opening_memory limit n t turn Stands before after
     attends_answer answer middle turn Stands sees_asked sees_heard turned = record {
       now = Runs (heard p (At open_now.config) answer) open_now.left;
@@ -65,6 +73,13 @@ module _ (p : Program) (loses : Bool) (opening_memory : Memory) (limit : Option 
           (comes_by loses opening_memory limit n p awaiting (Runs (heard p (At open_now.config) answer) open_now.left) (Acts (Heard answer)) middle after
           (λ start fuel. (open_now.awaits, refl)) sees_heard);
       ended = ended_by p awaiting (given.Told answer) turn turned.answer;
+    }
+
+    pub steps_answer : (answer : Answer) (middle : List Entry) (turn : Turn) (Stands : Running → Type 0) → SeesAct limit n (Made e reply) before middle → SeesAct limit n (Heard answer) middle after
+        → IsTurned p awaiting (given.Told answer) turn Stands → Steps p loses opening_memory limit n t turn Stands before after
+    steps_answer answer middle turn Stands sees_asked sees_heard turned = record {
+      attends = attends_answer answer middle turn Stands sees_asked sees_heard turned;
+      paid = paid_answer p t awaiting answer turn turned.answer open_now.less;
     }
 
 -- a turn for which it was given nothing
@@ -124,7 +139,7 @@ module _ (p : Program) (t : Running) where
     comes_own Awaits is = comes_none loses opening_memory limit n p t before
     comes_own Gone is = comes_none loses opening_memory limit n p t before
 
-    pub attends_own : (turn : Turn) (Stands : Running → Type 0) → IsHere t → IsTurned p t given.Nothing turn Stands
+    abbrev attends_own : (turn : Turn) (Stands : Running → Type 0) → IsHere t → IsTurned p t given.Nothing turn Stands
         → Attends p loses opening_memory limit n t turn Stands before before
     attends_own turn Stands here turned = record {
       now = after_turn p t given.Nothing;
@@ -132,6 +147,13 @@ module _ (p : Program) (t : Running) where
       here = here_own (wants_of p t) here;
       comes = comes_own (wants_of p t) refl;
       ended = ended_by p t given.Nothing turn turned.answer;
+    }
+
+    pub steps_own : (turn : Turn) (Stands : Running → Type 0) → IsHere t → ((event : Event) → turn ≡ turns.Wants event → ⊥) → IsTurned p t given.Nothing turn Stands
+        → Steps p loses opening_memory limit n t turn Stands before before
+    steps_own turn Stands here other turned = record {
+      attends = attends_own turn Stands here turned;
+      paid = paid_own p t here turn other turned.answer;
     }
 
 -- one after the other

@@ -1,5 +1,5 @@
 -- What a thread's event comes to at the memory and at the desk, and what the thread comes to by it.
-use Rattle.std.specs.Prelude.{ℕ, ◌≡◌, Bool, true, false, List, Option, Some, None}
+use Rattle.std.specs.Prelude.{ℕ, ◌≡◌, ◌<◌, ◌⊎◌, Bool, true, false, List, Option, Some}
 use Rattle.types.specs.declared.event.Event.{Event}
 use Rattle.types.specs.declared.event.Event.TheVariants as events
 use Rattle.types.specs.declared.event.Question.TheVariants.{Wait, Notify, Spawn, Leave}
@@ -7,16 +7,15 @@ use Rattle.types.specs.declared.event.Reply.{Reply}
 use Rattle.types.specs.declared.event.Reply.TheVariants as replies
 use Rattle.types.specs.declared.event.Answer.{Answer}
 use Rattle.types.specs.declared.event.Entry.{Entry}
-use Rattle.types.specs.declared.outcome.Outcome.{Outcome}
 use Rattle.shared_memory.specs.Memory.{Memory}
 use Rattle.shared_memory.specs.Events.{is_exempt, may_lose}
 use Rattle.shared_memory.specs.WaitQueue.{IsFree}
 use Rattle.shared_memory.specs.History.{queue_after}
 use Rattle.desk.specs.Calls.{IsWaiting}
-use Rattle.schedule.specs.System.{Act.Made, Act.Heard, Step, Step.Lost, Step.Full, Step.Acts}
+use Rattle.schedule.specs.System.{Act.Made, Act.Heard, Step, Step.Lost, Step.Full, Step.Acts, Want.Awaits}
 use Rattle.machine.specs.Program.{Program}
 use Rattle.scheduled.specs.Seeing.{Sees, SeesAct}
-use Rattle.takes_turns.specs.Turns.{Running, outcome_of}
+use Rattle.takes_turns.specs.Turns.{Running, outcome_of, left_of, wants_of}
 use Rattle.takes_turns.specs.declared.turn.Turn.{Turn}
 use Rattle.takes_turns.specs.declared.turn.Turn.TheVariants as turns
 use Rattle.run_thread.specs.declared.serving.Served.{Served}
@@ -87,3 +86,16 @@ pub record Attends (p : Program) (loses : Bool) (opening : Memory) (limit : Opti
   pub here : IsHere now
   pub comes : Comes p loses opening limit n first now before after
   pub ended : IsEndOf turn now
+
+-- A step costs units, unless the thread has ended by it, or awaits an answer that nothing brings.
+abbrev pub IsPaid : Program → Running → Turn → Running → Type 0
+IsPaid p first turns.Moved now = left_of now < left_of first
+IsPaid p first (turns.Wants event) now = ⊥
+IsPaid p first turns.Awaits now = (left_of now < left_of first) ⊎ (wants_of p first ≡ Awaits)
+IsPaid p first (turns.Ended outcome) now = Unit {0}
+
+-- The thread has made a step: it hasn't stayed as it was.
+pub record Steps (p : Program) (loses : Bool) (opening : Memory) (limit : Option ℕ) (n : ℕ) (first : Running) (turn : Turn) (Stands : Running → Type 0)
+    (before after : List Entry) : Type 0 where
+  pub attends : Attends p loses opening limit n first turn Stands before after
+  pub paid : IsPaid p first turn attends.now

@@ -7,7 +7,7 @@ ghost use Rattle.schedule.specs.System.{Want.Calls};
 ghost use Rattle.takes_turns.specs.Turns.{Running, outcome_of, wants_of, IsGiven, IsTurned};
 ghost use Rattle.takes_turns.specs.declared.turn.Turn.{Turn};
 ghost use Rattle.run_thread.specs.Ends.{IsHere, IsLast, RunsOut};
-ghost use Rattle.run_thread.specs.Serving.{Attends};
+ghost use Rattle.run_thread.specs.Serving.{Attends, Steps};
 
 use crate::serving::{Served, serve};
 use desk::Desk;
@@ -52,7 +52,7 @@ fn attend<T: TakesTurns, M: SharedMemory, W: Wait + Drop, G: Gate>(
     ensures name { M.name seat.new ≡ M.name seat.old }
     ensures right { M.has_queue_right seat.new ≡ M.has_queue_right seat.old }
     ensures free { IsFree (queue_after (M.seen seat.new)) (M.name seat.old) }
-    ensures attended { (t : Running) → T.stands thread.old t → outcome_of t ≡ None → wants_of (T.program thread.old) t ≡ Calls event → Attends (T.program thread.old) M.LOSES M.opening (M.limit memory.now) (M.name seat.old) t result (T.stands thread.new) (M.seen seat.old) (M.seen seat.new) }
+    ensures attended { (t : Running) → T.stands thread.old t → outcome_of t ≡ None → wants_of (T.program thread.old) t ≡ Calls event → Steps (T.program thread.old) M.LOSES M.opening (M.limit memory.now) (M.name seat.old) t result (T.stands thread.new) (M.seen seat.old) (M.seen seat.new) }
 {
     let name = memory.name(seat);
     match serve(memory, seat, desk, event) {
@@ -84,7 +84,7 @@ fn step<T: TakesTurns, M: SharedMemory, W: Wait + Drop, G: Gate>(
     ensures name { M.name seat.new ≡ M.name seat.old }
     ensures right { M.has_queue_right seat.new ≡ M.has_queue_right seat.old }
     ensures free { IsFree (queue_after (M.seen seat.new)) (M.name seat.old) }
-    ensures stepped { (t : Running) → T.stands thread.old t → IsHere t → Attends (T.program thread.old) M.LOSES M.opening (M.limit memory.now) (M.name seat.old) t result (T.stands thread.new) (M.seen seat.old) (M.seen seat.new) }
+    ensures stepped { (t : Running) → T.stands thread.old t → IsHere t → Steps (T.program thread.old) M.LOSES M.opening (M.limit memory.now) (M.name seat.old) t result (T.stands thread.new) (M.seen seat.old) (M.seen seat.new) }
 {
     let name = memory.name(seat);
     match advance(thread, name, gate, Given::Nothing) {

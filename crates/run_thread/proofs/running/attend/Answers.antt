@@ -1,7 +1,6 @@
-use Rattle.std.proofs.Common.{◌≡◌}
 use Rattle.run_thread.proofs.Entered.{sees_collected}
 use Rattle.run_thread.proofs.Turning.{of_thread}
-use Rattle.run_thread.proofs.Attending.{attends_reply, attends_answer, awaiting_stands, awaiting_given, may_be_told}
+use Rattle.run_thread.proofs.Attending.{steps_reply, steps_answer, awaiting_stands, awaiting_given, may_be_told}
 use Rattle.run_thread.proofs.running.attend.Goals as goal
 
 pub serve-requires-clause-of_thread : goal.serve-requires-clause-of_thread
@@ -37,7 +36,7 @@ returns-in-Replied-clause-attended g c t stands none want =
     let m = g.M.SharedMemory in
     let p = g.T.TakesTurns.program c.args.thread.now in
     let did = c.in-Replied.ensures.served in
-    attends_reply p m.LOSES m.opening (m.limit c.args.memory.now) (m.name c.args.seat.now) t c.args.event none want (m.seen c.args.seat.now) (m.seen c.serve.new.seat) c.in-Replied.reply c.advance.result _ did.0 did.1
+    steps_reply p m.LOSES m.opening (m.limit c.args.memory.now) (m.name c.args.seat.now) t c.args.event none want (m.seen c.args.seat.now) (m.seen c.serve.new.seat) c.in-Replied.reply c.advance.result _ did.0 did.1
     (c.advance.ensures.turned t stands (none, c.args.event, want))
 
 pub returns-in-Answered-clause-attended : goal.returns-in-Answered-clause-attended
@@ -53,7 +52,7 @@ returns-in-Answered-clause-attended g c t stands none want =
     let waits = awaiting_stands p m.LOSES m.opening limit n t c.args.event none want before after did.reply did.opened _ _ first in
     let told = awaiting_given p m.LOSES m.opening limit n t c.args.event none want before after did.reply did.opened _ _ first c.in-Answered.answer in
     let second = rw (c.advance-in-Answered.ensures.program) at c.advance-in-Answered-2.ensures.turned in
-    attends_answer p m.LOSES m.opening limit n t c.args.event none want before after did.reply did.opened _ _ first c.in-Answered.answer did.middle c.advance-in-Answered-2.result _ did.asked did.heard
+    steps_answer p m.LOSES m.opening limit n t c.args.event none want before after did.reply did.opened _ _ first c.in-Answered.answer did.middle c.advance-in-Answered-2.result _ did.asked did.heard
     (second _ waits told)
 
 pub returns-in-Open-clause-attended : goal.returns-in-Open-clause-attended
@@ -72,5 +71,5 @@ returns-in-Open-clause-attended g c t stands none want =
     let waits = awaiting_stands p m.LOSES m.opening limit n t c.args.event none want before after did.reply did.opened _ _ first in
     let told = awaiting_given p m.LOSES m.opening limit n t c.args.event none want before after did.reply did.opened _ _ first answer in
     let second = rw (c.advance-in-Open.ensures.program) at c.advance-in-Open-2.ensures.turned in
-    attends_answer p m.LOSES m.opening limit n t c.args.event none want before after did.reply did.opened _ _ first answer middle c.advance-in-Open-2.result _ did.asked
+    steps_answer p m.LOSES m.opening limit n t c.args.event none want before after did.reply did.opened _ _ first answer middle c.advance-in-Open-2.result _ did.asked
     (sees_collected m.opening limit n answer middle after collected.enters) (second _ waits told)

@@ -1,4 +1,4 @@
-use Rattle.std.proofs.Common.{◌≡◌, ◌∙◌}
+use Rattle.std.proofs.Common.{◌∙◌}
 use Rattle.takes_turns.specs.declared.turn.Turn.TheVariants.{Moved, Ended}
 use Rattle.run_thread.proofs.Attending.{attends_then, attends_moved}
 use Rattle.run_thread.proofs.running.run_steps.Goals as goal
@@ -9,7 +9,7 @@ returns-in-Ended-clause-ended g c t stands here =
     let i = c.loop.invariant in
     let stepped = rw (i.program, i.name) at c.in-Ended.ensures.stepped in
     attends_then (g.T.TakesTurns.program c.args.thread.now) m.LOSES m.opening (m.limit c.args.memory.now) (m.name c.args.seat.now) t Moved (Ended c.in-Ended.outcome) _ _
-    (m.seen c.args.seat.now) (m.seen c.loop.seat) (m.seen c.step.new.seat) (i.comes t stands here) stepped
+    (m.seen c.args.seat.now) (m.seen c.loop.seat) (m.seen c.step.new.seat) (i.comes t stands here) (λ x s h. (stepped x s h).attends)
 
 pub loop-preserved : goal.loop-preserved
 loop-preserved g c =
@@ -26,5 +26,5 @@ loop-preserved g c =
       free = rw i.name at c.step.ensures.free;
       comes = λ t stands here.
           attends_moved p m.LOSES m.opening limit n t c.step.result _ _ _
-          (attends_then p m.LOSES m.opening limit n t Moved c.step.result _ _ (m.seen c.args.seat.now) (m.seen c.loop.seat) (m.seen c.step.new.seat) (i.comes t stands here) stepped);
+          (attends_then p m.LOSES m.opening limit n t Moved c.step.result _ _ (m.seen c.args.seat.now) (m.seen c.loop.seat) (m.seen c.step.new.seat) (i.comes t stands here) (λ x s h. (stepped x s h).attends));
     }

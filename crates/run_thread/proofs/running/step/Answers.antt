@@ -1,6 +1,5 @@
-use Rattle.std.proofs.Common.{◌≡◌, refl, sym, ◌∙◌, subst}
-use Rattle.run_thread.specs.Serving.{Attends}
-use Rattle.run_thread.proofs.Attending.{wants_said, still_stands, attends_own}
+use Rattle.std.proofs.Common.{refl, sym, ◌∙◌}
+use Rattle.run_thread.proofs.Attending.{wants_said, still_stands, steps_own}
 use Rattle.run_thread.proofs.running.step.Goals as goal
 
 pub returns-in-Wants-clause-stepped : goal.returns-in-Wants-clause-stepped
@@ -22,6 +21,6 @@ returns-in_default g c =
       name = refl;
       right = refl;
       free = c.requires.free;
-      stepped = λ t stands here. attends_own (g.T.TakesTurns.program c.args.thread.now) t m.LOSES m.opening (m.limit c.args.memory.now) (m.name c.args.seat.now) (m.seen c.args.seat.now)
-          c.advance.result _ here (c.advance.ensures.turned t stands tt);
+      stepped = λ t stands here. steps_own (g.T.TakesTurns.program c.args.thread.now) t m.LOSES m.opening (m.limit c.args.memory.now) (m.name c.args.seat.now) (m.seen c.args.seat.now)
+          c.advance.result _ here c.in_default.not-Wants (c.advance.ensures.turned t stands tt);
     }
