@@ -3,6 +3,7 @@ use Rattle.std.specs.Prelude.{ℕ, ◌+◌, ◌-◌, ◌/◌, ◌%◌, ◌==◌,
 use Rattle.std.specs.Fmt.{decimal}
 use Rattle.std.specs.List.{flat_map}
 use Rattle.types.specs.declared.outcome.Outcome.{Outcome}
+use Rattle.types.specs.declared.outcome.ThreadReport.{ThreadReport}
 use Rattle.types.specs.Outcomes.{outcome_text}
 
 -- The line of a thread.
@@ -12,6 +13,11 @@ thread_line thread outcome = codes "thread " ++ decimal thread ++ codes ": " ++ 
 -- The line of the page count.
 abbrev pub pages_line : ℕ → List ℕ
 pages_line pages = codes "pages " ++ decimal pages ++ codes "\n"
+
+-- The lines of threads in a row, from a number on.
+abbrev pub thread_lines : ℕ → List ThreadReport → List ℕ
+thread_lines n [] = []
+thread_lines n (report ∷ reports) = thread_line n report.outcome ++ thread_lines (n + 1) reports
 
 -- A digit of base 16, in lower case.
 abbrev pub hex_digit : ℕ → ℕ
@@ -32,3 +38,7 @@ bytes_line dump bytes = if dump == 0 then [] else codes "bytes" ++ hex_bytes (ta
 -- The line of an accepted module: how many functions of its own it has.
 abbrev pub functions_line : ℕ → List ℕ
 functions_line count = codes "ok functions " ++ decimal count ++ codes "\n"
+
+-- The lines of a run: one a thread, the page count, the first bytes.
+abbrev pub end_lines : List ThreadReport → ℕ → ℕ → List ℕ → List ℕ
+end_lines threads pages dump bytes = thread_lines 0 threads ++ pages_line pages ++ bytes_line dump bytes

@@ -23,17 +23,17 @@ const FAULT: u8 = 5;
 
 /// Does a job on a module's bytes: writes its lines to `out`, and at most one line about what went wrong to `err`.
 ///
-/// `saved` has the bytes of the job's record, and `save` takes the record that it makes, after the lines.
+/// `saved` has the bytes of the job's record; no job of today has one. `save` takes the record that it makes, after the lines.
 ///
 /// Answers the program's status: 0 where the module was accepted or all threads ended well, 1 for a trap or stop, 2
-/// for a refused module, 3 for a refused run, 4 for a refused record, 5 where memory, a thread or a stream failed. A write
+/// for a refused module, 3 for a refused run, 5 where memory, a thread or a stream failed. A write
 /// to `err` that fails doesn't change it.
 pub fn perform<R, W, E, S>(
     rt: &R,
     alloc: Global,
     job: &Job,
     module: &[u8],
-    saved: &[u8],
+    _saved: &[u8],
     out: &mut W,
     err: &mut E,
     save: &mut S,
@@ -69,7 +69,6 @@ where
             };
             run(rt, alloc, &wanted, module, out, err, save)
         }
-        Job::Replay { dump, .. } => replay_saved(alloc, *dump, module, saved, out, err),
     }
 }
 

@@ -1,15 +1,21 @@
 //! What the program does, as a library: the command line as a job, and the lines that a job prints.
 #![tactic(auto)]
 
+mod args;
 mod command_line;
-mod first_path;
+mod end;
 mod job;
 mod lines;
 mod loading;
+mod recording;
+mod running;
 #[cfg(test)]
 mod tests;
+mod words;
 
 pub use command_line::{Job, Usage, command};
-pub use first_path::{FirstFault, first, is_first_module};
+pub use end::EndState;
 pub use job::{check, perform};
 pub use loading::{Refusal, load};
+pub use recording::{RecordRunFault, record_run};
+pub use words::run_on_words;

@@ -1,8 +1,9 @@
 //! The lines on standard output.
 ghost use Rattle.std.specs.Prelude.{◌≡◌, ◌∷◌, [], ◌<◌, OnOk};
 ghost use Rattle.std.specs.Io.KnownBytes.{Appends};
-ghost use Rattle.report.specs.Lines.{thread_line, pages_line, bytes_line, hex_bytes, hex_digit};
+ghost use Rattle.report.specs.Lines.{thread_line, pages_line, bytes_line, hex_bytes, hex_digit, end_lines};
 
+use crate::end::EndState;
 use std::io::{self, Write};
 use types::Outcome;
 

@@ -1,12 +1,12 @@
 //! Runs of modules by the program: over which memory, and what is printed.
-ghost use Rattle.std.specs.Prelude.{◌≤◌};
+ghost use Rattle.std.specs.Prelude.{◌≤◌, IfOk};
 
 use crate::args::read_args;
 use crate::lines::write_end;
 use crate::recording::{RecordRunFault, record_run};
 use crate::words::run_on_words;
 use record_text::{Record, write_record};
-use replay::EndState;
+use crate::end::EndState;
 use spawn_host::RunFault;
 use std::alloc::{AllocError, Global};
 use std::io::{self, Write};
@@ -17,6 +17,7 @@ use types::{Outcome, Value};
 use validate::ValidModule;
 
 /// How a run is asked for.
+#[derive(Drop)]
 pub(crate) struct Wanted<'a> {
     pub(crate) invoke: &'a str,
     pub(crate) on_words: bool,
@@ -104,7 +105,7 @@ where
     let args = args_of(alloc, module, wanted)?;
     let (invoke, fuel, limit) = (wanted.invoke, wanted.fuel, wanted.limit);
     if wanted.on_words {
-        let end = run_on_words(rt, alloc, module, invoke, &args, fuel)?;
+        let end = run_on_words(rt, alloc, module, invoke, &args, fuel, &OpenGate)?;
         return print(out, &end, wanted.dump);
     }
     let (record, end) = record_run(rt, alloc, module, invoke, &args, fuel, limit, &OpenGate)?;
@@ -133,8 +134,8 @@ pub(crate) fn print<W: Write>(out: &mut W, end: &EndState, dump: u32) -> Result<
 
 /// Writes a record to its file.
 fn keep<S: Write>(record: &Record, save: &mut S) -> Result<(), Trouble> {
-    match write_record(record, save) {
-        Ok(()) => Ok(()),
-        Err(_) => Err(Trouble::Save),
+    if write_record(record, save).is_err() || save.flush().is_err() {
+        return Err(Trouble::Save);
     }
+    Ok(())
 }

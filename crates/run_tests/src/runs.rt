@@ -2,6 +2,8 @@
 
 use report::{Job, perform};
 use std::alloc::{AllocError, Global};
+use std::sync::Wait;
+use std::thread::Threads;
 
 /// How a run is asked for.
 #[derive(Clone, Copy)]
@@ -34,8 +36,7 @@ pub(crate) struct Ran {
 }
 
 /// Runs a module, and keeps its record.
-pub(crate) fn run(rt: &HostRuntime, module: &[u8], asked: Asked) -> Result<Ran, AllocError> {
-    let alloc: Global = rt.alloc();
+pub(crate) fn run<R: Threads + Wait + Sync>(rt: &R, alloc: Global, module: &[u8], asked: Asked) -> Result<Ran, AllocError> {
     let job = Job::Run {
         file: "a.wasm",
         invoke: asked.invoke,

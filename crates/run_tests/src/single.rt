@@ -2,8 +2,10 @@
 
 use crate::modules::{I32, I64, PLAIN, SHARED, Small};
 use crate::runs::{Asked, USUAL, run};
-use std::alloc::AllocError;
+use std::alloc::{AllocError, Global};
+use std::sync::Wait;
 use std::test::Fail;
+use std::thread::Threads;
 
 /// A module, how it is run, what it prints, its status, and the end of its record before `pages`.
 #[derive(Clone, Copy)]
@@ -478,9 +480,9 @@ fn asked(example: &Example) -> Asked<'static> {
 }
 
 /// Whether an example does over the recorder what it should.
-fn is_right(rt: &HostRuntime, example: &Example) -> Result<bool, AllocError> {
-    let module = example.module.bytes(rt.alloc())?;
-    let ran = run(rt, &module, asked(example))?;
+fn is_right<R: Threads + Wait + Sync>(rt: &R, alloc: Global, example: &Example) -> Result<bool, AllocError> {
+    let module = example.module.bytes(alloc)?;
+    let ran = run(rt, alloc, &module, asked(example))?;
     Ok(ran.out.as_slice() == example.out.as_bytes()
         && ran.err.is_empty()
         && ran.status == example.status
@@ -491,19 +493,19 @@ fn is_right(rt: &HostRuntime, example: &Example) -> Result<bool, AllocError> {
 fn runs_single_threads(rt: HostRuntime) -> Result<(), Fail> {
     for example in EXAMPLES.iter() {
         let name = example.name;
-        assert!(rt; is_right(&rt, example)?, "{name}");
+        assert!(rt; is_right(&rt, rt.alloc(), example)?, "{name}");
     }
     Ok(())
 }
 
 /// Whether an example without a small limit prints the same over the row of words.
-fn is_right_on_words(rt: &HostRuntime, example: &Example) -> Result<bool, AllocError> {
-    let module = example.module.bytes(rt.alloc())?;
+fn is_right_on_words<R: Threads + Wait + Sync>(rt: &R, alloc: Global, example: &Example) -> Result<bool, AllocError> {
+    let module = example.module.bytes(alloc)?;
     let on_words = Asked {
         on_words: true,
         ..asked(example)
     };
-    let ran = run(rt, &module, on_words)?;
+    let ran = run(rt, alloc, &module, on_words)?;
     Ok(ran.out.as_slice() == example.out.as_bytes()
         && ran.err.is_empty()
         && ran.status == example.status)
@@ -513,7 +515,7 @@ fn is_right_on_words(rt: &HostRuntime, example: &Example) -> Result<bool, AllocE
 fn runs_single_threads_on_words(rt: HostRuntime) -> Result<(), Fail> {
     for example in EXAMPLES.iter().filter(|example| example.limit == LIMIT) {
         let name = example.name;
-        assert!(rt; is_right_on_words(&rt, example)?, "{name}");
+        assert!(rt; is_right_on_words(&rt, rt.alloc(), example)?, "{name}");
     }
     Ok(())
 }

@@ -3,7 +3,9 @@
 use crate::modules::{HEADER, threaded};
 use crate::runs::{Asked, USUAL, run};
 use std::alloc::{AllocError, Global};
+use std::sync::Wait;
 use std::test::Fail;
+use std::thread::Threads;
 
 /// Four threads add 1 to the byte at 0 a thousand times each, count themselves at 8 and notify; the first thread waits
 /// there until all have come, and loads the byte.
@@ -44,29 +46,30 @@ const TIMED: &str =
     "thread 0: stop asleep for good\nthread 1: ok\nthread 2: ok\nthread 3: ok\npages 1\n";
 
 /// Whether a threaded module prints these lines, with this status.
-fn prints(
-    rt: &HostRuntime,
+fn prints<R: Threads + Wait + Sync>(
+    rt: &R,
+    alloc: Global,
     code: &[u8],
     on_words: bool,
     dump: u32,
     out: &str,
     status: u8,
 ) -> Result<bool, AllocError> {
-    let module = threaded(rt.alloc(), code)?;
+    let module = threaded(alloc, code)?;
     let asked = Asked {
         on_words,
         dump,
         ..USUAL
     };
-    let ran = run(rt, &module, asked)?;
+    let ran = run(rt, alloc, &module, asked)?;
     Ok(ran.out.as_slice() == out.as_bytes() && ran.err.is_empty() && ran.status == status)
 }
 
 #[test]
 fn counts_in_four_threads(rt: HostRuntime) -> Result<(), Fail> {
     for _ in 0..100 {
-        assert!(rt; prints(&rt, COUNTING, false, 16, COUNTED, 0)?);
-        assert!(rt; prints(&rt, COUNTING, true, 16, COUNTED, 0)?);
+        assert!(rt; prints(&rt, rt.alloc(), COUNTING, false, 16, COUNTED, 0)?);
+        assert!(rt; prints(&rt, rt.alloc(), COUNTING, true, 16, COUNTED, 0)?);
     }
     Ok(())
 }
@@ -75,8 +78,8 @@ fn counts_in_four_threads(rt: HostRuntime) -> Result<(), Fail> {
 fn sums_the_ids(rt: HostRuntime) -> Result<(), Fail> {
     let code = summing(rt.alloc())?;
     for _ in 0..100 {
-        assert!(rt; prints(&rt, &code, false, 0, SUMMED, 0)?);
-        assert!(rt; prints(&rt, &code, true, 0, SUMMED, 0)?);
+        assert!(rt; prints(&rt, rt.alloc(), &code, false, 0, SUMMED, 0)?);
+        assert!(rt; prints(&rt, rt.alloc(), &code, true, 0, SUMMED, 0)?);
     }
     Ok(())
 }
@@ -84,8 +87,8 @@ fn sums_the_ids(rt: HostRuntime) -> Result<(), Fail> {
 #[test]
 fn traps_in_one_thread_alone(rt: HostRuntime) -> Result<(), Fail> {
     for _ in 0..100 {
-        assert!(rt; prints(&rt, TRAPPING, false, 0, TRAPPED, 1)?);
-        assert!(rt; prints(&rt, TRAPPING, true, 0, TRAPPED, 1)?);
+        assert!(rt; prints(&rt, rt.alloc(), TRAPPING, false, 0, TRAPPED, 1)?);
+        assert!(rt; prints(&rt, rt.alloc(), TRAPPING, true, 0, TRAPPED, 1)?);
     }
     Ok(())
 }
@@ -93,8 +96,8 @@ fn traps_in_one_thread_alone(rt: HostRuntime) -> Result<(), Fail> {
 #[test]
 fn ends_timeouts_in_their_order(rt: HostRuntime) -> Result<(), Fail> {
     for _ in 0..100 {
-        assert!(rt; prints(&rt, TIMEOUTS, false, 0, TIMED, 1)?);
-        assert!(rt; prints(&rt, TIMEOUTS, true, 0, TIMED, 1)?);
+        assert!(rt; prints(&rt, rt.alloc(), TIMEOUTS, false, 0, TIMED, 1)?);
+        assert!(rt; prints(&rt, rt.alloc(), TIMEOUTS, true, 0, TIMED, 1)?);
     }
     Ok(())
 }
@@ -110,7 +113,7 @@ fn stands_before(record: &str, first: &str, second: &str) -> bool {
 #[test]
 fn settles_one_timeout_after_the_other(rt: HostRuntime) -> Result<(), Fail> {
     let module = threaded(rt.alloc(), TIMEOUTS)?;
-    let ran = run(&rt, &module, USUAL)?;
+    let ran = run(&rt, rt.alloc(), &module, USUAL)?;
     let Ok(record) = str::from_utf8(&ran.record) else {
         assert!(rt; false, "a record is text");
         return Ok(());
@@ -143,11 +146,11 @@ fn calls_through_a_table(rt: HostRuntime) -> Result<(), Fail> {
         ("thread 0: trap undefined element\npages 0\n", 1),
     ];
     for (place, (out, status)) in (0u8..4).zip(wanted) {
-        let ran = run(&rt, &calling(rt.alloc(), place)?, USUAL)?;
+        let ran = run(&rt, rt.alloc(), &calling(rt.alloc(), place)?, USUAL)?;
         assert!(rt; ran.out.as_slice() == out.as_bytes(), "{place}");
         assert_eq!(rt; ran.status, status);
     }
-    let ran = run(&rt, &calling(rt.alloc(), 0)?, USUAL)?;
+    let ran = run(&rt, rt.alloc(), &calling(rt.alloc(), 0)?, USUAL)?;
     assert!(rt; ran.record.as_slice().ends_with(b"end 0 ok i32:42 5\npages 0\nfinish\n".as_slice()));
     Ok(())
 }
@@ -159,14 +162,14 @@ fn refuses_names_and_arguments(rt: HostRuntime) -> Result<(), Fail> {
         invoke: "g",
         ..USUAL
     };
-    let ran = run(&rt, &module, other)?;
+    let ran = run(&rt, rt.alloc(), &module, other)?;
     assert_eq!(rt; ran.err.as_slice(), b"run refused: unknown export\n".as_slice());
     assert_eq!(rt; (ran.out.len(), ran.status), (0, 3));
     let more = Asked {
         args: &["7"],
         ..USUAL
     };
-    let ran = run(&rt, &module, more)?;
+    let ran = run(&rt, rt.alloc(), &module, more)?;
     assert_eq!(rt; ran.err.as_slice(), b"run refused: wrong arguments\n".as_slice());
     assert_eq!(rt; (ran.out.len(), ran.status), (0, 3));
     Ok(())
