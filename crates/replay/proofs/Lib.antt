@@ -4,3 +4,4 @@ pub mod Asking
 pub mod Living
 pub mod Told
 pub mod Events
+pub mod Made
