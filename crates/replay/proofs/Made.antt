@@ -209,12 +209,6 @@ module _ {S : Type 0} (stands : S → Running → Type 0) (begins : S → List V
       made_plain nobody count =
           stands_made after begun count slot_here (λ m h. no_start (slice_get on.before m) (slice_get after m) (starts_in m) (nobody m) (slot_other m h)) after_alike (λ m x k. absurd (nobody m x k))
 
-      -- one is started
-      pub made_spawn : (arg : ℕ) → e ≡ events.Ask (Spawn arg) → is_question e v ≡ true → begun < 16 → length threads ≡ 16 → (threads' : List S) (begun' : ℕ) → begun' ≡ begun + 1
-          → ((x : S) (worker : List Value → Config) → slice_get after begun ≡ Some x → begins x spawn_types worker → IsStartedAt stands program fuel x worker arg after begun threads')
-          → IsStanding stands begins program fuel (made_by s n e v t) threads' (queue_step queue n e v) begun' ends
-      made_spawn arg is opens room full threads' begun' more starts = ?
-
 -- who starts nobody
 pub nobody : (s : Standing) (n : ℕ) (e : Event) → ((q : Question) → e ≡ events.Ask q → ⊥) → (m : ℕ) (x : Running) → (system_at s).starts (s.state.shared) n e m ≡ Some x → ⊥
 nobody s n (events.Ask q) other m x h = other q refl

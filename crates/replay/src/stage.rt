@@ -3,8 +3,6 @@ ghost use Rattle.std.specs.Prelude.{◌≡◌, ◌≤◌, ◌<◌, ℕ, true, fa
 ghost use Rattle.types.specs.declared.value.Value.{Value};
 ghost use Rattle.types.specs.declared.event.Event.TheVariants as events;
 ghost use Rattle.types.specs.declared.outcome.Outcome.{Outcome};
-ghost use Rattle.shared_memory.specs.Memory.{reply_of, state_after};
-ghost use Rattle.shared_memory.specs.Events.{IsEvent, is_exempt};
 ghost use Rattle.std.specs.Prelude.{slice_set, List, ◌+◌};
 ghost use Rattle.std.specs.List.{slice_get};
 ghost use Rattle.shared_memory.specs.History.{queue_step};
@@ -15,15 +13,12 @@ ghost use Rattle.schedule.specs.System.{put};
 ghost use Rattle.schedule.specs.Histories.{Place, Place.Free, Place.Due};
 ghost use Rattle.machine.specs.Program.{Program};
 ghost use Rattle.machine.specs.Config.{Config};
-ghost use Rattle.takes_turns.specs.Turns.{Running, outcome_of, wants_of};
-ghost use Rattle.schedule.specs.System.{Want.Calls};
-ghost use Rattle.replay.specs.Standing.{IsStanding, Standing, IsToldOn, IsStartedAt, IsSettledOn, IsAnswered, made_by, is_spawn};
+ghost use Rattle.replay.specs.Standing.{IsStanding, Standing, IsToldOn, IsStartedAt, is_spawn};
 
-use crate::equal::{is_same_answer, is_same_reply};
+use crate::equal::is_same_answer;
 use crate::turns::{start_at, turn_at};
-use one_memory::OneMemory;
 use takes_turns::{Given, TakesTurns};
-use types::{Answer, Event, Outcome, Question, Reply};
+use types::{Answer, Outcome, Question, Reply};
 use waiters::Queue;
 
 /// The wait queue of a walk, how many threads were started, and how each has ended that asked to leave.
@@ -114,34 +109,5 @@ impl Stage {
             start_at(threads, started as usize, arg);
             self.started = started + 1;
         }
-    }
-
-    /// Makes the event that a thread wants, if the memory's reply is this one.
-    pub(crate) fn make<T: TakesTurns>(
-        &mut self,
-        threads: &mut [T],
-        memory: &mut OneMemory,
-        n: u32,
-        event: Event,
-        reply: Reply,
-    ) -> bool
-        requires event { IsEvent event }
-        requires kind { is_exempt event ≡ false }
-        requires reply { IsAnswered reply }
-        requires room { (arg : ℕ) → event ≡ events.Ask (Spawn arg) → length threads.old ≡ 16 }
-        requires settled { (s : Standing) × (t : Running) × IsSettledOn T.stands T.begins T.program T.fuel s threads.old self.old.queue self.old.started self.old.ends n t × (s.memory ≡ memory.old) × (outcome_of t ≡ None) × (wants_of s.program t ≡ Calls event) }
-        ensures memory { memory.new ≡ state_after memory.old event }
-        ensures made { result ≡ true → (s : Standing) (t : Running) → IsSettledOn T.stands T.begins T.program T.fuel s threads.old self.old.queue self.old.started self.old.ends n t → s.memory ≡ memory.old → outcome_of t ≡ None → wants_of s.program t ≡ Calls event → (reply ≡ reply_of s.memory event) × IsStanding T.stands T.begins T.program T.fuel (made_by s n event reply t) threads.new self.new.queue self.new.started self.new.ends }
-        ensures refused { result ≡ false → reply ≡ reply_of memory.old event → ⊥ }
-    {
-        let answered = memory.step(&event);
-        if !is_same_reply(answered, reply) {
-            return false;
-        }
-        turn_at(threads, n as usize, Given::Reply(reply));
-        if let Event::Ask(question) = event {
-            self.ask(threads, n, question, reply);
-        }
-        true
     }
 }
