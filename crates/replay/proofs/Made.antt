@@ -1,7 +1,7 @@
 -- A thread that makes the event that it wants.
-use Rattle.std.proofs.Common.{◌≡◌, ◌≢◌, ℕ, zero, suc, ◌+◌, ◌-◌, ◌<◌, ◌≤◌, ◌==◌, ◌&&◌, Bool, true, false, List, [], ◌∷◌, ◌++◌, length, Option, Some, None, refl, sym, ◌∙◌, ap, subst, ◌⊎◌, inl, inr, arith, get_or, slice_get, slice_set, length-set, length-append}
+use Rattle.std.proofs.Common.{◌≡◌, ◌≢◌, ℕ, zero, suc, ◌+◌, ◌-◌, ◌<◌, ◌≤◌, ◌==◌, ◌&&◌, true, false, List, [], ◌∷◌, ◌++◌, length, Option, Some, None, refl, sym, ◌∙◌, ap, subst, ◌⊎◌, inl, inr, arith, get_or, slice_get, slice_set, length-set}
 use Rattle.std.specs.Prelude.{nat_lt}
-use Rattle.std.proofs.lemmas.Bool.{cases_lt, cases_eq, cond-true, cond-false, lt-ltb, le-ltb, ltb-true, eqb-true, and_parts, cond_both, and_from, eq-eqb}
+use Rattle.std.proofs.lemmas.Bool.{cond-false, le-ltb, ltb-true, eqb-true, and_parts, cond_both}
 use Rattle.std.proofs.lemmas.Option.{slice_get_within}
 use Rattle.types.specs.declared.value.ValType.{ValType}
 use Rattle.types.specs.declared.value.Value.{Value}
@@ -16,9 +16,9 @@ use Rattle.shared_memory.specs.Memory.{reply_of}
 use Rattle.shared_memory.specs.Events.{is_exempt}
 use Rattle.shared_memory.specs.WaitQueue.{WaitQueue, is_alive, next_id, IsFree}
 use Rattle.shared_memory.specs.History.{queue_step}
-use Rattle.schedule.specs.System.{Want, Want.Calls, Want.Awaits}
-use Rattle.schedule.specs.Histories.{Place, Place.Unstarted, Place.Free, placed}
-use Rattle.schedule.specs.Machine.{Wish, Wish.Goes, Wish.Asks, Wish.Waits, Wish.Ends, Thread, Thread.Absent, Thread.Runs, Thread.Over, Thread.Leaves, Thread.Left, MachineLaws, wanted, thread_takes, takes_by}
+use Rattle.schedule.specs.System.{Want.Calls, Want.Awaits}
+use Rattle.schedule.specs.Histories.{Place.Unstarted, Place.Free, placed}
+use Rattle.schedule.specs.Machine.{Wish, Wish.Asks, Thread.Absent, Thread.Runs, Thread.Over, Thread.Leaves, Thread.Left, wanted, thread_takes, takes_by}
 use Rattle.machine.specs.Program.{Program}
 use Rattle.machine.specs.Config as configs
 use Rattle.machine.specs.Config.{Config}
@@ -29,18 +29,17 @@ use Rattle.scheduled.specs.Shared.{is_question}
 use Rattle.scheduled.specs.Threads.{machine_of, wishes, wish_of}
 use Rattle.scheduled.proofs.Asking.{machine_laws}
 use Rattle.one_schedule.proofs.Places.{place_unstarted, args_by, question_args}
-use Rattle.takes_turns.specs.Turns.{Running, outcome_of, outcome_in, wants_of, left_of, after_reply, IsGiven, IsTurned}
+use Rattle.takes_turns.specs.Turns.{Running, outcome_of, outcome_in, wants_of, after_reply}
 use Rattle.takes_turns.specs.declared.turn.Turn.{Turn}
 use Rattle.takes_turns.specs.declared.turn.Given.TheVariants as given
 use Rattle.replay.specs.Recorded.{spawn_types, spawned_in}
-use Rattle.replay.specs.Standing.{IsHere, StandsAt, Standing, IsStanding, IsSettledOn, IsReplaced, IsTurnedAt, IsStartedAt, IsAnswered, system_at, made_by, is_spawn, RunsAt}
+use Rattle.replay.specs.Standing.{IsHere, StandsAt, Standing, IsStanding, IsSettledOn, IsTurnedAt, IsAnswered, system_at, made_by, is_spawn}
 use Rattle.replay.proofs.Told.{slice_get-set_same, slice_get-set_other}
 use Rattle.replay.proofs.Events.{IsFreePlace, free_place, IsMade, step, stands_after}
 use Rattle.replay.proofs.Places.{SlotGoes, here_at}
-use Rattle.replay.proofs.Living.{step_alive, spawned_alive}
+use Rattle.replay.proofs.Living.{step_alive}
 use Rattle.schedule.proofs.Basics.{at_each}
 use Rattle.schedule.specs.Scheduled.{hears_any, or_started}
-use Rattle.types.specs.declared.event.Answer.{Answer}
 
 -- what a running thread that wants an event wishes, and what the reply makes of it
 asks_wish : (p : Program) (c : Config) (left : ℕ) (e : Event) (go : configs.Next) → wanted (machine_of p) left (wish_of go) ≡ Calls e → wish_of go ≡ Asks e
@@ -149,9 +148,10 @@ module _ {S : Type 0} (stands : S → Running → Type 0) (begins : S → List V
         let known : n < next_id queue = IsFreePlace.known place in
         let apart : begun ≢ n = omega arith in
         let long : length after ≡ 16 = ap length taken.list ∙ (length-set threads n taken.now ∙ full) in
-        let below : begun < length after = omega arith in
-        (below,
-        λ x at. unstarted begun (omega arith) x (sym ((on.others) begun apart) ∙ (sym (slice_get-set_other threads n begun taken.now apart) ∙ (sym (ap (λ l. slice_get l begun) taken.list) ∙ at))))
+        let below : begun < length after = omega arith in (
+          below,
+          λ x at. unstarted begun (omega arith) x (sym ((on.others) begun apart) ∙ (sym (slice_get-set_other threads n begun taken.now apart) ∙ (sym (ap (λ l. slice_get l begun) taken.list) ∙ at))),
+        )
 
     -- a list in which one more is another
     alike_set : (before : List S) (k : ℕ) (y : S) → k < length before → ((m : ℕ) (x : S) → slice_get before m ≡ Some x → (program x ≡ s.program) × (fuel x ≡ s.budget))

@@ -9,7 +9,7 @@ use Rattle.types.specs.declared.event.Reply.TheVariants as replies
 use Rattle.types.specs.declared.event.Answer.{Answer}
 use Rattle.types.specs.declared.outcome.Outcome.{Outcome}
 use Rattle.types.specs.declared.event.Question.{Question}
-use Rattle.types.specs.declared.event.Question.TheVariants.{Wait, Notify, Spawn, Leave}
+use Rattle.types.specs.declared.event.Question.TheVariants.{Spawn}
 use Rattle.shared_memory.specs.Memory.{Memory, state_after}
 use Rattle.shared_memory.specs.Events.{IsEvent}
 use Rattle.shared_memory.specs.WaitQueue.{WaitQueue, is_alive, next_id}

@@ -44,12 +44,7 @@ impl Stage {
     }
 
     /// Takes an answer that a thread heard, if it is the one that is due. A thread that has left makes no more turns.
-    pub(crate) fn tell<T: TakesTurns>(
-        &mut self,
-        threads: &mut [T],
-        n: u32,
-        answer: Answer,
-    ) -> bool
+    pub(crate) fn tell<T: TakesTurns>(&mut self, threads: &mut [T], n: u32, answer: Answer) -> bool
         requires standing { (s : Standing) × IsStanding T.stands T.begins T.program T.fuel s threads.old self.old.queue self.old.started self.old.ends }
         ensures told { result ≡ true → (s : Standing) → IsStanding T.stands T.begins T.program T.fuel s threads.old self.old.queue self.old.started self.old.ends → IsToldOn T.stands T.begins T.program T.fuel s n answer threads.new self.new.queue self.new.started self.new.ends }
         ensures refused { result ≡ false → (s : Standing) → IsStanding T.stands T.begins T.program T.fuel s threads.old self.old.queue self.old.started self.old.ends → s.places n ≡ Due answer → ⊥ }
@@ -105,7 +100,9 @@ impl Stage {
             Reply::Value(loaded) => self.queue.ask(n, &question, loaded),
             _ => self.queue.ask(n, &question, 0),
         }
-        if let Question::Spawn { arg } = question && started < 16 {
+        if let Question::Spawn { arg } = question
+            && started < 16
+        {
             start_at(threads, started as usize, arg);
             self.started = started + 1;
         }

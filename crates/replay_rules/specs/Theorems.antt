@@ -37,7 +37,7 @@ EndsAreTheSame X T E V A W =
     → (log : List (Entry E V A)) (z : State X T) (p : ℕ → Place A) → Walks s rules log first places 0 z p
     → (S : List Mark) → MakesLog s rules first places log S
     → ((scheduled_run s first S).shared ≡ z.shared)
-      × ((m : ℕ) → s.wants ((scheduled_run s first S).threads m) ≡ Gone → z.threads m ≡ (scheduled_run s first S).threads m)
+    × ((m : ℕ) → s.wants ((scheduled_run s first S).threads m) ≡ Gone → z.threads m ≡ (scheduled_run s first S).threads m)
 
 -- An entry that a walk can't take is the first that doesn't fit, whatever follows it.
 abbrev pub StopsAreMisfits : (X T E V A W : Type 0) → Type 0

@@ -1,8 +1,6 @@
-use Rattle.std.proofs.Common.{◌≡◌, List, ℕ, [], ◌∷◌, Some, refl, sym, ◌∙◌, ap, subst, slice_index_or}
+use Rattle.std.proofs.Common.{◌≡◌, ℕ, refl, sym, ◌∙◌, ap, subst, slice_index_or}
 use Rattle.std.proofs.lemmas.Option.{get_or_from_slice_get}
-use Rattle.types.specs.declared.value.Value.{Value}
 use Rattle.schedule.specs.Machine.{Thread.Runs}
-use Rattle.machine.specs.Config.{Config}
 use Rattle.replay.specs.Recorded.{spawn_types, spawned_in}
 use Rattle.replay.proofs.turns.start_at.Goals as goal
 
