@@ -97,9 +97,9 @@ module _ {S : Type 0} (stands : S → Running → Type 0) (begins : S → List V
       }
 
       -- how it stands before
-      pub before : (gone : Option Outcome) → get_or ends n None ≡ gone
-          → StandsAt stands begins program fuel s.program s.worker (Due answer) (s.state.threads n) (slice_get threads n) gone (is_alive queue n)
-      before gone is =
+      pub before : (end : Option Outcome) → get_or ends n None ≡ end
+          → StandsAt stands begins program fuel s.program s.worker (Due answer) (s.state.threads n) (slice_get threads n) end (is_alive queue n)
+      before end is =
           subst (λ (o : Option Outcome). StandsAt stands begins program fuel s.program s.worker (Due answer) (s.state.threads n) (slice_get threads n) o (is_alive queue n)) is
           (subst (λ p. StandsAt stands begins program fuel s.program s.worker p (s.state.threads n) (slice_get threads n) (get_or ends n None) (is_alive queue n)) is_due (st.each n))
 
