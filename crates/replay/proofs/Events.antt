@@ -1,30 +1,28 @@
 -- Where all stand after an event.
-use Rattle.std.proofs.Common.{◌≡◌, ◌≢◌, ℕ, ◌+◌, ◌<◌, ◌≤◌, Bool, true, false, cond, List, length, Option, Some, None, refl, sym, ◌∙◌, ap, subst, ◌⊎◌, inl, inr, arith, get_or, slice_get, slice_set}
+use Rattle.std.proofs.Common.{◌≡◌, ◌≢◌, ℕ, ◌<◌, Bool, true, false, cond, List, length, Option, Some, None, refl, sym, ◌∙◌, ap, subst, get_or, slice_get}
 use Rattle.std.specs.Prelude.{nat_lt}
 use Rattle.std.proofs.lemmas.Bool.{ltb-true}
 use Rattle.types.specs.declared.value.ValType.{ValType}
 use Rattle.types.specs.declared.value.Value.{Value}
 use Rattle.types.specs.declared.event.Event.{Event}
 use Rattle.types.specs.declared.event.Event.TheVariants as events
-use Rattle.types.specs.declared.event.Question.TheVariants.{Wait, Notify, Spawn, Leave}
 use Rattle.types.specs.declared.event.Answer.{Answer}
 use Rattle.types.specs.declared.event.Reply.{Reply}
-use Rattle.types.specs.declared.event.Reply.TheVariants as replies
 use Rattle.types.specs.declared.outcome.Outcome.{Outcome}
-use Rattle.shared_memory.specs.Memory.{Memory, reply_of, state_after}
-use Rattle.shared_memory.specs.WaitQueue.{WaitQueue, is_alive, is_asleep, answer_due, next_id, after_answer, IsFree}
+use Rattle.shared_memory.specs.Memory.{reply_of, state_after}
+use Rattle.shared_memory.specs.WaitQueue.{WaitQueue, is_alive, is_asleep, answer_due, next_id, IsFree}
 use Rattle.shared_memory.specs.History.{queue_step}
 use Rattle.shared_memory.specs.Legal.{IsAllowed, IsInTurn}
-use Rattle.shared_memory.proofs.Soundness.{IsSound, IsSound-step, awake_if_due}
+use Rattle.shared_memory.proofs.Soundness.{IsSound-step}
 use Rattle.shared_memory.proofs.Others.{Keeps, Keeps-step}
 use Rattle.schedule.specs.System.{Act.Made, put}
 use Rattle.schedule.specs.Scheduled.{hears_any, or_started}
-use Rattle.schedule.specs.Histories.{Place, Place.Unstarted, Place.Free, Place.Open, Place.Due, placed, next_shared, next_places, IsLegalEntry}
+use Rattle.schedule.specs.Histories.{Place.Unstarted, Place.Free, Place.Open, placed, next_shared, next_places, IsLegalEntry}
 use Rattle.schedule.specs.Machine.{thread_takes}
 use Rattle.schedule.proofs.Basics.{at_each, put-same, put-other}
 use Rattle.machine.specs.Program.{Program}
 use Rattle.machine.specs.Config.{Config}
-use Rattle.scheduled.specs.Shared.{Shared, without_dues, is_question, act_by, over_memory_and_queue}
+use Rattle.scheduled.specs.Shared.{Shared, without_dues, is_question, act_by}
 use Rattle.scheduled.specs.Threads.{machine_of}
 use Rattle.one_schedule.specs.Runs.{Start}
 use Rattle.one_schedule.proofs.Places.{place_of, place_due}
@@ -32,8 +30,8 @@ use Rattle.one_schedule.proofs.Entries.{EntryStep, entry_step}
 use Rattle.takes_turns.specs.Turns.{Running}
 use Rattle.replay_rules.specs.Walk.{after_made}
 use Rattle.replay_rules.proofs.Making.{put_put}
-use Rattle.replay.specs.Recorded.{spawn_types, spawned_in}
-use Rattle.replay.specs.Standing.{IsHere, RunsAt, WaitsAt, IsTold, IsGone, StandsAt, Standing, IsStanding, system_at}
+use Rattle.replay.specs.Recorded.{spawned_in}
+use Rattle.replay.specs.Standing.{StandsAt, Standing, IsStanding, system_at}
 use Rattle.replay.proofs.Places.{SlotGoes, others_at}
 
 -- a free place
@@ -123,8 +121,8 @@ module _ {S : Type 0} (stands : S → Running → Type 0) (begins : S → List V
         → ((m : ℕ) (x : S) → slice_get threads' m ≡ Some x → (program x ≡ s.program) × (fuel x ≡ s.budget))
         → ((m : ℕ) (x : Running) → starts_by m ≡ Some x → is_alive (queue_step queue n e v) m ≡ true)
         → StandsAt stands begins program fuel s.program s.worker (placed (starts_by n) (gives_by n) (is_question e v) Free)
-            (or_started (starts_by n) (hears_any (system_at s) (thread_takes (machine_of s.program) t v) (gives_by n))) (slice_get threads' n) (get_or ends' n None)
-            (is_alive (queue_step queue n e v) n)
+        (or_started (starts_by n) (hears_any (system_at s) (thread_takes (machine_of s.program) t v) (gives_by n))) (slice_get threads' n) (get_or ends' n None)
+        (is_alive (queue_step queue n e v) n)
         → IsStanding stands begins program fuel (after_it t) threads' (queue_step queue n e v) begun' ends'
     stands_after t free_place threads' begun' ends' started slots same_ends goes alike born here = record {
       shared = step.shared;

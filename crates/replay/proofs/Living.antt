@@ -1,7 +1,7 @@
 -- Who is alive after a question.
-use Rattle.std.proofs.Common.{◌≡◌, ◌≢◌, ℕ, ◌+◌, ◌<◌, ◌≤◌, ◌==◌, ◌||◌, ◌&&◌, Bool, true, false, not, cond, List, [], ◌∷◌, ◌++◌, length, Option, Some, None, refl, sym, ◌∙◌, ap, subst, arith}
+use Rattle.std.proofs.Common.{◌≡◌, ℕ, ◌<◌, ◌==◌, Bool, true, false, not, cond, List, [], ◌∷◌, ◌++◌, refl, ◌∙◌, ap}
 use Rattle.std.specs.Prelude.{ℤ, nat_lt}
-use Rattle.std.specs.List.{list_any, filter}
+use Rattle.std.specs.List.{list_any}
 use Rattle.std.proofs.lemmas.Bool.{cond_both, cond-true, lt-ltb, or_left, or_right, eq-eqb}
 use Rattle.std.proofs.lemmas.List.Folds.{list_any-append}
 use Rattle.types.specs.declared.event.Event.{Event}
@@ -13,8 +13,8 @@ use Rattle.types.specs.declared.event.Reply.{Reply}
 use Rattle.types.specs.declared.event.Reply.TheVariants as replies
 use Rattle.shared_memory.specs.declared.sleeper.Sleeper.{Sleeper}
 use Rattle.shared_memory.specs.Events.{is_exempt}
-use Rattle.shared_memory.specs.WaitQueue.{WaitQueue, is_alive, is_among, next_id, tells, wakes, sleeps, starts, leaves, ends_at_once, ended, end_answer, is_stuck, settled, asked, after_question}
-use Rattle.shared_memory.specs.History.{queue_step, value_of}
+use Rattle.shared_memory.specs.WaitQueue.{WaitQueue, is_alive, next_id, tells, wakes, sleeps, starts, ends_at_once, ended, end_answer, is_stuck, settled, asked, after_question}
+use Rattle.shared_memory.specs.History.{queue_step}
 
 settled_alive : (q : WaitQueue) → (settled q).alive ≡ q.alive
 settled_alive q = cond_both (is_stuck q) (wakes (ended q.sleepers) (end_answer q.sleepers) q) q (λ w. w.alive ≡ q.alive) (λ e. refl) (λ e. refl)

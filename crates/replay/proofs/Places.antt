@@ -1,23 +1,22 @@
 -- Where threads stand after an event.
-use Rattle.std.proofs.Common.{◌≡◌, ◌≢◌, ℕ, zero, suc, ◌-◌, Bool, true, false, List, [], ◌∷◌, Option, Some, None, refl, sym, ◌∙◌, ap, subst}
+use Rattle.std.proofs.Common.{◌≡◌, ℕ, Bool, true, false, List, Option, Some, None, refl, sym, ap, subst}
 use Rattle.types.specs.declared.value.ValType.{ValType}
 use Rattle.types.specs.declared.value.Value.{Value}
 use Rattle.types.specs.declared.event.Event.{Event}
 use Rattle.types.specs.declared.event.Reply.{Reply}
 use Rattle.types.specs.declared.event.Answer.{Answer}
 use Rattle.types.specs.declared.outcome.Outcome.{Outcome}
-use Rattle.schedule.specs.System.{Want, Want.Turns, Want.Calls, Want.Awaits, Want.Gone}
+use Rattle.schedule.specs.System.{Want.Awaits}
 use Rattle.schedule.specs.Scheduled.{hears_any, or_started}
 use Rattle.schedule.specs.Histories.{Place, Place.Unstarted, Place.Free, Place.Open, Place.Due, placed}
-use Rattle.schedule.specs.Machine.{Thread, Thread.Absent, Thread.Runs, Thread.Over, Thread.Leaves, Thread.Left, thread_takes, thread_hears}
+use Rattle.schedule.specs.Machine.{Thread.Leaves, thread_takes, thread_hears}
 use Rattle.machine.specs.Program.{Program}
 use Rattle.machine.specs.Config.{Config}
-use Rattle.machine.specs.State as states
 use Rattle.scheduled.specs.Shared.{over_memory_and_queue}
 use Rattle.scheduled.specs.Threads.{machine_of}
 use Rattle.takes_turns.specs.Turns.{Running, outcome_of, wants_of, left_of}
-use Rattle.replay.specs.Recorded.{spawn_types, spawned_in}
-use Rattle.replay.specs.Standing.{IsHere, RunsAt, WaitsAt, IsTold, IsGone, StandsAt}
+use Rattle.replay.specs.Recorded.{spawned_in}
+use Rattle.replay.specs.Standing.{IsHere, RunsAt, WaitsAt, StandsAt}
 
 module _ {S : Type 0} (stands : S → Running → Type 0) (begins : S → List ValType → (List Value → Config) → Type 0) (program : S → Program) (fuel : S → ℕ) where
   -- a thread's slot after an event: a thread that starts runs there, and otherwise it's the same

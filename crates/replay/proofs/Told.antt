@@ -1,7 +1,7 @@
 -- Taking an answer that was due.
 use Rattle.std.specs.Prelude.{nat_lt}
-use Rattle.std.proofs.Common.{◌≡◌, ◌≢◌, ℕ, ◌<◌, ◌≤◌, Bool, true, false, cond, List, length, Option, Some, None, refl, sym, ◌∙◌, ap, subst, ◌⊎◌, inl, inr, arith, get_or, set, slice_get, slice_set}
-use Rattle.std.proofs.lemmas.Option.{slice_get-get_or, slice_get_within, slice_get_past, get_or_from_slice_get}
+use Rattle.std.proofs.Common.{◌≡◌, ◌≢◌, ℕ, ◌<◌, ◌≤◌, Bool, true, false, cond, List, length, Option, Some, None, refl, sym, ◌∙◌, ap, subst, inl, inr, arith, get_or, slice_get, slice_set}
+use Rattle.std.proofs.lemmas.Option.{slice_get-get_or, slice_get_within, slice_get_past}
 use Rattle.std.proofs.lemmas.List.{get_or-set_same, get_or-set_other}
 use Rattle.std.proofs.Common.{length-set}
 use Rattle.std.proofs.lemmas.Bool.{cases_lt}
@@ -11,29 +11,24 @@ use Rattle.types.specs.declared.event.Event.TheVariants as events
 use Rattle.types.specs.declared.event.Answer.{Answer}
 use Rattle.types.specs.declared.event.Reply.TheVariants as replies
 use Rattle.types.specs.declared.outcome.Outcome.{Outcome}
-use Rattle.shared_memory.specs.Memory.{Memory}
 use Rattle.shared_memory.specs.WaitQueue.{WaitQueue, is_alive, is_asleep, answer_due, next_id, after_answer}
-use Rattle.shared_memory.specs.History.{queue_step}
-use Rattle.shared_memory.proofs.Soundness.{IsSound, IsSound-step, awake_if_due}
-use Rattle.shared_memory.proofs.Turns.{alive_answer}
+use Rattle.shared_memory.proofs.Soundness.{IsSound-step, awake_if_due}
 use Rattle.schedule.specs.System.{put}
-use Rattle.schedule.specs.Histories.{Place, Place.Unstarted, Place.Free, Place.Open, Place.Due}
-use Rattle.schedule.specs.Machine.{Thread, Thread.Absent, Thread.Runs, Thread.Over, Thread.Leaves, Thread.Left, thread_hears}
+use Rattle.schedule.specs.Histories.{Place.Unstarted, Place.Free, Place.Open, Place.Due}
+use Rattle.schedule.specs.Machine.{Thread.Absent, Thread.Runs, Thread.Over, Thread.Leaves, Thread.Left, thread_hears}
 use Rattle.schedule.proofs.Basics.{at_each, put-same, put-other}
 use Rattle.machine.specs.Program.{Program}
 use Rattle.machine.specs.Config.{Config}
-use Rattle.machine.specs.State as states
-use Rattle.scheduled.specs.Shared.{without_dues}
 use Rattle.scheduled.specs.Threads.{machine_of}
 use Rattle.one_schedule.specs.Runs.{Start}
 use Rattle.one_schedule.proofs.Places.{place_of, place_told, place_due}
 use Rattle.one_schedule.proofs.Entries.{EntryStep, entry_step}
-use Rattle.takes_turns.specs.Turns.{Running, outcome_of, wants_of, left_of, IsGiven, IsTurned}
+use Rattle.takes_turns.specs.Turns.{Running, outcome_of, wants_of}
 use Rattle.takes_turns.specs.declared.turn.Turn.{Turn}
 use Rattle.takes_turns.specs.declared.turn.Given.TheVariants as given
 use Rattle.schedule.specs.System.{Want.Awaits}
-use Rattle.replay.specs.Recorded.{spawn_types, spawned_in}
-use Rattle.replay.specs.Standing.{IsHere, RunsAt, WaitsAt, IsTold, IsGone, StandsAt, Standing, IsStanding, IsToldOn, IsReplaced, IsTurnedAt}
+use Rattle.replay.specs.Recorded.{spawned_in}
+use Rattle.replay.specs.Standing.{IsHere, StandsAt, Standing, IsStanding, IsToldOn, IsTurnedAt}
 
 -- elements of a list of which one was replaced
 pub slice_get-set_same : {X : Type 0} (xs : List X) (n : ℕ) (y : X) → n < length xs → slice_get (slice_set xs n y) n ≡ Some y
@@ -102,9 +97,9 @@ module _ {S : Type 0} (stands : S → Running → Type 0) (begins : S → List V
       }
 
       -- how it stands before
-      pub before : (gone : Option Outcome) → get_or ends n None ≡ gone
-          → StandsAt stands begins program fuel s.program s.worker (Due answer) (s.state.threads n) (slice_get threads n) gone (is_alive queue n)
-      before gone is =
+      pub before : (end : Option Outcome) → get_or ends n None ≡ end
+          → StandsAt stands begins program fuel s.program s.worker (Due answer) (s.state.threads n) (slice_get threads n) end (is_alive queue n)
+      before end is =
           subst (λ (o : Option Outcome). StandsAt stands begins program fuel s.program s.worker (Due answer) (s.state.threads n) (slice_get threads n) o (is_alive queue n)) is
           (subst (λ p. StandsAt stands begins program fuel s.program s.worker p (s.state.threads n) (slice_get threads n) (get_or ends n None) (is_alive queue n)) is_due (st.each n))
 
@@ -125,13 +120,16 @@ module _ {S : Type 0} (stands : S → Running → Type 0) (begins : S → List V
           (at_each n (λ m. (x : S) → slice_get (slice_set threads n y) m ≡ Some x → (program x ≡ s.program) × (fuel x ≡ s.budget))
           (λ x at. let e : y ≡ x = cc (at, slice_get-set_same threads n y within) in (sym (ap program e) ∙ same_program, sym (ap fuel e) ∙ same_fuel))
           (λ m h x at. st.alike m x (sym (slice_get-set_other threads n m y h) ∙ at)))
-          (subst (λ (o : Option Outcome). StandsAt stands begins program fuel s.program s.worker Free (s.state.threads n) (slice_get (slice_set threads n y) n) o (is_alive queue n)) (sym is)
-          (record {
-            thread = y;
-            at = slice_get-set_same threads n y within;
-            standing = subst (λ t. stands y t) (sym (b.0).told) standing;
-            here = subst IsHere (sym (b.0).told) (here_told s.program (b.0).awaiting answer (b.0).waits.here (b.0).waits.outcome);
-          }, b.1))
+          (subst (λ (o : Option Outcome). StandsAt stands begins program fuel s.program s.worker Free (s.state.threads n) (slice_get (slice_set threads n y) n) o (is_alive queue n)) (sym is) (
+            record {
+              thread = y;
+              at = slice_get-set_same threads n y within;
+              standing = subst (λ t. stands y t) (sym (b.0).told) standing;
+              here = subst IsHere (sym (b.0).told) (here_told s.program (b.0).awaiting answer (b.0).waits.here (b.0).waits.outcome);
+            },
+            b.1,
+          ))
+
     -- no other answer is due
     pub due_at : s.places n ≡ Due answer → answer_due queue n ≡ Some answer
     due_at h = due_place queue n answer (sym (st.places n) ∙ h)
@@ -142,9 +140,12 @@ module _ {S : Type 0} (stands : S → Running → Type 0) (begins : S → List V
     awaits_at due is x at =
         let b = before due None is in
         let w = (b.0).waits in
-        let same : w.thread ≡ x = cc (at, w.at) in
-        ((b.0).awaiting, subst (λ y. stands y (b.0).awaiting) same w.standing, w.outcome,
-        subst (λ (p : Program). wants_of p (b.0).awaiting ≡ Awaits) (sym (st.alike n x at).0) w.waits)
+        let same : w.thread ≡ x = cc (at, w.at) in (
+          (b.0).awaiting,
+          subst (λ y. stands y (b.0).awaiting) same w.standing,
+          w.outcome,
+          subst (λ (p : Program). wants_of p (b.0).awaiting ≡ Awaits) (sym (st.alike n x at).0) w.waits,
+        )
 
     pub within_at : answer_due queue n ≡ Some answer → get_or ends n None ≡ None → n < length threads
     within_at due is = let b = before due None is in slice_get_within threads n (b.0).waits.thread (b.0).waits.at

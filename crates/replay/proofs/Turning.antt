@@ -1,16 +1,14 @@
 -- A turn to which nothing is given.
-use Rattle.std.proofs.Common.{◌≡◌, ℕ, zero, suc, ◌+◌, ◌-◌, ◌<◌, ◌≤◌, Option, Some, None, refl, sym, ◌∙◌, ap, subst, arith, ◌⊎◌, inl, inr}
+use Rattle.std.proofs.Common.{◌≡◌, ℕ, zero, suc, ◌+◌, Option, Some, None, refl, sym, ◌∙◌, ap, subst, arith, ◌⊎◌, inl, inr}
 use Rattle.types.specs.declared.event.Event.{Event}
-use Rattle.types.specs.declared.event.Reply.{Reply}
 use Rattle.types.specs.declared.outcome.Outcome.{Outcome}
 use Rattle.schedule.specs.System.{Want, Want.Turns, Want.Calls, Want.Awaits, Want.Gone}
-use Rattle.schedule.specs.Machine.{Wish, Wish.Goes, Wish.Asks, Wish.Waits, Wish.Ends, Thread, Thread.Absent, Thread.Runs, Thread.Over, Thread.Leaves, Thread.Left, thread_wants, thread_goes, wanted}
+use Rattle.schedule.specs.Machine.{Wish, Wish.Asks, Wish.Waits, Wish.Ends, Thread.Absent, Thread.Runs, Thread.Over, Thread.Leaves, Thread.Left, thread_goes, wanted}
 use Rattle.machine.specs.Program.{Program}
-use Rattle.machine.specs.State as states
 use Rattle.machine.specs.State.{State}
 use Rattle.scheduled.specs.Shared.{over_memory_and_queue}
 use Rattle.scheduled.specs.Threads.{machine_of}
-use Rattle.takes_turns.specs.Turns.{Running, left_of, outcome_of, outcome_in, wants_of, own_turn_if, after_turn, answer_of, answer_by, wanted_before, IsWanted, IsTurned}
+use Rattle.takes_turns.specs.Turns.{Running, left_of, outcome_of, wants_of, own_turn_if, answer_by, wanted_before, IsWanted, IsTurned}
 use Rattle.takes_turns.specs.declared.turn.Given.TheVariants as given
 use Rattle.takes_turns.specs.declared.turn.Turn.{Turn}
 use Rattle.takes_turns.specs.declared.turn.Turn.TheVariants as turns

@@ -1,19 +1,22 @@
 -- Where a walk along a log stands: its threads, its memory and its queue are those of the scheduled machine.
-use Rattle.std.specs.Prelude.{ℕ, ◌≡◌, Bool, true, List, length, Option, Some, None, get_or, slice_set}
+use Rattle.std.specs.Prelude.{ℕ, ◌≡◌, ◌≢◌, Bool, true, false, List, length, Option, Some, None, get_or, slice_set}
 use Rattle.std.specs.List.{slice_get}
 use Rattle.types.specs.declared.value.ValType.{ValType}
 use Rattle.types.specs.declared.value.Value.{Value}
 use Rattle.types.specs.declared.event.Event.{Event}
 use Rattle.types.specs.declared.event.Reply.{Reply}
+use Rattle.types.specs.declared.event.Reply.TheVariants as replies
 use Rattle.types.specs.declared.event.Answer.{Answer}
 use Rattle.types.specs.declared.outcome.Outcome.{Outcome}
-use Rattle.shared_memory.specs.Memory.{Memory}
+use Rattle.types.specs.declared.event.Question.{Question}
+use Rattle.types.specs.declared.event.Question.TheVariants.{Spawn}
+use Rattle.shared_memory.specs.Memory.{Memory, state_after}
 use Rattle.shared_memory.specs.Events.{IsEvent}
 use Rattle.shared_memory.specs.WaitQueue.{WaitQueue, is_alive, next_id}
 use Rattle.shared_memory.proofs.Soundness.{IsSound}
-use Rattle.schedule.specs.System.{Want.Calls, Want.Awaits, System, put}
+use Rattle.schedule.specs.System.{Want.Calls, Want.Awaits, Act.Made, System, put}
 use Rattle.schedule.specs.System as systems
-use Rattle.schedule.specs.Histories.{Place, Place.Unstarted, Place.Free, Place.Open, Place.Due}
+use Rattle.schedule.specs.Histories.{Place, Place.Unstarted, Place.Free, Place.Open, Place.Due, next_places}
 use Rattle.schedule.specs.Machine.{Thread.Absent, Thread.Runs, Thread.Over, Thread.Leaves, Thread.Left, thread_hears}
 use Rattle.machine.specs.Program.{Program}
 use Rattle.machine.specs.Config.{Config}
@@ -25,7 +28,7 @@ use Rattle.takes_turns.specs.Turns.{Running, outcome_of, wants_of, left_of, IsGi
 use Rattle.takes_turns.specs.declared.turn.Given.{Given}
 use Rattle.takes_turns.specs.declared.turn.Turn.{Turn}
 use Rattle.takes_turns.specs.declared.turn.Turn.TheVariants as turns
-use Rattle.replay_rules.specs.Walk.{ComesTo}
+use Rattle.replay_rules.specs.Walk.{ComesTo, after_made}
 use Rattle.replay.specs.Recorded.{spawn_types, spawned_in}
 
 -- The thread was started, and hasn't asked to leave.
@@ -139,3 +142,44 @@ module _ {S : Type 0} (stands : S → Running → Type 0) (program : S → Progr
   pub record SettlesAt (x : S) (turn : Turn) (threads : List S) (n : ℕ) (after : List S) : Type 0 where
     pub replaced : IsReplaced x threads n after
     pub settled : (t : Running) → stands x t → IsHere t → SettlesAs (program x) t turn (stands replaced.now)
+
+  -- A spawned thread begins with its number and the argument of its spawn.
+  pub record IsStartedAt (x : S) (worker : List Value → Config) (arg : ℕ) (threads : List S) (n : ℕ) (after : List S) : Type 0 where
+    pub replaced : IsReplaced x threads n after
+    pub begun : stands replaced.now (Runs (spawned_in worker n arg) (fuel x))
+
+-- The machine after an event of thread n, where t is the thread that makes it.
+abbrev pub made_by : Standing → ℕ → Event → Reply → Running → Standing
+made_by s n e v t = record s {
+  memory = state_after s.memory e;
+  state = after_made (system_at s) s.state n e t;
+  places = next_places (system_at s) (s.state.shared) s.places n (Made e v);
+}
+
+module _ {S : Type 0} (stands : S → Running → Type 0) (begins : S → List ValType → (List Value → Config) → Type 0) (program : S → Program) (fuel : S → ℕ) where
+  -- A walk stands, but for thread n, which isn't asking and has made turns of its own.
+  pub record IsSettledOn (s : Standing) (threads : List S) (queue : WaitQueue) (begun : ℕ) (ends : List (Option Outcome)) (n : ℕ) (t : Running) : Type 0 where
+    pub before : List S
+    pub standing : IsStanding stands begins program fuel s before queue begun ends
+    pub thread : S
+    pub at : slice_get threads n ≡ Some thread
+    pub stood : stands thread t
+    pub here : IsHere t
+    pub alike : (program thread ≡ s.program) × (fuel thread ≡ s.budget)
+    pub others : (m : ℕ) → m ≢ n → slice_get threads m ≡ slice_get before m
+    pub alive : is_alive queue n ≡ true
+    pub going : get_or ends n None ≡ None
+    pub free : s.places n ≡ Free
+
+-- Who is spawned by a question, if there is room for it.
+abbrev pub is_spawn : Question → Bool
+is_spawn (Spawn arg) = true
+is_spawn question = false
+
+-- A reply with which an event was entered.
+abbrev pub IsAnswered : Reply → Type 0
+IsAnswered (replies.Value v) = Unit {0}
+IsAnswered replies.Done = Unit {0}
+IsAnswered replies.OutOfBounds = Unit {0}
+IsAnswered replies.Again = ⊥
+IsAnswered replies.Full = ⊥

@@ -2,10 +2,15 @@
 ghost use Rattle.std.specs.Prelude.{◌≡◌, ◌<◌, length, Some, slice_set};
 ghost use Rattle.std.specs.List.{slice_get};
 ghost use Rattle.takes_turns.specs.Turns.{Running, IsGiven, IsTurned};
-ghost use Rattle.replay.specs.Standing.{IsHere, SettlesAs, IsTurnedAt, SettlesAt};
+ghost use Rattle.std.specs.Prelude.{List};
+ghost use Rattle.types.specs.declared.value.Value.{Value};
+ghost use Rattle.machine.specs.Config.{Config};
+ghost use Rattle.replay.specs.Recorded.{spawn_types};
+ghost use Rattle.replay.specs.Standing.{IsHere, IsTurnedAt, SettlesAt, IsStartedAt};
 
 use crate::settle::settle;
 use takes_turns::{Given, TakesTurns, Turn};
+use types::Value;
 
 /// A turn of the thread of this number.
 pub(crate) fn turn_at<T: TakesTurns>(threads: &mut [T], n: usize, given: Given) -> Turn
@@ -23,4 +28,15 @@ pub(crate) fn settle_at<T: TakesTurns>(threads: &mut [T], n: usize, fuel: u64) -
     ensures settled { (x : T) → slice_get threads.old n ≡ Some x → SettlesAt T.stands T.program T.fuel x result threads.old n threads.new }
 {
     settle(&mut threads[n], fuel)
+}
+
+/// Starts the thread of this number, with the argument of its spawn.
+pub(crate) fn start_at<T: TakesTurns>(threads: &mut [T], n: usize, arg: u32)
+    requires within { n < length threads.old }
+    requires number { n < 16 }
+    requires begins { (x : T) → slice_get threads.old n ≡ Some x → (worker : List Value → Config) × T.begins x spawn_types worker }
+    ensures started { (x : T) (worker : List Value → Config) → slice_get threads.old n ≡ Some x → T.begins x spawn_types worker → IsStartedAt T.stands T.program T.fuel x worker arg threads.old n threads.new }
+{
+    let args = [Value::I32(n as u32), Value::I32(arg)];
+    threads[n].set_args(&args);
 }

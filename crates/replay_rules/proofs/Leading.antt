@@ -257,10 +257,13 @@ module _ {X T E V A W : Type 0} (s : System X T E V A) (rules : TryRules X E W) 
     where
       u : State X T
       u = l.state
+
       S : List Mark
       S = l.schedule
+
       by : LeadsBy w q count (told n a ∷ log) z l.state l.schedule
       by = l.leads
+
       here : ThreadLeads w (put q n Free) (suc count) log l.state l.schedule n
       here =
           let x = by.each n in
@@ -271,6 +274,7 @@ module _ {X T E V A W : Type 0} (s : System X T E V A) (rules : TryRules X E W) 
             near = subst (λ p. NearAt p (w.threads n) ((l.state).threads n) near.0) (sym (put-same q n Free)) near.2;
             full = subst (λ y. IsFullOnlyAtLimit s rules log n (suc count) (after_first_act (y ++ steps_made s n l.state l.schedule))) near.1 full;
           }
+
       others : (m : ℕ) → m ≢ n → ThreadLeads w (put q n Free) (suc count) log l.state l.schedule m
       others m h =
           let x = by.each m in
@@ -331,15 +335,15 @@ module _ {X T E V A W : Type 0} (s : System X T E V A) (rules : TryRules X E W) 
           elim near.1 [
             | inl b ↦ inl (record { turns = b.0; comes = b.1; rests = λ h. cc (h, wants) })
             | inr x ↦ (
-              let y = x.0 in
-              let c = laws.fill_calls y.settled y.may in
-              inr (record {
-                settled = y.settled;
-                settles = record { turns = y.turns; comes = y.comes; rests = λ h. cc (h, c.1) };
-                may = y.may;
-                reached = full_n.0 (still_full (l.each n).steps (steps_made s n u (mark_of n Turn ∷ S)) near.0 x.1);
-                filled = y.full;
-              }))
+                let y = x.0 in
+                let c = laws.fill_calls y.settled y.may in
+                inr (record {
+                  settled = y.settled;
+                  settles = record { turns = y.turns; comes = y.comes; rests = λ h. cc (h, c.1) };
+                  may = y.may;
+                  reached = full_n.0 (still_full (l.each n).steps (steps_made s n u (mark_of n Turn ∷ S)) near.0 x.1);
+                  filled = y.full;
+                }))
           ]
 
       can : CanMake s rules w q count n e v (u.threads n)
@@ -498,10 +502,10 @@ module _ {X T E V A W : Type 0} (s : System X T E V A) (rules : TryRules X E W) 
         elim (advance laws w q count [] z u x.thread x.kind S l) [
           | inl more ↦ ends S w q count z (after_mark s u x.thread x.kind) more
           | inr c ↦ (
-            let l2 = subst (λ kind. LeadsBy w q count [] z u (mark_of x.thread kind ∷ S)) c.2 l in
-            let bad : made x.thread c.0 (s.reply u.shared x.thread c.0) ∷ entries_made s (after_event s u x.thread c.0) S ≡ [] =
-            sym (λ i. entries_by s u x.thread (c.1 i) ++ entries_made s (after_turn s u x.thread (c.1 i)) S) ∙ l2.events in
-            absurd (cc bad))
+              let l2 = subst (λ kind. LeadsBy w q count [] z u (mark_of x.thread kind ∷ S)) c.2 l in
+              let bad : made x.thread c.0 (s.reply u.shared x.thread c.0) ∷ entries_made s (after_event s u x.thread c.0) S ≡ [] =
+              sym (λ i. entries_by s u x.thread (c.1 i) ++ entries_made s (after_turn s u x.thread (c.1 i)) S) ∙ l2.events in
+              absurd (cc bad))
         ]
 
     pub leads_end : (w : State X T) (q : ℕ → Place A) (count : ℕ) (z : State X T) → Leads w q count [] z → IsReached w z

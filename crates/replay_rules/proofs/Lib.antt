@@ -1,2 +1,3 @@
 pub mod Making
 pub mod Leading
+pub mod Walking

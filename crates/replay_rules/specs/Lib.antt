@@ -1,2 +1,3 @@
 pub mod Logs
 pub mod Walk
+pub mod Theorems

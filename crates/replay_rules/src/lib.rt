@@ -1,5 +1,31 @@
 //! Which logs a schedule makes, and the walk along a log that finds its first entry that no schedule makes.
 //!
-//! All is stated over any system of threads (crate `schedule`). `specs/Logs.antt` says when a schedule makes a log;
-//! `specs/Walk.antt` how one thread takes one entry of it.
+//! All is stated over any system of threads (crate `schedule`), so nothing here looks at an instruction. Each function does
+//! nothing, and its contract is a law; `X` are the shared states, `T` the threads, `E` the events, `V` the replies, `A` the
+//! answers, and `W` what events touch.
+//!
+//! - `specs/Logs.antt`: when a schedule without lost tries makes a log, and which entry of a log is the first that none makes.
+//! - `specs/Walk.antt`: how one thread takes an entry. It makes turns of its own until it wants an event, which has to be the
+//!   entry's, with its reply; at the limit a thread that wants another event leaves. An answer heard has to be due.
+//! - `proofs/Making.antt`: what a walk takes, a schedule makes: the thread's turns of its own, and the turn that makes the event.
+//! - `proofs/Leading.antt`: a run that makes the log leads the walk. Each of its threads is the walk's, some turns of its own
+//!   further, or ended by the full log there. So the walk can take whatever the run enters. This is one induction over the
+//!   run's schedule, and needs no reordering.
 #![tactic(auto)]
+
+ghost use Rattle.replay_rules.specs.Theorems.{WalksAreMade, EndsAreTheSame, StopsAreMisfits};
+
+/// A walk along a whole log: a schedule makes the log, and comes to where the walk does.
+pub fn walks_are_made<X, T, E, V, A, W>()
+    ensures { WalksAreMade X T E V A W }
+{}
+
+/// Every schedule that makes the log comes to the walk's shared state, and to the walk's threads as far as they are gone.
+pub fn ends_are_the_same<X, T, E, V, A, W>()
+    ensures { EndsAreTheSame X T E V A W }
+{}
+
+/// An entry that the walk can't take is the first that doesn't fit: some run makes those before it, and none goes on with it.
+pub fn stops_are_misfits<X, T, E, V, A, W>()
+    ensures { StopsAreMisfits X T E V A W }
+{}

@@ -1,9 +1,8 @@
-use Rattle.std.proofs.Common.{◌≡◌, ℕ, ◌+◌, ◌-◌, ◌≤◌, ◌∙◌, subst, arith}
+use Rattle.std.proofs.Common.{◌≡◌, ◌-◌, ◌∙◌, subst, arith}
 use Rattle.machine.specs.Program.{Program}
-use Rattle.takes_turns.specs.Turns.{Running, IsTurned}
+use Rattle.takes_turns.specs.Turns.{IsTurned}
 use Rattle.takes_turns.specs.declared.turn.Given.TheVariants as given
-use Rattle.replay.specs.Standing.{IsHere, SettlesAs}
-use Rattle.replay.proofs.Turning.{Going, goes_on, settles, settles_last}
+use Rattle.replay.proofs.Turning.{goes_on, settles, settles_last}
 use Rattle.replay.proofs.settle.settle.Goals as goal
 
 pub returns-in_default : goal.returns-in_default

@@ -1,4 +1,4 @@
-use Rattle.std.proofs.Common.{◌≡◌, ℕ, ◌+◌, ◌-◌, ◌≤◌}
+use Rattle.std.proofs.Common.{◌≡◌}
 use Rattle.takes_turns.specs.Turns.{Running}
 use Rattle.replay.specs.Standing.{IsHere}
 use Rattle.replay.proofs.Turning.{Going}

@@ -1,4 +1,4 @@
-use Rattle.std.proofs.Common.{◌≡◌, Some, refl, ◌∙◌, ap, subst, slice_index_or}
+use Rattle.std.proofs.Common.{◌≡◌, refl, ◌∙◌, ap, subst, slice_index_or}
 use Rattle.std.proofs.lemmas.Option.{get_or_from_slice_get}
 use Rattle.takes_turns.specs.Turns.{Running}
 use Rattle.replay.specs.Standing.{IsHere, SettlesAs}

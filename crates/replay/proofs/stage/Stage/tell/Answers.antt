@@ -1,7 +1,6 @@
-use Rattle.std.proofs.Common.{◌≡◌, ℕ, ◌<◌, true, false, length, Option, Some, None, refl, sym, ◌∙◌, ap, subst, get_or}
-use Rattle.types.specs.declared.event.Answer.{Answer}
+use Rattle.std.proofs.Common.{◌≡◌, Some, sym, ◌∙◌, subst}
 use Rattle.shared_memory.specs.WaitQueue.{WaitQueue, answer_due, after_answer}
-use Rattle.replay.specs.Standing.{IsStanding, Standing, IsToldOn}
+use Rattle.replay.specs.Standing.{IsToldOn}
 use Rattle.replay.proofs.Told.{due_at, gone_on, awaits_at, within_at, turned_on}
 use Rattle.replay.proofs.stage.Stage.tell.Goals as goal
 
