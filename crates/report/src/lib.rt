@@ -17,5 +17,5 @@ pub use command_line::{Job, Usage, command};
 pub use end::EndState;
 pub use job::{check, perform};
 pub use loading::{Refusal, load};
-pub use recording::{RecordRunFault, record_run};
+pub use recording::{RecordRunFault, run_recorded};
 pub use words::run_on_words;

@@ -1,10 +1,13 @@
-//! A run whose record is kept.
+//! A run over the memory that records.
+ghost use Rattle.std.specs.Prelude.{◌≡◌, ◌≤◌, ◌+◌, ◌++◌, [], length, vec_len, vec_capacity, IfOk};
+ghost use Rattle.module_run.specs.Runs.{opening_memory};
+ghost use Rattle.report.specs.Ends.{RecordsRun};
 
+use crate::end::EndState;
 use locked_recorder::{LockedRecorder, Naming, Prepared};
 use module_run::run;
 use one_memory::OpenFault;
-use record_text::{Record, RecordParts};
-use crate::end::EndState;
+use record_text::RecordParts;
 use spawn_host::RunFault;
 use std::alloc::{AllocError, Global};
 use std::marker::Brand;
@@ -12,16 +15,16 @@ use std::sync::Wait;
 use std::thread::Threads;
 use takes_turns::Gate;
 use thiserror::Error;
-use types::{Name, Sequence, Value};
+use types::{Name, Sequence, ThreadReport, Value};
 use validate::ValidModule;
 
 /// The most threads of a run.
 const MOST_THREADS: usize = 16;
 
-/// Why no run was recorded. All come before the first turn.
+/// Why there is no run over a memory of its own. All come before the first turn.
 #[derive(Clone, Copy, PartialEq, Eq, Debug, Error)]
 pub enum RecordRunFault {
-    /// 1: the recorder couldn't be opened.
+    /// 1: the memory couldn't be opened.
     #[error("open: {0}")]
     Open(OpenFault),
     /// 2: the run couldn't begin.
@@ -50,8 +53,24 @@ impl From<RunFault> for RecordRunFault {
     }
 }
 
-/// Runs an exported function over a new recording memory, and keeps its record.
-pub fn record_run<G, R>(
+/// What a record says of the call, and room for its ends: all that is taken before the first turn.
+#[derive(Drop)]
+struct Header {
+    invoke: Name,
+    args: Sequence<Value>,
+    ends: Vec<ThreadReport>,
+}
+
+/// Runs an exported function over a new memory that records, and gives what a record of the run says, and what the run
+/// leaves. The limit is 1 to 1,000,000 entries, and the fuel 0 to 1,000,000,000,000 units.
+///
+/// There is one history that all threads saw: the record's log. It is legal for the memory and for the wait queue; each
+/// thread's report follows from its own entries in it; and one thread that steps all threads along it comes to the same
+/// reports, pages and bytes.
+///
+/// # Errors
+/// `Open` where the recorder can't be opened, `Run` where the run can't begin, `NoMemory`. All come before the first turn.
+pub fn run_recorded<G, R>(
     rt: &R,
     alloc: Global,
     module: &ValidModule,
@@ -60,57 +79,81 @@ pub fn record_run<G, R>(
     fuel: u64,
     limit: u32,
     gate: &G,
-) -> Result<(Record, EndState), RecordRunFault>
+) -> Result<(RecordParts, EndState), RecordRunFault>
 where
     G: Gate + Sync,
     R: Threads + Wait + Sync,
+    ensures { IfOk result (λ r. RecordsRun «module».now.parts entry.now args.now fuel limit r.0 r.1) }
 {
+    let header = Header {
+        invoke: Name::from_string(String::from_str(alloc, entry)?),
+        args: Sequence::from_vec(Vec::from_slice(alloc, args)?),
+        ends: Vec::with_capacity(alloc, MOST_THREADS)?,
+    };
     let image = module.image(alloc)?;
     let prepared = Prepared::new(alloc, &image, module.pages_max(), limit)?;
-    record_named::<Brand, _, _>(rt, alloc, module, prepared, entry, args, fuel, limit, gate)
+    record_named::<Brand, _, _>(
+        rt, alloc, module, prepared, header, entry, args, fuel, limit, gate,
+    )
 }
 
+/// The same, over a recorder whose type has been named.
 fn record_named<B, G, R>(
     rt: &R,
     alloc: Global,
     module: &ValidModule,
     prepared: Prepared,
+    header: Header,
     entry: &str,
     args: &[Value],
     fuel: u64,
     limit: u32,
     gate: &G,
-) -> Result<(Record, EndState), RecordRunFault>
+) -> Result<(RecordParts, EndState), RecordRunFault>
 where
     B: Naming + Send + Sync,
     G: Gate + Sync,
     R: Threads + Wait + Sync,
+    requires table { prepared.table ≡ B.table }
+    requires opening { prepared.opening ≡ B.opening }
+    requires limit { prepared.limit ≡ B.limit }
+    requires image { B.opening ≡ opening_memory «module».now.parts }
+    requires bound { B.limit ≡ limit }
+    requires header { (header.invoke ≡ entry.now) × (header.args ≡ args.now) × (header.ends.items ≡ []) × (16 ≤ vec_capacity header.ends) }
+    ensures { IfOk result (λ r. RecordsRun «module».now.parts entry.now args.now fuel limit r.0 r.1) }
 {
-    let invoke = Name::from_string(String::from_str(alloc, entry)?);
-    let given = Sequence::from_vec(Vec::from_slice(alloc, args)?);
-    let mut ends = Vec::with_capacity(alloc, MOST_THREADS)?;
     let (memory, seats) = LockedRecorder::<B, &R>::open(alloc, rt, prepared)?;
     let end = run(rt, alloc, module, entry, args, fuel, &memory, seats, gate)?;
     let finished = memory.finish(end.seats);
-    for report in end.threads.iter() {
-        ends.push_reserved(*report);
-    }
+    let Header {
+        invoke,
+        args,
+        mut ends,
+    } = header;
+    copy_reports(&end.threads, &mut ends);
     let parts = RecordParts {
         invoke,
-        args: given,
+        args,
         fuel,
         limit,
         log: Sequence::from_vec(finished.log),
         ends: Sequence::from_vec(ends),
         pages: finished.pages,
     };
-    let Ok(record) = Record::new(parts) else {
-        unreachable!()
-    };
-    let state = EndState {
+    let end = EndState {
         threads: end.threads,
         pages: finished.pages,
         bytes: finished.bytes,
     };
-    Ok((record, state))
+    Ok((parts, end))
+}
+
+/// Copies the reports into the room that was kept for them.
+fn copy_reports(reports: &[ThreadReport], ends: &mut Vec<ThreadReport>)
+    requires { vec_len ends.old + length reports.now ≤ vec_capacity ends.old }
+    ensures { ends.new.items ≡ ends.old.items ++ reports.now }
+{
+    for report in reports {
+        ends.push_reserved(*report);
+    }
 }

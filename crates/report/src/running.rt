@@ -3,9 +3,9 @@ ghost use Rattle.std.specs.Prelude.{◌≤◌, IfOk};
 
 use crate::args::read_args;
 use crate::lines::write_end;
-use crate::recording::{RecordRunFault, record_run};
+use crate::recording::{RecordRunFault, run_recorded};
 use crate::words::run_on_words;
-use record_text::{Record, write_record};
+use record_text::{Record, RecordParts, write_record};
 use crate::end::EndState;
 use spawn_host::RunFault;
 use std::alloc::{AllocError, Global};
@@ -108,10 +108,10 @@ where
         let end = run_on_words(rt, alloc, module, invoke, &args, fuel, &OpenGate)?;
         return print(out, &end, wanted.dump);
     }
-    let (record, end) = record_run(rt, alloc, module, invoke, &args, fuel, limit, &OpenGate)?;
+    let (parts, end) = run_recorded(rt, alloc, module, invoke, &args, fuel, limit, &OpenGate)?;
     let status = print(out, &end, wanted.dump)?;
     if wanted.save.is_some() {
-        keep(&record, save)?;
+        keep(parts, save)?;
     }
     Ok(status)
 }
@@ -133,8 +133,11 @@ pub(crate) fn print<W: Write>(out: &mut W, end: &EndState, dump: u32) -> Result<
 }
 
 /// Writes a record to its file.
-fn keep<S: Write>(record: &Record, save: &mut S) -> Result<(), Trouble> {
-    if write_record(record, save).is_err() || save.flush().is_err() {
+fn keep<S: Write>(parts: RecordParts, save: &mut S) -> Result<(), Trouble> {
+    let Ok(record) = Record::new(parts) else {
+        return Err(Trouble::Save);
+    };
+    if write_record(&record, save).is_err() || save.flush().is_err() {
         return Err(Trouble::Save);
     }
     Ok(())
