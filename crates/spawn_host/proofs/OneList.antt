@@ -1,5 +1,5 @@
 -- From what each part of a run gives to one history.
-use Rattle.std.proofs.Common.{◌≡◌, ◌≢◌, ℕ, zero, suc, ◌+◌, ◌<◌, ◌≤◌, Bool, true, List, [], ◌∷◌, ◌++◌, length, Option, Some, None, refl, sym, ◌∙◌, ap, subst, arith, ◌⊎◌, inl, inr, append-nil, append_assoc, length-append, get_or, slice_get, take, drop, below_more}
+use Rattle.std.proofs.Common.{◌≡◌, ◌≢◌, ℕ, zero, suc, ◌+◌, ◌<◌, ◌≤◌, All, Bool, true, List, [], ◌∷◌, ◌++◌, length, Option, Some, None, refl, sym, ◌∙◌, ap, subst, arith, ◌⊎◌, inl, inr, append-nil, append_assoc, length-append, get_or, slice_get, take, drop, below_more}
 use Rattle.std.proofs.lemmas.Bool.{cases_lt}
 use Rattle.std.proofs.lemmas.Grind.{common_steps}
 use Rattle.std.proofs.lemmas.List.{append_cancel_left, get_or_default}
@@ -10,11 +10,12 @@ use Rattle.types.specs.declared.value.Value.TheVariants as values
 use Rattle.types.specs.declared.event.Entry.{Entry}
 use Rattle.types.specs.declared.outcome.ThreadReport.{ThreadReport}
 use Rattle.shared_memory.specs.Memory.{Memory}
-use Rattle.shared_memory.specs.WaitQueue.{WaitQueue}
+use Rattle.shared_memory.specs.WaitQueue.{WaitQueue, IsFree}
 use Rattle.shared_memory.specs.History.{entries_of, queue_after}
 use Rattle.shared_memory.specs.Legal.{IsQueueLegal}
 use Rattle.shared_memory.proofs.Histories.{entries_of-append, same_queue_legal}
 use Rattle.shared_memory.proofs.Soundness.{IsSound-after}
+use Rattle.shared_memory.proofs.Standing.{first_free}
 use Rattle.waiters.specs.Queue.{arg_of}
 use Rattle.desk.proofs.Prefixes.{prefix_trans}
 use Rattle.desk.specs.Calls.{Enters}
@@ -354,3 +355,46 @@ module _
     leads = λ d t stands_so here. subst (λ l. IsReport loses opening limit 0 (program first) t (fuel first) (get_or l 0 d) [] history) (sym threads_list) (head_case.0 d t stands_so here);
     works = works;
   }
+
+pub crew_length : {S T : Type 0} (loses : Bool) (opening : Memory) (limit : Option ℕ) (name : S → ℕ) (seen : S → List Entry) (program : T → Program) (fuel : T → ℕ) (stands : T → Running → Type 0)
+    (begins : T → List ValType → (List Value → Config) → Type 0) (first : T) (seat : S) (spawned : List T) (work : List S) (ends : List (WorkerEnd S))
+    → IsCrew loses opening limit name seen program fuel stands begins first seat spawned work ends → length ends ≡ suc (length work)
+crew_length loses opening limit name seen program fuel stands begins first seat spawned work ends crew =
+    ap length crew.parts ∙ ap suc (three_lengths (EndsWork loses opening limit name seen program fuel begins) spawned work crew.others crew.worked)
+
+-- who has seen nothing yet
+nothing_legal : IsQueueLegal []
+unfolding IsQueueLegal
+nothing_legal = tt
+
+pub first_may_ask : {S : Type 0} (name : S → ℕ) (seen : S → List Entry) (seat : S) → name seat ≡ 0 → seen seat ≡ [] → IsFree (queue_after (seen seat)) (name seat)
+first_may_ask name seen seat named new = rw (named, new) (first_free [] refl nothing_legal)
+
+-- the seats of thread 0, of the workers and of the desk
+pub record Unpacked {S : Type 0} (seats0 : List S) (seat : S) (work : List S) (desk : S) : Type 0 where
+  pub parts : seats0 ≡ (seat ∷ work) ++ desk ∷ []
+  pub len : length work ≡ 15
+
+pub unpacked : {S : Type 0} (seats0 popped work : List S) (seat desk : S) → seats0 ≡ popped ++ desk ∷ [] → length popped ≡ 16 → seat ≡ get_or popped 0 seat → work ≡ take 0 popped ++ drop 1 popped
+    → Unpacked seats0 seat work desk
+unpacked seats0 popped work seat desk popped_off len first others =
+    let off : popped ≡ seat ∷ work = taken_off popped work seat (omega (arith, len)) first others in
+    let count : length popped ≡ suc (length work) = ap length off in
+    record { parts = popped_off ∙ ap (λ w. w ++ desk ∷ []) off; len = omega (arith, len, count) }
+
+module _ {S : Type 0} (name : S → ℕ) (seen : S → List Entry) (seats0 : List S) (seat : S) (work : List S) (desk : S) (u : Unpacked seats0 seat work desk)
+    (names : (k : ℕ) (d : S) → k < 17 → name (get_or seats0 k d) ≡ k) (fresh : (k : ℕ) (d : S) → k < 17 → seen (get_or seats0 k d) ≡ []) where
+  pub lead_may_ask : IsFree (queue_after (seen seat)) (name seat)
+  lead_may_ask =
+      first_may_ask name seen seat (ap (λ l. name (get_or l 0 desk)) (sym u.parts) ∙ names 0 desk (omega arith))
+      (ap (λ l. seen (get_or l 0 desk)) (sym u.parts) ∙ fresh 0 desk (omega arith))
+
+  pub workers_new : All (λ s. entries_of (name s) (seen s) ≡ []) work
+  workers_new k d lt =
+      let is : get_or seats0 (suc k) d ≡ get_or work k d = ap (λ l. get_or l (suc k) d) u.parts ∙ get_or-left work desk k d lt in
+      let below : suc k < 17 = omega (arith, lt, u.len) in
+      ap (entries_of (name (get_or work k d))) (ap seen (sym is) ∙ fresh (suc k) d below)
+
+  pub desk_is : (d : S) → get_or seats0 16 d ≡ desk
+  desk_is d =
+      ap (λ l. get_or l 16 d) u.parts ∙ subst (λ (k : ℕ). get_or ((seat ∷ work) ++ desk ∷ []) k d ≡ desk) (ap suc u.len) (get_or-last (seat ∷ work) desk d)
