@@ -1,6 +1,6 @@
 -- What a configuration asks: a thread neither leaves nor takes an answer by an instruction, and what a question makes doesn't
 -- depend on its reply.
-use Rattle.std.proofs.Common.{◌≡◌, ℕ, zero, suc, ◌+◌, ◌-◌, ◌%◌, Bool, true, false, cond, List, [], ◌∷◌, ◌++◌, length, Option, Some, None, refl, sym, ap, subst, slice_get, slice_set, reverse, map}
+use Rattle.std.proofs.Common.{◌≡◌, ℕ, zero, suc, ◌+◌, ◌-◌, ◌%◌, Bool, cond, List, [], ◌∷◌, ◌++◌, length, Option, Some, None, refl, slice_get, reverse, map}
 use Rattle.std.specs.Prelude.{nat_eq, nat_lt, nat_le, take, drop}
 use Rattle.std.proofs.lemmas.Bool.{cond_both}
 use Rattle.types.specs.declared.value.ValType.{ValType}
@@ -19,14 +19,13 @@ use Rattle.types.specs.declared.instr.PlainInstr.{PlainInstr}
 use Rattle.types.specs.declared.instr.PlainInstr.TheVariants as plain
 use Rattle.types.specs.declared.parts.FuncType.{FuncType}
 use Rattle.types.specs.Nesting.{Code, Empty, Then, BlockThen, LoopThen, IfThen, IfElseThen}
-use Rattle.types.specs.Widths.{type_bytes, access_type, access_bytes, load_bytes}
-use Rattle.typing.specs.Typing.{results_of}
+use Rattle.types.specs.Widths.{type_bytes, access_type, access_bytes}
 use Rattle.numeric.specs.Integers.{signed}
 use Rattle.numeric.specs.Results.{NumericResult, NumericResult.Lacks, NumericResult.Gives, NumericResult.Traps as TrapsBy, numeric_result}
 use Rattle.machine.specs.Program.{Program, Function, zero_of}
 use Rattle.machine.specs.Config.{Label, Frame, Progress, Fresh, Halfway, Asked, Config, values_of, Next, Stuck, Goes, Traps, Finishes, Asks, Hears}
-use Rattle.machine.specs.Access.{answered_value, cut, in_one_word}
-use Rattle.machine.specs.Step.{on_top, on_number, on_some, on_front, with_rest, goes_on, waits, enters, returns_to, returns, branches, lands, ends, opens, calls_own, calls_spawn, calls, type_at, calls_place, same_type, on_address, loads, stores, if_aligned, on_aligned, atomics, computes, chosen, sets_local, does, runs, if_room, limited, hears, next_by, next}
+use Rattle.machine.specs.Access.{answered_value, cut}
+use Rattle.machine.specs.Step.{on_top, on_number, on_some, on_front, with_rest, waits, returns_to, returns, branches, lands, ends, opens, calls_own, calls_spawn, calls, type_at, calls_place, same_type, loads, stores, on_aligned, atomics, computes, chosen, does, runs, limited, next_by, next}
 
 abbrev pub AsksBy : Event → (ℕ → Config) → Type 0
 AsksBy (events.Ask (Wait addr width expected timeout)) go = (n : ℕ) → (go n ≡ go 0) × (Config.progress (go n) ≡ Asked)

@@ -8,7 +8,7 @@ use Rattle.types.specs.declared.event.Entry.{Entry}
 use Rattle.types.specs.declared.outcome.Outcome.{Outcome}
 use Rattle.shared_memory.specs.Memory.{Memory}
 use Rattle.schedule.specs.System.{Act.Made, Act.Heard, Step.Own, Step.Acts, Want, Want.Turns, Want.Calls, Want.Awaits, Want.Gone}
-use Rattle.schedule.specs.Machine.{Thread.Absent, Thread.Runs, Thread.Over, Thread.Leaves, Thread.Left, thread_takes, thread_hears, thread_goes}
+use Rattle.schedule.specs.Machine.{Thread.Absent, Thread.Runs, Thread.Over, Thread.Leaves, Thread.Left, thread_goes}
 use Rattle.machine.specs.Program.{Program}
 use Rattle.machine.specs.State.{At, heard}
 use Rattle.scheduled.specs.Threads.{machine_of}

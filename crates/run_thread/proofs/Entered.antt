@@ -1,12 +1,11 @@
 -- What a call of the memory or of the desk enters, as acts of the caller's thread.
-use Rattle.std.proofs.Common.{◌≡◌, ℕ, ◌==◌, Bool, true, false, cond, List, [], ◌∷◌, ◌++◌, Option, Some, None, refl, sym, ◌∙◌, ap, subst, append_assoc, append-nil}
+use Rattle.std.proofs.Common.{◌≡◌, ℕ, ◌==◌, Bool, true, false, cond, List, [], ◌∷◌, ◌++◌, Option, Some, None, refl, sym, ◌∙◌, ap, append_assoc}
 use Rattle.std.proofs.lemmas.Bool.{cond_both, both_ways}
 use Rattle.std.proofs.lemmas.List.{append_cancel_left}
 use Rattle.types.specs.declared.event.Entry.{Entry}
 use Rattle.types.specs.declared.event.Event.{Event}
 use Rattle.types.specs.declared.event.Event.TheVariants.{Ask, Told}
 use Rattle.types.specs.declared.event.Question.{Question}
-use Rattle.types.specs.declared.event.Question.TheVariants.{Leave}
 use Rattle.types.specs.declared.event.Answer.{Answer}
 use Rattle.types.specs.declared.event.Answer.TheVariants.{Number}
 use Rattle.types.specs.declared.event.Reply.{Reply}
@@ -14,10 +13,10 @@ use Rattle.types.specs.declared.event.Reply.TheVariants as replies
 use Rattle.shared_memory.specs.Memory.{Memory}
 use Rattle.shared_memory.specs.Events.{is_exempt}
 use Rattle.shared_memory.specs.WaitQueue.{IsFree}
-use Rattle.shared_memory.specs.History.{entry, entries_of, queue_after}
+use Rattle.shared_memory.specs.History.{entries_of, queue_after}
 use Rattle.shared_memory.specs.Access.{HasRoom, Answers, Accesses}
 use Rattle.shared_memory.proofs.Histories.{entries_of-append, entries_of-own}
-use Rattle.desk.specs.Calls.{Enters, FindsRoom, Misses, Hears, Sleeps, Leaves, Collects, Refused, asked_with, taken}
+use Rattle.desk.specs.Calls.{Enters, FindsRoom, Misses, Hears, Sleeps, Refused, asked_with, taken}
 use Rattle.schedule.specs.System.{Act.Made, Act.Heard}
 use Rattle.scheduled.specs.Seeing.{Sees, SeesAct, SeesFull}
 use Rattle.run_thread.specs.Serving.{IsOpen, IsAnswered, IsAsked, MayTry, try_of}

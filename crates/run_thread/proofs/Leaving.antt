@@ -1,6 +1,5 @@
 -- A thread that has ended leaves.
-use Rattle.std.proofs.Common.{◌≡◌, ℕ, ◌+◌, Bool, List, Option, Some, None, refl, sym, ◌∙◌, ap, subst}
-use Rattle.types.specs.declared.event.Event.{Event}
+use Rattle.std.proofs.Common.{◌≡◌, ℕ, ◌+◌, Bool, List, Option, Some, refl, ap}
 use Rattle.types.specs.declared.event.Event.TheVariants.{Ask}
 use Rattle.types.specs.declared.event.Question.TheVariants.{Leave}
 use Rattle.types.specs.declared.event.Answer.TheVariants.{Number}

@@ -1,5 +1,5 @@
 -- Who was spawned: arguments stay, and none comes once nobody is alive.
-use Rattle.std.proofs.Common.{◌≡◌, ◌≢◌, ℕ, zero, suc, ◌+◌, ◌<◌, ◌==◌, Bool, true, false, not, cond, List, [], ◌∷◌, ◌++◌, length, Option, Some, None, refl, sym, ◌∙◌, ap, subst, arith, append-nil, slice_get}
+use Rattle.std.proofs.Common.{◌≡◌, ℕ, zero, suc, ◌==◌, false, not, cond, List, [], ◌∷◌, ◌++◌, Some, None, refl, sym, ◌∙◌, ap, subst, slice_get}
 use Rattle.std.specs.Prelude.{nat_lt}
 use Rattle.std.specs.List.{list_any}
 use Rattle.std.proofs.lemmas.Bool.{cond_both, both_ways}
@@ -13,7 +13,7 @@ use Rattle.types.specs.declared.event.Answer.TheVariants.{Number}
 use Rattle.types.specs.declared.event.Reply.{Reply}
 use Rattle.types.specs.declared.event.Reply.TheVariants.{Value, Done, OutOfBounds, Again, Full}
 use Rattle.shared_memory.specs.declared.sleeper.Sleeper.{Sleeper}
-use Rattle.shared_memory.specs.WaitQueue.{WaitQueue, first_queue, is_alive, next_id, tells, wakes, sleeps, starts, ends_at_once, ended, end_answer, is_stuck, settled, asked, after_question, after_answer, IsFree}
+use Rattle.shared_memory.specs.WaitQueue.{WaitQueue, first_queue, is_alive, next_id, tells, wakes, sleeps, starts, ends_at_once, ended, end_answer, is_stuck, settled, asked, after_question, after_answer}
 use Rattle.shared_memory.specs.History.{of_queue, queue_step, queue_from, queue_after}
 use Rattle.shared_memory.specs.Legal.{IsAllowed, IsQueueLegalFrom, IsQueueLegal}
 use Rattle.shared_memory.proofs.Histories.{of_queue-append, queue_from-append, IsQueueLegalFrom-rest}

@@ -1,5 +1,5 @@
 -- What the workers promise, and have done.
-use Rattle.std.proofs.Common.{◌≡◌, ℕ, Bool, List, [], ◌∷◌, ◌++◌, Option, refl, sym, ◌∙◌, ap, subst}
+use Rattle.std.proofs.Common.{◌≡◌, ℕ, Bool, List, [], ◌∷◌, ◌++◌, Option, ◌∙◌, ap, subst}
 use Rattle.std.specs.declared.thread.PromisedHandle.{PromisedHandle}
 use Rattle.types.specs.declared.value.ValType.{ValType}
 use Rattle.types.specs.declared.value.Value.{Value}
@@ -10,7 +10,7 @@ use Rattle.machine.specs.Config.{Config}
 use Rattle.takes_turns.specs.Turns.{Running}
 use Rattle.spawn_host.specs.declared.worker.WorkerEnd.{WorkerEnd}
 use Rattle.spawn_host.specs.declared.crew.Duty.{Duty}
-use Rattle.spawn_host.specs.Pairs.{Together, AllThree}
+use Rattle.spawn_host.specs.Pairs.{AllThree}
 use Rattle.spawn_host.specs.Works.{EndsWork}
 use Rattle.spawn_host.specs.Crew.{EndsFirst, IsCrew}
 use Rattle.spawn_host.specs.Duties.{IsDuty, IsDone, Joined}

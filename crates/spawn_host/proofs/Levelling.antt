@@ -1,5 +1,5 @@
 -- Rounds of meetings.
-use Rattle.std.proofs.Common.{◌≡◌, ◌≢◌, ℕ, ◌+◌, ◌<◌, ◌≤◌, Bool, true, List, [], ◌∷◌, ◌++◌, length, refl, ap, subst, sym, ◌∙◌, arith, append-nil, get_or, set, inl, inr, get_or-set_same, get_or-set_other, length-set, below_more}
+use Rattle.std.proofs.Common.{◌≡◌, ◌≢◌, ℕ, ◌+◌, ◌<◌, ◌≤◌, Bool, List, length, ap, subst, sym, ◌∙◌, arith, get_or, set, inl, inr, get_or-set_same, get_or-set_other, length-set, below_more}
 use Rattle.std.proofs.lemmas.List.{get_or_read}
 use mathlib.Core.List.{IsPrefix}
 use Rattle.types.specs.declared.event.Entry.{Entry}

@@ -1,5 +1,5 @@
 -- Lists that go together, one place more at a time.
-use Rattle.std.proofs.Common.{◌≡◌, ℕ, zero, suc, ◌+◌, ◌<◌, All, List, [], ◌∷◌, ◌++◌, length, refl, sym, ◌∙◌, ap, subst, arith, append-nil, append_assoc, get_or}
+use Rattle.std.proofs.Common.{◌≡◌, suc, All, List, [], ◌∷◌, ◌++◌, length, refl, sym, ◌∙◌, ap, subst, arith, append-nil, append_assoc}
 use Rattle.spawn_host.specs.Pairs.{Together, AllThree}
 use Rattle.spawn_host.specs.Duties.{Joined}
 

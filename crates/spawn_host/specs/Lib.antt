@@ -4,3 +4,4 @@ pub mod Pairs
 pub mod Crew
 pub mod Duties
 pub mod Composed
+pub mod Faults

@@ -1,5 +1,5 @@
 //! The threads of a run, in one scope.
-ghost use Rattle.std.specs.Prelude.{◌≡◌, ◌≤◌, ◌<◌, ◌+◌, ◌++◌, ℕ, true, List, [], ◌∷◌, All, length, IfOk, OnErr, vec_len, vec_capacity};
+ghost use Rattle.std.specs.Prelude.{◌≡◌, ◌≤◌, ◌<◌, ◌+◌, ◌++◌, ℕ, true, List, [], ◌∷◌, All, length, IfOk, IfErr, vec_len, vec_capacity};
 ghost use Rattle.types.specs.declared.value.Value.{Value};
 ghost use Rattle.types.specs.declared.value.ValType.{ValType};
 ghost use Rattle.shared_memory.specs.History.{entries_of, queue_after};
@@ -10,6 +10,7 @@ ghost use Rattle.run_thread.specs.Ends.{IsHere};
 ghost use Rattle.spawn_host.specs.Pairs.{Together, AllThree};
 ghost use Rattle.spawn_host.specs.Works.{EndsWork};
 ghost use Rattle.spawn_host.specs.Crew.{EndsFirst, IsCrew};
+ghost use Rattle.spawn_host.specs.Faults.{IsOfSystem};
 ghost use Rattle.spawn_host.specs.Duties.{IsDuty, IsDone, Joined};
 
 use crate::report::RunFault;
@@ -59,6 +60,7 @@ where
     requires begins { All (λ (t : T). (start : List Value → Config) × T.begins t (ValType.I32 ∷ ValType.I32 ∷ []) start) threads.items }
     ensures duties { IfOk result (λ handles. AllThree (IsDuty memory.now) threads.items seats.items handles.items) }
     ensures len { IfOk result (λ handles. vec_len handles ≡ vec_len seats) }
+    ensures fault { IfErr result (λ fault. IsOfSystem fault) }
 {
     let Ok(mut handles) = Vec::with_capacity(alloc, seats.len()) else {
         return Err(RunFault::NoMemory);
@@ -128,7 +130,8 @@ where
     requires few { vec_len seats < 16 }
     requires new { All (λ (s : M.Seat). entries_of (M.name s) (M.seen s) ≡ []) seats.items }
     requires begins { All (λ (t : T). (start : List Value → Config) × T.begins t (ValType.I32 ∷ ValType.I32 ∷ []) start) threads.items }
-    ensures { IfOk result (λ ends. IsCrew M.LOSES M.opening (M.limit memory.now) M.name M.seen T.program T.fuel T.stands T.begins first seat threads.items seats.items ends.items) }
+    ensures fault { IfErr result (λ fault. IsOfSystem fault) }
+    ensures crew { IfOk result (λ ends. IsCrew M.LOSES M.opening (M.limit memory.now) M.name M.seen T.program T.fuel T.stands T.begins first seat threads.items seats.items ends.items) }
 {
     let mut seat = seat;
     let Ok(mut ends) = Vec::with_capacity(alloc, 16) else {

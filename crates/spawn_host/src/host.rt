@@ -1,5 +1,5 @@
 //! A run of real threads.
-ghost use Rattle.std.specs.Prelude.{◌≡◌, ◌≤◌, ◌<◌, ◌+◌, ℕ, true, List, [], ◌∷◌, All, IfOk, slice_index_or, vec_len, vec_capacity};
+ghost use Rattle.std.specs.Prelude.{◌≡◌, ◌≤◌, ◌<◌, ◌+◌, ℕ, true, List, [], ◌∷◌, All, IfOk, IfErr, slice_index_or, vec_len, vec_capacity};
 ghost use Rattle.types.specs.declared.value.Value.{Value};
 ghost use Rattle.types.specs.declared.value.ValType.{ValType};
 ghost use Rattle.shared_memory.specs.History.{entries_of, queue_after};
@@ -9,6 +9,7 @@ ghost use Rattle.takes_turns.specs.Turns.{Running};
 ghost use Rattle.run_thread.specs.Ends.{IsHere};
 ghost use Rattle.spawn_host.specs.Level.{Level};
 ghost use Rattle.spawn_host.specs.Crew.{IsCrew};
+ghost use Rattle.spawn_host.specs.Faults.{IsOfSystem};
 ghost use Rattle.spawn_host.specs.Composed.{IsComposed, reported, seats_of};
 
 use crate::crew::run_crew;
@@ -65,7 +66,8 @@ where
     requires few { vec_len seats < 16 }
     requires new { All (λ (s : M.Seat). entries_of (M.name s) (M.seen s) ≡ []) seats.items }
     requires begins { All (λ (t : T). (start : List Value → Config) × T.begins t (ValType.I32 ∷ ValType.I32 ∷ []) start) threads.items }
-    ensures { IfOk result (λ ends. IsCrew M.LOSES M.opening (M.limit memory.now) M.name M.seen T.program T.fuel T.stands T.begins first seat threads.items seats.items ends.items) }
+    ensures fault { IfErr result (λ fault. IsOfSystem fault) }
+    ensures crew { IfOk result (λ ends. IsCrew M.LOSES M.opening (M.limit memory.now) M.name M.seen T.program T.fuel T.stands T.begins first seat threads.items seats.items ends.items) }
 {
     thread::scope(
         thread::scope_env(),
@@ -77,7 +79,8 @@ where
             requires few { vec_len seats < 16 }
             requires new { All (λ (s : M.Seat). entries_of (M.name s) (M.seen s) ≡ []) seats.items }
             requires begins { All (λ (t : T). (start : List Value → Config) × T.begins t (ValType.I32 ∷ ValType.I32 ∷ []) start) threads.items }
-            ensures { IfOk result (λ ends. IsCrew M.LOSES M.opening (M.limit memory.entry.now) M.name M.seen T.program T.fuel T.stands T.begins first seat threads.items seats.items ends.items) }
+            ensures fault { IfErr result (λ fault. IsOfSystem fault) }
+            ensures crew { IfOk result (λ ends. IsCrew M.LOSES M.opening (M.limit memory.entry.now) M.name M.seen T.program T.fuel T.stands T.begins first seat threads.items seats.items ends.items) }
         {
             run_crew(
                 scope, rt, alloc, first, threads, memory, seat, seats, desk, gate,
@@ -86,7 +89,7 @@ where
     )
 }
 
-fn level_all<M: SharedMemory>(memory: &M, hub: &mut M::Seat, seats: &mut Vec<M::Seat>)
+pub(crate) fn level_all<M: SharedMemory>(memory: &M, hub: &mut M::Seat, seats: &mut Vec<M::Seat>)
     requires { M.has_queue_right hub.old ≡ true }
     ensures level { Level M.opening M.name M.has_queue_right M.seen hub.old hub.new seats.old.items seats.new.items }
     ensures len { vec_len seats.new ≡ vec_len seats.old }
@@ -120,6 +123,7 @@ where
     requires names { (k : ℕ) (d : M.Seat) → k < 17 → M.name (slice_index_or seats.items k d) ≡ k }
     requires new { (k : ℕ) (d : M.Seat) → k < 17 → M.seen (slice_index_or seats.items k d) ≡ [] }
     requires right { (d : M.Seat) → M.has_queue_right (slice_index_or seats.items 16 d) ≡ true }
+    ensures fault { IfErr result (λ fault. IsOfSystem fault) }
     ensures composed { IfOk result (λ end. IsComposed M.LOSES M.opening (M.limit memory.now) M.name M.seen T.program T.fuel T.stands T.begins first spawned.items end.threads.items end.seats.items) }
 {
     let Ok(mut reports) = Vec::with_capacity(alloc, 16) else {

@@ -1,4 +1,3 @@
-use Rattle.std.proofs.Common.{◌≡◌}
 use Rattle.run_thread.proofs.Entered.{sees_collected}
 use Rattle.run_thread.proofs.Turning.{of_thread}
 use Rattle.run_thread.proofs.Attending.{attends_reply, attends_answer, awaiting_stands, awaiting_given, may_be_told}

@@ -1,4 +1,4 @@
-use Rattle.std.proofs.Common.{◌≡◌, ◌∙◌}
+use Rattle.std.proofs.Common.{◌∙◌}
 use Rattle.takes_turns.specs.declared.turn.Turn.TheVariants.{Moved, Ended}
 use Rattle.run_thread.proofs.Attending.{attends_then, attends_moved}
 use Rattle.run_thread.proofs.running.run_steps.Goals as goal

@@ -1,4 +1,4 @@
-use Rattle.std.proofs.Common.{◌≡◌, ◌∙◌}
+use Rattle.std.proofs.Common.{◌∙◌}
 use Rattle.run_thread.proofs.Leaving.{runs_out}
 use Rattle.run_thread.proofs.running.run_thread.Goals as goal
 

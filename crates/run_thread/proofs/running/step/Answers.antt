@@ -1,5 +1,4 @@
-use Rattle.std.proofs.Common.{◌≡◌, refl, sym, ◌∙◌, subst}
-use Rattle.run_thread.specs.Serving.{Attends}
+use Rattle.std.proofs.Common.{refl, sym, ◌∙◌}
 use Rattle.run_thread.proofs.Attending.{wants_said, still_stands, attends_own}
 use Rattle.run_thread.proofs.running.step.Goals as goal
 

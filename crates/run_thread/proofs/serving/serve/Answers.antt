@@ -1,6 +1,6 @@
-use Rattle.std.proofs.Common.{◌≡◌, Bool, false, refl}
+use Rattle.std.proofs.Common.{◌≡◌, false, refl}
 use Rattle.types.specs.declared.event.Event.{Event}
-use Rattle.types.specs.declared.event.Event.TheVariants.{Size, Grow, Load, Store, Rmw, Cmpxchg, Ask, Told}
+use Rattle.types.specs.declared.event.Event.TheVariants.{Ask, Told}
 use Rattle.types.specs.declared.event.Question.{Question}
 use Rattle.types.specs.declared.event.Answer.{Answer}
 use Rattle.shared_memory.specs.Events.{is_of_queue}

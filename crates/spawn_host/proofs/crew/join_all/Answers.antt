@@ -1,4 +1,4 @@
-use Rattle.std.proofs.Common.{rules, sym, subst, vec_items}
+use Rattle.std.proofs.Common.{rules, vec_items}
 use Rattle.spawn_host.specs.Duties.{IsDone}
 use Rattle.spawn_host.proofs.Pairing.{joined_none, joined_more}
 use Rattle.spawn_host.proofs.crew.join_all.Goals as goal

@@ -1,4 +1,3 @@
-use Rattle.std.proofs.Common.{◌≡◌}
 use Rattle.spawn_host.proofs.Growing.{sees_grows}
 use Rattle.spawn_host.proofs.crew.lead.Goals as goal
 

@@ -1,9 +1,9 @@
-use Rattle.std.proofs.Common.{◌≡◌, ◌∙◌, ap, [], ◌∷◌, ◌++◌}
+use Rattle.std.proofs.Common.{◌∙◌, ap, [], ◌∷◌, ◌++◌}
 use Rattle.spawn_host.proofs.Duties.{crew_of}
 use Rattle.spawn_host.proofs.crew.run_crew.Goals as goal
 
-pub returns : goal.returns
-returns g c =
+pub returns-clause-crew : goal.returns-clause-crew
+returns-clause-crew g c =
     let m = g.M.SharedMemory in
     let t = g.T.TakesTurns in
     crew_of m.LOSES m.opening m.limit m.name m.seen t.program t.fuel t.stands t.begins c.args.memory.now c.args.first c.args.seat c.args.threads.items c.args.seats.items

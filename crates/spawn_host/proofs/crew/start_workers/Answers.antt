@@ -1,11 +1,10 @@
-use Rattle.std.proofs.Common.{rules, arith, ◌≡◌, ◌≤◌, ◌<◌, ◌+◌, ℕ, List, [], ◌∷◌, All, refl, sym, ◌∙◌, subst, vec_len, vec_items}
-use Rattle.std.specs.Vec.Iter.{into_iter_items, into_iter_len}
+use Rattle.std.proofs.Common.{rules, ◌≡◌, List, [], ◌∷◌, All, sym, subst, vec_items}
 use Rattle.types.specs.declared.value.Value.{Value}
 use Rattle.types.specs.declared.value.ValType.{ValType}
 use Rattle.shared_memory.specs.History.{entries_of}
 use Rattle.machine.specs.Config.{Config}
 use Rattle.spawn_host.specs.Duties.{IsDuty}
-use Rattle.spawn_host.proofs.Pairing.{SoFar, so_far_none, so_far_more, all_first, all_rest}
+use Rattle.spawn_host.proofs.Pairing.{so_far_none, so_far_more, all_first, all_rest}
 use Rattle.spawn_host.proofs.crew.start_workers.Goals as goal
 
 pub loop-seat-init : goal.loop-seat-init

@@ -1,1 +1,0 @@
-use Rattle.spawn_host.proofs.host.split.Goals as goal

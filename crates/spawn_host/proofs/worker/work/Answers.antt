@@ -1,4 +1,4 @@
-use Rattle.std.proofs.Common.{◌≡◌, [], ◌∷◌, ◌∙◌}
+use Rattle.std.proofs.Common.{[], ◌∷◌, ◌∙◌}
 use Rattle.types.specs.declared.value.Value.TheVariants.{I32}
 use Rattle.machine.specs.State.{At}
 use Rattle.schedule.specs.Machine.Thread.{Runs}
