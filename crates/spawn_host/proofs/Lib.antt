@@ -3,4 +3,6 @@ pub mod Growing
 pub mod Pairing
 pub mod Duties
 pub mod Arguments
+pub mod Home
 pub mod OneList
+pub mod Unspawned

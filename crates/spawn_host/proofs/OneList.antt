@@ -1,8 +1,7 @@
 -- From what each part of a run gives to one history.
-use Rattle.std.proofs.Common.{◌≡◌, ◌≢◌, ℕ, zero, suc, ◌+◌, ◌<◌, ◌≤◌, All, Bool, List, [], ◌∷◌, ◌++◌, length, Option, Some, None, refl, sym, ◌∙◌, ap, subst, arith, ◌⊎◌, inl, inr, append-nil, length-append, get_or, slice_get, take, drop, below_more}
+use Rattle.std.proofs.Common.{◌≡◌, ◌≢◌, ℕ, zero, suc, ◌<◌, ◌≤◌, All, Bool, List, [], ◌∷◌, ◌++◌, length, Option, Some, None, refl, sym, ◌∙◌, ap, subst, arith, ◌⊎◌, inl, inr, append-nil, get_or, slice_get, take, drop}
 use Rattle.std.proofs.lemmas.Bool.{cases_lt}
-use Rattle.std.proofs.lemmas.Grind.{common_steps}
-use Rattle.std.proofs.lemmas.List.{append_cancel_left, get_or_default}
+use Rattle.std.proofs.lemmas.List.{append_cancel_left}
 use mathlib.Core.List.{IsPrefix}
 use Rattle.types.specs.declared.value.ValType.{ValType}
 use Rattle.types.specs.declared.value.Value.{Value}
@@ -13,7 +12,7 @@ use Rattle.shared_memory.specs.Memory.{Memory}
 use Rattle.shared_memory.specs.WaitQueue.{WaitQueue, IsFree}
 use Rattle.shared_memory.specs.History.{entries_of, queue_after}
 use Rattle.shared_memory.specs.Legal.{IsQueueLegal}
-use Rattle.shared_memory.proofs.Histories.{entries_of-append, same_queue_legal}
+use Rattle.shared_memory.proofs.Histories.{entries_of-append}
 use Rattle.shared_memory.proofs.Soundness.{IsSound-after}
 use Rattle.shared_memory.proofs.Standing.{first_free}
 use Rattle.waiters.specs.Queue.{arg_of}
@@ -32,14 +31,9 @@ use Rattle.spawn_host.specs.Works.{Works, EndsWork}
 use Rattle.spawn_host.specs.Crew.{WorksFirst, IsCrew}
 use Rattle.spawn_host.specs.Composed.{with_report, reported, seats_of, IsReport, IsSpawnReport, IsComposed}
 use Rattle.spawn_host.proofs.Arguments.{arg_stays, none_comes}
+use Rattle.spawn_host.proofs.Home.{get_or-left, get_or-last, IsHome, come_home}
 
 -- lists, by place
-
-get_or-left : {A : Type 0} (xs : List A) (y : A) (k : ℕ) (d : A) → k < length xs → get_or (xs ++ y ∷ []) k d ≡ get_or xs k d
-get_or-left xs y k d lt = grind (arith, common_steps)
-
-get_or-last : {A : Type 0} (xs : List A) (y : A) (d : A) → get_or (xs ++ y ∷ []) (length xs) d ≡ y
-get_or-last xs y d = grind (arith, common_steps)
 
 -- the first of a list is taken off
 pub taken_off : {A : Type 0} (xs rest : List A) (x : A) → 0 < length xs → x ≡ get_or xs 0 x → rest ≡ take 0 xs ++ drop 1 xs → xs ≡ x ∷ rest
@@ -129,12 +123,12 @@ counts (x ∷ ends) (suc c) e h le =
 
 -- a run up to a list that the history goes on from
 module _ (loses : Bool) (opening : Memory) (limit : Option ℕ) (n : ℕ) (history : List Entry) where
-  silent_more : (last : List Entry) (p : IsPrefix last history) → entries_of n history ≡ entries_of n last → entries_of n p.0 ≡ []
+  pub silent_more : (last : List Entry) (p : IsPrefix last history) → entries_of n history ≡ entries_of n last → entries_of n p.0 ≡ []
   silent_more last p owned =
       append_cancel_left (entries_of n last) (entries_of n p.0) []
       (sym (entries_of-append n last p.0) ∙ (ap (entries_of n) p.1 ∙ (owned ∙ sym (append-nil (entries_of n last)))))
 
-  report_by : (p : Program) (t : Running) (fuel : ℕ) (report : ThreadReport) (begun last : List Entry) → entries_of n begun ≡ [] → IsPrefix last history → entries_of n history ≡ entries_of n last
+  pub report_by : (p : Program) (t : Running) (fuel : ℕ) (report : ThreadReport) (begun last : List Entry) → entries_of n begun ≡ [] → IsPrefix last history → entries_of n history ≡ entries_of n last
       → RunsOut p loses opening limit n t report.outcome report.spent fuel begun last → IsReport loses opening limit n p t fuel report begun history
   report_by p t fuel report begun last fresh prefix owned run = record {
     last = last;
@@ -175,6 +169,53 @@ module _ (loses : Bool) (opening : Memory) (limit : Option ℕ) (n : ℕ) (histo
       → Placed (length (WaitQueue.args (queue_after history))) k report
   placed_of p begins fuel k None is h = none_past (WaitQueue.args (queue_after history)) k (subst (λ j. arg_of (queue_after history) j ≡ None) is h.0)
   placed_of p begins fuel k (Some report) is h = got_within (WaitQueue.args (queue_after history)) k h.0 (subst (λ j. arg_of (queue_after history) j ≡ Some h.0) is h.1)
+
+-- who has seen nothing yet
+nothing_legal : IsQueueLegal []
+unfolding IsQueueLegal
+nothing_legal = tt
+
+pub first_may_ask : {S : Type 0} (name : S → ℕ) (seen : S → List Entry) (seat : S) → name seat ≡ 0 → seen seat ≡ [] → IsFree (queue_after (seen seat)) (name seat)
+first_may_ask name seen seat named new = rw (named, new) (first_free [] refl nothing_legal)
+
+-- the seats of thread 0, of the workers and of the desk
+pub record Unpacked {S : Type 0} (seats0 : List S) (seat : S) (work : List S) (desk : S) : Type 0 where
+  pub parts : seats0 ≡ (seat ∷ work) ++ desk ∷ []
+  pub len : length work ≡ 15
+
+pub unpacked : {S : Type 0} (seats0 popped work : List S) (seat desk : S) → seats0 ≡ popped ++ desk ∷ [] → length popped ≡ 16 → seat ≡ get_or popped 0 seat → work ≡ take 0 popped ++ drop 1 popped
+    → Unpacked seats0 seat work desk
+unpacked seats0 popped work seat desk popped_off len first others =
+    let off : popped ≡ seat ∷ work = taken_off popped work seat (omega (arith, len)) first others in
+    let count : length popped ≡ suc (length work) = ap length off in
+    record { parts = popped_off ∙ ap (λ w. w ++ desk ∷ []) off; len = omega (arith, len, count) }
+
+module _ {S : Type 0} (name : S → ℕ) (seen : S → List Entry) (seats0 : List S) (seat : S) (work : List S) (desk : S) (u : Unpacked seats0 seat work desk)
+    (names : (k : ℕ) (d : S) → k < 17 → name (get_or seats0 k d) ≡ k) (fresh : (k : ℕ) (d : S) → k < 17 → seen (get_or seats0 k d) ≡ []) where
+  pub first_name : name seat ≡ 0
+  first_name = ap (λ l. name (get_or l 0 desk)) (sym u.parts) ∙ names 0 desk (omega arith)
+
+  pub first_new : seen seat ≡ []
+  first_new = ap (λ l. seen (get_or l 0 desk)) (sym u.parts) ∙ fresh 0 desk (omega arith)
+
+  work_is : (k : ℕ) (d : S) → k < length work → get_or seats0 (suc k) d ≡ get_or work k d
+  work_is k d lt = ap (λ l. get_or l (suc k) d) u.parts ∙ get_or-left work desk k d lt
+
+  pub work_name : (k : ℕ) (d : S) → k < length work → name (get_or work k d) ≡ suc k
+  work_name k d lt = ap name (sym (work_is k d lt)) ∙ names (suc k) d (omega (arith, lt, u.len))
+
+  pub work_new : (k : ℕ) (d : S) → k < length work → seen (get_or work k d) ≡ []
+  work_new k d lt = ap seen (sym (work_is k d lt)) ∙ fresh (suc k) d (omega (arith, lt, u.len))
+
+  pub lead_may_ask : IsFree (queue_after (seen seat)) (name seat)
+  lead_may_ask = first_may_ask name seen seat first_name first_new
+
+  pub workers_new : All (λ s. entries_of (name s) (seen s) ≡ []) work
+  workers_new k d lt = ap (entries_of (name (get_or work k d))) (work_new k d lt)
+
+  pub desk_is : (d : S) → get_or seats0 16 d ≡ desk
+  desk_is d =
+      ap (λ l. get_or l 16 d) u.parts ∙ subst (λ (k : ℕ). get_or ((seat ∷ work) ++ desk ∷ []) k d ≡ desk) (ap suc u.len) (get_or-last (seat ∷ work) desk d)
 
 -- what the first thread's report says
 abbrev LeadsTo : {T : Type 0} → Bool → Memory → Option ℕ → (T → Program) → (T → ℕ) → (T → Running → Type 0) → T → List ThreadReport → List Entry → Type 0
@@ -217,23 +258,20 @@ module _
   len_home : length home ≡ 16
   len_home = ap length home_parts ∙ ap suc (seats_length crew.others ∙ len_others)
 
-  len' : length home' ≡ 16
-  len' = level.len ∙ len_home
+  places : Unpacked seats0 seat work desk
+  places = record { parts = parts; len = len }
 
   seat_name : name seat ≡ 0
-  seat_name = ap (λ l. name (get_or l 0 desk)) (sym parts) ∙ names 0 desk (omega arith)
+  seat_name = first_name name seen seats0 seat work desk places names fresh
 
   seat_fresh : seen seat ≡ []
-  seat_fresh = ap (λ l. seen (get_or l 0 desk)) (sym parts) ∙ fresh 0 desk (omega arith)
+  seat_fresh = first_new name seen seats0 seat work desk places names fresh
 
-  work_is : (k : ℕ) → k < 15 → get_or seats0 (suc k) desk ≡ get_or work k desk
-  work_is k lt = ap (λ l. get_or l (suc k) desk) parts ∙ get_or-left work desk k desk (omega (arith, len, lt))
-
-  work_name : (k : ℕ) → k < 15 → name (get_or work k desk) ≡ suc k
-  work_name k lt = ap name (sym (work_is k lt)) ∙ names (suc k) desk (omega (arith, lt))
+  name_of_work : (k : ℕ) → k < 15 → name (get_or work k desk) ≡ suc k
+  name_of_work k lt = work_name name seen seats0 seat work desk places names fresh k desk (omega (arith, len, lt))
 
   work_fresh : (k : ℕ) → k < 15 → seen (get_or work k desk) ≡ []
-  work_fresh k lt = ap seen (sym (work_is k lt)) ∙ fresh (suc k) desk (omega (arith, lt))
+  work_fresh k lt = work_new name seen seats0 seat work desk places names fresh k desk (omega (arith, len, lt))
 
   worker : (k : ℕ) (e : T) → k < 15 → EndsWork loses opening limit name seen program fuel begins (get_or spawned k e) (get_or work k desk) (get_or crew.others k crew.head)
   worker k e lt = three_at (EndsWork loses opening limit name seen program fuel begins) spawned work crew.others k e desk crew.head crew.worked (omega (arith, len, lt))
@@ -245,26 +283,26 @@ module _
   home_name zero lt = ap (λ l. name (get_or l 0 desk)) home_parts ∙ (crew.ended.name_is ∙ seat_name)
   home_name (suc k) lt =
       let below : k < 15 = omega (arith, lt) in
-      ap name (end_seat k below) ∙ ((worker k first below).name_is ∙ work_name k below)
+      ap name (end_seat k below) ∙ ((worker k first below).name_is ∙ name_of_work k below)
+
+  came : IsHome opening name seen desk home all history
+  came = come_home opening name right seen desk hub hub' home home' all len_home home_name all_are level legal hub_name hub_silent
 
   owned : (k : ℕ) → k < 16 → entries_of k history ≡ entries_of k (seen (get_or home k desk))
-  owned k lt =
-      let inside : k < length home = omega (arith, len_home, lt) in
-      let goes = rw (home_name k lt) at (level.goes k desk inside).owned in
-      ap (entries_of k) (sym (level.one k desk inside)) ∙ goes
+  owned = came.owned
 
   holds : (k : ℕ) → k < 16 → IsPrefix (seen (get_or home k desk)) history
-  holds k lt = level.holds k desk (omega (arith, len_home, lt))
+  holds = came.holds
 
   queue : IsQueueLegal history
-  queue = same_queue_legal history (seen hub) level.hub_goes.queue legal
+  queue = came.queue
 
   worker_case : (k : ℕ) (e : T) → k < 15
       → CaseOf loses opening limit (suc k) history (program (get_or spawned k e)) (begins (get_or spawned k e)) (fuel (get_or spawned k e)) (WorkerEnd.report (get_or crew.others k crew.head))
   worker_case k e lt =
       let w = worker k e lt in
       let up : suc k < 16 = omega (arith, lt) in
-      let works = rw (work_name k lt) at w.works in
+      let works = rw (name_of_work k lt) at w.works in
       case_of loses opening limit (suc k) history (program (get_or spawned k e)) (begins (get_or spawned k e)) (fuel (get_or spawned k e)) (WorkerEnd.report (get_or crew.others k crew.head))
       (seen (get_or work k desk)) (seen (WorkerEnd.seat (get_or crew.others k crew.head))) (work_fresh k lt)
       (subst (λ s. IsPrefix (seen s) history) (end_seat k lt) (holds (suc k) up)) (owned (suc k) up ∙ ap (λ s. entries_of (suc k) (seen s)) (end_seat k lt)) queue works
@@ -305,7 +343,7 @@ module _
   silent zero le some none = absurd (some refl)
   silent (suc k) le some none = elim (below_or k le) [
     | inl lt ↦ silent_by k (WorkerEnd.report (get_or crew.others k crew.head)) first none (worker_case k first lt)
-    | inr is ↦ (let owned16 = rw hub_name at level.hub_goes.owned in subst (λ j. entries_of (suc j) history ≡ []) (sym is) (owned16 ∙ hub_silent))
+    | inr is ↦ subst (λ j. entries_of (suc j) history ≡ []) (sym is) came.desk
   ]
     where
       below_or : (k : ℕ) → suc k ≤ 16 → (k < 15) ⊎ (k ≡ 15)
@@ -330,25 +368,13 @@ module _
       subst (λ x. IsSpawnReport loses opening limit (suc k) arg (program (get_or spawned k e)) (begins (get_or spawned k e)) (fuel (get_or spawned k e)) x history) (sym at)
       (works_by k arg e (WorkerEnd.report (get_or crew.others k crew.head)) (get_or (reported crew.others) k d) (counted.each k d crew.head placed) has (worker_case k e below))
 
-  all_at : (k : ℕ) (d : S) → k < 16 → get_or all k d ≡ get_or home' k d
-  all_at k d lt = ap (λ l. get_or l k d) all_are ∙ get_or-left home' hub' k d (omega (arith, len', lt))
-
-  all_last : (d : S) → get_or all 16 d ≡ hub'
-  all_last d = ap (λ l. get_or l 16 d) all_are ∙ subst (λ (k : ℕ). get_or (home' ++ hub' ∷ []) k d ≡ hub') len' (get_or-last home' hub' d)
-
   pub composed : IsComposed loses opening limit name seen program fuel stands begins first spawned threads all
   composed = record {
     history = history;
-    len = ap length all_are ∙ length-append home' (hub' ∷ []) ∙ ap (λ (k : ℕ). k + 1) len';
-    names = λ k d lt.
-        below_more (λ (j : ℕ). name (get_or all j d) ≡ j) 16
-        (λ j low. let inside : j < length home = omega (arith, len_home, low) in
-        rw (all_at j d low) ((level.goes j d inside).name_is ∙ (ap name (get_or_default home j d desk inside) ∙ home_name j low)))
-        (rw (all_last d) (level.hub_goes.name_is ∙ hub_name)) k lt;
-    seen_by = λ k d lt.
-        below_more (λ (j : ℕ). seen (get_or all j d) ≡ history) 16
-        (λ j low. rw (all_at j d low) (level.one j d (omega (arith, len_home, low)))) (rw (all_last d) refl) k lt;
-    legal = level.legal (omega (arith, len_home));
+    len = came.len;
+    names = came.names;
+    seen_by = came.seen_by;
+    legal = came.legal;
     queue = queue;
     silent = silent;
     count = ap length threads_list ∙ (head_case.1 ∙ (let e = counted.count in omega (arith, e)));
@@ -361,40 +387,3 @@ pub crew_length : {S T : Type 0} (loses : Bool) (opening : Memory) (limit : Opti
     → IsCrew loses opening limit name seen program fuel stands begins first seat spawned work ends → length ends ≡ suc (length work)
 crew_length loses opening limit name seen program fuel stands begins first seat spawned work ends crew =
     ap length crew.parts ∙ ap suc (three_lengths (EndsWork loses opening limit name seen program fuel begins) spawned work crew.others crew.worked)
-
--- who has seen nothing yet
-nothing_legal : IsQueueLegal []
-unfolding IsQueueLegal
-nothing_legal = tt
-
-pub first_may_ask : {S : Type 0} (name : S → ℕ) (seen : S → List Entry) (seat : S) → name seat ≡ 0 → seen seat ≡ [] → IsFree (queue_after (seen seat)) (name seat)
-first_may_ask name seen seat named new = rw (named, new) (first_free [] refl nothing_legal)
-
--- the seats of thread 0, of the workers and of the desk
-pub record Unpacked {S : Type 0} (seats0 : List S) (seat : S) (work : List S) (desk : S) : Type 0 where
-  pub parts : seats0 ≡ (seat ∷ work) ++ desk ∷ []
-  pub len : length work ≡ 15
-
-pub unpacked : {S : Type 0} (seats0 popped work : List S) (seat desk : S) → seats0 ≡ popped ++ desk ∷ [] → length popped ≡ 16 → seat ≡ get_or popped 0 seat → work ≡ take 0 popped ++ drop 1 popped
-    → Unpacked seats0 seat work desk
-unpacked seats0 popped work seat desk popped_off len first others =
-    let off : popped ≡ seat ∷ work = taken_off popped work seat (omega (arith, len)) first others in
-    let count : length popped ≡ suc (length work) = ap length off in
-    record { parts = popped_off ∙ ap (λ w. w ++ desk ∷ []) off; len = omega (arith, len, count) }
-
-module _ {S : Type 0} (name : S → ℕ) (seen : S → List Entry) (seats0 : List S) (seat : S) (work : List S) (desk : S) (u : Unpacked seats0 seat work desk)
-    (names : (k : ℕ) (d : S) → k < 17 → name (get_or seats0 k d) ≡ k) (fresh : (k : ℕ) (d : S) → k < 17 → seen (get_or seats0 k d) ≡ []) where
-  pub lead_may_ask : IsFree (queue_after (seen seat)) (name seat)
-  lead_may_ask =
-      first_may_ask name seen seat (ap (λ l. name (get_or l 0 desk)) (sym u.parts) ∙ names 0 desk (omega arith))
-      (ap (λ l. seen (get_or l 0 desk)) (sym u.parts) ∙ fresh 0 desk (omega arith))
-
-  pub workers_new : All (λ s. entries_of (name s) (seen s) ≡ []) work
-  workers_new k d lt =
-      let is : get_or seats0 (suc k) d ≡ get_or work k d = ap (λ l. get_or l (suc k) d) u.parts ∙ get_or-left work desk k d lt in
-      let below : suc k < 17 = omega (arith, lt, u.len) in
-      ap (entries_of (name (get_or work k d))) (ap seen (sym is) ∙ fresh (suc k) d below)
-
-  pub desk_is : (d : S) → get_or seats0 16 d ≡ desk
-  desk_is d =
-      ap (λ l. get_or l 16 d) u.parts ∙ subst (λ (k : ℕ). get_or ((seat ∷ work) ++ desk ∷ []) k d ≡ desk) (ap suc u.len) (get_or-last (seat ∷ work) desk d)

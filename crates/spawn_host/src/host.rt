@@ -89,7 +89,7 @@ where
     )
 }
 
-fn level_all<M: SharedMemory>(memory: &M, hub: &mut M::Seat, seats: &mut Vec<M::Seat>)
+pub(crate) fn level_all<M: SharedMemory>(memory: &M, hub: &mut M::Seat, seats: &mut Vec<M::Seat>)
     requires { M.has_queue_right hub.old ≡ true }
     ensures level { Level M.opening M.name M.has_queue_right M.seen hub.old hub.new seats.old.items seats.new.items }
     ensures len { vec_len seats.new ≡ vec_len seats.old }

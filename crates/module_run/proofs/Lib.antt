@@ -1,0 +1,3 @@
+pub mod Imported
+pub mod Calling
+pub mod Together

@@ -1,0 +1,62 @@
+-- What a run of a module gives.
+use Rattle.std.specs.Prelude.{ℕ, ◌≡◌, ◌+◌, ◌<◌, Bool, List, length, map, Option, Some, slice_get, slice_index_or}
+use Rattle.types.specs.declared.value.Value.{Value}
+use Rattle.types.specs.declared.parts.FuncType.{FuncType}
+use Rattle.types.specs.declared.parts.Body.{Body}
+use Rattle.types.specs.declared.parts.Parts.{Parts}
+use Rattle.types.specs.declared.event.Entry.{Entry}
+use Rattle.types.specs.declared.outcome.Outcome.{Outcome}
+use Rattle.types.specs.declared.outcome.ThreadReport.{ThreadReport}
+use Rattle.types.specs.Values.{type_of}
+use Rattle.typing.specs.Image.{opening_image, pages_max_of}
+use Rattle.shared_memory.specs.Memory.{Memory}
+use Rattle.shared_memory.specs.WaitQueue.{WaitQueue}
+use Rattle.shared_memory.specs.History.{queue_after}
+use Rattle.machine.specs.Program.{program_of}
+use Rattle.machine.specs.State.{State, At}
+use Rattle.interp.specs.Starts.{start_of}
+use Rattle.one_schedule.specs.Runs.{Start, RanTogether}
+use Rattle.one_schedule.specs.Theorem.{IsOneRun}
+use Rattle.module_run.specs.Entries.{Exports, StartsThreads, CallsThreadStart}
+
+-- The memory of a module before the first instruction.
+abbrev pub opening_memory : Parts → Memory
+opening_memory m = record { bytes = opening_image m; max = pages_max_of m }
+
+-- What the threads of a run start with: thread 0 calls a function of this type and with this body, with the arguments.
+abbrev pub start_with : Parts → FuncType → Body → List Value → (ℕ → ℕ → State) → ℕ → Start
+start_with m t b args spawned fuel = record {
+  program = program_of m;
+  main = At (start_of m t b args);
+  spawned = spawned;
+  fuel = fuel;
+  opening = opening_memory m;
+}
+
+-- A report tells how a thread ended, and how many units of its budget it spent.
+pub record Tells (report : ThreadReport) (fuel : ℕ) (outcome : Outcome) (left : ℕ) : Type 0 where
+  pub outcome_is : report.outcome ≡ outcome
+  pub budget : report.spent + left ≡ fuel
+
+-- Thread 0 called the function that is exported by the name, with the arguments. All 17 seats have seen one history. The reports
+-- are of thread 0 and of the threads that were spawned in it, in order of their numbers. The threads ran together in that
+-- history, and so it is the history of one run: one thread that steps them all makes it, with the same memory and ends.
+pub record IsRun {S : Type 0} (m : Parts) (entry : List ℕ) (args : List Value) (fuel : ℕ) (loses : Bool) (limit : Option ℕ)
+    (name : S → ℕ) (seen : S → List Entry) (threads : List ThreadReport) (seats : List S) : Type 0 where
+  pub own : ℕ
+  pub func_type : FuncType
+  pub body : Body
+  pub exports : Exports m entry own func_type body
+  pub fit : map type_of args ≡ func_type.params
+  pub spawned : ℕ → ℕ → State
+  pub calls : StartsThreads m → CallsThreadStart m spawned
+  pub history : List Entry
+  pub len : length seats ≡ 17
+  pub names : (k : ℕ) (d : S) → k < 17 → name (slice_index_or seats k d) ≡ k
+  pub seen_by : (k : ℕ) (d : S) → k < 17 → seen (slice_index_or seats k d) ≡ history
+  pub count : length threads ≡ length (WaitQueue.args (queue_after history)) + 1
+  pub outcomes : ℕ → Outcome
+  pub lefts : ℕ → ℕ
+  pub reports : (n : ℕ) (report : ThreadReport) → slice_get threads n ≡ Some report → Tells report fuel (outcomes n) (lefts n)
+  pub together : RanTogether (start_with m func_type body args spawned fuel) loses limit history outcomes lefts
+  pub one : IsOneRun (start_with m func_type body args spawned fuel) loses limit history outcomes lefts

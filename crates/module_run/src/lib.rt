@@ -1,0 +1,6 @@
+//! The run of a module: each of its threads is a real one, over one shared memory, and what they did together is one run.
+#![tactic(auto)]
+
+mod fit;
+mod threads;
+
