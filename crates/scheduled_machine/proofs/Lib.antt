@@ -1,1 +1,6 @@
 pub mod Turning
+pub mod Telling
+pub mod Orderly
+pub mod Slots
+pub mod Asked
+pub mod Marks

@@ -6,6 +6,8 @@
 
 mod mark;
 mod stepped;
+mod stepping;
 
 pub use mark::{Kind, Mark};
 pub use stepped::Stepped;
+pub use stepping::Machine;
