@@ -4,3 +4,4 @@ pub mod Orderly
 pub mod Slots
 pub mod Asked
 pub mod Marks
+pub mod Accesses

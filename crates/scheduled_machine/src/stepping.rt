@@ -1,8 +1,8 @@
 //! The machine: all threads of a module over one memory and one wait queue, stepped mark by mark.
-ghost use Rattle.std.specs.Prelude.{◌≡◌, ◌<◌, ℕ, Some, None, length, MatchOption};
+ghost use Rattle.std.specs.Prelude.{◌≡◌, ◌<◌, ℕ, Some, None, false, length, MatchOption};
 ghost use Rattle.types.specs.declared.event.Event.TheVariants.{Ask};
 ghost use Rattle.types.specs.declared.event.Reply.TheVariants.{OutOfBounds};
-ghost use Rattle.shared_memory.specs.Events.{IsEvent};
+ghost use Rattle.shared_memory.specs.Events.{IsEvent, is_of_queue};
 ghost use Rattle.shared_memory.specs.Memory.{reply_of};
 ghost use Rattle.shared_memory.specs.WaitQueue.{IsFree, next_id, after_question, answer_due, after_answer};
 ghost use Rattle.shared_memory.specs.History.{value_of};
@@ -88,5 +88,23 @@ impl<T: TakesTurns> Machine<T> {
         ensures { (s : Setting) (w : State Shared Running) → IsAt T.stands T.begins T.program T.fuel s self.old w → called (wants_of s.program (w.threads n)) ≡ None → IsAt T.stands T.begins T.program T.fuel s self.new (after_mark (system_by s) w n systems.Turn) }
     {
         self.threads[n as usize].go();
+    }
+
+    /// A thread makes the event that it wants, which is no question.
+    fn access(&mut self, n: u32, event: Event) -> Entry
+        requires event { IsEvent event }
+        requires no_question { is_of_queue event ≡ false }
+        requires there { n < length self.old.threads.items }
+        requires state { (s : Setting) × (w : State Shared Running) × IsAt T.stands T.begins T.program T.fuel s self.old w × (wants_of s.program (w.threads n) ≡ Calls event) }
+        ensures state { (s : Setting) (w : State Shared Running) → IsAt T.stands T.begins T.program T.fuel s self.old w → wants_of s.program (w.threads n) ≡ Calls event → IsAt T.stands T.begins T.program T.fuel s self.new (after_event (system_by s) w n event) }
+        ensures entry { result ≡ record { thread = n; event = event; reply = reply_of self.old.memory event } }
+    {
+        let reply = self.memory.step(&event);
+        self.threads[n as usize].take(reply);
+        Entry {
+            thread: n,
+            event,
+            reply,
+        }
     }
 }
