@@ -5,3 +5,4 @@ pub mod Slots
 pub mod Asked
 pub mod Marks
 pub mod Accesses
+pub mod Beginning

@@ -15,7 +15,7 @@ use Rattle.types.specs.declared.outcome.Outcome.{Outcome}
 use Rattle.shared_memory.specs.Memory.{Memory}
 use Rattle.shared_memory.specs.WaitQueue.{WaitQueue, is_alive, is_asleep, answer_due, next_id, after_question, IsFree}
 use Rattle.shared_memory.proofs.Soundness.{IsSound}
-use Rattle.schedule.specs.System.{Want.Awaits, System, State}
+use Rattle.schedule.specs.System.{Want.Awaits, System, State, put}
 use Rattle.schedule.specs.System as systems
 use Rattle.schedule.specs.Scheduled.{hears_any, or_started}
 use Rattle.schedule.specs.Machine.{Thread.Absent, Thread.Runs}
@@ -48,6 +48,10 @@ start_of s main opening = record { program = s.program; main = states.At main; s
 
 abbrev pub system_by : Setting → System Shared Running Event Reply Answer
 system_by s = over_memory_and_queue (machine_of s.program) (spawned_in s.worker) s.fuel
+
+-- At first thread 0 alone is there.
+abbrev pub first_thread : Running → ℕ → Running
+first_thread t = put (λ (m : ℕ). Absent) 0 t
 
 -- What every state of the scheduled machine keeps to: no answer is due, who was started and hasn't left is alive, and who
 -- sleeps awaits the answer to its question.

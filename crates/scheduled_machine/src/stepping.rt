@@ -9,11 +9,14 @@ ghost use Rattle.shared_memory.specs.History.{value_of};
 ghost use Rattle.schedule.specs.System.{State, Want.Calls, put};
 ghost use Rattle.schedule.specs.System as systems;
 ghost use Rattle.schedule.specs.Scheduled.{after_mark, after_event, entries_at};
+ghost use Rattle.schedule.specs.Machine.{Thread.Runs};
+ghost use Rattle.machine.specs.Config.{Config};
+ghost use Rattle.machine.specs.State.{At};
 ghost use Rattle.scheduled.specs.Shared.{Shared, starts_by, without_dues};
-ghost use Rattle.one_schedule.specs.Runs.{as_acts};
+ghost use Rattle.one_schedule.specs.Runs.{first_state};
 ghost use Rattle.takes_turns.specs.Turns.{Running, wants_of};
 ghost use Rattle.scheduled_machine.specs.Threads.{Setting, called};
-ghost use Rattle.scheduled_machine.specs.Runs.{AreThreads, MayHear, IsAt, CanStart, all_hear, started_by, system_by, kind_of, listed, opening_value};
+ghost use Rattle.scheduled_machine.specs.Runs.{AreThreads, MayHear, IsAt, all_hear, system_by, start_of, first_thread};
 
 use crate::mark::{Kind, Mark};
 use crate::stepped::Stepped;
@@ -59,6 +62,19 @@ fn tell_all<T: TakesTurns>(queue: &mut Queue, threads: &mut Vec<Stepped<T>>)
 }
 
 impl<T: TakesTurns> Machine<T> {
+    /// A machine before its first mark: of its 16 threads, thread 0 is at its start, and the others aren't started.
+    pub fn new(threads: Vec<Stepped<T>>, memory: OneMemory) -> Machine<T>
+        requires { length threads.items ≡ 16 }
+        ensures { (s : Setting) (main : Config) → AreThreads T.stands T.begins T.program T.fuel s threads.items (first_thread (Runs (At main) s.fuel)) → IsAt T.stands T.begins T.program T.fuel s result (first_state (start_of s main memory)) }
+    {
+        Machine {
+            threads,
+            memory,
+            queue: Queue::new(),
+            next_id: 1,
+        }
+    }
+
     /// A thread loses a try of the event that it wants, if it can.
     fn lose(&mut self, n: u32)
         requires { (s : Setting) × (w : State Shared Running) × IsAt T.stands T.begins T.program T.fuel s self.old w }
