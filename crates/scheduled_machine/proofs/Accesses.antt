@@ -1,5 +1,5 @@
 -- An event that is no question: the memory makes it, and the queue stays as it is.
-use Rattle.std.proofs.Common.{◌≡◌, ◌≢◌, ℕ, ◌<◌, ◌+◌, Bool, true, false, List, length, Option, Some, None, refl, sym, ◌∙◌, ap, subst, set, length-set}
+use Rattle.std.proofs.Common.{◌≡◌, ℕ, ◌<◌, ◌+◌, Bool, true, false, List, length, None, refl, sym, ◌∙◌, ap, subst, set, length-set}
 use Rattle.types.specs.declared.value.ValType.{ValType}
 use Rattle.types.specs.declared.value.Value.{Value}
 use Rattle.types.specs.declared.event.Event.{Event}
@@ -13,7 +13,7 @@ use Rattle.shared_memory.specs.Memory.{Memory, loaded, reply_of, reply_to_questi
 use Rattle.shared_memory.specs.Events.{is_of_queue}
 use Rattle.shared_memory.specs.WaitQueue.{WaitQueue, answer_due, next_id}
 use Rattle.shared_memory.specs.History.{queue_step}
-use Rattle.schedule.specs.System.{State, Want.Calls, Want.Awaits, put}
+use Rattle.schedule.specs.System.{State, Want.Calls, put}
 use Rattle.schedule.specs.Scheduled.{after_event, hears_any, or_started}
 use Rattle.schedule.specs.Machine.{thread_takes}
 use Rattle.machine.specs.Program.{Program}

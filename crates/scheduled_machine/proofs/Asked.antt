@@ -1,20 +1,17 @@
 -- After a question: who is alive, who sleeps, and to whom an answer is given.
-use Rattle.std.proofs.Common.{◌≡◌, ◌≢◌, ℕ, zero, suc, ◌+◌, ◌<◌, ◌≤◌, ◌==◌, ◌||◌, ◌&&◌, ◌⊎◌, inl, inr, Bool, true, false, not, cond, List, [], ◌∷◌, ◌++◌, length, Option, Some, None, refl, sym, ◌∙◌, ap, subst, arith, length-append}
+use Rattle.std.proofs.Common.{◌≡◌, ◌≢◌, ℕ, ◌<◌, ◌==◌, ◌||◌, true, false, not, cond, [], ◌∷◌, refl, sym, ◌∙◌, subst}
 use Rattle.std.specs.Prelude.{nat_lt}
-use Rattle.std.specs.List.{list_any}
-use Rattle.std.proofs.lemmas.Bool.{cases_Bool, cases_lt, cases_eq, cond_both, cond-true, both_ways, or_left, or_right, eq-eqb, lt-ltb, le-ltb, false_from_ne_true}
+use Rattle.std.proofs.lemmas.Bool.{cond_both, cond-true, or_left, or_right, eq-eqb, lt-ltb}
 use Rattle.std.proofs.lemmas.List.Folds.{list_any-append}
 use Rattle.types.specs.declared.event.Question.{Question}
 use Rattle.types.specs.declared.event.Question.TheVariants.{Wait, Notify, Spawn, Leave}
-use Rattle.types.specs.declared.event.Answer.{Answer}
 use Rattle.types.specs.declared.event.Answer.TheVariants.{Number}
 use Rattle.shared_memory.specs.declared.sleeper.Sleeper.{Sleeper}
-use Rattle.shared_memory.specs.WaitQueue.{WaitQueue, is_alive, is_asleep, answer_due, next_id, tells, starts, sleeps, ends_at_once, asked, after_question, IsFree}
+use Rattle.shared_memory.specs.WaitQueue.{WaitQueue, is_alive, next_id, tells, starts, sleeps, ends_at_once, asked, after_question, IsFree}
 use Rattle.shared_memory.proofs.Soundness.{IsSound, IsSound-asked, IsSound-question}
-use Rattle.shared_memory.proofs.Others.{IsQuiet, Keeps, Keeps-settled, Keeps-step}
+use Rattle.shared_memory.proofs.Others.{Keeps, Keeps-settled, Keeps-step}
 use Rattle.types.specs.declared.event.Event.TheVariants as events
 use Rattle.types.specs.declared.event.Reply.TheVariants as replies
-use Rattle.one_schedule.proofs.Places.{args_by, question_args}
 
 module _ (q : WaitQueue) (n : ℕ) (question : Question) (v : ℕ) (sound : IsSound q) (free : IsFree q n) where
   abbrev after : WaitQueue

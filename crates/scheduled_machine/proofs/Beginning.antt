@@ -1,11 +1,8 @@
 -- At first thread 0 alone is there.
-use Rattle.std.proofs.Common.{◌≡◌, ◌≢◌, ℕ, ◌+◌, ◌≤◌, true, List, length, refl, sym, ◌∙◌, subst, arith}
-use Rattle.types.specs.declared.value.ValType.{ValType}
-use Rattle.types.specs.declared.value.Value.{Value}
+use Rattle.std.proofs.Common.{◌≡◌, ℕ, true, refl, subst, arith}
 use Rattle.shared_memory.specs.WaitQueue.{first_queue, is_alive, next_id}
 use Rattle.shared_memory.proofs.Soundness.{IsSound-first}
-use Rattle.schedule.specs.System.{put}
-use Rattle.schedule.specs.Machine.{Thread.Absent, Thread.Runs}
+use Rattle.schedule.specs.Machine.{Thread.Absent}
 use Rattle.schedule.proofs.Basics.{put-other, at_each}
 use Rattle.machine.specs.Program.{Program}
 use Rattle.takes_turns.specs.Turns.{Running}

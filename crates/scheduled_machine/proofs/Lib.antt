@@ -6,3 +6,4 @@ pub mod Asked
 pub mod Marks
 pub mod Accesses
 pub mod Beginning
+pub mod Questions

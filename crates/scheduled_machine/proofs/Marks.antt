@@ -1,5 +1,5 @@
 -- A mark by which one thread alone changes.
-use Rattle.std.proofs.Common.{◌≡◌, ◌≢◌, ℕ, zero, suc, ◌<◌, ◌≤◌, Bool, true, false, cond, List, length, Option, Some, None, refl, sym, ◌∙◌, ap, subst, set, length-set}
+use Rattle.std.proofs.Common.{◌≡◌, ℕ, zero, suc, ◌<◌, ◌≤◌, Bool, true, false, cond, List, length, None, refl, sym, ◌∙◌, ap, subst, set, length-set}
 use Rattle.types.specs.declared.value.ValType.{ValType}
 use Rattle.types.specs.declared.value.Value.{Value}
 use Rattle.types.specs.declared.event.Event.{Event}
@@ -7,13 +7,13 @@ use Rattle.types.specs.declared.outcome.Outcome.{Outcome}
 use Rattle.shared_memory.specs.WaitQueue.{next_id}
 use Rattle.schedule.specs.System.{State, Want, Want.Turns, Want.Calls, Want.Awaits, Want.Gone, put}
 use Rattle.schedule.specs.Scheduled.{with_thread, if_may, after_turn}
-use Rattle.schedule.specs.Machine.{Wish, Wish.Goes, Wish.Asks, Wish.Waits, Wish.Ends, Thread.Absent, Thread.Runs, Thread.Over, Thread.Leaves, Thread.Left, wanted, wants_a, thread_wants_a, thread_goes}
+use Rattle.schedule.specs.Machine.{Wish, Thread.Absent, Thread.Runs, Thread.Over, Thread.Leaves, Thread.Left, wanted, wants_a, thread_wants_a, thread_goes}
 use Rattle.machine.specs.Program.{Program}
 use Rattle.machine.specs.Config.{Config}
 use Rattle.scheduled.specs.Shared.{Shared}
 use Rattle.scheduled.specs.Threads.{machine_of}
 use Rattle.takes_turns.specs.Turns.{Running, wants_of, own_turn_if}
-use Rattle.scheduled_machine.specs.Threads.{Setting, IsHere, IsThread, called}
+use Rattle.scheduled_machine.specs.Threads.{Setting, IsThread, called}
 use Rattle.scheduled_machine.specs.Runs.{IsAt, IsOrderly, AreThreads, system_by}
 use Rattle.scheduled_machine.specs.declared.stepped.Stepped.{Stepped}
 use Rattle.scheduled_machine.specs.declared.stepping.Machine.{Machine}

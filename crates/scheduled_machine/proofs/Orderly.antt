@@ -1,24 +1,15 @@
 -- What every state of the scheduled machine keeps to, and why it does after each mark.
-use Rattle.std.proofs.Common.{◌≡◌, ◌≢◌, ℕ, zero, suc, ◌+◌, ◌<◌, ◌≤◌, ◌==◌, ◌||◌, ◌⊎◌, inl, inr, Bool, true, false, not, cond, List, [], ◌∷◌, ◌++◌, length, Option, Some, None, refl, sym, ◌∙◌, ap, subst, arith, length-append}
-use Rattle.std.specs.Prelude.{nat_lt}
-use Rattle.std.specs.List.{list_any}
-use Rattle.std.proofs.lemmas.Bool.{cases_Bool, cases_lt, cond_both, both_ways, or_left, or_right, eq-eqb, lt-ltb, le-ltb, false_from_ne_true}
-use Rattle.std.proofs.lemmas.List.Folds.{list_any-append}
+use Rattle.std.proofs.Common.{◌≡◌, ℕ, ◌≤◌, true, None, ◌∙◌, ap, subst}
+use Rattle.std.proofs.lemmas.Bool.{false_from_ne_true}
 use Rattle.types.specs.declared.event.Event.{Event}
-use Rattle.types.specs.declared.event.Event.TheVariants as events
-use Rattle.types.specs.declared.event.Question.{Question}
-use Rattle.types.specs.declared.event.Question.TheVariants.{Wait, Notify, Spawn, Leave}
-use Rattle.types.specs.declared.event.Answer.{Answer}
 use Rattle.shared_memory.specs.WaitQueue.{WaitQueue, is_alive, is_asleep, answer_due, next_id, IsFree}
-use Rattle.shared_memory.proofs.Soundness.{IsSound}
-use Rattle.schedule.specs.System.{Want, Want.Turns, Want.Calls, Want.Awaits, Want.Gone, put}
+use Rattle.schedule.specs.System.{Want.Turns, Want.Calls, Want.Awaits, put}
 use Rattle.schedule.specs.Machine.{Thread.Absent, Thread.Runs, Thread.Over, Thread.Leaves, Thread.Left}
-use Rattle.schedule.proofs.Basics.{put-same, put-other, at_each}
+use Rattle.schedule.proofs.Basics.{put-other, at_each}
 use Rattle.machine.specs.Program.{Program}
-use Rattle.scheduled.specs.Shared.{without_dues}
 use Rattle.one_schedule.proofs.Dues.{none_due}
 use Rattle.takes_turns.specs.Turns.{Running, wants_of}
-use Rattle.scheduled_machine.specs.Threads.{IsHere, called}
+use Rattle.scheduled_machine.specs.Threads.{IsHere}
 use Rattle.scheduled_machine.specs.Runs.{IsOrderly}
 
 -- no answer is due

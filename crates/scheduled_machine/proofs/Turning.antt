@@ -1,5 +1,5 @@
 -- What a turn makes of a thread that stands for one of the thread machine.
-use Rattle.std.proofs.Common.{◌≡◌, ℕ, zero, suc, ◌-◌, Bool, true, false, not, cond, List, Option, Some, None, refl, sym, ◌∙◌, ap, subst}
+use Rattle.std.proofs.Common.{◌≡◌, ℕ, zero, suc, Bool, List, Option, Some, None, refl, sym, ◌∙◌, ap, subst}
 use Rattle.types.specs.declared.value.ValType.{ValType}
 use Rattle.types.specs.declared.value.Value.{Value}
 use Rattle.types.specs.declared.event.Event.{Event}
@@ -10,21 +10,19 @@ use Rattle.types.specs.declared.event.Reply.TheVariants as replies
 use Rattle.types.specs.declared.event.Answer.{Answer}
 use Rattle.types.specs.declared.outcome.Outcome.{Outcome}
 use Rattle.schedule.specs.System.{Want, Want.Turns, Want.Calls, Want.Awaits, Want.Gone}
-use Rattle.schedule.specs.Machine.{Wish, Wish.Goes, Wish.Asks, Wish.Waits, Wish.Ends, Thread.Absent, Thread.Runs, Thread.Over, Thread.Leaves, Thread.Left, wanted, wants_a, takes_by, thread_wants, thread_goes, thread_takes, thread_hears, thread_lost, thread_full, thread_wants_a}
+use Rattle.schedule.specs.Machine.{Wish.Goes, Wish.Asks, Thread.Absent, Thread.Runs, Thread.Over, Thread.Leaves, Thread.Left, wanted, wants_a, takes_by, thread_takes, thread_hears, thread_lost, thread_full, thread_wants_a}
 use Rattle.machine.specs.Program.{Program}
 use Rattle.machine.specs.Config.{Config, Next, Stuck, Goes, Traps, Finishes, Asks, Hears}
 use Rattle.machine.specs.Step.{next}
-use Rattle.machine.specs.State.{State, At, Over as Ended}
+use Rattle.machine.specs.State.{At, Over as Ended}
 use Rattle.scheduled.specs.Threads.{machine_of, wish_of}
-use Rattle.takes_turns.specs.Turns.{Running, outcome_in, outcome_of, wants_of, own_turn_if, after_reply, after_turn, answer_of, answer_by, wanted_before, IsGiven, IsTurned}
+use Rattle.takes_turns.specs.Turns.{Running, outcome_of, wants_of, own_turn_if, after_turn, answer_of, answer_by, wanted_before, IsTurned}
 use Rattle.takes_turns.specs.declared.turn.Given.{Given}
 use Rattle.takes_turns.specs.declared.turn.Given.TheVariants as given
 use Rattle.takes_turns.specs.declared.turn.Turn.{Turn}
-use Rattle.takes_turns.specs.declared.turn.Turn.TheVariants as turns
-use Rattle.scheduled_machine.specs.Threads.{Setting, IsHere, IsMade, IsAlike, IsThread, StandsBy, called, end_in, spawn_types}
+use Rattle.scheduled_machine.specs.Threads.{Setting, IsHere, IsMade, StandsBy, called, end_in, spawn_types}
 use Rattle.scheduled_machine.specs.declared.stepped.Stage.{Stage}
 use Rattle.scheduled_machine.specs.declared.stepped.Stage.TheVariants as stages
-use Rattle.scheduled_machine.specs.declared.stepped.Stepped.{Stepped}
 
 -- a turn says how the thread ended just where it has
 

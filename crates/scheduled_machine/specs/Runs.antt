@@ -1,5 +1,5 @@
 -- Where the machine stands: its threads, its memory and its queue are those of a state of the scheduled machine.
-use Rattle.std.specs.Prelude.{ℕ, ◌≡◌, ◌≤◌, ◌<◌, ◌==◌, ◌&&◌, Bool, true, false, nat_lt, cond, List, [], ◌∷◌, map, length, Option, Some, None}
+use Rattle.std.specs.Prelude.{ℕ, ◌≡◌, ◌≤◌, true, List, [], ◌∷◌, length, Option, Some, None}
 use Rattle.std.specs.List.{slice_get}
 use Rattle.types.specs.declared.value.ValType.{ValType}
 use Rattle.types.specs.declared.value.Value.{Value}
@@ -11,14 +11,13 @@ use Rattle.types.specs.declared.event.Reply.TheVariants as replies
 use Rattle.types.specs.declared.event.Reply.{Reply}
 use Rattle.types.specs.declared.event.Answer.{Answer}
 use Rattle.types.specs.declared.event.Entry as entries
-use Rattle.types.specs.declared.outcome.Outcome.{Outcome}
 use Rattle.shared_memory.specs.Memory.{Memory}
-use Rattle.shared_memory.specs.WaitQueue.{WaitQueue, is_alive, is_asleep, answer_due, next_id, after_question, IsFree}
+use Rattle.shared_memory.specs.WaitQueue.{WaitQueue, is_alive, is_asleep, answer_due, next_id, after_question}
 use Rattle.shared_memory.proofs.Soundness.{IsSound}
 use Rattle.schedule.specs.System.{Want.Awaits, System, State, put}
 use Rattle.schedule.specs.System as systems
 use Rattle.schedule.specs.Scheduled.{hears_any, or_started}
-use Rattle.schedule.specs.Machine.{Thread.Absent, Thread.Runs}
+use Rattle.schedule.specs.Machine.{Thread.Absent}
 use Rattle.machine.specs.Program.{Program}
 use Rattle.machine.specs.Config.{Config}
 use Rattle.machine.specs.State as states

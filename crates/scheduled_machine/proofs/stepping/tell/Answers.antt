@@ -1,4 +1,4 @@
-use Rattle.std.proofs.Common.{◌≡◌, Some, refl, sym, ◌∙◌, ap, subst, get_or}
+use Rattle.std.proofs.Common.{sym, ◌∙◌, subst}
 use Rattle.schedule.specs.Scheduled.{hears_any}
 use Rattle.scheduled_machine.specs.Threads.{IsThread}
 use Rattle.scheduled_machine.specs.Runs.{system_by, all_hear}

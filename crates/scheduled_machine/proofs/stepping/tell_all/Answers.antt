@@ -1,9 +1,9 @@
-use Rattle.std.proofs.Common.{◌≡◌, ◌+◌, refl, sym, ◌∙◌, ap, subst, arith}
+use Rattle.std.proofs.Common.{◌≡◌, ◌+◌, refl, ◌∙◌, subst, arith}
 use Rattle.schedule.specs.System.{put}
 use Rattle.shared_memory.specs.WaitQueue.{answer_due}
 use Rattle.scheduled_machine.specs.Runs.{AreThreads, all_hear}
 use Rattle.scheduled_machine.proofs.Slots.{are_same}
-use Rattle.scheduled_machine.proofs.Telling.{told_until, told_next, told_every, told_below, IsToldUntil, may_still, told_put, told_all}
+use Rattle.scheduled_machine.proofs.Telling.{told_until, told_next, told_every, IsToldUntil, may_still, told_put, told_all}
 use Rattle.scheduled_machine.proofs.stepping.tell_all.Goals as goal
 
 pub tell-requires-clause-threads : goal.tell-requires-clause-threads

@@ -1,4 +1,4 @@
-use Rattle.std.proofs.Common.{◌≡◌, true, false, not, sym, ◌∙◌, ap, subst}
+use Rattle.std.proofs.Common.{◌≡◌, true, not, sym, ◌∙◌, ap, subst}
 use Rattle.std.specs.Prelude.{cond}
 use Rattle.shared_memory.specs.Events.{is_exempt}
 use Rattle.schedule.specs.System.{Want.Calls}

@@ -1,4 +1,4 @@
-use Rattle.std.proofs.Common.{◌≡◌, sym, ◌∙◌, ap, subst}
+use Rattle.std.proofs.Common.{sym, ◌∙◌, subst}
 use Rattle.takes_turns.specs.Turns.{IsGiven, IsTurned, after_turn}
 use Rattle.scheduled_machine.proofs.Turning.{ended_says}
 use Rattle.scheduled_machine.proofs.stepped.Stepped.give.Goals as goal

@@ -1,4 +1,4 @@
-use Rattle.std.proofs.Common.{◌≡◌, sym, ◌∙◌, ap, subst}
+use Rattle.std.proofs.Common.{subst}
 use Rattle.takes_turns.specs.Turns.{own_turn_if, wants_of}
 use Rattle.takes_turns.specs.declared.turn.Given.TheVariants.{Nothing}
 use Rattle.scheduled_machine.specs.Threads.{StandsBy}

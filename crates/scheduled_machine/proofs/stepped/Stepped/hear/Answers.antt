@@ -1,4 +1,4 @@
-use Rattle.std.proofs.Common.{◌≡◌, sym, ◌∙◌, ap, subst}
+use Rattle.std.proofs.Common.{subst}
 use Rattle.schedule.specs.System.{Want.Awaits}
 use Rattle.scheduled_machine.specs.Threads.{StandsBy}
 use Rattle.scheduled_machine.proofs.Turning.{stands_still, here_hears}

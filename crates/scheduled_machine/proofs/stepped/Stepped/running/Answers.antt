@@ -1,4 +1,4 @@
-use Rattle.std.proofs.Common.{◌≡◌, refl}
+use Rattle.std.proofs.Common.{refl}
 use Rattle.schedule.specs.Machine.{Thread.Runs}
 use Rattle.machine.specs.State.{At}
 use Rattle.scheduled_machine.proofs.stepped.Stepped.running.Goals as goal

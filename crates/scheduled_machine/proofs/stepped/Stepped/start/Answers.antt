@@ -1,6 +1,5 @@
-use Rattle.std.proofs.Common.{◌≡◌, refl, ◌∙◌, subst}
+use Rattle.std.proofs.Common.{refl, ◌∙◌, subst}
 use Rattle.schedule.specs.Machine.{Thread.Runs}
-use Rattle.machine.specs.State.{At}
 use Rattle.scheduled_machine.specs.Threads.{spawn_types, spawned_in}
 use Rattle.scheduled_machine.proofs.Turning.{ready}
 use Rattle.scheduled_machine.proofs.stepped.Stepped.start.Goals as goal

@@ -1,7 +1,5 @@
-use Rattle.std.proofs.Common.{◌≡◌, sym, ◌∙◌, ap, subst}
+use Rattle.std.proofs.Common.{sym, subst}
 use Rattle.schedule.specs.System.{Want.Calls}
-use Rattle.takes_turns.specs.declared.turn.Given.TheVariants as given
-use Rattle.takes_turns.specs.Turns.{after_turn}
 use Rattle.scheduled_machine.specs.Threads.{StandsBy, IsHere, IsThread}
 use Rattle.scheduled_machine.proofs.Turning.{stands_still, here_takes, made_reply}
 use Rattle.scheduled_machine.proofs.stepped.Stepped.take.Goals as goal

@@ -1,4 +1,4 @@
-use Rattle.std.proofs.Common.{◌≡◌, refl, sym, ◌∙◌, ap, subst}
+use Rattle.std.proofs.Common.{refl, sym, ◌∙◌, ap, subst}
 use Rattle.shared_memory.specs.Memory.{reply_of}
 use Rattle.schedule.specs.Machine.{thread_takes}
 use Rattle.scheduled.specs.Threads.{machine_of}

@@ -1,4 +1,4 @@
-use Rattle.std.proofs.Common.{rules, ◌≡◌, ◌<◌, not, length, refl, sym, subst}
+use Rattle.std.proofs.Common.{rules, ◌<◌, not, length, refl, sym, subst}
 use Rattle.shared_memory.specs.Events.{is_exempt}
 use Rattle.schedule.specs.Machine.{thread_full}
 use Rattle.scheduled.specs.Threads.{machine_of}

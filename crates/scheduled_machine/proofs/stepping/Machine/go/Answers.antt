@@ -1,4 +1,4 @@
-use Rattle.std.proofs.Common.{◌≡◌, refl, sym, subst}
+use Rattle.std.proofs.Common.{refl, sym, subst}
 use Rattle.takes_turns.specs.Turns.{wants_of}
 use Rattle.scheduled_machine.specs.Threads.{IsThread}
 use Rattle.scheduled_machine.proofs.Slots.{thread_in}

@@ -1,8 +1,7 @@
-use Rattle.std.proofs.Common.{◌≡◌, refl, sym, ◌∙◌, ap, subst}
+use Rattle.std.proofs.Common.{sym, ◌∙◌, ap}
 use Rattle.schedule.specs.Machine.{Thread.Runs}
 use Rattle.machine.specs.State.{At}
 use Rattle.shared_memory.specs.WaitQueue.{WaitQueue, next_id}
-use Rattle.scheduled.specs.Shared.{Shared}
 use Rattle.scheduled_machine.proofs.Beginning.{next_first, orderly_first}
 use Rattle.scheduled_machine.proofs.stepping.Machine.new.Goals as goal
 
