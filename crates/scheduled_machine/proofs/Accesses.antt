@@ -92,7 +92,7 @@ module _ {S : Type 0} (stands : S → Running → Type 0) (begins : S → List V
     threads_are : (m : ℕ) → after.threads m ≡ put w.threads n taken m
     threads_are m =
         let none : answer_due (queue_step w.shared.queue n e (reply_of w.shared.memory e)) m ≡ None =
-            ap (λ q. answer_due q m) (queue_stays w.shared.queue n e (reply_of w.shared.memory e) c.no_question) ∙ nothing_due s.program w.shared.queue w.threads at.orderly m in
+        ap (λ q. answer_due q m) (queue_stays w.shared.queue n e (reply_of w.shared.memory e) c.no_question) ∙ nothing_due s.program w.shared.queue w.threads at.orderly m in
         ap (λ o. or_started o (hears_any (system_by s) (put w.threads n taken m) (answer_due (queue_step w.shared.queue n e (reply_of w.shared.memory e)) m))) (none_starts s w.shared e m c.no_question)
         ∙ ap (λ o. hears_any (system_by s) (put w.threads n taken m) o) none
 

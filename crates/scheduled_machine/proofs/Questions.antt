@@ -1,25 +1,24 @@
 -- A question within bounds: what every state keeps to still holds after it.
-use Rattle.std.proofs.Common.{◌≡◌, ◌≢◌, ℕ, zero, suc, ◌+◌, ◌<◌, ◌≤◌, ◌==◌, ◌&&◌, ◌⊎◌, inl, inr, Bool, true, false, cond, List, [], ◌∷◌, ◌++◌, length, Option, Some, None, refl, sym, ◌∙◌, ap, subst, arith, length-append}
+use Rattle.std.proofs.Common.{◌≡◌, ◌≢◌, ℕ, ◌+◌, ◌<◌, ◌≤◌, ◌==◌, ◌&&◌, ◌⊎◌, inl, inr, Bool, true, false, cond, [], ◌∷◌, ◌++◌, length, Option, Some, None, refl, sym, ◌∙◌, ap, subst, arith, length-append}
 use Rattle.std.specs.Prelude.{nat_lt}
-use Rattle.std.proofs.lemmas.Bool.{cases_Bool, cases_lt, both_ways, le-ltb, lt-ltb, false_from_ne_true, cond-true, cond-false}
+use Rattle.std.proofs.lemmas.Bool.{cases_Bool, cases_lt, both_ways, le-ltb, lt-ltb, false_from_ne_true}
 use Rattle.types.specs.declared.event.Event.TheVariants as events
 use Rattle.types.specs.declared.event.Question.{Question}
 use Rattle.types.specs.declared.event.Question.TheVariants.{Wait, Notify, Spawn, Leave}
 use Rattle.types.specs.declared.event.Answer.{Answer}
 use Rattle.shared_memory.specs.WaitQueue.{WaitQueue, is_alive, is_asleep, answer_due, next_id, after_question, IsFree}
-use Rattle.shared_memory.proofs.Soundness.{IsSound}
-use Rattle.shared_memory.proofs.Others.{IsQuiet, Keeps}
+use Rattle.shared_memory.proofs.Others.{IsQuiet}
 use Rattle.schedule.specs.System.{Want.Calls, Want.Awaits, put}
 use Rattle.schedule.specs.Scheduled.{hears_any, or_started}
 use Rattle.schedule.specs.Machine.{Thread.Absent, Thread.Runs, Thread.Over, Thread.Leaves, Thread.Left}
-use Rattle.schedule.proofs.Basics.{put-same, put-other, at_each, same_is, other_is, same_or_not}
-use Rattle.scheduled.specs.Shared.{Shared, without_dues, starts_by}
+use Rattle.schedule.proofs.Basics.{put-same, put-other, at_each, other_is, same_or_not}
+use Rattle.scheduled.specs.Shared.{without_dues, starts_by}
 use Rattle.scheduled.specs.Threads.{machine_of}
 use Rattle.one_schedule.proofs.Places.{args_by, question_args, IsSound-without}
 use Rattle.takes_turns.specs.Turns.{Running, wants_of}
 use Rattle.scheduled_machine.specs.Threads.{Setting, IsHere, spawned_in}
-use Rattle.scheduled_machine.specs.Runs.{IsOrderly, all_hear, system_by, MayHear, started_by, CanStart}
-use Rattle.scheduled_machine.proofs.Orderly.{nothing_due, calls_here, free_asker}
+use Rattle.scheduled_machine.specs.Runs.{IsOrderly, all_hear, system_by, MayHear, started_by}
+use Rattle.scheduled_machine.proofs.Orderly.{nothing_due, free_asker}
 use Rattle.scheduled_machine.proofs.Asked.{sound_after, keeps_others, still_alive, newborn_alive}
 
 here_before : (s : Setting) (t : Running) (o : Option Answer) → IsHere (hears_any (system_by s) t o) → IsHere t
@@ -159,8 +158,8 @@ module _ (s : Setting) (q : WaitQueue) (f : ℕ → Running) (n : ℕ) (question
   slept = at_each n (λ m. is_asleep later m ≡ true → (wants_of s.program (put f n t m) ≡ Awaits) × (m < next_id q))
       (λ asleep. (ap (wants_of s.program) (put-same f n t) ∙ awaits, orderly.sound.named n asker.alive))
       (λ m apart asleep.
-          let before = asleep_before s q f n question v t orderly calls awaits m apart asleep in
-          (ap (wants_of s.program) (put-other f n t m apart) ∙ orderly.awaiting m before, orderly.sound.named m (orderly.sound.living m before)))
+      let before = asleep_before s q f n question v t orderly calls awaits m apart asleep in
+      (ap (wants_of s.program) (put-other f n t m apart) ∙ orderly.awaiting m before, orderly.sound.named m (orderly.sound.living m before)))
 
   awaiting_after : (m : ℕ) → is_asleep later m ≡ true → wants_of s.program (threads m) ≡ Awaits
   awaiting_after m asleep =

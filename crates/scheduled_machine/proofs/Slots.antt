@@ -53,7 +53,7 @@ module _ {S : Type 0} (stands : S → Running → Type 0) (begins : S → List V
       at_each n (λ m. IsThreadAt stands begins program fuel s (slice_get (set xs n y) m) (g m))
       (subst (λ o. IsThreadAt stands begins program fuel s o (g n)) (sym (get_set_same xs n y within)) is)
       (λ m apart. subst (λ o. IsThreadAt stands begins program fuel s o (g m)) (sym (get_set_other xs n m y apart))
-          (subst (λ t. IsThreadAt stands begins program fuel s (slice_get xs m) t) (sym (others m apart)) (are m)))
+      (subst (λ t. IsThreadAt stands begins program fuel s (slice_get xs m) t) (sym (others m apart)) (are m)))
 
   pub are_put : (f : ℕ → Running) (n : ℕ) (y : Stepped S) (t : Running) → n < length xs → Are xs f → Is y t → Are (set xs n y) (put f n t)
   are_put f n y t within are is = are_set f (put f n t) n y within are (subst (λ u. Is y u) (sym (put-same f n t)) is) (λ m apart. put-other f n t m apart)

@@ -112,7 +112,9 @@ impl<T: TakesTurns> Stepped<T> {
         requires { (s : Setting) × (t : Running) × IsThread T.stands T.begins T.program T.fuel s self.old t }
         ensures { (s : Setting) (t : Running) → IsThread T.stands T.begins T.program T.fuel s self.old t → IsThread T.stands T.begins T.program T.fuel s self.new (cond (thread_wants_a (machine_of s.program) may_lose t) (thread_lost (machine_of s.program) t) t) }
     {
-        if let Some(event) = self.wanted() && can_be_lost(&event) {
+        if let Some(event) = self.wanted()
+            && can_be_lost(&event)
+        {
             self.give(Given::Reply(Reply::Again));
         }
     }
@@ -122,7 +124,9 @@ impl<T: TakesTurns> Stepped<T> {
         requires { (s : Setting) × (t : Running) × IsThread T.stands T.begins T.program T.fuel s self.old t }
         ensures { (s : Setting) (t : Running) → IsThread T.stands T.begins T.program T.fuel s self.old t → IsThread T.stands T.begins T.program T.fuel s self.new (cond (thread_wants_a (machine_of s.program) (λ e. not (is_exempt e)) t) (thread_full (machine_of s.program) t) t) }
     {
-        if let Some(event) = self.wanted() && !needs_no_room(&event) {
+        if let Some(event) = self.wanted()
+            && !needs_no_room(&event)
+        {
             self.give(Given::Reply(Reply::Full));
         }
     }

@@ -2,7 +2,7 @@
 ghost use Rattle.std.specs.Prelude.{◌≡◌, ◌<◌, ℕ, Some, None, false, length, MatchOption};
 ghost use Rattle.types.specs.declared.event.Event.TheVariants.{Ask};
 ghost use Rattle.types.specs.declared.event.Reply.TheVariants.{OutOfBounds};
-ghost use Rattle.shared_memory.specs.Events.{IsEvent, IsQuestion, is_of_queue};
+ghost use Rattle.shared_memory.specs.Events.{IsEvent, is_of_queue};
 ghost use Rattle.shared_memory.specs.Memory.{reply_of};
 ghost use Rattle.shared_memory.specs.WaitQueue.{IsFree, next_id, after_question, answer_due, after_answer};
 ghost use Rattle.shared_memory.specs.History.{value_of};
@@ -16,7 +16,7 @@ ghost use Rattle.scheduled.specs.Shared.{Shared, starts_by, without_dues};
 ghost use Rattle.one_schedule.specs.Runs.{first_state};
 ghost use Rattle.takes_turns.specs.Turns.{Running, wants_of};
 ghost use Rattle.scheduled_machine.specs.Threads.{Setting, called};
-ghost use Rattle.scheduled_machine.specs.Runs.{AreThreads, MayHear, IsAt, CanStart, all_hear, started_by, opening_value, system_by, start_of, first_thread};
+ghost use Rattle.scheduled_machine.specs.Runs.{AreThreads, MayHear, IsAt, all_hear, system_by, start_of, first_thread};
 
 use crate::mark::{Kind, Mark};
 use crate::stepped::Stepped;
@@ -122,63 +122,5 @@ impl<T: TakesTurns> Machine<T> {
             event,
             reply,
         }
-    }
-
-    /// A thread asks the question that it wants to ask. One out of bounds has its answer in its reply.
-    fn question(&mut self, n: u32, question: Question) -> Entry
-        requires question { IsQuestion question }
-        requires there { n < length self.old.threads.items }
-        requires state { (s : Setting) × (w : State Shared Running) × IsAt T.stands T.begins T.program T.fuel s self.old w × (wants_of s.program (w.threads n) ≡ Calls (Ask question)) }
-        ensures state { (s : Setting) (w : State Shared Running) → IsAt T.stands T.begins T.program T.fuel s self.old w → wants_of s.program (w.threads n) ≡ Calls (Ask question) → IsAt T.stands T.begins T.program T.fuel s self.new (after_event (system_by s) w n (Ask question)) }
-        ensures entry { result ≡ record { thread = n; event = Ask question; reply = reply_of self.old.memory (Ask question) } }
-    {
-        let event = Event::Ask(question);
-        let reply = self.memory.step(&event);
-        self.threads[n as usize].take(reply);
-        if let Some(loaded) = loaded_by(reply) {
-            self.ask(n, question, loaded);
-        }
-        Entry {
-            thread: n,
-            event,
-            reply,
-        }
-    }
-
-    /// Asks a question of a thread that waits for its answer already. Who is given an answer by it hears that, and a spawn
-    /// starts its thread.
-    fn ask(&mut self, n: u32, question: Question, loaded: u64)
-        requires sixteen { length self.old.threads.items ≡ 16 }
-        requires due { length (after_question self.old.queue n question loaded).due ≡ 16 }
-        requires next { self.old.next_id ≡ next_id self.old.queue }
-        requires free { IsFree self.old.queue n }
-        requires threads { (s : Setting) × (f : ℕ → Running) × AreThreads T.stands T.begins T.program T.fuel s self.old.threads.items f × MayHear s f (after_question self.old.queue n question loaded) × CanStart question self.old.queue f }
-        ensures memory { self.new.memory ≡ self.old.memory }
-        ensures queue { self.new.queue ≡ without_dues (after_question self.old.queue n question loaded) }
-        ensures sixteen { length self.new.threads.items ≡ 16 }
-        ensures next { self.new.next_id ≡ next_id self.new.queue }
-        ensures threads { (s : Setting) (f : ℕ → Running) → AreThreads T.stands T.begins T.program T.fuel s self.old.threads.items f → MayHear s f (after_question self.old.queue n question loaded) → CanStart question self.old.queue f → AreThreads T.stands T.begins T.program T.fuel s self.new.threads.items (started_by s f self.old.queue n question loaded) }
-    {
-        self.queue.ask(n, &question, loaded);
-        tell_all(&mut self.queue, &mut self.threads);
-        let Question::Spawn { arg } = question else {
-            return;
-        };
-        if self.next_id >= 16 {
-            return;
-        }
-        self.threads[self.next_id as usize].start(self.next_id, arg);
-        self.next_id += 1;
-    }
-}
-
-/// The value that a question loaded, where its reply leaves it open.
-fn loaded_by(reply: Reply) -> Option<u64>
-    ensures { result ≡ opening_value reply }
-{
-    match reply {
-        Reply::Value(value) => Some(value),
-        Reply::Done => Some(0),
-        _ => None,
     }
 }

@@ -10,9 +10,12 @@ hear-requires g c =
     let m = g.T.TakesTurns in
     let r = c.requires.threads in
     let x = c.index_mut.result.now in
-    let is = thread_in m.stands m.begins m.program m.fuel r.0 c.args.threads.now.items r.1 c.args.n x c.requires.there r.2 in
-    (r.0, r.1 c.args.n, subst (λ z. IsThread m.stands m.begins m.program m.fuel r.0 z (r.1 c.args.n)) (sym c.index_mut.ensures.value) is,
-      r.3 c.args.n c.in-Some.answer (sym c.told.ensures.answer ∙ c.in-Some.is))
+    let is = thread_in m.stands m.begins m.program m.fuel r.0 c.args.threads.now.items r.1 c.args.n x c.requires.there r.2 in (
+      r.0,
+      r.1 c.args.n,
+      subst (λ z. IsThread m.stands m.begins m.program m.fuel r.0 z (r.1 c.args.n)) (sym c.index_mut.ensures.value) is,
+      r.3 c.args.n c.in-Some.answer (sym c.told.ensures.answer ∙ c.in-Some.is),
+    )
 
 pub returns-in-Some-clause-threads : goal.returns-in-Some-clause-threads
 returns-in-Some-clause-threads g c s f are may =
@@ -22,7 +25,7 @@ returns-in-Some-clause-threads g c s f are may =
     let x = c.index_mut.result.now in
     let due = sym c.told.ensures.answer ∙ c.in-Some.is in
     let is = subst (λ z. IsThread m.stands m.begins m.program m.fuel s z (f n)) (sym c.index_mut.ensures.value)
-        (thread_in m.stands m.begins m.program m.fuel s c.args.threads.now.items f n x c.requires.there are) in
+    (thread_in m.stands m.begins m.program m.fuel s c.args.threads.now.items f n x c.requires.there are) in
     let heard = c.hear.ensures s (f n) is (may n c.in-Some.answer due) in
     are_put m.stands m.begins m.program m.fuel s c.args.threads.now.items f n c.hear.new.self (all_hear s f q n) c.requires.there are
     (subst (λ o. IsThread m.stands m.begins m.program m.fuel s c.hear.new.self (hears_any (system_by s) (f n) o)) (sym due) heard)

@@ -18,7 +18,7 @@ give-requires g c =
     let e = c.in-Some.event in
     let may : not (is_exempt e) ≡ true = ap not (sym c.needs_no_room.ensures ∙ c.if-not-needs_no_room.true) in
     let call = calling m.stands m.begins m.program m.fuel s c.args.self.now.thread c.args.self.now.stage t e thread.stands_by (sym (c.wanted.ensures.wanted s t thread) ∙ c.in-Some.is)
-        (λ leave. absurd (cc (sym may ∙ ap (λ z. not (is_exempt z)) leave))) in
+    (λ leave. absurd (cc (sym may ∙ ap (λ z. not (is_exempt z)) leave))) in
     let same = sym thread.alike.program_is in
     (t, call.stands, subst (λ p. IsHere (thread_full (machine_of p) t)) same (here_full s.program t call.here), (call.none, e, subst (λ p. wants_of p t ≡ Calls e) same call.wants))
 
@@ -29,7 +29,7 @@ returns-then-not-needs_no_room g c s t thread =
     let e = c.in-Some.event in
     let may : not (is_exempt e) ≡ true = ap not (sym c.needs_no_room.ensures ∙ c.if-not-needs_no_room.true) in
     let call = calling m.stands m.begins m.program m.fuel s c.args.self.now.thread c.args.self.now.stage t e thread.stands_by (sym (c.wanted.ensures.wanted s t thread) ∙ c.in-Some.is)
-        (λ leave. absurd (cc (sym may ∙ ap (λ z. not (is_exempt z)) leave))) in
+    (λ leave. absurd (cc (sym may ∙ ap (λ z. not (is_exempt z)) leave))) in
     let such = wants_such p (λ z. not (is_exempt z)) t e call.none call.wants ∙ may in
     subst (λ b. IsThread m.stands m.begins m.program m.fuel s c.give.new.self (cond b (thread_full (machine_of p) t) t)) (sym such)
     (c.give.ensures s t thread.alike call.stands (here_full p t call.here) (call.none, e, call.wants))

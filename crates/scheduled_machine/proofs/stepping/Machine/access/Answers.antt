@@ -16,7 +16,7 @@ returns-clause-state g c s w at calls =
     let n = c.args.n in
     let old = c.args.self.now in
     let is = subst (λ z. IsThread m.stands m.begins m.program m.fuel s z (w.threads n)) (sym c.index_mut.ensures.value)
-        (thread_in m.stands m.begins m.program m.fuel s old.threads.items w.threads n c.index_mut.result.now c.requires.there at.threads) in
+    (thread_in m.stands m.begins m.program m.fuel s old.threads.items w.threads n c.index_mut.result.now c.requires.there at.threads) in
     let same = c.step-reply.ensures.reply ∙ ap (λ x. reply_of x.memory c.args.event) (sym at.shared) in
     at_access m.stands m.begins m.program m.fuel s w n old _ c.take.new.self c.args.event
     (record { within = c.requires.there; threads = refl; memory = c.step-reply.ensures.state; queue = refl; next = λ e. e; no_question = c.requires.no_question }) at calls

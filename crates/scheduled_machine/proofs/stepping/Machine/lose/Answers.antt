@@ -14,6 +14,6 @@ returns-then-place-len g c s w at =
     let old = c.args.self.now in
     let within : n < length old.threads.items = search rules in
     let is = subst (λ z. IsThread m.stands m.begins m.program m.fuel s z (w.threads n)) (sym c.index_mut.ensures.value)
-        (thread_in m.stands m.begins m.program m.fuel s old.threads.items w.threads n c.index_mut.result.now within at.threads) in
+    (thread_in m.stands m.begins m.program m.fuel s old.threads.items w.threads n c.index_mut.result.now within at.threads) in
     at_if m.stands m.begins m.program m.fuel s w n old _ c.lose.new.self may_lose (thread_lost (machine_of s.program) (w.threads n))
     (record { within = within; threads = refl; shared = refl; next = λ e. e }) at _ refl (c.lose.ensures s (w.threads n) is)
