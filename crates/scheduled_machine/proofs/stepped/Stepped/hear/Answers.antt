@@ -1,0 +1,11 @@
+use Rattle.std.proofs.Common.{subst}
+use Rattle.schedule.specs.System.{Want.Awaits}
+use Rattle.scheduled_machine.specs.Threads.{StandsBy}
+use Rattle.scheduled_machine.proofs.Turning.{stands_still, here_hears}
+use Rattle.scheduled_machine.proofs.stepped.Stepped.hear.Goals as goal
+
+pub returns-in-Runs : goal.returns-in-Runs
+returns-in-Runs g c s t thread awaits =
+    let p = s.program in
+    let by = subst (λ z. StandsBy g.T.TakesTurns.stands g.T.TakesTurns.begins g.T.TakesTurns.program g.T.TakesTurns.fuel s c.args.self.now.thread z t) c.in-Runs.is thread.stands_by in
+    c.give.ensures s t thread.alike (stands_still p t c.in-Runs.field-0 (g.T.TakesTurns.stands c.args.self.now.thread) Awaits awaits (λ bad. absurd (cc bad)) by.2) (here_hears p t c.args.answer by.0) (by.1, awaits)

@@ -1,0 +1,110 @@
+-- Where the machine stands: its threads, its memory and its queue are those of a state of the scheduled machine.
+use Rattle.std.specs.Prelude.{ℕ, ◌≡◌, ◌≤◌, true, List, [], ◌∷◌, length, Option, Some, None}
+use Rattle.std.specs.List.{slice_get}
+use Rattle.types.specs.declared.value.ValType.{ValType}
+use Rattle.types.specs.declared.value.Value.{Value}
+use Rattle.types.specs.declared.event.Event.{Event}
+use Rattle.types.specs.declared.event.Event.TheVariants as events
+use Rattle.types.specs.declared.event.Question.{Question}
+use Rattle.types.specs.declared.event.Question.TheVariants as questions
+use Rattle.types.specs.declared.event.Reply.TheVariants as replies
+use Rattle.types.specs.declared.event.Reply.{Reply}
+use Rattle.types.specs.declared.event.Answer.{Answer}
+use Rattle.types.specs.declared.event.Entry as entries
+use Rattle.shared_memory.specs.Memory.{Memory}
+use Rattle.shared_memory.specs.WaitQueue.{WaitQueue, is_alive, is_asleep, answer_due, next_id, after_question}
+use Rattle.shared_memory.proofs.Soundness.{IsSound}
+use Rattle.schedule.specs.System.{Want.Awaits, System, State, put}
+use Rattle.schedule.specs.System as systems
+use Rattle.schedule.specs.Scheduled.{hears_any, or_started}
+use Rattle.schedule.specs.Machine.{Thread.Absent}
+use Rattle.machine.specs.Program.{Program}
+use Rattle.machine.specs.Config.{Config}
+use Rattle.machine.specs.State as states
+use Rattle.scheduled.specs.Shared.{Shared, without_dues, over_memory_and_queue, starts_by}
+use Rattle.scheduled.specs.Threads.{machine_of}
+use Rattle.one_schedule.specs.Runs.{Start}
+use Rattle.takes_turns.specs.Turns.{Running, wants_of}
+use Rattle.scheduled_machine.specs.Threads.{Setting, IsHere, IsThread, spawned_in}
+use Rattle.scheduled_machine.specs.declared.mark.Kind as kinds
+use Rattle.scheduled_machine.specs.declared.mark.Kind.TheVariants as marks
+use Rattle.scheduled_machine.specs.declared.mark.Mark as mark
+use Rattle.scheduled_machine.specs.declared.stepped.Stepped.{Stepped}
+use Rattle.scheduled_machine.specs.declared.stepping.Machine.{Machine}
+
+-- A mark as the schedule has it.
+abbrev pub kind_of : kinds.Kind → systems.Kind
+kind_of marks.Turn = systems.Turn
+kind_of marks.Loses = systems.Loses
+kind_of marks.Fills = systems.Fills
+
+abbrev pub mark_of : mark.Mark → systems.Mark
+mark_of m = record { thread = m.thread; kind = kind_of m.kind }
+
+-- What a run starts with, where thread 0 begins in a configuration; and the system of its threads.
+abbrev pub start_of : Setting → Config → Memory → Start
+start_of s main opening = record { program = s.program; main = states.At main; spawned = spawned_in s.worker; fuel = s.fuel; opening = opening }
+
+abbrev pub system_by : Setting → System Shared Running Event Reply Answer
+system_by s = over_memory_and_queue (machine_of s.program) (spawned_in s.worker) s.fuel
+
+-- At first thread 0 alone is there.
+abbrev pub first_thread : Running → ℕ → Running
+first_thread t = put (λ (m : ℕ). Absent) 0 t
+
+-- What every state of the scheduled machine keeps to: no answer is due, who was started and hasn't left is alive, and who
+-- sleeps awaits the answer to its question.
+pub record IsOrderly (p : Program) (q : WaitQueue) (threads : ℕ → Running) : Type 0 where
+  pub sound : IsSound q
+  pub heard : without_dues q ≡ q
+  pub unstarted : (m : ℕ) → next_id q ≤ m → threads m ≡ Absent
+  pub living : (m : ℕ) → IsHere (threads m) → is_alive q m ≡ true
+  pub awaiting : (m : ℕ) → is_asleep q m ≡ true → wants_of p (threads m) ≡ Awaits
+
+-- Each thread after answers were given.
+abbrev pub all_hear : Setting → (ℕ → Running) → WaitQueue → ℕ → Running
+all_hear s threads q m = hears_any (system_by s) (threads m) (answer_due q m)
+
+-- To whom an answer is due awaits it.
+abbrev pub MayHear : Setting → (ℕ → Running) → WaitQueue → Type 0
+MayHear s threads q = (m : ℕ) (a : Answer) → answer_due q m ≡ Some a → wants_of s.program (threads m) ≡ Awaits
+
+-- The number of a thread that a spawn starts is one of a thread that isn't there yet.
+abbrev pub CanStart : Question → WaitQueue → (ℕ → Running) → Type 0
+CanStart (questions.Spawn arg) q threads = threads (next_id q) ≡ Absent
+CanStart question q threads = Unit {0}
+
+-- Each thread after a question: it hears the answer that it was given, and a spawn starts its thread.
+abbrev pub started_by : Setting → (ℕ → Running) → WaitQueue → ℕ → Question → ℕ → ℕ → Running
+started_by s threads q n question loaded m =
+    or_started (starts_by (machine_of s.program) (spawned_in s.worker) s.fuel (record { memory = record { bytes = []; max = 0 }; queue = q }) (events.Ask question) m)
+    (all_hear s threads (after_question q n question loaded) m)
+
+-- The value that a question loaded, where its reply leaves it open.
+abbrev pub opening_value : Reply → Option ℕ
+opening_value (replies.Value n) = Some n
+opening_value replies.Done = Some 0
+opening_value replies.OutOfBounds = None
+opening_value replies.Again = None
+opening_value replies.Full = None
+
+-- The entry that was made, if one was, as a list.
+abbrev pub listed : Option entries.Entry → List entries.Entry
+listed None = []
+listed (Some e) = e ∷ []
+
+module _ {S : Type 0} (stands : S → Running → Type 0) (begins : S → List ValType → (List Value → Config) → Type 0) (program : S → Program) (fuel : S → ℕ) where
+  abbrev pub IsThreadAt : Setting → Option (Stepped S) → Running → Type 0
+  IsThreadAt s None t = t ≡ Absent
+  IsThreadAt s (Some x) t = IsThread stands begins program fuel s x t
+
+  -- The threads in a list, and no others, stand for those of a family.
+  abbrev pub AreThreads : Setting → List (Stepped S) → (ℕ → Running) → Type 0
+  AreThreads s xs threads = (m : ℕ) → IsThreadAt s (slice_get xs m) (threads m)
+
+  pub record IsAt (s : Setting) (machine : Machine S) (w : State Shared Running) : Type 0 where
+    pub shared : w.shared ≡ record { memory = machine.memory; queue = machine.queue }
+    pub threads : AreThreads s machine.threads.items w.threads
+    pub sixteen : length machine.threads.items ≡ 16
+    pub next : machine.next_id ≡ next_id machine.queue
+    pub orderly : IsOrderly s.program w.shared.queue w.threads

@@ -1,0 +1,88 @@
+-- Which thread of the thread machine a thread of the program stands for.
+use Rattle.std.specs.Prelude.{ℕ, ◌≡◌, List, [], ◌∷◌, Option, Some, None}
+use Rattle.types.specs.declared.value.ValType.{ValType}
+use Rattle.types.specs.declared.value.ValType.TheVariants as types
+use Rattle.types.specs.declared.value.Value.{Value}
+use Rattle.types.specs.declared.value.Value.TheVariants as values
+use Rattle.types.specs.declared.event.Event.{Event}
+use Rattle.types.specs.declared.event.Reply.{Reply}
+use Rattle.types.specs.declared.event.Reply.TheVariants as replies
+use Rattle.types.specs.declared.outcome.Outcome.{Outcome}
+use Rattle.schedule.specs.System.{Want, Want.Turns, Want.Calls, Want.Awaits, Want.Gone}
+use Rattle.schedule.specs.Machine.{Thread.Absent, Thread.Runs, Thread.Over, Thread.Leaves, Thread.Left}
+use Rattle.machine.specs.Program.{Program}
+use Rattle.machine.specs.Config.{Config}
+use Rattle.machine.specs.State.{State, At}
+use Rattle.takes_turns.specs.Turns.{Running, left_of, outcome_of, IsTurned}
+use Rattle.takes_turns.specs.declared.turn.Given.TheVariants as given
+use Rattle.takes_turns.specs.declared.turn.Turn.{Turn}
+use Rattle.takes_turns.specs.declared.turn.Turn.TheVariants as turns
+use Rattle.scheduled_machine.specs.declared.stepped.Stage.{Stage}
+use Rattle.scheduled_machine.specs.declared.stepped.Stage.TheVariants as stages
+use Rattle.scheduled_machine.specs.declared.stepped.Stepped.{Stepped}
+
+-- What all threads of a machine have in common: the program, the call of a spawned thread, and the budget.
+pub record Setting : Type 0 where
+  pub program : Program
+  pub worker : List Value → Config
+  pub fuel : ℕ
+
+-- A spawned thread is called with its number and the argument of its spawn.
+abbrev pub spawn_types : List ValType
+spawn_types = types.I32 ∷ types.I32 ∷ []
+
+abbrev pub spawned_in : (List Value → Config) → ℕ → ℕ → State
+spawned_in worker n arg = At (worker (values.I32 n ∷ values.I32 arg ∷ []))
+
+-- The thread was started, and hasn't asked to leave.
+abbrev pub IsHere : Running → Type 0
+IsHere Absent = ⊥
+IsHere (Runs c left) = Unit {0}
+IsHere (Over outcome left) = Unit {0}
+IsHere (Leaves outcome left) = ⊥
+IsHere (Left outcome left) = ⊥
+
+-- The event that is called for.
+abbrev pub called : Want Event → Option Event
+called Turns = None
+called (Calls e) = Some e
+called Awaits = None
+called Gone = None
+
+-- How the thread ended, where a turn says so.
+abbrev pub end_in : Turn → Option Outcome
+end_in turns.Moved = None
+end_in (turns.Wants event) = None
+end_in turns.Awaits = None
+end_in (turns.Ended outcome) = Some outcome
+
+-- The reply to an event that was made.
+abbrev pub IsMade : Reply → Type 0
+IsMade (replies.Value n) = Unit {0}
+IsMade replies.Done = Unit {0}
+IsMade replies.OutOfBounds = Unit {0}
+IsMade replies.Again = ⊥
+IsMade replies.Full = ⊥
+
+-- A thread has what all have in common.
+pub record IsAlike {S : Type 0} (program : S → Program) (fuel : S → ℕ) (s : Setting) (x : S) : Type 0 where
+  pub program_is : program x ≡ s.program
+  pub fuel_is : fuel x ≡ s.fuel
+
+-- It is ready to be spawned.
+pub record IsPrepared {S : Type 0} (begins : S → List ValType → (List Value → Config) → Type 0) (program : S → Program) (fuel : S → ℕ) (s : Setting) (x : S) : Type 0 where
+  pub alike : IsAlike program fuel s x
+  pub ready : begins x spawn_types s.worker
+
+module _ {S : Type 0} (stands : S → Running → Type 0) (begins : S → List ValType → (List Value → Config) → Type 0) (program : S → Program) (fuel : S → ℕ) where
+  -- By its stage. One that runs has been asked what it wants. One that left, or asked to, has what was left to it when it ended.
+  abbrev pub StandsBy : Setting → S → Stage → Running → Type 0
+  StandsBy s x stages.Absent t = (t ≡ Absent) × begins x spawn_types s.worker
+  StandsBy s x (stages.Runs turn) t = IsHere t × (outcome_of t ≡ None) × IsTurned s.program t given.Nothing turn (stands x)
+  StandsBy s x (stages.Ended outcome) t = IsHere t × (outcome_of t ≡ Some outcome) × stands x t
+  StandsBy s x (stages.Leaves outcome) t = (last : Running) × stands x last × (t ≡ Leaves outcome (left_of last))
+  StandsBy s x (stages.Left outcome) t = (last : Running) × stands x last × (t ≡ Left outcome (left_of last))
+
+  pub record IsThread (s : Setting) (x : Stepped S) (t : Running) : Type 0 where
+    pub alike : IsAlike program fuel s x.thread
+    pub stands_by : StandsBy s x.thread x.stage t
