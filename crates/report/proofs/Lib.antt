@@ -1,2 +1,3 @@
 pub mod NewSeats
 pub mod Whole
+pub mod Leaving
