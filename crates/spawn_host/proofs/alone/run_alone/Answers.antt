@@ -1,8 +1,49 @@
-use Rattle.std.proofs.Common.{◌≡◌, ◌∷◌, ◌++◌, [], List, length, ◌∙◌, ap, arith}
+use Rattle.std.proofs.Common.{◌≡◌, ◌∷◌, ◌++◌, [], true, List, length, ◌∙◌, sym, ap, subst, arith}
+use Rattle.shared_memory.specs.History.{entries_of, of_queue}
 use Rattle.types.specs.declared.outcome.ThreadReport.{ThreadReport}
-use Rattle.spawn_host.proofs.OneList.{unpacked, lead_may_ask}
+use Rattle.spawn_host.proofs.OneList.{unpacked, lead_may_ask, desk_is}
 use Rattle.spawn_host.proofs.Unspawned.{composed_alone}
 use Rattle.spawn_host.proofs.alone.run_alone.Goals as goal
+
+pub open-desk-requires-clause-right : goal.open-desk-requires-clause-right
+open-desk-requires-clause-right g c κs within =
+    let m = g.M.SharedMemory in
+    let desk = c.in-Some.desk_seat in
+    let len : length c.pop.new.self.items ≡ 16 = omega (arith, c.pop.new.self.ok.0, c.in-Some.ensures.cases, c.requires.len) in
+    let u = unpacked c.args.seats.items c.pop.new.self.items c.remove-seat.new.self.items c.remove-seat.result c.in-Some.desk_seat c.in-Some.ensures.items len c.remove-seat.ensures.value
+    c.remove-seat.ensures.by_index.2 in
+    let is = desk_is m.name m.seen c.args.seats.items c.remove-seat.result c.remove-seat.new.self.items c.in-Some.desk_seat u c.requires.names c.requires.new desk in
+    subst (λ s. m.has_queue_right s ≡ true) is (c.requires.right desk)
+
+pub open-desk-requires-clause-name : goal.open-desk-requires-clause-name
+open-desk-requires-clause-name g c κs within =
+    let m = g.M.SharedMemory in
+    let desk = c.in-Some.desk_seat in
+    let len : length c.pop.new.self.items ≡ 16 = omega (arith, c.pop.new.self.ok.0, c.in-Some.ensures.cases, c.requires.len) in
+    let u = unpacked c.args.seats.items c.pop.new.self.items c.remove-seat.new.self.items c.remove-seat.result c.in-Some.desk_seat c.in-Some.ensures.items len c.remove-seat.ensures.value
+    c.remove-seat.ensures.by_index.2 in
+    let is = desk_is m.name m.seen c.args.seats.items c.remove-seat.result c.remove-seat.new.self.items c.in-Some.desk_seat u c.requires.names c.requires.new desk in
+    ap m.name (sym is) ∙ c.requires.names 16 desk (omega arith)
+
+pub open-desk-requires-clause-quiet : goal.open-desk-requires-clause-quiet
+open-desk-requires-clause-quiet g c κs within =
+    let m = g.M.SharedMemory in
+    let desk = c.in-Some.desk_seat in
+    let len : length c.pop.new.self.items ≡ 16 = omega (arith, c.pop.new.self.ok.0, c.in-Some.ensures.cases, c.requires.len) in
+    let u = unpacked c.args.seats.items c.pop.new.self.items c.remove-seat.new.self.items c.remove-seat.result c.in-Some.desk_seat c.in-Some.ensures.items len c.remove-seat.ensures.value
+    c.remove-seat.ensures.by_index.2 in
+    let is = desk_is m.name m.seen c.args.seats.items c.remove-seat.result c.remove-seat.new.self.items c.in-Some.desk_seat u c.requires.names c.requires.new desk in
+    ap of_queue (ap m.seen (sym is) ∙ c.requires.new 16 desk (omega arith))
+
+pub open-desk-requires-clause-silent : goal.open-desk-requires-clause-silent
+open-desk-requires-clause-silent g c κs within =
+    let m = g.M.SharedMemory in
+    let desk = c.in-Some.desk_seat in
+    let len : length c.pop.new.self.items ≡ 16 = omega (arith, c.pop.new.self.ok.0, c.in-Some.ensures.cases, c.requires.len) in
+    let u = unpacked c.args.seats.items c.pop.new.self.items c.remove-seat.new.self.items c.remove-seat.result c.in-Some.desk_seat c.in-Some.ensures.items len c.remove-seat.ensures.value
+    c.remove-seat.ensures.by_index.2 in
+    let is = desk_is m.name m.seen c.args.seats.items c.remove-seat.result c.remove-seat.new.self.items c.in-Some.desk_seat u c.requires.names c.requires.new desk in
+    ap (entries_of 16) (ap m.seen (sym is) ∙ c.requires.new 16 desk (omega arith))
 
 pub run_thread-outcome-requires-clause-free : goal.run_thread-outcome-requires-clause-free
 run_thread-outcome-requires-clause-free g c κs within =
