@@ -6,7 +6,7 @@ use std::alloc::{AllocError, Global};
 #[derive(Clone, Copy)]
 pub(crate) struct Small<'a> {
     /// The type of its result, if it has one.
-    pub(crate) result: &'a [u8],
+    pub(crate) output: &'a [u8],
     /// The memory section.
     pub(crate) memory: &'a [u8],
     /// The function's code without its last `end`; it has no locals.
@@ -28,11 +28,11 @@ pub(crate) const HEADER: &[u8] = b"\x00\x61\x73\x6d\x01\x00\x00\x00";
 impl Small<'_> {
     /// The module's bytes. The body is shorter than 120 bytes.
     pub(crate) fn bytes(&self, alloc: Global) -> Result<Vec<u8>, AllocError> {
-        let count = self.result.len() as u8;
+        let count = self.output.len() as u8;
         let length = self.body.len() as u8;
         let mut module = Vec::from_slice(alloc, HEADER)?;
         module.extend_from_slice(&[1, count.wrapping_add(4), 1, 0x60, 0, count])?;
-        module.extend_from_slice(self.result)?;
+        module.extend_from_slice(self.output)?;
         module.extend_from_slice(b"\x03\x02\x01\x00")?;
         module.extend_from_slice(self.memory)?;
         module.extend_from_slice(b"\x07\x05\x01\x01\x66\x00\x00")?;
