@@ -1,5 +1,5 @@
 -- How many functions a module has.
-use Rattle.std.proofs.Common.{ℕ, ◌+◌, ◌≤◌, List, [], ◌∷◌, ◌++◌, length, arith, length-append}
+use Rattle.std.proofs.Common.{◌≤◌, List, [], ◌∷◌, length, arith, length-append}
 use Rattle.std.specs.List.{flat_map}
 use Rattle.types.specs.declared.parts.Import.{Import}
 use Rattle.types.specs.declared.parts.ImportDesc.{ImportDesc}

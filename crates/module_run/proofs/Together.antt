@@ -1,6 +1,7 @@
 -- From one history of real threads to one run.
-use Rattle.std.proofs.Common.{◌≡◌, ◌≢◌, ℕ, zero, suc, ◌+◌, ◌-◌, ◌<◌, ◌≤◌, ◌==◌, All, Bool, cond, List, [], ◌∷◌, ◌++◌, length, Option, Some, None, refl, sym, ◌∙◌, ap, subst, arith, ◌⊎◌, inl, inr, get_or, slice_get}
+use Rattle.std.proofs.Common.{◌≡◌, ◌≢◌, ℕ, zero, suc, ◌+◌, ◌-◌, ◌<◌, ◌≤◌, All, Bool, cond, List, [], ◌∷◌, length, Option, Some, None, refl, sym, ◌∙◌, ap, subst, arith, inl, inr, get_or, slice_get}
 use Rattle.std.specs.List.{AllByRecursion}
+use Rattle.std.specs.Prelude.{Result, Ok, Err, IfOk}
 use Rattle.std.proofs.lemmas.Bool.{cases_lt, ne_eqb}
 use Rattle.std.proofs.lemmas.List.Elements.{recursion_from_All}
 use Rattle.types.specs.declared.value.ValType.{ValType}
@@ -8,7 +9,6 @@ use Rattle.types.specs.declared.value.Value.{Value}
 use Rattle.types.specs.declared.value.Value.TheVariants as values
 use Rattle.types.specs.declared.event.Entry.{Entry}
 use Rattle.types.specs.declared.outcome.Stop.TheVariants as stops
-use Rattle.types.specs.declared.outcome.Outcome.{Outcome}
 use Rattle.types.specs.declared.outcome.Outcome.TheVariants as outcomes
 use Rattle.types.specs.declared.outcome.ThreadReport.{ThreadReport}
 use Rattle.types.specs.declared.parts.FuncType.{FuncType}
@@ -25,10 +25,11 @@ use Rattle.machine.specs.State.{State, At}
 use Rattle.scheduled.specs.Seeing.{RunsToEnd}
 use Rattle.takes_turns.specs.Turns.{Running}
 use Rattle.interp.specs.Starts.{start_of}
-use Rattle.spawn_host.specs.Composed.{IsReport, IsSpawnReport, IsComposed}
+use Rattle.spawn_host.specs.declared.report.RunEnd.{RunEnd}
+use Rattle.spawn_host.specs.Composed.{IsReport, IsComposed}
 use Rattle.one_schedule.specs.Runs.{Start, if_spawned, begins_in, HasRun, AreOfThreads, RanTogether}
 use Rattle.one_schedule.proofs.Running.{threads_make_one_run}
-use Rattle.module_run.specs.Entries.{StartsThreads, IsThreadStart, CallsThreadStart}
+use Rattle.module_run.specs.Entries.{StartsThreads, CallsThreadStart}
 use Rattle.module_run.specs.Threads.{IsCall, IsFirst, AreSpawnable}
 use Rattle.module_run.specs.Runs.{opening_memory, start_with, Tells, IsRun}
 
@@ -231,3 +232,25 @@ lone_run loses opening limit name seen program fuel stands begins first threads 
     (λ k. f.call)
     (subst (λ (o : Memory). IsComposed loses o limit name seen program fuel stands begins first [] threads seats) is r)
     (λ starts. absurd (none starts))
+
+-- what the calls give
+
+pub threaded_result : {S T F : Type 0} (loses : Bool) (opening : Memory) (limit : Option ℕ) (name : S → ℕ) (seen : S → List Entry) (program : T → Program) (fuel : T → ℕ)
+    (stands : T → Running → Type 0) (begins : T → List ValType → (List Value → Config) → Type 0) (first : T) (spawned : List T)
+    (m : Parts) (entry : List ℕ) (args others : List Value) (budget : ℕ) → opening ≡ opening_memory m
+    → IsFirst program fuel stands begins m entry args budget first → AreSpawnable program fuel stands begins m others budget spawned → (result : Result (RunEnd S) F)
+    → IfOk result (λ (end : RunEnd S). IsComposed loses opening limit name seen program fuel stands begins first spawned end.threads.items end.seats.items)
+    → IfOk result (λ (end : RunEnd S). IsRun m entry args budget loses limit name seen end.threads.items end.seats.items)
+threaded_result loses opening limit name seen program fuel stands begins first spawned m entry args others budget is f w (Ok end) r =
+    threaded_run loses opening limit name seen program fuel stands begins first spawned end.threads.items end.seats.items m entry args others budget is f w r
+threaded_result loses opening limit name seen program fuel stands begins first spawned m entry args others budget is f w (Err fault) r = tt
+
+pub lone_result : {S T F : Type 0} (loses : Bool) (opening : Memory) (limit : Option ℕ) (name : S → ℕ) (seen : S → List Entry) (program : T → Program) (fuel : T → ℕ)
+    (stands : T → Running → Type 0) (begins : T → List ValType → (List Value → Config) → Type 0) (first : T)
+    (m : Parts) (entry : List ℕ) (args : List Value) (budget : ℕ) → opening ≡ opening_memory m → (StartsThreads m → ⊥)
+    → IsFirst program fuel stands begins m entry args budget first → (result : Result (RunEnd S) F)
+    → IfOk result (λ (end : RunEnd S). IsComposed loses opening limit name seen program fuel stands begins first [] end.threads.items end.seats.items)
+    → IfOk result (λ (end : RunEnd S). IsRun m entry args budget loses limit name seen end.threads.items end.seats.items)
+lone_result loses opening limit name seen program fuel stands begins first m entry args budget is none f (Ok end) r =
+    lone_run loses opening limit name seen program fuel stands begins first end.threads.items end.seats.items m entry args budget is none f r
+lone_result loses opening limit name seen program fuel stands begins first m entry args budget is none f (Err fault) r = tt

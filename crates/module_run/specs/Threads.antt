@@ -1,13 +1,11 @@
 -- The threads of a run before their first turn.
-use Rattle.std.specs.Prelude.{ℕ, ◌≡◌, List, [], ◌∷◌, length, map, codes}
+use Rattle.std.specs.Prelude.{ℕ, ◌≡◌, List, length}
 use Rattle.std.specs.List.{All}
 use Rattle.types.specs.declared.value.ValType.{ValType}
-use Rattle.types.specs.declared.value.ValType.TheVariants as types
 use Rattle.types.specs.declared.value.Value.{Value}
 use Rattle.types.specs.declared.parts.FuncType.{FuncType}
 use Rattle.types.specs.declared.parts.Body.{Body}
 use Rattle.types.specs.declared.parts.Parts.{Parts}
-use Rattle.types.specs.Values.{type_of}
 use Rattle.schedule.specs.Machine.{Thread.Runs}
 use Rattle.machine.specs.Program.{Program, program_of}
 use Rattle.machine.specs.Config.{Config}

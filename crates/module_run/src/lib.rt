@@ -2,5 +2,7 @@
 #![tactic(auto)]
 
 mod fit;
+mod running;
 mod threads;
 
+pub use running::run;
