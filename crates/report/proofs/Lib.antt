@@ -1,3 +1,5 @@
 pub mod NewSeats
 pub mod Whole
 pub mod Leaving
+pub mod Fronts
+pub mod ThreadLines

@@ -1,5 +1,5 @@
 -- A log that begins with the list that all seats have seen, and has no other entry of anyone, is that list.
-use Rattle.std.proofs.Common.{◌≡◌, ℕ, ◌<◌, ◌≤◌, ◌==◌, true, false, List, [], ◌∷◌, ◌++◌, length, slice_index_or, nat_lt, ◌⊎◌, inl, inr, refl, sym, ◌∙◌, ap, subst, arith, append-nil}
+use Rattle.std.proofs.Common.{◌≡◌, ℕ, ◌<◌, ◌≤◌, ◌==◌, true, false, List, [], ◌∷◌, ◌++◌, length, get_or, slice_index_or, nat_lt, ◌⊎◌, inl, inr, refl, sym, ◌∙◌, ap, subst, arith, append-nil}
 use Rattle.std.proofs.lemmas.Bool.{cases_Bool}
 use Rattle.std.proofs.lemmas.Bool.Decides.{nat_tests}
 use Rattle.std.proofs.lemmas.List.{append_cancel_left}
@@ -8,8 +8,9 @@ use Rattle.std.specs.List.{All}
 use mathlib.Core.List.{IsPrefix}
 use Rattle.types.specs.declared.event.Entry.{Entry}
 use Rattle.seats.specs.declared.view.Caller.{Caller}
+use Rattle.seats.specs.Callers.{GoesOn}
 use Rattle.shared_memory.specs.History.{entries_of, IsEntry, AreEntries}
-use Rattle.shared_memory.proofs.Histories.{entries_of-append}
+use Rattle.shared_memory.proofs.Histories.{entries_of-append, entries_of-quiet}
 
 first_is_own : (e : Entry) (r : List Entry) → entries_of e.thread (e ∷ r) ≡ e ∷ entries_of e.thread r
 first_is_own e r = grind (arith, nat_tests)
@@ -48,14 +49,14 @@ small_or_large n = elim (cases_Bool (nat_lt n 17)) [
 ]
 
 -- all 17 seats have seen one list, and the log goes on from each by nothing of its own
-module _ {S : Type 0} (caller : S → Caller) (log history : List Entry) (past : (n : ℕ) → 17 ≤ n → entries_of n log ≡ []) where
+module _ {S : Type 0} (caller : S → Caller) (log history : List Entry) (past : (n : ℕ) → 17 ≤ n → entries_of n log ≡ []) (P : S → Type 0) (known : (s : S) → P s → Knows (caller s) log) where
   same_of : (seats : List S) (d : S) → length seats ≡ 17 → ((k : ℕ) (d : S) → k < 17 → (caller (slice_index_or seats k d)).name ≡ k)
-      → ((k : ℕ) (d : S) → k < 17 → (caller (slice_index_or seats k d)).seen ≡ history) → All (λ (s : S). Knows (caller s) log) seats → (p : IsPrefix history log) → (n : ℕ) → entries_of n log ≡ entries_of n history
+      → ((k : ℕ) (d : S) → k < 17 → (caller (slice_index_or seats k d)).seen ≡ history) → All P seats → (p : IsPrefix history log) → (n : ℕ) → entries_of n log ≡ entries_of n history
   same_of seats d len names seen all p n =
       elim (small_or_large n) [
         | inl small ↦
             let inside : n < length seats = rw len small in
-            let k = All-get_or (λ (s : S). Knows (caller s) log) seats n d inside all in
+            let k = known (get_or seats n d) (All-get_or P seats n d inside all) in
             let own : entries_of n log ≡ entries_of n (caller (slice_index_or seats n d)).seen = subst (λ (m : ℕ). entries_of m log ≡ entries_of m (caller (slice_index_or seats n d)).seen) (names n d small) k.1 in
             own ∙ ap (entries_of n) (seen n d small)
         | inr large ↦
@@ -65,10 +66,14 @@ module _ {S : Type 0} (caller : S → Caller) (log history : List Entry) (past :
       ]
 
   pub is_history : (seats : List S) → length seats ≡ 17 → ((k : ℕ) (d : S) → k < 17 → (caller (slice_index_or seats k d)).name ≡ k)
-      → ((k : ℕ) (d : S) → k < 17 → (caller (slice_index_or seats k d)).seen ≡ history) → All (λ (s : S). Knows (caller s) log) seats → log ≡ history
+      → ((k : ℕ) (d : S) → k < 17 → (caller (slice_index_or seats k d)).seen ≡ history) → All P seats → log ≡ history
   is_history [] len names seen all = absurd (cc len)
   is_history (s ∷ seats) len names seen all =
       let first : 0 < length (s ∷ seats) = rw len (search arith) in
-      let k = All-get_or (λ (s : S). Knows (caller s) log) (s ∷ seats) 0 s first all in
+      let k = known s (All-get_or P (s ∷ seats) 0 s first all) in
       let p : IsPrefix history log = subst (λ (l : List Entry). IsPrefix l log) (seen 0 s (search arith)) k.0 in
       whole log history p (same_of (s ∷ seats) s len names seen all p)
+
+-- a list that goes on by entries of others begins the log, which has no other entry of the name
+pub went_on : (c : Caller) (log : List Entry) → GoesOn c log → Knows c log
+went_on c log g = ((g.0, sym g.1.list), ap (entries_of c.name) g.1.list ∙ entries_of-quiet c.name c.seen g.0 g.1.apart)

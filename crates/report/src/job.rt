@@ -2,7 +2,7 @@
 ghost use Rattle.std.specs.Prelude.{◌≡◌, ◌≤◌, ◌⊎◌, OnOk};
 ghost use Rattle.std.specs.Io.KnownBytes.{Appends};
 ghost use Rattle.report.specs.Lines.{functions_line};
-ghost use Rattle.report.specs.Jobs.{IsAccepted};
+ghost use Rattle.report.specs.Jobs.{IsAccepted, IsInRange};
 
 use crate::command_line::Job;
 use crate::loading::{Refusal, load};

@@ -1,42 +1,48 @@
 //! The lines on standard output.
 ghost use Rattle.std.specs.Prelude.{◌≡◌, ◌∷◌, [], ◌<◌, OnOk};
 ghost use Rattle.std.specs.Io.KnownBytes.{Appends};
-ghost use Rattle.report.specs.Lines.{thread_line, pages_line, bytes_line, hex_bytes, hex_digit, end_lines};
+ghost use Rattle.report.specs.Lines.{thread_line, thread_lines, pages_line, bytes_line, hex_bytes, hex_digit, end_lines};
 
 use crate::end::EndState;
 use std::io::{self, Write};
-use types::Outcome;
+use types::{Outcome, ThreadReport};
 
 /// The lines of a run: one a thread, the page count, and the first bytes where a dump is wanted.
 pub(crate) fn write_end<W: Write>(out: &mut W, end: &EndState, dump: u32) -> io::Result<()>
     ensures { OnOk result (Appends (W.contents out.old) (W.contents out.new) (end_lines end.now.threads.items end.now.pages dump end.now.bytes.items)) }
 {
-    let mut thread = 0;
-    for report in end.threads.iter() {
-        write_thread(out, thread, report.outcome)?;
-        thread += 1;
-    }
+    write_threads(out, &end.threads)?;
     write_pages(out, end.pages)?;
     write_bytes(out, dump, &end.bytes)?;
     out.flush()
 }
 
+/// The lines of threads, from thread 0 on.
+fn write_threads<W: Write>(out: &mut W, reports: &[ThreadReport]) -> io::Result<()>
+    ensures { OnOk result (Appends (W.contents out.old) (W.contents out.new) (thread_lines 0 reports.now)) }
+{
+    for (thread, report) in reports.iter().enumerate() {
+        write_thread(out, thread, report.outcome)?;
+    }
+    Ok(())
+}
+
 /// The line of a thread: `thread T: ` and its outcome.
-pub(crate) fn write_thread<W: Write>(out: &mut W, thread: u32, outcome: Outcome) -> io::Result<()>
+fn write_thread<W: Write>(out: &mut W, thread: usize, outcome: Outcome) -> io::Result<()>
     ensures { OnOk result (Appends (W.contents out.old) (W.contents out.new) (thread_line thread outcome)) }
 {
     write!(out, "thread {thread}: {outcome}\n")
 }
 
 /// The line of the page count: `pages P`.
-pub(crate) fn write_pages<W: Write>(out: &mut W, pages: u32) -> io::Result<()>
+fn write_pages<W: Write>(out: &mut W, pages: u32) -> io::Result<()>
     ensures { OnOk result (Appends (W.contents out.old) (W.contents out.new) (pages_line pages)) }
 {
     write!(out, "pages {pages}\n")
 }
 
 /// The line of the first `dump` bytes, or of all if there are fewer; none where `dump` is 0.
-pub(crate) fn write_bytes<W: Write>(out: &mut W, dump: u32, bytes: &[u8]) -> io::Result<()>
+fn write_bytes<W: Write>(out: &mut W, dump: u32, bytes: &[u8]) -> io::Result<()>
     ensures { OnOk result (Appends (W.contents out.old) (W.contents out.new) (bytes_line dump bytes.now)) }
 {
     if dump == 0 {

@@ -92,9 +92,7 @@ where
     };
     let image = module.image(alloc)?;
     let prepared = Prepared::new(alloc, &image, module.pages_max(), limit)?;
-    record_named::<Brand, _, _>(
-        rt, alloc, module, prepared, header, entry, args, fuel, limit, gate,
-    )
+    record_named::<Brand, _, _>(rt, alloc, module, prepared, header, fuel, limit, gate)
 }
 
 /// The same, over a recorder whose type has been named.
@@ -104,8 +102,6 @@ fn record_named<B, G, R>(
     module: &ValidModule,
     prepared: Prepared,
     header: Header,
-    entry: &str,
-    args: &[Value],
     fuel: u64,
     limit: u32,
     gate: &G,
@@ -119,17 +115,19 @@ where
     requires limit { prepared.limit ≡ B.limit }
     requires image { B.opening ≡ opening_memory «module».now.parts }
     requires bound { B.limit ≡ limit }
-    requires header { (header.invoke ≡ entry.now) × (header.args ≡ args.now) × (header.ends.items ≡ []) × (16 ≤ vec_capacity header.ends) }
-    ensures { IfOk result (λ r. RecordsRun «module».now.parts entry.now args.now fuel limit r.0 r.1) }
+    requires ends { header.ends.items ≡ [] }
+    requires room { 16 ≤ vec_capacity header.ends }
+    ensures { IfOk result (λ r. RecordsRun «module».now.parts header.invoke header.args fuel limit r.0 r.1) }
 {
-    let (memory, seats) = LockedRecorder::<B, &R>::open(alloc, rt, prepared)?;
-    let end = run(rt, alloc, module, entry, args, fuel, &memory, seats, gate)?;
-    let finished = memory.finish(end.seats);
     let Header {
         invoke,
         args,
         mut ends,
     } = header;
+    let (memory, seats) = LockedRecorder::<B, &R>::open(alloc, rt, prepared)?;
+    let (entry, given) = (invoke.as_str(), args.as_slice());
+    let end = run(rt, alloc, module, entry, given, fuel, &memory, seats, gate)?;
+    let finished = memory.finish(end.seats);
     copy_reports(&end.threads, &mut ends);
     let parts = RecordParts {
         invoke,
@@ -151,7 +149,8 @@ where
 /// Copies the reports into the room that was kept for them.
 fn copy_reports(reports: &[ThreadReport], ends: &mut Vec<ThreadReport>)
     requires { vec_len ends.old + length reports.now ≤ vec_capacity ends.old }
-    ensures { ends.new.items ≡ ends.old.items ++ reports.now }
+    ensures items { ends.new.items ≡ ends.old.items ++ reports.now }
+    ensures capacity { vec_capacity ends.new ≡ vec_capacity ends.old }
 {
     for report in reports {
         ends.push_reserved(*report);

@@ -40,7 +40,20 @@ where
 {
     let image = module.image(alloc)?;
     let prepared = Prepared::new(alloc, &image, module.pages_max())?;
-    run_named::<Brand, _, _>(rt, alloc, module, prepared, entry, args, fuel, gate)
+    let call = Call {
+        name: entry,
+        args,
+        fuel,
+    };
+    run_named::<Brand, _, _>(rt, alloc, module, prepared, call, gate)
+}
+
+/// What is called, with which budget.
+#[derive(Clone, Copy)]
+struct Call<'a> {
+    name: &'a str,
+    args: &'a [Value],
+    fuel: u64,
 }
 
 /// The same, over a row whose type has been named.
@@ -49,9 +62,7 @@ fn run_named<B, G, R>(
     alloc: Global,
     module: &ValidModule,
     prepared: Prepared,
-    entry: &str,
-    args: &[Value],
-    fuel: u64,
+    call: Call,
     gate: &G,
 ) -> Result<EndState, RecordRunFault>
 where
@@ -61,16 +72,18 @@ where
     requires table { prepared.table ≡ B.table }
     requires opening { prepared.opening ≡ B.opening }
     requires image { B.opening ≡ opening_memory «module».now.parts }
-    ensures { IfOk result (λ end. EndsRunOnWords «module».now.parts entry.now args.now fuel end) }
+    ensures { IfOk result (λ end. EndsRunOnWords «module».now.parts call.entry.name.now call.entry.args.now call.entry.fuel end) }
 {
     let (memory, seats) = WordRow::<B>::open(alloc, prepared)?;
-    let end = run(rt, alloc, module, entry, args, fuel, &memory, seats, gate)?;
+    let Call { name, args, fuel } = call;
+    let end = run(rt, alloc, module, name, args, fuel, &memory, seats, gate)?;
     let closed = memory.close(end.seats);
     let pages = closed.pages();
+    let bytes = bytes_of(alloc, &closed)?;
     Ok(EndState {
         threads: end.threads,
         pages,
-        bytes: bytes_of(alloc, &closed)?,
+        bytes,
     })
 }
 
