@@ -2,7 +2,7 @@
 ghost use Rattle.std.specs.Prelude.{◌≡◌, ◌≤◌, ◌⊎◌, OnOk};
 ghost use Rattle.std.specs.Io.KnownBytes.{Appends};
 ghost use Rattle.report.specs.Lines.{functions_line};
-ghost use Rattle.report.specs.Jobs.{IsAccepted, IsInRange};
+ghost use Rattle.report.specs.Jobs.{IsAccepted};
 
 use crate::command_line::Job;
 use crate::loading::{Refusal, load};
@@ -43,7 +43,6 @@ where
     W: Write,
     E: Write,
     S: Write,
-    requires { IsInRange job.now }
     ensures { result ≤ 5 }
 {
     match job {
@@ -157,7 +156,6 @@ where
     W: Write,
     E: Write,
     S: Write,
-    requires { wanted.now.fuel ≤ 1000000000000 }
     ensures { result ≤ 5 }
 {
     let valid = match load(alloc, module) {

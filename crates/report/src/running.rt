@@ -99,7 +99,6 @@ where
     R: Threads + Wait + Sync,
     W: Write,
     S: Write,
-    requires { wanted.now.fuel ≤ 1000000000000 }
     ensures { IfOk result (λ status. status ≤ 1) }
 {
     let args = args_of(alloc, module, wanted)?;

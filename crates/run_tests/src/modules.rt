@@ -28,8 +28,8 @@ pub(crate) const HEADER: &[u8] = b"\x00\x61\x73\x6d\x01\x00\x00\x00";
 impl Small<'_> {
     /// The module's bytes. The body is shorter than 120 bytes.
     pub(crate) fn bytes(&self, alloc: Global) -> Result<Vec<u8>, AllocError> {
-        let count = self.output.len() as u8;
-        let length = self.body.len() as u8;
+        let count = u8::try_from(self.output.len()).unwrap_or(u8::MAX);
+        let length = u8::try_from(self.body.len()).unwrap_or(u8::MAX);
         let mut module = Vec::from_slice(alloc, HEADER)?;
         module.extend_from_slice(&[1, count.wrapping_add(4), 1, 0x60, 0, count])?;
         module.extend_from_slice(self.output)?;
