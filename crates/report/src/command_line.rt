@@ -248,11 +248,7 @@ pub fn command<'a>(alloc: Global, words: &'a [&'a str]) -> Result<Job<'a>, Usage
     };
     if records_words(&job) {
         let text = "the argument '--record <OUT>' cannot be used with '--memory words'";
-        return Err(Usage::Wrong(refused(
-            alloc,
-            ErrorKind::ArgumentConflict,
-            text,
-        )?));
+        return Err(Usage::Wrong(refused(alloc, ErrorKind::ArgumentConflict, text)?));
     }
     Ok(job)
 }

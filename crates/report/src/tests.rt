@@ -225,15 +225,28 @@ fn refuses_words_that_are_no_job(rt: HostRuntime) -> Result<(), Fail> {
     let alloc = rt.alloc();
     for [name, value] in WRONG {
         let words = ["wathread", "run", "a.wasm", "--invoke", "f", name, value];
-        assert!(rt; matches!(command(alloc, &words), Err(Usage::Wrong(_))), "{name} {value}");
+        assert!(rt;
+            matches!(command(alloc, &words), Err(Usage::Wrong(_))),
+            "{name} {value}"
+        );
     }
     let recorded = [
         "wathread", "run", "a.wasm", "--invoke", "f", "--memory", "words", "--record", "a.record",
     ];
     assert!(rt; matches!(command(alloc, &recorded), Err(Usage::Wrong(_))));
     assert!(rt; matches!(command(alloc, &["wathread"]), Err(Usage::Wrong(_))));
-    assert!(rt; matches!(command(alloc, &["wathread", "run", "a.wasm"]), Err(Usage::Wrong(_))));
+    assert!(rt;
+        matches!(
+            command(alloc, &["wathread", "run", "a.wasm"]),
+            Err(Usage::Wrong(_))
+        )
+    );
     assert!(rt; matches!(command(alloc, &["wathread", "--help"]), Err(Usage::Help(_))));
-    assert!(rt; matches!(command(alloc, &["wathread", "--version"]), Err(Usage::Help(_))));
+    assert!(rt;
+        matches!(
+            command(alloc, &["wathread", "--version"]),
+            Err(Usage::Help(_))
+        )
+    );
     Ok(())
 }

@@ -36,14 +36,23 @@ pub(crate) struct Ran {
 }
 
 /// Runs a module, and keeps its record.
-pub(crate) fn run<R: Threads + Wait + Sync>(rt: &R, alloc: Global, module: &[u8], asked: Asked) -> Result<Ran, AllocError> {
+pub(crate) fn run<R: Threads + Wait + Sync>(
+    rt: &R,
+    alloc: Global,
+    module: &[u8],
+    asked: Asked,
+) -> Result<Ran, AllocError> {
     let job = Job::Run {
         file: "a.wasm",
         invoke: asked.invoke,
         on_words: asked.on_words,
         fuel: asked.fuel,
         limit: asked.limit,
-        save: if asked.on_words { None } else { Some("a.record") },
+        save: if asked.on_words {
+            None
+        } else {
+            Some("a.record")
+        },
         dump: asked.dump,
         args: Vec::from_slice(alloc, asked.args)?,
     };

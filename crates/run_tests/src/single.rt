@@ -676,13 +676,19 @@ fn asked(example: &Example) -> Asked<'static> {
 }
 
 /// Whether an example does over the recorder what it should.
-fn is_right<R: Threads + Wait + Sync>(rt: &R, alloc: Global, example: &Example) -> Result<bool, AllocError> {
+fn is_right<R: Threads + Wait + Sync>(
+    rt: &R,
+    alloc: Global,
+    example: &Example,
+) -> Result<bool, AllocError> {
     let module = example.module.bytes(alloc)?;
     let ran = run(rt, alloc, &module, asked(example))?;
-    Ok(ran.out.as_slice() == example.out.as_bytes()
-        && ran.err.is_empty()
-        && ran.status == example.status
-        && ends_with(&ran.record, example.end, pages_of(example.out)))
+    Ok(
+        ran.out.as_slice() == example.out.as_bytes()
+            && ran.err.is_empty()
+            && ran.status == example.status
+            && ends_with(&ran.record, example.end, pages_of(example.out)),
+    )
 }
 
 #[test]
@@ -695,16 +701,22 @@ fn runs_single_threads(rt: HostRuntime) -> Result<(), Fail> {
 }
 
 /// Whether an example without a small limit prints the same over the row of words.
-fn is_right_on_words<R: Threads + Wait + Sync>(rt: &R, alloc: Global, example: &Example) -> Result<bool, AllocError> {
+fn is_right_on_words<R: Threads + Wait + Sync>(
+    rt: &R,
+    alloc: Global,
+    example: &Example,
+) -> Result<bool, AllocError> {
     let module = example.module.bytes(alloc)?;
     let on_words = Asked {
         on_words: true,
         ..asked(example)
     };
     let ran = run(rt, alloc, &module, on_words)?;
-    Ok(ran.out.as_slice() == example.out.as_bytes()
-        && ran.err.is_empty()
-        && ran.status == example.status)
+    Ok(
+        ran.out.as_slice() == example.out.as_bytes()
+            && ran.err.is_empty()
+            && ran.status == example.status,
+    )
 }
 
 #[test]

@@ -36,9 +36,11 @@ fn summing(alloc: Global) -> Result<Vec<u8>, AllocError> {
     Ok(code)
 }
 
-const COUNTED: &str = "thread 0: ok i32:160\nthread 1: ok\nthread 2: ok\nthread 3: ok\nthread 4: ok\npages 1\nbytes a0 00 00 00 00 00 00 00 04 00 00 00 00 00 00 00\n";
+const COUNTED: &str =
+    "thread 0: ok i32:160\nthread 1: ok\nthread 2: ok\nthread 3: ok\nthread 4: ok\npages 1\nbytes a0 00 00 00 00 00 00 00 04 00 00 00 00 00 00 00\n";
 
-const SUMMED: &str = "thread 0: ok i32:119\nthread 1: ok\nthread 2: ok\nthread 3: ok\nthread 4: ok\nthread 5: ok\nthread 6: ok\nthread 7: ok\nthread 8: ok\nthread 9: ok\nthread 10: ok\nthread 11: ok\nthread 12: ok\nthread 13: ok\nthread 14: ok\nthread 15: ok\npages 1\n";
+const SUMMED: &str =
+    "thread 0: ok i32:119\nthread 1: ok\nthread 2: ok\nthread 3: ok\nthread 4: ok\nthread 5: ok\nthread 6: ok\nthread 7: ok\nthread 8: ok\nthread 9: ok\nthread 10: ok\nthread 11: ok\nthread 12: ok\nthread 13: ok\nthread 14: ok\nthread 15: ok\npages 1\n";
 
 const TRAPPED: &str = "thread 0: ok i32:7\nthread 1: trap unreachable\npages 1\n";
 
@@ -151,7 +153,11 @@ fn calls_through_a_table(rt: HostRuntime) -> Result<(), Fail> {
         assert_eq!(rt; ran.status, status);
     }
     let ran = run(&rt, rt.alloc(), &calling(rt.alloc(), 0)?, USUAL)?;
-    assert!(rt; ran.record.as_slice().ends_with(b"end 0 ok i32:42 5\npages 0\nfinish\n".as_slice()));
+    assert!(rt;
+        ran.record
+            .as_slice()
+            .ends_with(b"end 0 ok i32:42 5\npages 0\nfinish\n".as_slice())
+    );
     Ok(())
 }
 
@@ -163,14 +169,20 @@ fn refuses_names_and_arguments(rt: HostRuntime) -> Result<(), Fail> {
         ..USUAL
     };
     let ran = run(&rt, rt.alloc(), &module, other)?;
-    assert_eq!(rt; ran.err.as_slice(), b"run refused: unknown export\n".as_slice());
+    assert_eq!(rt;
+        ran.err.as_slice(),
+        b"run refused: unknown export\n".as_slice()
+    );
     assert_eq!(rt; (ran.out.len(), ran.status), (0, 3));
     let more = Asked {
         args: &["7"],
         ..USUAL
     };
     let ran = run(&rt, rt.alloc(), &module, more)?;
-    assert_eq!(rt; ran.err.as_slice(), b"run refused: wrong arguments\n".as_slice());
+    assert_eq!(rt;
+        ran.err.as_slice(),
+        b"run refused: wrong arguments\n".as_slice()
+    );
     assert_eq!(rt; (ran.out.len(), ran.status), (0, 3));
     Ok(())
 }

@@ -16,9 +16,10 @@ run-requires-clause-new g c κs within = λ k d less. seat_new (λ s. s.caller) 
 
 pub returns : goal.returns
 returns g c =
-    let close = c.close-closed.ensures in
-    (close.0,
-    leaves (λ s. s.caller) (λ s. GoesOn s.caller close.0) _ _ _ _ _ _ c.in_ok-end.end.seats.items close.0 _ c.in_ok-end.ensures.run (λ n large. of_no_seat close.0 n close.2.entries large)
-    (λ s x. went_on s.caller close.0 x) close.1
-    (c.pages-pages.ensures.count ∙ ap pages close.3 ∙ ap (λ (o : Memory). pages (memory_after o close.0)) c.requires.image)
-    (c.in_ok-bytes.ensures ∙ ap (λ (m : Memory). m.bytes) close.3 ∙ ap (λ (o : Memory). (memory_after o close.0).bytes) c.requires.image))
+    let close = c.close-closed.ensures in (
+      close.0,
+      leaves (λ s. s.caller) (λ s. GoesOn s.caller close.0) _ _ _ _ _ _ c.in_ok-end.end.seats.items close.0 _ c.in_ok-end.ensures.run (λ n large. of_no_seat close.0 n close.2.entries large)
+          (λ s x. went_on s.caller close.0 x) close.1
+          (c.pages-pages.ensures.count ∙ ap pages close.3 ∙ ap (λ (o : Memory). pages (memory_after o close.0)) c.requires.image)
+          (c.in_ok-bytes.ensures ∙ ap (λ (m : Memory). m.bytes) close.3 ∙ ap (λ (o : Memory). (memory_after o close.0).bytes) c.requires.image),
+    )
