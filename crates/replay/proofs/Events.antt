@@ -90,7 +90,7 @@ module _ {S : Type 0} (stands : S → Running → Type 0) (begins : S → List V
     pub step : Step
     step =
         let es : EntryStep start s.memory queue s.places n e v =
-        entry_step start s.memory queue s.places n e v st.sound st.places reply (allowed queue n e is_made free) (in_turn queue n e is_made free) in
+        entry_step start s.memory queue s.places n e v st.sound st.places reply (allowed queue n e is_made free) (st.sound.named n free.alive) in
         record {
           legal = subst (λ (x : Shared). IsLegalEntry (system_at s) x s.places n (Made e v)) (sym st.shared)
               (subst (λ a. IsLegalEntry (system_at s) (record { memory = s.memory; queue = without_dues queue }) s.places n a) (made_act e v is_made) es.legal);

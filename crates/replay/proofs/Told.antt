@@ -73,7 +73,7 @@ module _ {S : Type 0} (stands : S → Running → Type 0) (begins : S → List V
       is_due = st.places n ∙ place_told queue n answer (st.sound.owed n answer due) (awake_if_due queue st.sound n answer due) due
 
       step : EntryStep start s.memory queue s.places n (events.Told answer) replies.Done
-      step = entry_step start s.memory queue s.places n (events.Told answer) replies.Done st.sound st.places refl due tt
+      step = entry_step start s.memory queue s.places n (events.Told answer) replies.Done st.sound st.places refl due (st.sound.owed n answer due)
 
       pub told_on : (threads' : List S) → ((m : ℕ) → m ≢ n → slice_get threads' m ≡ slice_get threads m)
           → ((m : ℕ) (x : S) → slice_get threads' m ≡ Some x → (program x ≡ s.program) × (fuel x ≡ s.budget))
