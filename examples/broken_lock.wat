@@ -1,7 +1,7 @@
 ;; A lock that isn't one: it waits until the flag at 0 is clear, and then sets it, in two steps. Two threads can both find
 ;; it clear, and then an increment of the number at 4 is lost on some schedules. Three threads add 1 two hundred
-;; times each; the sum is 600 where nothing was lost. Record a run (`--record`) that shows less, and `replay` shows the
-;; same again, step by step. `./wathread run examples/broken_lock.wasm --invoke f --dump 8`
+;; times each; the sum is 600 where nothing was lost. `--record` keeps the record of a run that shows less.
+;; `./wathread run examples/broken_lock.wasm --invoke f --record lost.record`
 (module
   (import "wasi" "thread-spawn" (func $spawn (param i32) (result i32)))
   (memory 1 1 shared)
