@@ -1,0 +1,21 @@
+//! Replaying a recorded run by one thread: the parts of the walk along its log.
+//!
+//! How the pieces go together:
+//! - Crate `recorded_runs` says what a recorded run is: some schedule without lost tries makes the log, and its scheduled run
+//!   ends as the end lines and the pages line say. It says too which entry is the first that doesn't fit, and which end line
+//!   the first that doesn't agree. All is over the machine of crate `one_schedule`.
+//! - `specs/Standing.antt` says where a walk stands (`IsStanding`): its memory, queue and threads are the scheduled machine's.
+//!   A thread's place is where the queue has it. The scheduled machine gives a thread its answer as soon as that is due, the
+//!   walk at the entry in which it is heard; till then the walk's thread waits for what the machine's has heard already.
+//! - `Stage::tell` takes an entry that is an answer heard.
+//! - An event is taken in three steps: `settle_at` makes the thread's turns of its own, the memory gives the reply, and
+//!   `Stage::ask` puts a question to the queue and starts a spawned thread. `Stage::leave` is the leave of a thread that has
+//!   ended. `proofs/Events.antt` and `proofs/Made.antt` show where all stand after it.
+//! - Crate `replay_rules` has the walk's laws: a schedule makes what a walk takes, all schedules of a log end alike, and the
+//!   entry at which a walk stops is the first misfit.
+#![tactic(auto)]
+
+mod equal;
+mod settle;
+mod stage;
+mod turns;

@@ -1,0 +1,110 @@
+//! Where a walk along a log stands, and how it takes an entry.
+ghost use Rattle.std.specs.Prelude.{◌≡◌, ◌≤◌, ◌<◌, ℕ, true, false, length, replicate, Option, Some, None};
+ghost use Rattle.types.specs.declared.value.Value.{Value};
+ghost use Rattle.types.specs.declared.event.Event.TheVariants as events;
+ghost use Rattle.types.specs.declared.outcome.Outcome.{Outcome};
+ghost use Rattle.std.specs.Prelude.{slice_set, List, ◌+◌};
+ghost use Rattle.std.specs.List.{slice_get};
+ghost use Rattle.shared_memory.specs.History.{queue_step};
+ghost use Rattle.recorded_runs.specs.Recorded.{spawn_types};
+ghost use Rattle.types.specs.declared.event.Question.TheVariants.{Leave, Spawn};
+ghost use Rattle.shared_memory.specs.WaitQueue.{first_queue, after_question, IsFree};
+ghost use Rattle.schedule.specs.System.{put};
+ghost use Rattle.schedule.specs.Histories.{Place, Place.Free, Place.Due};
+ghost use Rattle.machine.specs.Program.{Program};
+ghost use Rattle.machine.specs.Config.{Config};
+ghost use Rattle.replay_steps.specs.Standing.{IsStanding, Standing, IsToldOn, IsStartedAt, is_spawn};
+
+use crate::equal::is_same_answer;
+use crate::turns::{start_at, turn_at};
+use takes_turns::{Given, TakesTurns};
+use types::{Answer, Outcome, Question, Reply};
+use waiters::Queue;
+
+/// The wait queue of a walk, how many threads were started, and how each has ended that asked to leave.
+#[derive(Drop)]
+pub(crate) struct Stage {
+    pub(crate) queue: Queue,
+    pub(crate) started: u32,
+    pub(crate) ends: [Option<Outcome>; 16],
+}
+
+impl Stage {
+    /// Thread 0 alone is there.
+    pub(crate) fn new() -> Stage
+        ensures queue { result.queue ≡ first_queue }
+        ensures started { result.started ≡ 1 }
+        ensures ends { result.ends ≡ replicate 16 None }
+    {
+        Stage {
+            queue: Queue::new(),
+            started: 1,
+            ends: [None; 16],
+        }
+    }
+
+    /// Takes an answer that a thread heard, if it is the one that is due. A thread that has left makes no more turns.
+    pub(crate) fn tell<T: TakesTurns>(&mut self, threads: &mut [T], n: u32, answer: Answer) -> bool
+        requires standing { (s : Standing) × IsStanding T.stands T.begins T.program T.fuel s threads.old self.old.queue self.old.started self.old.ends }
+        ensures told { result ≡ true → (s : Standing) → IsStanding T.stands T.begins T.program T.fuel s threads.old self.old.queue self.old.started self.old.ends → IsToldOn T.stands T.begins T.program T.fuel s n answer threads.new self.new.queue self.new.started self.new.ends }
+        ensures refused { result ≡ false → (s : Standing) → IsStanding T.stands T.begins T.program T.fuel s threads.old self.old.queue self.old.started self.old.ends → s.places n ≡ Due answer → ⊥ }
+    {
+        let Some(due) = self.queue.told(n) else {
+            return false;
+        };
+        if !is_same_answer(due, answer) {
+            return false;
+        }
+        let place = n as usize;
+        match self.ends[place] {
+            None => {
+                turn_at(threads, place, Given::Told(answer));
+                true
+            }
+            Some(_) => true,
+        }
+    }
+
+    /// A thread that has ended asks to leave.
+    pub(crate) fn leave(&mut self, n: u32, outcome: Outcome)
+        requires free { IsFree self.old.queue n }
+        requires number { n < 16 }
+        ensures queue { self.new.queue ≡ after_question self.old.queue n Leave 0 }
+        ensures started { self.new.started ≡ self.old.started }
+        ensures ends { self.new.ends ≡ slice_set self.old.ends n (Some outcome) }
+    {
+        self.queue.ask(n, &Question::Leave, 0);
+        self.ends[n as usize] = Some(outcome);
+    }
+
+    /// A thread's question goes to the queue, unless its reply was out of bounds. A spawn starts a thread, while there
+    /// are fewer than 16.
+    pub(crate) fn ask<T: TakesTurns>(
+        &mut self,
+        threads: &mut [T],
+        n: u32,
+        question: Question,
+        reply: Reply,
+    )
+        requires free { IsFree self.old.queue n }
+        requires spawn { (arg : ℕ) → question ≡ Spawn arg → self.old.started < 16 → (self.old.started < length threads.old) × ((x : T) → slice_get threads.old self.old.started ≡ Some x → (worker : List Value → Config) × T.begins x spawn_types worker) }
+        ensures queue { self.new.queue ≡ queue_step self.old.queue n (events.Ask question) reply }
+        ensures ends { self.new.ends ≡ self.old.ends }
+        ensures started { (arg : ℕ) → question ≡ Spawn arg → self.old.started < 16 → (self.new.started ≡ self.old.started + 1) × ((x : T) (worker : List Value → Config) → slice_get threads.old self.old.started ≡ Some x → T.begins x spawn_types worker → IsStartedAt T.stands T.program T.fuel x worker arg threads.old self.old.started threads.new) }
+        ensures full { 16 ≤ self.old.started → (self.new.started ≡ self.old.started) × (threads.new ≡ threads.old) }
+        ensures other { is_spawn question ≡ false → (self.new.started ≡ self.old.started) × (threads.new ≡ threads.old) }
+    {
+        let started = self.started;
+        match reply {
+            Reply::OutOfBounds => {}
+            Reply::Value(loaded) => self.queue.ask(n, &question, loaded),
+            _ => self.queue.ask(n, &question, 0),
+        }
+        if let Question::Spawn { arg } = question
+            && started < 16
+        {
+            start_at(threads, started as usize, arg);
+            self.started = started + 1;
+        }
+    }
+}
