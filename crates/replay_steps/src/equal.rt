@@ -4,7 +4,7 @@ ghost use Rattle.std.specs.Prelude.{◌≡◌, true, false};
 use types::{Answer, Event, Reply};
 
 /// Whether two answers are the same.
-pub(crate) fn is_same_answer(a: Answer, b: Answer) -> bool
+pub fn is_same_answer(a: Answer, b: Answer) -> bool
     ensures same { result ≡ true → a ≡ b }
     ensures other { result ≡ false → a ≡ b → ⊥ }
 {
@@ -12,7 +12,7 @@ pub(crate) fn is_same_answer(a: Answer, b: Answer) -> bool
 }
 
 /// Whether two replies are the same.
-pub(crate) fn is_same_reply(a: Reply, b: Reply) -> bool
+pub fn is_same_reply(a: Reply, b: Reply) -> bool
     ensures same { result ≡ true → a ≡ b }
     ensures other { result ≡ false → a ≡ b → ⊥ }
 {
@@ -20,7 +20,7 @@ pub(crate) fn is_same_reply(a: Reply, b: Reply) -> bool
 }
 
 /// Whether two events are the same.
-pub(crate) fn is_same_event(a: Event, b: Event) -> bool
+pub fn is_same_event(a: Event, b: Event) -> bool
     ensures same { result ≡ true → a ≡ b }
     ensures other { result ≡ false → a ≡ b → ⊥ }
 {

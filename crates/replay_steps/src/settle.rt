@@ -7,7 +7,7 @@ use takes_turns::{Given, TakesTurns, Turn};
 
 /// Makes turns of the thread until it wants more than a turn of its own, and answers what that is. Each turn of its own
 /// costs a unit, so it makes no more than it has units left.
-pub(crate) fn settle<T: TakesTurns>(thread: &mut T, fuel: u64) -> Turn
+pub fn settle<T: TakesTurns>(thread: &mut T, fuel: u64) -> Turn
     requires here { (t : Running) × T.stands thread.old t × IsHere t }
     requires budget { T.fuel thread.old ≡ fuel }
     ensures program { T.program thread.new ≡ T.program thread.old }

@@ -23,15 +23,15 @@ use waiters::Queue;
 
 /// The wait queue of a walk, how many threads were started, and how each has ended that asked to leave.
 #[derive(Drop)]
-pub(crate) struct Stage {
-    pub(crate) queue: Queue,
-    pub(crate) started: u32,
-    pub(crate) ends: [Option<Outcome>; 16],
+pub struct Stage {
+    pub queue: Queue,
+    pub started: u32,
+    pub ends: [Option<Outcome>; 16],
 }
 
 impl Stage {
     /// Thread 0 alone is there.
-    pub(crate) fn new() -> Stage
+    pub fn new() -> Stage
         ensures queue { result.queue ≡ first_queue }
         ensures started { result.started ≡ 1 }
         ensures ends { result.ends ≡ replicate 16 None }
@@ -44,7 +44,7 @@ impl Stage {
     }
 
     /// Takes an answer that a thread heard, if it is the one that is due. A thread that has left makes no more turns.
-    pub(crate) fn tell<T: TakesTurns>(&mut self, threads: &mut [T], n: u32, answer: Answer) -> bool
+    pub fn tell<T: TakesTurns>(&mut self, threads: &mut [T], n: u32, answer: Answer) -> bool
         requires standing { (s : Standing) × IsStanding T.stands T.begins T.program T.fuel s threads.old self.old.queue self.old.started self.old.ends }
         ensures told { result ≡ true → (s : Standing) → IsStanding T.stands T.begins T.program T.fuel s threads.old self.old.queue self.old.started self.old.ends → IsToldOn T.stands T.begins T.program T.fuel s n answer threads.new self.new.queue self.new.started self.new.ends }
         ensures refused { result ≡ false → (s : Standing) → IsStanding T.stands T.begins T.program T.fuel s threads.old self.old.queue self.old.started self.old.ends → s.places n ≡ Due answer → ⊥ }
@@ -66,7 +66,7 @@ impl Stage {
     }
 
     /// A thread that has ended asks to leave.
-    pub(crate) fn leave(&mut self, n: u32, outcome: Outcome)
+    pub fn leave(&mut self, n: u32, outcome: Outcome)
         requires free { IsFree self.old.queue n }
         requires number { n < 16 }
         ensures queue { self.new.queue ≡ after_question self.old.queue n Leave 0 }
@@ -79,7 +79,7 @@ impl Stage {
 
     /// A thread's question goes to the queue, unless its reply was out of bounds. A spawn starts a thread, while there
     /// are fewer than 16.
-    pub(crate) fn ask<T: TakesTurns>(
+    pub fn ask<T: TakesTurns>(
         &mut self,
         threads: &mut [T],
         n: u32,

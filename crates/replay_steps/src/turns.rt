@@ -13,7 +13,7 @@ use takes_turns::{Given, TakesTurns, Turn};
 use types::Value;
 
 /// A turn of the thread of this number.
-pub(crate) fn turn_at<T: TakesTurns>(threads: &mut [T], n: usize, given: Given) -> Turn
+pub fn turn_at<T: TakesTurns>(threads: &mut [T], n: usize, given: Given) -> Turn
     requires within { n < length threads.old }
     requires given { (x : T) → slice_get threads.old n ≡ Some x → (t : Running) × T.stands x t × IsGiven (T.program x) t given }
     ensures turned { (x : T) → slice_get threads.old n ≡ Some x → IsTurnedAt T.stands T.program T.fuel x given result threads.old n threads.new }
@@ -22,7 +22,7 @@ pub(crate) fn turn_at<T: TakesTurns>(threads: &mut [T], n: usize, given: Given) 
 }
 
 /// Turns of its own of the thread of this number, until it wants more.
-pub(crate) fn settle_at<T: TakesTurns>(threads: &mut [T], n: usize, fuel: u64) -> Turn
+pub fn settle_at<T: TakesTurns>(threads: &mut [T], n: usize, fuel: u64) -> Turn
     requires within { n < length threads.old }
     requires here { (x : T) → slice_get threads.old n ≡ Some x → (T.fuel x ≡ fuel) × (t : Running) × T.stands x t × IsHere t }
     ensures settled { (x : T) → slice_get threads.old n ≡ Some x → SettlesAt T.stands T.program T.fuel x result threads.old n threads.new }
@@ -31,7 +31,7 @@ pub(crate) fn settle_at<T: TakesTurns>(threads: &mut [T], n: usize, fuel: u64) -
 }
 
 /// Starts the thread of this number, with the argument of its spawn.
-pub(crate) fn start_at<T: TakesTurns>(threads: &mut [T], n: usize, arg: u32)
+pub fn start_at<T: TakesTurns>(threads: &mut [T], n: usize, arg: u32)
     requires within { n < length threads.old }
     requires number { n < 16 }
     requires begins { (x : T) → slice_get threads.old n ≡ Some x → (worker : List Value → Config) × T.begins x spawn_types worker }
