@@ -1,6 +1,7 @@
 -- A thread that makes a question.
-use Rattle.std.proofs.Common.{◌≡◌, ℕ, ◌+◌, ◌<◌, ◌≤◌, false, List, length, Option, Some, None, refl, sym, ◌∙◌, ap, subst, ◌⊎◌, inl, inr, slice_get}
-use Rattle.std.proofs.lemmas.Bool.{cases_lt}
+use Rattle.std.proofs.Common.{◌≡◌, ℕ, ◌+◌, ◌<◌, ◌≤◌, ◌==◌, ◌&&◌, false, List, [], ◌∷◌, ◌++◌, length, arith, Option, Some, None, refl, sym, ◌∙◌, ap, subst, ◌⊎◌, inl, inr, slice_get}
+use Rattle.std.specs.Prelude.{nat_lt}
+use Rattle.std.proofs.lemmas.Bool.{cases_lt, cond-false, le-ltb, ltb-true, eqb-true, and_parts, cond_both}
 use Rattle.types.specs.declared.value.ValType.{ValType}
 use Rattle.types.specs.declared.value.Value.{Value}
 use Rattle.types.specs.declared.event.Event.{Event}
@@ -12,15 +13,45 @@ use Rattle.types.specs.declared.outcome.Outcome.{Outcome}
 use Rattle.shared_memory.specs.Memory.{reply_of}
 use Rattle.shared_memory.specs.Events.{is_exempt}
 use Rattle.shared_memory.specs.WaitQueue.{WaitQueue, next_id}
+use Rattle.schedule.specs.Machine.{Thread.Runs}
+use Rattle.one_schedule.proofs.Places.{args_by, question_args}
+use Rattle.types.specs.declared.event.Reply.TheVariants as replies
 use Rattle.shared_memory.specs.History.{queue_step}
 use Rattle.schedule.specs.System.{Want.Calls}
 use Rattle.machine.specs.Program.{Program}
 use Rattle.machine.specs.Config.{Config}
 use Rattle.takes_turns.specs.Turns.{Running, outcome_of, wants_of}
-use Rattle.recorded_runs.specs.Recorded.{spawn_types}
+use Rattle.recorded_runs.specs.Recorded.{spawn_types, spawned_in}
 use Rattle.replay_steps.specs.Standing.{Standing, IsStanding, IsSettledOn, IsStartedAt, system_at, made_by, is_spawn}
-use Rattle.replay_steps.proofs.Made.{HasTaken, made_plain, asks_nobody, same_count}
+use Rattle.replay_steps.proofs.Made.{HasTaken, made_plain}
 use Rattle.replay_steps.proofs.Spawned.{count_is, made_spawn}
+
+-- a question that starts nobody
+pub asks_nobody : (s : Standing) (n : ℕ) (question : Question) → (is_spawn question ≡ false) ⊎ (16 ≤ next_id s.state.shared.queue) → (m : ℕ) (x : Running)
+    → (system_at s).starts (s.state.shared) n (events.Ask question) m ≡ Some x → ⊥
+asks_nobody s n (Wait addr width expected timeout) h m x k = absurd (cc k)
+asks_nobody s n (Notify addr count) h m x k = absurd (cc k)
+asks_nobody s n Leave h m x k = absurd (cc k)
+asks_nobody s n (Spawn arg) (inl h) m x k = absurd (cc h)
+asks_nobody s n (Spawn arg) (inr h) m x k =
+    cond_both (nat_lt m 16 && (m == next_id s.state.shared.queue)) (Some (Runs (spawned_in s.worker m arg) s.budget)) None (λ w. w ≡ Some x → ⊥)
+    (λ both e. let parts = and_parts (nat_lt m 16) (m == next_id s.state.shared.queue) both in
+    let below : m < 16 = ltb-true m 16 parts.0 in let is : m ≡ next_id s.state.shared.queue = eqb-true m (next_id s.state.shared.queue) parts.1 in let no : ⊥ = omega arith in no)
+    (λ isnt e. absurd (cc e)) k
+
+same_args : (q : WaitQueue) (question : Question) → (is_spawn question ≡ false) ⊎ (16 ≤ next_id q) → args_by q question ≡ q.args
+same_args q (Wait addr width expected timeout) h = refl
+same_args q (Notify addr count) h = refl
+same_args q Leave h = refl
+same_args q (Spawn arg) (inl h) = absurd (cc h)
+same_args q (Spawn arg) (inr h) = cond-false (nat_lt (next_id q) 16) (q.args ++ arg ∷ []) q.args (le-ltb (next_id q) 16 h)
+
+pub same_count : (q : WaitQueue) (n : ℕ) (question : Question) (v : Reply) → (is_spawn question ≡ false) ⊎ (16 ≤ next_id q) → next_id q ≡ next_id (queue_step q n (events.Ask question) v)
+same_count q n question (replies.Value k) h = ap (λ w. length w + 1) (sym (question_args q n question k ∙ same_args q question h))
+same_count q n question replies.Done h = ap (λ w. length w + 1) (sym (question_args q n question 0 ∙ same_args q question h))
+same_count q n question replies.OutOfBounds h = refl
+same_count q n question replies.Again h = ap (λ w. length w + 1) (sym (question_args q n question 0 ∙ same_args q question h))
+same_count q n question replies.Full h = ap (λ w. length w + 1) (sym (question_args q n question 0 ∙ same_args q question h))
 
 module _ {S : Type 0} (stands : S → Running → Type 0) (begins : S → List ValType → (List Value → Config) → Type 0) (program : S → Program) (fuel : S → ℕ) where
   module _ (s : Standing) (threads : List S) (queue : WaitQueue) (begun : ℕ) (ends : List (Option Outcome)) (n : ℕ) (t : Running)

@@ -6,3 +6,4 @@ pub mod Events
 pub mod Made
 pub mod Spawned
 pub mod Asked
+pub mod Leaving

@@ -18,7 +18,7 @@ ghost use Rattle.machine.specs.Program.{Program};
 ghost use Rattle.machine.specs.Config.{Config};
 ghost use Rattle.takes_turns.specs.Turns.{Running, left_of, outcome_of, wants_of};
 ghost use Rattle.schedule.specs.System.{Want.Calls};
-ghost use Rattle.replay_steps.specs.Standing.{IsHere, IsStanding, Standing, IsToldOn, IsStartedAt, IsSettledOn, IsAnswered, made_by, is_spawn};
+ghost use Rattle.replay_steps.specs.Standing.{HasGone, IsGoing, IsHere, IsStanding, Standing, IsToldOn, IsStartedAt, IsSettledOn, IsAnswered, made_by, is_spawn};
 
 use crate::equal::{is_same_answer, is_same_reply};
 use crate::turns::{start_at, turn_at};
@@ -72,13 +72,29 @@ impl Stage {
         }
     }
 
-    /// A thread that has ended asks to leave.
-    pub fn leave(&mut self, n: u32, outcome: Outcome)
+    /// Whether a thread may be taken: it was started, has no open question, and hasn't left. Who may be taken by its
+    /// place alone, and isn't going, has left.
+    pub fn is_going<T: TakesTurns>(&self, n: u32) -> bool
+        ensures going { result ≡ true → (s : Standing) (threads : List T) → IsStanding T.stands T.begins T.program T.fuel s threads self.now.queue self.now.started self.now.ends → IsGoing T.stands T.begins T.program T.fuel s threads self.now.queue self.now.ends n }
+        ensures gone { result ≡ false → (s : Standing) (threads : List T) → IsStanding T.stands T.begins T.program T.fuel s threads self.now.queue self.now.started self.now.ends → s.places n ≡ Free → HasGone (s.state.threads n) }
+    {
+        if n >= self.started || self.queue.has_open_question(n) {
+            return false;
+        }
+        let Some(end) = self.ends.get(n as usize) else {
+            return false;
+        };
+        end.is_none()
+    }
+
+    /// A thread that has ended asks to leave, with its outcome.
+    pub fn leave<T: TakesTurns>(&mut self, n: u32, outcome: Outcome)
         requires free { IsFree self.old.queue n }
         requires number { n < 16 }
         ensures queue { self.new.queue ≡ after_question self.old.queue n Leave 0 }
         ensures started { self.new.started ≡ self.old.started }
         ensures ends { self.new.ends ≡ slice_set self.old.ends n (Some outcome) }
+        ensures stands { (s : Standing) (t u : Running) (threads : List T) → IsSettledOn T.stands T.begins T.program T.fuel s threads self.old.queue self.old.started self.old.ends n t → wants_of s.program u ≡ Calls (events.Ask Leave) → outcome_of u ≡ Some outcome → left_of u ≡ left_of t → IsHere u → IsStanding T.stands T.begins T.program T.fuel (made_by s n (events.Ask Leave) Done u) threads self.new.queue self.new.started self.new.ends }
     {
         self.queue.ask(n, &Question::Leave, 0);
         self.ends[n as usize] = Some(outcome);
