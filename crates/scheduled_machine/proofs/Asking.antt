@@ -1,5 +1,5 @@
 -- A question within bounds, as the machine makes it.
-use Rattle.std.proofs.Common.{◌≡◌, ◌≢◌, ℕ, zero, suc, ◌<◌, true, List, length, Option, Some, None, refl, sym, ◌∙◌, ap, subst, arith, set, length-set}
+use Rattle.std.proofs.Common.{◌≡◌, ◌≢◌, ℕ, zero, suc, ◌<◌, true, List, length, Some, None, refl, sym, ◌∙◌, ap, subst, arith, set, length-set}
 use Rattle.types.specs.declared.value.ValType.{ValType}
 use Rattle.types.specs.declared.value.Value.{Value}
 use Rattle.types.specs.declared.event.Event.{Event}
@@ -14,7 +14,7 @@ use Rattle.shared_memory.specs.WaitQueue.{WaitQueue, answer_due, next_id, after_
 use Rattle.shared_memory.specs.History.{queue_step}
 use Rattle.schedule.specs.System.{State, Want.Calls, Want.Awaits, put}
 use Rattle.schedule.specs.Scheduled.{after_event, hears_any, or_started}
-use Rattle.schedule.specs.Machine.{Wish, Wish.Goes, Wish.Asks, Wish.Waits, Wish.Ends, Thread.Absent, Thread.Runs, Thread.Over, Thread.Leaves, Thread.Left, wanted, takes_by, thread_takes}
+use Rattle.schedule.specs.Machine.{Wish, Thread.Absent, Thread.Runs, Thread.Over, Thread.Leaves, Thread.Left, wanted, takes_by, thread_takes}
 use Rattle.schedule.proofs.Basics.{put-other}
 use Rattle.schedule.proofs.Budgets.{opened}
 use Rattle.machine.specs.Program.{Program}
@@ -25,7 +25,7 @@ use Rattle.scheduled.specs.Threads.{machine_of, wishes}
 use Rattle.scheduled.proofs.Asking.{machine_laws, wishes_of_threads, wants_spawn}
 use Rattle.takes_turns.specs.Turns.{Running, wants_of}
 use Rattle.scheduled_machine.specs.Threads.{Setting, IsHere, IsMade, IsThread}
-use Rattle.scheduled_machine.specs.Runs.{IsAt, IsOrderly, AreThreads, MayHear, all_hear, opening_value, started_at, started_by, system_by}
+use Rattle.scheduled_machine.specs.Runs.{IsAt, IsOrderly, AreThreads, MayHear, opening_value, started_at, started_by, system_by}
 use Rattle.scheduled_machine.specs.declared.stepped.Stepped.{Stepped}
 use Rattle.scheduled_machine.specs.declared.stepping.Machine.{Machine}
 use Rattle.scheduled_machine.proofs.Orderly.{free_asker, orderly_same}

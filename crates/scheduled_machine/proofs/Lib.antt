@@ -10,3 +10,4 @@ pub mod Starting
 pub mod Questions
 pub mod Asking
 pub mod Turns
+pub mod Along

@@ -1,5 +1,5 @@
 -- A question within bounds: what every state keeps to still holds after it.
-use Rattle.std.proofs.Common.{◌≡◌, ◌≢◌, ℕ, ◌+◌, ◌<◌, ◌≤◌, ◌==◌, ◌&&◌, ◌⊎◌, inl, inr, Bool, true, false, cond, [], ◌∷◌, ◌++◌, length, Option, Some, None, refl, sym, ◌∙◌, ap, subst, arith, length-append}
+use Rattle.std.proofs.Common.{◌≡◌, ◌≢◌, ℕ, ◌+◌, ◌<◌, ◌≤◌, ◌⊎◌, inl, inr, true, false, Option, Some, None, refl, sym, ◌∙◌, ap, subst, arith}
 use Rattle.std.specs.Prelude.{nat_lt}
 use Rattle.std.proofs.lemmas.Bool.{cases_Bool, cases_lt, both_ways, cond_both, cond-true, lt-ltb, false_from_ne_true}
 use Rattle.types.specs.declared.event.Event.TheVariants as events
@@ -15,7 +15,7 @@ use Rattle.schedule.proofs.Basics.{put-same, put-other, at_each, same_or_not}
 use Rattle.scheduled.specs.Shared.{without_dues}
 use Rattle.one_schedule.proofs.Places.{IsSound-without}
 use Rattle.takes_turns.specs.Turns.{Running, wants_of}
-use Rattle.scheduled_machine.specs.Threads.{Setting, IsHere, spawned_in}
+use Rattle.scheduled_machine.specs.Threads.{Setting, IsHere}
 use Rattle.scheduled_machine.specs.Runs.{IsOrderly, all_hear, system_by, MayHear, next_after, started_at, started_by}
 use Rattle.scheduled_machine.proofs.Orderly.{nothing_due, free_asker}
 use Rattle.scheduled_machine.proofs.Starting.{next_question, spawned_apart, spawned_past}

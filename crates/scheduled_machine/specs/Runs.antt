@@ -1,5 +1,5 @@
 -- Where the machine stands: its threads, its memory and its queue are those of a state of the scheduled machine.
-use Rattle.std.specs.Prelude.{ℕ, zero, suc, ◌≡◌, ◌+◌, ◌-◌, ◌<◌, ◌≤◌, ◌==◌, ◌&&◌, true, cond, nat_lt, List, [], ◌++◌, length, map, Option, Some, None, option_to_list}
+use Rattle.std.specs.Prelude.{ℕ, zero, suc, ◌≡◌, ◌+◌, ◌<◌, ◌≤◌, ◌==◌, ◌&&◌, true, cond, nat_lt, List, [], ◌++◌, length, map, Option, Some, None, option_to_list}
 use Rattle.std.specs.List.{slice_get}
 use Rattle.types.specs.declared.value.ValType.{ValType}
 use Rattle.types.specs.declared.value.Value.{Value}
@@ -17,7 +17,7 @@ use Rattle.shared_memory.proofs.Soundness.{IsSound}
 use Rattle.schedule.specs.System.{Want.Awaits, System, State, put}
 use Rattle.schedule.specs.System as systems
 use Rattle.schedule.specs.Scheduled.{hears_any, or_started}
-use Rattle.schedule.specs.Machine.{Thread.Absent, Thread.Runs, Thread.Left}
+use Rattle.schedule.specs.Machine.{Thread.Absent, Thread.Runs}
 use Rattle.machine.specs.Program.{Program}
 use Rattle.machine.specs.Config.{Config}
 use Rattle.machine.specs.State as states
@@ -26,7 +26,7 @@ use Rattle.scheduled.specs.Seeing.{entered}
 use Rattle.scheduled.specs.Threads.{machine_of}
 use Rattle.one_schedule.specs.Runs.{Start}
 use Rattle.takes_turns.specs.Turns.{Running, wants_of}
-use Rattle.scheduled_machine.specs.Threads.{Setting, IsHere, IsThread, spawned_in}
+use Rattle.scheduled_machine.specs.Threads.{Setting, IsHere, IsThread, report_of, spawned_in}
 use Rattle.scheduled_machine.specs.declared.mark.Kind as kinds
 use Rattle.scheduled_machine.specs.declared.mark.Kind.TheVariants as marks
 use Rattle.scheduled_machine.specs.declared.mark.Mark as mark
@@ -105,12 +105,7 @@ entry_of e = entered e.thread e.act
 abbrev pub as_entries : List (systems.Entry Event Reply Answer) → List entries.Entry
 as_entries made = map entry_of made
 
--- The report of a thread that has left: its outcome, and the units that it has spent of the budget.
-abbrev pub report_of : ℕ → Running → Option ThreadReport
-report_of fuel (Left outcome left) = Some (record { outcome = outcome; spent = fuel - left })
-report_of fuel t = None
-
--- Those of the threads below a number, in order.
+-- The reports of the threads below a number that have left, in order.
 abbrev pub reports_below : ℕ → ℕ → (ℕ → Running) → List ThreadReport
 reports_below zero fuel threads = []
 reports_below (suc k) fuel threads = reports_below k fuel threads ++ option_to_list (report_of fuel (threads k))

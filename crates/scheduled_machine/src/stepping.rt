@@ -104,11 +104,7 @@ impl<T: TakesTurns> Machine<T> {
     ///
     /// # Errors
     /// Where memory for the entries is refused. Then nothing was stepped, and the list has the entries that it had.
-    pub fn step_along(
-        &mut self,
-        marks: &[Mark],
-        entries: &mut Vec<Entry>,
-    ) -> Result<(), AllocError>
+    pub fn step_along(&mut self, marks: &[Mark], entries: &mut Vec<Entry>) -> Result<(), AllocError>
         requires { (s : Setting) × (w : State Shared Running) × IsAt T.stands T.begins T.program T.fuel s self.old w }
         ensures state { OnOk result ((s : Setting) (w : State Shared Running) → IsAt T.stands T.begins T.program T.fuel s self.old w → IsAt T.stands T.begins T.program T.fuel s self.new (scheduled_run (system_by s) w (map mark_of marks.now))) }
         ensures entries { OnOk result ((s : Setting) (w : State Shared Running) → IsAt T.stands T.begins T.program T.fuel s self.old w → entries.new.items ≡ entries.old.items ++ as_entries (entries_made (system_by s) w (map mark_of marks.now))) }

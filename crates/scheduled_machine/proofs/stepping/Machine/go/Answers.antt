@@ -11,9 +11,13 @@ go-requires g c =
     let r = c.requires in
     let old = c.args.self.now in
     let n = c.args.n in
-    let within : n < length old.threads.items = search rules in
-    (r.0, (r.1).threads n, subst (λ z. IsThread m.stands m.begins m.program m.fuel r.0 z ((r.1).threads n)) (sym c.index_mut.ensures.value)
-    (thread_in m.stands m.begins m.program m.fuel r.0 old.threads.items (r.1).threads n c.index_mut.result.now within (r.2).threads), r.3)
+    let within : n < length old.threads.items = search rules in (
+      r.0,
+      (r.1).threads n,
+      subst (λ z. IsThread m.stands m.begins m.program m.fuel r.0 z ((r.1).threads n)) (sym c.index_mut.ensures.value)
+          (thread_in m.stands m.begins m.program m.fuel r.0 old.threads.items (r.1).threads n c.index_mut.result.now within (r.2).threads),
+      r.3,
+    )
 
 pub returns-then-place-len : goal.returns-then-place-len
 returns-then-place-len g c s w at none =

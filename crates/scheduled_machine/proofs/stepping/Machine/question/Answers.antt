@@ -1,4 +1,4 @@
-use Rattle.std.proofs.Common.{◌≡◌, Some, None, refl, sym, ◌∙◌, ap, subst, length-set}
+use Rattle.std.proofs.Common.{◌≡◌, None, refl, sym, ◌∙◌, ap, subst}
 use Rattle.types.specs.declared.event.Event.TheVariants.{Ask}
 use Rattle.types.specs.declared.event.Reply.TheVariants.{OutOfBounds}
 use Rattle.shared_memory.specs.Memory.{reply_of}

@@ -1,4 +1,4 @@
-use Rattle.std.proofs.Common.{◌<◌, ◌≤◌, length, sym, subst, arith, get_or, set}
+use Rattle.std.proofs.Common.{◌<◌, length, sym, subst, arith, get_or, set}
 use Rattle.schedule.specs.Machine.{Thread.Absent, Thread.Runs}
 use Rattle.schedule.specs.System.{put}
 use Rattle.scheduled_machine.specs.Threads.{IsThread, spawned_in}
@@ -16,7 +16,7 @@ start-requires g c =
     let within : old.next_id < length old.threads.items = omega (arith, c.requires.slots) in (
       r.0,
       subst (λ z. IsThread m.stands m.begins m.program m.fuel r.0 z Absent) (sym c.index_mut.ensures.value)
-      (subst (λ t. IsThread m.stands m.begins m.program m.fuel r.0 (get_or old.threads.items old.next_id x) t) r.3 (thread_in m.stands m.begins m.program m.fuel r.0 old.threads.items r.1 old.next_id x within r.2)),
+          (subst (λ t. IsThread m.stands m.begins m.program m.fuel r.0 (get_or old.threads.items old.next_id x) t) r.3 (thread_in m.stands m.begins m.program m.fuel r.0 old.threads.items r.1 old.next_id x within r.2)),
     )
 
 pub returns-then-self-lt16-clause-threads : goal.returns-then-self-lt16-clause-threads
