@@ -4,6 +4,7 @@
 mod args;
 mod command_line;
 mod end;
+mod fitting;
 mod job;
 mod lines;
 mod loading;
@@ -17,5 +18,5 @@ pub use command_line::{Job, Usage, command};
 pub use end::EndState;
 pub use job::{check, perform};
 pub use loading::{Refusal, load};
-pub use recording::{RecordRunFault, run_recorded};
+pub use recording::{RecordRunFault, record_run};
 pub use words::run_on_words;
