@@ -4,3 +4,6 @@ pub mod Living
 pub mod Told
 pub mod Events
 pub mod Made
+pub mod Spawned
+pub mod Asked
+pub mod Leaving
