@@ -49,3 +49,14 @@ module _ {S : Type 0} (stands : S → Running → Type 0) (begins : S → List V
 
   pub absent_past : (t : Running) (m : ℕ) → 1 ≤ m → first_thread t m ≡ Absent
   absent_past t m past = let apart : m ≢ 0 = λ e. absurd (omega (arith, past, e)) in put-other (λ (k : ℕ). Absent) 0 t m apart
+
+  -- it is alone at first
+  same_alone : (none xs : List (Stepped S)) (x : Stepped S) → none ≡ [] → xs ≡ none ++ x ∷ [] → xs ≡ x ∷ []
+  same_alone none xs x empty is = is ∙ ap (λ ys. ys ++ x ∷ []) empty
+
+  pub are_alone : (none xs : List (Stepped S)) (x : Stepped S) (t : Running) → none ≡ [] → xs ≡ none ++ x ∷ [] → IsThread stands begins program fuel s x t
+      → AreThreads stands begins program fuel s xs (first_thread t)
+  are_alone none xs x t empty is stands_so = subst (λ ys. AreThreads stands begins program fuel s ys (first_thread t)) (sym (same_alone none xs x empty is)) (are_first x t stands_so)
+
+  pub count_alone : (none xs : List (Stepped S)) (x : Stepped S) → none ≡ [] → xs ≡ none ++ x ∷ [] → length xs ≡ 1
+  count_alone none xs x empty is = ap length (same_alone none xs x empty is)

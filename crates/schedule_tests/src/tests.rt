@@ -1,11 +1,10 @@
 //! Runs of real threads, and the scheduled machine along the schedules of their logs.
 
-use crate::machine::{MachineFault, machine_of};
 use crate::modules::{
     ADDING, COUNTING, ENDLESS, GROWING, OUTSIDE, TIMEOUTS, TRAPPING, WAITING, single, summing,
     threaded,
 };
-use crate::schedule::schedule_of;
+use crate::{MachineFault, machine_of, schedule_of};
 use report::{EndState, load, run_recorded};
 use scheduled_machine::{Kind, Mark};
 use std::alloc::{AllocError, Global};

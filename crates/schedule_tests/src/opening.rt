@@ -84,8 +84,10 @@ pub fn machine_of<'m>(
     let memory = OneMemory::open(alloc, &image, module.pages_max())?;
     let mut threads = Vec::with_capacity(alloc, MOST_THREADS)?;
     threads.push_reserved(Stepped::running(first));
-    if module.starts_threads() {
-        add_absent(&mut threads, spawnable_threads(alloc, module, fuel)?);
+    if !module.starts_threads() {
+        return Ok(Machine::new(threads, memory));
     }
+    let spawned = spawnable_threads(alloc, module, fuel)?;
+    add_absent(&mut threads, spawned);
     Ok(Machine::new(threads, memory))
 }

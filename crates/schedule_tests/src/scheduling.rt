@@ -41,6 +41,22 @@ fn go_on<T: TakesTurns>(
     Ok(())
 }
 
+/// A thread whose next entry is a leave, and which wants another event, finds the log full.
+fn fill_before_leave<T: TakesTurns>(
+    machine: &mut Machine<T>,
+    entry: &Entry,
+    marks: &mut Vec<Mark>,
+) -> Result<(), AllocError>
+    requires { IsSomewhere T.stands T.begins T.program T.fuel machine.old }
+    ensures { IsSomewhere T.stands T.begins T.program T.fuel machine.new }
+{
+    let leave = Event::Ask(Question::Leave);
+    if entry.event == leave && machine.wanted(entry.thread) != Some(leave) {
+        return step(machine, entry.thread, Kind::Fills, marks);
+    }
+    Ok(())
+}
+
 /// The schedule of a log without lost tries, found by stepping a machine that is before its first mark. For each entry that is
 /// no answer heard, these are the turns of its own that the thread makes before it, at most `most`, and its turn; before a
 /// leave of a thread that wants another event, the thread finds the log full.
@@ -57,15 +73,12 @@ pub fn schedule_of<T: TakesTurns>(
     ensures { IsSomewhere T.stands T.begins T.program T.fuel machine.new }
 {
     let mut marks = Vec::new(alloc);
-    let leave = Event::Ask(Question::Leave);
     for entry in log {
         if let Event::Told(_) = entry.event {
             continue;
         }
         go_on(machine, entry.thread, most, &mut marks)?;
-        if entry.event == leave && machine.wanted(entry.thread) != Some(leave) {
-            step(machine, entry.thread, Kind::Fills, &mut marks)?;
-        }
+        fill_before_leave(machine, entry, &mut marks)?;
         step(machine, entry.thread, Kind::Turn, &mut marks)?;
     }
     Ok(marks)

@@ -3,10 +3,10 @@ use Rattle.schedule.specs.Machine.{Thread.Absent}
 use Rattle.takes_turns.specs.Turns.{Running}
 use Rattle.scheduled_machine.specs.Threads.{Setting, IsPrepared}
 use Rattle.scheduled_machine.specs.Runs.{AreThreads}
-use Rattle.schedule_tests.proofs.machine.add_absent.Given as goal
+use Rattle.schedule_tests.proofs.opening.add_absent.Given as goal
 
-abbrev pub invariant-loop-spawned : goal.invariant-loop-spawned
-invariant-loop-spawned g l =
+abbrev pub invariant-loop-thread : goal.invariant-loop-thread
+invariant-loop-thread g l =
     let m = g.T.TakesTurns in record {
       room : vec_len l.threads + vec_len l.spawned ≤ vec_capacity l.threads;
       count : length l.threads.items + length l.spawned.items ≡ length l.initial.threads.items + length l.initial.spawned.items;
@@ -17,5 +17,5 @@ invariant-loop-spawned g l =
           → ((k : ℕ) → length l.initial.threads.items ≤ k → f k ≡ Absent) → AreThreads m.stands m.begins m.program m.fuel s l.threads.items f;
     }
 
-abbrev pub decreases-loop-spawned : goal.decreases-loop-spawned
-decreases-loop-spawned g l = vec_len l.spawned
+abbrev pub decreases-loop-thread : goal.decreases-loop-thread
+decreases-loop-thread g l = vec_len l.spawned
