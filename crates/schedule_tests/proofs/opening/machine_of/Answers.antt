@@ -8,17 +8,17 @@ use Rattle.interp.specs.Starts.{start_of}
 use Rattle.interp.specs.Threads.{program_in, StandsFor, IsBegun}
 use Rattle.schedule_tests.specs.Machines.{setting_of}
 use Rattle.schedule_tests.proofs.Filling.{are_alone, count_alone, absent_past}
-use Rattle.schedule_tests.proofs.Machines.{worker_in, prepared, calls_start, at_start}
+use Rattle.schedule_tests.proofs.Machines.{worker_in, prepared, calls_start, opened_is, at_start}
 use Rattle.schedule_tests.proofs.opening.machine_of.Goals as goal
 
 pub running-requires : goal.running-requires
-running-requires g c κs within =
+running-requires c =
     let f = c.in_ok-first.ensures.first in
     let main = start_of c.args.module.now.parts f.takes.func_type f.takes.body c.args.args.now in
     (main, subst (λ k. StandsFor c.in_ok-first.first (Runs (At main) k)) (sym f.call.fuel_is) f.call.stands_so)
 
 pub add_absent-requires-clause-prepared : goal.add_absent-requires-clause-prepared
-add_absent-requires-clause-prepared g c κs within =
+add_absent-requires-clause-prepared c =
     let m = c.args.module.now.parts in
     let are = c.in_ok-spawned.ensures in (
       setting_of m (worker_in StandsFor IsBegun program_in (λ (t : Thread). t.fuel) m c.args.fuel _ c.in_ok-spawned.spawned.items are) c.args.fuel,
@@ -26,7 +26,7 @@ add_absent-requires-clause-prepared g c κs within =
     )
 
 pub returns-then-not-starts_threads : goal.returns-then-not-starts_threads
-returns-then-not-starts_threads g c κs within =
+returns-then-not-starts_threads c =
     let m = c.args.module.now.parts in
     let fuel = λ (t : Thread). t.fuel in
     let f = c.in_ok-first.ensures.first in
@@ -38,11 +38,11 @@ returns-then-not-starts_threads g c κs within =
       takes = f.takes;
       worker = worker;
       calls = λ starts. absurd (cc (c.if-not-starts_threads.ensures.1 starts));
-      at = at_start StandsFor IsBegun program_in fuel m c.args.fuel c.new.result worker f.takes.func_type f.takes.body c.args.args.now c.in_ok-memory.memory ? (c.new.ensures s main are (λ starts. absurd (cc (c.if-not-starts_threads.ensures.1 starts))));
+      at = at_start StandsFor IsBegun program_in fuel m c.args.fuel c.new.result worker f.takes.func_type f.takes.body c.args.args.now c.in_ok-memory.memory (opened_is m c.in_ok-memory.memory _ _ c.in_ok-memory.ensures.opened (c.deref.ensures.value ∙ c.in_ok-image.ensures) c.pages_max.ensures) (c.new.ensures s main are (λ starts. absurd (cc (c.if-not-starts_threads.ensures.1 starts))));
     }
 
 pub returns : goal.returns
-returns g c κs within =
+returns c =
     let m = c.args.module.now.parts in
     let fuel = λ (t : Thread). t.fuel in
     let f = c.in_ok-first.ensures.first in
@@ -59,5 +59,5 @@ returns g c κs within =
       takes = f.takes;
       worker = worker;
       calls = λ starts. calls_start StandsFor IsBegun program_in fuel m c.args.fuel _ c.in_ok-spawned.spawned.items spawned;
-      at = at_start StandsFor IsBegun program_in fuel m c.args.fuel c.new-2.result worker f.takes.func_type f.takes.body c.args.args.now c.in_ok-memory.memory ? (c.new-2.ensures s main are (λ starts. omega (arith, c.add_absent.ensures.count, one, spawned.count)));
+      at = at_start StandsFor IsBegun program_in fuel m c.args.fuel c.new-2.result worker f.takes.func_type f.takes.body c.args.args.now c.in_ok-memory.memory (opened_is m c.in_ok-memory.memory _ _ c.in_ok-memory.ensures.opened (c.deref.ensures.value ∙ c.in_ok-image.ensures) c.pages_max.ensures) (c.new-2.ensures s main are (λ starts. omega (arith, c.add_absent.ensures.count, one, spawned.count)));
     }
