@@ -196,15 +196,15 @@ impl<T: TakesTurns> Machine<T> {
         ensures state { (s : Setting) (w : State Shared Running) → IsAt T.stands T.begins T.program T.fuel s self.old w → wants_of s.program (w.threads n) ≡ Calls (Ask question) → IsAt T.stands T.begins T.program T.fuel s self.new (after_event (system_by s) w n (Ask question)) }
         ensures entry { result ≡ record { thread = n; event = Ask question; reply = reply_of self.old.memory (Ask question) } }
     {
-        let event = Event::Ask(question);
-        let reply = self.memory.step(&event);
+        let asked = Event::Ask(question);
+        let reply = self.memory.step(&asked);
         self.threads[n as usize].take(reply);
         if let Some(loaded) = loaded_by(reply) {
             self.ask(n, question, loaded);
         }
         Entry {
             thread: n,
-            event,
+            event: asked,
             reply,
         }
     }
