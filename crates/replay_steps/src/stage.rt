@@ -50,11 +50,13 @@ impl Stage {
     }
 
     /// Takes an answer that a thread heard, if it is the one that is due. A thread that has left makes no more turns.
+    /// Otherwise only the queue may have changed, and the walk is over.
     pub fn tell<T: TakesTurns>(&mut self, threads: &mut [T], n: u32, answer: Answer) -> bool
         requires standing { (s : Standing) × IsStanding T.stands T.begins T.program T.fuel s threads.old self.old.queue self.old.started self.old.ends }
         ensures count { length threads.new ≡ length threads.old }
         ensures told { result ≡ true → (s : Standing) → IsStanding T.stands T.begins T.program T.fuel s threads.old self.old.queue self.old.started self.old.ends → IsToldOn T.stands T.begins T.program T.fuel s n answer threads.new self.new.queue self.new.started self.new.ends }
         ensures refused { result ≡ false → (s : Standing) → IsStanding T.stands T.begins T.program T.fuel s threads.old self.old.queue self.old.started self.old.ends → s.places n ≡ Due answer → ⊥ }
+        ensures kept { result ≡ false → (threads.new ≡ threads.old) × (self.new.started ≡ self.old.started) × (self.new.ends ≡ self.old.ends) }
     {
         let Some(due) = self.queue.told(n) else {
             return false;
@@ -151,6 +153,7 @@ impl Stage {
         ensures memory { memory.new ≡ state_after memory.old event }
         ensures made { result ≡ true → (s : Standing) (t : Running) → IsSettledOn T.stands T.begins T.program T.fuel s threads.old self.old.queue self.old.started self.old.ends n t → s.memory ≡ memory.old → outcome_of t ≡ None → wants_of s.program t ≡ Calls event → (reply ≡ reply_of s.memory event) × IsStanding T.stands T.begins T.program T.fuel (made_by s n event reply t) threads.new self.new.queue self.new.started self.new.ends }
         ensures refused { result ≡ false → reply ≡ reply_of memory.old event → ⊥ }
+        ensures kept { result ≡ false → (threads.new ≡ threads.old) × (self.new ≡ self.old) }
     {
         let answered = memory.step(&event);
         if !is_same_reply(answered, reply) {

@@ -51,6 +51,7 @@ returns-in_default g c = record {
             ((on.standing).started ∙ ap next_id (sym stays))),
       );
   refused = λ no. absurd (cc no);
+  kept = λ no. absurd (cc no);
 }
 
 pub returns-in-Ask-clause-made : goal.returns-in-Ask-clause-made
