@@ -75,7 +75,7 @@ fills_wanted s t (turns.Wants e) here says may = (e, refl)
 fills_wanted s t turns.Awaits here says may = let c = (laws_at s).fill_calls t may in absurd (cc (says.1, c.1))
 fills_wanted s t (turns.Ended o) here says may =
     let c = thread_calls (machine_of s.program) (machine_laws s.program) (λ e. not (is_exempt e)) t may in
-    let same : events.Ask Leave ≡ c.0 = cc (leaving s.program t o here says, c.1) in absurd (cc (c.2, ap (λ e. not (is_exempt e)) same))
+    let same : events.Ask Leave ≡ c.0 = cc (leaving s.program t o here says, c.1) in absurd (cc (c.2, same))
 
 module _ {S : Type 0} (stands : S → Running → Type 0) (begins : S → List ValType → (List Value → Config) → Type 0) (program : S → Program) (fuel : S → ℕ) where
   module _ (s : Standing) (threads : List S) (queue : WaitQueue) (begun : ℕ) (ends : List (Option Outcome)) (st : IsStanding stands begins program fuel s threads queue begun ends)
