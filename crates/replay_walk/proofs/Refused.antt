@@ -1,5 +1,5 @@
 -- Entries that a walk can't take.
-use Rattle.std.proofs.Common.{◌≡◌, ℕ, zero, suc, ◌<◌, ◌≤◌, true, false, not, List, Option, Some, None, refl, sym, ◌∙◌, ap, subst, ◌⊎◌, inl, inr, arith}
+use Rattle.std.proofs.Common.{◌≡◌, ℕ, zero, suc, ◌<◌, ◌≤◌, true, false, not, List, Option, refl, sym, ◌∙◌, ap, subst, ◌⊎◌, inl, inr, arith}
 use Rattle.types.specs.declared.value.ValType.{ValType}
 use Rattle.types.specs.declared.value.Value.{Value}
 use Rattle.types.specs.declared.event.Event.{Event}
@@ -7,7 +7,6 @@ use Rattle.types.specs.declared.event.Event.TheVariants as events
 use Rattle.types.specs.declared.event.Question.TheVariants.{Leave}
 use Rattle.types.specs.declared.event.Reply.{Reply}
 use Rattle.types.specs.declared.event.Reply.TheVariants.{Done}
-use Rattle.types.specs.declared.event.Answer.{Answer}
 use Rattle.types.specs.declared.outcome.Outcome.{Outcome}
 use Rattle.shared_memory.specs.Memory.{reply_of}
 use Rattle.shared_memory.specs.Events.{is_exempt}
@@ -27,7 +26,7 @@ use Rattle.scheduled.proofs.Threads.{system_laws}
 use Rattle.takes_turns.specs.Turns.{Running, wants_of}
 use Rattle.takes_turns.specs.declared.turn.Turn.{Turn}
 use Rattle.takes_turns.specs.declared.turn.Turn.TheVariants as turns
-use Rattle.replay_rules.specs.Walk.{ComesTo, Settles, FindsFull, CanMake}
+use Rattle.replay_rules.specs.Walk.{ComesTo, Settles, FindsFull}
 use Rattle.replay_rules.proofs.Walking.{settles_once}
 use Rattle.recorded_runs.specs.Recorded.{spawned_in}
 use Rattle.replay_steps.specs.Standing.{IsHere, Says, Standing, IsStanding, IsGoing, HasGone, system_at}
