@@ -1,20 +1,18 @@
 //! A walk along a recorded log.
-ghost use Rattle.std.specs.Prelude.{◌≡◌, ◌<◌, ◌≤◌, ◌⊎◌, ℕ, true, false, List, [], length, Option, Some, None, All};
-ghost use Rattle.types.specs.declared.value.Value.{Value};
+ghost use Rattle.std.specs.Prelude.{◌≡◌, ℕ, true, false, [], length, Some, None, All};
 ghost use Rattle.types.specs.declared.event.Event.TheVariants as events;
 ghost use Rattle.types.specs.declared.event.Question.TheVariants.{Leave};
-ghost use Rattle.types.specs.declared.event.Reply.TheVariants.{Done};
-ghost use Rattle.shared_memory.specs.Events.{IsEvent, is_exempt};
-ghost use Rattle.schedule.specs.System.{Act.Made, Act.Heard};
+ghost use Rattle.shared_memory.specs.Events.{is_exempt};
+ghost use Rattle.schedule.specs.System.{Act.Heard};
 ghost use Rattle.scheduled.specs.Shared.{act_of};
 ghost use Rattle.record_text.specs.Conditions.{IsEntry};
-ghost use Rattle.replay_steps.specs.Standing.{Standing, IsStanding, IsAnswered};
+ghost use Rattle.replay_steps.specs.Standing.{Standing, IsStanding};
 ghost use Rattle.replay_walk.specs.Walked.{Run, HasThreads, HasTaken, IsRefused, IsReady, HasWalked, IsFirstMisfit};
 
 use one_memory::OneMemory;
 use replay_steps::{Stage, is_same_event, settle_at};
 use takes_turns::{TakesTurns, Turn};
-use types::{Answer, Entry, Event, Outcome, Question, Reply, Stop};
+use types::{Answer, Entry, Event, Outcome, Question, Stop};
 
 /// A recorded run on its way along its log: its threads by their numbers, its memory, and what they ask of one another.
 ///
@@ -48,7 +46,7 @@ impl<T: TakesTurns> Walk<T> {
         ensures refused { result ≡ false → (s : Standing) → IsStanding T.stands T.begins T.program T.fuel s self.old.threads.items self.old.stage.queue self.old.stage.started self.old.stage.ends → s.memory ≡ self.old.memory → IsRefused s limit at entry.now.thread (act_of entry.now) }
     {
         match entry.event {
-            Event::Told(answer) => self.take_told(entry.thread, answer, at, limit),
+            Event::Told(answer) => self.take_told(entry.thread, answer),
             Event::Ask(Question::Leave) => self.take_leave(entry, at, limit, fuel),
             _ => self.take_event(entry, at, limit, fuel),
         }
@@ -109,11 +107,11 @@ impl<T: TakesTurns> Walk<T> {
     }
 
     /// An answer heard, which is the one that is due.
-    fn take_told(&mut self, n: u32, answer: Answer, at: usize, limit: u32) -> bool
+    fn take_told(&mut self, n: u32, answer: Answer) -> bool
         requires standing { (s : Standing) × IsStanding T.stands T.begins T.program T.fuel s self.old.threads.items self.old.stage.queue self.old.stage.started self.old.stage.ends × (s.memory ≡ self.old.memory) }
         ensures count { length self.new.threads.items ≡ length self.old.threads.items }
-        ensures taken { result ≡ true → (s : Standing) → IsStanding T.stands T.begins T.program T.fuel s self.old.threads.items self.old.stage.queue self.old.stage.started self.old.stage.ends → s.memory ≡ self.old.memory → HasTaken T.stands T.begins T.program T.fuel s limit at n (Heard answer) self.new.threads.items self.new.memory self.new.stage.queue self.new.stage.started self.new.stage.ends }
-        ensures refused { result ≡ false → (s : Standing) → IsStanding T.stands T.begins T.program T.fuel s self.old.threads.items self.old.stage.queue self.old.stage.started self.old.stage.ends → IsRefused s limit at n (Heard answer) }
+        ensures taken { result ≡ true → (s : Standing) (limit at : ℕ) → IsStanding T.stands T.begins T.program T.fuel s self.old.threads.items self.old.stage.queue self.old.stage.started self.old.stage.ends → s.memory ≡ self.old.memory → HasTaken T.stands T.begins T.program T.fuel s limit at n (Heard answer) self.new.threads.items self.new.memory self.new.stage.queue self.new.stage.started self.new.stage.ends }
+        ensures refused { result ≡ false → (s : Standing) (limit at : ℕ) → IsStanding T.stands T.begins T.program T.fuel s self.old.threads.items self.old.stage.queue self.old.stage.started self.old.stage.ends → IsRefused s limit at n (Heard answer) }
     {
         self.stage.tell(&mut self.threads, n, answer)
     }
