@@ -1,0 +1,7 @@
+pub mod Acts
+pub mod Ending
+pub mod Settled
+pub mod Taken
+pub mod Refused
+pub mod Along
+pub mod Begin
