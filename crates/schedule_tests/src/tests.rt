@@ -123,22 +123,21 @@ fn timeouts_end(rt: HostRuntime) -> Result<(), Fail> {
     Ok(())
 }
 
-/// Whether the first thread was stopped so.
-fn is_stopped(end: &EndState, stop: Stop) -> bool {
-    match end.threads.first() {
-        Some(report) => report.outcome == Outcome::Stop(stop),
-        None => false,
-    }
+/// Whether some thread was stopped so.
+fn has_stopped(end: &EndState, stop: Stop) -> bool {
+    end.threads
+        .iter()
+        .any(|report| report.outcome == Outcome::Stop(stop))
 }
 
 #[test]
 fn a_log_is_full(rt: HostRuntime) -> Result<(), Fail> {
     let module = threaded(rt.alloc(), COUNTING)?;
     let end = check(&rt, rt.alloc(), &module, FUEL, 1_000, 5)?;
-    assert!(rt; is_stopped(&end, Stop::RecordFull), "{end:?}");
+    assert!(rt; has_stopped(&end, Stop::RecordFull), "{end:?}");
     let module = single(rt.alloc(), ENDLESS)?;
     let end = check(&rt, rt.alloc(), &module, FUEL, 7, 1)?;
-    assert!(rt; is_stopped(&end, Stop::RecordFull), "{end:?}");
+    assert!(rt; has_stopped(&end, Stop::RecordFull), "{end:?}");
     Ok(())
 }
 
@@ -147,11 +146,11 @@ fn the_units_are_spent(rt: HostRuntime) -> Result<(), Fail> {
     let module = single(rt.alloc(), ENDLESS)?;
     for fuel in [0, 1, 2, 3, 100, 1_001] {
         let end = check(&rt, rt.alloc(), &module, fuel, LIMIT, 1)?;
-        assert!(rt; is_stopped(&end, Stop::OutOfFuel), "{end:?}");
+        assert!(rt; has_stopped(&end, Stop::OutOfFuel), "{end:?}");
     }
     let module = threaded(rt.alloc(), COUNTING)?;
     let end = check(&rt, rt.alloc(), &module, 1_000, LIMIT, 5)?;
-    assert!(rt; is_stopped(&end, Stop::AsleepForGood), "{end:?}");
+    assert!(rt; has_stopped(&end, Stop::AsleepForGood), "{end:?}");
     Ok(())
 }
 
