@@ -67,10 +67,12 @@ fn agrees(
     let mut machine = machine_of(alloc, module, "f", &[], fuel)?;
     let mut entries = Vec::new(alloc);
     machine.step_along(&marks, &mut entries)?;
-    Ok(entries == events(alloc, &recorded.log)?
-        && machine.reports(alloc)? == recorded.end.threads
-        && machine.memory().pages() == recorded.end.pages
-        && machine.memory().bytes() == recorded.end.bytes.as_slice())
+    Ok(
+        entries == events(alloc, &recorded.log)?
+            && machine.reports(alloc)? == recorded.end.threads
+            && machine.memory().pages() == recorded.end.pages
+            && machine.memory().bytes() == recorded.end.bytes.as_slice(),
+    )
 }
 
 /// Runs a module so often, and steps the machine along the schedule of each run. Gives what the last run left.
@@ -167,16 +169,46 @@ fn one_thread_alone(rt: HostRuntime) -> Result<(), Fail> {
 /// Of these marks the first is a try that can't be lost, one is of a thread that isn't there, one finds no full log, and the last is
 /// of a thread that has left.
 const SOME_IDLE: [Mark; 10] = [
-    Mark { thread: 0, kind: Kind::Loses },
-    Mark { thread: 1, kind: Kind::Turn },
-    Mark { thread: 0, kind: Kind::Turn },
-    Mark { thread: 0, kind: Kind::Turn },
-    Mark { thread: 0, kind: Kind::Loses },
-    Mark { thread: 0, kind: Kind::Turn },
-    Mark { thread: 0, kind: Kind::Turn },
-    Mark { thread: 0, kind: Kind::Fills },
-    Mark { thread: 0, kind: Kind::Turn },
-    Mark { thread: 0, kind: Kind::Turn },
+    Mark {
+        thread: 0,
+        kind: Kind::Loses,
+    },
+    Mark {
+        thread: 1,
+        kind: Kind::Turn,
+    },
+    Mark {
+        thread: 0,
+        kind: Kind::Turn,
+    },
+    Mark {
+        thread: 0,
+        kind: Kind::Turn,
+    },
+    Mark {
+        thread: 0,
+        kind: Kind::Loses,
+    },
+    Mark {
+        thread: 0,
+        kind: Kind::Turn,
+    },
+    Mark {
+        thread: 0,
+        kind: Kind::Turn,
+    },
+    Mark {
+        thread: 0,
+        kind: Kind::Fills,
+    },
+    Mark {
+        thread: 0,
+        kind: Kind::Turn,
+    },
+    Mark {
+        thread: 0,
+        kind: Kind::Turn,
+    },
 ];
 
 /// The thread spends a unit on each of two constants, on the try that it loses, on the one that it makes, and on its return.
