@@ -1,5 +1,5 @@
 -- The threads of a module, before their first turn, as those of a machine.
-use Rattle.std.proofs.Common.{◌≡◌, ℕ, ◌<◌, ◌≤◌, List, [], ◌∷◌, All, length, refl, ◌∙◌, ap, subst}
+use Rattle.std.proofs.Common.{◌≡◌, ℕ, List, All, refl, ◌∙◌, ap, subst}
 use Rattle.std.proofs.lemmas.List.Elements.{All-weaker}
 use Rattle.types.specs.declared.value.ValType.{ValType}
 use Rattle.types.specs.declared.value.Value.{Value}
@@ -8,22 +8,19 @@ use Rattle.types.specs.declared.parts.Body.{Body}
 use Rattle.types.specs.declared.parts.Parts.{Parts}
 use Rattle.typing.specs.Image.{opening_image, pages_max_of}
 use Rattle.shared_memory.specs.Memory.{Memory}
-use Rattle.schedule.specs.Machine.{Thread.Runs}
-use Rattle.machine.specs.Program.{Program, program_of}
+use Rattle.machine.specs.Program.{Program}
 use Rattle.machine.specs.Config.{Config}
-use Rattle.machine.specs.State.{At}
 use Rattle.takes_turns.specs.Turns.{Running}
 use Rattle.interp.specs.Starts.{start_of}
-use Rattle.module_run.specs.Entries.{CallsThreadStart, IsThreadStart, StartsThreads, Takes}
+use Rattle.module_run.specs.Entries.{CallsThreadStart}
 use Rattle.module_run.specs.Runs.{opening_memory, start_with}
 use Rattle.module_run.specs.Threads.{AreSpawnable, IsCall}
 use Rattle.one_schedule.specs.Runs.{first_state}
-use Rattle.scheduled_machine.specs.Threads.{Setting, IsAlike, IsPrepared, spawned_in}
+use Rattle.scheduled_machine.specs.Threads.{IsPrepared, spawned_in}
 use Rattle.scheduled_machine.specs.Runs as runs
 use Rattle.scheduled_machine.specs.Runs.{AreThreads, IsAt, first_thread}
-use Rattle.scheduled_machine.specs.declared.stepped.Stepped.{Stepped}
 use Rattle.scheduled_machine.specs.declared.stepping.Machine.{Machine}
-use Rattle.schedule_tests.specs.Machines.{IsMachineOf, setting_of}
+use Rattle.schedule_tests.specs.Machines.{setting_of}
 
 -- the memory opens as the module's does
 abbrev memory_with : List ℕ → ℕ → Memory
@@ -32,6 +29,7 @@ memory_with xs k = record { bytes = xs; max = k }
 pub opened_is : (m : Parts) (memory : Memory) (bytes : List ℕ) (max : ℕ) → memory ≡ record { bytes = bytes; max = max } → bytes ≡ opening_image m → max ≡ pages_max_of m → memory ≡ opening_memory m
 opened_is m memory bytes max is image most =
     is ∙ (ap (λ (xs : List ℕ). memory_with xs max) image ∙ ap (λ k. memory_with (opening_image m) k) most)
+
 module _ {S : Type 0} (stands : S → Running → Type 0) (begins : S → List ValType → (List Value → Config) → Type 0) (program : S → Program) (fuel : S → ℕ) (m : Parts) (budget : ℕ) where
   abbrev Spawnable : List Value → List S → Type 0
   Spawnable args threads = AreSpawnable program fuel stands begins m args budget threads

@@ -67,10 +67,12 @@ fn agrees(
     let mut machine = machine_of(alloc, module, "f", &[], fuel)?;
     let mut entries = Vec::new(alloc);
     machine.step_along(&marks, &mut entries)?;
-    Ok(entries == events(alloc, &recorded.log)?
-        && machine.reports(alloc)? == recorded.end.threads
-        && machine.memory().pages() == recorded.end.pages
-        && machine.memory().bytes() == recorded.end.bytes.as_slice())
+    Ok(
+        entries == events(alloc, &recorded.log)?
+            && machine.reports(alloc)? == recorded.end.threads
+            && machine.memory().pages() == recorded.end.pages
+            && machine.memory().bytes() == recorded.end.bytes.as_slice(),
+    )
 }
 
 /// Runs a module so often, and steps the machine along the schedule of each run. Gives what the last run left.
@@ -123,22 +125,21 @@ fn timeouts_end(rt: HostRuntime) -> Result<(), Fail> {
     Ok(())
 }
 
-/// Whether the first thread was stopped so.
-fn is_stopped(end: &EndState, stop: Stop) -> bool {
-    match end.threads.first() {
-        Some(report) => report.outcome == Outcome::Stop(stop),
-        None => false,
-    }
+/// Whether some thread was stopped so.
+fn has_stopped(end: &EndState, stop: Stop) -> bool {
+    end.threads
+        .iter()
+        .any(|report| report.outcome == Outcome::Stop(stop))
 }
 
 #[test]
 fn a_log_is_full(rt: HostRuntime) -> Result<(), Fail> {
     let module = threaded(rt.alloc(), COUNTING)?;
     let end = check(&rt, rt.alloc(), &module, FUEL, 1_000, 5)?;
-    assert!(rt; is_stopped(&end, Stop::RecordFull), "{end:?}");
+    assert!(rt; has_stopped(&end, Stop::RecordFull), "{end:?}");
     let module = single(rt.alloc(), ENDLESS)?;
     let end = check(&rt, rt.alloc(), &module, FUEL, 7, 1)?;
-    assert!(rt; is_stopped(&end, Stop::RecordFull), "{end:?}");
+    assert!(rt; has_stopped(&end, Stop::RecordFull), "{end:?}");
     Ok(())
 }
 
@@ -147,11 +148,11 @@ fn the_units_are_spent(rt: HostRuntime) -> Result<(), Fail> {
     let module = single(rt.alloc(), ENDLESS)?;
     for fuel in [0, 1, 2, 3, 100, 1_001] {
         let end = check(&rt, rt.alloc(), &module, fuel, LIMIT, 1)?;
-        assert!(rt; is_stopped(&end, Stop::OutOfFuel), "{end:?}");
+        assert!(rt; has_stopped(&end, Stop::OutOfFuel), "{end:?}");
     }
     let module = threaded(rt.alloc(), COUNTING)?;
     let end = check(&rt, rt.alloc(), &module, 1_000, LIMIT, 5)?;
-    assert!(rt; is_stopped(&end, Stop::AsleepForGood), "{end:?}");
+    assert!(rt; has_stopped(&end, Stop::AsleepForGood), "{end:?}");
     Ok(())
 }
 
@@ -168,16 +169,46 @@ fn one_thread_alone(rt: HostRuntime) -> Result<(), Fail> {
 /// Of these marks the first is a try that can't be lost, one is of a thread that isn't there, one finds no full log, and the last is
 /// of a thread that has left.
 const SOME_IDLE: [Mark; 10] = [
-    Mark { thread: 0, kind: Kind::Loses },
-    Mark { thread: 1, kind: Kind::Turn },
-    Mark { thread: 0, kind: Kind::Turn },
-    Mark { thread: 0, kind: Kind::Turn },
-    Mark { thread: 0, kind: Kind::Loses },
-    Mark { thread: 0, kind: Kind::Turn },
-    Mark { thread: 0, kind: Kind::Turn },
-    Mark { thread: 0, kind: Kind::Fills },
-    Mark { thread: 0, kind: Kind::Turn },
-    Mark { thread: 0, kind: Kind::Turn },
+    Mark {
+        thread: 0,
+        kind: Kind::Loses,
+    },
+    Mark {
+        thread: 1,
+        kind: Kind::Turn,
+    },
+    Mark {
+        thread: 0,
+        kind: Kind::Turn,
+    },
+    Mark {
+        thread: 0,
+        kind: Kind::Turn,
+    },
+    Mark {
+        thread: 0,
+        kind: Kind::Loses,
+    },
+    Mark {
+        thread: 0,
+        kind: Kind::Turn,
+    },
+    Mark {
+        thread: 0,
+        kind: Kind::Turn,
+    },
+    Mark {
+        thread: 0,
+        kind: Kind::Fills,
+    },
+    Mark {
+        thread: 0,
+        kind: Kind::Turn,
+    },
+    Mark {
+        thread: 0,
+        kind: Kind::Turn,
+    },
 ];
 
 /// The thread spends a unit on each of two constants, on the try that it loses, on the one that it makes, and on its return.

@@ -74,12 +74,6 @@ module _ {S : Type 0} (stands : S → Running → Type 0) (begins : S → List V
       at_put old new y t c at is (orderly_put s.program w.shared.queue w.threads n t at.orderly (calls_here s.program (w.threads n) calls.0 calls.1) (λ awaits. absurd (cc (calls.1, awaits))))
   at_if old new y f t c at false may is = at_same old new y c at is
 
-  pub at_none : (old : Machine S) (f : Event → Bool) (t : Running) → length old.threads.items ≤ n → At old w → At old (if_may (system_by s) (thread_wants_a (machine_of s.program) f (w.threads n)) (with_thread (system_by s) w n t) w)
-  at_none old f t past at =
-      let gone : w.threads n ≡ Absent = none_past stands begins program fuel s old.threads.items w.threads n past at.threads in
-      let never : thread_wants_a (machine_of s.program) f (w.threads n) ≡ false = ap (λ u. thread_wants_a (machine_of s.program) f u) gone in
-      subst (λ b. At old (if_may (system_by s) b (with_thread (system_by s) w n t) w)) (sym never) at
-
   -- a turn of its own
   pub at_own : (old new : Machine S) (y : Stepped S) → Changes old new y → At old w → (want : Want Event) → wants_of s.program (w.threads n) ≡ want → called want ≡ None
       → Is y (own_turn_if s.program (w.threads n) want) → At new (after_turn (system_by s) w n want)

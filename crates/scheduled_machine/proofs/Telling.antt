@@ -20,9 +20,6 @@ pub record IsToldUntil (k : ℕ) (q now : WaitQueue) : Type 0 where
   pub done : (m : ℕ) → m < k → answer_due now m ≡ None
   pub rest : (m : ℕ) → k ≤ m → answer_due now m ≡ answer_due q m
 
-pub told_none : (q : WaitQueue) → IsToldUntil 0 q q
-told_none q = record { same = refl; long = refl; done = λ m h. absurd (omega arith); rest = λ m h. refl }
-
 told_taken : (k : ℕ) (q now : WaitQueue) → IsToldUntil k q now → IsToldUntil (k + 1) q (after_answer now k)
 unfolding after_answer
 told_taken k q now is = record {
@@ -63,9 +60,6 @@ all_none (o ∷ due) (suc n) long h =
     let first : o ≡ None = h 0 (omega arith) in
     let rest : due ≡ replicate n None = all_none due n (omega (arith, long)) (λ m below. h (suc m) (omega (arith, below))) in
     ap (λ x. x ∷ due) first ∙ ap (λ xs. None ∷ xs) rest
-
-with_due : WaitQueue → List (Option Answer) → WaitQueue
-with_due q due = record q { due = due }
 
 pub told_every : (q now : WaitQueue) → length q.due ≡ 16 → IsToldUntil 16 q now → now ≡ without_dues q
 told_every q now long is = ap (λ due. record now { due = due }) (all_none now.due 16 (is.long ∙ long) is.done) ∙ is.same

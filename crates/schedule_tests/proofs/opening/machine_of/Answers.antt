@@ -1,8 +1,6 @@
-use Rattle.std.proofs.Common.{◌≡◌, ◌+◌, ◌<◌, ◌≤◌, All, length, refl, sym, ◌∙◌, ap, subst, arith}
+use Rattle.std.proofs.Common.{◌≤◌, sym, ◌∙◌, subst, arith}
 use Rattle.schedule.specs.Machine.{Thread.Runs}
 use Rattle.machine.specs.State.{At}
-use Rattle.shared_memory.specs.Memory.{Memory}
-use Rattle.module_run.specs.Runs.{opening_memory}
 use Rattle.interp.specs.declared.thread.Thread.{Thread}
 use Rattle.interp.specs.Starts.{start_of}
 use Rattle.interp.specs.Threads.{program_in, StandsFor, IsBegun}
