@@ -9,7 +9,7 @@ use Rattle.shared_memory.specs.Memory.{pages}
 use Rattle.shared_memory.specs.History.{entries_of, memory_after}
 use Rattle.seats.specs.declared.view.Caller.{Caller}
 use Rattle.module_run.specs.Runs.{opening_memory, IsRun}
-use Rattle.report.specs.declared.end.EndState.{EndState}
+use Rattle.replay.specs.declared.end.EndState.{EndState}
 use Rattle.report.specs.Ends.{EndsRun}
 use Rattle.report.proofs.Whole.{Knows, is_history}
 use Rattle.shared_memory.proofs.Soundness.{IsSound-after}

@@ -18,7 +18,7 @@ use Rattle.one_schedule.specs.Theorem.{IsOneRun}
 use Rattle.module_run.specs.Entries.{Exports, StartsThreads, CallsThreadStart}
 use Rattle.module_run.specs.Runs.{opening_memory, start_with, Tells}
 use Rattle.record_text.specs.declared.parts.RecordParts.{RecordParts}
-use Rattle.report.specs.declared.end.EndState.{EndState}
+use Rattle.replay.specs.declared.end.EndState.{EndState}
 
 -- Thread 0 called the function that is exported by the name, with the arguments. The reports are of it and of the threads that
 -- were spawned in the history, in order of their numbers. The threads ran together in that history, and so it is the history of one

@@ -3,7 +3,6 @@
 
 mod args;
 mod command_line;
-mod end;
 mod job;
 mod lines;
 mod loading;
@@ -14,8 +13,8 @@ mod tests;
 mod words;
 
 pub use command_line::{Job, Usage, command};
-pub use end::EndState;
 pub use job::{check, perform};
 pub use loading::{Refusal, load};
 pub use recording::{RecordRunFault, run_recorded};
+pub use replay::EndState;
 pub use words::run_on_words;

@@ -3,11 +3,11 @@ ghost use Rattle.std.specs.Prelude.{◌≡◌, ◌≤◌, ◌+◌, ◌++◌, [],
 ghost use Rattle.module_run.specs.Runs.{opening_memory};
 ghost use Rattle.report.specs.Ends.{RecordsRun};
 
-use crate::end::EndState;
 use locked_recorder::{LockedRecorder, Naming, Prepared};
 use module_run::run;
 use one_memory::OpenFault;
 use record_text::RecordParts;
+use replay::EndState;
 use spawn_host::RunFault;
 use std::alloc::{AllocError, Global};
 use std::marker::Brand;

@@ -2,11 +2,11 @@
 ghost use Rattle.std.specs.Prelude.{◌≤◌, IfOk};
 
 use crate::args::read_args;
-use crate::end::EndState;
 use crate::lines::write_end;
 use crate::recording::{RecordRunFault, run_recorded};
 use crate::words::run_on_words;
 use record_text::{Record, RecordParts, write_record};
+use replay::EndState;
 use spawn_host::RunFault;
 use std::alloc::{AllocError, Global};
 use std::io::{self, Write};
