@@ -6,3 +6,4 @@ mod running;
 mod threads;
 
 pub use running::run;
+pub use threads::{first_thread, spawnable_threads};

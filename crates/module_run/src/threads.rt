@@ -63,7 +63,7 @@ fn func_type(valid: &ValidModule, own: usize) -> &FuncType
 }
 
 /// Thread 0: it is about to call the exported function with the arguments.
-pub(crate) fn first_thread<'m>(
+pub fn first_thread<'m>(
     alloc: Global,
     valid: &'m ValidModule,
     entry: &str,
@@ -100,7 +100,7 @@ fn thread_start(valid: &ValidModule) -> usize
 }
 
 /// The threads that can be spawned: each is about to call the function for that.
-pub(crate) fn spawnable_threads<'m>(
+pub fn spawnable_threads<'m>(
     alloc: Global,
     valid: &'m ValidModule,
     fuel: u64,

@@ -9,12 +9,13 @@ use Rattle.report.specs.Lines.{functions_line}
 use Rattle.report.specs.declared.loading.Refusal.{Refusal}
 use Rattle.report.specs.declared.loading.Refusal.TheVariants.{Read, Validity}
 use Rattle.report.specs.declared.command_line.Job.{Job}
-use Rattle.report.specs.declared.command_line.Job.TheVariants.{Check, Run}
+use Rattle.report.specs.declared.command_line.Job.TheVariants.{Check, Run, Replay}
 
 -- The numbers of a job are in their ranges.
 abbrev pub IsInRange : Job → Type 0
 IsInRange (Check file) = Unit {0}
 IsInRange (Run file invoke on_words fuel limit save dump args) = (fuel ≤ 1000000000000) × (1 ≤ limit) × (limit ≤ 1000000) × (dump ≤ 4096)
+IsInRange (Replay file saved dump) = dump ≤ 4096
 
 -- The bytes are a valid module's text, and what was written is its line.
 pub record IsAccepted (bytes : List ℕ) (old new : Option (List ℕ)) : Type 0 where

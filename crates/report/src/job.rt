@@ -6,6 +6,7 @@ ghost use Rattle.report.specs.Jobs.{IsAccepted};
 
 use crate::command_line::Job;
 use crate::loading::{Refusal, load};
+use crate::replaying::{Unfit, replay_record};
 use crate::running::{Trouble, Wanted, run_module};
 use std::alloc::Global;
 use std::io::{self, Write};
@@ -19,21 +20,24 @@ const MODULE_REFUSED: u8 = 2;
 
 const RUN_REFUSED: u8 = 3;
 
+const RECORD_REFUSED: u8 = 4;
+
 const FAULT: u8 = 5;
 
 /// Does a job on a module's bytes: writes its lines to `out`, and at most one line about what went wrong to `err`.
 ///
-/// `saved` has the bytes of the job's record; no job of today has one. `save` takes the record that it makes, after the lines.
+/// `saved` has the bytes of the record that a replay reads, and else nothing. `save` takes the record that a run makes, after
+/// the lines.
 ///
 /// Answers the program's status: 0 where the module was accepted or all threads ended well, 1 for a trap or stop, 2
-/// for a refused module, 3 for a refused run, 5 where memory, a thread or a stream failed. A write
+/// for a refused module, 3 for a refused run, 4 for a refused record, 5 where memory, a thread or a stream failed. A write
 /// to `err` that fails doesn't change it.
 pub fn perform<R, W, E, S>(
     rt: &R,
     alloc: Global,
     job: &Job,
     module: &[u8],
-    _saved: &[u8],
+    saved: &[u8],
     out: &mut W,
     err: &mut E,
     save: &mut S,
@@ -68,6 +72,7 @@ where
             };
             run(rt, alloc, &wanted, module, out, err, save)
         }
+        Job::Replay { dump, .. } => replay(alloc, module, saved, *dump, out, err),
     }
 }
 
@@ -165,6 +170,51 @@ where
     match run_module(rt, alloc, &valid, wanted, out, save) {
         Ok(status) => status,
         Err(trouble) => complain(err, trouble, wanted.save),
+    }
+}
+
+/// Replays a record of a run of a module.
+fn replay<W: Write, E: Write>(
+    alloc: Global,
+    module: &[u8],
+    saved: &[u8],
+    dump: u32,
+    out: &mut W,
+    err: &mut E,
+) -> u8
+    ensures { result ≤ 5 }
+{
+    let valid = match load(alloc, module) {
+        Ok(valid) => valid,
+        Err(refusal) => return refuse(err, refusal),
+    };
+    match replay_record(alloc, &valid, saved, dump, out) {
+        Ok(status) => status,
+        Err(unfit) => reject(err, unfit),
+    }
+}
+
+/// Says why a record was refused, or why its lines couldn't be written, and answers the status.
+fn reject<E: Write>(err: &mut E, unfit: Unfit) -> u8
+    ensures { result ≤ 5 }
+{
+    match unfit {
+        Unfit::Unread(fault) => {
+            let _ = write!(err, "record refused: {fault}\n");
+            RECORD_REFUSED
+        }
+        Unfit::Misfit(fault) => {
+            let _ = write!(err, "record refused: {fault}\n");
+            RECORD_REFUSED
+        }
+        Unfit::NoMemory => {
+            say(err, "no memory");
+            FAULT
+        }
+        Unfit::Output => {
+            say(err, "file fault: standard output");
+            FAULT
+        }
     }
 }
 

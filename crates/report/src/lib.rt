@@ -7,6 +7,7 @@ mod job;
 mod lines;
 mod loading;
 mod recording;
+mod replaying;
 mod running;
 #[cfg(test)]
 mod tests;
