@@ -5,6 +5,7 @@
 
 mod end;
 mod fault;
+mod threads;
 
 pub use end::EndState;
 pub use fault::ReplayFault;
