@@ -187,39 +187,48 @@ module _
         budget = ap (λ (x : ThreadReport). x.spent + (budget - ThreadReport.spent (report_at n))) (sym is) ∙ told_budget n (got_below threads n report h);
       }
 
-  pub run_of : (StartsThreads m → CallsThreadStart m begins_spawned) → IsRun m entry args budget loses limit name seen threads seats
-  run_of thread_starts = record {
-    own = f.takes.own;
-    func_type = f.takes.func_type;
-    body = f.takes.body;
-    exports = f.takes.exports;
-    fit = f.takes.fit;
-    spawned = begins_spawned;
-    calls = thread_starts;
+  -- what a spawned thread calls where the module can start none
+  abbrev pub IsIdle : Type 0
+  IsIdle = (StartsThreads m → ⊥) → (n arg : ℕ) → begins_spawned n arg ≡ At (start_of m f.takes.func_type f.takes.body (values.I32 n ∷ values.I32 arg ∷ []))
+
+  pub run_of : (StartsThreads m → CallsThreadStart m begins_spawned) → IsIdle → IsRun m entry args budget loses limit name seen threads seats
+  run_of thread_starts idle = record {
     history = r.history;
+    is_history = record {
+      beginning = record {
+        own = f.takes.own;
+        func_type = f.takes.func_type;
+        body = f.takes.body;
+        exports = f.takes.exports;
+        fit = f.takes.fit;
+        spawned = begins_spawned;
+        calls = thread_starts;
+        idle = idle;
+      };
+      count = r.count;
+      outcomes = λ n. ThreadReport.outcome (report_at n);
+      lefts = λ n. budget - ThreadReport.spent (report_at n);
+      reports = told;
+      together = together;
+      one = threads_make_one_run start loses limit r.history (λ n. ThreadReport.outcome (report_at n)) (λ n. budget - ThreadReport.spent (report_at n)) together;
+    };
     len = r.len;
     names = r.names;
     seen_by = r.seen_by;
-    count = r.count;
-    outcomes = λ n. ThreadReport.outcome (report_at n);
-    lefts = λ n. budget - ThreadReport.spent (report_at n);
-    reports = told;
-    together = together;
-    one = threads_make_one_run start loses limit r.history (λ n. ThreadReport.outcome (report_at n)) (λ n. budget - ThreadReport.spent (report_at n)) together;
   }
 
 -- The run of a module that can start threads.
 pub threaded_run : {S T : Type 0} (loses : Bool) (opening : Memory) (limit : Option ℕ) (name : S → ℕ) (seen : S → List Entry) (program : T → Program) (fuel : T → ℕ)
     (stands : T → Running → Type 0) (begins : T → List ValType → (List Value → Config) → Type 0) (first : T) (spawned : List T)
-    (threads : List ThreadReport) (seats : List S) (m : Parts) (entry : List ℕ) (args others : List Value) (budget : ℕ) → opening ≡ opening_memory m
+    (threads : List ThreadReport) (seats : List S) (m : Parts) (entry : List ℕ) (args others : List Value) (budget : ℕ) → opening ≡ opening_memory m → StartsThreads m
     → IsFirst program fuel stands begins m entry args budget first → AreSpawnable program fuel stands begins m others budget spawned
     → IsComposed loses opening limit name seen program fuel stands begins first spawned threads seats → IsRun m entry args budget loses limit name seen threads seats
-threaded_run loses opening limit name seen program fuel stands begins first spawned threads seats m entry args others budget is f w r =
+threaded_run loses opening limit name seen program fuel stands begins first spawned threads seats m entry args others budget is starts f w r =
     let some : 0 < length spawned = (let count = w.count in omega (arith, count)) in
     run_of loses limit name seen program fuel stands begins first spawned threads seats m entry args budget f w.func_type w.body others (get_or spawned 0 first)
     (every_place (IsCall program fuel stands begins m w.func_type w.body others budget) spawned first some w.calls)
     (subst (λ (o : Memory). IsComposed loses o limit name seen program fuel stands begins first spawned threads seats) is r)
-    (λ starts. record { own = w.own; func_type = w.func_type; body = w.body; is_start = w.is_start; begins = λ n arg. refl })
+    (λ s. record { own = w.own; func_type = w.func_type; body = w.body; is_start = w.is_start; begins = λ n arg. refl }) (λ none. absurd (none starts))
 
 -- The run of a module that can start none: nobody is spawned.
 pub lone_run : {S T : Type 0} (loses : Bool) (opening : Memory) (limit : Option ℕ) (name : S → ℕ) (seen : S → List Entry) (program : T → Program) (fuel : T → ℕ)
@@ -231,19 +240,19 @@ lone_run loses opening limit name seen program fuel stands begins first threads 
     run_of loses limit name seen program fuel stands begins first [] threads seats m entry args budget f f.takes.func_type f.takes.body args first
     (λ k. f.call)
     (subst (λ (o : Memory). IsComposed loses o limit name seen program fuel stands begins first [] threads seats) is r)
-    (λ starts. absurd (none starts))
+    (λ starts. absurd (none starts)) (λ n n' arg. refl)
 
 -- what the calls give
 
 pub threaded_result : {S T F : Type 0} (loses : Bool) (opening : Memory) (limit : Option ℕ) (name : S → ℕ) (seen : S → List Entry) (program : T → Program) (fuel : T → ℕ)
     (stands : T → Running → Type 0) (begins : T → List ValType → (List Value → Config) → Type 0) (first : T) (spawned : List T)
-    (m : Parts) (entry : List ℕ) (args others : List Value) (budget : ℕ) → opening ≡ opening_memory m
+    (m : Parts) (entry : List ℕ) (args others : List Value) (budget : ℕ) → opening ≡ opening_memory m → StartsThreads m
     → IsFirst program fuel stands begins m entry args budget first → AreSpawnable program fuel stands begins m others budget spawned → (result : Result (RunEnd S) F)
     → IfOk result (λ (end : RunEnd S). IsComposed loses opening limit name seen program fuel stands begins first spawned end.threads.items end.seats.items)
     → IfOk result (λ (end : RunEnd S). IsRun m entry args budget loses limit name seen end.threads.items end.seats.items)
-threaded_result loses opening limit name seen program fuel stands begins first spawned m entry args others budget is f w (Ok end) r =
-    threaded_run loses opening limit name seen program fuel stands begins first spawned end.threads.items end.seats.items m entry args others budget is f w r
-threaded_result loses opening limit name seen program fuel stands begins first spawned m entry args others budget is f w (Err fault) r = tt
+threaded_result loses opening limit name seen program fuel stands begins first spawned m entry args others budget is starts f w (Ok end) r =
+    threaded_run loses opening limit name seen program fuel stands begins first spawned end.threads.items end.seats.items m entry args others budget is starts f w r
+threaded_result loses opening limit name seen program fuel stands begins first spawned m entry args others budget is starts f w (Err fault) r = tt
 
 pub lone_result : {S T F : Type 0} (loses : Bool) (opening : Memory) (limit : Option ℕ) (name : S → ℕ) (seen : S → List Entry) (program : T → Program) (fuel : T → ℕ)
     (stands : T → Running → Type 0) (begins : T → List ValType → (List Value → Config) → Type 0) (first : T)

@@ -91,7 +91,7 @@ module _ (b : Start) (loses : Bool) (limit : Option ℕ) (H : List entries.Entry
   no_steps n past = none_in n (begins_in b H n) refl past
 
   -- its acts are its entries
-  same_acts : (n : ℕ) (c : State) (is : begins_in b H n ≡ Some c) → acts (RunsToEnd.steps (HasRun.run (ran n c is))) ≡ acts_of n (as_acts H)
+  pub same_acts : (n : ℕ) (c : State) (is : begins_in b H n ≡ Some c) → acts (RunsToEnd.steps (HasRun.run (ran n c is))) ≡ acts_of n (as_acts H)
   same_acts n c is =
       let r : HasRun b loses limit H n c (outcomes n) (lefts n) = ran n c is in
       let run : RunsToEnd b.program loses b.opening limit n (Runs c b.fuel) (outcomes n) (lefts n) r.before r.last = r.run in

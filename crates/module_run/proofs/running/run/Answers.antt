@@ -1,4 +1,4 @@
-use Rattle.std.proofs.Common.{List, get_or, subst}
+use Rattle.std.proofs.Common.{List, get_or, refl, subst}
 use Rattle.types.specs.declared.value.ValType.{ValType}
 use Rattle.schedule.specs.Machine.{Thread.Runs}
 use Rattle.machine.specs.State.{At}
@@ -34,4 +34,4 @@ pub returns-clause-run : goal.returns-clause-run
 returns-clause-run g c =
     let m = g.M.SharedMemory in
     threaded_result m.LOSES m.opening (m.limit c.args.memory.now) m.name m.seen program_in (λ (t : Thread). t.fuel) StandsFor IsBegun c.in_ok-first.first c.in-Ok.spawned.items
-    c.args.module.now.parts c.args.entry.now c.args.args.now _ c.args.fuel c.requires.opening c.in_ok-first.ensures.first c.in-Ok.ensures c.run_all.result c.run_all.ensures.composed
+    c.args.module.now.parts c.args.entry.now c.args.args.now _ c.args.fuel c.requires.opening (c.if-not-starts_threads.ensures.0 refl) c.in_ok-first.ensures.first c.in-Ok.ensures c.run_all.result c.run_all.ensures.composed
