@@ -4,3 +4,4 @@ pub mod Living
 pub mod Told
 pub mod Events
 pub mod Made
+pub mod Spawned

@@ -154,7 +154,7 @@ module _ {S : Type 0} (stands : S → Running → Type 0) (begins : S → List V
         )
 
     -- a list in which one more is another
-    alike_set : (before : List S) (k : ℕ) (y : S) → k < length before → ((m : ℕ) (x : S) → slice_get before m ≡ Some x → (program x ≡ s.program) × (fuel x ≡ s.budget))
+    pub alike_set : (before : List S) (k : ℕ) (y : S) → k < length before → ((m : ℕ) (x : S) → slice_get before m ≡ Some x → (program x ≡ s.program) × (fuel x ≡ s.budget))
         → (program y ≡ s.program) × (fuel y ≡ s.budget)
         → (m : ℕ) (x : S) → slice_get (slice_set before k y) m ≡ Some x → (program x ≡ s.program) × (fuel x ≡ s.budget)
     alike_set before k y below alike own =
@@ -168,7 +168,7 @@ module _ {S : Type 0} (stands : S → Running → Type 0) (begins : S → List V
         (λ x at. let e : on.thread ≡ x = cc (at, on.at) in (sym (ap program e) ∙ (on.alike).0, sym (ap fuel e) ∙ (on.alike).1))
         (λ m h x at. (on.standing).alike m x (sym (on.others m h) ∙ at))
 
-    no_start : (old new : Option S) (start : Option Running) → ((x : Running) → start ≡ Some x → ⊥) → new ≡ old → SlotGoes stands begins program fuel old new start
+    pub no_start : (old new : Option S) (start : Option Running) → ((x : Running) → start ≡ Some x → ⊥) → new ≡ old → SlotGoes stands begins program fuel old new start
     no_start old new None none is = is
     no_start old new (Some x) none is = absurd (none x refl)
 
@@ -177,13 +177,13 @@ module _ {S : Type 0} (stands : S → Running → Type 0) (begins : S → List V
       abbrev starts_in : ℕ → Option Running
       starts_in m = (system_at s).starts (s.state.shared) n e m
 
-      slot_here : slice_get after n ≡ Some taken.now
+      pub slot_here : slice_get after n ≡ Some taken.now
       slot_here = ap (λ l. slice_get l n) taken.list ∙ slice_get-set_same threads n taken.now (slice_get_within threads n on.thread on.at)
 
-      slot_other : (m : ℕ) → m ≢ n → slice_get after m ≡ slice_get on.before m
+      pub slot_other : (m : ℕ) → m ≢ n → slice_get after m ≡ slice_get on.before m
       slot_other m h = ap (λ l. slice_get l m) taken.list ∙ (slice_get-set_other threads n m taken.now h ∙ on.others m h)
 
-      after_alike : (m : ℕ) (x : S) → slice_get after m ≡ Some x → (program x ≡ s.program) × (fuel x ≡ s.budget)
+      pub after_alike : (m : ℕ) (x : S) → slice_get after m ≡ Some x → (program x ≡ s.program) × (fuel x ≡ s.budget)
       after_alike m x at = alike_set threads n taken.now (slice_get_within threads n on.thread on.at) settled_alike taken.alike m x (sym (ap (λ l. slice_get l m) taken.list) ∙ at)
 
       pub stands_made : (threads' : List S) (begun' : ℕ) → begun' ≡ next_id (queue_step queue n e v)

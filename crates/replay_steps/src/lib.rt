@@ -16,11 +16,11 @@
 #![tactic(auto)]
 
 mod equal;
-mod settle;
+mod settling;
 mod stage;
 mod turns;
 
 pub use equal::{is_same_answer, is_same_event, is_same_reply};
-pub use settle::settle;
+pub use settling::settle;
 pub use stage::Stage;
 pub use turns::{settle_at, start_at, turn_at};

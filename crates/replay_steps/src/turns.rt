@@ -8,7 +8,7 @@ ghost use Rattle.machine.specs.Config.{Config};
 ghost use Rattle.recorded_runs.specs.Recorded.{spawn_types};
 ghost use Rattle.replay_steps.specs.Standing.{IsHere, IsTurnedAt, SettlesAt, IsStartedAt};
 
-use crate::settle::settle;
+use crate::settling::settle;
 use takes_turns::{Given, TakesTurns, Turn};
 use types::Value;
 

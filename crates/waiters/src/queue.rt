@@ -1,7 +1,7 @@
 //! The state of the wait queue, and its steps.
 ghost use Rattle.std.specs.Prelude.{◌≡◌, ◌<◌, ◌↔◌, [], length, false, nat_lt, if◌then◌else◌, IsTrue, MatchOption};
 ghost use Rattle.std.specs.List.{list_all};
-ghost use Rattle.shared_memory.specs.WaitQueue.{IsFree, after_answer, after_question, answer_due, asked, first_queue, is_alive, is_asleep, is_among, is_stuck, leaves, next_id, settled, sleeps, starts, tells, wakes, woken_at};
+ghost use Rattle.shared_memory.specs.WaitQueue.{IsFree, after_answer, after_question, answer_due, asked, first_queue, has_open_question, is_alive, is_asleep, is_among, is_stuck, leaves, next_id, settled, sleeps, starts, tells, wakes, woken_at};
 ghost use Rattle.waiters.specs.Queue.{AreNumbered, arg_of};
 
 use crate::waking::{ends_at_once, first_to_end, is_among, tell_each, woken_at};
@@ -96,6 +96,16 @@ impl Queue {
         ensures { result ≡ is_asleep self.now thread }
     {
         is_among(thread, self.sleepers.as_slice())
+    }
+
+    /// Whether the thread has an open question: it sleeps, or an answer is due to it.
+    pub fn has_open_question(&self, thread: u32) -> bool
+        ensures { result ≡ has_open_question self.now thread }
+    {
+        match self.due.get(thread as usize) {
+            Some(Some(_)) => true,
+            _ => self.is_asleep(thread),
+        }
     }
 
     /// Whether the run is over: nobody is alive.

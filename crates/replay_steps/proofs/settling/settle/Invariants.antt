@@ -2,7 +2,7 @@ use Rattle.std.proofs.Common.{◌≡◌}
 use Rattle.takes_turns.specs.Turns.{Running}
 use Rattle.replay_steps.specs.Standing.{IsHere}
 use Rattle.replay_steps.proofs.Turning.{Going}
-use Rattle.replay_steps.proofs.settle.settle.Given as goal
+use Rattle.replay_steps.proofs.settling.settle.Given as goal
 
 abbrev pub invariant-loop : goal.invariant-loop
 invariant-loop g l = record {

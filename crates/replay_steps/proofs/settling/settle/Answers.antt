@@ -3,7 +3,7 @@ use Rattle.machine.specs.Program.{Program}
 use Rattle.takes_turns.specs.Turns.{IsTurned}
 use Rattle.takes_turns.specs.declared.turn.Given.TheVariants as given
 use Rattle.replay_steps.proofs.Turning.{goes_on, settles, settles_last}
-use Rattle.replay_steps.proofs.settle.settle.Goals as goal
+use Rattle.replay_steps.proofs.settling.settle.Goals as goal
 
 pub returns-in_default : goal.returns-in_default
 returns-in_default g c = record {

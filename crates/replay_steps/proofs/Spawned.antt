@@ -1,0 +1,117 @@
+-- A thread that makes a spawn.
+use Rattle.std.specs.Prelude.{nat_lt}
+use Rattle.std.proofs.Common.{◌≡◌, ◌≢◌, ℕ, ◌+◌, ◌<◌, ◌==◌, ◌&&◌, true, false, cond, List, [], ◌∷◌, ◌++◌, length, length-append, length-set, Option, Some, None, refl, sym, ◌∙◌, ap, subst, arith, get_or, slice_get, slice_set}
+use Rattle.std.proofs.lemmas.Bool.{cond-true, cond_both, lt-ltb, eq-eqb, eqb-true, and_from, and_parts}
+use Rattle.std.proofs.lemmas.Option.{slice_get-get_or}
+use Rattle.types.specs.declared.value.ValType.{ValType}
+use Rattle.types.specs.declared.value.Value.{Value}
+use Rattle.types.specs.declared.event.Event.{Event}
+use Rattle.types.specs.declared.event.Event.TheVariants as events
+use Rattle.types.specs.declared.event.Question.TheVariants.{Spawn}
+use Rattle.types.specs.declared.event.Reply.{Reply}
+use Rattle.types.specs.declared.event.Reply.TheVariants as replies
+use Rattle.types.specs.declared.outcome.Outcome.{Outcome}
+use Rattle.shared_memory.specs.Memory.{reply_of}
+use Rattle.shared_memory.specs.Events.{is_exempt}
+use Rattle.shared_memory.specs.WaitQueue.{WaitQueue, is_alive, next_id, after_question}
+use Rattle.shared_memory.specs.History.{queue_step}
+use Rattle.schedule.specs.System.{Want.Calls}
+use Rattle.schedule.specs.Machine.{Thread.Runs}
+use Rattle.schedule.proofs.Basics.{at_each}
+use Rattle.machine.specs.Program.{Program}
+use Rattle.machine.specs.Config.{Config}
+use Rattle.scheduled.specs.Shared.{Shared}
+use Rattle.one_schedule.proofs.Places.{question_args}
+use Rattle.takes_turns.specs.Turns.{Running, outcome_of, wants_of}
+use Rattle.recorded_runs.specs.Recorded.{spawn_types, spawned_in}
+use Rattle.replay_steps.specs.Standing.{Standing, IsStanding, IsSettledOn, IsStartedAt, system_at, made_by}
+use Rattle.replay_steps.proofs.Told.{slice_get-set_same, slice_get-set_other}
+use Rattle.replay_steps.proofs.Events.{IsFreePlace}
+use Rattle.replay_steps.proofs.Places.{SlotGoes}
+use Rattle.replay_steps.proofs.Living.{spawned_alive}
+use Rattle.replay_steps.proofs.Made.{HasTaken, place, slot_here, slot_other, after_alike, alike_set, no_start, spawn_ready, stands_made}
+
+module _ {S : Type 0} (stands : S → Running → Type 0) (begins : S → List ValType → (List Value → Config) → Type 0) (program : S → Program) (fuel : S → ℕ) where
+  module _ (s : Standing) (threads : List S) (queue : WaitQueue) (begun : ℕ) (ends : List (Option Outcome)) (n : ℕ) (t : Running)
+      (on : IsSettledOn stands begins program fuel s threads queue begun ends n t) (arg : ℕ) (e : Event) (is : e ≡ events.Ask (Spawn arg)) (v : Reply) (reply : v ≡ reply_of s.memory e) where
+    abbrev starts_in : ℕ → Option Running
+    starts_in m = (system_at s).starts (s.state.shared) n e m
+
+    abbrev started : Running
+    started = Runs (spawned_in s.worker begun arg) s.budget
+
+    count_is : next_id s.state.shared.queue ≡ begun
+    count_is = ap (λ (x : Shared). next_id x.queue) (on.standing).shared ∙ sym (on.standing).started
+
+    starts_is : (m : ℕ) → starts_in m ≡ cond (nat_lt m 16 && (m == next_id s.state.shared.queue)) (Some (Runs (spawned_in s.worker m arg) s.budget)) None
+    starts_is m = ap (λ (x : Event). (system_at s).starts (s.state.shared) n x m) is
+
+    starts_here : begun < 16 → starts_in begun ≡ Some started
+    starts_here room =
+        starts_is begun
+        ∙ cond-true (nat_lt begun 16 && (begun == next_id s.state.shared.queue)) (Some started) None
+        (and_from (nat_lt begun 16) (begun == next_id s.state.shared.queue) (lt-ltb begun 16 room) (eq-eqb begun (next_id s.state.shared.queue) (sym count_is)))
+
+    starts_other : (m : ℕ) → m ≢ begun → (x : Running) → starts_in m ≡ Some x → ⊥
+    starts_other m apart x k =
+        cond_both (nat_lt m 16 && (m == next_id s.state.shared.queue)) (Some (Runs (spawned_in s.worker m arg) s.budget)) None (λ w. w ≡ Some x → ⊥)
+        (λ both e. apart (eqb-true m (next_id s.state.shared.queue) (and_parts (nat_lt m 16) (m == next_id s.state.shared.queue) both).1 ∙ count_is)) (λ isnt e. absurd (cc e))
+        (sym (starts_is m) ∙ k)
+
+    queue_is : queue_step queue n e v ≡ after_question queue n (Spawn arg) 0
+    queue_is =
+        ap (λ (x : Event). queue_step queue n x v) is
+        ∙ ap (λ (w : Reply). queue_step queue n (events.Ask (Spawn arg)) w) (reply ∙ ap (λ (x : Event). reply_of s.memory x) is)
+
+    next_is : begun < 16 → begun + 1 ≡ next_id (queue_step queue n e v)
+    next_is room =
+        let few : next_id queue < 16 = subst (λ k. k < 16) (on.standing).started room in
+        let more : length (queue.args ++ arg ∷ []) ≡ length queue.args + 1 = length-append queue.args (arg ∷ []) in
+        ap (λ k. k + 1) (on.standing).started
+        ∙ (ap (λ k. k + 1) (sym more)
+        ∙ sym (ap next_id queue_is ∙ ap (λ w. length w + 1) (question_args queue n (Spawn arg) 0 ∙ cond-true (nat_lt (next_id queue) 16) (queue.args ++ arg ∷ []) queue.args (lt-ltb (next_id queue) 16 few))))
+
+    born : begun < 16 → (m : ℕ) (x : Running) → starts_in m ≡ Some x → is_alive (queue_step queue n e v) m ≡ true
+    born room =
+        at_each begun (λ m. (x : Running) → starts_in m ≡ Some x → is_alive (queue_step queue n e v) m ≡ true)
+        (λ x k. ap (λ (q : WaitQueue). is_alive q begun) queue_is
+        ∙ subst (λ (k : ℕ). is_alive (after_question queue n (Spawn arg) 0) k ≡ true) (sym (on.standing).started) (spawned_alive queue n arg 0 (subst (λ k. k < 16) (on.standing).started room)))
+        (λ m h x k. absurd (starts_other m h x k))
+
+    module _ (kind : is_exempt e ≡ false) (none : outcome_of t ≡ None) (wants : wants_of s.program t ≡ Calls e) (after : List S) (taken : HasTaken stands begins program fuel s threads queue begun ends n t on v after)
+        (room : begun < 16) (full : length threads ≡ 16) where
+      apart : begun ≢ n
+      apart =
+          let started : begun ≡ next_id queue = (on.standing).started in
+          let known : n < next_id queue = IsFreePlace.known (place stands begins program fuel s threads queue begun ends n t on) in omega arith
+
+      below : begun < length after
+      below =
+          let long : length after ≡ 16 = ap length taken.list ∙ (length-set threads n taken.now ∙ full) in omega arith
+
+      abbrev old : S
+      old = get_or after begun taken.now
+
+      at_old : slice_get after begun ≡ Some old
+      at_old = slice_get-get_or after begun taken.now below
+
+      pub made_spawn : (threads' : List S)
+          → ((x : S) (worker : List Value → Config) → slice_get after begun ≡ Some x → begins x spawn_types worker → IsStartedAt stands program fuel x worker arg after begun threads')
+          → IsStanding stands begins program fuel (made_by s n e v t) threads' (queue_step queue n e v) (begun + 1) ends
+      made_spawn threads' starts =
+          let ready = spawn_ready stands begins program fuel s threads queue begun ends n t on v after taken full room in
+          let new = starts old s.worker at_old (ready.1 old at_old) in
+          let r = new.replaced in
+          let alike = after_alike stands begins program fuel s threads queue begun ends n t on e v kind reply none wants after taken in
+          let own = alike begun old at_old in
+          let at_new : slice_get threads' begun ≡ Some r.now = ap (λ l. slice_get l begun) r.list ∙ slice_get-set_same after begun r.now below in
+          let at_other : (m : ℕ) → m ≢ begun → slice_get threads' m ≡ slice_get after m = λ m h. ap (λ l. slice_get l m) r.list ∙ slice_get-set_other after begun m r.now h in
+          stands_made stands begins program fuel s threads queue begun ends n t on e v kind reply none wants after taken threads' (begun + 1) (next_is room)
+          (at_other n (λ z. apart (sym z)) ∙ slot_here stands begins program fuel s threads queue begun ends n t on e v kind reply none wants after taken)
+          (at_each begun (λ m. m ≢ n → SlotGoes stands begins program fuel (slice_get on.before m) (slice_get threads' m) (starts_in m))
+          (λ h. subst (λ (o : Option Running). SlotGoes stands begins program fuel (slice_get on.before begun) (slice_get threads' begun) o) (sym (starts_here room))
+          (record { thread = r.now; at = at_new; standing = subst (λ (k : ℕ). stands r.now (Runs (spawned_in s.worker begun arg) k)) own.1 new.begun; here = tt }))
+          (λ m away h. no_start stands begins program fuel s threads queue begun ends n t on (slice_get on.before m) (slice_get threads' m) (starts_in m) (starts_other m away)
+          (at_other m away ∙ slot_other stands begins program fuel s threads queue begun ends n t on e v kind reply none wants after taken m h)))
+          (λ m x at. alike_set stands begins program fuel s threads queue begun ends n t on after begun r.now below alike (r.same_program ∙ own.0, r.same_fuel ∙ own.1) m x (sym (ap (λ l. slice_get l m) r.list) ∙ at))
+          (born room)
