@@ -5,3 +5,5 @@ pub mod Told
 pub mod Events
 pub mod Made
 pub mod Spawned
+pub mod Asked
+pub mod Leaving

@@ -1,14 +1,11 @@
 -- A thread that makes the event that it wants.
-use Rattle.std.proofs.Common.{◌≡◌, ◌≢◌, ℕ, zero, suc, ◌+◌, ◌-◌, ◌<◌, ◌≤◌, ◌==◌, ◌&&◌, true, false, List, [], ◌∷◌, ◌++◌, length, Option, Some, None, refl, sym, ◌∙◌, ap, subst, ◌⊎◌, inl, inr, arith, get_or, slice_get, slice_set, length-set}
-use Rattle.std.specs.Prelude.{nat_lt}
-use Rattle.std.proofs.lemmas.Bool.{cond-false, le-ltb, ltb-true, eqb-true, and_parts, cond_both}
+use Rattle.std.proofs.Common.{◌≡◌, ◌≢◌, ℕ, zero, suc, ◌-◌, ◌<◌, ◌≤◌, true, false, List, length, Option, Some, None, refl, sym, ◌∙◌, ap, subst, arith, get_or, slice_get, slice_set, length-set}
 use Rattle.std.proofs.lemmas.Option.{slice_get_within}
 use Rattle.types.specs.declared.value.ValType.{ValType}
 use Rattle.types.specs.declared.value.Value.{Value}
 use Rattle.types.specs.declared.event.Event.{Event}
 use Rattle.types.specs.declared.event.Event.TheVariants as events
 use Rattle.types.specs.declared.event.Question.{Question}
-use Rattle.types.specs.declared.event.Question.TheVariants.{Wait, Notify, Spawn, Leave}
 use Rattle.types.specs.declared.event.Reply.{Reply}
 use Rattle.types.specs.declared.event.Reply.TheVariants as replies
 use Rattle.types.specs.declared.outcome.Outcome.{Outcome}
@@ -28,12 +25,12 @@ use Rattle.machine.specs.State.{State, replied}
 use Rattle.scheduled.specs.Shared.{is_question}
 use Rattle.scheduled.specs.Threads.{machine_of, wishes, wish_of}
 use Rattle.scheduled.proofs.Asking.{machine_laws}
-use Rattle.one_schedule.proofs.Places.{place_unstarted, args_by, question_args}
+use Rattle.one_schedule.proofs.Places.{place_unstarted}
 use Rattle.takes_turns.specs.Turns.{Running, outcome_of, outcome_in, wants_of, after_reply}
 use Rattle.takes_turns.specs.declared.turn.Turn.{Turn}
 use Rattle.takes_turns.specs.declared.turn.Given.TheVariants as given
-use Rattle.recorded_runs.specs.Recorded.{spawn_types, spawned_in}
-use Rattle.replay_steps.specs.Standing.{IsHere, StandsAt, Standing, IsStanding, IsSettledOn, IsTurnedAt, IsAnswered, system_at, made_by, is_spawn}
+use Rattle.recorded_runs.specs.Recorded.{spawn_types}
+use Rattle.replay_steps.specs.Standing.{IsHere, StandsAt, Standing, IsStanding, IsSettledOn, IsTurnedAt, IsAnswered, system_at, made_by}
 use Rattle.replay_steps.proofs.Told.{slice_get-set_same, slice_get-set_other}
 use Rattle.replay_steps.proofs.Events.{IsFreePlace, free_place, IsMade, step, stands_after}
 use Rattle.replay_steps.proofs.Places.{SlotGoes, here_at}
@@ -162,7 +159,7 @@ module _ {S : Type 0} (stands : S → Running → Type 0) (begins : S → List V
         (λ x at. let e : y ≡ x = cc (at, slice_get-set_same before k y below) in (sym (ap program e) ∙ own.0, sym (ap fuel e) ∙ own.1))
         (λ m h x at. alike m x (sym (slice_get-set_other before k m y h) ∙ at))
 
-    settled_alike : (m : ℕ) (x : S) → slice_get threads m ≡ Some x → (program x ≡ s.program) × (fuel x ≡ s.budget)
+    pub settled_alike : (m : ℕ) (x : S) → slice_get threads m ≡ Some x → (program x ≡ s.program) × (fuel x ≡ s.budget)
     settled_alike =
         at_each n (λ m. (x : S) → slice_get threads m ≡ Some x → (program x ≡ s.program) × (fuel x ≡ s.budget))
         (λ x at. let e : on.thread ≡ x = cc (at, on.at) in (sym (ap program e) ∙ (on.alike).0, sym (ap fuel e) ∙ (on.alike).1))
@@ -229,30 +226,3 @@ queue_stays q n (events.Load addr width reach) v kind other = refl
 queue_stays q n (events.Store addr width reach value) v kind other = refl
 queue_stays q n (events.Rmw op addr width value) v kind other = refl
 queue_stays q n (events.Cmpxchg addr width expected replacement) v kind other = refl
-
--- a question that starts nobody
-pub asks_nobody : (s : Standing) (n : ℕ) (question : Question) → (is_spawn question ≡ false) ⊎ (16 ≤ next_id s.state.shared.queue) → (m : ℕ) (x : Running)
-    → (system_at s).starts (s.state.shared) n (events.Ask question) m ≡ Some x → ⊥
-asks_nobody s n (Wait addr width expected timeout) h m x k = absurd (cc k)
-asks_nobody s n (Notify addr count) h m x k = absurd (cc k)
-asks_nobody s n Leave h m x k = absurd (cc k)
-asks_nobody s n (Spawn arg) (inl h) m x k = absurd (cc h)
-asks_nobody s n (Spawn arg) (inr h) m x k =
-    cond_both (nat_lt m 16 && (m == next_id s.state.shared.queue)) (Some (Runs (spawned_in s.worker m arg) s.budget)) None (λ w. w ≡ Some x → ⊥)
-    (λ both e. let parts = and_parts (nat_lt m 16) (m == next_id s.state.shared.queue) both in
-    let below : m < 16 = ltb-true m 16 parts.0 in let is : m ≡ next_id s.state.shared.queue = eqb-true m (next_id s.state.shared.queue) parts.1 in let no : ⊥ = omega arith in no)
-    (λ isnt e. absurd (cc e)) k
-
-same_args : (q : WaitQueue) (question : Question) → (is_spawn question ≡ false) ⊎ (16 ≤ next_id q) → args_by q question ≡ q.args
-same_args q (Wait addr width expected timeout) h = refl
-same_args q (Notify addr count) h = refl
-same_args q Leave h = refl
-same_args q (Spawn arg) (inl h) = absurd (cc h)
-same_args q (Spawn arg) (inr h) = cond-false (nat_lt (next_id q) 16) (q.args ++ arg ∷ []) q.args (le-ltb (next_id q) 16 h)
-
-pub same_count : (q : WaitQueue) (n : ℕ) (question : Question) (v : Reply) → (is_spawn question ≡ false) ⊎ (16 ≤ next_id q) → next_id q ≡ next_id (queue_step q n (events.Ask question) v)
-same_count q n question (replies.Value k) h = ap (λ w. length w + 1) (sym (question_args q n question k ∙ same_args q question h))
-same_count q n question replies.Done h = ap (λ w. length w + 1) (sym (question_args q n question 0 ∙ same_args q question h))
-same_count q n question replies.OutOfBounds h = refl
-same_count q n question replies.Again h = ap (λ w. length w + 1) (sym (question_args q n question 0 ∙ same_args q question h))
-same_count q n question replies.Full h = ap (λ w. length w + 1) (sym (question_args q n question 0 ∙ same_args q question h))

@@ -1,6 +1,6 @@
 -- A thread that makes a spawn.
 use Rattle.std.specs.Prelude.{nat_lt}
-use Rattle.std.proofs.Common.{◌≡◌, ◌≢◌, ℕ, ◌+◌, ◌<◌, ◌==◌, ◌&&◌, true, false, cond, List, [], ◌∷◌, ◌++◌, length, length-append, length-set, Option, Some, None, refl, sym, ◌∙◌, ap, subst, arith, get_or, slice_get, slice_set}
+use Rattle.std.proofs.Common.{◌≡◌, ◌≢◌, ℕ, ◌+◌, ◌<◌, ◌==◌, ◌&&◌, true, false, cond, List, [], ◌∷◌, ◌++◌, length, length-append, length-set, Option, Some, None, sym, ◌∙◌, ap, subst, arith, get_or, slice_get}
 use Rattle.std.proofs.lemmas.Bool.{cond-true, cond_both, lt-ltb, eq-eqb, eqb-true, and_from, and_parts}
 use Rattle.std.proofs.lemmas.Option.{slice_get-get_or}
 use Rattle.types.specs.declared.value.ValType.{ValType}
@@ -9,7 +9,6 @@ use Rattle.types.specs.declared.event.Event.{Event}
 use Rattle.types.specs.declared.event.Event.TheVariants as events
 use Rattle.types.specs.declared.event.Question.TheVariants.{Spawn}
 use Rattle.types.specs.declared.event.Reply.{Reply}
-use Rattle.types.specs.declared.event.Reply.TheVariants as replies
 use Rattle.types.specs.declared.outcome.Outcome.{Outcome}
 use Rattle.shared_memory.specs.Memory.{reply_of}
 use Rattle.shared_memory.specs.Events.{is_exempt}
@@ -32,16 +31,20 @@ use Rattle.replay_steps.proofs.Living.{spawned_alive}
 use Rattle.replay_steps.proofs.Made.{HasTaken, place, slot_here, slot_other, after_alike, alike_set, no_start, spawn_ready, stands_made}
 
 module _ {S : Type 0} (stands : S → Running → Type 0) (begins : S → List ValType → (List Value → Config) → Type 0) (program : S → Program) (fuel : S → ℕ) where
+  pub count_is : (s : Standing) (threads : List S) (queue : WaitQueue) (begun : ℕ) (ends : List (Option Outcome)) → IsStanding stands begins program fuel s threads queue begun ends
+      → next_id s.state.shared.queue ≡ begun
+  count_is s threads queue begun ends st = ap (λ (x : Shared). next_id x.queue) st.shared ∙ sym st.started
+
   module _ (s : Standing) (threads : List S) (queue : WaitQueue) (begun : ℕ) (ends : List (Option Outcome)) (n : ℕ) (t : Running)
       (on : IsSettledOn stands begins program fuel s threads queue begun ends n t) (arg : ℕ) (e : Event) (is : e ≡ events.Ask (Spawn arg)) (v : Reply) (reply : v ≡ reply_of s.memory e) where
+    number_is : next_id s.state.shared.queue ≡ begun
+    number_is = count_is s on.before queue begun ends on.standing
+
     abbrev starts_in : ℕ → Option Running
     starts_in m = (system_at s).starts (s.state.shared) n e m
 
     abbrev started : Running
     started = Runs (spawned_in s.worker begun arg) s.budget
-
-    count_is : next_id s.state.shared.queue ≡ begun
-    count_is = ap (λ (x : Shared). next_id x.queue) (on.standing).shared ∙ sym (on.standing).started
 
     starts_is : (m : ℕ) → starts_in m ≡ cond (nat_lt m 16 && (m == next_id s.state.shared.queue)) (Some (Runs (spawned_in s.worker m arg) s.budget)) None
     starts_is m = ap (λ (x : Event). (system_at s).starts (s.state.shared) n x m) is
@@ -50,12 +53,12 @@ module _ {S : Type 0} (stands : S → Running → Type 0) (begins : S → List V
     starts_here room =
         starts_is begun
         ∙ cond-true (nat_lt begun 16 && (begun == next_id s.state.shared.queue)) (Some started) None
-        (and_from (nat_lt begun 16) (begun == next_id s.state.shared.queue) (lt-ltb begun 16 room) (eq-eqb begun (next_id s.state.shared.queue) (sym count_is)))
+        (and_from (nat_lt begun 16) (begun == next_id s.state.shared.queue) (lt-ltb begun 16 room) (eq-eqb begun (next_id s.state.shared.queue) (sym number_is)))
 
     starts_other : (m : ℕ) → m ≢ begun → (x : Running) → starts_in m ≡ Some x → ⊥
     starts_other m apart x k =
         cond_both (nat_lt m 16 && (m == next_id s.state.shared.queue)) (Some (Runs (spawned_in s.worker m arg) s.budget)) None (λ w. w ≡ Some x → ⊥)
-        (λ both e. apart (eqb-true m (next_id s.state.shared.queue) (and_parts (nat_lt m 16) (m == next_id s.state.shared.queue) both).1 ∙ count_is)) (λ isnt e. absurd (cc e))
+        (λ both e. apart (eqb-true m (next_id s.state.shared.queue) (and_parts (nat_lt m 16) (m == next_id s.state.shared.queue) both).1 ∙ number_is)) (λ isnt e. absurd (cc e))
         (sym (starts_is m) ∙ k)
 
     queue_is : queue_step queue n e v ≡ after_question queue n (Spawn arg) 0

@@ -171,6 +171,19 @@ module _ {S : Type 0} (stands : S → Running → Type 0) (begins : S → List V
     pub going : get_or ends n None ≡ None
     pub free : s.places n ≡ Free
 
+  -- Thread n may be taken: it runs, is alive, and hasn't asked to leave.
+  pub record IsGoing (s : Standing) (threads : List S) (queue : WaitQueue) (ends : List (Option Outcome)) (n : ℕ) : Type 0 where
+    pub free : s.places n ≡ Free
+    pub runs : RunsAt stands begins program fuel (slice_get threads n) (s.state.threads n)
+    pub alive : is_alive queue n ≡ true
+    pub going : get_or ends n None ≡ None
+
+-- A thread has left.
+pub record HasGone (t : Running) : Type 0 where
+  pub outcome : Outcome
+  pub left : ℕ
+  pub gone : t ≡ Left outcome left
+
 -- Who is spawned by a question, if there is room for it.
 abbrev pub is_spawn : Question → Bool
 is_spawn (Spawn arg) = true

@@ -8,9 +8,11 @@
 //!   A thread's place is where the queue has it. The scheduled machine gives a thread its answer as soon as that is due, the
 //!   walk at the entry in which it is heard; till then the walk's thread waits for what the machine's has heard already.
 //! - `Stage::tell` takes an entry that is an answer heard.
-//! - An event is taken in three steps: `settle_at` makes the thread's turns of its own, the memory gives the reply, and
+//! - An event is taken in steps: `Stage::is_going` says whether its thread may be taken, `settle_at` makes the thread's turns
+//!   of its own, and `Stage::make` the event that it then wants: the memory gives the reply, the thread takes it, and
 //!   `Stage::ask` puts a question to the queue and starts a spawned thread. `Stage::leave` is the leave of a thread that has
-//!   ended. `proofs/Events.antt` and `proofs/Made.antt` show where all stand after it.
+//!   ended. `proofs/Events.antt` shows where all stand after one event, `proofs/Made.antt`, `proofs/Spawned.antt` and
+//!   `proofs/Asked.antt` after each kind of event, and `proofs/Leaving.antt` after a leave.
 //! - Crate `replay_rules` has the walk's laws: a schedule makes what a walk takes, all schedules of a log end alike, and the
 //!   entry at which a walk stops is the first misfit.
 #![tactic(auto)]

@@ -3,6 +3,9 @@ ghost use Rattle.std.specs.Prelude.{◌≡◌, ◌≤◌, ◌<◌, ℕ, true, fa
 ghost use Rattle.types.specs.declared.value.Value.{Value};
 ghost use Rattle.types.specs.declared.event.Event.TheVariants as events;
 ghost use Rattle.types.specs.declared.outcome.Outcome.{Outcome};
+ghost use Rattle.types.specs.declared.event.Reply.TheVariants.{Done};
+ghost use Rattle.shared_memory.specs.Memory.{reply_of, state_after};
+ghost use Rattle.shared_memory.specs.Events.{IsEvent, is_exempt};
 ghost use Rattle.std.specs.Prelude.{slice_set, List, ◌+◌};
 ghost use Rattle.std.specs.List.{slice_get};
 ghost use Rattle.shared_memory.specs.History.{queue_step};
@@ -13,12 +16,15 @@ ghost use Rattle.schedule.specs.System.{put};
 ghost use Rattle.schedule.specs.Histories.{Place, Place.Free, Place.Due};
 ghost use Rattle.machine.specs.Program.{Program};
 ghost use Rattle.machine.specs.Config.{Config};
-ghost use Rattle.replay_steps.specs.Standing.{IsStanding, Standing, IsToldOn, IsStartedAt, is_spawn};
+ghost use Rattle.takes_turns.specs.Turns.{Running, left_of, outcome_of, wants_of};
+ghost use Rattle.schedule.specs.System.{Want.Calls};
+ghost use Rattle.replay_steps.specs.Standing.{HasGone, IsGoing, IsHere, IsStanding, Standing, IsToldOn, IsStartedAt, IsSettledOn, IsAnswered, made_by, is_spawn};
 
-use crate::equal::is_same_answer;
+use crate::equal::{is_same_answer, is_same_reply};
 use crate::turns::{start_at, turn_at};
+use one_memory::OneMemory;
 use takes_turns::{Given, TakesTurns};
-use types::{Answer, Outcome, Question, Reply};
+use types::{Answer, Event, Outcome, Question, Reply};
 use waiters::Queue;
 
 /// The wait queue of a walk, how many threads were started, and how each has ended that asked to leave.
@@ -46,6 +52,7 @@ impl Stage {
     /// Takes an answer that a thread heard, if it is the one that is due. A thread that has left makes no more turns.
     pub fn tell<T: TakesTurns>(&mut self, threads: &mut [T], n: u32, answer: Answer) -> bool
         requires standing { (s : Standing) × IsStanding T.stands T.begins T.program T.fuel s threads.old self.old.queue self.old.started self.old.ends }
+        ensures count { length threads.new ≡ length threads.old }
         ensures told { result ≡ true → (s : Standing) → IsStanding T.stands T.begins T.program T.fuel s threads.old self.old.queue self.old.started self.old.ends → IsToldOn T.stands T.begins T.program T.fuel s n answer threads.new self.new.queue self.new.started self.new.ends }
         ensures refused { result ≡ false → (s : Standing) → IsStanding T.stands T.begins T.program T.fuel s threads.old self.old.queue self.old.started self.old.ends → s.places n ≡ Due answer → ⊥ }
     {
@@ -65,13 +72,29 @@ impl Stage {
         }
     }
 
-    /// A thread that has ended asks to leave.
-    pub fn leave(&mut self, n: u32, outcome: Outcome)
+    /// Whether a thread may be taken: it was started, has no open question, and hasn't left. Who may be taken by its
+    /// place alone, and isn't going, has left.
+    pub fn is_going<T: TakesTurns>(&self, n: u32) -> bool
+        ensures going { result ≡ true → (s : Standing) (threads : List T) → IsStanding T.stands T.begins T.program T.fuel s threads self.now.queue self.now.started self.now.ends → IsGoing T.stands T.begins T.program T.fuel s threads self.now.queue self.now.ends n }
+        ensures gone { result ≡ false → (s : Standing) (threads : List T) → IsStanding T.stands T.begins T.program T.fuel s threads self.now.queue self.now.started self.now.ends → s.places n ≡ Free → HasGone (s.state.threads n) }
+    {
+        if n >= self.started || self.queue.has_open_question(n) {
+            return false;
+        }
+        let Some(end) = self.ends.get(n as usize) else {
+            return false;
+        };
+        end.is_none()
+    }
+
+    /// A thread that has ended asks to leave, with its outcome.
+    pub fn leave<T: TakesTurns>(&mut self, n: u32, outcome: Outcome)
         requires free { IsFree self.old.queue n }
         requires number { n < 16 }
         ensures queue { self.new.queue ≡ after_question self.old.queue n Leave 0 }
         ensures started { self.new.started ≡ self.old.started }
         ensures ends { self.new.ends ≡ slice_set self.old.ends n (Some outcome) }
+        ensures stands { (s : Standing) (t u : Running) (threads : List T) → IsSettledOn T.stands T.begins T.program T.fuel s threads self.old.queue self.old.started self.old.ends n t → wants_of s.program u ≡ Calls (events.Ask Leave) → outcome_of u ≡ Some outcome → left_of u ≡ left_of t → IsHere u → IsStanding T.stands T.begins T.program T.fuel (made_by s n (events.Ask Leave) Done u) threads self.new.queue self.new.started self.new.ends }
     {
         self.queue.ask(n, &Question::Leave, 0);
         self.ends[n as usize] = Some(outcome);
@@ -88,6 +111,7 @@ impl Stage {
     )
         requires free { IsFree self.old.queue n }
         requires spawn { (arg : ℕ) → question ≡ Spawn arg → self.old.started < 16 → (self.old.started < length threads.old) × ((x : T) → slice_get threads.old self.old.started ≡ Some x → (worker : List Value → Config) × T.begins x spawn_types worker) }
+        ensures count { length threads.new ≡ length threads.old }
         ensures queue { self.new.queue ≡ queue_step self.old.queue n (events.Ask question) reply }
         ensures ends { self.new.ends ≡ self.old.ends }
         ensures started { (arg : ℕ) → question ≡ Spawn arg → self.old.started < 16 → (self.new.started ≡ self.old.started + 1) × ((x : T) (worker : List Value → Config) → slice_get threads.old self.old.started ≡ Some x → T.begins x spawn_types worker → IsStartedAt T.stands T.program T.fuel x worker arg threads.old self.old.started threads.new) }
@@ -106,5 +130,36 @@ impl Stage {
             start_at(threads, started as usize, arg);
             self.started = started + 1;
         }
+    }
+
+    /// Makes the event that a thread wants, if the memory's reply to it is this one. Otherwise only the memory has
+    /// changed, and the walk is over.
+    pub fn make<T: TakesTurns>(
+        &mut self,
+        threads: &mut [T],
+        memory: &mut OneMemory,
+        n: u32,
+        event: Event,
+        reply: Reply,
+    ) -> bool
+        requires event { IsEvent event }
+        requires kind { is_exempt event ≡ false }
+        requires reply { IsAnswered reply }
+        requires room { (arg : ℕ) → event ≡ events.Ask (Spawn arg) → length threads.old ≡ 16 }
+        requires settled { (s : Standing) × (t : Running) × IsSettledOn T.stands T.begins T.program T.fuel s threads.old self.old.queue self.old.started self.old.ends n t × (s.memory ≡ memory.old) × (outcome_of t ≡ None) × (wants_of s.program t ≡ Calls event) }
+        ensures count { length threads.new ≡ length threads.old }
+        ensures memory { memory.new ≡ state_after memory.old event }
+        ensures made { result ≡ true → (s : Standing) (t : Running) → IsSettledOn T.stands T.begins T.program T.fuel s threads.old self.old.queue self.old.started self.old.ends n t → s.memory ≡ memory.old → outcome_of t ≡ None → wants_of s.program t ≡ Calls event → (reply ≡ reply_of s.memory event) × IsStanding T.stands T.begins T.program T.fuel (made_by s n event reply t) threads.new self.new.queue self.new.started self.new.ends }
+        ensures refused { result ≡ false → reply ≡ reply_of memory.old event → ⊥ }
+    {
+        let answered = memory.step(&event);
+        if !is_same_reply(answered, reply) {
+            return false;
+        }
+        turn_at(threads, n as usize, Given::Reply(reply));
+        if let Event::Ask(question) = event {
+            self.ask(threads, n, question, reply);
+        }
+        true
     }
 }

@@ -16,6 +16,7 @@ use types::Value;
 pub fn turn_at<T: TakesTurns>(threads: &mut [T], n: usize, given: Given) -> Turn
     requires within { n < length threads.old }
     requires given { (x : T) → slice_get threads.old n ≡ Some x → (t : Running) × T.stands x t × IsGiven (T.program x) t given }
+    ensures count { length threads.new ≡ length threads.old }
     ensures turned { (x : T) → slice_get threads.old n ≡ Some x → IsTurnedAt T.stands T.program T.fuel x given result threads.old n threads.new }
 {
     threads[n].turn(given)
@@ -25,6 +26,7 @@ pub fn turn_at<T: TakesTurns>(threads: &mut [T], n: usize, given: Given) -> Turn
 pub fn settle_at<T: TakesTurns>(threads: &mut [T], n: usize, fuel: u64) -> Turn
     requires within { n < length threads.old }
     requires here { (x : T) → slice_get threads.old n ≡ Some x → (T.fuel x ≡ fuel) × (t : Running) × T.stands x t × IsHere t }
+    ensures count { length threads.new ≡ length threads.old }
     ensures settled { (x : T) → slice_get threads.old n ≡ Some x → SettlesAt T.stands T.program T.fuel x result threads.old n threads.new }
 {
     settle(&mut threads[n], fuel)
@@ -35,6 +37,7 @@ pub fn start_at<T: TakesTurns>(threads: &mut [T], n: usize, arg: u32)
     requires within { n < length threads.old }
     requires number { n < 16 }
     requires begins { (x : T) → slice_get threads.old n ≡ Some x → (worker : List Value → Config) × T.begins x spawn_types worker }
+    ensures count { length threads.new ≡ length threads.old }
     ensures started { (x : T) (worker : List Value → Config) → slice_get threads.old n ≡ Some x → T.begins x spawn_types worker → IsStartedAt T.stands T.program T.fuel x worker arg threads.old n threads.new }
 {
     let args = [Value::I32(n as u32), Value::I32(arg)];

@@ -1,4 +1,4 @@
-use Rattle.std.proofs.Common.{◌≡◌, ℕ, refl, sym, ◌∙◌, ap, subst, slice_index_or}
+use Rattle.std.proofs.Common.{◌≡◌, ℕ, refl, sym, ◌∙◌, ap, subst, slice_index_or, length-set}
 use Rattle.std.proofs.lemmas.Option.{get_or_from_slice_get}
 use Rattle.schedule.specs.Machine.{Thread.Runs}
 use Rattle.recorded_runs.specs.Recorded.{spawn_types, spawned_in}
@@ -6,6 +6,7 @@ use Rattle.replay_steps.proofs.turns.start_at.Goals as goal
 
 pub returns : goal.returns
 returns g c = record {
+  count = length-set c.args.threads.now c.args.n c.set_args.new.self;
   started = λ x worker at begins.
       let is : slice_index_or c.args.threads.now c.args.n c.index-threads-n.result ≡ x = get_or_from_slice_get c.args.threads.now c.args.n x c.index-threads-n.result at in
       let fuel_is = c.set_args.ensures.fuel ∙ ap g.T.TakesTurns.fuel is in
