@@ -1,0 +1,65 @@
+//! The lines behind the log, one by one.
+ghost use Rattle.std.specs.Prelude.{◌≡◌, true, false};
+ghost use Rattle.shared_memory.specs.Memory.{pages};
+ghost use Rattle.recorded_runs.specs.Recorded.{HasLeft};
+ghost use Rattle.record_text.specs.declared.parts.RecordParts.{RecordParts};
+ghost use Rattle.replay_steps.specs.Standing.{Standing};
+ghost use Rattle.replay_ends.specs.Ends.{Ends, IsVerdict};
+
+use record_text::RecordParts;
+use replay_steps::Stage;
+use takes_turns::TakesTurns;
+use types::{Outcome, ThreadReport};
+
+/// The first of the end lines, from 0 on, that doesn't agree with where the walk came to, or the pages line behind them, if
+/// all of them do. `held` are the pages of the memory, and `parts` the record; `None` is the answer where each line agrees.
+pub fn first_wrong_end<T: TakesTurns>(
+    threads: &[T],
+    stage: &Stage,
+    held: u32,
+    parts: &RecordParts,
+) -> Option<usize>
+    ensures { (s : Standing) → Ends T.stands T.begins T.program T.fuel s threads.now stage.now.queue stage.now.started stage.now.ends parts.now.fuel → held ≡ pages s.memory → IsVerdict parts.now s.state s.places result }
+{
+    let ends = parts.ends.as_slice();
+    for (number, report) in ends.iter().enumerate() {
+        if !has_left(threads, stage, number, report) {
+            return Some(number);
+        }
+    }
+    if held == parts.pages && stage.started as usize <= ends.len() {
+        None
+    } else {
+        Some(ends.len())
+    }
+}
+
+/// Whether the thread of this number has left with this outcome, after so many units, and has heard the answer to its leave.
+fn has_left<T: TakesTurns>(
+    threads: &[T],
+    stage: &Stage,
+    number: usize,
+    report: &ThreadReport,
+) -> bool
+    ensures left { result ≡ true → (s : Standing) (r : RecordParts) → Ends T.stands T.begins T.program T.fuel s threads.now stage.now.queue stage.now.started stage.now.ends r.fuel → HasLeft r s.state s.places number report.now }
+    ensures other { result ≡ false → (s : Standing) (r : RecordParts) → Ends T.stands T.begins T.program T.fuel s threads.now stage.now.queue stage.now.started stage.now.ends r.fuel → HasLeft r s.state s.places number report.now → ⊥ }
+{
+    let Some(thread) = threads.get(number) else {
+        return false;
+    };
+    let Some(Some(outcome)) = stage.ends.get(number) else {
+        return false;
+    };
+    if stage.queue.has_open_question(number as u32) {
+        return false;
+    }
+    is_same_outcome(*outcome, report.outcome) && thread.spent() == report.spent
+}
+
+/// Whether two outcomes are the same.
+fn is_same_outcome(a: Outcome, b: Outcome) -> bool
+    ensures same { result ≡ true → a ≡ b }
+    ensures other { result ≡ false → a ≡ b → ⊥ }
+{
+    a == b
+}
