@@ -32,7 +32,7 @@ module _ {X T E V A W : Type 0} (s : System X T E V A) (rules : TryRules X E W) 
   comes_once (suc j) zero t u v a b hu hv = absurd (hv (sym (ap s.wants b) ∙ a.0))
   comes_once (suc j) (suc k) t u v a b hu hv = comes_once j k (s.own_turn t) u v a.1 b.1 hu hv
 
-  settles_once : (t u v : T) → Settles s t u → Settles s t v → u ≡ v
+  pub settles_once : (t u v : T) → Settles s t u → Settles s t v → u ≡ v
   settles_once t u v a b = comes_once a.turns b.turns t u v a.comes b.comes a.rests b.rests
 
   full_apart : (count : ℕ) (t u v : T) (e : E) → Settles s t u → s.wants u ≡ Calls e → FindsFull s rules count t v → s.wants v ≡ Calls e → u ≡ v
@@ -42,7 +42,7 @@ module _ {X T E V A W : Type 0} (s : System X T E V A) (rules : TryRules X E W) 
       let leave : s.wants b.settled ≡ Calls laws.leave = ap s.wants same ∙ (wants ∙ (sym wants' ∙ leaves)) in
       absurd (laws.leave_fills b.settled b.may leave)
 
-  ready_once : (count : ℕ) (t u v : T) (e : E) → Settles s t u ⊎ FindsFull s rules count t u → Settles s t v ⊎ FindsFull s rules count t v → s.wants u ≡ Calls e → s.wants v ≡ Calls e → u ≡ v
+  pub ready_once : (count : ℕ) (t u v : T) (e : E) → Settles s t u ⊎ FindsFull s rules count t u → Settles s t v ⊎ FindsFull s rules count t v → s.wants u ≡ Calls e → s.wants v ≡ Calls e → u ≡ v
   ready_once count t u v e (inl a) (inl b) wu wv = settles_once t u v a b
   ready_once count t u v e (inl a) (inr b) wu wv = full_apart count t u v e a wu b wv
   ready_once count t u v e (inr a) (inl b) wu wv = sym (full_apart count t v u e b wv a wu)

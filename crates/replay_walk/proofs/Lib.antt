@@ -1,0 +1,5 @@
+pub mod Ending
+pub mod Settled
+pub mod Taken
+pub mod Refused
+pub mod Along

@@ -1,5 +1,5 @@
 -- How far a walk along a recorded log has come, and what it is to take one more entry.
-use Rattle.std.specs.Prelude.{ℕ, ◌≡◌, ◌≢◌, ◌×◌, ◌⊎◌, false, List, length, Option, Some}
+use Rattle.std.specs.Prelude.{ℕ, ◌≡◌, ◌≢◌, ◌⊎◌, false, List, length, Option, Some}
 use Rattle.std.specs.List.{slice_get}
 use Rattle.types.specs.declared.value.ValType.{ValType}
 use Rattle.types.specs.declared.value.Value.{Value}

@@ -1,9 +1,9 @@
 //! A walk along a recorded log.
-ghost use Rattle.std.specs.Prelude.{◌≡◌, ◌⊎◌, ◌×◌, ℕ, true, false, List, [], length, Option, Some, None, All};
+ghost use Rattle.std.specs.Prelude.{◌≡◌, ◌<◌, ◌≤◌, ◌⊎◌, ℕ, true, false, List, [], length, Option, Some, None, All};
 ghost use Rattle.types.specs.declared.value.Value.{Value};
 ghost use Rattle.types.specs.declared.event.Event.TheVariants as events;
 ghost use Rattle.types.specs.declared.event.Question.TheVariants.{Leave};
-ghost use Rattle.types.specs.declared.event.Reply.TheVariants as replies;
+ghost use Rattle.types.specs.declared.event.Reply.TheVariants.{Done};
 ghost use Rattle.shared_memory.specs.Events.{IsEvent, is_exempt};
 ghost use Rattle.schedule.specs.System.{Act.Made, Act.Heard};
 ghost use Rattle.scheduled.specs.Shared.{act_of};
@@ -11,6 +11,7 @@ ghost use Rattle.record_text.specs.Conditions.{IsEntry};
 ghost use Rattle.replay_steps.specs.Standing.{Standing, IsStanding, IsAnswered};
 ghost use Rattle.replay_walk.specs.Walked.{Run, HasThreads, HasTaken, IsRefused, IsReady, HasWalked, IsFirstMisfit};
 
+use crate::assumed::{is_going, leave, make};
 use one_memory::OneMemory;
 use replay_steps::{Stage, is_same_event, settle_at};
 use takes_turns::{TakesTurns, Turn};
@@ -37,5 +38,102 @@ impl<T: TakesTurns> Walk<T> {
             memory,
             stage: Stage::new(),
         }
+    }
+
+    /// Takes the entry that stands behind `at` others, if it fits.
+    fn take(&mut self, entry: &Entry, at: usize, limit: u32, fuel: u64) -> bool
+        requires entry { IsEntry entry.now }
+        requires standing { (s : Standing) × IsStanding T.stands T.begins T.program T.fuel s self.old.threads.items self.old.stage.queue self.old.stage.started self.old.stage.ends × (s.memory ≡ self.old.memory) × (s.budget ≡ fuel) × HasThreads s.program (length self.old.threads.items) }
+        ensures count { length self.new.threads.items ≡ length self.old.threads.items }
+        ensures taken { result ≡ true → (s : Standing) → IsStanding T.stands T.begins T.program T.fuel s self.old.threads.items self.old.stage.queue self.old.stage.started self.old.stage.ends → s.memory ≡ self.old.memory → s.budget ≡ fuel → HasThreads s.program (length self.old.threads.items) → HasTaken T.stands T.begins T.program T.fuel s limit at entry.now.thread (act_of entry.now) self.new.threads.items self.new.memory self.new.stage.queue self.new.stage.started self.new.stage.ends }
+        ensures refused { result ≡ false → (s : Standing) → IsStanding T.stands T.begins T.program T.fuel s self.old.threads.items self.old.stage.queue self.old.stage.started self.old.stage.ends → s.memory ≡ self.old.memory → s.budget ≡ fuel → HasThreads s.program (length self.old.threads.items) → IsRefused s limit at entry.now.thread (act_of entry.now) }
+    {
+        match entry.event {
+            Event::Told(answer) => self.take_told(entry.thread, answer, at, limit),
+            Event::Ask(Question::Leave) => self.take_leave(entry.thread, at, limit, fuel),
+            event => self.take_event(entry.thread, event, entry.reply, at, limit, fuel),
+        }
+    }
+
+    /// A leave: the thread has ended, or it wants another event and the log is full.
+    fn take_leave(&mut self, n: u32, at: usize, limit: u32, fuel: u64) -> bool
+        requires standing { (s : Standing) × IsStanding T.stands T.begins T.program T.fuel s self.old.threads.items self.old.stage.queue self.old.stage.started self.old.stage.ends × (s.memory ≡ self.old.memory) × (s.budget ≡ fuel) }
+        ensures count { length self.new.threads.items ≡ length self.old.threads.items }
+        ensures taken { result ≡ true → (s : Standing) → IsStanding T.stands T.begins T.program T.fuel s self.old.threads.items self.old.stage.queue self.old.stage.started self.old.stage.ends → s.memory ≡ self.old.memory → HasTaken T.stands T.begins T.program T.fuel s limit at n (Made (events.Ask Leave) Done) self.new.threads.items self.new.memory self.new.stage.queue self.new.stage.started self.new.stage.ends }
+        ensures refused { result ≡ false → (s : Standing) → IsStanding T.stands T.begins T.program T.fuel s self.old.threads.items self.old.stage.queue self.old.stage.started self.old.stage.ends → IsRefused s limit at n (Made (events.Ask Leave) Done) }
+    {
+        if !is_going(&self.stage, n) {
+            return false;
+        }
+        let outcome = match settle_at(&mut self.threads, n as usize, fuel) {
+            Turn::Ended(outcome) => outcome,
+            Turn::Wants(_) if at >= limit as usize => Outcome::Stop(Stop::RecordFull),
+            _ => return false,
+        };
+        leave(&mut self.stage, &mut self.threads, n, outcome);
+        true
+    }
+
+    /// Another event, for which the log has room: the thread wants this very one, and the memory gives this reply.
+    fn take_event(
+        &mut self,
+        n: u32,
+        event: Event,
+        reply: Reply,
+        at: usize,
+        limit: u32,
+        fuel: u64,
+    ) -> bool
+        requires event { IsEvent event }
+        requires kind { is_exempt event ≡ false }
+        requires reply { IsAnswered reply }
+        requires standing { (s : Standing) × IsStanding T.stands T.begins T.program T.fuel s self.old.threads.items self.old.stage.queue self.old.stage.started self.old.stage.ends × (s.memory ≡ self.old.memory) × (s.budget ≡ fuel) × HasThreads s.program (length self.old.threads.items) }
+        ensures count { length self.new.threads.items ≡ length self.old.threads.items }
+        ensures taken { result ≡ true → (s : Standing) → IsStanding T.stands T.begins T.program T.fuel s self.old.threads.items self.old.stage.queue self.old.stage.started self.old.stage.ends → s.memory ≡ self.old.memory → HasTaken T.stands T.begins T.program T.fuel s limit at n (Made event reply) self.new.threads.items self.new.memory self.new.stage.queue self.new.stage.started self.new.stage.ends }
+        ensures refused { result ≡ false → (s : Standing) → IsStanding T.stands T.begins T.program T.fuel s self.old.threads.items self.old.stage.queue self.old.stage.started self.old.stage.ends → s.memory ≡ self.old.memory → IsRefused s limit at n (Made event reply) }
+    {
+        if at >= limit as usize || !is_going(&self.stage, n) {
+            return false;
+        }
+        let Turn::Wants(wanted) = settle_at(&mut self.threads, n as usize, fuel) else {
+            return false;
+        };
+        if !is_same_event(wanted, event) {
+            return false;
+        }
+        make(
+            &mut self.stage,
+            &mut self.threads,
+            &mut self.memory,
+            n,
+            event,
+            reply,
+        )
+    }
+
+    /// An answer heard, which is the one that is due.
+    fn take_told(&mut self, n: u32, answer: Answer, at: usize, limit: u32) -> bool
+        requires standing { (s : Standing) × IsStanding T.stands T.begins T.program T.fuel s self.old.threads.items self.old.stage.queue self.old.stage.started self.old.stage.ends × (s.memory ≡ self.old.memory) }
+        ensures count { length self.new.threads.items ≡ length self.old.threads.items }
+        ensures taken { result ≡ true → (s : Standing) → IsStanding T.stands T.begins T.program T.fuel s self.old.threads.items self.old.stage.queue self.old.stage.started self.old.stage.ends → s.memory ≡ self.old.memory → HasTaken T.stands T.begins T.program T.fuel s limit at n (Heard answer) self.new.threads.items self.new.memory self.new.stage.queue self.new.stage.started self.new.stage.ends }
+        ensures refused { result ≡ false → (s : Standing) → IsStanding T.stands T.begins T.program T.fuel s self.old.threads.items self.old.stage.queue self.old.stage.started self.old.stage.ends → IsRefused s limit at n (Heard answer) }
+    {
+        self.stage.tell(&mut self.threads, n, answer)
+    }
+
+    /// Walks along a log from its beginning, to the first entry that doesn't fit, and gives that one's place, counted
+    /// from 0; or to the end of the log.
+    pub fn along(&mut self, log: &[Entry], limit: u32, fuel: u64) -> Option<usize>
+        requires entries { All IsEntry log.now }
+        requires new { (r : Run) × HasWalked T.stands T.begins T.program T.fuel r [] self.old.threads.items self.old.memory self.old.stage.queue self.old.stage.started self.old.stage.ends × (r.budget ≡ fuel) × (r.limit ≡ limit) }
+        ensures whole { result ≡ None → (r : Run) → HasWalked T.stands T.begins T.program T.fuel r [] self.old.threads.items self.old.memory self.old.stage.queue self.old.stage.started self.old.stage.ends → r.budget ≡ fuel → r.limit ≡ limit → HasWalked T.stands T.begins T.program T.fuel r log.now self.new.threads.items self.new.memory self.new.stage.queue self.new.stage.started self.new.stage.ends }
+        ensures misfit { (k : ℕ) → result ≡ Some k → (r : Run) → HasWalked T.stands T.begins T.program T.fuel r [] self.old.threads.items self.old.memory self.old.stage.queue self.old.stage.started self.old.stage.ends → r.budget ≡ fuel → r.limit ≡ limit → IsFirstMisfit r log.now k }
+    {
+        for (at, entry) in log.iter().enumerate() {
+            if !self.take(entry, at, limit, fuel) {
+                return Some(at);
+            }
+        }
+        None
     }
 }

@@ -1,0 +1,69 @@
+-- Where a walk stands after a thread's turns of its own.
+use Rattle.std.proofs.Common.{◌≡◌, ◌≢◌, ℕ, ◌<◌, true, List, length, Option, Some, None, sym, ◌∙◌, ap, subst, get_or, slice_get}
+use Rattle.std.proofs.lemmas.Option.{slice_get_within}
+use Rattle.types.specs.declared.value.ValType.{ValType}
+use Rattle.types.specs.declared.value.Value.{Value}
+use Rattle.types.specs.declared.outcome.Outcome.{Outcome}
+use Rattle.shared_memory.specs.WaitQueue.{WaitQueue, is_alive}
+use Rattle.schedule.specs.Histories.{Place.Free}
+use Rattle.machine.specs.Program.{Program}
+use Rattle.machine.specs.Config.{Config}
+use Rattle.takes_turns.specs.Turns.{Running}
+use Rattle.takes_turns.specs.declared.turn.Turn.{Turn}
+use Rattle.replay_rules.specs.Walk.{Settles}
+use Rattle.recorded_runs.specs.Recorded.{spawned_in}
+use Rattle.replay_steps.specs.Standing.{IsHere, Says, SettlesAs, SettlesAt, RunsAt, StandsAt, Standing, IsStanding, IsSettledOn, system_at}
+use Rattle.replay_steps.proofs.Told.{slice_get-set_same, slice_get-set_other}
+use Rattle.replay_walk.proofs.Ending.{rests}
+
+module _ {S : Type 0} (stands : S → Running → Type 0) (begins : S → List ValType → (List Value → Config) → Type 0) (program : S → Program) (fuel : S → ℕ) where
+  module _ (s : Standing) (threads : List S) (queue : WaitQueue) (begun : ℕ) (ends : List (Option Outcome)) (st : IsStanding stands begins program fuel s threads queue begun ends)
+      (n : ℕ) (free : s.places n ≡ Free) (going : get_or ends n None ≡ None) where
+    runs : RunsAt stands begins program fuel (slice_get threads n) (s.state.threads n) × (is_alive queue n ≡ true)
+    runs =
+        subst (λ (o : Option Outcome). StandsAt stands begins program fuel s.program s.worker Free (s.state.threads n) (slice_get threads n) o (is_alive queue n)) going
+        (subst (λ p. StandsAt stands begins program fuel s.program s.worker p (s.state.threads n) (slice_get threads n) (get_or ends n None) (is_alive queue n)) free (st.each n))
+
+    -- it is there, with its budget
+    pub within : n < length threads
+    within = slice_get_within threads n (runs.0).thread (runs.0).at
+
+    pub ready : (budget : ℕ) → s.budget ≡ budget → (x : S) → slice_get threads n ≡ Some x → (fuel x ≡ budget) × (t : Running) × stands x t × IsHere t
+    ready budget same x at =
+        let r = runs.0 in
+        let is : r.thread ≡ x = cc (at, r.at) in
+        ((st.alike n x at).1 ∙ same, s.state.threads n, subst (λ y. stands y (s.state.threads n)) is r.standing, r.here)
+
+    -- it settled, and said what it wants
+    pub record IsSettled (turn : Turn) (after : List S) : Type 0 where
+      pub thread : Running
+      pub on : IsSettledOn stands begins program fuel s after queue begun ends n thread
+      pub settles : Settles (system_at s) (s.state.threads n) thread
+      pub says : Says s.program thread turn
+
+    pub settled : (turn : Turn) (after : List S) → ((x : S) → slice_get threads n ≡ Some x → SettlesAt stands program fuel x turn threads n after) → IsSettled turn after
+    settled turn after settles =
+        let r = runs.0 in
+        let now = settles r.thread r.at in
+        let x = (now.replaced).now in
+        let alike = st.alike n r.thread r.at in
+        let last : SettlesAs s.program (s.state.threads n) turn (stands x) =
+        subst (λ (p : Program). SettlesAs p (s.state.threads n) turn (stands x)) alike.0 (now.settled (s.state.threads n) r.standing r.here) in
+        record {
+          thread = last.settled;
+          on = record {
+            before = threads;
+            standing = st;
+            thread = x;
+            at = ap (λ l. slice_get l n) (now.replaced).list ∙ slice_get-set_same threads n x (slice_get_within threads n r.thread r.at);
+            stood = last.stands;
+            here = last.here;
+            alike = ((now.replaced).same_program ∙ alike.0, (now.replaced).same_fuel ∙ alike.1);
+            others = λ m h. ap (λ l. slice_get l m) (now.replaced).list ∙ slice_get-set_other threads n m x h;
+            alive = runs.1;
+            going = going;
+            free = free;
+          };
+          settles = record { turns = last.turns; comes = last.comes (spawned_in s.worker) s.budget; rests = rests s.program last.settled turn last.here last.says };
+          says = last.says;
+        }

@@ -1,0 +1,86 @@
+-- A walk that takes an entry.
+use Rattle.std.proofs.Common.{◌≡◌, ℕ, ◌<◌, ◌≤◌, true, false, List, length, Option, Some, None, refl, sym, ◌∙◌, ap, subst, ◌⊎◌, inl, inr, arith}
+use Rattle.types.specs.declared.value.ValType.{ValType}
+use Rattle.types.specs.declared.value.Value.{Value}
+use Rattle.types.specs.declared.event.Event.{Event}
+use Rattle.types.specs.declared.event.Event.TheVariants as events
+use Rattle.types.specs.declared.event.Question.TheVariants.{Spawn, Leave}
+use Rattle.types.specs.declared.event.Reply.{Reply}
+use Rattle.types.specs.declared.event.Reply.TheVariants.{Done}
+use Rattle.types.specs.declared.event.Answer.{Answer}
+use Rattle.types.specs.declared.outcome.Outcome.{Outcome}
+use Rattle.shared_memory.specs.Memory.{Memory, reply_of, state_after}
+use Rattle.shared_memory.specs.Events.{is_exempt}
+use Rattle.shared_memory.specs.WaitQueue.{WaitQueue}
+use Rattle.schedule.specs.System.{Want.Calls, Act.Made, Act.Heard, put}
+use Rattle.schedule.specs.Histories.{Place, Place.Free, next_places}
+use Rattle.schedule.specs.Machine.{thread_full}
+use Rattle.machine.specs.Program.{Program}
+use Rattle.machine.specs.Config.{Config}
+use Rattle.scheduled.specs.Threads.{machine_of}
+use Rattle.scheduled.proofs.Asking.{wants_spawn}
+use Rattle.takes_turns.specs.Turns.{Running, outcome_of, wants_of}
+use Rattle.takes_turns.specs.declared.turn.Turn.{Turn}
+use Rattle.replay_rules.specs.Walk.{Settles, FindsFull, CanMake, after_made}
+use Rattle.replay_steps.specs.Standing.{Standing, IsStanding, IsSettledOn, IsToldOn, system_at, made_by}
+use Rattle.replay_steps.proofs.Events.{IsMade, step}
+use Rattle.replay_steps.proofs.Made.{is_free, made_kind}
+use Rattle.replay_walk.specs.Walked.{HasTaken, HasThreads, rules_of}
+use Rattle.replay_walk.proofs.Ending.{goes_on}
+
+-- a program of one thread spawns none
+pub room_for : (p : Program) (count : ℕ) (t : Running) (arg : ℕ) → HasThreads p count → wants_of p t ≡ Calls (events.Ask (Spawn arg)) → count ≡ 16
+room_for p count t arg (inl all) wants = all
+room_for p count t arg (inr alone) wants = let some : 0 < p.imported = wants_spawn p t arg wants in let none : p.imported ≡ 0 = alone.0 in absurd (omega arith)
+
+module _ {S : Type 0} (stands : S → Running → Type 0) (begins : S → List ValType → (List Value → Config) → Type 0) (program : S → Program) (fuel : S → ℕ) where
+  -- an answer
+  pub took_told : (s : Standing) (limit count n : ℕ) (answer : Answer) (threads : List S) (memory : Memory) (queue : WaitQueue) (begun : ℕ) (ends : List (Option Outcome)) → s.memory ≡ memory
+      → IsToldOn stands begins program fuel s n answer threads queue begun ends → HasTaken stands begins program fuel s limit count n (Heard answer) threads memory queue begun ends
+  took_told s limit count n answer threads memory queue begun ends same told = record {
+    state = s.state;
+    places = put s.places n Free;
+    walks = (told.due, (refl, refl));
+    standing = subst (λ (m : Memory). IsStanding stands begins program fuel (record s { memory = m; places = put s.places n Free }) threads queue begun ends) same told.standing;
+  }
+
+  module _ (s : Standing) (limit count n : ℕ) (e : Event) (v : Reply) (u : Running) where
+    -- an event
+    pub took : (can : CanMake (system_at s) (rules_of limit) s.state s.places count n e v u) (threads : List S) (memory : Memory) (queue : WaitQueue) (begun : ℕ) (ends : List (Option Outcome))
+        → state_after s.memory e ≡ memory → IsStanding stands begins program fuel (made_by s n e v u) threads queue begun ends
+        → HasTaken stands begins program fuel s limit count n (Made e v) threads memory queue begun ends
+    took can threads memory queue begun ends same standing = record {
+      state = after_made (system_at s) s.state n e u;
+      places = next_places (system_at s) (s.state.shared) s.places n (Made e v);
+      walks = (u, can, (refl, refl));
+      standing = subst (λ (m : Memory). IsStanding stands begins program fuel (record (made_by s n e v u) { memory = m }) threads queue begun ends) same standing;
+    }
+
+  module _ (s : Standing) (threads : List S) (queue : WaitQueue) (begun : ℕ) (ends : List (Option Outcome)) (n : ℕ) (t : Running)
+      (on : IsSettledOn stands begins program fuel s threads queue begun ends n t) (settles : Settles (system_at s) (s.state.threads n) t) (limit count : ℕ) where
+    -- the thread makes it
+    can_make : (e : Event) (v : Reply) (u : Running) → IsMade e → v ≡ reply_of s.memory e
+        → Settles (system_at s) (s.state.threads n) u ⊎ FindsFull (system_at s) (rules_of limit) count (s.state.threads n) u
+        → wants_of s.program u ≡ Calls e → (is_exempt e ≡ false → count < limit)
+        → CanMake (system_at s) (rules_of limit) s.state s.places count n e v u
+    can_make e v u made reply ready wants room = record {
+      ready = ready;
+      wants = wants;
+      free = on.free;
+      legal = (step stands begins program fuel s on.before queue begun ends on.standing n e v made (is_free stands begins program fuel s threads queue begun ends n t on) reply).legal;
+      room = room;
+    }
+
+    pub can_event : (e : Event) (v : Reply) → is_exempt e ≡ false → v ≡ reply_of s.memory e → wants_of s.program t ≡ Calls e → count < limit
+        → CanMake (system_at s) (rules_of limit) s.state s.places count n e v t
+    can_event e v plain reply wants room = can_make e v t (made_kind e plain) reply (inl settles) wants (λ h. room)
+
+    pub can_leave : wants_of s.program t ≡ Calls (events.Ask Leave) → CanMake (system_at s) (rules_of limit) s.state s.places count n (events.Ask Leave) Done t
+    can_leave wants = can_make (events.Ask Leave) Done t tt refl (inl settles) wants (λ h. absurd (cc h))
+
+    -- at the full log it leaves in place of another event
+    pub can_fill : (e : Event) → wants_of s.program t ≡ Calls e → outcome_of t ≡ None → limit ≤ count
+        → CanMake (system_at s) (rules_of limit) s.state s.places count n (events.Ask Leave) Done (thread_full (machine_of s.program) t)
+    can_fill e wants none full =
+        let g = goes_on s.program t e on.here none wants in
+        can_make (events.Ask Leave) Done (thread_full (machine_of s.program) t) tt refl (inr record { settled = t; settles = settles; may = g.may; reached = full; filled = refl }) g.leaves (λ h. absurd (cc h))
