@@ -1,10 +1,8 @@
 -- How every run of a module begins, and the laws of its threads.
-use Rattle.std.proofs.Common.{◌≡◌, ℕ, refl, sym, ◌∙◌, ap, subst}
-use Rattle.types.specs.declared.event.Event.{Event}
-use Rattle.types.specs.declared.event.Reply.{Reply}
+use Rattle.std.proofs.Common.{◌≡◌, ℕ, sym, ◌∙◌, ap, subst}
 use Rattle.types.specs.declared.event.Answer.{Answer}
 use Rattle.types.specs.declared.outcome.Outcome.{Outcome}
-use Rattle.schedule.specs.System.{Want.Gone, put}
+use Rattle.schedule.specs.System.{Want.Gone}
 use Rattle.schedule.specs.ThreadRun.{Laws}
 use Rattle.schedule.specs.Histories.{Place, Place.Unstarted, Place.Free, IsClosed}
 use Rattle.schedule.specs.Machine.{Thread, Thread.Absent, Thread.Runs, thread_wants}

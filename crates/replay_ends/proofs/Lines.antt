@@ -10,8 +10,8 @@ use Rattle.types.specs.declared.outcome.Outcome.{Outcome}
 use Rattle.types.specs.declared.outcome.ThreadReport.{ThreadReport}
 use Rattle.shared_memory.specs.Memory.{pages}
 use Rattle.shared_memory.specs.WaitQueue.{WaitQueue, is_alive, is_asleep, answer_due, next_id, has_open_question}
-use Rattle.schedule.specs.Histories.{Place, Place.Unstarted, Place.Free, Place.Open, Place.Due}
-use Rattle.schedule.specs.Machine.{Thread.Absent, Thread.Runs, Thread.Over, Thread.Leaves, Thread.Left}
+use Rattle.schedule.specs.Histories.{Place, Place.Unstarted, Place.Free, Place.Open}
+use Rattle.schedule.specs.Machine.{Thread.Left}
 use Rattle.machine.specs.Program.{Program}
 use Rattle.machine.specs.Config.{Config}
 use Rattle.scheduled.specs.Shared.{Shared}
@@ -19,7 +19,7 @@ use Rattle.one_schedule.proofs.Places.{place_of, place_due, place_unstarted, sta
 use Rattle.takes_turns.specs.Turns.{Running, left_of}
 use Rattle.record_text.specs.declared.parts.RecordParts.{RecordParts}
 use Rattle.recorded_runs.specs.Recorded.{HasLeft, EndAgrees, LineAgrees}
-use Rattle.replay_steps.specs.Standing.{IsHere, StandsAt, Standing, IsStanding}
+use Rattle.replay_steps.specs.Standing.{IsHere, StandsAt, Standing}
 use Rattle.replay_ends.specs.Ends.{Ends}
 
 -- a free thread has no open question, and who has none is free or wasn't started
@@ -109,7 +109,7 @@ module _ {S : Type 0} (stands : S → Running → Type 0) (begins : S → List V
                 let same : a.2.thread ≡ x = cc (is, a.2.at) in
                 let all : report.spent + left_of a.2.last ≡ fuel x = spends a.2.last (subst (λ y. stands y a.2.last) same a.2.standing) in
                 (a.0, a.1, omega (arith, all, a.2.same, (e.standing.alike m x is).1, e.budget), e.standing.places m ∙ free)
-              )
+                )
           ]
 
     -- the pages line

@@ -1,14 +1,14 @@
 -- The end of a walk, and every schedule that makes its log.
-use Rattle.std.proofs.Common.{◌≡◌, ℕ, suc, ◌<◌, ◌≤◌, false, List, length, take, drop, ◌++◌, Option, Some, None, refl, sym, ◌∙◌, ap, subst}
+use Rattle.std.proofs.Common.{◌≡◌, ℕ, suc, false, List, drop, Option, Some, None, sym, ◌∙◌, ap, subst}
 use Rattle.std.proofs.lemmas.List.{take-append-drop}
 use Rattle.std.specs.List.{slice_get}
 use Rattle.types.specs.declared.event.Answer.{Answer}
 use Rattle.types.specs.declared.outcome.ThreadReport.{ThreadReport}
-use Rattle.shared_memory.specs.Memory.{Memory, pages}
+use Rattle.shared_memory.specs.Memory.{pages}
 use Rattle.schedule.specs.System.{Want.Gone, Mark}
 use Rattle.schedule.specs.System as systems
 use Rattle.schedule.specs.Histories.{Place}
-use Rattle.schedule.specs.Machine.{Thread.Left, thread_wants}
+use Rattle.schedule.specs.Machine.{thread_wants}
 use Rattle.scheduled.specs.Shared.{Shared, try_rules}
 use Rattle.scheduled.specs.Threads.{machine_of}
 use Rattle.one_schedule.specs.Runs.{Start, system_of, first_state, first_places, as_acts}
@@ -17,7 +17,7 @@ use Rattle.record_text.specs.declared.parts.RecordParts.{RecordParts}
 use Rattle.replay_rules.specs.Logs as logs
 use Rattle.replay_rules.specs.Theorems.{IsMadeBy}
 use Rattle.replay_rules.proofs.Walking.{walks_are_made, ends_are_the_same}
-use Rattle.recorded_runs.specs.Recorded.{HasLeft, EndAgrees, LineAgrees, MakesLog, state_along, last_places, IsRecordedRun, IsFirstMisfit, IsFirstWrongEnd}
+use Rattle.recorded_runs.specs.Recorded.{EndAgrees, LineAgrees, MakesLog, state_along, last_places, IsRecordedRun, IsFirstWrongEnd}
 use Rattle.replay_ends.specs.Ends.{AllAgree, IsFirstWrong}
 use Rattle.replay_ends.specs.Verdicts.{WalksAlong, AgreeingRecordsAreOfRuns, WrongEndsAreOfNoRun, RunsEndInOneMemory, NoRunHasAWrongEnd, NoRunHasAMisfit}
 use Rattle.replay_ends.proofs.Beginning.{laws_of, begins}

@@ -1,5 +1,5 @@
 //! The lines behind the log, one by one.
-ghost use Rattle.std.specs.Prelude.{◌≡◌, true, false};
+ghost use Rattle.std.specs.Prelude.{◌≡◌, ◌≤◌, true, false, length};
 ghost use Rattle.shared_memory.specs.Memory.{pages};
 ghost use Rattle.recorded_runs.specs.Recorded.{HasLeft};
 ghost use Rattle.record_text.specs.declared.parts.RecordParts.{RecordParts};
@@ -9,7 +9,7 @@ ghost use Rattle.replay_ends.specs.Ends.{Ends, IsVerdict};
 use record_text::RecordParts;
 use replay_steps::Stage;
 use takes_turns::TakesTurns;
-use types::{Outcome, ThreadReport};
+use types::ThreadReport;
 
 /// The first of the end lines, from 0 on, that doesn't agree with where the walk came to, or the pages line behind them, if
 /// all of them do. `held` are the pages of the memory, and `parts` the record; `None` is the answer where each line agrees.
@@ -27,7 +27,7 @@ pub fn first_wrong_end<T: TakesTurns>(
             return Some(number);
         }
     }
-    if held == parts.pages && stage.started as usize <= ends.len() {
+    if is_pages_line(stage, held, parts) {
         None
     } else {
         Some(ends.len())
@@ -53,13 +53,25 @@ fn has_left<T: TakesTurns>(
     if stage.queue.has_open_question(number as u32) {
         return false;
     }
-    is_same_outcome(*outcome, report.outcome) && thread.spent() == report.spent
+    let seen = ThreadReport {
+        outcome: *outcome,
+        spent: thread.spent(),
+    };
+    is_same_report(seen, *report)
 }
 
-/// Whether two outcomes are the same.
-fn is_same_outcome(a: Outcome, b: Outcome) -> bool
+/// Whether two reports are the same.
+fn is_same_report(a: ThreadReport, b: ThreadReport) -> bool
     ensures same { result ≡ true → a ≡ b }
     ensures other { result ≡ false → a ≡ b → ⊥ }
 {
     a == b
+}
+
+/// Whether the memory has the record's pages, and no thread was started that has no end line.
+fn is_pages_line(stage: &Stage, held: u32, parts: &RecordParts) -> bool
+    ensures same { result ≡ true → (held ≡ parts.now.pages) × (stage.now.started ≤ length parts.now.ends) }
+    ensures other { result ≡ false → held ≡ parts.now.pages → stage.now.started ≤ length parts.now.ends → ⊥ }
+{
+    held == parts.pages && stage.started as usize <= parts.ends.len()
 }

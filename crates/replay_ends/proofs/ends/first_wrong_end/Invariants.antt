@@ -1,4 +1,4 @@
-use Rattle.std.proofs.Common.{◌≡◌, ◌<◌, ℕ}
+use Rattle.std.proofs.Common.{◌<◌, ℕ}
 use Rattle.recorded_runs.specs.Recorded.{LineAgrees}
 use Rattle.replay_steps.specs.Standing.{Standing}
 use Rattle.replay_ends.specs.Ends.{Ends}

@@ -1,7 +1,7 @@
-use Rattle.std.proofs.Common.{◌≡◌, ◌+◌, true, false, Some, None, sym, ◌∙◌, ap, subst, get_or, slice_get}
-use Rattle.std.proofs.lemmas.Bool.{both_ways, eqb-true, eq-eqb}
+use Rattle.std.proofs.Common.{◌≡◌, ◌+◌, Some, None, sym, ◌∙◌, ap, subst, slice_get}
+use Rattle.std.proofs.lemmas.Bool.{both_ways}
 use Rattle.std.proofs.lemmas.Option.{slice_get-get_or}
-use Rattle.shared_memory.specs.WaitQueue.{has_open_question}
+use Rattle.types.specs.declared.outcome.ThreadReport.{ThreadReport}
 use Rattle.takes_turns.specs.Turns.{left_of}
 use Rattle.replay_ends.proofs.Lines.{seen, left}
 use Rattle.replay_ends.proofs.ends.has_left.Goals as goal
@@ -12,24 +12,25 @@ returns-then-has_open_question-clause-other g c = λ no s r e h.
     c.args.number c.args.report.now h in
     both_ways c.has_open_question.result (c.has_open_question.ensures ∙ is.closed) c.if-has_open_question.true
 
-pub returns-then-is_same_outcome-clause-left : goal.returns-then-is_same_outcome-clause-left
-returns-then-is_same_outcome-clause-left g c = λ yes s r e.
+pub returns-clause-left : goal.returns-clause-left
+returns-clause-left g c = λ yes s r e.
     let thread = c.in-Some.ensures.lookup.3 in
     let ended = c.in-Some-Some.ensures.lookup.3 in
-    let spent : c.spent.result ≡ c.args.report.now.spent = eqb-true c.spent.result c.args.report.now.spent yes in
-    left g.T.TakesTurns.stands g.T.TakesTurns.begins g.T.TakesTurns.program g.T.TakesTurns.fuel s c.args.threads.now c.args.stage.now.queue c.args.stage.now.started c.args.stage.now.ends r e
-    c.args.number c.args.report.now
+    let same = c.is_same_report.ensures.same yes in
+    left g.T.TakesTurns.stands g.T.TakesTurns.begins g.T.TakesTurns.program g.T.TakesTurns.fuel s c.args.threads.now c.args.stage.now.queue c.args.stage.now.started c.args.stage.now.ends r e c.args.number c.args.report.now
     c.in-Some.thread.now (slice_get-get_or c.args.threads.now c.args.number c.in-Some.thread.now thread.0 ∙ ap (λ z. Some z) (sym (thread.1 c.in-Some.thread.now)))
-    (sym (ended.1 None) ∙ (c.in-Some-Some.field-0-is ∙ ap (λ z. Some z) (c.is_same_outcome.ensures.same c.if-is_same_outcome.true)))
+    (sym (ended.1 None) ∙ (c.in-Some-Some.field-0-is ∙ ap (λ (z : ThreadReport). Some z.outcome) same))
     (sym c.has_open_question.ensures ∙ c.if-has_open_question.false)
-    (λ t stands. ap (λ n. n + left_of t) (sym spent) ∙ c.spent.ensures t stands)
+    (λ t stands. ap (λ (z : ThreadReport). z.spent + left_of t) (sym same) ∙ c.spent.ensures t stands)
 
-pub returns-then-is_same_outcome-clause-other : goal.returns-then-is_same_outcome-clause-other
-returns-then-is_same_outcome-clause-other g c = λ no s r e h.
+pub returns-clause-other : goal.returns-clause-other
+returns-clause-other g c = λ no s r e h.
     let thread = c.in-Some.ensures.lookup.3 in
-    let is = seen g.T.TakesTurns.stands g.T.TakesTurns.begins g.T.TakesTurns.program g.T.TakesTurns.fuel s c.args.threads.now c.args.stage.now.queue c.args.stage.now.started c.args.stage.now.ends r e
-    c.args.number c.args.report.now h in
+    let ended = c.in-Some-Some.ensures.lookup.3 in
+    let is = seen g.T.TakesTurns.stands g.T.TakesTurns.begins g.T.TakesTurns.program g.T.TakesTurns.fuel s c.args.threads.now c.args.stage.now.queue c.args.stage.now.started c.args.stage.now.ends r e c.args.number c.args.report.now h in
     let there : slice_get c.args.threads.now c.args.number ≡ Some c.in-Some.thread.now = slice_get-get_or c.args.threads.now c.args.number c.in-Some.thread.now thread.0 ∙ ap (λ z. Some z) (sym (thread.1 c.in-Some.thread.now)) in
     let same : c.in-Some.thread.now ≡ is.thread = cc (there, is.at) in
     let spent : c.spent.result ≡ c.args.report.now.spent = is.spent c.spent.result (λ t stands. c.spent.ensures t (subst (λ x. g.T.TakesTurns.stands x t) (sym same) stands) ∙ ap g.T.TakesTurns.fuel same) in
-    both_ways _ no (eq-eqb c.spent.result c.args.report.now.spent spent)
+    let is_some : Some c.in-Some-Some.outcome ≡ Some c.args.report.now.outcome = sym c.in-Some-Some.field-0-is ∙ (ended.1 None ∙ is.outcome) in
+    let outcome : c.in-Some-Some.outcome ≡ c.args.report.now.outcome = cc is_some in
+    c.is_same_report.ensures.other no (λ i. record { outcome = outcome i; spent = spent i })
