@@ -22,6 +22,7 @@ use Rattle.scheduled.specs.Shared.{act_of}
 use Rattle.one_schedule.specs.Runs.{Start, system_of, first_state, first_places, as_acts, acted}
 use Rattle.takes_turns.specs.Turns.{Running, wants_of}
 use Rattle.replay_rules.specs.Walk.{Walks, WalksOn, CanMake, CanTake, after_made}
+use Rattle.replay_rules.specs.Logs as logs
 use Rattle.replay_rules.specs.Theorems.{IsBeginning}
 use Rattle.replay_rules.proofs.Walking.{stops_are_misfits}
 use Rattle.replay_steps.specs.Standing.{IsStanding}
@@ -62,12 +63,15 @@ as_acts-length [] = refl
 as_acts-length (x ∷ xs) = ap (λ k. suc k) (as_acts-length xs)
 
 -- the beginning
+not_unstarted : ◌≡◌ {A = Place Answer} Free Unstarted → ⊥
+not_unstarted h = cc h
+
 beginning : (r : Run) → IsBeginning (system_of (start r)) (first_state (start r)) first_places
 beginning r = record {
   closed = at_each 0 (λ m. IsClosed (first_places m)) (subst IsClosed (sym (put-same (λ (m : ℕ). Unstarted) 0 Free)) tt)
       (λ m h. subst IsClosed (sym (put-other (λ (m : ℕ). Unstarted) 0 Free m h)) tt);
   idle = at_each 0 (λ m. first_places m ≡ Unstarted → wants_of r.program ((first_state (start r)).threads m) ≡ Gone)
-      (λ is. absurd (cc (is, put-same (λ (m : ℕ). Unstarted) 0 Free)))
+      (λ is. absurd (not_unstarted (sym (put-same {B = Place Answer} (λ (m : ℕ). Unstarted) 0 Free) ∙ is)))
       (λ m h is. ap (wants_of r.program) (put-other (λ (m : ℕ). Absent) 0 (Runs (At r.main) r.budget) m h));
 }
 
@@ -98,4 +102,5 @@ module _ {S : Type 0} (stands : S → Running → Type 0) (begins : S → List V
         let stops = stops_are_misfits _ _ _ _ _ _ (system_of (start r)) (rules_of r.limit) (laws_at (standing_in r memory walked.state walked.places)) (first_state (start r)) first_places (beginning r)
         (as_acts log) (as_acts rest) (acted e) walked.state walked.places walked.walks
         (subst (λ c. CanTake (system_of (start r)) (rules_of r.limit) walked.state walked.places c e.thread (act_of e) → ⊥) (sym same) refused) in
-        ?
+        subst (λ l. logs.IsFirstMisfit (system_of (start r)) (rules_of r.limit) (first_state (start r)) first_places l count) (sym (ap as_acts is ∙ as_acts-append log (e ∷ rest)))
+        (subst (λ c. logs.IsFirstMisfit (system_of (start r)) (rules_of r.limit) (first_state (start r)) first_places (as_acts log ++ acted e ∷ as_acts rest) c) same stops)

@@ -3,3 +3,4 @@ pub mod Settled
 pub mod Taken
 pub mod Refused
 pub mod Along
+pub mod Begin

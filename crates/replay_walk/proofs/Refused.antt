@@ -1,5 +1,5 @@
 -- Entries that a walk can't take.
-use Rattle.std.proofs.Common.{◌≡◌, ℕ, zero, suc, ◌<◌, ◌≤◌, true, false, List, Option, Some, None, refl, sym, ◌∙◌, ap, subst, ◌⊎◌, inl, inr, arith, get_or, slice_get}
+use Rattle.std.proofs.Common.{◌≡◌, ℕ, zero, suc, ◌<◌, ◌≤◌, true, false, not, List, Option, Some, None, refl, sym, ◌∙◌, ap, subst, ◌⊎◌, inl, inr, arith}
 use Rattle.types.specs.declared.value.ValType.{ValType}
 use Rattle.types.specs.declared.value.Value.{Value}
 use Rattle.types.specs.declared.event.Event.{Event}
@@ -11,11 +11,12 @@ use Rattle.types.specs.declared.event.Answer.{Answer}
 use Rattle.types.specs.declared.outcome.Outcome.{Outcome}
 use Rattle.shared_memory.specs.Memory.{reply_of}
 use Rattle.shared_memory.specs.Events.{is_exempt}
-use Rattle.shared_memory.specs.WaitQueue.{WaitQueue, is_alive}
-use Rattle.schedule.specs.System.{Want.Calls, Act.Made, System}
+use Rattle.shared_memory.specs.WaitQueue.{WaitQueue}
+use Rattle.schedule.specs.System.{Want, Want.Calls, Act.Made}
 use Rattle.schedule.specs.ThreadRun.{Laws}
 use Rattle.schedule.specs.Histories.{Place.Free}
 use Rattle.schedule.specs.Machine.{Thread.Left}
+use Rattle.schedule.proofs.Budgets.{thread_calls, full_leaves}
 use Rattle.machine.specs.Program.{Program}
 use Rattle.machine.specs.Config.{Config}
 use Rattle.machine.specs.State.{State}
@@ -29,7 +30,7 @@ use Rattle.takes_turns.specs.declared.turn.Turn.TheVariants as turns
 use Rattle.replay_rules.specs.Walk.{ComesTo, Settles, FindsFull, CanMake}
 use Rattle.replay_rules.proofs.Walking.{settles_once}
 use Rattle.recorded_runs.specs.Recorded.{spawned_in}
-use Rattle.replay_steps.specs.Standing.{IsHere, Says, StandsAt, Standing, IsStanding, system_at}
+use Rattle.replay_steps.specs.Standing.{IsHere, Says, Standing, IsStanding, IsGoing, HasGone, system_at}
 use Rattle.replay_walk.specs.Walked.{IsRefused, rules_of}
 use Rattle.replay_walk.proofs.Ending.{leaving, goes_on}
 use Rattle.replay_walk.proofs.Settled.{IsSettled}
@@ -72,20 +73,19 @@ fills_wanted : (s : Standing) (t : Running) (turn : Turn) → IsHere t → Says 
 fills_wanted s t turns.Moved here says may = absurd says
 fills_wanted s t (turns.Wants e) here says may = (e, refl)
 fills_wanted s t turns.Awaits here says may = let c = (laws_at s).fill_calls t may in absurd (cc (says.1, c.1))
-fills_wanted s t (turns.Ended o) here says may = absurd ((laws_at s).leave_fills t may (leaving s.program t o here says))
+fills_wanted s t (turns.Ended o) here says may =
+    let c = thread_calls (machine_of s.program) (machine_laws s.program) (λ e. not (is_exempt e)) t may in
+    let same : events.Ask Leave ≡ c.0 = cc (leaving s.program t o here says, c.1) in absurd (cc (c.2, ap (λ e. not (is_exempt e)) same))
 
 module _ {S : Type 0} (stands : S → Running → Type 0) (begins : S → List ValType → (List Value → Config) → Type 0) (program : S → Program) (fuel : S → ℕ) where
   module _ (s : Standing) (threads : List S) (queue : WaitQueue) (begun : ℕ) (ends : List (Option Outcome)) (st : IsStanding stands begins program fuel s threads queue begun ends)
       (n limit count : ℕ) where
     -- it isn't there, or has left
-    pub refused_gone : (e : Event) (v : Reply) → (s.places n ≡ Free → (o : Outcome) × (get_or ends n None ≡ Some o)) → IsRefused s limit count n (Made e v)
+    pub refused_gone : (e : Event) (v : Reply) → (s.places n ≡ Free → HasGone (s.state.threads n)) → IsRefused s limit count n (Made e v)
     refused_gone e v gone can =
         let left = gone (can.1).free in
-        let at : StandsAt stands begins program fuel s.program s.worker Free (s.state.threads n) (slice_get threads n) (Some left.0) (is_alive queue n) =
-        subst (λ (o : Option Outcome). StandsAt stands begins program fuel s.program s.worker Free (s.state.threads n) (slice_get threads n) o (is_alive queue n)) left.1
-        (subst (λ p. StandsAt stands begins program fuel s.program s.worker p (s.state.threads n) (slice_get threads n) (get_or ends n None) (is_alive queue n)) (can.1).free (st.each n)) in
-        left_none s limit count left.0 at.0 can.0 e
-        (subst (λ (x : Running). Settles (system_at s) x can.0 ⊎ FindsFull (system_at s) (rules_of limit) count x can.0) at.1 (can.1).ready) (can.1).wants
+        left_none s limit count left.outcome left.left can.0 e
+        (subst (λ (x : Running). Settles (system_at s) x can.0 ⊎ FindsFull (system_at s) (rules_of limit) count x can.0) left.gone (can.1).ready) (can.1).wants
 
     -- the log has no room for it
     pub refused_full : (e : Event) (v : Reply) → is_exempt e ≡ false → limit ≤ count → IsRefused s limit count n (Made e v)
@@ -95,7 +95,7 @@ module _ {S : Type 0} (stands : S → Running → Type 0) (begins : S → List V
     pub refused_reply : (e : Event) (v : Reply) → (v ≡ reply_of s.memory e → ⊥) → IsRefused s limit count n (Made e v)
     refused_reply e v other can = other ((can.1).legal.1 ∙ ap (λ (x : Shared). reply_of x.memory e) st.shared)
 
-    module _ (free : s.places n ≡ Free) (going : get_or ends n None ≡ None) (turn : Turn) (after : List S) (d : IsSettled stands begins program fuel s threads queue begun ends st n free going turn after) where
+    module _ (going : IsGoing stands begins program fuel s threads queue ends n) (turn : Turn) (after : List S) (d : IsSettled stands begins program fuel s threads queue begun ends st n going turn after) where
       settled_is : (t : Running) → Settles (system_at s) (s.state.threads n) t → t ≡ d.thread
       settled_is t a = settles_once (system_at s) (rules_of limit) (laws_at s) (s.state.threads n) t d.thread a d.settles
 
@@ -113,7 +113,7 @@ module _ {S : Type 0} (stands : S → Running → Type 0) (begins : S → List V
       refused_other e v plain other can =
           elim (can.1).ready [
             | inl a ↦ other (wants_this s.program d.thread turn e (d.on).here d.says plain (ap (wants_of s.program) (sym (settled_is can.0 a)) ∙ (can.1).wants))
-            | inr a ↦ (let leaves = ((laws_at s).full_leaves a.settled a.may).0 in
-                let is : Calls (laws_at s).leave ≡ Calls e = sym leaves ∙ (ap (wants_of s.program) (sym a.filled) ∙ (can.1).wants) in
+            | inr a ↦ (let leaves = full_leaves (machine_of s.program) (machine_laws s.program) (λ x. not (is_exempt x)) a.settled a.may in
+                let is : ◌≡◌ {A = Want Event} (Calls (events.Ask Leave)) (Calls e) = sym leaves ∙ (ap (wants_of s.program) (sym a.filled) ∙ (can.1).wants) in
                 let same : events.Ask Leave ≡ e = cc is in cc (plain, ap is_exempt same))
           ]

@@ -12,25 +12,20 @@ use Rattle.takes_turns.specs.Turns.{Running}
 use Rattle.takes_turns.specs.declared.turn.Turn.{Turn}
 use Rattle.replay_rules.specs.Walk.{Settles}
 use Rattle.recorded_runs.specs.Recorded.{spawned_in}
-use Rattle.replay_steps.specs.Standing.{IsHere, Says, SettlesAs, SettlesAt, RunsAt, StandsAt, Standing, IsStanding, IsSettledOn, system_at}
+use Rattle.replay_steps.specs.Standing.{IsHere, Says, SettlesAs, SettlesAt, Standing, IsStanding, IsSettledOn, IsGoing, system_at}
 use Rattle.replay_steps.proofs.Told.{slice_get-set_same, slice_get-set_other}
 use Rattle.replay_walk.proofs.Ending.{rests}
 
 module _ {S : Type 0} (stands : S → Running → Type 0) (begins : S → List ValType → (List Value → Config) → Type 0) (program : S → Program) (fuel : S → ℕ) where
   module _ (s : Standing) (threads : List S) (queue : WaitQueue) (begun : ℕ) (ends : List (Option Outcome)) (st : IsStanding stands begins program fuel s threads queue begun ends)
-      (n : ℕ) (free : s.places n ≡ Free) (going : get_or ends n None ≡ None) where
-    runs : RunsAt stands begins program fuel (slice_get threads n) (s.state.threads n) × (is_alive queue n ≡ true)
-    runs =
-        subst (λ (o : Option Outcome). StandsAt stands begins program fuel s.program s.worker Free (s.state.threads n) (slice_get threads n) o (is_alive queue n)) going
-        (subst (λ p. StandsAt stands begins program fuel s.program s.worker p (s.state.threads n) (slice_get threads n) (get_or ends n None) (is_alive queue n)) free (st.each n))
-
+      (n : ℕ) (going : IsGoing stands begins program fuel s threads queue ends n) where
     -- it is there, with its budget
     pub within : n < length threads
-    within = slice_get_within threads n (runs.0).thread (runs.0).at
+    within = slice_get_within threads n (going.runs).thread (going.runs).at
 
     pub ready : (budget : ℕ) → s.budget ≡ budget → (x : S) → slice_get threads n ≡ Some x → (fuel x ≡ budget) × (t : Running) × stands x t × IsHere t
     ready budget same x at =
-        let r = runs.0 in
+        let r = going.runs in
         let is : r.thread ≡ x = cc (at, r.at) in
         ((st.alike n x at).1 ∙ same, s.state.threads n, subst (λ y. stands y (s.state.threads n)) is r.standing, r.here)
 
@@ -43,7 +38,7 @@ module _ {S : Type 0} (stands : S → Running → Type 0) (begins : S → List V
 
     pub settled : (turn : Turn) (after : List S) → ((x : S) → slice_get threads n ≡ Some x → SettlesAt stands program fuel x turn threads n after) → IsSettled turn after
     settled turn after settles =
-        let r = runs.0 in
+        let r = going.runs in
         let now = settles r.thread r.at in
         let x = (now.replaced).now in
         let alike = st.alike n r.thread r.at in
@@ -60,9 +55,9 @@ module _ {S : Type 0} (stands : S → Running → Type 0) (begins : S → List V
             here = last.here;
             alike = ((now.replaced).same_program ∙ alike.0, (now.replaced).same_fuel ∙ alike.1);
             others = λ m h. ap (λ l. slice_get l m) (now.replaced).list ∙ slice_get-set_other threads n m x h;
-            alive = runs.1;
-            going = going;
-            free = free;
+            alive = going.alive;
+            going = going.going;
+            free = going.free;
           };
           settles = record { turns = last.turns; comes = last.comes (spawned_in s.worker) s.budget; rests = rests s.program last.settled turn last.here last.says };
           says = last.says;

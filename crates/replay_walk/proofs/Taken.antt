@@ -9,6 +9,8 @@ use Rattle.types.specs.declared.event.Reply.{Reply}
 use Rattle.types.specs.declared.event.Reply.TheVariants.{Done}
 use Rattle.types.specs.declared.event.Answer.{Answer}
 use Rattle.types.specs.declared.outcome.Outcome.{Outcome}
+use Rattle.types.specs.declared.outcome.Outcome.TheVariants as outcomes
+use Rattle.types.specs.declared.outcome.Stop.TheVariants as stops
 use Rattle.shared_memory.specs.Memory.{Memory, reply_of, state_after}
 use Rattle.shared_memory.specs.Events.{is_exempt}
 use Rattle.shared_memory.specs.WaitQueue.{WaitQueue}
@@ -19,14 +21,14 @@ use Rattle.machine.specs.Program.{Program}
 use Rattle.machine.specs.Config.{Config}
 use Rattle.scheduled.specs.Threads.{machine_of}
 use Rattle.scheduled.proofs.Asking.{wants_spawn}
-use Rattle.takes_turns.specs.Turns.{Running, outcome_of, wants_of}
+use Rattle.takes_turns.specs.Turns.{Running, left_of, outcome_of, wants_of}
 use Rattle.takes_turns.specs.declared.turn.Turn.{Turn}
 use Rattle.replay_rules.specs.Walk.{Settles, FindsFull, CanMake, after_made}
-use Rattle.replay_steps.specs.Standing.{Standing, IsStanding, IsSettledOn, IsToldOn, system_at, made_by}
+use Rattle.replay_steps.specs.Standing.{IsHere, Standing, IsStanding, IsSettledOn, IsToldOn, system_at, made_by}
 use Rattle.replay_steps.proofs.Events.{IsMade, step}
 use Rattle.replay_steps.proofs.Made.{is_free, made_kind}
 use Rattle.replay_walk.specs.Walked.{HasTaken, HasThreads, rules_of}
-use Rattle.replay_walk.proofs.Ending.{goes_on}
+use Rattle.replay_walk.proofs.Ending.{leaving, goes_on}
 
 -- a program of one thread spawns none
 pub room_for : (p : Program) (count : ℕ) (t : Running) (arg : ℕ) → HasThreads p count → wants_of p t ≡ Calls (events.Ask (Spawn arg)) → count ≡ 16
@@ -75,12 +77,31 @@ module _ {S : Type 0} (stands : S → Running → Type 0) (begins : S → List V
         → CanMake (system_at s) (rules_of limit) s.state s.places count n e v t
     can_event e v plain reply wants room = can_make e v t (made_kind e plain) reply (inl settles) wants (λ h. room)
 
-    pub can_leave : wants_of s.program t ≡ Calls (events.Ask Leave) → CanMake (system_at s) (rules_of limit) s.state s.places count n (events.Ask Leave) Done t
-    can_leave wants = can_make (events.Ask Leave) Done t tt refl (inl settles) wants (λ h. absurd (cc h))
+    -- or it leaves, as one that has ended, or at the full log in place of another event
+    pub record Leaves (outcome : Outcome) : Type 0 where
+      pub thread : Running
+      pub can : CanMake (system_at s) (rules_of limit) s.state s.places count n (events.Ask Leave) Done thread
+      pub ended : outcome_of thread ≡ Some outcome
+      pub left : left_of thread ≡ left_of t
+      pub here : IsHere thread
 
-    -- at the full log it leaves in place of another event
-    pub can_fill : (e : Event) → wants_of s.program t ≡ Calls e → outcome_of t ≡ None → limit ≤ count
-        → CanMake (system_at s) (rules_of limit) s.state s.places count n (events.Ask Leave) Done (thread_full (machine_of s.program) t)
-    can_fill e wants none full =
+    pub leaves_ended : (outcome : Outcome) → outcome_of t ≡ Some outcome → Leaves outcome
+    leaves_ended outcome ended = record {
+      thread = t;
+      can = can_make (events.Ask Leave) Done t tt refl (inl settles) (leaving s.program t outcome on.here ended) (λ h. absurd (cc h));
+      ended = ended;
+      left = refl;
+      here = on.here;
+    }
+
+    pub leaves_full : (e : Event) → wants_of s.program t ≡ Calls e → outcome_of t ≡ None → limit ≤ count → Leaves (outcomes.Stop stops.RecordFull)
+    leaves_full e wants none full =
         let g = goes_on s.program t e on.here none wants in
-        can_make (events.Ask Leave) Done (thread_full (machine_of s.program) t) tt refl (inr record { settled = t; settles = settles; may = g.may; reached = full; filled = refl }) g.leaves (λ h. absurd (cc h))
+        let u : Running = thread_full (machine_of s.program) t in
+        record {
+          thread = u;
+          can = can_make (events.Ask Leave) Done u tt refl (inr record { settled = t; settles = settles; may = g.may; reached = full; filled = refl }) g.leaves (λ h. absurd (cc h));
+          ended = g.ended;
+          left = g.left;
+          here = g.here;
+        }

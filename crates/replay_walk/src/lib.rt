@@ -6,7 +6,6 @@
 //! - `Walk::along` walks along a log, to its end or to the first entry that doesn't fit (`proofs/Along.antt`).
 #![tactic(auto)]
 
-mod assumed;
 mod walk;
 
 pub use walk::Walk;

@@ -11,7 +11,6 @@ ghost use Rattle.record_text.specs.Conditions.{IsEntry};
 ghost use Rattle.replay_steps.specs.Standing.{Standing, IsStanding, IsAnswered};
 ghost use Rattle.replay_walk.specs.Walked.{Run, HasThreads, HasTaken, IsRefused, IsReady, HasWalked, IsFirstMisfit};
 
-use crate::assumed::{is_going, leave, make};
 use one_memory::OneMemory;
 use replay_steps::{Stage, is_same_event, settle_at};
 use takes_turns::{TakesTurns, Turn};
@@ -62,15 +61,20 @@ impl<T: TakesTurns> Walk<T> {
         ensures taken { result ≡ true → (s : Standing) → IsStanding T.stands T.begins T.program T.fuel s self.old.threads.items self.old.stage.queue self.old.stage.started self.old.stage.ends → s.memory ≡ self.old.memory → HasTaken T.stands T.begins T.program T.fuel s limit at n (Made (events.Ask Leave) Done) self.new.threads.items self.new.memory self.new.stage.queue self.new.stage.started self.new.stage.ends }
         ensures refused { result ≡ false → (s : Standing) → IsStanding T.stands T.begins T.program T.fuel s self.old.threads.items self.old.stage.queue self.old.stage.started self.old.stage.ends → IsRefused s limit at n (Made (events.Ask Leave) Done) }
     {
-        if !is_going(&self.stage, n) {
+        if !self.stage.is_going::<T>(n) {
             return false;
         }
         let outcome = match settle_at(&mut self.threads, n as usize, fuel) {
             Turn::Ended(outcome) => outcome,
-            Turn::Wants(_) if at >= limit as usize => Outcome::Stop(Stop::RecordFull),
-            _ => return false,
+            Turn::Wants(_) => {
+                if at < limit as usize {
+                    return false;
+                }
+                Outcome::Stop(Stop::RecordFull)
+            }
+            Turn::Moved | Turn::Awaits => return false,
         };
-        leave(&mut self.stage, &mut self.threads, n, outcome);
+        self.stage.leave::<T>(n, outcome);
         true
     }
 
@@ -92,23 +96,17 @@ impl<T: TakesTurns> Walk<T> {
         ensures taken { result ≡ true → (s : Standing) → IsStanding T.stands T.begins T.program T.fuel s self.old.threads.items self.old.stage.queue self.old.stage.started self.old.stage.ends → s.memory ≡ self.old.memory → HasTaken T.stands T.begins T.program T.fuel s limit at n (Made event reply) self.new.threads.items self.new.memory self.new.stage.queue self.new.stage.started self.new.stage.ends }
         ensures refused { result ≡ false → (s : Standing) → IsStanding T.stands T.begins T.program T.fuel s self.old.threads.items self.old.stage.queue self.old.stage.started self.old.stage.ends → s.memory ≡ self.old.memory → IsRefused s limit at n (Made event reply) }
     {
-        if at >= limit as usize || !is_going(&self.stage, n) {
+        if at >= limit as usize || !self.stage.is_going::<T>(n) {
             return false;
         }
-        let Turn::Wants(wanted) = settle_at(&mut self.threads, n as usize, fuel) else {
+        let threads = self.threads.as_mut_slice();
+        let Turn::Wants(wanted) = settle_at(threads, n as usize, fuel) else {
             return false;
         };
         if !is_same_event(wanted, event) {
             return false;
         }
-        make(
-            &mut self.stage,
-            &mut self.threads,
-            &mut self.memory,
-            n,
-            event,
-            reply,
-        )
+        self.stage.make(threads, &mut self.memory, n, event, reply)
     }
 
     /// An answer heard, which is the one that is due.

@@ -11,6 +11,6 @@ use Rattle.replay_steps.specs.Standing.{Standing, IsStanding, IsAnswered}
 use Rattle.replay_walk.specs.Walked.{Run, HasThreads, HasTaken, IsRefused, IsReady, HasWalked, IsFirstMisfit}
 use Rattle.replay_walk.proofs.walk.Walk.take_told.Goals as goal
 
--- src/walk.rt:115:5
+-- src/walk.rt:113:5
 pub returns-clause-taken : goal.returns-clause-taken
 returns-clause-taken g c = ?

@@ -11,35 +11,35 @@ use Rattle.replay_steps.specs.Standing.{Standing, IsStanding, IsAnswered}
 use Rattle.replay_walk.specs.Walked.{Run, HasThreads, HasTaken, IsRefused, IsReady, HasWalked, IsFirstMisfit}
 use Rattle.replay_walk.proofs.walk.Walk.take_event.Goals as goal
 
--- src/walk.rt:96:13
+-- src/walk.rt:100:13
 pub returns-then-at-limit-clause-refused : goal.returns-then-at-limit-clause-refused
 returns-then-at-limit-clause-refused g c = ?
 
--- src/walk.rt:98:35
+-- src/walk.rt:103:35
 pub settle_at-requires-clause-within : goal.settle_at-requires-clause-within
 settle_at-requires-clause-within g c = ?
 
--- src/walk.rt:98:35
+-- src/walk.rt:103:35
 pub settle_at-requires-clause-here : goal.settle_at-requires-clause-here
 settle_at-requires-clause-here g c = ?
 
--- src/walk.rt:99:13
+-- src/walk.rt:104:13
 pub returns-in_default : goal.returns-in_default
 returns-in_default g c = ?
 
--- src/walk.rt:102:13
+-- src/walk.rt:107:13
 pub returns-then-not-is_same_event-clause-refused :
     goal.returns-then-not-is_same_event-clause-refused
 returns-then-not-is_same_event-clause-refused g c = ?
 
--- src/walk.rt:104:9
+-- src/walk.rt:109:9
 pub make-requires-clause-room : goal.make-requires-clause-room
 make-requires-clause-room g c = ?
 
--- src/walk.rt:104:9
+-- src/walk.rt:109:9
 pub make-requires-clause-settled : goal.make-requires-clause-settled
 make-requires-clause-settled g c = ?
 
--- src/walk.rt:78:5
+-- src/walk.rt:82:5
 pub returns-clause-taken : goal.returns-clause-taken
 returns-clause-taken g c = ?

@@ -9,16 +9,8 @@ use Rattle.scheduled.specs.Shared.{act_of}
 use Rattle.record_text.specs.Conditions.{IsEntry}
 use Rattle.replay_steps.specs.Standing.{Standing, IsStanding, IsAnswered}
 use Rattle.replay_walk.specs.Walked.{Run, HasThreads, HasTaken, IsRefused, IsReady, HasWalked, IsFirstMisfit}
-use Rattle.replay_walk.proofs.walk.Walk.take.Goals as goal
+use Rattle.replay_walk.proofs.walk.Walk.new.Goals as goal
 
--- src/walk.rt:44:5
-pub returns-in-Ask-Leave-clause-refused : goal.returns-in-Ask-Leave-clause-refused
-returns-in-Ask-Leave-clause-refused g c = ?
-
--- src/walk.rt:44:5
-pub returns-in_default-clause-taken : goal.returns-in_default-clause-taken
-returns-in_default-clause-taken g c = ?
-
--- src/walk.rt:44:5
-pub returns-in_default-clause-refused : goal.returns-in_default-clause-refused
-returns-in_default-clause-refused g c = ?
+-- src/walk.rt:32:5
+pub returns : goal.returns
+returns g c = ?

@@ -11,22 +11,22 @@ use Rattle.replay_steps.specs.Standing.{Standing, IsStanding, IsAnswered}
 use Rattle.replay_walk.specs.Walked.{Run, HasThreads, HasTaken, IsRefused, IsReady, HasWalked, IsFirstMisfit}
 use Rattle.replay_walk.proofs.walk.Walk.along.Goals as goal
 
--- src/walk.rt:132:9
+-- src/walk.rt:130:9
 pub loop-at-init : goal.loop-at-init
 loop-at-init g c = ?
 
--- src/walk.rt:133:17
+-- src/walk.rt:131:17
 pub take-requires-clause-standing : goal.take-requires-clause-standing
 take-requires-clause-standing g c = ?
 
--- src/walk.rt:134:17
+-- src/walk.rt:132:17
 pub returns-then-not-take-clause-misfit : goal.returns-then-not-take-clause-misfit
 returns-then-not-take-clause-misfit g c = ?
 
--- src/walk.rt:132:9
+-- src/walk.rt:130:9
 pub loop-at-preserved : goal.loop-at-preserved
 loop-at-preserved g c = ?
 
--- src/walk.rt:126:5
+-- src/walk.rt:124:5
 pub returns-clause-whole : goal.returns-clause-whole
 returns-clause-whole g c = ?

@@ -1,0 +1,81 @@
+-- Where a walk begins.
+use Rattle.std.proofs.Common.{◌≡◌, ◌≢◌, ℕ, ◌<◌, ◌≤◌, true, List, [], ◌∷◌, length, replicate, Option, Some, None, refl, sym, ◌∙◌, ap, subst, ◌⊎◌, inl, inr, arith, get_or, slice_get}
+use Rattle.std.proofs.lemmas.Bool.{cases_lt}
+use Rattle.std.proofs.lemmas.List.{get_or-replicate, get_or_past}
+use Rattle.types.specs.declared.value.ValType.{ValType}
+use Rattle.types.specs.declared.value.Value.{Value}
+use Rattle.types.specs.declared.event.Answer.{Answer}
+use Rattle.types.specs.declared.outcome.Outcome.{Outcome}
+use Rattle.shared_memory.specs.Memory.{Memory}
+use Rattle.shared_memory.specs.WaitQueue.{WaitQueue, first_queue, is_alive, next_id}
+use Rattle.shared_memory.proofs.Soundness.{IsSound-first}
+use Rattle.schedule.specs.Histories.{Place, Place.Unstarted, Place.Free}
+use Rattle.schedule.specs.Machine.{Thread.Absent, Thread.Runs}
+use Rattle.schedule.specs.System.{put}
+use Rattle.schedule.proofs.Basics.{at_each, put-same, put-other}
+use Rattle.machine.specs.Program.{Program}
+use Rattle.machine.specs.Config.{Config}
+use Rattle.machine.specs.State.{At}
+use Rattle.scheduled.specs.Shared.{without_dues}
+use Rattle.one_schedule.specs.Runs.{first_state, first_places}
+use Rattle.one_schedule.proofs.Linked.{first_stand}
+use Rattle.takes_turns.specs.Turns.{Running}
+use Rattle.replay_steps.specs.Standing.{StandsAt, RunsAt, IsStanding}
+use Rattle.replay_walk.specs.Walked.{Run, HasThreads, start, standing_in, IsReady, HasWalked}
+
+none_ends : (m : ℕ) → get_or (replicate {A = Option Outcome} 16 None) m None ≡ None
+none_ends m = elim (cases_lt m 16) [ inl within ↦ get_or-replicate 16 m None None within | inr past ↦ get_or_past (replicate 16 None) m None past ]
+
+first_alone : (first_queue.due ≡ replicate 16 None) × (is_alive first_queue 0 ≡ true) × (1 ≡ next_id first_queue) × (first_queue ≡ without_dues first_queue)
+unfolding first_queue
+first_alone = (refl, refl, refl, refl)
+
+first_of : {S : Type 0} (threads : List S) → 0 < length threads → (x : S) × (slice_get threads 0 ≡ Some x)
+first_of [] h = absurd (omega arith)
+first_of (x ∷ threads) h = (x, refl)
+
+some_thread : (p : Program) (count : ℕ) → HasThreads p count → 0 < count
+some_thread p count (inl all) = omega arith
+some_thread p count (inr alone) = let one : count ≡ 1 = alone.1 in omega arith
+
+module _ {S : Type 0} (stands : S → Running → Type 0) (begins : S → List ValType → (List Value → Config) → Type 0) (program : S → Program) (fuel : S → ℕ)
+    (r : Run) (threads : List S) (memory : Memory) (ready : IsReady stands begins program fuel r threads memory) where
+  abbrev Stands : ℕ → Place Answer → Running → Option Outcome → Type 0
+  Stands m place t gone = StandsAt stands begins program fuel r.program r.worker place t (slice_get threads m) gone (is_alive first_queue m)
+
+  abbrev threads_at : ℕ → Running
+  threads_at m = (first_state (start r)).threads m
+
+  here : Stands 0 Free (Runs (At r.main) r.budget) None
+  here =
+      let x = first_of threads (some_thread r.program (length threads) ready.count) in
+      (record { thread = x.0; at = x.1; standing = ready.first x.0 x.1; here = tt }, first_alone.1)
+
+  there : (m : ℕ) → m ≢ 0 → Stands m Unstarted Absent None
+  there m h = (refl, λ x at. ready.others m x h at)
+
+  each : (m : ℕ) → Stands m (first_places m) (threads_at m) (get_or (replicate 16 None) m None)
+  each m =
+      subst (λ (o : Option Outcome). Stands m (first_places m) (threads_at m) o) (sym (none_ends m))
+      (at_each 0 (λ m. Stands m (first_places m) (threads_at m) None)
+      (subst (λ p. Stands 0 p (threads_at 0) None) (sym (put-same (λ (k : ℕ). Unstarted) 0 Free))
+      (subst (λ t. Stands 0 Free t None) (sym (put-same (λ (k : ℕ). Absent) 0 (Runs (At r.main) r.budget))) here))
+      (λ m h. subst (λ p. Stands m p (threads_at m) None) (sym (put-other (λ (k : ℕ). Unstarted) 0 Free m h))
+      (subst (λ t. Stands m Unstarted t None) (sym (put-other (λ (k : ℕ). Absent) 0 (Runs (At r.main) r.budget) m h)) (there m h))) m)
+
+  pub begun : HasWalked stands begins program fuel r [] threads memory first_queue 1 (replicate 16 None)
+  begun = record {
+    count = ready.count;
+    state = first_state (start r);
+    places = first_places;
+    walks = (refl, refl);
+    standing = record {
+      shared = λ i. record { memory = sym ready.opening i; queue = first_alone.3 i };
+      places = first_stand;
+      sound = IsSound-first;
+      started = first_alone.2;
+      slots = refl;
+      alike = ready.alike;
+      each = each;
+    };
+  }
