@@ -14,10 +14,11 @@ use Rattle.shared_memory.specs.History.{entry, entries_of, IsEntry, AreEntries, 
 use Rattle.shared_memory.specs.Legal.{IsAllowed, MayEnter}
 use Rattle.shared_memory.specs.Access.{IsSeen, Answers, Accesses}
 use Rattle.shared_memory.proofs.Histories.{memory_after-append, IsMemoryLegal-entry, AreEntries-append, same_queue}
+use Rattle.one_memory.specs.Opening.{IsSized}
 use Rattle.seats.specs.declared.view.Caller.{Caller}
 use Rattle.seats.specs.Callers.{GoesOn}
 use Rattle.seats.proofs.GoingOn.{goes_on-queue}
-use Rattle.locked_recorder.specs.Promises.{KeepsLog, IsRecord}
+use Rattle.locked_recorder.specs.Promises.{KeepsLog, IsRecord, IsBounded}
 use Rattle.locked_recorder.proofs.Room.{pushed, first_spare, first_legal}
 
 abbrev L : Type 0
@@ -133,3 +134,11 @@ recorded opening limit capacity m log count contents k p b = record {
   pages_after = p ∙ ap pages k.after;
   bytes_after = b ∙ ap (λ (x : Memory). x.bytes) k.after;
 }
+
+pub bounded : (opening : Memory) (limit capacity named : ℕ) (m : Memory) (log : L) (count : ℕ) → KeepsLog opening limit capacity m log → limit ≡ named → count ≡ pages m → IsSized m
+    → IsBounded named log count
+bounded opening limit capacity named m log count k same p sized =
+    let spare = k.spare in
+    let within = sized.within in
+    let small = sized.small in
+    record { room = omega (arith, spare, same); small = omega (arith, p, within, small) }

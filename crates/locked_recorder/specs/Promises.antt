@@ -53,3 +53,8 @@ pub record IsRecord (opening : Memory) (log : List Entry) (count : ℕ) (content
   pub others : (n : ℕ) → 17 ≤ n → entries_of n log ≡ []
   pub pages_after : count ≡ pages (memory_after opening log)
   pub bytes_after : contents ≡ (memory_after opening log).bytes
+
+-- What no run passes: 48 entries above the limit, and 64 pages.
+pub record IsBounded (limit : ℕ) (log : List Entry) (count : ℕ) : Type 0 where
+  pub room : length log ≤ limit + 48
+  pub small : count ≤ 64

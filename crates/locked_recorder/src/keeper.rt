@@ -4,7 +4,7 @@ ghost use Rattle.shared_memory.specs.Events.{IsEvent, is_of_queue, is_exempt};
 ghost use Rattle.shared_memory.specs.History.{entry};
 ghost use Rattle.shared_memory.specs.Legal.{MayEnter};
 ghost use Rattle.shared_memory.specs.Access.{Accesses};
-ghost use Rattle.locked_recorder.specs.Promises.{is_full, is_held, log_after, Begins, IsRecord};
+ghost use Rattle.locked_recorder.specs.Promises.{is_full, is_held, log_after, Begins, IsRecord, IsBounded};
 
 use crate::naming::Naming;
 use crate::rule::Row;
@@ -14,6 +14,9 @@ use one_memory::OneMemory;
 use seats::Place;
 use std::marker::{Model, PhantomData};
 use types::{Entry, Event, Question, Reply};
+
+/// The bytes of a page.
+const PAGE: usize = 65_536;
 
 /// The keeper's place on the table, the memory, and the log with its limit. Contracts see the log.
 #[derive(Drop)]
@@ -77,6 +80,7 @@ impl<B: Naming> Keeper<B> {
     pub(crate) fn finish(self) -> Finished
         ensures log { result.log.items ≡ self }
         ensures record { IsRecord B.opening result.log.items result.pages result.bytes.items }
+        ensures bounds { IsBounded B.limit result.log.items result.pages }
     {
         let Keeper {
             place: _,
@@ -85,9 +89,10 @@ impl<B: Naming> Keeper<B> {
             log,
             of: _,
         } = self;
+        let pages = (memory.bytes().len() / PAGE) as u32;
         Finished {
             log,
-            pages: memory.pages(),
+            pages,
             bytes: memory.into_bytes(),
         }
     }

@@ -4,7 +4,7 @@ ghost use Rattle.shared_memory.specs.Access.{Meets};
 ghost use Rattle.seats.specs.Callers.{fresh, fresh_from};
 ghost use Rattle.seats.specs.Moves.{keeper, others_of};
 ghost use Rattle.locked_recorder.specs.Rule.{opened};
-ghost use Rattle.locked_recorder.specs.Promises.{Begins, IsRecord};
+ghost use Rattle.locked_recorder.specs.Promises.{Begins, IsRecord, IsBounded};
 
 use crate::keeper::{Finished, Keeper, check_all};
 use crate::naming::Naming;
@@ -119,10 +119,12 @@ impl<B: Naming, W: Wait + Drop> LockedRecorder<B, W> {
     }
 
     /// Gives up the recorder and all its seats for the log and the memory after it. The list of each seat begins the
-    /// log, and the log has of its name what it has.
+    /// log, and the log has of its name what it has. The log has at most 48 entries above its limit, and the memory at
+    /// most 64 pages.
     pub fn finish(self, seats: Vec<LockedSeat<B>>) -> Finished
         ensures seats { All (λ s. Begins s.caller result.log.items) seats.items }
         ensures record { IsRecord B.opening result.log.items result.pages result.bytes.items }
+        ensures bounds { IsBounded B.limit result.log.items result.pages }
     {
         let LockedRecorder {
             board,

@@ -1,2 +1,4 @@
 pub mod Free
 pub mod Recording
+pub mod Replies
+pub mod Ranges

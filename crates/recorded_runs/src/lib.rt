@@ -6,9 +6,16 @@
 #![tactic(auto)]
 
 ghost use Rattle.recorded_runs.specs.Telling.{RunsAreRecorded};
+ghost use Rattle.recorded_runs.specs.Ranges.{RunsAreInRange};
 
 /// Threads that made a history together over a log with a limit, and a record that tells its entries, its ends and its pages:
 /// that record is of a run, which ends with the memory after the history.
 pub fn runs_are_recorded()
     ensures { RunsAreRecorded }
+{}
+
+/// Such a record is within the ranges of records, where the memory kept to its limits and the budget is at most
+/// 1,000,000,000,000 units.
+pub fn runs_are_in_range()
+    ensures { RunsAreInRange }
 {}

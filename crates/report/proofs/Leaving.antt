@@ -6,9 +6,12 @@ use Rattle.types.specs.declared.event.Entry.{Entry}
 use Rattle.types.specs.declared.outcome.ThreadReport.{ThreadReport}
 use Rattle.types.specs.declared.parts.Parts.{Parts}
 use Rattle.shared_memory.specs.Memory.{pages}
-use Rattle.shared_memory.specs.History.{entries_of, memory_after}
+use Rattle.shared_memory.specs.History.{entries_of, AreEntries, memory_after}
 use Rattle.seats.specs.declared.view.Caller.{Caller}
 use Rattle.module_run.specs.Runs.{opening_memory, IsRun}
+use Rattle.locked_recorder.specs.Promises.{IsBounded}
+use Rattle.record_text.specs.declared.parts.RecordParts.{RecordParts}
+use Rattle.recorded_runs.specs.Ranges.{IsLimited}
 use Rattle.replay.specs.declared.end.EndState.{EndState}
 use Rattle.report.specs.Ends.{EndsRun}
 use Rattle.report.proofs.Whole.{Knows, is_history}
@@ -23,19 +26,7 @@ module _ {S : Type 0} (caller : S → Caller) (P : S → Type 0) (m : Parts) (en
       let e : log ≡ run.history = is_history caller log run.history past P known seats run.len run.names run.seen_by knows in
       subst (λ (l : List Entry). EndsRun m entry args fuel loses limit l end) (sym e)
       (record {
-        own = run.own;
-        func_type = run.func_type;
-        body = run.body;
-        exports = run.exports;
-        fit = run.fit;
-        spawned = run.spawned;
-        calls = run.calls;
-        count = run.count;
-        outcomes = run.outcomes;
-        lefts = run.lefts;
-        reports = run.reports;
-        together = run.together;
-        one = run.one;
+        is_history = run.is_history;
         pages_after = p ∙ ap (λ (l : List Entry). pages (memory_after (opening_memory m) l)) e;
         bytes_after = b ∙ ap (λ (l : List Entry). (memory_after (opening_memory m) l).bytes) e;
       })
@@ -43,7 +34,20 @@ module _ {S : Type 0} (caller : S → Caller) (P : S → Type 0) (m : Parts) (en
 -- there are at most 16 reports
 pub few_reports : {S : Type 0} (m : Parts) (entry : List ℕ) (args : List Value) (fuel : ℕ) (loses : Bool) (limit : Option ℕ) (name : S → ℕ) (seen : S → List Entry) (threads : List ThreadReport) (seats : List S)
     → IsRun m entry args fuel loses limit name seen threads seats → length threads ≤ 16
-few_reports m entry args fuel loses limit name seen threads seats run = let few = (IsSound-after run.history run.together.queue).few in let count = run.count in omega arith
+few_reports m entry args fuel loses limit name seen threads seats run = let few = (IsSound-after run.history run.is_history.together.queue).few in let count = run.is_history.count in omega arith
+
+-- a record of such a log is limited
+pub limited_by : (r : RecordParts) (log : List Entry) (limit : ℕ) → r.log ≡ log → limit ≡ r.limit → (1 ≤ r.limit) × (r.limit ≤ 1000000) → IsBounded limit log r.pages → AreEntries log → IsLimited r
+limited_by r log limit same bound range bounds entries =
+    let room : length log ≤ limit + 48 = bounds.room in
+    let small : r.pages ≤ 64 = bounds.small in
+    let long : length r.log ≡ length log = ap length same in record {
+      limit_low = range.0;
+      limit = range.1;
+      room = omega (arith, room, long, bound);
+      pages = small;
+      entries = subst AreEntries (sym same) entries;
+    }
 
 -- the same of what is equal
 module _ (m : Parts) (fuel : ℕ) (loses : Bool) (end : EndState) where

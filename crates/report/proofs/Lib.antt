@@ -1,5 +1,6 @@
 pub mod NewSeats
 pub mod Whole
 pub mod Leaving
+pub mod Recorded
 pub mod Fronts
 pub mod ThreadLines

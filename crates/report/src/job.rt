@@ -231,6 +231,10 @@ fn complain<E: Write>(err: &mut E, trouble: Trouble, path: Option<&str>) -> u8
             say(err, "run refused: wrong arguments");
             RUN_REFUSED
         }
+        Trouble::Fuel => {
+            say(err, "run refused: fuel");
+            RUN_REFUSED
+        }
         Trouble::NoThread => {
             say(err, "no thread");
             FAULT

@@ -3,6 +3,7 @@
 
 mod args;
 mod command_line;
+mod fitting;
 mod job;
 mod lines;
 mod loading;
@@ -16,6 +17,6 @@ mod words;
 pub use command_line::{Job, Usage, command};
 pub use job::{check, perform};
 pub use loading::{Refusal, load};
-pub use recording::{RecordRunFault, run_recorded};
+pub use recording::{RecordRunFault, record_run};
 pub use replay::EndState;
 pub use words::run_on_words;

@@ -1,12 +1,15 @@
 //! A run over the memory that records.
 ghost use Rattle.std.specs.Prelude.{◌≡◌, ◌≤◌, ◌+◌, ◌++◌, [], length, vec_len, vec_capacity, IfOk};
 ghost use Rattle.module_run.specs.Runs.{opening_memory};
+ghost use Rattle.replay.specs.Runs.{IsRunOf};
 ghost use Rattle.report.specs.Ends.{RecordsRun};
 
+use crate::command_line::FUEL_MOST;
+use crate::fitting::parts_fit;
 use locked_recorder::{LockedRecorder, Naming, Prepared};
 use module_run::run;
 use one_memory::OpenFault;
-use record_text::RecordParts;
+use record_text::{Record, RecordParts};
 use replay::EndState;
 use spawn_host::RunFault;
 use std::alloc::{AllocError, Global};
@@ -33,6 +36,9 @@ pub enum RecordRunFault {
     /// 3: the system had too little memory left.
     #[error("no memory")]
     NoMemory,
+    /// 4: the fuel passes 1,000,000,000,000 units.
+    #[error("fuel")]
+    Fuel,
 }
 
 impl From<AllocError> for RecordRunFault {
@@ -61,16 +67,48 @@ struct Header {
     ends: Vec<ThreadReport>,
 }
 
-/// Runs an exported function over a new memory that records, and gives what a record of the run says, and what the run
-/// leaves. The limit is 1 to 1,000,000 entries, and the fuel 0 to 1,000,000,000,000 units.
+/// Runs an exported function over a new memory that records, and gives the record of the run, and what the run leaves. The
+/// limit is 1 to 1,000,000 entries, and the fuel 0 to 1,000,000,000,000 units.
 ///
 /// There is one history that all threads saw: the record's log. It is legal for the memory and for the wait queue; each
 /// thread's report follows from its own entries in it; and one thread that steps all threads along it comes to the same
-/// reports, pages and bytes.
+/// reports, pages and bytes. So the record is of a run of the module, and that ends as this one did.
 ///
 /// # Errors
-/// `Open` where the recorder can't be opened, `Run` where the run can't begin, `NoMemory`. All come before the first turn.
-pub fn run_recorded<G, R>(
+/// `Fuel` where the fuel is out of its range, `Open` where the recorder can't be opened, also where the limit is out of its
+/// range, `Run` where the run can't begin, `NoMemory`. All come before the first turn.
+pub fn record_run<G, R>(
+    rt: &R,
+    alloc: Global,
+    module: &ValidModule,
+    entry: &str,
+    args: &[Value],
+    fuel: u64,
+    limit: u32,
+    gate: &G,
+) -> Result<(Record, EndState), RecordRunFault>
+where
+    G: Gate + Sync,
+    R: Threads + Wait + Sync,
+    ensures record { IfOk result (λ r. RecordsRun «module».now.parts entry.now args.now fuel limit r.0 r.1) }
+    ensures run { IfOk result (λ r. IsRunOf «module».now.parts r.0 r.1) }
+{
+    if fuel > FUEL_MOST {
+        return Err(RecordRunFault::Fuel);
+    }
+    let (parts, end) = run_recorded(rt, alloc, module, entry, args, fuel, limit, gate)?;
+    match Record::new(parts) {
+        Ok(record) => Ok((record, end)),
+        Err(parts) => {
+            // Never: this shows that the parts are in range.
+            parts_fit(&parts);
+            unreachable!()
+        }
+    }
+}
+
+/// The same, up to the record's parts.
+fn run_recorded<G, R>(
     rt: &R,
     alloc: Global,
     module: &ValidModule,
@@ -115,6 +153,7 @@ where
     requires limit { prepared.limit ≡ B.limit }
     requires image { B.opening ≡ opening_memory «module».now.parts }
     requires bound { B.limit ≡ limit }
+    requires range { (1 ≤ limit) × (limit ≤ 1000000) }
     requires ends { header.ends.items ≡ [] }
     requires room { 16 ≤ vec_capacity header.ends }
     ensures { IfOk result (λ r. RecordsRun «module».now.parts header.invoke header.args fuel limit r.0 r.1) }

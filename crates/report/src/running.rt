@@ -3,9 +3,9 @@ ghost use Rattle.std.specs.Prelude.{◌≤◌, IfOk};
 
 use crate::args::read_args;
 use crate::lines::write_end;
-use crate::recording::{RecordRunFault, run_recorded};
+use crate::recording::{RecordRunFault, record_run};
 use crate::words::run_on_words;
-use record_text::{Record, RecordParts, write_record};
+use record_text::{Record, write_record};
 use replay::EndState;
 use spawn_host::RunFault;
 use std::alloc::{AllocError, Global};
@@ -33,6 +33,8 @@ pub(crate) struct Wanted<'a> {
 pub(crate) enum Trouble {
     UnknownExport,
     WrongArguments,
+    /// The fuel passes its range.
+    Fuel,
     NoThread,
     NoMemory,
     /// Standard output failed.
@@ -63,6 +65,7 @@ impl From<RecordRunFault> for Trouble {
         match fault {
             RecordRunFault::Run(fault) => Trouble::from(fault),
             RecordRunFault::Open(_) | RecordRunFault::NoMemory => Trouble::NoMemory,
+            RecordRunFault::Fuel => Trouble::Fuel,
         }
     }
 }
@@ -103,10 +106,10 @@ where
         let end = run_on_words(rt, alloc, module, invoke, &args, fuel, &OpenGate)?;
         return print(out, &end, wanted.dump);
     }
-    let (parts, end) = run_recorded(rt, alloc, module, invoke, &args, fuel, limit, &OpenGate)?;
+    let (record, end) = record_run(rt, alloc, module, invoke, &args, fuel, limit, &OpenGate)?;
     let status = print(out, &end, wanted.dump)?;
     if wanted.save.is_some() {
-        keep(parts, save)?;
+        keep(&record, save)?;
     }
     Ok(status)
 }
@@ -128,11 +131,8 @@ pub(crate) fn print<W: Write>(out: &mut W, end: &EndState, dump: u32) -> Result<
 }
 
 /// Writes a record to its file.
-fn keep<S: Write>(parts: RecordParts, save: &mut S) -> Result<(), Trouble> {
-    let Ok(record) = Record::new(parts) else {
-        return Err(Trouble::Save);
-    };
-    if write_record(&record, save).is_err() || save.flush().is_err() {
+fn keep<S: Write>(record: &Record, save: &mut S) -> Result<(), Trouble> {
+    if write_record(record, save).is_err() || save.flush().is_err() {
         return Err(Trouble::Save);
     }
     Ok(())

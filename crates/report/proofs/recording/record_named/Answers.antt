@@ -4,7 +4,7 @@ use Rattle.shared_memory.specs.Memory.{Memory, pages}
 use Rattle.shared_memory.specs.History.{memory_after}
 use Rattle.locked_recorder.specs.Promises.{Begins}
 use Rattle.report.proofs.NewSeats.{seat_name, seat_new, seat_right}
-use Rattle.report.proofs.Leaving.{leaves, few_reports, the_same}
+use Rattle.report.proofs.Leaving.{leaves, few_reports, limited_by, the_same}
 use Rattle.report.proofs.recording.record_named.Goals as goal
 
 pub run-requires-clause-names : goal.run-requires-clause-names
@@ -35,6 +35,7 @@ returns g c =
       limit_is = refl;
       ends_are = c.from_vec-2.ensures ∙ c.copy_reports.ensures.items ∙ ap (λ (l : List ThreadReport). l ++ c.deref.result.now) c.requires.ends ∙ c.deref.ensures.value;
       pages_are = refl;
+      limited = limited_by _ log _ c.from_vec.ensures c.requires.bound c.requires.range c.finish-finished.ensures.bounds c.finish-finished.ensures.record.seen.entries;
       ends_run =
           the_same c.args.module.now.parts c.args.fuel false _ _ _ _ _ _ _ log c.from_vec.result c.as_str-entry.ensures c.as_slice-given.ensures (ap Some c.requires.bound) (sym c.from_vec.ensures)
           (leaves (λ s. s.caller) (λ s. Begins s.caller log) _ _ _ _ _ _ c.in_ok-end.end.seats.items log _ c.in_ok-end.ensures.run c.finish-finished.ensures.record.others
