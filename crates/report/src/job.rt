@@ -1,8 +1,9 @@
 //! What a job prints, and with which status it ends.
-ghost use Rattle.std.specs.Prelude.{◌≡◌, ◌≤◌, ◌⊎◌, OnOk};
+ghost use Rattle.std.specs.Prelude.{◌≡◌, ◌≤◌, ◌⊎◌, ℕ, List, OnOk};
 ghost use Rattle.std.specs.Io.KnownBytes.{Appends};
 ghost use Rattle.report.specs.Lines.{functions_line};
-ghost use Rattle.report.specs.Jobs.{IsAccepted};
+ghost use Rattle.types.specs.declared.parts.Parts.{Parts};
+ghost use Rattle.report.specs.Jobs.{IsAccepted, IsReplayed, IsNoRecordOf, IsUnfit, IsOfNoRun};
 
 use crate::command_line::Job;
 use crate::loading::{Refusal, load};
@@ -72,7 +73,7 @@ where
             };
             run(rt, alloc, &wanted, module, out, err, save)
         }
-        Job::Replay { dump, .. } => replay(alloc, module, saved, *dump, out, err),
+        Job::Replay { dump, .. } => replay_saved(alloc, module, saved, *dump, out, err),
     }
 }
 
@@ -173,8 +174,12 @@ where
     }
 }
 
-/// Replays a record of a run of a module.
-fn replay<W: Write, E: Write>(
+/// Replays the record whose text the bytes are, and prints what its run printed: how the threads ended, the pages and the
+/// first `dump` bytes of the memory.
+///
+/// Answers 0 or 1 only where the record is of a run of the module and its lines were written, 4 only where the bytes are the
+/// text of no record of a run of it, 2 for a refused module, and 5 where memory or a stream failed.
+pub fn replay_saved<W: Write, E: Write>(
     alloc: Global,
     module: &[u8],
     saved: &[u8],
@@ -182,7 +187,9 @@ fn replay<W: Write, E: Write>(
     out: &mut W,
     err: &mut E,
 ) -> u8
-    ensures { result ≤ 5 }
+    ensures replayed { result ≤ 1 → IsReplayed «module».now saved.now dump (W.contents out.old) (W.contents out.new) }
+    ensures refused { result ≡ 4 → IsNoRecordOf «module».now saved.now }
+    ensures status { result ≤ 5 }
 {
     let valid = match load(alloc, module) {
         Ok(valid) => valid,
@@ -196,7 +203,8 @@ fn replay<W: Write, E: Write>(
 
 /// Says why a record was refused, or why its lines couldn't be written, and answers the status.
 fn reject<E: Write>(err: &mut E, unfit: Unfit) -> u8
-    ensures { result ≤ 5 }
+    ensures status { (result ≡ 4) ⊎ (result ≡ 5) }
+    ensures refused { (m : Parts) (saved : List ℕ) → IsUnfit m saved unfit → result ≡ 4 → IsOfNoRun m saved }
 {
     match unfit {
         Unfit::Unread(fault) => {

@@ -15,7 +15,7 @@ mod tests;
 mod words;
 
 pub use command_line::{Job, Usage, command};
-pub use job::{check, perform};
+pub use job::{check, perform, replay_saved};
 pub use loading::{Refusal, load};
 pub use recording::{RecordRunFault, record_run};
 pub use replay::EndState;

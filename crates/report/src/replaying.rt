@@ -1,7 +1,8 @@
 //! The replay of a record by the program: what is printed, or why there is nothing to print.
 ghost use Rattle.std.specs.Prelude.{◌≡◌, ◌≤◌, IfOk, IfErr};
+ghost use Rattle.report.specs.Jobs.{PrintsReplay, IsUnfit};
 
-use crate::running::{Trouble, print};
+use crate::running::print;
 use record_text::{RecordFault, read_record};
 use replay::{ReplayFault, replay};
 use std::alloc::Global;
@@ -20,33 +21,6 @@ pub(crate) enum Unfit {
     Output,
 }
 
-impl From<RecordFault> for Unfit {
-    fn from(fault: RecordFault) -> Unfit {
-        match fault {
-            RecordFault::NoMemory => Unfit::NoMemory,
-            fault => Unfit::Unread(fault),
-        }
-    }
-}
-
-impl From<ReplayFault> for Unfit {
-    fn from(fault: ReplayFault) -> Unfit {
-        match fault {
-            ReplayFault::NoMemory => Unfit::NoMemory,
-            fault => Unfit::Misfit(fault),
-        }
-    }
-}
-
-impl From<Trouble> for Unfit {
-    fn from(trouble: Trouble) -> Unfit {
-        match trouble {
-            Trouble::NoMemory => Unfit::NoMemory,
-            _ => Unfit::Output,
-        }
-    }
-}
-
 /// Replays the record whose text the bytes are, and prints what its run printed. Answers the status: 0 where all threads
 /// ended well, 1 for a trap or stop.
 pub(crate) fn replay_record<W: Write>(
@@ -56,9 +30,22 @@ pub(crate) fn replay_record<W: Write>(
     dump: u32,
     out: &mut W,
 ) -> Result<u8, Unfit>
-    ensures { IfOk result (λ status. status ≤ 1) }
+    ensures status { IfOk result (λ status. status ≤ 1) }
+    ensures prints { IfOk result (λ status. PrintsReplay «module».now.parts saved.now dump (W.contents out.old) (W.contents out.new)) }
+    ensures unfit { IfErr result (λ unfit. IsUnfit «module».now.parts saved.now unfit) }
 {
-    let record = read_record(alloc, saved)?;
-    let end = replay(alloc, module, &record)?;
-    Ok(print(out, &end, dump)?)
+    let record = match read_record(alloc, saved) {
+        Ok(record) => record,
+        Err(RecordFault::NoMemory) => return Err(Unfit::NoMemory),
+        Err(fault) => return Err(Unfit::Unread(fault)),
+    };
+    let end = match replay(alloc, module, &record) {
+        Ok(end) => end,
+        Err(ReplayFault::NoMemory) => return Err(Unfit::NoMemory),
+        Err(fault) => return Err(Unfit::Misfit(fault)),
+    };
+    match print(out, &end, dump) {
+        Ok(status) => Ok(status),
+        Err(_) => Err(Unfit::Output),
+    }
 }
