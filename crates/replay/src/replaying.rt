@@ -1,5 +1,6 @@
 //! The replay of a recorded run of a module.
 ghost use Rattle.std.specs.Prelude.{◌≡◌, IfOk, IfErr};
+ghost use Rattle.typing.specs.Validity.{HasDistinctNames};
 ghost use Rattle.module_run.specs.Runs.{opening_memory};
 ghost use Rattle.replay.specs.Runs.{IsRunOf, IsReplayFault, ShowsNoRun};
 
@@ -27,10 +28,11 @@ pub fn replay(
     module: &ValidModule,
     record: &Record,
 ) -> Result<EndState, ReplayFault>
-    ensures run { IfOk result (λ end. IsRunOf «module».now.parts record.now end) }
-    ensures fault { IfErr result (λ fault. IsReplayFault «module».now.parts record.now fault) }
-    ensures none { IfErr result (λ fault. ShowsNoRun «module».now.parts record.now fault) }
+    ensures run { IfOk result (λ end. IsRunOf «module».now.parts «record».now end) }
+    ensures fault { IfErr result (λ fault. IsReplayFault «module».now.parts «record».now fault) }
+    ensures none { IfErr result (λ fault. ShowsNoRun «module».now.parts «record».now fault) }
 {
+    has_distinct_names(module);
     let parts = record.parts();
     let threads = threads_of(alloc, module, parts)?;
     let ends = Vec::from_slice(alloc, parts.ends.as_slice())?;
@@ -40,6 +42,13 @@ pub fn replay(
         pages: parts.pages,
         bytes: memory.into_bytes(),
     })
+}
+
+/// No two exports of a valid module have one name. It does nothing else.
+fn has_distinct_names(module: &ValidModule)
+    ensures { HasDistinctNames «module».now.parts.exports }
+{
+    module.parts();
 }
 
 /// The memory of a module before the first instruction.

@@ -32,7 +32,7 @@ pub(crate) fn walk<T: TakesTurns + Drop>(
     memory: OneMemory,
     parts: &RecordParts,
 ) -> Result<OneMemory, ReplayFault>
-    requires record { IsRecord parts.now }
+    requires ranges { IsRecord parts.now }
     requires ready { (run : Run) × IsReadyFor T.stands T.begins T.program T.fuel run parts.now threads.items memory }
     ensures run { IfOk result (λ last. (run : Run) → IsReadyFor T.stands T.begins T.program T.fuel run parts.now threads.items memory → IsRecordedRun (start run) parts.now last) }
     ensures fault { IfErr result (λ fault. (run : Run) → IsReadyFor T.stands T.begins T.program T.fuel run parts.now threads.items memory → IsWalkFault (start run) parts.now fault) }

@@ -1,5 +1,9 @@
 //! The replay of a record by the program: what is printed, or why there is nothing to print.
-ghost use Rattle.std.specs.Prelude.{◌≡◌, ◌≤◌, IfOk, IfErr};
+ghost use Rattle.std.specs.Prelude.{◌≡◌, ◌≤◌, ℕ, List, IfOk, IfErr};
+ghost use Rattle.types.specs.declared.parts.Parts.{Parts};
+ghost use Rattle.record_text.specs.declared.parts.RecordParts.{RecordParts};
+ghost use Rattle.record_text.specs.Text.{record_text, IsRecord};
+ghost use Rattle.replay.specs.Runs.{ShowsNoRun};
 ghost use Rattle.report.specs.Jobs.{PrintsReplay, IsUnfit};
 
 use crate::running::print;
@@ -41,11 +45,20 @@ pub(crate) fn replay_record<W: Write>(
     };
     let end = match replay(alloc, module, &record) {
         Ok(end) => end,
-        Err(ReplayFault::NoMemory) => return Err(Unfit::NoMemory),
-        Err(fault) => return Err(Unfit::Misfit(fault)),
+        Err(fault) => return Err(misfit(fault)),
     };
     match print(out, &end, dump) {
         Ok(status) => Ok(status),
         Err(_) => Err(Unfit::Output),
+    }
+}
+
+/// What the fault of a replay says of the record's bytes.
+fn misfit(fault: ReplayFault) -> Unfit
+    ensures { (m : Parts) (r : RecordParts) (saved : List ℕ) → IsRecord r → saved ≡ record_text r → ShowsNoRun m r fault → IsUnfit m saved result }
+{
+    match fault {
+        ReplayFault::Line(_) | ReplayFault::EndLine(_) => Unfit::Misfit(fault),
+        ReplayFault::NoMemory => Unfit::NoMemory,
     }
 }
