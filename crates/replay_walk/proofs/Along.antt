@@ -1,6 +1,7 @@
 -- A walk along a log, from its beginning.
-use Rattle.std.proofs.Common.{◌≡◌, ◌≢◌, ℕ, zero, suc, ◌+◌, ◌<◌, ◌≤◌, true, false, List, [], ◌∷◌, ◌++◌, length, map, take, drop, Option, Some, None, refl, sym, ◌∙◌, ap, subst, ◌⊎◌, inl, inr, arith, slice_get}
-use Rattle.std.proofs.lemmas.Option.{slice_get_past}
+use Rattle.std.proofs.Common.{◌≡◌, ◌≢◌, ℕ, zero, suc, ◌+◌, ◌<◌, ◌≤◌, true, false, List, [], ◌∷◌, ◌++◌, length, map, take, drop, Option, Some, None, refl, sym, ◌∙◌, ap, subst, ◌⊎◌, inl, inr, arith, get_or}
+use Rattle.std.proofs.lemmas.List.{length-take-le, take_more, drop_more, take-append-drop}
+use Rattle.std.proofs.Math.Seq.{take-length}
 use Rattle.types.specs.declared.value.ValType.{ValType}
 use Rattle.types.specs.declared.value.Value.{Value}
 use Rattle.types.specs.declared.event.Event.{Event}
@@ -104,3 +105,29 @@ module _ {S : Type 0} (stands : S → Running → Type 0) (begins : S → List V
         (subst (λ c. CanTake (system_of (start r)) (rules_of r.limit) walked.state walked.places c e.thread (act_of e) → ⊥) (sym same) refused) in
         subst (λ l. logs.IsFirstMisfit (system_of (start r)) (rules_of r.limit) (first_state (start r)) first_places l count) (sym (ap as_acts is ∙ as_acts-append log (e ∷ rest)))
         (subst (λ c. logs.IsFirstMisfit (system_of (start r)) (rules_of r.limit) (first_state (start r)) first_places (as_acts log ++ acted e ∷ as_acts rest) c) same stops)
+
+  -- the same along a log, behind its first k entries
+  module _ (r : Run) (log : List entries.Entry) (threads : List S) (memory : Memory) (queue : WaitQueue) (begun : ℕ) (ends : List (Option Outcome)) (k limit : ℕ) (same : r.limit ≡ limit)
+      (walked : HasWalked stands begins program fuel r (take k log) threads memory queue begun ends) where
+    pub goes_in : (d : entries.Entry) → k < length log → (threads' : List S) (memory' : Memory) (queue' : WaitQueue) (begun' : ℕ) (ends' : List (Option Outcome)) → length threads' ≡ length threads
+        → HasTaken stands begins program fuel (standing_in r memory walked.state walked.places) limit k (get_or log k d).thread (act_of (get_or log k d)) threads' memory' queue' begun' ends'
+        → HasWalked stands begins program fuel r (take (k + 1) log) threads' memory' queue' begun' ends'
+    goes_in d within threads' memory' queue' begun' ends' count taken =
+        let below : k ≤ length log = omega arith in
+        subst (λ l. HasWalked stands begins program fuel r l threads' memory' queue' begun' ends') (sym (take_more log k d within))
+        (walked_on r (take k log) threads memory queue begun ends walked k (length-take-le k log below) (get_or log k d) threads' memory' queue' begun' ends' count
+        (subst (λ (l : ℕ). HasTaken stands begins program fuel (standing_in r memory walked.state walked.places) l k (get_or log k d).thread (act_of (get_or log k d)) threads' memory' queue' begun' ends')
+        (sym same) taken))
+
+    pub stops_in : (d : entries.Entry) → k < length log
+        → IsRefused (standing_in r memory walked.state walked.places) limit k (get_or log k d).thread (act_of (get_or log k d)) → IsFirstMisfit r log k
+    stops_in d within refused =
+        let below : k ≤ length log = omega arith in
+        stops_at r (take k log) threads memory queue begun ends walked k (length-take-le k log below) (get_or log k d) log (drop (k + 1) log)
+        (sym (take-append-drop k log) ∙ ap (λ l. take k log ++ l) (drop_more log k d within))
+        (subst (λ (l : ℕ). IsRefused (standing_in r memory walked.state walked.places) l k (get_or log k d).thread (act_of (get_or log k d))) (sym same) refused)
+
+    pub ends_in : k ≤ length log → length log ≤ k → HasWalked stands begins program fuel r log threads memory queue begun ends
+    ends_in below past =
+        let all : k ≡ length log = omega arith in
+        subst (λ l. HasWalked stands begins program fuel r l threads memory queue begun ends) (ap (λ (j : ℕ). take j log) all ∙ take-length log) walked

@@ -1,3 +1,4 @@
+pub mod Acts
 pub mod Ending
 pub mod Settled
 pub mod Taken

@@ -20,14 +20,15 @@ module _ {S : Type 0} (stands : S → Running → Type 0) (begins : S → List V
   module _ (s : Standing) (threads : List S) (queue : WaitQueue) (begun : ℕ) (ends : List (Option Outcome)) (st : IsStanding stands begins program fuel s threads queue begun ends)
       (n : ℕ) (going : IsGoing stands begins program fuel s threads queue ends n) where
     -- it is there, with its budget
-    pub within : n < length threads
-    within = slice_get_within threads n (going.runs).thread (going.runs).at
+    pub within : (lent : List S) → lent ≡ threads → n < length lent
+    within lent same = subst (λ l. n < length l) (sym same) (slice_get_within threads n (going.runs).thread (going.runs).at)
 
-    pub ready : (budget : ℕ) → s.budget ≡ budget → (x : S) → slice_get threads n ≡ Some x → (fuel x ≡ budget) × (t : Running) × stands x t × IsHere t
-    ready budget same x at =
+    pub ready : (lent : List S) → lent ≡ threads → (budget : ℕ) → s.budget ≡ budget → (x : S) → slice_get lent n ≡ Some x → (fuel x ≡ budget) × (t : Running) × stands x t × IsHere t
+    ready lent same budget enough x at =
         let r = going.runs in
-        let is : r.thread ≡ x = cc (at, r.at) in
-        ((st.alike n x at).1 ∙ same, s.state.threads n, subst (λ y. stands y (s.state.threads n)) is r.standing, r.here)
+        let here : slice_get threads n ≡ Some x = sym (ap (λ l. slice_get l n) same) ∙ at in
+        let is : r.thread ≡ x = cc (here, r.at) in
+        ((st.alike n x here).1 ∙ enough, s.state.threads n, subst (λ y. stands y (s.state.threads n)) is r.standing, r.here)
 
     -- it settled, and said what it wants
     pub record IsSettled (turn : Turn) (after : List S) : Type 0 where
@@ -36,8 +37,8 @@ module _ {S : Type 0} (stands : S → Running → Type 0) (begins : S → List V
       pub settles : Settles (system_at s) (s.state.threads n) thread
       pub says : Says s.program thread turn
 
-    pub settled : (turn : Turn) (after : List S) → ((x : S) → slice_get threads n ≡ Some x → SettlesAt stands program fuel x turn threads n after) → IsSettled turn after
-    settled turn after settles =
+    settled_here : (turn : Turn) (after : List S) → ((x : S) → slice_get threads n ≡ Some x → SettlesAt stands program fuel x turn threads n after) → IsSettled turn after
+    settled_here turn after settles =
         let r = going.runs in
         let now = settles r.thread r.at in
         let x = (now.replaced).now in
@@ -62,3 +63,7 @@ module _ {S : Type 0} (stands : S → Running → Type 0) (begins : S → List V
           settles = record { turns = last.turns; comes = last.comes (spawned_in s.worker) s.budget; rests = rests s.program last.settled turn last.here last.says };
           says = last.says;
         }
+
+    pub settled : (lent : List S) → lent ≡ threads → (turn : Turn) (after : List S) → ((x : S) → slice_get lent n ≡ Some x → SettlesAt stands program fuel x turn lent n after) → IsSettled turn after
+    settled lent same turn after settles =
+        settled_here turn after (subst (λ l. (x : S) → slice_get l n ≡ Some x → SettlesAt stands program fuel x turn l n after) same settles)

@@ -14,7 +14,7 @@ use Rattle.types.specs.declared.outcome.Stop.TheVariants as stops
 use Rattle.shared_memory.specs.Memory.{Memory, reply_of, state_after}
 use Rattle.shared_memory.specs.Events.{is_exempt}
 use Rattle.shared_memory.specs.WaitQueue.{WaitQueue}
-use Rattle.schedule.specs.System.{Want.Calls, Act.Made, Act.Heard, put}
+use Rattle.schedule.specs.System.{Want.Calls, Act, Act.Made, Act.Heard, put}
 use Rattle.schedule.specs.Histories.{Place, Place.Free, next_places}
 use Rattle.schedule.specs.Machine.{thread_full}
 use Rattle.machine.specs.Program.{Program}
@@ -57,6 +57,14 @@ module _ {S : Type 0} (stands : S → Running → Type 0) (begins : S → List V
       walks = (u, can, (refl, refl));
       standing = subst (λ (m : Memory). IsStanding stands begins program fuel (record (made_by s n e v u) { memory = m }) threads queue begun ends) same standing;
     }
+
+    pub took_as : (can : CanMake (system_at s) (rules_of limit) s.state s.places count n e v u) (act : Act Event Reply Answer) → act ≡ Made e v
+        → (held threads : List S) → held ≡ threads → (memory : Memory) (queue : WaitQueue) (begun : ℕ) (ends : List (Option Outcome))
+        → state_after s.memory e ≡ memory → IsStanding stands begins program fuel (made_by s n e v u) threads queue begun ends
+        → HasTaken stands begins program fuel s limit count n act held memory queue begun ends
+    took_as can act is held threads kept memory queue begun ends same standing =
+        subst (λ (a : Act Event Reply Answer). HasTaken stands begins program fuel s limit count n a held memory queue begun ends) (sym is)
+        (subst (λ l. HasTaken stands begins program fuel s limit count n (Made e v) l memory queue begun ends) (sym kept) (took can threads memory queue begun ends same standing))
 
   module _ (s : Standing) (threads : List S) (queue : WaitQueue) (begun : ℕ) (ends : List (Option Outcome)) (n : ℕ) (t : Running)
       (on : IsSettledOn stands begins program fuel s threads queue begun ends n t) (settles : Settles (system_at s) (s.state.threads n) t) (limit count : ℕ) where

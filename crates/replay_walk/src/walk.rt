@@ -49,18 +49,21 @@ impl<T: TakesTurns> Walk<T> {
     {
         match entry.event {
             Event::Told(answer) => self.take_told(entry.thread, answer, at, limit),
-            Event::Ask(Question::Leave) => self.take_leave(entry.thread, at, limit, fuel),
-            event => self.take_event(entry.thread, event, entry.reply, at, limit, fuel),
+            Event::Ask(Question::Leave) => self.take_leave(entry, at, limit, fuel),
+            _ => self.take_event(entry, at, limit, fuel),
         }
     }
 
     /// A leave: the thread has ended, or it wants another event and the log is full.
-    fn take_leave(&mut self, n: u32, at: usize, limit: u32, fuel: u64) -> bool
+    fn take_leave(&mut self, entry: &Entry, at: usize, limit: u32, fuel: u64) -> bool
+        requires entry { IsEntry entry.now }
+        requires kind { entry.now.event ≡ events.Ask Leave }
         requires standing { (s : Standing) × IsStanding T.stands T.begins T.program T.fuel s self.old.threads.items self.old.stage.queue self.old.stage.started self.old.stage.ends × (s.memory ≡ self.old.memory) × (s.budget ≡ fuel) }
         ensures count { length self.new.threads.items ≡ length self.old.threads.items }
-        ensures taken { result ≡ true → (s : Standing) → IsStanding T.stands T.begins T.program T.fuel s self.old.threads.items self.old.stage.queue self.old.stage.started self.old.stage.ends → s.memory ≡ self.old.memory → HasTaken T.stands T.begins T.program T.fuel s limit at n (Made (events.Ask Leave) Done) self.new.threads.items self.new.memory self.new.stage.queue self.new.stage.started self.new.stage.ends }
-        ensures refused { result ≡ false → (s : Standing) → IsStanding T.stands T.begins T.program T.fuel s self.old.threads.items self.old.stage.queue self.old.stage.started self.old.stage.ends → IsRefused s limit at n (Made (events.Ask Leave) Done) }
+        ensures taken { result ≡ true → (s : Standing) → IsStanding T.stands T.begins T.program T.fuel s self.old.threads.items self.old.stage.queue self.old.stage.started self.old.stage.ends → s.memory ≡ self.old.memory → HasTaken T.stands T.begins T.program T.fuel s limit at entry.now.thread (act_of entry.now) self.new.threads.items self.new.memory self.new.stage.queue self.new.stage.started self.new.stage.ends }
+        ensures refused { result ≡ false → (s : Standing) → IsStanding T.stands T.begins T.program T.fuel s self.old.threads.items self.old.stage.queue self.old.stage.started self.old.stage.ends → IsRefused s limit at entry.now.thread (act_of entry.now) }
     {
+        let n = entry.thread;
         if !self.stage.is_going::<T>(n) {
             return false;
         }
@@ -72,30 +75,26 @@ impl<T: TakesTurns> Walk<T> {
                 }
                 Outcome::Stop(Stop::RecordFull)
             }
-            Turn::Moved | Turn::Awaits => return false,
+            _ => return false,
         };
         self.stage.leave::<T>(n, outcome);
         true
     }
 
     /// Another event, for which the log has room: the thread wants this very one, and the memory gives this reply.
-    fn take_event(
-        &mut self,
-        n: u32,
-        event: Event,
-        reply: Reply,
-        at: usize,
-        limit: u32,
-        fuel: u64,
-    ) -> bool
-        requires event { IsEvent event }
-        requires kind { is_exempt event ≡ false }
-        requires reply { IsAnswered reply }
+    fn take_event(&mut self, entry: &Entry, at: usize, limit: u32, fuel: u64) -> bool
+        requires entry { IsEntry entry.now }
+        requires kind { is_exempt entry.now.event ≡ false }
         requires standing { (s : Standing) × IsStanding T.stands T.begins T.program T.fuel s self.old.threads.items self.old.stage.queue self.old.stage.started self.old.stage.ends × (s.memory ≡ self.old.memory) × (s.budget ≡ fuel) × HasThreads s.program (length self.old.threads.items) }
         ensures count { length self.new.threads.items ≡ length self.old.threads.items }
-        ensures taken { result ≡ true → (s : Standing) → IsStanding T.stands T.begins T.program T.fuel s self.old.threads.items self.old.stage.queue self.old.stage.started self.old.stage.ends → s.memory ≡ self.old.memory → HasTaken T.stands T.begins T.program T.fuel s limit at n (Made event reply) self.new.threads.items self.new.memory self.new.stage.queue self.new.stage.started self.new.stage.ends }
-        ensures refused { result ≡ false → (s : Standing) → IsStanding T.stands T.begins T.program T.fuel s self.old.threads.items self.old.stage.queue self.old.stage.started self.old.stage.ends → s.memory ≡ self.old.memory → IsRefused s limit at n (Made event reply) }
+        ensures taken { result ≡ true → (s : Standing) → IsStanding T.stands T.begins T.program T.fuel s self.old.threads.items self.old.stage.queue self.old.stage.started self.old.stage.ends → s.memory ≡ self.old.memory → HasTaken T.stands T.begins T.program T.fuel s limit at entry.now.thread (act_of entry.now) self.new.threads.items self.new.memory self.new.stage.queue self.new.stage.started self.new.stage.ends }
+        ensures refused { result ≡ false → (s : Standing) → IsStanding T.stands T.begins T.program T.fuel s self.old.threads.items self.old.stage.queue self.old.stage.started self.old.stage.ends → s.memory ≡ self.old.memory → IsRefused s limit at entry.now.thread (act_of entry.now) }
     {
+        let Entry {
+            thread: n,
+            event,
+            reply,
+        } = *entry;
         if at >= limit as usize || !self.stage.is_going::<T>(n) {
             return false;
         }

@@ -1,32 +1,35 @@
-use Rattle.std.proofs.Common.{rules, ◌≡◌, ◌<◌, ◌≤◌, ◌⊎◌, ℕ, true, false, List, [], length, Option, Some, None, All, ◌+◌, ◌-◌, ◌*◌, ◌/◌, ◌%◌, Bool, nat_eq, nat_lt, ◌∷◌, ◌++◌, slice_index_or, slice_set, bit_and, bit_or, Fits, w8, w32, w64, Bor, MutBor}
-use Rattle.types.specs.declared.value.Value.{Value}
-use Rattle.types.specs.declared.event.Event.TheVariants as events
-use Rattle.types.specs.declared.event.Question.TheVariants.{Leave}
-use Rattle.types.specs.declared.event.Reply.TheVariants.{Done}
-use Rattle.shared_memory.specs.Events.{IsEvent, is_exempt}
-use Rattle.schedule.specs.System.Act.{Made, Heard}
+use Rattle.std.proofs.Common.{◌≡◌, ℕ, ◌+◌, ◌<◌, ◌≤◌, List, [], ◌∷◌, ◌++◌, length, take, drop, Some, refl, sym, ◌∙◌, ap, subst, arith}
+use Rattle.std.proofs.lemmas.List.{length-take-le, take_more, drop_more, take-append-drop}
+use Rattle.types.specs.declared.event.Entry.{Entry}
 use Rattle.scheduled.specs.Shared.{act_of}
-use Rattle.record_text.specs.Conditions.{IsEntry}
-use Rattle.replay_steps.specs.Standing.{Standing, IsStanding, IsAnswered}
-use Rattle.replay_walk.specs.Walked.{Run, HasThreads, HasTaken, IsRefused, IsReady, HasWalked, IsFirstMisfit}
+use Rattle.replay_walk.specs.Walked.{Run, HasTaken, HasWalked, IsRefused, IsFirstMisfit, standing_in}
+use Rattle.replay_walk.proofs.Along.{goes_in, stops_in, ends_in}
 use Rattle.replay_walk.proofs.walk.Walk.along.Goals as goal
 
--- src/walk.rt:130:9
 pub loop-at-init : goal.loop-at-init
-loop-at-init g c = ?
+loop-at-init g c = λ r walked budget limit. walked
 
--- src/walk.rt:131:17
 pub take-requires-clause-standing : goal.take-requires-clause-standing
-take-requires-clause-standing g c = ?
+take-requires-clause-standing g c =
+    let new = c.requires.new in
+    let w = c.loop-at.invariant new.0 new.1 new.2 new.3 in
+    (standing_in new.0 c.loop-at.self.memory w.state w.places, w.standing, refl, new.2, w.count)
 
--- src/walk.rt:132:17
 pub returns-then-not-take-clause-misfit : goal.returns-then-not-take-clause-misfit
-returns-then-not-take-clause-misfit g c = ?
+returns-then-not-take-clause-misfit g c = λ k is r walked budget limit.
+    let w = c.loop-at.invariant r walked budget limit in
+    let here : c.loop-at.at ≡ k = cc is in
+    subst (λ (j : ℕ). IsFirstMisfit r c.args.log.now j) here
+    (stops_in g.T.TakesTurns.stands g.T.TakesTurns.begins g.T.TakesTurns.program g.T.TakesTurns.fuel r c.args.log.now c.loop-at.self.threads.items c.loop-at.self.memory c.loop-at.self.stage.queue c.loop-at.self.stage.started c.loop-at.self.stage.ends c.loop-at.at c.args.limit limit w _ c.loop-at-test.true
+    (c.take.ensures.refused c.if-not-take.true (standing_in r c.loop-at.self.memory w.state w.places) w.standing refl budget w.count))
 
--- src/walk.rt:130:9
 pub loop-at-preserved : goal.loop-at-preserved
-loop-at-preserved g c = ?
+loop-at-preserved g c = λ r walked budget limit.
+    let w = c.loop-at.invariant r walked budget limit in
+    goes_in g.T.TakesTurns.stands g.T.TakesTurns.begins g.T.TakesTurns.program g.T.TakesTurns.fuel r c.args.log.now c.loop-at.self.threads.items c.loop-at.self.memory c.loop-at.self.stage.queue c.loop-at.self.stage.started c.loop-at.self.stage.ends c.loop-at.at c.args.limit limit w _ c.loop-at-test.true c.take.new.self.threads.items c.take.new.self.memory c.take.new.self.stage.queue c.take.new.self.stage.started c.take.new.self.stage.ends c.take.ensures.count
+    (c.take.ensures.taken c.if-not-take.false (standing_in r c.loop-at.self.memory w.state w.places) w.standing refl budget w.count)
 
--- src/walk.rt:124:5
 pub returns-clause-whole : goal.returns-clause-whole
-returns-clause-whole g c = ?
+returns-clause-whole g c = λ none r walked budget limit.
+    let w = c.loop-at.invariant r walked budget limit in
+    ends_in g.T.TakesTurns.stands g.T.TakesTurns.begins g.T.TakesTurns.program g.T.TakesTurns.fuel r c.args.log.now c.loop-at.self.threads.items c.loop-at.self.memory c.loop-at.self.stage.queue c.loop-at.self.stage.started c.loop-at.self.stage.ends c.loop-at.at c.args.limit limit w c.loop-at.auto.at-end c.loop-at-test.false

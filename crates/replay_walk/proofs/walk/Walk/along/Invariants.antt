@@ -1,15 +1,8 @@
-use Rattle.std.proofs.Common.{◌≡◌, ◌<◌, ◌≤◌, ◌⊎◌, ℕ, true, false, List, [], length, Option, Some, None, All, ◌+◌, ◌-◌, ◌*◌}
-use Rattle.types.specs.declared.value.Value.{Value}
-use Rattle.types.specs.declared.event.Event.TheVariants as events
-use Rattle.types.specs.declared.event.Question.TheVariants.{Leave}
-use Rattle.types.specs.declared.event.Reply.TheVariants.{Done}
-use Rattle.shared_memory.specs.Events.{IsEvent, is_exempt}
-use Rattle.schedule.specs.System.Act.{Made, Heard}
-use Rattle.scheduled.specs.Shared.{act_of}
-use Rattle.record_text.specs.Conditions.{IsEntry}
-use Rattle.replay_steps.specs.Standing.{Standing, IsStanding, IsAnswered}
-use Rattle.replay_walk.specs.Walked.{Run, HasThreads, HasTaken, IsRefused, IsReady, HasWalked, IsFirstMisfit}
+use Rattle.std.proofs.Common.{◌≡◌, [], take}
+use Rattle.replay_walk.specs.Walked.{Run, HasWalked}
 use Rattle.replay_walk.proofs.walk.Walk.along.Given as goal
 
 abbrev pub invariant-loop-at : goal.invariant-loop-at
-invariant-loop-at g l = ?
+invariant-loop-at g l =
+    (r : Run) → HasWalked g.T.TakesTurns.stands g.T.TakesTurns.begins g.T.TakesTurns.program g.T.TakesTurns.fuel r [] l.initial.self.threads.items l.initial.self.memory l.initial.self.stage.queue l.initial.self.stage.started l.initial.self.stage.ends → r.budget ≡ l.fuel → r.limit ≡ l.limit
+    → HasWalked g.T.TakesTurns.stands g.T.TakesTurns.begins g.T.TakesTurns.program g.T.TakesTurns.fuel r (take l.at l.log) l.self.threads.items l.self.memory l.self.stage.queue l.self.stage.started l.self.stage.ends

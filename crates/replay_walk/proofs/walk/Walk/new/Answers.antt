@@ -1,16 +1,13 @@
-use Rattle.std.proofs.Common.{rules, ◌≡◌, ◌<◌, ◌≤◌, ◌⊎◌, ℕ, true, false, List, [], length, Option, Some, None, All, ◌+◌, ◌-◌, ◌*◌, ◌/◌, ◌%◌, Bool, nat_eq, nat_lt, ◌∷◌, ◌++◌, slice_index_or, slice_set, bit_and, bit_or, Fits, w8, w32, w64, Bor, MutBor}
-use Rattle.types.specs.declared.value.Value.{Value}
-use Rattle.types.specs.declared.event.Event.TheVariants as events
-use Rattle.types.specs.declared.event.Question.TheVariants.{Leave}
-use Rattle.types.specs.declared.event.Reply.TheVariants.{Done}
-use Rattle.shared_memory.specs.Events.{IsEvent, is_exempt}
-use Rattle.schedule.specs.System.Act.{Made, Heard}
-use Rattle.scheduled.specs.Shared.{act_of}
-use Rattle.record_text.specs.Conditions.{IsEntry}
-use Rattle.replay_steps.specs.Standing.{Standing, IsStanding, IsAnswered}
-use Rattle.replay_walk.specs.Walked.{Run, HasThreads, HasTaken, IsRefused, IsReady, HasWalked, IsFirstMisfit}
+use Rattle.std.proofs.Common.{◌≡◌, ℕ, List, [], Option, sym, subst}
+use Rattle.types.specs.declared.outcome.Outcome.{Outcome}
+use Rattle.shared_memory.specs.WaitQueue.{WaitQueue, first_queue}
+use Rattle.replay_walk.specs.Walked.{HasWalked}
+use Rattle.replay_walk.proofs.Begin.{begun}
 use Rattle.replay_walk.proofs.walk.Walk.new.Goals as goal
 
--- src/walk.rt:32:5
 pub returns : goal.returns
-returns g c = ?
+returns g c = λ r ready.
+    subst (λ (q : WaitQueue). HasWalked g.T.TakesTurns.stands g.T.TakesTurns.begins g.T.TakesTurns.program g.T.TakesTurns.fuel r [] c.args.threads.items c.args.memory q c.new.result.started c.new.result.ends) (sym c.new.ensures.queue)
+    (subst (λ (k : ℕ). HasWalked g.T.TakesTurns.stands g.T.TakesTurns.begins g.T.TakesTurns.program g.T.TakesTurns.fuel r [] c.args.threads.items c.args.memory first_queue k c.new.result.ends) (sym c.new.ensures.started)
+    (subst (λ (l : List (Option Outcome)). HasWalked g.T.TakesTurns.stands g.T.TakesTurns.begins g.T.TakesTurns.program g.T.TakesTurns.fuel r [] c.args.threads.items c.args.memory first_queue 1 l) (sym c.new.ensures.ends)
+    (begun g.T.TakesTurns.stands g.T.TakesTurns.begins g.T.TakesTurns.program g.T.TakesTurns.fuel r c.args.threads.items c.args.memory ready)))

@@ -1,44 +1,88 @@
-use Rattle.std.proofs.Common.{rules, ◌≡◌, ◌<◌, ◌≤◌, ◌⊎◌, ℕ, true, false, List, [], length, Option, Some, None, All, ◌+◌, ◌-◌, ◌*◌, ◌/◌, ◌%◌, Bool, nat_eq, nat_lt, ◌∷◌, ◌++◌, slice_index_or, slice_set, bit_and, bit_or, Fits, w8, w32, w64, Bor, MutBor}
-use Rattle.types.specs.declared.value.Value.{Value}
+use Rattle.std.proofs.Common.{◌≡◌, List, length, Some, sym, ◌∙◌, ap, subst}
+use Rattle.std.proofs.lemmas.List.{take_at}
+use Rattle.types.specs.declared.event.Event.{Event}
 use Rattle.types.specs.declared.event.Event.TheVariants as events
 use Rattle.types.specs.declared.event.Question.TheVariants.{Leave}
+use Rattle.types.specs.declared.event.Reply.{Reply}
 use Rattle.types.specs.declared.event.Reply.TheVariants.{Done}
-use Rattle.shared_memory.specs.Events.{IsEvent, is_exempt}
-use Rattle.schedule.specs.System.Act.{Made, Heard}
+use Rattle.types.specs.declared.event.Answer.{Answer}
+use Rattle.types.specs.declared.outcome.Outcome.{Outcome}
+use Rattle.shared_memory.proofs.Soundness.{alive_below}
+use Rattle.schedule.specs.System.{Act, Act.Made}
 use Rattle.scheduled.specs.Shared.{act_of}
-use Rattle.record_text.specs.Conditions.{IsEntry}
-use Rattle.replay_steps.specs.Standing.{Standing, IsStanding, IsAnswered}
-use Rattle.replay_walk.specs.Walked.{Run, HasThreads, HasTaken, IsRefused, IsReady, HasWalked, IsFirstMisfit}
+use Rattle.takes_turns.specs.declared.turn.Turn.{Turn}
+use Rattle.replay_steps.specs.Standing.{Says}
+use Rattle.replay_steps.proofs.Made.{is_free}
+use Rattle.replay_walk.specs.Walked.{IsRefused}
+use Rattle.replay_walk.proofs.Acts.{leave_act}
+use Rattle.replay_walk.proofs.Settled.{within, ready, settled}
+use Rattle.replay_walk.proofs.Taken.{Leaves, leaves_ended, leaves_full, took_as}
+use Rattle.replay_walk.proofs.Refused.{refused_gone, refused_leave}
 use Rattle.replay_walk.proofs.walk.Walk.take_leave.Goals as goal
+use Rattle.replay_walk.proofs.walk.Walk.take_leave.Goals.{in-Ended, in-Wants+else-at-limit}
 
--- src/walk.rt:65:13
 pub returns-then-not-is_going-clause-refused : goal.returns-then-not-is_going-clause-refused
-returns-then-not-is_going-clause-refused g c = ?
+returns-then-not-is_going-clause-refused g c = λ no s st.
+    let act = leave_act c.args.entry.now c.requires.entry c.requires.kind in
+    subst (λ (a : Act Event Reply Answer). IsRefused s c.args.limit c.args.at c.args.entry.now.thread a) (sym act)
+    (refused_gone g.T.TakesTurns.stands g.T.TakesTurns.begins g.T.TakesTurns.program g.T.TakesTurns.fuel s c.args.self.now.threads.items c.args.self.now.stage.queue c.args.self.now.stage.started c.args.self.now.stage.ends st c.args.entry.now.thread c.args.limit c.args.at (events.Ask Leave) Done (λ free. c.is_going.ensures.gone c.if-not-is_going.true s c.args.self.now.threads.items st free))
 
--- src/walk.rt:67:29
 pub settle_at-requires-clause-within : goal.settle_at-requires-clause-within
-settle_at-requires-clause-within g c = ?
+settle_at-requires-clause-within g c =
+    let s = c.requires.standing.0 in let st = c.requires.standing.1 in
+    let going = c.is_going.ensures.going c.if-not-is_going.false s c.args.self.now.threads.items st in
+    within g.T.TakesTurns.stands g.T.TakesTurns.begins g.T.TakesTurns.program g.T.TakesTurns.fuel s c.args.self.now.threads.items c.args.self.now.stage.queue c.args.self.now.stage.started c.args.self.now.stage.ends st c.args.entry.now.thread going c.deref_mut.result.now c.deref_mut.ensures.value
 
--- src/walk.rt:67:29
 pub settle_at-requires-clause-here : goal.settle_at-requires-clause-here
-settle_at-requires-clause-here g c = ?
+settle_at-requires-clause-here g c =
+    let s = c.requires.standing.0 in let st = c.requires.standing.1 in
+    let going = c.is_going.ensures.going c.if-not-is_going.false s c.args.self.now.threads.items st in
+    ready g.T.TakesTurns.stands g.T.TakesTurns.begins g.T.TakesTurns.program g.T.TakesTurns.fuel s c.args.self.now.threads.items c.args.self.now.stage.queue c.args.self.now.stage.started c.args.self.now.stage.ends st c.args.entry.now.thread going c.deref_mut.result.now c.deref_mut.ensures.value c.args.fuel c.requires.standing.3
 
--- src/walk.rt:71:21
 pub returns-then-at-limit-clause-refused : goal.returns-then-at-limit-clause-refused
-returns-then-at-limit-clause-refused g c = ?
+returns-then-at-limit-clause-refused g c = λ no s st.
+    let act = leave_act c.args.entry.now c.requires.entry c.requires.kind in
+    let going = c.is_going.ensures.going c.if-not-is_going.false s c.args.self.now.threads.items st in
+    let d = settled g.T.TakesTurns.stands g.T.TakesTurns.begins g.T.TakesTurns.program g.T.TakesTurns.fuel s c.args.self.now.threads.items c.args.self.now.stage.queue c.args.self.now.stage.started c.args.self.now.stage.ends st c.args.entry.now.thread going c.deref_mut.result.now c.deref_mut.ensures.value c.settle_at.result c.settle_at.new.threads c.settle_at.ensures.settled in
+    subst (λ (a : Act Event Reply Answer). IsRefused s c.args.limit c.args.at c.args.entry.now.thread a) (sym act)
+    (refused_leave g.T.TakesTurns.stands g.T.TakesTurns.begins g.T.TakesTurns.program g.T.TakesTurns.fuel s c.args.self.now.threads.items c.args.self.now.stage.queue c.args.self.now.stage.started c.args.self.now.stage.ends st c.args.entry.now.thread c.args.limit c.args.at going c.settle_at.result c.settle_at.new.threads d (λ o is. cc (is, c.in-Wants.is)) (λ e is. c.if-at-limit.true))
 
--- src/walk.rt:75:43
-pub returns-in-Moved-clause-refused : goal.returns-in-Moved-clause-refused
-returns-in-Moved-clause-refused g c = ?
+pub returns-in_default-clause-refused : goal.returns-in_default-clause-refused
+returns-in_default-clause-refused g c = λ no s st.
+    let act = leave_act c.args.entry.now c.requires.entry c.requires.kind in
+    let going = c.is_going.ensures.going c.if-not-is_going.false s c.args.self.now.threads.items st in
+    let d = settled g.T.TakesTurns.stands g.T.TakesTurns.begins g.T.TakesTurns.program g.T.TakesTurns.fuel s c.args.self.now.threads.items c.args.self.now.stage.queue c.args.self.now.stage.started c.args.self.now.stage.ends st c.args.entry.now.thread going c.deref_mut.result.now c.deref_mut.ensures.value c.settle_at.result c.settle_at.new.threads c.settle_at.ensures.settled in
+    subst (λ (a : Act Event Reply Answer). IsRefused s c.args.limit c.args.at c.args.entry.now.thread a) (sym act)
+    (refused_leave g.T.TakesTurns.stands g.T.TakesTurns.begins g.T.TakesTurns.program g.T.TakesTurns.fuel s c.args.self.now.threads.items c.args.self.now.stage.queue c.args.self.now.stage.started c.args.self.now.stage.ends st c.args.entry.now.thread c.args.limit c.args.at going c.settle_at.result c.settle_at.new.threads d (λ o is. c.in_default.not-Ended o is) (λ e is. absurd (c.in_default.not-Wants e is)))
 
--- src/walk.rt:77:9
 pub leave-requires-clause-free : goal.leave-requires-clause-free
-leave-requires-clause-free g c = ?
+leave-requires-clause-free g c =
+    let s = c.requires.standing.0 in let st = c.requires.standing.1 in
+    let going = c.is_going.ensures.going c.if-not-is_going.false s c.args.self.now.threads.items st in
+    let d = settled g.T.TakesTurns.stands g.T.TakesTurns.begins g.T.TakesTurns.program g.T.TakesTurns.fuel s c.args.self.now.threads.items c.args.self.now.stage.queue c.args.self.now.stage.started c.args.self.now.stage.ends st c.args.entry.now.thread going c.deref_mut.result.now c.deref_mut.ensures.value c.settle_at.result c.settle_at.new.threads c.settle_at.ensures.settled in
+    is_free g.T.TakesTurns.stands g.T.TakesTurns.begins g.T.TakesTurns.program g.T.TakesTurns.fuel s c.settle_at.new.threads c.args.self.now.stage.queue c.args.self.now.stage.started c.args.self.now.stage.ends c.args.entry.now.thread d.thread d.on
 
--- src/walk.rt:77:9
 pub leave-requires-clause-number : goal.leave-requires-clause-number
-leave-requires-clause-number g c = ?
+leave-requires-clause-number g c =
+    let s = c.requires.standing.0 in let st = c.requires.standing.1 in
+    let going = c.is_going.ensures.going c.if-not-is_going.false s c.args.self.now.threads.items st in
+    alive_below c.args.self.now.stage.queue st.sound c.args.entry.now.thread going.alive
 
--- src/walk.rt:58:5
 pub returns-clause-taken : goal.returns-clause-taken
-returns-clause-taken g c = ?
+returns-clause-taken g c = λ yes s st same.
+    let act = leave_act c.args.entry.now c.requires.entry c.requires.kind in
+    let going = c.is_going.ensures.going c.if-not-is_going.false s c.args.self.now.threads.items st in
+    let d = settled g.T.TakesTurns.stands g.T.TakesTurns.begins g.T.TakesTurns.program g.T.TakesTurns.fuel s c.args.self.now.threads.items c.args.self.now.stage.queue c.args.self.now.stage.started c.args.self.now.stage.ends st c.args.entry.now.thread going c.deref_mut.result.now c.deref_mut.ensures.value c.settle_at.result c.settle_at.new.threads c.settle_at.ensures.settled in
+    let l : Leaves g.T.TakesTurns.stands g.T.TakesTurns.begins g.T.TakesTurns.program g.T.TakesTurns.fuel s c.settle_at.new.threads c.args.self.now.stage.queue c.args.self.now.stage.started c.args.self.now.stage.ends c.args.entry.now.thread d.thread d.on d.settles c.args.limit c.args.at c.match-settle_at.outcome =
+    elim c.match-settle_at.branch [
+      | in-Ended w ↦ subst (λ (o : Outcome). Leaves g.T.TakesTurns.stands g.T.TakesTurns.begins g.T.TakesTurns.program g.T.TakesTurns.fuel s c.settle_at.new.threads c.args.self.now.stage.queue c.args.self.now.stage.started c.args.self.now.stage.ends c.args.entry.now.thread d.thread d.on d.settles c.args.limit c.args.at o) (sym w.outcome-is)
+      (leaves_ended g.T.TakesTurns.stands g.T.TakesTurns.begins g.T.TakesTurns.program g.T.TakesTurns.fuel s c.settle_at.new.threads c.args.self.now.stage.queue c.args.self.now.stage.started c.args.self.now.stage.ends c.args.entry.now.thread d.thread d.on d.settles c.args.limit c.args.at w.in-Ended.outcome
+      (subst (λ (t : Turn). Says s.program d.thread t) w.in-Ended.is d.says))
+      | in-Wants+else-at-limit w ↦
+      (let says = subst (λ (t : Turn). Says s.program d.thread t) w.in-Wants.is d.says in
+      subst (λ (o : Outcome). Leaves g.T.TakesTurns.stands g.T.TakesTurns.begins g.T.TakesTurns.program g.T.TakesTurns.fuel s c.settle_at.new.threads c.args.self.now.stage.queue c.args.self.now.stage.started c.args.self.now.stage.ends c.args.entry.now.thread d.thread d.on d.settles c.args.limit c.args.at o) (sym w.outcome-is)
+      (leaves_full g.T.TakesTurns.stands g.T.TakesTurns.begins g.T.TakesTurns.program g.T.TakesTurns.fuel s c.settle_at.new.threads c.args.self.now.stage.queue c.args.self.now.stage.started c.args.self.now.stage.ends c.args.entry.now.thread d.thread d.on d.settles c.args.limit c.args.at w.in-Wants.field-0 says.1 says.0 w.if-at-limit.false))
+    ] in
+    took_as g.T.TakesTurns.stands g.T.TakesTurns.begins g.T.TakesTurns.program g.T.TakesTurns.fuel s c.args.limit c.args.at c.args.entry.now.thread (events.Ask Leave) Done l.thread l.can (act_of c.args.entry.now) act _ c.settle_at.new.threads
+    (take_at c.settle_at.new.threads _ c.args.self.now.threads.len (c.settle_at.ensures.count ∙ c.deref_mut.ensures.len)) c.args.self.now.memory c.leave.new.self.queue c.leave.new.self.started c.leave.new.self.ends same
+    (c.leave.ensures.stands s d.thread l.thread c.settle_at.new.threads d.on (l.can).wants l.ended l.left l.here)

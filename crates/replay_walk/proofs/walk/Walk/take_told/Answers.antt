@@ -1,16 +1,16 @@
-use Rattle.std.proofs.Common.{rules, ◌≡◌, ◌<◌, ◌≤◌, ◌⊎◌, ℕ, true, false, List, [], length, Option, Some, None, All, ◌+◌, ◌-◌, ◌*◌, ◌/◌, ◌%◌, Bool, nat_eq, nat_lt, ◌∷◌, ◌++◌, slice_index_or, slice_set, bit_and, bit_or, Fits, w8, w32, w64, Bor, MutBor}
-use Rattle.types.specs.declared.value.Value.{Value}
-use Rattle.types.specs.declared.event.Event.TheVariants as events
-use Rattle.types.specs.declared.event.Question.TheVariants.{Leave}
-use Rattle.types.specs.declared.event.Reply.TheVariants.{Done}
-use Rattle.shared_memory.specs.Events.{IsEvent, is_exempt}
-use Rattle.schedule.specs.System.Act.{Made, Heard}
-use Rattle.scheduled.specs.Shared.{act_of}
-use Rattle.record_text.specs.Conditions.{IsEntry}
-use Rattle.replay_steps.specs.Standing.{Standing, IsStanding, IsAnswered}
-use Rattle.replay_walk.specs.Walked.{Run, HasThreads, HasTaken, IsRefused, IsReady, HasWalked, IsFirstMisfit}
+use Rattle.std.proofs.Common.{◌≡◌, List, length, sym, ◌∙◌, subst}
+use Rattle.std.proofs.lemmas.List.{take_at}
+use Rattle.schedule.specs.System.{Act.Heard}
+use Rattle.replay_steps.specs.Standing.{IsStanding}
+use Rattle.replay_walk.specs.Walked.{HasTaken}
+use Rattle.replay_walk.proofs.Taken.{took_told}
 use Rattle.replay_walk.proofs.walk.Walk.take_told.Goals as goal
 
--- src/walk.rt:113:5
 pub returns-clause-taken : goal.returns-clause-taken
-returns-clause-taken g c = ?
+returns-clause-taken g c = λ yes s st same.
+    let lent : IsStanding g.T.TakesTurns.stands g.T.TakesTurns.begins g.T.TakesTurns.program g.T.TakesTurns.fuel s c.deref_mut.result.now c.args.self.now.stage.queue c.args.self.now.stage.started c.args.self.now.stage.ends =
+    subst (λ (l : List g.row.T.Denot). IsStanding g.T.TakesTurns.stands g.T.TakesTurns.begins g.T.TakesTurns.program g.T.TakesTurns.fuel s l c.args.self.now.stage.queue c.args.self.now.stage.started c.args.self.now.stage.ends) (sym c.deref_mut.ensures.value) st in
+    subst (λ (l : List g.row.T.Denot). HasTaken g.T.TakesTurns.stands g.T.TakesTurns.begins g.T.TakesTurns.program g.T.TakesTurns.fuel s c.args.limit c.args.at c.args.n (Heard c.args.answer) l c.args.self.now.memory c.tell.new.self.queue c.tell.new.self.started c.tell.new.self.ends)
+    (sym (take_at c.tell.new.threads _ c.args.self.now.threads.len (c.tell.ensures.count ∙ c.deref_mut.ensures.len)))
+    (took_told g.T.TakesTurns.stands g.T.TakesTurns.begins g.T.TakesTurns.program g.T.TakesTurns.fuel s c.args.limit c.args.at c.args.n c.args.answer c.tell.new.threads c.args.self.now.memory c.tell.new.self.queue c.tell.new.self.started c.tell.new.self.ends same
+    (c.tell.ensures.told yes s lent))
