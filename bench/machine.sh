@@ -1,31 +1,49 @@
 #!/bin/bash
-# Runs the modules of machine/ by wathread and by wabt's wasm-interp, and prints the seconds of each and their ratio.
-# Needs wabt and hyperfine (Debian: apt-get install wabt hyperfine), and nothing else running.
+# Runs the modules of machine/ by wathread over both memories and by wabt's wasm-interp, and prints how many million
+# instructions each makes a second, in processor time, and what ours are of the other. Then what memory runs take. Other work on the
+# machine slows all sides, so the least of several runs counts, and the sides take turns.
+# Needs wabt, python3 and time (Debian: apt-get install wabt python3 time). ROUNDS=N: how often each runs.
 set -eu
-cd "$(dirname "$0")"
-top=$(cd .. && pwd)
-work=$(mktemp -d)
-trap 'rm -rf "$work"' EXIT
-program=$top/crates/wathread/out/wathread
-"$top/wathread" --version >/dev/null
+source "$(dirname "$0")/common.sh"
 
-median() {
-    hyperfine --warmup 1 --runs 5 --export-json "$work/time.json" "$@" >/dev/null 2>&1
-    python3 -c 'import json,sys; print(json.load(open(sys.argv[1]))["results"][0]["median"])' "$work/time.json"
+# How many units thread 0 of a run spends: the instructions of the module.
+units_of() {
+    $(run_of locked "$1") --record "$work/record" >/dev/null
+    awk '$1 == "end" { print $NF }' "$work/record"
 }
 
-printf '%-8s %-8s %10s %12s %8s\n' module memory wathread wasm-interp ratio
-for source in machine/*.wat; do
-    name=$(basename "${source%.wat}")
-    module=$work/$name.wasm
-    wat2wasm --enable-threads "$source" -o "$module"
-    theirs=$(median "wasm-interp --enable-threads $module --run-all-exports")
-    for memory in locked words; do
-        ours=$(median "$program run $module --invoke run --memory $memory --limit 1000000 --fuel 1000000000000")
-        python3 - "$name" "$memory" "$ours" "$theirs" <<'END'
-import sys
-name, memory, ours, theirs = sys.argv[1], sys.argv[2], float(sys.argv[3]), float(sys.argv[4])
-print(f"{name:8} {memory:8} {ours:10.3f} {theirs:12.3f} {ours / theirs:8.2f}")
-END
-    done
+machine
+printf '%-6s %12s %15s %14s %14s %14s %14s\n' module instructions 'recorder M/s' 'words M/s' 'wabt M/s' recorder/wabt words/wabt
+for name in sum fib sieve adds; do
+    file=$(module machine/$name)
+    "$top/bench/least.py" "$rounds" recorder="$(run_of locked "$file")" words="$(run_of words "$file")" \
+        wabt="wasm-interp --enable-threads $file --run-all-exports" >"$work/times"
+    awk -v name=$name -v units="$(units_of "$file")" '{ ms[$1] = $3 } END {
+        printf "%-6s %12d %15.1f %14.1f %14.1f %14.2f %14.2f\n", name, units, units / ms["recorder"] / 1e3,
+            units / ms["words"] / 1e3, units / ms["wabt"] / 1e3, ms["wabt"] / ms["recorder"], ms["wabt"] / ms["words"]
+    }' "$work/times"
 done
+
+# The largest part of a run that stayed in memory, in KiB.
+resident() {
+    /usr/bin/time -f %M -o "$work/kib" "$@" >/dev/null
+    cat "$work/kib"
+}
+
+echo
+echo 'Resident memory of a run, in KiB: what it has at most, the bytes of the opening pages, and those of the log that was filled'
+printf '%-44s %9s %9s %9s %9s\n' run most pages log beside
+row() {
+    printf '%-44s %9d %9d %9d %9d\n' "$1" "$2" "$3" "$4" $(($2 - $3 - $4))
+}
+adds=$(module threads/alone)
+few=$(resident $(run_of locked "$adds" 0))
+many=$(resident $(run_of locked "$adds" 999998))
+row 'one page, no entry in the log' "$few" 64 0
+row "one page, 999,999 entries, $(((many - few) * 1024 / 999999)) bytes each" "$many" 64 $((many - few))
+row '64 pages of data, over the recorder' "$(resident $(run_of locked "$(module machine/pages)"))" 4096 0
+row '64 pages of data, over words' "$(resident $(run_of words "$(module machine/pages)"))" 4096 0
+python3 "$top/bench/modules.py" functions "$work/large.wasm" run >/dev/null
+row '850,036 bytes of module, 10,000 functions' "$(resident $(run_of locked "$work/large.wasm" 1))" 0 0
+row '16 threads, over the recorder' "$(resident $(run_of locked "$(module threads/ends)" 15))" 64 0
+row '16 threads, over words' "$(resident $(run_of words "$(module threads/ends)" 15))" 64 0

@@ -1,6 +1,7 @@
 #!/usr/bin/env python3
 """Writes a module of nearly 1 MiB, for benchmarks of reading and validating: `functions` has 10,000 small functions, `blocks` has
-15 of nearly 64 KiB each, whose code is blocks with a branch out of each."""
+15 of nearly 64 KiB each, whose code is blocks with a branch out of each. With a third word the first function is exported
+under it."""
 import sys
 
 
@@ -35,6 +36,9 @@ count, body = {"functions": (10000, small()), "blocks": (15, blocks())}[sys.argv
 module = b"\0asm\x01\0\0\0"
 module += section(1, number(1) + b"\x60\x01\x7f\x01\x7f")
 module += section(3, number(count) + b"\x00" * count)
+if len(sys.argv) > 3:
+    name = sys.argv[3].encode()
+    module += section(7, number(1) + number(len(name)) + name + b"\0\0")
 module += section(10, number(count) + (number(len(body)) + body) * count)
 open(sys.argv[2], "wb").write(module)
 print(len(module), "bytes,", count, "functions")

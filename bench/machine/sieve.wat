@@ -1,4 +1,4 @@
-;; The sieve of Eratosthenes below 65,536, forty times over.
+;; The sieve of Eratosthenes below 65,536, four times over: fewer than 1,000,000 accesses, so that a log takes them.
 (module
   (memory 1 1)
   (func $sieve (param $times i32) (result i32)
@@ -24,4 +24,4 @@
       (br_if $again (local.tee $times (i32.sub (local.get $times) (i32.const 1)))))
     local.get $count)
   (func (export "run") (result i32)
-    (call $sieve (i32.const 40))))
+    (call $sieve (i32.const 4))))

@@ -1,14 +1,15 @@
-//! Accesses by several threads over one recorder, and with the word `time` how long one of them takes.
+//! Accesses by several threads over one shared memory, and with the word `time` how long all of them take.
 //!
-//! The arguments are the number of threads, 1 to 16, and the number of accesses in all, 1 to 1,000,000.
+//! The arguments are `locked` for the recorder or `words` for the row of words; `adds` or `stores`, in turn with loads;
+//! the number of threads, 1 to 16; and the number of accesses in all, 1 to 1,000,000, over words to 100,000,000.
 #![tactic(auto)]
 
 mod plan;
+mod run;
 mod work;
 
 use anyhow::{Context, Result};
-use locked_recorder::Prepared;
-use plan::Plan;
+use plan::{Plan, Shared};
 use std::env;
 use std::marker::Brand;
 
@@ -19,14 +20,23 @@ const IMAGE: [u8; 65536] = [0; 65536];
 const MOST_ACCESSES: u32 = 1_000_000;
 
 fn main(rt: HostRuntime) -> Result<()> {
-    let words: Vec<String> = env::args(&rt)?.collect(rt.alloc())?;
-    let plan = Plan::read(&words).context("bench_memory THREADS ACCESSES [time]")?;
-    let prepared = Prepared::new(rt.alloc(), &IMAGE, 1, MOST_ACCESSES)?;
-    let spent = work::run::<Brand, HostRuntime>(&rt, rt.alloc(), prepared, &plan)?;
-    println!(rt; "accesses {} by {} threads", spent.accesses, plan.threads)?;
+    let alloc = rt.alloc();
+    let words: Vec<String> = env::args(&rt)?.collect(alloc)?;
+    let usage = "bench_memory locked|words adds|stores THREADS ACCESSES [time]";
+    let plan = Plan::read(&words).context(usage)?;
+    let spent = match plan.shared {
+        Shared::Locked => {
+            let prepared = locked_recorder::Prepared::new(alloc, &IMAGE, 1, MOST_ACCESSES)?;
+            run::over_recorder::<Brand, HostRuntime>(&rt, alloc, prepared, &plan)?
+        }
+        Shared::Words => {
+            let prepared = word_row::Prepared::new(alloc, &IMAGE, 1)?;
+            run::over_words::<Brand, HostRuntime>(&rt, alloc, prepared, &plan)?
+        }
+    };
+    println!(rt; "accesses {} by {} threads", spent.answered, plan.threads)?;
     if plan.is_timed {
-        let each = spent.nanos / u128::from(plan.accesses);
-        println!(rt; "{each} nanoseconds an access")?;
+        println!(rt; "nanoseconds {}", spent.nanos)?;
     }
     Ok(())
 }

@@ -1,73 +1,78 @@
-//! The accesses of each thread.
-ghost use Rattle.std.specs.Prelude.{◌≡◌, ◌<◌};
+//! The accesses of one thread.
+ghost use Rattle.std.specs.Prelude.{◌≡◌, ◌≤◌, ◌*◌, false};
+ghost use Rattle.shared_memory.specs.Events.{IsEvent, is_of_queue};
 
-use crate::plan::Plan;
-use anyhow::{Result, anyhow};
-use locked_recorder::{LockedRecorder, Naming, Prepared};
+use crate::plan::Change;
 use shared_memory::SharedMemory;
-use std::alloc::Global;
-use std::sync::Wait;
-use std::thread;
-use std::thread::Threads;
-use std::time::{Clock, Instant};
-use types::{Event, RmwOp};
+use types::{Event, Reply, RmwOp};
+use word_row::{Naming, WordRow, WordSeat};
 
-/// What a run was: the entries of its log, and the nanoseconds of all accesses.
-#[derive(Drop)]
-pub struct Spent {
-    pub accesses: usize,
-    pub nanos: u128,
+/// What one thread is to do.
+#[derive(Clone, Copy)]
+pub struct Task {
+    pub change: Change,
+    pub times: u32,
 }
 
-/// The accesses of one thread: alternately it adds 1 to its own word of 8 bytes, and loads it.
-fn work<M: SharedMemory>(memory: &M, mut seat: M::Seat, times: u32) -> M::Seat {
-    let addr = 64 * u64::from(memory.name(&seat));
-    for i in 0..times {
-        let event = if i % 2 == 0 {
-            Event::Rmw {
-                op: RmwOp::Add,
-                addr,
-                width: 8,
-                value: 1,
-            }
-        } else {
-            Event::Load {
-                addr,
-                width: 8,
-                reach: addr + 8,
-            }
-        };
-        let _ = memory.access(&mut seat, event);
-    }
-    seat
-}
-
-/// Opens the recorder, lets the threads make their accesses, and closes it.
-pub fn run<B: Naming + Send + Sync, R: Threads + Wait + Sync + Clock>(
-    rt: &R,
-    alloc: Global,
-    prepared: Prepared,
-    plan: &Plan,
-) -> Result<Spent>
-    requires table { prepared.table ≡ B.table }
-    requires opening { prepared.opening ≡ B.opening }
-    requires limit { prepared.limit ≡ B.limit }
+/// The access of a round to the word of a seat: the change in even rounds, a load in odd ones.
+fn event_of(change: Change, round: u32, name: u32) -> Event
+    requires { name ≤ 16 }
+    ensures event { IsEvent result }
+    ensures plain { is_of_queue result ≡ false }
 {
-    let (memory, mut seats) = LockedRecorder::<B, &R>::open(alloc, rt, prepared)?;
-    seats.reverse();
-    let mut jobs = Vec::new(alloc);
-    for i in 0..plan.threads {
-        let Some(seat) = seats.pop() else {
-            return Err(anyhow!("no seats"));
+    let addr = 64 * u64::from(name);
+    if round % 2 == 1 {
+        return Event::Load {
+            addr,
+            width: 8,
+            reach: addr + 8,
         };
-        let left = u32::from(i < plan.accesses % plan.threads);
-        jobs.push((seat, (plan.accesses / plan.threads).saturating_add(left)))?;
     }
-    let shared = &memory;
-    let start = Instant::now(rt)?;
-    let done = thread::map_vec(rt, jobs, &|(seat, times)| work(shared, seat, times))?;
-    let nanos = start.elapsed(rt)?.as_nanos();
-    seats.extend(done)?;
-    let accesses = memory.finish(seats).log.len();
-    Ok(Spent { accesses, nanos })
+    match change {
+        Change::Add => Event::Rmw {
+            op: RmwOp::Add,
+            addr,
+            width: 8,
+            value: 1,
+        },
+        Change::Store => Event::Store {
+            addr,
+            width: 8,
+            reach: addr + 8,
+            value: u64::from(round),
+        },
+    }
+}
+
+/// Whether an event was answered, and its try neither lost nor refused by a full log.
+fn is_answered(reply: Reply) -> bool {
+    !matches!(reply, Reply::Again | Reply::Full)
+}
+
+/// Makes the accesses over any shared memory; answers the seat, and how many were answered.
+pub fn perform<M: SharedMemory>(memory: &M, mut seat: M::Seat, task: Task) -> (M::Seat, u32) {
+    let name = memory.name(&seat);
+    let mut answered = 0u32;
+    for round in 0..task.times {
+        let event = event_of(task.change, round, name);
+        let reply = memory.access(&mut seat, event);
+        answered = answered.saturating_add(u32::from(is_answered(reply)));
+    }
+    (seat, answered)
+}
+
+/// Makes the accesses over a row of words, by the call that waits for nobody.
+pub fn perform_on_words<B: Naming>(
+    row: &WordRow<B>,
+    mut seat: WordSeat<B>,
+    task: Task,
+) -> (WordSeat<B>, u32) {
+    let name = seat.caller.name();
+    let mut answered = 0u32;
+    for round in 0..task.times {
+        let event = event_of(task.change, round, name);
+        let reply = row.access(&mut seat, event);
+        answered = answered.saturating_add(u32::from(is_answered(reply)));
+    }
+    (seat, answered)
 }

@@ -4,7 +4,7 @@ use Rattle.std.proofs.lemmas.List.{take-append-drop}
 use Rattle.std.specs.List.{slice_get}
 use Rattle.types.specs.declared.event.Answer.{Answer}
 use Rattle.types.specs.declared.outcome.ThreadReport.{ThreadReport}
-use Rattle.shared_memory.specs.Memory.{pages}
+use Rattle.shared_memory.specs.Memory.{Memory, pages}
 use Rattle.schedule.specs.System.{Want.Gone, Mark}
 use Rattle.schedule.specs.System as systems
 use Rattle.schedule.specs.Histories.{Place}
@@ -62,6 +62,14 @@ module _ (b : Start) (r : RecordParts) (z : systems.State Shared Running) (place
     before = λ m below. agrees_here m (first.before m below);
     none = λ S makes line. first.wrong (agrees_there S makes k line);
   }
+
+-- the same, where the walk keeps its memory apart
+module _ (b : Start) (r : RecordParts) (z : systems.State Shared Running) (places : ℕ → Place Answer) (walks : WalksAlong b r z places) (held : Memory) (same : z.shared.memory ≡ held) where
+  pub run_with : AllAgree r z places → IsRecordedRun b r held
+  run_with all = subst (λ memory. IsRecordedRun b r memory) same (run b r z places walks all)
+
+  pub ends_with : (last : Memory) → IsRecordedRun b r last → last ≡ held
+  ends_with last run = sym run.memory ∙ (same_memory b r z places walks run.schedule run.makes ∙ same)
 
 pub agreeing_records_are_of_runs : AgreeingRecordsAreOfRuns
 agreeing_records_are_of_runs b r z places walks all = run b r z places walks all

@@ -2,7 +2,11 @@
 #![tactic(auto)]
 
 #[cfg(test)]
+mod examples;
+#[cfg(test)]
 mod modules;
+#[cfg(test)]
+mod programs;
 #[cfg(test)]
 mod runs;
 #[cfg(test)]

@@ -1,4 +1,4 @@
--- An event that is no question: the memory makes it, and the queue stays as it is.
+-- An event at which the queue stays as it is: no question, or one out of bounds.
 use Rattle.std.proofs.Common.{◌≡◌, ℕ, ◌<◌, ◌+◌, Bool, true, false, List, length, None, refl, sym, ◌∙◌, ap, subst, set, length-set}
 use Rattle.types.specs.declared.value.ValType.{ValType}
 use Rattle.types.specs.declared.value.Value.{Value}
@@ -49,7 +49,7 @@ memory_made m (events.Cmpxchg addr width expected replacement) = either_made (na
 memory_made m (events.Ask question) = asked_made m question
 memory_made m (events.Told answer) = tt
 
-queue_stays : (q : WaitQueue) (n : ℕ) (e : Event) (v : Reply) → is_of_queue e ≡ false → queue_step q n e v ≡ q
+pub queue_stays : (q : WaitQueue) (n : ℕ) (e : Event) (v : Reply) → is_of_queue e ≡ false → queue_step q n e v ≡ q
 queue_stays q n events.Size v h = refl
 queue_stays q n (events.Grow more) v h = refl
 queue_stays q n (events.Load addr width reach) v h = refl
@@ -59,7 +59,7 @@ queue_stays q n (events.Cmpxchg addr width expected replacement) v h = refl
 queue_stays q n (events.Ask question) v h = absurd (cc h)
 queue_stays q n (events.Told answer) v h = absurd (cc h)
 
-none_starts : (s : Setting) (x : Shared) (e : Event) (m : ℕ) → is_of_queue e ≡ false → starts_by (machine_of s.program) (spawned_in s.worker) s.fuel x e m ≡ None
+pub none_starts : (s : Setting) (x : Shared) (e : Event) (m : ℕ) → is_of_queue e ≡ false → starts_by (machine_of s.program) (spawned_in s.worker) s.fuel x e m ≡ None
 none_starts s x events.Size m h = refl
 none_starts s x (events.Grow more) m h = refl
 none_starts s x (events.Load addr width reach) m h = refl
@@ -69,15 +69,24 @@ none_starts s x (events.Cmpxchg addr width expected replacement) m h = refl
 none_starts s x (events.Ask question) m h = absurd (cc h)
 none_starts s x (events.Told answer) m h = absurd (cc h)
 
+-- a question out of bounds starts nobody
+pub refused_starts : (s : Setting) (x : Shared) (question : Question) (m : ℕ) → reply_of x.memory (events.Ask question) ≡ replies.OutOfBounds
+    → starts_by (machine_of s.program) (spawned_in s.worker) s.fuel x (events.Ask question) m ≡ None
+refused_starts s x (Wait addr width expected timeout) m h = refl
+refused_starts s x (Notify addr count) m h = refl
+refused_starts s x (Spawn arg) m h = absurd (cc h)
+refused_starts s x Leave m h = refl
+
 module _ {S : Type 0} (stands : S → Running → Type 0) (begins : S → List ValType → (List Value → Config) → Type 0) (program : S → Program) (fuel : S → ℕ) (s : Setting) (w : State Shared Running) (n : ℕ) where
-  -- of two machines, that one is the other after a thread's event at the memory
+  -- of two machines, that one is the other after a thread's event at which the queue stays as it is, and nobody starts
   pub record Accesses (old new : Machine S) (y : Stepped S) (e : Event) : Type 0 where
     pub within : n < length old.threads.items
     pub threads : new.threads.items ≡ set old.threads.items n y
     pub memory : new.memory ≡ state_after old.memory e
     pub queue : new.queue ≡ old.queue
     pub next : old.next_id ≡ next_id old.queue → new.next_id ≡ next_id new.queue
-    pub no_question : is_of_queue e ≡ false
+    pub stays : queue_step w.shared.queue n e (reply_of w.shared.memory e) ≡ w.shared.queue
+    pub nobody : (m : ℕ) → starts_by (machine_of s.program) (spawned_in s.worker) s.fuel w.shared e m ≡ None
 
   module _ (old new : Machine S) (y : Stepped S) (e : Event) (c : Accesses old new y e) (at : IsAt stands begins program fuel s old w) where
     abbrev taken : Running
@@ -87,13 +96,13 @@ module _ {S : Type 0} (stands : S → Running → Type 0) (begins : S → List V
     after = after_event (system_by s) w n e
 
     queue_is : after.shared.queue ≡ w.shared.queue
-    queue_is = ap without_dues (queue_stays w.shared.queue n e (reply_of w.shared.memory e) c.no_question) ∙ at.orderly.heard
+    queue_is = ap without_dues c.stays ∙ at.orderly.heard
 
     threads_are : (m : ℕ) → after.threads m ≡ put w.threads n taken m
     threads_are m =
         let none : answer_due (queue_step w.shared.queue n e (reply_of w.shared.memory e)) m ≡ None =
-        ap (λ q. answer_due q m) (queue_stays w.shared.queue n e (reply_of w.shared.memory e) c.no_question) ∙ nothing_due s.program w.shared.queue w.threads at.orderly m in
-        ap (λ o. or_started o (hears_any (system_by s) (put w.threads n taken m) (answer_due (queue_step w.shared.queue n e (reply_of w.shared.memory e)) m))) (none_starts s w.shared e m c.no_question)
+        ap (λ q. answer_due q m) c.stays ∙ nothing_due s.program w.shared.queue w.threads at.orderly m in
+        ap (λ o. or_started o (hears_any (system_by s) (put w.threads n taken m) (answer_due (queue_step w.shared.queue n e (reply_of w.shared.memory e)) m))) (c.nobody m)
         ∙ ap (λ o. hears_any (system_by s) (put w.threads n taken m) o) none
 
     shared_is : after.shared ≡ record { memory = new.memory; queue = new.queue }
@@ -106,7 +115,7 @@ module _ {S : Type 0} (stands : S → Running → Type 0) (begins : S → List V
       shared = shared_is;
       threads = are_same stands begins program fuel s new.threads.items (put w.threads n taken) after.threads threads_are
           (subst (λ xs. AreThreads stands begins program fuel s xs (put w.threads n taken)) (sym c.threads) (are_put stands begins program fuel s old.threads.items w.threads n y taken c.within at.threads is));
-      sixteen = ap length c.threads ∙ (length-set old.threads.items n y ∙ at.sixteen);
+      slots = λ some. ap length c.threads ∙ (length-set old.threads.items n y ∙ at.slots some);
       next = c.next at.next;
       orderly = subst (λ q. IsOrderly s.program q after.threads) (sym queue_is)
           (orderly_same s.program w.shared.queue (put w.threads n taken) after.threads threads_are

@@ -6,4 +6,8 @@ pub mod Asked
 pub mod Marks
 pub mod Accesses
 pub mod Beginning
+pub mod Starting
 pub mod Questions
+pub mod Asking
+pub mod Turns
+pub mod Along

@@ -52,7 +52,7 @@ module _ {S : Type 0} (stands : S → Running → Type 0) (begins : S → List V
   at_put old new y t c at is orderly = record {
     shared = at.shared ∙ c.shared;
     threads = subst (λ xs. AreThreads stands begins program fuel s xs (put w.threads n t)) (sym c.threads) (are_put stands begins program fuel s old.threads.items w.threads n y t c.within at.threads is);
-    sixteen = ap length c.threads ∙ (length-set old.threads.items n y ∙ at.sixteen);
+    slots = λ some. ap length c.threads ∙ (length-set old.threads.items n y ∙ at.slots some);
     next = c.next at.next;
     orderly = orderly;
   }
@@ -61,7 +61,7 @@ module _ {S : Type 0} (stands : S → Running → Type 0) (begins : S → List V
   at_same old new y c at is = record {
     shared = at.shared ∙ c.shared;
     threads = subst (λ xs. AreThreads stands begins program fuel s xs w.threads) (sym c.threads) (are_set stands begins program fuel s old.threads.items w.threads w.threads n y c.within at.threads is (λ m apart. refl));
-    sixteen = ap length c.threads ∙ (length-set old.threads.items n y ∙ at.sixteen);
+    slots = λ some. ap length c.threads ∙ (length-set old.threads.items n y ∙ at.slots some);
     next = c.next at.next;
     orderly = at.orderly;
   }
@@ -89,3 +89,8 @@ module _ {S : Type 0} (stands : S → Running → Type 0) (begins : S → List V
   at_own old new y c at (Calls e) is none stands_for = absurd (cc none)
   at_own old new y c at Awaits is none stands_for = at_same old new y c at stands_for
   at_own old new y c at Gone is none stands_for = at_same old new y c at stands_for
+
+  pub at_gone : (old : Machine S) → length old.threads.items ≤ n → At old w → At old (after_turn (system_by s) w n (wants_of s.program (w.threads n)))
+  at_gone old past at =
+      let gone : w.threads n ≡ Absent = none_past stands begins program fuel s old.threads.items w.threads n past at.threads in
+      subst (λ (u : Running). At old (after_turn (system_by s) w n (wants_of s.program u))) (sym gone) at

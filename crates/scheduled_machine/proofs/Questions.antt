@@ -1,7 +1,7 @@
 -- A question within bounds: what every state keeps to still holds after it.
-use Rattle.std.proofs.Common.{◌≡◌, ◌≢◌, ℕ, ◌+◌, ◌<◌, ◌≤◌, ◌==◌, ◌&&◌, ◌⊎◌, inl, inr, Bool, true, false, cond, [], ◌∷◌, ◌++◌, length, Option, Some, None, refl, sym, ◌∙◌, ap, subst, arith, length-append}
+use Rattle.std.proofs.Common.{◌≡◌, ◌≢◌, ℕ, ◌+◌, ◌<◌, ◌≤◌, ◌⊎◌, inl, inr, true, false, Option, Some, None, refl, sym, ◌∙◌, ap, subst, arith}
 use Rattle.std.specs.Prelude.{nat_lt}
-use Rattle.std.proofs.lemmas.Bool.{cases_Bool, cases_lt, both_ways, le-ltb, lt-ltb, false_from_ne_true}
+use Rattle.std.proofs.lemmas.Bool.{cases_Bool, cases_lt, both_ways, cond_both, cond-true, lt-ltb, false_from_ne_true}
 use Rattle.types.specs.declared.event.Event.TheVariants as events
 use Rattle.types.specs.declared.event.Question.{Question}
 use Rattle.types.specs.declared.event.Question.TheVariants.{Wait, Notify, Spawn, Leave}
@@ -11,14 +11,14 @@ use Rattle.shared_memory.proofs.Others.{IsQuiet}
 use Rattle.schedule.specs.System.{Want.Calls, Want.Awaits, put}
 use Rattle.schedule.specs.Scheduled.{hears_any, or_started}
 use Rattle.schedule.specs.Machine.{Thread.Absent, Thread.Runs, Thread.Over, Thread.Leaves, Thread.Left}
-use Rattle.schedule.proofs.Basics.{put-same, put-other, at_each, other_is, same_or_not}
-use Rattle.scheduled.specs.Shared.{without_dues, starts_by}
-use Rattle.scheduled.specs.Threads.{machine_of}
-use Rattle.one_schedule.proofs.Places.{args_by, question_args, IsSound-without}
+use Rattle.schedule.proofs.Basics.{put-same, put-other, at_each, same_or_not}
+use Rattle.scheduled.specs.Shared.{without_dues}
+use Rattle.one_schedule.proofs.Places.{IsSound-without}
 use Rattle.takes_turns.specs.Turns.{Running, wants_of}
-use Rattle.scheduled_machine.specs.Threads.{Setting, IsHere, spawned_in}
-use Rattle.scheduled_machine.specs.Runs.{IsOrderly, all_hear, system_by, MayHear, started_by}
+use Rattle.scheduled_machine.specs.Threads.{Setting, IsHere}
+use Rattle.scheduled_machine.specs.Runs.{IsOrderly, all_hear, system_by, MayHear, next_after, started_at, started_by}
 use Rattle.scheduled_machine.proofs.Orderly.{nothing_due, free_asker}
+use Rattle.scheduled_machine.proofs.Starting.{next_question, spawned_apart, spawned_past}
 use Rattle.scheduled_machine.proofs.Asked.{sound_after, keeps_others, still_alive, newborn_alive}
 
 here_before : (s : Setting) (t : Running) (o : Option Answer) → IsHere (hears_any (system_by s) t o) → IsHere t
@@ -72,48 +72,34 @@ pub record IsStart (q : WaitQueue) (question : Question) (m : ℕ) : Type 0 wher
   pub number : m ≡ next_id q
   pub room : m < 16
 
-abbrev pub starts_at : Setting → WaitQueue → Question → ℕ → Option Running
-starts_at s q question m = starts_by (machine_of s.program) (spawned_in s.worker) s.fuel (record { memory = record { bytes = []; max = 0 }; queue = q }) (events.Ask question) m
-
-and_false : (b : Bool) → (b && false) ≡ false
-and_false true = refl
-and_false false = refl
-
-spawn_cases : (s : Setting) (q : WaitQueue) (arg m : ℕ) → (starts_at s q (Spawn arg) m ≡ None) ⊎ IsStart q (Spawn arg) m
+spawn_cases : (s : Setting) (q : WaitQueue) (arg m : ℕ) → (started_at s (next_id q) (Spawn arg) m ≡ None) ⊎ IsStart q (Spawn arg) m
 spawn_cases s q arg m =
     elim (same_or_not m (next_id q)) [
       | inl same ↦ elim (cases_lt m 16) [
         | inl room ↦ inr (record { arg = arg; spawn = refl; number = same; room = room })
-        | inr past ↦ inl (ap (λ b. cond (b && (m == next_id q)) (Some (Runs (spawned_in s.worker m arg) s.fuel)) None) (le-ltb m 16 past))
+        | inr past ↦ inl (spawned_past s (next_id q) arg m past)
       ]
-      | inr apart ↦ inl (ap (λ b. cond (nat_lt m 16 && b) (Some (Runs (spawned_in s.worker m arg) s.fuel)) None) (other_is m (next_id q) apart)
-          ∙ ap (λ b. cond b (Some (Runs (spawned_in s.worker m arg) s.fuel)) None) (and_false (nat_lt m 16)))
+      | inr apart ↦ inl (spawned_apart s (next_id q) arg m apart)
     ]
 
-start_cases : (s : Setting) (q : WaitQueue) (question : Question) (m : ℕ) → (starts_at s q question m ≡ None) ⊎ IsStart q question m
+start_cases : (s : Setting) (q : WaitQueue) (question : Question) (m : ℕ) → (started_at s (next_id q) question m ≡ None) ⊎ IsStart q question m
 start_cases s q (Wait addr width expected timeout) m = inl refl
 start_cases s q (Notify addr count) m = inl refl
 start_cases s q (Spawn arg) m = spawn_cases s q arg m
 start_cases s q Leave m = inl refl
 
 -- the next number after it
-args_grow : (q : WaitQueue) (question : Question) → length q.args ≤ length (args_by q question)
-args_grow q (Wait addr width expected timeout) = omega arith
-args_grow q (Notify addr count) = omega arith
-args_grow q (Spawn arg) = elim (cases_lt (next_id q) 16) [
-  | inl room ↦ subst (λ b. length q.args ≤ length (cond b (q.args ++ arg ∷ []) q.args)) (sym (lt-ltb (next_id q) 16 room)) (omega (arith, length-append q.args (arg ∷ [])))
-  | inr past ↦ subst (λ b. length q.args ≤ length (cond b (q.args ++ arg ∷ []) q.args)) (sym (le-ltb (next_id q) 16 past)) (omega arith)
-]
-args_grow q Leave = omega arith
+after_grows : (next : ℕ) (question : Question) → next ≤ next_after next question
+after_grows next (Wait addr width expected timeout) = omega arith
+after_grows next (Notify addr count) = omega arith
+after_grows next (Spawn arg) = cond_both (nat_lt next 16) (next + 1) next (λ k. next ≤ k) (λ e. omega arith) (λ e. omega arith)
+after_grows next Leave = omega arith
 
 pub next_grows : (q : WaitQueue) (n : ℕ) (question : Question) (v : ℕ) → next_id q ≤ next_id (after_question q n question v)
-next_grows q n question v = let e : length (WaitQueue.args (after_question q n question v)) ≡ length (args_by q question) = ap length (question_args q n question v) in omega (arith, e, args_grow q question)
+next_grows q n question v = omega (arith, next_question q n question v, after_grows (next_id q) question)
 
 pub next_spawned : (q : WaitQueue) (n arg v : ℕ) → next_id q < 16 → next_id (after_question q n (Spawn arg) v) ≡ next_id q + 1
-next_spawned q n arg v room =
-    let e : length (WaitQueue.args (after_question q n (Spawn arg) v)) ≡ length (args_by q (Spawn arg)) = ap length (question_args q n (Spawn arg) v) in
-    let d : length (args_by q (Spawn arg)) ≡ length (q.args ++ arg ∷ []) = ap (λ b. length (cond b (q.args ++ arg ∷ []) q.args)) (lt-ltb (next_id q) 16 room) in
-    omega (arith, e, d, length-append q.args (arg ∷ []))
+next_spawned q n arg v room = next_question q n (Spawn arg) v ∙ cond-true (nat_lt (next_id q) 16) (next_id q + 1) (next_id q) (lt-ltb (next_id q) 16 room)
 
 module _ (s : Setting) (q : WaitQueue) (f : ℕ → Running) (n : ℕ) (question : Question) (v : ℕ) (t : Running)
     (orderly : IsOrderly s.program q f) (calls : wants_of s.program (f n) ≡ Calls (events.Ask question)) (awaits : wants_of s.program t ≡ Awaits)

@@ -5,16 +5,17 @@ use Rattle.std.proofs.lemmas.Bool.{cases_lt}
 use Rattle.std.proofs.lemmas.Option.{slice_get-get_or, slice_get_past}
 use Rattle.types.specs.declared.value.ValType.{ValType}
 use Rattle.types.specs.declared.value.Value.{Value}
-use Rattle.schedule.specs.System.{put}
+use Rattle.schedule.specs.System.{Want.Awaits, put}
 use Rattle.schedule.specs.Machine.{Thread.Absent}
 use Rattle.schedule.proofs.Basics.{put-same, put-other, at_each}
 use Rattle.machine.specs.Program.{Program}
 use Rattle.machine.specs.Config.{Config}
-use Rattle.takes_turns.specs.Turns.{Running}
+use Rattle.takes_turns.specs.Turns.{Running, wants_of}
 use Rattle.scheduled_machine.specs.Threads.{Setting, IsThread}
 use Rattle.shared_memory.specs.WaitQueue.{WaitQueue, answer_due}
 use Rattle.schedule.specs.Scheduled.{hears_any}
-use Rattle.scheduled_machine.specs.Runs.{AreThreads, IsThreadAt, all_hear, system_by}
+use Rattle.types.specs.declared.event.Answer.{Answer}
+use Rattle.scheduled_machine.specs.Runs.{AreThreads, IsThreadAt, MayHear, all_hear, system_by}
 use Rattle.scheduled_machine.specs.declared.stepped.Stepped.{Stepped}
 
 pub get_set_same : {X : Type 0} (xs : List X) (i : ℕ) (y : X) → i < length xs → slice_get (set xs i y) i ≡ Some y
@@ -46,6 +47,14 @@ module _ {S : Type 0} (stands : S → Running → Type 0) (begins : S → List V
   -- a slot past the last
   pub none_past : (f : ℕ → Running) (n : ℕ) → length xs ≤ n → Are xs f → f n ≡ Absent
   none_past f n past are = subst (λ o. IsThreadAt stands begins program fuel s o (f n)) (slice_get_past xs n past) (are n)
+
+  -- who is there has a slot
+  pub there : (f : ℕ → Running) (n : ℕ) → Are xs f → (f n ≡ Absent → ⊥) → n < length xs
+  there f n are is = elim (cases_lt n (length xs)) [ inl within ↦ within | inr past ↦ absurd (is (none_past f n past are)) ]
+
+  -- to whom an answer is due is there
+  pub told_there : (f : ℕ → Running) (q : WaitQueue) (n : ℕ) (a : Answer) → Are xs f → MayHear s f q → answer_due q n ≡ Some a → n < length xs
+  told_there f q n a are may due = there f n are (λ gone. let w : wants_of s.program (f n) ≡ Awaits = may n a due in absurd (cc (sym w ∙ ap (wants_of s.program) gone)))
 
   -- one slot changed, and the family at its number
   pub are_set : (f g : ℕ → Running) (n : ℕ) (y : Stepped S) → n < length xs → Are xs f → Is y (g n) → ((m : ℕ) → m ≢ n → g m ≡ f m) → Are (set xs n y) g

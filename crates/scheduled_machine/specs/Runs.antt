@@ -1,15 +1,15 @@
 -- Where the machine stands: its threads, its memory and its queue are those of a state of the scheduled machine.
-use Rattle.std.specs.Prelude.{ℕ, ◌≡◌, ◌≤◌, true, List, [], ◌∷◌, length, Option, Some, None}
+use Rattle.std.specs.Prelude.{ℕ, zero, suc, ◌≡◌, ◌+◌, ◌<◌, ◌≤◌, ◌==◌, ◌&&◌, true, cond, nat_lt, List, [], ◌++◌, length, map, Option, Some, None, option_to_list}
 use Rattle.std.specs.List.{slice_get}
 use Rattle.types.specs.declared.value.ValType.{ValType}
 use Rattle.types.specs.declared.value.Value.{Value}
 use Rattle.types.specs.declared.event.Event.{Event}
-use Rattle.types.specs.declared.event.Event.TheVariants as events
 use Rattle.types.specs.declared.event.Question.{Question}
 use Rattle.types.specs.declared.event.Question.TheVariants as questions
 use Rattle.types.specs.declared.event.Reply.TheVariants as replies
 use Rattle.types.specs.declared.event.Reply.{Reply}
 use Rattle.types.specs.declared.event.Answer.{Answer}
+use Rattle.types.specs.declared.outcome.ThreadReport.{ThreadReport}
 use Rattle.types.specs.declared.event.Entry as entries
 use Rattle.shared_memory.specs.Memory.{Memory}
 use Rattle.shared_memory.specs.WaitQueue.{WaitQueue, is_alive, is_asleep, answer_due, next_id, after_question}
@@ -17,15 +17,16 @@ use Rattle.shared_memory.proofs.Soundness.{IsSound}
 use Rattle.schedule.specs.System.{Want.Awaits, System, State, put}
 use Rattle.schedule.specs.System as systems
 use Rattle.schedule.specs.Scheduled.{hears_any, or_started}
-use Rattle.schedule.specs.Machine.{Thread.Absent}
+use Rattle.schedule.specs.Machine.{Thread.Absent, Thread.Runs}
 use Rattle.machine.specs.Program.{Program}
 use Rattle.machine.specs.Config.{Config}
 use Rattle.machine.specs.State as states
-use Rattle.scheduled.specs.Shared.{Shared, without_dues, over_memory_and_queue, starts_by}
+use Rattle.scheduled.specs.Shared.{Shared, without_dues, over_memory_and_queue}
+use Rattle.scheduled.specs.Seeing.{entered}
 use Rattle.scheduled.specs.Threads.{machine_of}
 use Rattle.one_schedule.specs.Runs.{Start}
 use Rattle.takes_turns.specs.Turns.{Running, wants_of}
-use Rattle.scheduled_machine.specs.Threads.{Setting, IsHere, IsThread, spawned_in}
+use Rattle.scheduled_machine.specs.Threads.{Setting, IsHere, IsThread, report_of, spawned_in}
 use Rattle.scheduled_machine.specs.declared.mark.Kind as kinds
 use Rattle.scheduled_machine.specs.declared.mark.Kind.TheVariants as marks
 use Rattle.scheduled_machine.specs.declared.mark.Mark as mark
@@ -69,16 +70,25 @@ all_hear s threads q m = hears_any (system_by s) (threads m) (answer_due q m)
 abbrev pub MayHear : Setting → (ℕ → Running) → WaitQueue → Type 0
 MayHear s threads q = (m : ℕ) (a : Answer) → answer_due q m ≡ Some a → wants_of s.program (threads m) ≡ Awaits
 
--- The number of a thread that a spawn starts is one of a thread that isn't there yet.
-abbrev pub CanStart : Question → WaitQueue → (ℕ → Running) → Type 0
-CanStart (questions.Spawn arg) q threads = threads (next_id q) ≡ Absent
-CanStart question q threads = Unit {0}
+-- A spawn starts a thread under the next number, while there is room for it.
+abbrev pub spawned_at : Setting → ℕ → ℕ → ℕ → Option Running
+spawned_at s next arg m = cond (nat_lt m 16 && (m == next)) (Some (Runs (spawned_in s.worker m arg) s.fuel)) None
+
+abbrev pub with_spawned : Setting → ℕ → ℕ → (ℕ → Running) → ℕ → Running
+with_spawned s next arg threads m = or_started (spawned_at s next arg m) (threads m)
+
+-- The thread that a question starts under a number, and the number that comes next then.
+abbrev pub started_at : Setting → ℕ → Question → ℕ → Option Running
+started_at s next (questions.Spawn arg) m = spawned_at s next arg m
+started_at s next question m = None
+
+abbrev pub next_after : ℕ → Question → ℕ
+next_after next (questions.Spawn arg) = cond (nat_lt next 16) (next + 1) next
+next_after next question = next
 
 -- Each thread after a question: it hears the answer that it was given, and a spawn starts its thread.
 abbrev pub started_by : Setting → (ℕ → Running) → WaitQueue → ℕ → Question → ℕ → ℕ → Running
-started_by s threads q n question loaded m =
-    or_started (starts_by (machine_of s.program) (spawned_in s.worker) s.fuel (record { memory = record { bytes = []; max = 0 }; queue = q }) (events.Ask question) m)
-    (all_hear s threads (after_question q n question loaded) m)
+started_by s threads q n question loaded m = or_started (started_at s (next_id q) question m) (all_hear s threads (after_question q n question loaded) m)
 
 -- The value that a question loaded, where its reply leaves it open.
 abbrev pub opening_value : Reply → Option ℕ
@@ -88,10 +98,17 @@ opening_value replies.OutOfBounds = None
 opening_value replies.Again = None
 opening_value replies.Full = None
 
--- The entry that was made, if one was, as a list.
-abbrev pub listed : Option entries.Entry → List entries.Entry
-listed None = []
-listed (Some e) = e ∷ []
+-- Entries of the scheduled machine as those of a history.
+abbrev pub entry_of : systems.Entry Event Reply Answer → entries.Entry
+entry_of e = entered e.thread e.act
+
+abbrev pub as_entries : List (systems.Entry Event Reply Answer) → List entries.Entry
+as_entries made = map entry_of made
+
+-- The reports of the threads below a number that have left, in order.
+abbrev pub reports_below : ℕ → ℕ → (ℕ → Running) → List ThreadReport
+reports_below zero fuel threads = []
+reports_below (suc k) fuel threads = reports_below k fuel threads ++ option_to_list (report_of fuel (threads k))
 
 module _ {S : Type 0} (stands : S → Running → Type 0) (begins : S → List ValType → (List Value → Config) → Type 0) (program : S → Program) (fuel : S → ℕ) where
   abbrev pub IsThreadAt : Setting → Option (Stepped S) → Running → Type 0
@@ -102,9 +119,10 @@ module _ {S : Type 0} (stands : S → Running → Type 0) (begins : S → List V
   abbrev pub AreThreads : Setting → List (Stepped S) → (ℕ → Running) → Type 0
   AreThreads s xs threads = (m : ℕ) → IsThreadAt s (slice_get xs m) (threads m)
 
+  -- There is a thread for each number, where threads can be spawned.
   pub record IsAt (s : Setting) (machine : Machine S) (w : State Shared Running) : Type 0 where
     pub shared : w.shared ≡ record { memory = machine.memory; queue = machine.queue }
     pub threads : AreThreads s machine.threads.items w.threads
-    pub sixteen : length machine.threads.items ≡ 16
+    pub slots : 0 < s.program.imported → length machine.threads.items ≡ 16
     pub next : machine.next_id ≡ next_id machine.queue
     pub orderly : IsOrderly s.program w.shared.queue w.threads

@@ -1,5 +1,5 @@
 -- Which thread of the thread machine a thread of the program stands for.
-use Rattle.std.specs.Prelude.{ℕ, ◌≡◌, List, [], ◌∷◌, Option, Some, None}
+use Rattle.std.specs.Prelude.{ℕ, ◌≡◌, ◌-◌, List, [], ◌∷◌, Option, Some, None}
 use Rattle.types.specs.declared.value.ValType.{ValType}
 use Rattle.types.specs.declared.value.ValType.TheVariants as types
 use Rattle.types.specs.declared.value.Value.{Value}
@@ -8,6 +8,7 @@ use Rattle.types.specs.declared.event.Event.{Event}
 use Rattle.types.specs.declared.event.Reply.{Reply}
 use Rattle.types.specs.declared.event.Reply.TheVariants as replies
 use Rattle.types.specs.declared.outcome.Outcome.{Outcome}
+use Rattle.types.specs.declared.outcome.ThreadReport.{ThreadReport}
 use Rattle.schedule.specs.System.{Want, Want.Turns, Want.Calls, Want.Awaits, Want.Gone}
 use Rattle.schedule.specs.Machine.{Thread.Absent, Thread.Runs, Thread.Over, Thread.Leaves, Thread.Left}
 use Rattle.machine.specs.Program.{Program}
@@ -73,6 +74,11 @@ pub record IsAlike {S : Type 0} (program : S → Program) (fuel : S → ℕ) (s 
 pub record IsPrepared {S : Type 0} (begins : S → List ValType → (List Value → Config) → Type 0) (program : S → Program) (fuel : S → ℕ) (s : Setting) (x : S) : Type 0 where
   pub alike : IsAlike program fuel s x
   pub ready : begins x spawn_types s.worker
+
+-- The report of a thread that has left: its outcome, and the units that it has spent of the budget.
+abbrev pub report_of : ℕ → Running → Option ThreadReport
+report_of fuel (Left outcome left) = Some (record { outcome = outcome; spent = fuel - left })
+report_of fuel t = None
 
 module _ {S : Type 0} (stands : S → Running → Type 0) (begins : S → List ValType → (List Value → Config) → Type 0) (program : S → Program) (fuel : S → ℕ) where
   -- By its stage. One that runs has been asked what it wants. One that left, or asked to, has what was left to it when it ended.

@@ -4,6 +4,7 @@
 //! where the whole machine stands; the definition itself is that of the crates `schedule` and `scheduled`.
 #![tactic(auto)]
 
+mod ends;
 mod mark;
 mod stepped;
 mod stepping;

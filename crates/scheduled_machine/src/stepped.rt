@@ -1,17 +1,18 @@
 //! One thread of the machine.
-ghost use Rattle.std.specs.Prelude.{◌≡◌, Some, None, cond, not};
+ghost use Rattle.std.specs.Prelude.{◌≡◌, ◌≤◌, ℕ, Some, None, cond, not};
 ghost use Rattle.types.specs.declared.event.Event.{Event};
+ghost use Rattle.types.specs.declared.outcome.Outcome.{Outcome};
 ghost use Rattle.shared_memory.specs.Events.{IsEvent, is_exempt, may_lose};
 ghost use Rattle.schedule.specs.System.{Want.Calls, Want.Awaits};
-ghost use Rattle.schedule.specs.Machine.{Thread.Absent, Thread.Runs, thread_takes, thread_hears, thread_lost, thread_full, thread_wants_a};
+ghost use Rattle.schedule.specs.Machine.{Thread.Absent, Thread.Runs, Thread.Left, thread_takes, thread_hears, thread_lost, thread_full, thread_wants_a};
 ghost use Rattle.machine.specs.Config.{Config};
 ghost use Rattle.machine.specs.State.{At};
 ghost use Rattle.scheduled.specs.Threads.{machine_of};
 ghost use Rattle.takes_turns.specs.Turns.{Running, outcome_of, wants_of, own_turn_if, after_turn, IsGiven};
-ghost use Rattle.scheduled_machine.specs.Threads.{Setting, IsThread, IsPrepared, IsAlike, IsHere, IsMade, called, end_in, spawned_in};
+ghost use Rattle.scheduled_machine.specs.Threads.{Setting, IsThread, IsPrepared, IsAlike, IsHere, IsMade, called, end_in, report_of, spawned_in};
 
 use takes_turns::{Given, TakesTurns, Turn};
-use types::{Answer, Event, Outcome, Question, Reply, Value};
+use types::{Answer, Event, Outcome, Question, Reply, ThreadReport, Value};
 
 /// How far a thread is.
 #[derive(Clone, Copy, PartialEq, Eq, Debug)]
@@ -68,6 +69,20 @@ impl<T: TakesTurns> Stepped<T> {
         match self.stage {
             Stage::Runs(Turn::Wants(event)) => Some(event),
             Stage::Ended(_) => Some(Event::Ask(Question::Leave)),
+            _ => None,
+        }
+    }
+
+    /// Its report, if it has left.
+    pub(crate) fn report(&self) -> Option<ThreadReport>
+        ensures report { (s : Setting) (t : Running) → IsThread T.stands T.begins T.program T.fuel s self.now t → result ≡ report_of s.fuel t }
+        ensures within { (s : Setting) (outcome : Outcome) (left : ℕ) → IsThread T.stands T.begins T.program T.fuel s self.now (Left outcome left) → left ≤ s.fuel }
+    {
+        match self.stage {
+            Stage::Left(outcome) => Some(ThreadReport {
+                outcome,
+                spent: self.thread.spent(),
+            }),
             _ => None,
         }
     }

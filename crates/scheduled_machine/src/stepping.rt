@@ -1,26 +1,26 @@
 //! The machine: all threads of a module over one memory and one wait queue, stepped mark by mark.
-ghost use Rattle.std.specs.Prelude.{◌≡◌, ◌<◌, ℕ, Some, None, false, length, MatchOption};
+ghost use Rattle.std.specs.Prelude.{◌≡◌, ◌<◌, ◌+◌, ◌++◌, ℕ, Some, None, false, length, map, nat_lt, if◌then◌else◌, option_to_list, MatchOption, OnOk, OnErr};
+ghost use Rattle.types.specs.declared.event.Event.{Event};
 ghost use Rattle.types.specs.declared.event.Event.TheVariants.{Ask};
-ghost use Rattle.types.specs.declared.event.Reply.TheVariants.{OutOfBounds};
-ghost use Rattle.shared_memory.specs.Events.{IsEvent, is_of_queue};
+ghost use Rattle.shared_memory.specs.Events.{IsEvent, IsQuestion, is_of_queue};
 ghost use Rattle.shared_memory.specs.Memory.{reply_of};
 ghost use Rattle.shared_memory.specs.WaitQueue.{IsFree, next_id, after_question, answer_due, after_answer};
-ghost use Rattle.shared_memory.specs.History.{value_of};
 ghost use Rattle.schedule.specs.System.{State, Want.Calls, put};
 ghost use Rattle.schedule.specs.System as systems;
-ghost use Rattle.schedule.specs.Scheduled.{after_mark, after_event, entries_at};
-ghost use Rattle.schedule.specs.Machine.{Thread.Runs};
+ghost use Rattle.schedule.specs.Scheduled.{after_mark, after_event, entries_at, entries_made, scheduled_run};
+ghost use Rattle.schedule.specs.Machine.{Thread.Absent, Thread.Runs};
 ghost use Rattle.machine.specs.Config.{Config};
 ghost use Rattle.machine.specs.State.{At};
-ghost use Rattle.scheduled.specs.Shared.{Shared, starts_by, without_dues};
+ghost use Rattle.scheduled.specs.Shared.{Shared, without_dues};
 ghost use Rattle.one_schedule.specs.Runs.{first_state};
 ghost use Rattle.takes_turns.specs.Turns.{Running, wants_of};
 ghost use Rattle.scheduled_machine.specs.Threads.{Setting, called};
-ghost use Rattle.scheduled_machine.specs.Runs.{AreThreads, MayHear, IsAt, all_hear, system_by, start_of, first_thread};
+ghost use Rattle.scheduled_machine.specs.Runs.{AreThreads, MayHear, IsAt, all_hear, as_entries, first_thread, kind_of, mark_of, opening_value, start_of, started_by, system_by, with_spawned};
 
 use crate::mark::{Kind, Mark};
 use crate::stepped::Stepped;
 use one_memory::OneMemory;
+use std::alloc::AllocError;
 use takes_turns::TakesTurns;
 use types::{Entry, Event, Question, Reply};
 use waiters::Queue;
@@ -28,16 +28,16 @@ use waiters::Queue;
 /// The scheduled machine: threads 0 to 15 of a module, over one memory and one wait queue.
 #[derive(Drop)]
 pub struct Machine<T> {
-    threads: Vec<Stepped<T>>,
-    memory: OneMemory,
+    pub(crate) threads: Vec<Stepped<T>>,
+    pub(crate) memory: OneMemory,
     queue: Queue,
+    /// The number of the next thread that is spawned.
     next_id: u32,
 }
 
 /// A thread to which an answer is due hears it.
 fn tell<T: TakesTurns>(queue: &mut Queue, threads: &mut Vec<Stepped<T>>, n: u32)
-    requires there { n < length threads.old.items }
-    requires threads { (s : Setting) × (f : ℕ → Running) × AreThreads T.stands T.begins T.program T.fuel s threads.old.items f × MayHear s f queue.old }
+    requires { (s : Setting) × (f : ℕ → Running) × AreThreads T.stands T.begins T.program T.fuel s threads.old.items f × MayHear s f queue.old }
     ensures queue { MatchOption (answer_due queue.old n) (queue.new ≡ queue.old) (λ _. queue.new ≡ after_answer queue.old n) }
     ensures slots { length threads.new.items ≡ length threads.old.items }
     ensures threads { (s : Setting) (f : ℕ → Running) → AreThreads T.stands T.begins T.program T.fuel s threads.old.items f → MayHear s f queue.old → AreThreads T.stands T.begins T.program T.fuel s threads.new.items (put f n (all_hear s f queue.old n)) }
@@ -49,11 +49,10 @@ fn tell<T: TakesTurns>(queue: &mut Queue, threads: &mut Vec<Stepped<T>>, n: u32)
 
 /// Each thread to which an answer is due hears it.
 fn tell_all<T: TakesTurns>(queue: &mut Queue, threads: &mut Vec<Stepped<T>>)
-    requires sixteen { length threads.old.items ≡ 16 }
     requires due { length queue.old.due ≡ 16 }
     requires threads { (s : Setting) × (f : ℕ → Running) × AreThreads T.stands T.begins T.program T.fuel s threads.old.items f × MayHear s f queue.old }
     ensures queue { queue.new ≡ without_dues queue.old }
-    ensures sixteen { length threads.new.items ≡ 16 }
+    ensures slots { length threads.new.items ≡ length threads.old.items }
     ensures threads { (s : Setting) (f : ℕ → Running) → AreThreads T.stands T.begins T.program T.fuel s threads.old.items f → MayHear s f queue.old → AreThreads T.stands T.begins T.program T.fuel s threads.new.items (all_hear s f queue.old) }
 {
     for n in 0..16 {
@@ -62,10 +61,10 @@ fn tell_all<T: TakesTurns>(queue: &mut Queue, threads: &mut Vec<Stepped<T>>)
 }
 
 impl<T: TakesTurns> Machine<T> {
-    /// A machine before its first mark: of its 16 threads, thread 0 is at its start, and the others aren't started.
+    /// A machine before its first mark: of its threads, thread 0 is at its start, and the others aren't started. There are 16,
+    /// or fewer where the program spawns none.
     pub fn new(threads: Vec<Stepped<T>>, memory: OneMemory) -> Machine<T>
-        requires { length threads.items ≡ 16 }
-        ensures { (s : Setting) (main : Config) → AreThreads T.stands T.begins T.program T.fuel s threads.items (first_thread (Runs (At main) s.fuel)) → IsAt T.stands T.begins T.program T.fuel s result (first_state (start_of s main memory)) }
+        ensures { (s : Setting) (main : Config) → AreThreads T.stands T.begins T.program T.fuel s threads.items (first_thread (Runs (At main) s.fuel)) → (0 < s.program.imported → length threads.items ≡ 16) → IsAt T.stands T.begins T.program T.fuel s result (first_state (start_of s main memory)) }
     {
         Machine {
             threads,
@@ -73,6 +72,52 @@ impl<T: TakesTurns> Machine<T> {
             queue: Queue::new(),
             next_id: 1,
         }
+    }
+
+    /// The event that a thread wants to make next, if it wants one. One that has ended wants to leave.
+    pub fn wanted(&self, n: u32) -> Option<Event>
+        ensures wanted { (s : Setting) (w : State Shared Running) → IsAt T.stands T.begins T.program T.fuel s self.now w → result ≡ called (wants_of s.program (w.threads n)) }
+        ensures event { (s : Setting) (w : State Shared Running) → IsAt T.stands T.begins T.program T.fuel s self.now w → (e : Event) → result ≡ Some e → IsEvent e }
+    {
+        let place = n as usize;
+        if place < self.threads.len() {
+            return self.threads[place].wanted();
+        }
+        None
+    }
+
+    /// Steps the machine by a mark, and gives the entry that this makes, if it makes one.
+    pub fn step(&mut self, mark: Mark) -> Option<Entry>
+        requires { (s : Setting) × (w : State Shared Running) × IsAt T.stands T.begins T.program T.fuel s self.old w }
+        ensures state { (s : Setting) (w : State Shared Running) → IsAt T.stands T.begins T.program T.fuel s self.old w → IsAt T.stands T.begins T.program T.fuel s self.new (after_mark (system_by s) w mark.thread (kind_of mark.kind)) }
+        ensures entry { (s : Setting) (w : State Shared Running) → IsAt T.stands T.begins T.program T.fuel s self.old w → option_to_list result ≡ as_entries (entries_at (system_by s) w mark.thread (kind_of mark.kind)) }
+    {
+        match mark.kind {
+            Kind::Turn => return self.turn(mark.thread),
+            Kind::Loses => self.lose(mark.thread),
+            Kind::Fills => self.fill(mark.thread),
+        }
+        None
+    }
+
+    /// Steps the machine along a schedule, and puts the entries that this makes behind those in the list.
+    ///
+    /// # Errors
+    /// Where memory for the entries is refused. Then nothing was stepped, and the list has the entries that it had.
+    pub fn step_along(&mut self, marks: &[Mark], entries: &mut Vec<Entry>) -> Result<(), AllocError>
+        requires { (s : Setting) × (w : State Shared Running) × IsAt T.stands T.begins T.program T.fuel s self.old w }
+        ensures state { OnOk result ((s : Setting) (w : State Shared Running) → IsAt T.stands T.begins T.program T.fuel s self.old w → IsAt T.stands T.begins T.program T.fuel s self.new (scheduled_run (system_by s) w (map mark_of marks.now))) }
+        ensures entries { OnOk result ((s : Setting) (w : State Shared Running) → IsAt T.stands T.begins T.program T.fuel s self.old w → entries.new.items ≡ entries.old.items ++ as_entries (entries_made (system_by s) w (map mark_of marks.now))) }
+        ensures unstepped { OnErr result (self.new ≡ self.old) }
+        ensures unchanged { OnErr result (entries.new.items ≡ entries.old.items) }
+    {
+        entries.reserve(marks.len())?;
+        for mark in marks {
+            if let Some(entry) = self.step(*mark) {
+                entries.push_reserved(entry);
+            }
+        }
+        Ok(())
     }
 
     /// A thread loses a try of the event that it wants, if it can.
@@ -97,13 +142,32 @@ impl<T: TakesTurns> Machine<T> {
         }
     }
 
+    /// A thread makes its next turn: the event that it wants, or a turn of its own. It makes none where it awaits an answer,
+    /// has left, or isn't there.
+    fn turn(&mut self, n: u32) -> Option<Entry>
+        requires { (s : Setting) × (w : State Shared Running) × IsAt T.stands T.begins T.program T.fuel s self.old w }
+        ensures state { (s : Setting) (w : State Shared Running) → IsAt T.stands T.begins T.program T.fuel s self.old w → IsAt T.stands T.begins T.program T.fuel s self.new (after_mark (system_by s) w n systems.Turn) }
+        ensures entry { (s : Setting) (w : State Shared Running) → IsAt T.stands T.begins T.program T.fuel s self.old w → option_to_list result ≡ as_entries (entries_at (system_by s) w n systems.Turn) }
+    {
+        let Some(event) = self.wanted(n) else {
+            self.go(n);
+            return None;
+        };
+        match event {
+            Event::Ask(question) => Some(self.question(n, question)),
+            _ => Some(self.access(n, event)),
+        }
+    }
+
     /// A thread that wants no event makes a turn of its own, if it wants that.
     fn go(&mut self, n: u32)
-        requires there { n < length self.old.threads.items }
-        requires state { (s : Setting) × (w : State Shared Running) × IsAt T.stands T.begins T.program T.fuel s self.old w × (called (wants_of s.program (w.threads n)) ≡ None) }
+        requires { (s : Setting) × (w : State Shared Running) × IsAt T.stands T.begins T.program T.fuel s self.old w × (called (wants_of s.program (w.threads n)) ≡ None) }
         ensures { (s : Setting) (w : State Shared Running) → IsAt T.stands T.begins T.program T.fuel s self.old w → called (wants_of s.program (w.threads n)) ≡ None → IsAt T.stands T.begins T.program T.fuel s self.new (after_mark (system_by s) w n systems.Turn) }
     {
-        self.threads[n as usize].go();
+        let place = n as usize;
+        if place < self.threads.len() {
+            self.threads[place].go();
+        }
     }
 
     /// A thread makes the event that it wants, which is no question.
@@ -122,5 +186,74 @@ impl<T: TakesTurns> Machine<T> {
             event,
             reply,
         }
+    }
+
+    /// A thread asks the question that it wants to ask. One out of bounds has its answer in its reply.
+    fn question(&mut self, n: u32, question: Question) -> Entry
+        requires question { IsQuestion question }
+        requires there { n < length self.old.threads.items }
+        requires state { (s : Setting) × (w : State Shared Running) × IsAt T.stands T.begins T.program T.fuel s self.old w × (wants_of s.program (w.threads n) ≡ Calls (Ask question)) }
+        ensures state { (s : Setting) (w : State Shared Running) → IsAt T.stands T.begins T.program T.fuel s self.old w → wants_of s.program (w.threads n) ≡ Calls (Ask question) → IsAt T.stands T.begins T.program T.fuel s self.new (after_event (system_by s) w n (Ask question)) }
+        ensures entry { result ≡ record { thread = n; event = Ask question; reply = reply_of self.old.memory (Ask question) } }
+    {
+        let event = Event::Ask(question);
+        let reply = self.memory.step(&event);
+        self.threads[n as usize].take(reply);
+        if let Some(loaded) = loaded_by(reply) {
+            self.ask(n, question, loaded);
+        }
+        Entry {
+            thread: n,
+            event,
+            reply,
+        }
+    }
+
+    /// Asks a question of a thread that awaits its answer already. Who is given an answer by it hears that at once, and a spawn
+    /// starts its thread.
+    fn ask(&mut self, n: u32, question: Question, loaded: u64)
+        requires due { length (after_question self.old.queue n question loaded).due ≡ 16 }
+        requires next { self.old.next_id ≡ next_id self.old.queue }
+        requires free { IsFree self.old.queue n }
+        requires slots { (arg : ℕ) → question ≡ Question.Spawn arg → length self.old.threads.items ≡ 16 }
+        requires threads { (s : Setting) × (f : ℕ → Running) × AreThreads T.stands T.begins T.program T.fuel s self.old.threads.items f × MayHear s f (after_question self.old.queue n question loaded) × (f self.old.next_id ≡ Absent) }
+        ensures memory { self.new.memory ≡ self.old.memory }
+        ensures queue { self.new.queue ≡ without_dues (after_question self.old.queue n question loaded) }
+        ensures slots { length self.new.threads.items ≡ length self.old.threads.items }
+        ensures next { self.new.next_id ≡ next_id self.new.queue }
+        ensures threads { (s : Setting) (f : ℕ → Running) → AreThreads T.stands T.begins T.program T.fuel s self.old.threads.items f → MayHear s f (after_question self.old.queue n question loaded) → f self.old.next_id ≡ Absent → AreThreads T.stands T.begins T.program T.fuel s self.new.threads.items (started_by s f self.old.queue n question loaded) }
+    {
+        self.queue.ask(n, &question, loaded);
+        tell_all(&mut self.queue, &mut self.threads);
+        if let Question::Spawn { arg } = question {
+            self.start_next(arg);
+        }
+    }
+
+    /// Starts the thread of the next number with an argument, unless all numbers are given out.
+    fn start_next(&mut self, arg: u32)
+        requires slots { length self.old.threads.items ≡ 16 }
+        requires threads { (s : Setting) × (f : ℕ → Running) × AreThreads T.stands T.begins T.program T.fuel s self.old.threads.items f × (f self.old.next_id ≡ Absent) }
+        ensures memory { self.new.memory ≡ self.old.memory }
+        ensures queue { self.new.queue ≡ self.old.queue }
+        ensures slots { length self.new.threads.items ≡ 16 }
+        ensures next { self.new.next_id ≡ (if nat_lt self.old.next_id 16 then self.old.next_id + 1 else self.old.next_id) }
+        ensures threads { (s : Setting) (f : ℕ → Running) → AreThreads T.stands T.begins T.program T.fuel s self.old.threads.items f → f self.old.next_id ≡ Absent → AreThreads T.stands T.begins T.program T.fuel s self.new.threads.items (with_spawned s self.old.next_id arg f) }
+    {
+        if self.next_id < 16 {
+            self.threads[self.next_id as usize].start(self.next_id, arg);
+            self.next_id += 1;
+        }
+    }
+}
+
+/// The value that a question loaded, where its reply leaves it open.
+fn loaded_by(reply: Reply) -> Option<u64>
+    ensures { result ≡ opening_value reply }
+{
+    match reply {
+        Reply::Value(value) => Some(value),
+        Reply::Done => Some(0),
+        _ => None,
     }
 }

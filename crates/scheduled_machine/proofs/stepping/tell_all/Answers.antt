@@ -6,8 +6,8 @@ use Rattle.scheduled_machine.proofs.Slots.{are_same}
 use Rattle.scheduled_machine.proofs.Telling.{told_until, told_next, told_every, IsToldUntil, may_still, told_put, told_all}
 use Rattle.scheduled_machine.proofs.stepping.tell_all.Goals as goal
 
-pub tell-requires-clause-threads : goal.tell-requires-clause-threads
-tell-requires-clause-threads g c =
+pub tell-requires : goal.tell-requires
+tell-requires g c =
     let r = c.requires.threads in
     let i = c.loop-n.invariant in
     (r.0, told_until r.0 r.1 c.args.queue.now c.loop-n.n, i.threads r.0 r.1 r.2 r.3, may_still r.0 r.1 c.args.queue.now c.loop-n.queue c.loop-n.n i.queue r.3)

@@ -8,7 +8,7 @@ use Rattle.scheduled_machine.proofs.stepping.tell_all.Given as goal
 abbrev pub invariant-loop-n : goal.invariant-loop-n
 invariant-loop-n g l =
     let m = g.T.TakesTurns in record {
-      long : length l.threads.items ≡ 16;
+      long : length l.threads.items ≡ length l.initial.threads.items;
       queue : IsToldUntil l.n l.initial.queue l.queue;
       threads :
           (s : Setting) (f : ℕ → Running) → AreThreads m.stands m.begins m.program m.fuel s l.initial.threads.items f → MayHear s f l.initial.queue

@@ -4,7 +4,7 @@ use Rattle.schedule.specs.Machine.{thread_takes}
 use Rattle.scheduled.specs.Threads.{machine_of}
 use Rattle.scheduled_machine.specs.Threads.{IsThread, IsMade}
 use Rattle.scheduled_machine.proofs.Slots.{thread_in}
-use Rattle.scheduled_machine.proofs.Accesses.{memory_made, at_access}
+use Rattle.scheduled_machine.proofs.Accesses.{memory_made, queue_stays, none_starts, at_access}
 use Rattle.scheduled_machine.proofs.stepping.Machine.access.Goals as goal
 
 pub take-requires-clause-made : goal.take-requires-clause-made
@@ -19,5 +19,5 @@ returns-clause-state g c s w at calls =
     (thread_in m.stands m.begins m.program m.fuel s old.threads.items w.threads n c.index_mut.result.now c.requires.there at.threads) in
     let same = c.step-reply.ensures.reply ∙ ap (λ x. reply_of x.memory c.args.event) (sym at.shared) in
     at_access m.stands m.begins m.program m.fuel s w n old _ c.take.new.self c.args.event
-    (record { within = c.requires.there; threads = refl; memory = c.step-reply.ensures.state; queue = refl; next = λ e. e; no_question = c.requires.no_question }) at calls
+    (record { within = c.requires.there; threads = refl; memory = c.step-reply.ensures.state; queue = refl; next = λ e. e; stays = queue_stays w.shared.queue n c.args.event (reply_of w.shared.memory c.args.event) c.requires.no_question; nobody = λ k. none_starts s w.shared c.args.event k c.requires.no_question }) at calls
     (subst (λ v. IsThread m.stands m.begins m.program m.fuel s c.take.new.self (thread_takes (machine_of s.program) (w.threads n) v)) same (c.take.ensures s (w.threads n) c.args.event is calls))

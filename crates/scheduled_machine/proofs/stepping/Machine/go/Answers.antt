@@ -1,16 +1,37 @@
-use Rattle.std.proofs.Common.{refl, sym, subst}
+use Rattle.std.proofs.Common.{rules, ◌<◌, ◌≤◌, length, refl, sym, subst}
 use Rattle.takes_turns.specs.Turns.{wants_of}
 use Rattle.scheduled_machine.specs.Threads.{IsThread}
 use Rattle.scheduled_machine.proofs.Slots.{thread_in}
-use Rattle.scheduled_machine.proofs.Marks.{at_own}
+use Rattle.scheduled_machine.proofs.Marks.{at_own, at_gone}
 use Rattle.scheduled_machine.proofs.stepping.Machine.go.Goals as goal
 
-pub returns : goal.returns
-returns g c s w at none =
+pub go-requires : goal.go-requires
+go-requires g c =
+    let m = g.T.TakesTurns in
+    let r = c.requires in
+    let old = c.args.self.now in
+    let n = c.args.n in
+    let within : n < length old.threads.items = search rules in (
+      r.0,
+      (r.1).threads n,
+      subst (λ z. IsThread m.stands m.begins m.program m.fuel r.0 z ((r.1).threads n)) (sym c.index_mut.ensures.value)
+          (thread_in m.stands m.begins m.program m.fuel r.0 old.threads.items (r.1).threads n c.index_mut.result.now within (r.2).threads),
+      r.3,
+    )
+
+pub returns-then-place-len : goal.returns-then-place-len
+returns-then-place-len g c s w at none =
     let m = g.T.TakesTurns in
     let n = c.args.n in
     let old = c.args.self.now in
+    let within : n < length old.threads.items = search rules in
     let is = subst (λ z. IsThread m.stands m.begins m.program m.fuel s z (w.threads n)) (sym c.index_mut.ensures.value)
-    (thread_in m.stands m.begins m.program m.fuel s old.threads.items w.threads n c.index_mut.result.now c.requires.there at.threads) in
-    at_own m.stands m.begins m.program m.fuel s w n old _ c.go.new.self (record { within = c.requires.there; threads = refl; shared = refl; next = λ e. e }) at
+    (thread_in m.stands m.begins m.program m.fuel s old.threads.items w.threads n c.index_mut.result.now within at.threads) in
+    at_own m.stands m.begins m.program m.fuel s w n old _ c.go.new.self (record { within = within; threads = refl; shared = refl; next = λ e. e }) at
     (wants_of s.program (w.threads n)) refl none (c.go.ensures s (w.threads n) is none)
+
+pub returns-else-place-len : goal.returns-else-place-len
+returns-else-place-len g c s w at none =
+    let m = g.T.TakesTurns in
+    let past : length c.args.self.now.threads.items ≤ c.args.n = search rules in
+    at_gone m.stands m.begins m.program m.fuel s w c.args.n c.args.self.now past at

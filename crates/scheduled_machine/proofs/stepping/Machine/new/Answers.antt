@@ -6,10 +6,10 @@ use Rattle.scheduled_machine.proofs.Beginning.{next_first, orderly_first}
 use Rattle.scheduled_machine.proofs.stepping.Machine.new.Goals as goal
 
 pub returns : goal.returns
-returns g c s main are = record {
+returns g c s main are slots = record {
   shared = ap (λ (q : WaitQueue). record { memory = c.args.memory; queue = q }) (sym c.new.ensures);
   threads = are;
-  sixteen = c.requires;
+  slots = slots;
   next = sym (ap next_id c.new.ensures ∙ next_first);
   orderly = orderly_first s.program (Runs (At main) s.fuel);
 }

@@ -1,0 +1,37 @@
+;; Starts threads that each store and load a word of its own in turn, so many times four pairs. It waits until all are
+;; done.
+(module
+  (import "env" "memory" (memory 1 1 shared))
+  (import "wasi" "thread-spawn" (func $spawn (param i32) (result i32)))
+  ;; at 4 the times, at 64 how many threads are done, from 1024 on the words, 64 bytes apart
+
+  (func (export "run") (param $threads i32) (param $times i32) (result i32)
+    (local $place i32) (local $done i32)
+    (i32.store (i32.const 4) (local.get $times))
+    (loop $next
+      (drop (call $spawn (local.get $place)))
+      (br_if $next (i32.lt_u (local.tee $place (i32.add (local.get $place) (i32.const 1))) (local.get $threads))))
+    (loop $again
+      (local.set $done (i32.atomic.load (i32.const 64)))
+      (if (i32.ne (local.get $done) (local.get $threads))
+        (then
+          (drop (memory.atomic.wait32 (i32.const 64) (local.get $done) (i64.const -1)))
+          br $again)))
+    local.get $done)
+
+  (func (export "wasi_thread_start") (param $id i32) (param $place i32)
+    (local $addr i32) (local $times i32)
+    (local.set $addr (i32.add (i32.const 1024) (i32.mul (local.get $place) (i32.const 64))))
+    (local.set $times (i32.load (i32.const 4)))
+    (loop $next
+      (i64.atomic.store (local.get $addr) (i64.const 1))
+      (drop (i64.atomic.load (local.get $addr)))
+      (i64.atomic.store (local.get $addr) (i64.const 2))
+      (drop (i64.atomic.load (local.get $addr)))
+      (i64.atomic.store (local.get $addr) (i64.const 3))
+      (drop (i64.atomic.load (local.get $addr)))
+      (i64.atomic.store (local.get $addr) (i64.const 4))
+      (drop (i64.atomic.load (local.get $addr)))
+      (br_if $next (local.tee $times (i32.sub (local.get $times) (i32.const 1)))))
+    (drop (i32.atomic.rmw.add (i32.const 64) (i32.const 1)))
+    (drop (memory.atomic.notify (i32.const 64) (i32.const 1)))))
