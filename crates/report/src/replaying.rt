@@ -58,7 +58,8 @@ fn misfit(fault: ReplayFault) -> Unfit
     ensures { (m : Parts) (r : RecordParts) (saved : List ℕ) → IsRecord r → saved ≡ record_text r → ShowsNoRun m r fault → IsUnfit m saved result }
 {
     match fault {
-        ReplayFault::Line(_) | ReplayFault::EndLine(_) => Unfit::Misfit(fault),
+        ReplayFault::Line(_) => Unfit::Misfit(fault),
+        ReplayFault::EndLine(_) => Unfit::Misfit(fault),
         ReplayFault::NoMemory => Unfit::NoMemory,
     }
 }
