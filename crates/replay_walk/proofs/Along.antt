@@ -1,11 +1,9 @@
 -- A walk along a log, from its beginning.
-use Rattle.std.proofs.Common.{◌≡◌, ◌≢◌, ℕ, zero, suc, ◌+◌, ◌<◌, ◌≤◌, true, false, List, [], ◌∷◌, ◌++◌, length, map, take, drop, Option, Some, None, refl, sym, ◌∙◌, ap, subst, ◌⊎◌, inl, inr, arith, get_or}
+use Rattle.std.proofs.Common.{◌≡◌, ℕ, suc, ◌+◌, ◌<◌, ◌≤◌, List, [], ◌∷◌, ◌++◌, length, take, drop, Option, refl, sym, ◌∙◌, ap, subst, ◌⊎◌, arith, get_or}
 use Rattle.std.proofs.lemmas.List.{length-take-le, take_more, drop_more, take-append-drop}
 use Rattle.std.proofs.Math.Seq.{take-length}
 use Rattle.types.specs.declared.value.ValType.{ValType}
 use Rattle.types.specs.declared.value.Value.{Value}
-use Rattle.types.specs.declared.event.Event.{Event}
-use Rattle.types.specs.declared.event.Reply.{Reply}
 use Rattle.types.specs.declared.event.Answer.{Answer}
 use Rattle.types.specs.declared.event.Entry as entries
 use Rattle.types.specs.declared.outcome.Outcome.{Outcome}
@@ -20,13 +18,12 @@ use Rattle.machine.specs.Program.{Program}
 use Rattle.machine.specs.Config.{Config}
 use Rattle.machine.specs.State.{At}
 use Rattle.scheduled.specs.Shared.{act_of}
-use Rattle.one_schedule.specs.Runs.{Start, system_of, first_state, first_places, as_acts, acted}
+use Rattle.one_schedule.specs.Runs.{system_of, first_state, first_places, as_acts, acted}
 use Rattle.takes_turns.specs.Turns.{Running, wants_of}
-use Rattle.replay_rules.specs.Walk.{Walks, WalksOn, CanMake, CanTake, after_made}
+use Rattle.replay_rules.specs.Walk.{Walks, WalksOn, CanTake, after_made}
 use Rattle.replay_rules.specs.Logs as logs
 use Rattle.replay_rules.specs.Theorems.{IsBeginning}
 use Rattle.replay_rules.proofs.Walking.{stops_are_misfits}
-use Rattle.replay_steps.specs.Standing.{IsStanding}
 use Rattle.replay_walk.specs.Walked.{Run, start, rules_of, standing_in, HasTaken, HasWalked, IsFirstMisfit, IsRefused}
 use Rattle.replay_walk.proofs.Refused.{laws_at}
 

@@ -1,5 +1,5 @@
 -- Where a walk begins.
-use Rattle.std.proofs.Common.{◌≡◌, ◌≢◌, ℕ, ◌<◌, ◌≤◌, true, List, [], ◌∷◌, length, replicate, Option, Some, None, refl, sym, ◌∙◌, ap, subst, ◌⊎◌, inl, inr, arith, get_or, slice_get}
+use Rattle.std.proofs.Common.{◌≡◌, ◌≢◌, ℕ, ◌<◌, true, List, [], ◌∷◌, length, replicate, Option, Some, None, refl, sym, subst, inl, inr, arith, get_or, slice_get}
 use Rattle.std.proofs.lemmas.Bool.{cases_lt}
 use Rattle.std.proofs.lemmas.List.{get_or-replicate, get_or_past}
 use Rattle.types.specs.declared.value.ValType.{ValType}
@@ -7,11 +7,10 @@ use Rattle.types.specs.declared.value.Value.{Value}
 use Rattle.types.specs.declared.event.Answer.{Answer}
 use Rattle.types.specs.declared.outcome.Outcome.{Outcome}
 use Rattle.shared_memory.specs.Memory.{Memory}
-use Rattle.shared_memory.specs.WaitQueue.{WaitQueue, first_queue, is_alive, next_id}
+use Rattle.shared_memory.specs.WaitQueue.{first_queue, is_alive, next_id}
 use Rattle.shared_memory.proofs.Soundness.{IsSound-first}
 use Rattle.schedule.specs.Histories.{Place, Place.Unstarted, Place.Free}
 use Rattle.schedule.specs.Machine.{Thread.Absent, Thread.Runs}
-use Rattle.schedule.specs.System.{put}
 use Rattle.schedule.proofs.Basics.{at_each, put-same, put-other}
 use Rattle.machine.specs.Program.{Program}
 use Rattle.machine.specs.Config.{Config}
@@ -20,8 +19,8 @@ use Rattle.scheduled.specs.Shared.{without_dues}
 use Rattle.one_schedule.specs.Runs.{first_state, first_places}
 use Rattle.one_schedule.proofs.Linked.{first_stand}
 use Rattle.takes_turns.specs.Turns.{Running}
-use Rattle.replay_steps.specs.Standing.{StandsAt, RunsAt, IsStanding}
-use Rattle.replay_walk.specs.Walked.{Run, HasThreads, start, standing_in, IsReady, HasWalked}
+use Rattle.replay_steps.specs.Standing.{StandsAt}
+use Rattle.replay_walk.specs.Walked.{Run, HasThreads, start, IsReady, HasWalked}
 
 none_ends : (m : ℕ) → get_or (replicate {A = Option Outcome} 16 None) m None ≡ None
 none_ends m = elim (cases_lt m 16) [ inl within ↦ get_or-replicate 16 m None None within | inr past ↦ get_or_past (replicate 16 None) m None past ]

@@ -1,15 +1,14 @@
 -- How a thread that wants no turn of its own goes on: by its leave, or by an event that no leave is.
-use Rattle.std.proofs.Common.{◌≡◌, ℕ, zero, suc, Bool, true, false, not, Option, Some, None, refl, sym, ◌∙◌, ap, subst}
+use Rattle.std.proofs.Common.{◌≡◌, ℕ, zero, suc, true, false, not, Some, None, refl, ◌∙◌, ap}
 use Rattle.types.specs.declared.event.Event.{Event}
 use Rattle.types.specs.declared.event.Event.TheVariants as events
-use Rattle.types.specs.declared.event.Question.{Question}
 use Rattle.types.specs.declared.event.Question.TheVariants.{Wait, Notify, Spawn, Leave}
 use Rattle.types.specs.declared.outcome.Outcome.{Outcome}
 use Rattle.types.specs.declared.outcome.Outcome.TheVariants as outcomes
 use Rattle.types.specs.declared.outcome.Stop.TheVariants as stops
 use Rattle.shared_memory.specs.Events.{is_exempt}
-use Rattle.schedule.specs.System.{Want.Turns, Want.Calls, Want.Awaits}
-use Rattle.schedule.specs.Machine.{Wish, Wish.Asks, Thread.Absent, Thread.Runs, Thread.Over, Thread.Leaves, Thread.Left, wanted, wants_a, thread_full, thread_wants_a}
+use Rattle.schedule.specs.System.{Want.Turns, Want.Calls}
+use Rattle.schedule.specs.Machine.{Wish.Asks, Thread.Absent, Thread.Runs, Thread.Over, Thread.Leaves, Thread.Left, wanted, wants_a, thread_full, thread_wants_a}
 use Rattle.machine.specs.Program.{Program}
 use Rattle.machine.specs.Config as configs
 use Rattle.machine.specs.Step.{next}

@@ -1,5 +1,5 @@
 -- Entries that a walk can't take.
-use Rattle.std.proofs.Common.{◌≡◌, ℕ, zero, suc, ◌<◌, ◌≤◌, true, false, not, List, Option, Some, None, refl, sym, ◌∙◌, ap, subst, ◌⊎◌, inl, inr, arith}
+use Rattle.std.proofs.Common.{◌≡◌, ℕ, zero, suc, ◌<◌, ◌≤◌, true, false, not, List, Option, refl, sym, ◌∙◌, ap, subst, ◌⊎◌, inl, inr, arith}
 use Rattle.types.specs.declared.value.ValType.{ValType}
 use Rattle.types.specs.declared.value.Value.{Value}
 use Rattle.types.specs.declared.event.Event.{Event}
@@ -7,7 +7,6 @@ use Rattle.types.specs.declared.event.Event.TheVariants as events
 use Rattle.types.specs.declared.event.Question.TheVariants.{Leave}
 use Rattle.types.specs.declared.event.Reply.{Reply}
 use Rattle.types.specs.declared.event.Reply.TheVariants.{Done}
-use Rattle.types.specs.declared.event.Answer.{Answer}
 use Rattle.types.specs.declared.outcome.Outcome.{Outcome}
 use Rattle.shared_memory.specs.Memory.{reply_of}
 use Rattle.shared_memory.specs.Events.{is_exempt}
@@ -27,7 +26,7 @@ use Rattle.scheduled.proofs.Threads.{system_laws}
 use Rattle.takes_turns.specs.Turns.{Running, wants_of}
 use Rattle.takes_turns.specs.declared.turn.Turn.{Turn}
 use Rattle.takes_turns.specs.declared.turn.Turn.TheVariants as turns
-use Rattle.replay_rules.specs.Walk.{ComesTo, Settles, FindsFull, CanMake}
+use Rattle.replay_rules.specs.Walk.{ComesTo, Settles, FindsFull}
 use Rattle.replay_rules.proofs.Walking.{settles_once}
 use Rattle.recorded_runs.specs.Recorded.{spawned_in}
 use Rattle.replay_steps.specs.Standing.{IsHere, Says, Standing, IsStanding, IsGoing, HasGone, system_at}
@@ -75,7 +74,7 @@ fills_wanted s t (turns.Wants e) here says may = (e, refl)
 fills_wanted s t turns.Awaits here says may = let c = (laws_at s).fill_calls t may in absurd (cc (says.1, c.1))
 fills_wanted s t (turns.Ended o) here says may =
     let c = thread_calls (machine_of s.program) (machine_laws s.program) (λ e. not (is_exempt e)) t may in
-    let same : events.Ask Leave ≡ c.0 = cc (leaving s.program t o here says, c.1) in absurd (cc (c.2, ap (λ e. not (is_exempt e)) same))
+    let same : events.Ask Leave ≡ c.0 = cc (leaving s.program t o here says, c.1) in absurd (cc (c.2, same))
 
 module _ {S : Type 0} (stands : S → Running → Type 0) (begins : S → List ValType → (List Value → Config) → Type 0) (program : S → Program) (fuel : S → ℕ) where
   module _ (s : Standing) (threads : List S) (queue : WaitQueue) (begun : ℕ) (ends : List (Option Outcome)) (st : IsStanding stands begins program fuel s threads queue begun ends)

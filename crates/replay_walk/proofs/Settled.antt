@@ -1,11 +1,10 @@
 -- Where a walk stands after a thread's turns of its own.
-use Rattle.std.proofs.Common.{◌≡◌, ◌≢◌, ℕ, ◌<◌, true, List, length, Option, Some, None, sym, ◌∙◌, ap, subst, get_or, slice_get}
+use Rattle.std.proofs.Common.{◌≡◌, ℕ, ◌<◌, List, length, Option, Some, sym, ◌∙◌, ap, subst, slice_get}
 use Rattle.std.proofs.lemmas.Option.{slice_get_within}
 use Rattle.types.specs.declared.value.ValType.{ValType}
 use Rattle.types.specs.declared.value.Value.{Value}
 use Rattle.types.specs.declared.outcome.Outcome.{Outcome}
-use Rattle.shared_memory.specs.WaitQueue.{WaitQueue, is_alive}
-use Rattle.schedule.specs.Histories.{Place.Free}
+use Rattle.shared_memory.specs.WaitQueue.{WaitQueue}
 use Rattle.machine.specs.Program.{Program}
 use Rattle.machine.specs.Config.{Config}
 use Rattle.takes_turns.specs.Turns.{Running}

@@ -1,5 +1,5 @@
 -- A walk that takes an entry.
-use Rattle.std.proofs.Common.{◌≡◌, ℕ, ◌<◌, ◌≤◌, true, false, List, length, Option, Some, None, refl, sym, ◌∙◌, ap, subst, ◌⊎◌, inl, inr, arith}
+use Rattle.std.proofs.Common.{◌≡◌, ℕ, ◌<◌, ◌≤◌, false, List, Option, Some, None, refl, sym, subst, ◌⊎◌, inl, inr, arith}
 use Rattle.types.specs.declared.value.ValType.{ValType}
 use Rattle.types.specs.declared.value.Value.{Value}
 use Rattle.types.specs.declared.event.Event.{Event}
@@ -15,14 +15,13 @@ use Rattle.shared_memory.specs.Memory.{Memory, reply_of, state_after}
 use Rattle.shared_memory.specs.Events.{is_exempt}
 use Rattle.shared_memory.specs.WaitQueue.{WaitQueue}
 use Rattle.schedule.specs.System.{Want.Calls, Act, Act.Made, Act.Heard, put}
-use Rattle.schedule.specs.Histories.{Place, Place.Free, next_places}
+use Rattle.schedule.specs.Histories.{Place.Free, next_places}
 use Rattle.schedule.specs.Machine.{thread_full}
 use Rattle.machine.specs.Program.{Program}
 use Rattle.machine.specs.Config.{Config}
 use Rattle.scheduled.specs.Threads.{machine_of}
 use Rattle.scheduled.proofs.Asking.{wants_spawn}
 use Rattle.takes_turns.specs.Turns.{Running, left_of, outcome_of, wants_of}
-use Rattle.takes_turns.specs.declared.turn.Turn.{Turn}
 use Rattle.replay_rules.specs.Walk.{Settles, FindsFull, CanMake, after_made}
 use Rattle.replay_steps.specs.Standing.{IsHere, Standing, IsStanding, IsSettledOn, IsToldOn, system_at, made_by}
 use Rattle.replay_steps.proofs.Events.{IsMade, step}

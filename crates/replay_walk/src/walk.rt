@@ -44,8 +44,8 @@ impl<T: TakesTurns> Walk<T> {
         requires entry { IsEntry entry.now }
         requires standing { (s : Standing) × IsStanding T.stands T.begins T.program T.fuel s self.old.threads.items self.old.stage.queue self.old.stage.started self.old.stage.ends × (s.memory ≡ self.old.memory) × (s.budget ≡ fuel) × HasThreads s.program (length self.old.threads.items) }
         ensures count { length self.new.threads.items ≡ length self.old.threads.items }
-        ensures taken { result ≡ true → (s : Standing) → IsStanding T.stands T.begins T.program T.fuel s self.old.threads.items self.old.stage.queue self.old.stage.started self.old.stage.ends → s.memory ≡ self.old.memory → s.budget ≡ fuel → HasThreads s.program (length self.old.threads.items) → HasTaken T.stands T.begins T.program T.fuel s limit at entry.now.thread (act_of entry.now) self.new.threads.items self.new.memory self.new.stage.queue self.new.stage.started self.new.stage.ends }
-        ensures refused { result ≡ false → (s : Standing) → IsStanding T.stands T.begins T.program T.fuel s self.old.threads.items self.old.stage.queue self.old.stage.started self.old.stage.ends → s.memory ≡ self.old.memory → s.budget ≡ fuel → HasThreads s.program (length self.old.threads.items) → IsRefused s limit at entry.now.thread (act_of entry.now) }
+        ensures taken { result ≡ true → (s : Standing) → IsStanding T.stands T.begins T.program T.fuel s self.old.threads.items self.old.stage.queue self.old.stage.started self.old.stage.ends → s.memory ≡ self.old.memory → HasTaken T.stands T.begins T.program T.fuel s limit at entry.now.thread (act_of entry.now) self.new.threads.items self.new.memory self.new.stage.queue self.new.stage.started self.new.stage.ends }
+        ensures refused { result ≡ false → (s : Standing) → IsStanding T.stands T.begins T.program T.fuel s self.old.threads.items self.old.stage.queue self.old.stage.started self.old.stage.ends → s.memory ≡ self.old.memory → IsRefused s limit at entry.now.thread (act_of entry.now) }
     {
         match entry.event {
             Event::Told(answer) => self.take_told(entry.thread, answer, at, limit),
@@ -123,8 +123,8 @@ impl<T: TakesTurns> Walk<T> {
     pub fn along(&mut self, log: &[Entry], limit: u32, fuel: u64) -> Option<usize>
         requires entries { All IsEntry log.now }
         requires new { (r : Run) × HasWalked T.stands T.begins T.program T.fuel r [] self.old.threads.items self.old.memory self.old.stage.queue self.old.stage.started self.old.stage.ends × (r.budget ≡ fuel) × (r.limit ≡ limit) }
-        ensures whole { result ≡ None → (r : Run) → HasWalked T.stands T.begins T.program T.fuel r [] self.old.threads.items self.old.memory self.old.stage.queue self.old.stage.started self.old.stage.ends → r.budget ≡ fuel → r.limit ≡ limit → HasWalked T.stands T.begins T.program T.fuel r log.now self.new.threads.items self.new.memory self.new.stage.queue self.new.stage.started self.new.stage.ends }
-        ensures misfit { (k : ℕ) → result ≡ Some k → (r : Run) → HasWalked T.stands T.begins T.program T.fuel r [] self.old.threads.items self.old.memory self.old.stage.queue self.old.stage.started self.old.stage.ends → r.budget ≡ fuel → r.limit ≡ limit → IsFirstMisfit r log.now k }
+        ensures whole { result ≡ None → (r : Run) → HasWalked T.stands T.begins T.program T.fuel r [] self.old.threads.items self.old.memory self.old.stage.queue self.old.stage.started self.old.stage.ends → r.limit ≡ limit → HasWalked T.stands T.begins T.program T.fuel r log.now self.new.threads.items self.new.memory self.new.stage.queue self.new.stage.started self.new.stage.ends }
+        ensures misfit { (k : ℕ) → result ≡ Some k → (r : Run) → HasWalked T.stands T.begins T.program T.fuel r [] self.old.threads.items self.old.memory self.old.stage.queue self.old.stage.started self.old.stage.ends → r.limit ≡ limit → IsFirstMisfit r log.now k }
     {
         for (at, entry) in log.iter().enumerate() {
             if !self.take(entry, at, limit, fuel) {

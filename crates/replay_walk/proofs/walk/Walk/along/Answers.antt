@@ -1,35 +1,32 @@
-use Rattle.std.proofs.Common.{◌≡◌, ℕ, ◌+◌, ◌<◌, ◌≤◌, List, [], ◌∷◌, ◌++◌, length, take, drop, Some, refl, sym, ◌∙◌, ap, subst, arith}
-use Rattle.std.proofs.lemmas.List.{length-take-le, take_more, drop_more, take-append-drop}
-use Rattle.types.specs.declared.event.Entry.{Entry}
-use Rattle.scheduled.specs.Shared.{act_of}
-use Rattle.replay_walk.specs.Walked.{Run, HasTaken, HasWalked, IsRefused, IsFirstMisfit, standing_in}
+use Rattle.std.proofs.Common.{◌≡◌, ℕ, refl, subst}
+use Rattle.replay_walk.specs.Walked.{IsFirstMisfit, standing_in}
 use Rattle.replay_walk.proofs.Along.{goes_in, stops_in, ends_in}
 use Rattle.replay_walk.proofs.walk.Walk.along.Goals as goal
 
 pub loop-at-init : goal.loop-at-init
-loop-at-init g c = λ r walked budget limit. walked
+loop-at-init g c = λ r walked limit. walked
 
 pub take-requires-clause-standing : goal.take-requires-clause-standing
 take-requires-clause-standing g c =
     let new = c.requires.new in
-    let w = c.loop-at.invariant new.0 new.1 new.2 new.3 in
+    let w = c.loop-at.invariant new.0 new.1 new.3 in
     (standing_in new.0 c.loop-at.self.memory w.state w.places, w.standing, refl, new.2, w.count)
 
 pub returns-then-not-take-clause-misfit : goal.returns-then-not-take-clause-misfit
-returns-then-not-take-clause-misfit g c = λ k is r walked budget limit.
-    let w = c.loop-at.invariant r walked budget limit in
+returns-then-not-take-clause-misfit g c = λ k is r walked limit.
+    let w = c.loop-at.invariant r walked limit in
     let here : c.loop-at.at ≡ k = cc is in
     subst (λ (j : ℕ). IsFirstMisfit r c.args.log.now j) here
     (stops_in g.T.TakesTurns.stands g.T.TakesTurns.begins g.T.TakesTurns.program g.T.TakesTurns.fuel r c.args.log.now c.loop-at.self.threads.items c.loop-at.self.memory c.loop-at.self.stage.queue c.loop-at.self.stage.started c.loop-at.self.stage.ends c.loop-at.at c.args.limit limit w _ c.loop-at-test.true
-    (c.take.ensures.refused c.if-not-take.true (standing_in r c.loop-at.self.memory w.state w.places) w.standing refl budget w.count))
+    (c.take.ensures.refused c.if-not-take.true (standing_in r c.loop-at.self.memory w.state w.places) w.standing refl))
 
 pub loop-at-preserved : goal.loop-at-preserved
-loop-at-preserved g c = λ r walked budget limit.
-    let w = c.loop-at.invariant r walked budget limit in
+loop-at-preserved g c = λ r walked limit.
+    let w = c.loop-at.invariant r walked limit in
     goes_in g.T.TakesTurns.stands g.T.TakesTurns.begins g.T.TakesTurns.program g.T.TakesTurns.fuel r c.args.log.now c.loop-at.self.threads.items c.loop-at.self.memory c.loop-at.self.stage.queue c.loop-at.self.stage.started c.loop-at.self.stage.ends c.loop-at.at c.args.limit limit w _ c.loop-at-test.true c.take.new.self.threads.items c.take.new.self.memory c.take.new.self.stage.queue c.take.new.self.stage.started c.take.new.self.stage.ends c.take.ensures.count
-    (c.take.ensures.taken c.if-not-take.false (standing_in r c.loop-at.self.memory w.state w.places) w.standing refl budget w.count)
+    (c.take.ensures.taken c.if-not-take.false (standing_in r c.loop-at.self.memory w.state w.places) w.standing refl)
 
 pub returns-clause-whole : goal.returns-clause-whole
-returns-clause-whole g c = λ none r walked budget limit.
-    let w = c.loop-at.invariant r walked budget limit in
+returns-clause-whole g c = λ none r walked limit.
+    let w = c.loop-at.invariant r walked limit in
     ends_in g.T.TakesTurns.stands g.T.TakesTurns.begins g.T.TakesTurns.program g.T.TakesTurns.fuel r c.args.log.now c.loop-at.self.threads.items c.loop-at.self.memory c.loop-at.self.stage.queue c.loop-at.self.stage.started c.loop-at.self.stage.ends c.loop-at.at c.args.limit limit w c.loop-at.auto.at-end c.loop-at-test.false

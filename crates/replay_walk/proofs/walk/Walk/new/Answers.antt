@@ -1,4 +1,4 @@
-use Rattle.std.proofs.Common.{◌≡◌, ℕ, List, [], Option, sym, subst}
+use Rattle.std.proofs.Common.{ℕ, List, [], Option, sym, subst}
 use Rattle.types.specs.declared.outcome.Outcome.{Outcome}
 use Rattle.shared_memory.specs.WaitQueue.{WaitQueue, first_queue}
 use Rattle.replay_walk.specs.Walked.{HasWalked}

@@ -1,12 +1,11 @@
-use Rattle.std.proofs.Common.{◌≡◌, List, length, Some, sym, ◌∙◌, ap, subst}
+use Rattle.std.proofs.Common.{◌≡◌, List, length, sym, ◌∙◌, ap, subst}
 use Rattle.std.proofs.lemmas.List.{take_at}
 use Rattle.types.specs.declared.event.Event.{Event}
 use Rattle.types.specs.declared.event.Reply.{Reply}
 use Rattle.types.specs.declared.event.Answer.{Answer}
 use Rattle.shared_memory.specs.Memory.{Memory, reply_of, state_after}
-use Rattle.schedule.specs.System.{Act, Act.Made, Want.Calls}
+use Rattle.schedule.specs.System.{Act, Want.Calls}
 use Rattle.scheduled.specs.Shared.{act_of}
-use Rattle.takes_turns.specs.Turns.{wants_of}
 use Rattle.takes_turns.specs.declared.turn.Turn.{Turn}
 use Rattle.takes_turns.specs.declared.turn.Turn.TheVariants as turns
 use Rattle.replay_steps.specs.Standing.{Says}
@@ -25,7 +24,7 @@ returns-then-at-limit-clause-refused g c = λ no s st same.
     (elim c.then-at-limit.branch [
       | then-at-limit-via-then-at-limit w ↦ refused_full g.T.TakesTurns.stands g.T.TakesTurns.begins g.T.TakesTurns.program g.T.TakesTurns.fuel s c.args.self.now.threads.items c.args.self.now.stage.queue c.args.self.now.stage.started c.args.self.now.stage.ends st c.args.entry.now.thread c.args.limit c.args.at c.args.entry.now.event c.args.entry.now.reply c.requires.kind w.if-at-limit.true
       | then-at-limit-via-else-at-limit+then-not-is_going w ↦ refused_gone g.T.TakesTurns.stands g.T.TakesTurns.begins g.T.TakesTurns.program g.T.TakesTurns.fuel s c.args.self.now.threads.items c.args.self.now.stage.queue c.args.self.now.stage.started c.args.self.now.stage.ends st c.args.entry.now.thread c.args.limit c.args.at c.args.entry.now.event c.args.entry.now.reply
-      (λ free. w.is_going.ensures.gone w.if-not-is_going.true s c.args.self.now.threads.items st free)
+          (λ free. w.is_going.ensures.gone w.if-not-is_going.true s c.args.self.now.threads.items st free)
     ])
 
 pub settle_at-requires-clause-within : goal.settle_at-requires-clause-within

@@ -1,4 +1,4 @@
-use Rattle.std.proofs.Common.{◌≡◌, List, length, Some, sym, ◌∙◌, ap, subst}
+use Rattle.std.proofs.Common.{sym, ◌∙◌, subst}
 use Rattle.std.proofs.lemmas.List.{take_at}
 use Rattle.types.specs.declared.event.Event.{Event}
 use Rattle.types.specs.declared.event.Event.TheVariants as events
@@ -8,7 +8,7 @@ use Rattle.types.specs.declared.event.Reply.TheVariants.{Done}
 use Rattle.types.specs.declared.event.Answer.{Answer}
 use Rattle.types.specs.declared.outcome.Outcome.{Outcome}
 use Rattle.shared_memory.proofs.Soundness.{alive_below}
-use Rattle.schedule.specs.System.{Act, Act.Made}
+use Rattle.schedule.specs.System.{Act}
 use Rattle.scheduled.specs.Shared.{act_of}
 use Rattle.takes_turns.specs.declared.turn.Turn.{Turn}
 use Rattle.replay_steps.specs.Standing.{Says}
@@ -76,12 +76,12 @@ returns-clause-taken g c = λ yes s st same.
     let l : Leaves g.T.TakesTurns.stands g.T.TakesTurns.begins g.T.TakesTurns.program g.T.TakesTurns.fuel s c.settle_at.new.threads c.args.self.now.stage.queue c.args.self.now.stage.started c.args.self.now.stage.ends c.args.entry.now.thread d.thread d.on d.settles c.args.limit c.args.at c.match-settle_at.outcome =
     elim c.match-settle_at.branch [
       | in-Ended w ↦ subst (λ (o : Outcome). Leaves g.T.TakesTurns.stands g.T.TakesTurns.begins g.T.TakesTurns.program g.T.TakesTurns.fuel s c.settle_at.new.threads c.args.self.now.stage.queue c.args.self.now.stage.started c.args.self.now.stage.ends c.args.entry.now.thread d.thread d.on d.settles c.args.limit c.args.at o) (sym w.outcome-is)
-      (leaves_ended g.T.TakesTurns.stands g.T.TakesTurns.begins g.T.TakesTurns.program g.T.TakesTurns.fuel s c.settle_at.new.threads c.args.self.now.stage.queue c.args.self.now.stage.started c.args.self.now.stage.ends c.args.entry.now.thread d.thread d.on d.settles c.args.limit c.args.at w.in-Ended.outcome
-      (subst (λ (t : Turn). Says s.program d.thread t) w.in-Ended.is d.says))
+          (leaves_ended g.T.TakesTurns.stands g.T.TakesTurns.begins g.T.TakesTurns.program g.T.TakesTurns.fuel s c.settle_at.new.threads c.args.self.now.stage.queue c.args.self.now.stage.started c.args.self.now.stage.ends c.args.entry.now.thread d.thread d.on d.settles c.args.limit c.args.at w.in-Ended.outcome
+          (subst (λ (t : Turn). Says s.program d.thread t) w.in-Ended.is d.says))
       | in-Wants+else-at-limit w ↦
-      (let says = subst (λ (t : Turn). Says s.program d.thread t) w.in-Wants.is d.says in
-      subst (λ (o : Outcome). Leaves g.T.TakesTurns.stands g.T.TakesTurns.begins g.T.TakesTurns.program g.T.TakesTurns.fuel s c.settle_at.new.threads c.args.self.now.stage.queue c.args.self.now.stage.started c.args.self.now.stage.ends c.args.entry.now.thread d.thread d.on d.settles c.args.limit c.args.at o) (sym w.outcome-is)
-      (leaves_full g.T.TakesTurns.stands g.T.TakesTurns.begins g.T.TakesTurns.program g.T.TakesTurns.fuel s c.settle_at.new.threads c.args.self.now.stage.queue c.args.self.now.stage.started c.args.self.now.stage.ends c.args.entry.now.thread d.thread d.on d.settles c.args.limit c.args.at w.in-Wants.field-0 says.1 says.0 w.if-at-limit.false))
+          (let says = subst (λ (t : Turn). Says s.program d.thread t) w.in-Wants.is d.says in
+          subst (λ (o : Outcome). Leaves g.T.TakesTurns.stands g.T.TakesTurns.begins g.T.TakesTurns.program g.T.TakesTurns.fuel s c.settle_at.new.threads c.args.self.now.stage.queue c.args.self.now.stage.started c.args.self.now.stage.ends c.args.entry.now.thread d.thread d.on d.settles c.args.limit c.args.at o) (sym w.outcome-is)
+          (leaves_full g.T.TakesTurns.stands g.T.TakesTurns.begins g.T.TakesTurns.program g.T.TakesTurns.fuel s c.settle_at.new.threads c.args.self.now.stage.queue c.args.self.now.stage.started c.args.self.now.stage.ends c.args.entry.now.thread d.thread d.on d.settles c.args.limit c.args.at w.in-Wants.field-0 says.1 says.0 w.if-at-limit.false))
     ] in
     took_as g.T.TakesTurns.stands g.T.TakesTurns.begins g.T.TakesTurns.program g.T.TakesTurns.fuel s c.args.limit c.args.at c.args.entry.now.thread (events.Ask Leave) Done l.thread l.can (act_of c.args.entry.now) act _ c.settle_at.new.threads
     (take_at c.settle_at.new.threads _ c.args.self.now.threads.len (c.settle_at.ensures.count ∙ c.deref_mut.ensures.len)) c.args.self.now.memory c.leave.new.self.queue c.leave.new.self.started c.leave.new.self.ends same
