@@ -11,7 +11,7 @@ pub line_at-requires : goal.line_at-requires
 line_at-requires g c =
     let run = c.requires.ready.0 in
     let ready = c.requires.ready.1 in
-    let misfit = c.in-Some.ensures.misfit c.in-Some.at refl run (c.new-walk.ensures run ready.ready) ready.budget ready.limit in
+    let misfit = c.in-Some.ensures.misfit c.in-Some.at refl run (c.new-walk.ensures run ready.ready) ready.limit in
     let below = within_log run c.as_slice-log.result.now c.in-Some.at misfit in
     let same : length c.as_slice-log.result.now ≡ length c.args.parts.now.log = ap length c.as_slice-log.ensures in
     let numbers = c.requires.ranges.numbers in
@@ -19,7 +19,7 @@ line_at-requires g c =
 
 pub returns-in-Some-clause-fault : goal.returns-in-Some-clause-fault
 returns-in-Some-clause-fault g c = λ run ready.
-    let misfit = c.in-Some.ensures.misfit c.in-Some.at refl run (c.new-walk.ensures run ready.ready) ready.budget ready.limit in
+    let misfit = c.in-Some.ensures.misfit c.in-Some.at refl run (c.new-walk.ensures run ready.ready) ready.limit in
     let line = c.line_at.ensures in
     (c.in-Some.at, omega (arith, line), first_misfit run c.args.parts.now c.in-Some.at ready.limit (subst (λ (l : List Entry). walked.IsFirstMisfit run l c.in-Some.at) c.as_slice-log.ensures misfit))
 
@@ -27,7 +27,7 @@ pub line_at-requires-in-Some-first_wrong_end : goal.line_at-requires-in-Some-fir
 line_at-requires-in-Some-first_wrong_end g c =
     let run = c.requires.ready.0 in
     let ready = c.requires.ready.1 in
-    let w = c.along.ensures.whole (none_left c.along.result c.in_default.not-Some) run (c.new-walk.ensures run ready.ready) ready.budget ready.limit in
+    let w = c.along.ensures.whole (none_left c.along.result c.in_default.not-Some) run (c.new-walk.ensures run ready.ready) ready.limit in
     let below = within_ends run c.args.parts.now ready.limit ready.budget c.as_slice-log.ensures c.deref.ensures.value w c.pages-held.ensures c.first_wrong_end.result c.first_wrong_end.ensures c.in-Some-first_wrong_end.at c.in-Some-first_wrong_end.is in
     let same : length c.as_slice-log.result.now ≡ length c.args.parts.now.log = ap length c.as_slice-log.ensures in
     let numbers = c.requires.ranges.numbers in
@@ -35,7 +35,7 @@ line_at-requires-in-Some-first_wrong_end g c =
 
 pub returns-in-Some-first_wrong_end-clause-fault : goal.returns-in-Some-first_wrong_end-clause-fault
 returns-in-Some-first_wrong_end-clause-fault g c = λ run ready.
-    let w = c.along.ensures.whole (none_left c.along.result c.in_default.not-Some) run (c.new-walk.ensures run ready.ready) ready.budget ready.limit in
+    let w = c.along.ensures.whole (none_left c.along.result c.in_default.not-Some) run (c.new-walk.ensures run ready.ready) ready.limit in
     let wrong = is_wrong run c.args.parts.now ready.limit ready.budget c.as_slice-log.ensures c.deref.ensures.value w c.pages-held.ensures c.first_wrong_end.result c.first_wrong_end.ensures c.in-Some-first_wrong_end.at c.in-Some-first_wrong_end.is in
     let same : length c.as_slice-log.result.now ≡ length c.args.parts.now.log = ap length c.as_slice-log.ensures in
     let line = c.line_at-in-Some-first_wrong_end.ensures in
@@ -43,5 +43,5 @@ returns-in-Some-first_wrong_end-clause-fault g c = λ run ready.
 
 pub returns-in-None-clause-run : goal.returns-in-None-clause-run
 returns-in-None-clause-run g c = λ run ready.
-    let w = c.along.ensures.whole (none_left c.along.result c.in_default.not-Some) run (c.new-walk.ensures run ready.ready) ready.budget ready.limit in
+    let w = c.along.ensures.whole (none_left c.along.result c.in_default.not-Some) run (c.new-walk.ensures run ready.ready) ready.limit in
     is_recorded run c.args.parts.now ready.limit ready.budget c.as_slice-log.ensures c.deref.ensures.value w c.pages-held.ensures c.first_wrong_end.result c.first_wrong_end.ensures c.in-None.is
