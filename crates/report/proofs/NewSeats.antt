@@ -1,5 +1,5 @@
 -- The seats of a new memory, place by place.
-use Rattle.std.proofs.Common.{◌≡◌, ℕ, zero, suc, ◌+◌, ◌<◌, true, List, [], ◌∷◌, map, slice_index_or, sym, ◌∙◌, ap, arith}
+use Rattle.std.proofs.Common.{◌≡◌, ℕ, zero, suc, ◌+◌, ◌<◌, true, List, [], ◌∷◌, map, slice_index_or, ◌∙◌, ap, arith}
 use Rattle.seats.specs.declared.view.Caller.{Caller}
 use Rattle.seats.specs.Callers.{fresh, fresh_from}
 

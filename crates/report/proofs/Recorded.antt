@@ -1,10 +1,8 @@
 -- The parts of a record that was made are a record of that run.
-use Rattle.std.proofs.Common.{◌≡◌, ℕ, ◌+◌, ◌≤◌, false, List, length, Option, Some, slice_get, refl, sym, ◌∙◌, ap, subst}
+use Rattle.std.proofs.Common.{ℕ, ◌≤◌, false, List, length, Some, slice_get, refl, sym, ◌∙◌, ap, subst}
 use Rattle.types.specs.declared.value.Value.{Value}
-use Rattle.types.specs.declared.event.Entry.{Entry}
 use Rattle.types.specs.declared.outcome.ThreadReport.{ThreadReport}
 use Rattle.types.specs.declared.parts.Parts.{Parts}
-use Rattle.shared_memory.specs.Memory.{pages}
 use Rattle.shared_memory.specs.History.{memory_after}
 use Rattle.one_schedule.specs.Runs.{Start}
 use Rattle.module_run.specs.Runs.{opening_memory, start_by, Tells, IsRunHistory}

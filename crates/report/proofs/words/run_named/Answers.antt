@@ -1,7 +1,6 @@
-use Rattle.std.proofs.Common.{◌≡◌, ℕ, List, refl, sym, ◌∙◌, ap}
+use Rattle.std.proofs.Common.{◌∙◌, ap}
 use Rattle.shared_memory.specs.Memory.{Memory, pages}
 use Rattle.shared_memory.specs.History.{memory_after}
-use Rattle.shared_memory.proofs.Histories.{entries_of-quiet}
 use Rattle.seats.specs.Callers.{GoesOn}
 use Rattle.report.proofs.NewSeats.{seat_name, seat_new}
 use Rattle.report.proofs.Whole.{of_no_seat, went_on}
