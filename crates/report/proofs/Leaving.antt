@@ -12,7 +12,7 @@ use Rattle.module_run.specs.Runs.{opening_memory, IsRun}
 use Rattle.locked_recorder.specs.Promises.{IsBounded}
 use Rattle.record_text.specs.declared.parts.RecordParts.{RecordParts}
 use Rattle.recorded_runs.specs.Ranges.{IsLimited}
-use Rattle.report.specs.declared.end.EndState.{EndState}
+use Rattle.replay.specs.declared.end.EndState.{EndState}
 use Rattle.report.specs.Ends.{EndsRun}
 use Rattle.report.proofs.Whole.{Knows, is_history}
 use Rattle.shared_memory.proofs.Soundness.{IsSound-after}

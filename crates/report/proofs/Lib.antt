@@ -4,3 +4,4 @@ pub mod Leaving
 pub mod Recorded
 pub mod Fronts
 pub mod ThreadLines
+pub mod Replays

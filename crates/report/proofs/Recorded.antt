@@ -12,8 +12,9 @@ use Rattle.recorded_runs.specs.Telling.{RecordTells}
 use Rattle.recorded_runs.specs.Ranges.{AreTyped}
 use Rattle.recorded_runs.proofs.Recording.{runs_are_recorded}
 use Rattle.recorded_runs.proofs.Ranges.{runs_are_in_range}
-use Rattle.report.specs.declared.end.EndState.{EndState}
-use Rattle.report.specs.Ends.{EndsRun, RecordsRun, IsRunOf}
+use Rattle.replay.specs.declared.end.EndState.{EndState}
+use Rattle.replay.specs.Runs.{IsRunOf}
+use Rattle.report.specs.Ends.{EndsRun, RecordsRun}
 use Rattle.report.proofs.Leaving.{the_same}
 
 module _ (m : Parts) (entry : List ℕ) (args : List Value) (fuel limit : ℕ) (r : RecordParts) (end : EndState) (records : RecordsRun m entry args fuel limit r end) where

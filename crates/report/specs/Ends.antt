@@ -9,7 +9,7 @@ use Rattle.module_run.specs.Runs.{opening_memory, Beginning, start_by, IsRunHist
 use Rattle.record_text.specs.declared.parts.RecordParts.{RecordParts}
 use Rattle.recorded_runs.specs.Recorded.{IsRecordedRun}
 use Rattle.recorded_runs.specs.Ranges.{IsLimited}
-use Rattle.report.specs.declared.end.EndState.{EndState}
+use Rattle.replay.specs.declared.end.EndState.{EndState}
 
 -- The threads ran together in the history, and the reports are theirs. The page count and the bytes are those of the sequential
 -- memory after it.
@@ -29,15 +29,6 @@ pub record RecordsRun (m : Parts) (entry : List ℕ) (args : List Value) (fuel l
   pub pages_are : record_is.pages ≡ end.pages
   pub limited : IsLimited record_is
   pub ends_run : EndsRun m entry args fuel false (Some limit) record_is.log end
-
--- The record is of a run of the module that ends so.
-pub record IsRunOf (m : Parts) (r : RecordParts) (end : EndState) : Type 0 where
-  pub beginning : Beginning m r.invoke r.args
-  pub last : Memory
-  pub recorded : IsRecordedRun (start_by m r.invoke r.args r.fuel beginning) r last
-  pub threads : end.threads.items ≡ r.ends
-  pub pages : end.pages ≡ r.pages
-  pub bytes : end.bytes.items ≡ last.bytes
 
 -- A run over a memory in which tries can be lost, and which has no limit.
 abbrev pub EndsRunOnWords : Parts → List ℕ → List Value → ℕ → EndState → Type 0

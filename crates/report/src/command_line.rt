@@ -44,6 +44,15 @@ pub enum Job<'a> {
         /// The arguments as they were written.
         args: Vec<&'a str>,
     },
+    /// Run a record again by one thread, and print what the run printed.
+    Replay {
+        /// The path of the module.
+        file: &'a str,
+        /// The path of the record.
+        saved: &'a str,
+        /// How many bytes of the memory are printed, 0 to 4096.
+        dump: u32,
+    },
 }
 
 /// Why the command line is no job.
@@ -150,6 +159,19 @@ fn run_command<'a>(alloc: Global) -> Result<Command<'a>, AllocError> {
         .arg(args)
 }
 
+/// `replay FILE RECORD [--dump N]`
+fn replay_command<'a>(alloc: Global) -> Result<Command<'a>, AllocError> {
+    let record = Arg::new(alloc, "record")
+        .value_name("RECORD")
+        .help("The record of a run of the module")
+        .required(true);
+    Command::new(alloc, "replay")
+        .about("Runs a record again by one thread, and prints what the run printed")
+        .arg(file_argument(alloc))?
+        .arg(record)?
+        .arg(dump_argument(alloc))
+}
+
 /// The whole command line.
 fn commands<'a>(alloc: Global) -> Result<Command<'a>, AllocError> {
     Command::new(alloc, "wathread")
@@ -157,7 +179,8 @@ fn commands<'a>(alloc: Global) -> Result<Command<'a>, AllocError> {
         .about("A proved interpreter of WebAssembly modules whose threads share one linear memory")
         .subcommand_required(true)
         .subcommand(check_command(alloc)?)?
-        .subcommand(run_command(alloc)?)
+        .subcommand(run_command(alloc)?)?
+        .subcommand(replay_command(alloc)?)
 }
 
 /// The numbers of a run, where they are there and in range, as the parser sees to.
@@ -203,6 +226,20 @@ fn run_job<'a>(alloc: Global, matches: &ArgMatches<'a>) -> Result<Option<Job<'a>
     }))
 }
 
+/// The job of `replay`, where its number is there and in range, as the parser sees to.
+fn replay_job<'a>(matches: &ArgMatches<'a>) -> Option<Job<'a>>
+    ensures { IfSome result IsInRange }
+{
+    let file = matches.get_str("file")?;
+    let saved = matches.get_str("record")?;
+    let dump = matches.get_one::<u32>("dump")?;
+    if dump <= DUMP_MOST {
+        Some(Job::Replay { file, saved, dump })
+    } else {
+        None
+    }
+}
+
 /// The job of the words, if they name one.
 fn job_of<'a>(alloc: Global, matches: &ArgMatches<'a>) -> Result<Option<Job<'a>>, AllocError>
     ensures { IfOk result (λ job. IfSome job IsInRange) }
@@ -210,10 +247,11 @@ fn job_of<'a>(alloc: Global, matches: &ArgMatches<'a>) -> Result<Option<Job<'a>>
     let Some((name, matches)) = matches.subcommand() else {
         return Ok(None);
     };
-    if name == "run" {
-        return run_job(alloc, matches);
+    match name {
+        "run" => run_job(alloc, matches),
+        "replay" => Ok(replay_job(matches)),
+        _ => Ok(matches.get_str("file").map(|file| Job::Check { file })),
     }
-    Ok(matches.get_str("file").map(|file| Job::Check { file }))
 }
 
 /// Whether the job wants a record of a memory that keeps none.

@@ -1,11 +1,13 @@
 //! What a job prints, and with which status it ends.
-ghost use Rattle.std.specs.Prelude.{◌≡◌, ◌≤◌, ◌⊎◌, OnOk};
+ghost use Rattle.std.specs.Prelude.{◌≡◌, ◌≤◌, ◌⊎◌, ℕ, List, OnOk};
 ghost use Rattle.std.specs.Io.KnownBytes.{Appends};
 ghost use Rattle.report.specs.Lines.{functions_line};
-ghost use Rattle.report.specs.Jobs.{IsAccepted};
+ghost use Rattle.types.specs.declared.parts.Parts.{Parts};
+ghost use Rattle.report.specs.Jobs.{IsAccepted, IsReplayed, IsNoRecordOf, IsUnfit, IsOfNoRun};
 
 use crate::command_line::Job;
 use crate::loading::{Refusal, load};
+use crate::replaying::{Unfit, replay_record};
 use crate::running::{Trouble, Wanted, run_module};
 use std::alloc::Global;
 use std::io::{self, Write};
@@ -19,21 +21,24 @@ const MODULE_REFUSED: u8 = 2;
 
 const RUN_REFUSED: u8 = 3;
 
+const RECORD_REFUSED: u8 = 4;
+
 const FAULT: u8 = 5;
 
 /// Does a job on a module's bytes: writes its lines to `out`, and at most one line about what went wrong to `err`.
 ///
-/// `saved` has the bytes of the job's record; no job of today has one. `save` takes the record that it makes, after the lines.
+/// `saved` has the bytes of the record that a replay reads, and else nothing. `save` takes the record that a run makes, after
+/// the lines.
 ///
 /// Answers the program's status: 0 where the module was accepted or all threads ended well, 1 for a trap or stop, 2
-/// for a refused module, 3 for a refused run, 5 where memory, a thread or a stream failed. A write
+/// for a refused module, 3 for a refused run, 4 for a refused record, 5 where memory, a thread or a stream failed. A write
 /// to `err` that fails doesn't change it.
 pub fn perform<R, W, E, S>(
     rt: &R,
     alloc: Global,
     job: &Job,
     module: &[u8],
-    _saved: &[u8],
+    saved: &[u8],
     out: &mut W,
     err: &mut E,
     save: &mut S,
@@ -68,6 +73,7 @@ where
             };
             run(rt, alloc, &wanted, module, out, err, save)
         }
+        Job::Replay { dump, .. } => replay_saved(alloc, module, saved, *dump, out, err),
     }
 }
 
@@ -165,6 +171,58 @@ where
     match run_module(rt, alloc, &valid, wanted, out, save) {
         Ok(status) => status,
         Err(trouble) => complain(err, trouble, wanted.save),
+    }
+}
+
+/// Replays the record whose text the bytes are, and prints what its run printed: how the threads ended, the pages and the
+/// first `dump` bytes of the memory.
+///
+/// Answers 0 or 1 only where the record is of a run of the module and its lines were written, 4 only where the bytes are the
+/// text of no record of a run of it, 2 for a refused module, and 5 where memory or a stream failed.
+pub fn replay_saved<W: Write, E: Write>(
+    alloc: Global,
+    module: &[u8],
+    saved: &[u8],
+    dump: u32,
+    out: &mut W,
+    err: &mut E,
+) -> u8
+    ensures replayed { result ≤ 1 → IsReplayed «module».now saved.now dump (W.contents out.old) (W.contents out.new) }
+    ensures refused { result ≡ 4 → IsNoRecordOf «module».now saved.now }
+    ensures status { result ≤ 5 }
+{
+    let valid = match load(alloc, module) {
+        Ok(valid) => valid,
+        Err(refusal) => return refuse(err, refusal),
+    };
+    match replay_record(alloc, &valid, saved, dump, out) {
+        Ok(status) => status,
+        Err(unfit) => reject(err, unfit),
+    }
+}
+
+/// Says why a record was refused, or why its lines couldn't be written, and answers the status.
+fn reject<E: Write>(err: &mut E, unfit: Unfit) -> u8
+    ensures status { (result ≡ 4) ⊎ (result ≡ 5) }
+    ensures refused { (m : Parts) (saved : List ℕ) → IsUnfit m saved unfit → result ≡ 4 → IsOfNoRun m saved }
+{
+    match unfit {
+        Unfit::Unread(fault) => {
+            let _ = write!(err, "record refused: {fault}\n");
+            RECORD_REFUSED
+        }
+        Unfit::Misfit(fault) => {
+            let _ = write!(err, "record refused: {fault}\n");
+            RECORD_REFUSED
+        }
+        Unfit::NoMemory => {
+            say(err, "no memory");
+            FAULT
+        }
+        Unfit::Output => {
+            say(err, "file fault: standard output");
+            FAULT
+        }
     }
 }
 

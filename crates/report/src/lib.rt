@@ -3,20 +3,20 @@
 
 mod args;
 mod command_line;
-mod end;
 mod fitting;
 mod job;
 mod lines;
 mod loading;
 mod recording;
+mod replaying;
 mod running;
 #[cfg(test)]
 mod tests;
 mod words;
 
 pub use command_line::{Job, Usage, command};
-pub use end::EndState;
-pub use job::{check, perform};
+pub use job::{check, perform, replay_saved};
 pub use loading::{Refusal, load};
 pub use recording::{RecordRunFault, record_run};
+pub use replay::EndState;
 pub use words::run_on_words;

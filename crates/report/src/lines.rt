@@ -3,7 +3,7 @@ ghost use Rattle.std.specs.Prelude.{◌≡◌, ◌∷◌, [], ◌<◌, OnOk};
 ghost use Rattle.std.specs.Io.KnownBytes.{Appends};
 ghost use Rattle.report.specs.Lines.{thread_line, thread_lines, pages_line, bytes_line, hex_bytes, hex_digit, end_lines};
 
-use crate::end::EndState;
+use replay::EndState;
 use std::io::{self, Write};
 use types::{Outcome, ThreadReport};
 

@@ -1,15 +1,16 @@
 //! A run over the memory that records.
 ghost use Rattle.std.specs.Prelude.{◌≡◌, ◌≤◌, ◌+◌, ◌++◌, [], length, vec_len, vec_capacity, IfOk};
 ghost use Rattle.module_run.specs.Runs.{opening_memory};
-ghost use Rattle.report.specs.Ends.{RecordsRun, IsRunOf};
+ghost use Rattle.replay.specs.Runs.{IsRunOf};
+ghost use Rattle.report.specs.Ends.{RecordsRun};
 
 use crate::command_line::FUEL_MOST;
-use crate::end::EndState;
 use crate::fitting::parts_fit;
 use locked_recorder::{LockedRecorder, Naming, Prepared};
 use module_run::run;
 use one_memory::OpenFault;
 use record_text::{Record, RecordParts};
+use replay::EndState;
 use spawn_host::RunFault;
 use std::alloc::{AllocError, Global};
 use std::marker::Brand;

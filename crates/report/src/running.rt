@@ -1,12 +1,14 @@
 //! Runs of modules by the program: over which memory, and what is printed.
 ghost use Rattle.std.specs.Prelude.{◌≤◌, IfOk};
+ghost use Rattle.std.specs.Io.KnownBytes.{Appends};
+ghost use Rattle.report.specs.Lines.{end_lines};
 
 use crate::args::read_args;
-use crate::end::EndState;
 use crate::lines::write_end;
 use crate::recording::{RecordRunFault, record_run};
 use crate::words::run_on_words;
 use record_text::{Record, write_record};
+use replay::EndState;
 use spawn_host::RunFault;
 use std::alloc::{AllocError, Global};
 use std::io::{self, Write};
@@ -116,7 +118,8 @@ where
 
 /// Prints how the threads ended and what the memory is, and answers the status.
 pub(crate) fn print<W: Write>(out: &mut W, end: &EndState, dump: u32) -> Result<u8, Trouble>
-    ensures { IfOk result (λ status. status ≤ 1) }
+    ensures status { IfOk result (λ status. status ≤ 1) }
+    ensures lines { IfOk result (λ status. Appends (W.contents out.old) (W.contents out.new) (end_lines end.now.threads.items end.now.pages dump end.now.bytes.items)) }
 {
     match write_end(out, end, dump) {
         Ok(()) => {

@@ -3,9 +3,9 @@ ghost use Rattle.std.specs.Prelude.{◌≡◌, IfOk};
 ghost use Rattle.module_run.specs.Runs.{opening_memory};
 ghost use Rattle.report.specs.Ends.{EndsRunOnWords};
 
-use crate::end::EndState;
 use crate::recording::RecordRunFault;
 use module_run::run;
+use replay::EndState;
 use std::alloc::{AllocError, Global};
 use std::marker::Brand;
 use std::sync::Wait;

@@ -1,7 +1,7 @@
 use Rattle.std.proofs.Common.{sym, subst}
 use Rattle.record_text.specs.declared.parts.RecordParts.{RecordParts}
 use Rattle.recorded_runs.specs.Ranges.{AreTyped}
-use Rattle.report.specs.Ends.{IsRunOf}
+use Rattle.replay.specs.Runs.{IsRunOf}
 use Rattle.report.proofs.Recorded.{is_run_of, is_in_range}
 use Rattle.report.proofs.recording.record_run.Goals as goal
 

@@ -1,0 +1,4 @@
+pub mod Same
+pub mod Ready
+pub mod Verdicts
+pub mod Faults

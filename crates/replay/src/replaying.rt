@@ -1,0 +1,64 @@
+//! The replay of a recorded run of a module.
+ghost use Rattle.std.specs.Prelude.{◌≡◌, IfOk, IfErr};
+ghost use Rattle.typing.specs.Validity.{HasDistinctNames};
+ghost use Rattle.module_run.specs.Runs.{opening_memory};
+ghost use Rattle.replay.specs.Runs.{IsRunOf, IsReplayFault, ShowsNoRun};
+
+use crate::end::EndState;
+use crate::fault::ReplayFault;
+use crate::threads::threads_of;
+use crate::walking::walk;
+use one_memory::OneMemory;
+use record_text::Record;
+use std::alloc::Global;
+use validate::ValidModule;
+
+/// Runs a recorded run of a module again, by one thread along the record's log, and gives what the run left: the ends and
+/// pages of the record, and the bytes of the memory.
+///
+/// A thread's turns between two of its entries are made at the second one, so that a replay takes as many turns as the run,
+/// and at most the fuel for each thread.
+///
+/// # Errors
+/// `Line` and `EndLine` name the first line of the record's text that doesn't fit, from line 1 on: 2 where no function of the
+/// module itself is exported under the name, 3 where the arguments don't fit it; behind them the first entry with which no
+/// run goes on, or the first line behind the log with which none ends. `NoMemory` says nothing of the record.
+pub fn replay(
+    alloc: Global,
+    module: &ValidModule,
+    record: &Record,
+) -> Result<EndState, ReplayFault>
+    ensures run { IfOk result (λ end. IsRunOf «module».now.parts «record».now end) }
+    ensures fault { IfErr result (λ fault. IsReplayFault «module».now.parts «record».now fault) }
+    ensures none { IfErr result (λ fault. ShowsNoRun «module».now.parts «record».now fault) }
+{
+    has_distinct_names(module);
+    let parts = record.parts();
+    let threads = threads_of(alloc, module, parts)?;
+    let ends = Vec::from_slice(alloc, parts.ends.as_slice())?;
+    let memory = walk(threads, opening(alloc, module)?, parts)?;
+    Ok(EndState {
+        threads: ends,
+        pages: parts.pages,
+        bytes: memory.into_bytes(),
+    })
+}
+
+/// No two exports of a valid module have one name. It does nothing else.
+fn has_distinct_names(module: &ValidModule)
+    ensures { HasDistinctNames «module».now.parts.exports }
+{
+    module.parts();
+}
+
+/// The memory of a module before the first instruction.
+fn opening(alloc: Global, module: &ValidModule) -> Result<OneMemory, ReplayFault>
+    ensures opened { IfOk result (λ memory. memory ≡ opening_memory «module».now.parts) }
+    ensures fault { IfErr result (λ fault. fault ≡ ReplayFault.NoMemory) }
+{
+    let image = module.image(alloc)?;
+    match OneMemory::open(alloc, &image, module.pages_max()) {
+        Ok(memory) => Ok(memory),
+        Err(_) => Err(ReplayFault::NoMemory),
+    }
+}

@@ -1,0 +1,55 @@
+//! The threads of a run by a record, before their first turn.
+ghost use Rattle.std.specs.Prelude.{◌≡◌, IfOk, IfErr};
+ghost use Rattle.module_run.specs.Threads.{IsFirst};
+ghost use Rattle.replay.specs.Threads.{AreThreads, IsCallFault};
+
+use crate::fault::ReplayFault;
+use interp::Thread;
+use module_run::{first_thread, spawnable_threads};
+use record_text::RecordParts;
+use spawn_host::RunFault;
+use std::alloc::Global;
+use takes_turns::TakesTurns;
+use validate::ValidModule;
+
+/// Thread 0, and behind it the 15 that can be spawned where the module can start threads.
+pub(crate) fn threads_of<'m>(
+    alloc: Global,
+    module: &'m ValidModule,
+    parts: &RecordParts,
+) -> Result<Vec<Thread<'m>>, ReplayFault>
+    ensures threads { IfOk result (λ threads. AreThreads ⟦<Thread<'m> as TakesTurns>⟧.program ⟦<Thread<'m> as TakesTurns>⟧.fuel ⟦<Thread<'m> as TakesTurns>⟧.stands ⟦<Thread<'m> as TakesTurns>⟧.begins «module».now.parts parts.now threads.items) }
+    ensures fault { IfErr result (λ fault. IsCallFault «module».now.parts parts.now fault) }
+{
+    let first = first_of(alloc, module, parts)?;
+    let mut threads = if module.starts_threads() {
+        spawnable_threads(alloc, module, parts.fuel)?
+    } else {
+        Vec::new(alloc)
+    };
+    threads.insert(0, first)?;
+    Ok(threads)
+}
+
+/// The line of the name, and that of the arguments.
+const INVOKE_LINE: u32 = 2;
+
+const ARGS_LINE: u32 = 3;
+
+/// Thread 0: it is about to call the exported function with the record's arguments.
+fn first_of<'m>(
+    alloc: Global,
+    module: &'m ValidModule,
+    parts: &RecordParts,
+) -> Result<Thread<'m>, ReplayFault>
+    ensures first { IfOk result (λ thread. IsFirst ⟦<Thread<'m> as TakesTurns>⟧.program ⟦<Thread<'m> as TakesTurns>⟧.fuel ⟦<Thread<'m> as TakesTurns>⟧.stands ⟦<Thread<'m> as TakesTurns>⟧.begins «module».now.parts parts.now.invoke parts.now.args parts.now.fuel thread) }
+    ensures fault { IfErr result (λ fault. IsCallFault «module».now.parts parts.now fault) }
+{
+    let (entry, args) = (parts.invoke.as_str(), parts.args.as_slice());
+    match first_thread(alloc, module, entry, args, parts.fuel) {
+        Ok(thread) => Ok(thread),
+        Err(RunFault::UnknownExport) => Err(ReplayFault::Line(INVOKE_LINE)),
+        Err(RunFault::WrongArguments) => Err(ReplayFault::Line(ARGS_LINE)),
+        Err(RunFault::NoMemory | RunFault::NoThread) => Err(ReplayFault::NoMemory),
+    }
+}

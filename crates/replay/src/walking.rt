@@ -1,0 +1,50 @@
+//! The walk along a record's log, and the lines behind it.
+ghost use Rattle.std.specs.Prelude.{◌≡◌, ◌+◌, ◌≤◌, IfOk, IfErr};
+ghost use Rattle.recorded_runs.specs.Recorded.{IsRecordedRun};
+ghost use Rattle.record_text.specs.Text.{IsRecord};
+ghost use Rattle.replay_walk.specs.Walked.{Run, start};
+ghost use Rattle.replay.specs.Walks.{IsReadyFor, IsWalkFault};
+
+use crate::fault::ReplayFault;
+use one_memory::OneMemory;
+use record_text::RecordParts;
+use replay_ends::first_wrong_end;
+use replay_walk::Walk;
+use takes_turns::TakesTurns;
+
+/// The line of the first entry.
+const FIRST_ENTRY: usize = 6;
+
+/// The number of a line: so many behind this one.
+fn line_at(first: usize, behind: usize) -> u32
+    requires { first + behind ≤ 2000000 }
+    ensures { result ≡ first + behind }
+{
+    (first + behind) as u32
+}
+
+/// Walks along a record's log, then compares the lines behind it, and gives the memory in the end.
+///
+/// # Errors
+/// `Line` where an entry doesn't fit, and `EndLine` where all do and a line behind them doesn't: the first such line.
+pub(crate) fn walk<T: TakesTurns + Drop>(
+    threads: Vec<T>,
+    memory: OneMemory,
+    parts: &RecordParts,
+) -> Result<OneMemory, ReplayFault>
+    requires ranges { IsRecord parts.now }
+    requires ready { (run : Run) × IsReadyFor T.stands T.begins T.program T.fuel run parts.now threads.items memory }
+    ensures run { IfOk result (λ last. (run : Run) → IsReadyFor T.stands T.begins T.program T.fuel run parts.now threads.items memory → IsRecordedRun (start run) parts.now last) }
+    ensures fault { IfErr result (λ fault. (run : Run) → IsReadyFor T.stands T.begins T.program T.fuel run parts.now threads.items memory → IsWalkFault (start run) parts.now fault) }
+{
+    let mut walk = Walk::new(threads, memory);
+    let log = parts.log.as_slice();
+    if let Some(at) = walk.along(log, parts.limit, parts.fuel) {
+        return Err(ReplayFault::Line(line_at(FIRST_ENTRY, at)));
+    }
+    let held = walk.memory.pages();
+    match first_wrong_end(&walk.threads, &walk.stage, held, parts) {
+        Some(at) => Err(ReplayFault::EndLine(line_at(log.len() + FIRST_ENTRY, at))),
+        None => Ok(walk.memory),
+    }
+}

@@ -1,0 +1,17 @@
+//! Replays of records by the program's `perform`: what they print, their statuses, and which records are refused at which line.
+#![tactic(auto)]
+
+#[cfg(test)]
+mod long;
+#[cfg(test)]
+mod modules;
+#[cfg(test)]
+mod records;
+#[cfg(test)]
+mod refusals;
+#[cfg(test)]
+mod replays;
+#[cfg(test)]
+mod round_trips;
+#[cfg(test)]
+mod writers;

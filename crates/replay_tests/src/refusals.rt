@@ -1,0 +1,164 @@
+//! Records that are refused, and at which line.
+
+use crate::modules::{ATOMIC_ADD, ATOMIC_SUB, SPINNING, Small, TWO_WORDS};
+use crate::records::{ADDED, SPUN, STORED};
+use crate::replays::{is_refused, prints};
+use std::alloc::{AllocError, Global};
+use std::test::Fail;
+
+/// The record with the line of this number, from 1 on, replaced.
+fn with_line(alloc: Global, record: &str, number: usize, line: &str) -> Result<Vec<u8>, AllocError> {
+    let mut text = Vec::new(alloc);
+    for (place, old) in record.lines().enumerate() {
+        let chosen = if number > 0 && place == number - 1 { line } else { old };
+        text.extend_from_slice(chosen.as_bytes())?;
+        text.push(b'\n')?;
+    }
+    Ok(text)
+}
+
+/// Lines of the atomic add's record that are others, and why the record is refused then.
+static FORGED: [(usize, &str, &str); 41] = [
+    (1, "wathread-record 2", "header line 1"),
+    (2, "invoke 67", "line 2 does not fit"),
+    (2, "invoke -", "line 2 does not fit"),
+    (2, "invoke 6", "header line 2"),
+    (3, "args i32:7", "line 3 does not fit"),
+    (3, "args i32:07", "header line 3"),
+    (3, "args i32:4294967296", "header line 3"),
+    (4, "fuel 3", "end line 9 does not fit"),
+    (4, "fuel 2", "line 6 does not fit"),
+    (4, "fuel 01", "header line 4"),
+    (4, "fuel 1000000000001", "header line 4"),
+    (5, "limit 0", "header line 5"),
+    (5, "limit 1000001", "header line 5"),
+    (6, "0 rmw add 4 4 5 = 0", "line 6 does not fit"),
+    (6, "0 rmw sub 0 4 5 = 0", "line 6 does not fit"),
+    (6, "0 rmw add 0 4 5 = 1", "line 6 does not fit"),
+    (6, "0 rmw add 0 4 5 = out", "line 6 does not fit"),
+    (6, "1 rmw add 0 4 5 = 0", "line 6 does not fit"),
+    (6, "15 rmw add 0 4 5 = 0", "line 6 does not fit"),
+    (6, "16 rmw add 0 4 5 = 0", "line 6 unreadable"),
+    (6, "0 rmw add 0 4 05 = 0", "line 6 unreadable"),
+    (6, "0 rmw add 0 4 4294967296 = 0", "line 6 unreadable"),
+    (6, "0 rmw add 0 1 256 = 0", "line 6 unreadable"),
+    (6, "0 rmw add 2 4 5 = 0", "line 6 unreadable"),
+    (6, "0 load 4 8 12 = 0", "line 6 unreadable"),
+    (6, "0 wait 0 4 0 -0 = 0", "line 6 unreadable"),
+    (6, "0 rmw add 0 4 5 = 0\r", "line 6 unreadable"),
+    (6, "0 leave = done", "line 6 does not fit"),
+    (6, "0 told 0 = done", "line 6 does not fit"),
+    (7, "1 leave = done", "line 7 does not fit"),
+    (7, "0 told 0 = done", "line 7 does not fit"),
+    (8, "0 told 1 = done", "line 8 does not fit"),
+    (8, "0 told stop = done", "line 8 does not fit"),
+    (8, "0 leave = done", "line 8 does not fit"),
+    (9, "end 0 ok i32:0 5", "end line 9 does not fit"),
+    (9, "end 0 ok i64:0 4", "end line 9 does not fit"),
+    (9, "end 1 ok i32:0 4", "line 9 unreadable"),
+    (9, "end 0 ok i32:0 4\nend 2 ok - 1", "line 10 unreadable"),
+    (9, "end 0 ok i32:0 4\nend 1 ok - 1", "end line 10 does not fit"),
+    (10, "pages 2", "end line 10 does not fit"),
+    (11, "finish\n", "line 12 unreadable"),
+];
+
+#[test]
+fn refuses_forged_records(rt: HostRuntime) -> Result<(), Fail> {
+    for (number, line, wanted) in FORGED {
+        let record = with_line(rt.alloc(), ADDED, number, line)?;
+        assert!(rt;
+            is_refused(&rt, rt.alloc(), ATOMIC_ADD, &record, wanted)?,
+            "{number}: {line}"
+        );
+    }
+    Ok(())
+}
+
+#[test]
+fn accepts_a_small_limit(rt: HostRuntime) -> Result<(), Fail> {
+    let record = with_line(rt.alloc(), ADDED, 5, "limit 1")?;
+    let out = "thread 0: ok i32:0\npages 1\nbytes 05 00 00 00\n";
+    assert!(rt; prints(&rt, rt.alloc(), ATOMIC_ADD, &record, 4, out, 0)?);
+    Ok(())
+}
+
+/// Records of other modules, each with one line replaced.
+static OTHERS: [(Small<'static>, &str, usize, &str, &str); 5] = [
+    // a record of another module
+    (ATOMIC_SUB, ADDED, 6, "0 rmw add 0 4 5 = 0", "line 6 does not fit"),
+    (TWO_WORDS, ADDED, 6, "0 rmw add 0 4 5 = 0", "line 6 does not fit"),
+    // a second entry that the log had no room for
+    (TWO_WORDS, STORED, 5, "limit 1", "line 7 does not fit"),
+    // a thread that would need more units than all
+    (SPINNING, SPUN, 7, "0 rmw add 0 4 5 = 5", "line 7 does not fit"),
+    (SPINNING, SPUN, 9, "end 0 stop 1 999999", "end line 9 does not fit"),
+];
+
+#[test]
+fn refuses_records_of_others(rt: HostRuntime) -> Result<(), Fail> {
+    for (module, record, number, line, wanted) in OTHERS {
+        let record = with_line(rt.alloc(), record, number, line)?;
+        assert!(rt;
+            is_refused(&rt, rt.alloc(), module, &record, wanted)?,
+            "{number}: {line}"
+        );
+    }
+    Ok(())
+}
+
+/// Why a record with this front alone is refused.
+fn is_cut_right(alloc: Global, front: &[u8], err: &[u8]) -> Result<bool, AllocError> {
+    let lines = front.iter().filter(|byte| **byte == b'\n').count();
+    let wanted = match lines {
+        0..=4 => format!(in alloc; "record refused: header line {}\n", lines + 1)?,
+        _ => format!(in alloc; "record refused: end missing\n")?,
+    };
+    Ok(err == wanted.as_bytes())
+}
+
+#[test]
+fn refuses_every_front(rt: HostRuntime) -> Result<(), Fail> {
+    let module = ATOMIC_ADD.bytes(rt.alloc())?;
+    for count in 0..ADDED.len() {
+        let front = &ADDED.as_bytes()[..count];
+        let gave = crate::replays::replay(&rt, rt.alloc(), &module, front, 8);
+        assert!(rt; is_cut_right(rt.alloc(), front, &gave.err)?, "{count}");
+        assert_eq!(rt; (gave.status, gave.out.len()), (4, 0));
+    }
+    Ok(())
+}
+
+/// The record with each line feed behind a carriage return.
+fn with_returns(alloc: Global, record: &str) -> Result<Vec<u8>, AllocError> {
+    let mut text = Vec::new(alloc);
+    for line in record.lines() {
+        text.extend_from_slice(line.as_bytes())?;
+        text.extend_from_slice(b"\r\n")?;
+    }
+    Ok(text)
+}
+
+/// A record of so many entries in a log of one, and of no other kind than `size`.
+fn crowded(alloc: Global, count: usize) -> Result<Vec<u8>, AllocError> {
+    let mut text = Vec::from_slice(
+        alloc,
+        b"wathread-record 1\ninvoke 66\nargs\nfuel 1000000000\nlimit 1\n",
+    )?;
+    for _ in 0..count {
+        text.extend_from_slice(b"0 size = 1\n")?;
+    }
+    text.extend_from_slice(b"end 0 ok i32:0 4\npages 1\nfinish\n")?;
+    Ok(text)
+}
+
+#[test]
+fn refuses_other_line_ends_and_long_logs(rt: HostRuntime) -> Result<(), Fail> {
+    let alloc = rt.alloc();
+    let returns = with_returns(alloc, ADDED)?;
+    assert!(rt; is_refused(&rt, alloc, ATOMIC_ADD, &returns, "header line 1")?);
+    let most = crowded(alloc, 49)?;
+    assert!(rt; is_refused(&rt, alloc, ATOMIC_ADD, &most, "line 6 does not fit")?);
+    let more = crowded(alloc, 50)?;
+    assert!(rt; is_refused(&rt, alloc, ATOMIC_ADD, &more, "line 55 unreadable")?);
+    Ok(())
+}

@@ -1,0 +1,53 @@
+//! Runs of several threads, kept and replayed.
+
+use crate::modules::{COUNTING, TIMEOUTS, TRAPPING, summing, threaded};
+use crate::replays::{replay, run};
+use record_text::{read_record, write_record};
+use std::alloc::Global;
+use std::sync::Wait;
+use std::test::Fail;
+use std::thread::Threads;
+
+/// Whether the record is written as it was read.
+fn is_written_again(alloc: Global, record: &[u8]) -> bool {
+    let Ok(found) = read_record(alloc, record) else {
+        return false;
+    };
+    let mut again = Vec::new(alloc);
+    write_record(&found, &mut again).is_ok() && again.as_slice() == record
+}
+
+/// Whether a run prints something, and its record's replay the same with the same status.
+fn comes_again<R: Threads + Wait + Sync>(rt: &R, alloc: Global, module: &[u8]) -> bool {
+    let ran = run(rt, alloc, module, 100_000, 64);
+    let replayed = replay(rt, alloc, module, &ran.record, 64);
+    !ran.out.is_empty()
+        && is_written_again(alloc, &ran.record)
+        && replayed.out == ran.out
+        && replayed.err.is_empty()
+        && replayed.status == ran.status
+}
+
+#[test]
+fn replays_what_was_recorded(rt: HostRuntime) -> Result<(), Fail> {
+    let sums = summing(rt.alloc())?;
+    for code in [COUNTING, TRAPPING, TIMEOUTS, sums.as_slice()] {
+        let module = threaded(rt.alloc(), code)?;
+        for _ in 0..100 {
+            assert!(rt; comes_again(&rt, rt.alloc(), &module));
+        }
+    }
+    Ok(())
+}
+
+/// Whether a run's record fits no longer where one more thread would have an end.
+#[test]
+fn replays_of_one_module_are_refused_for_another(rt: HostRuntime) -> Result<(), Fail> {
+    let alloc = rt.alloc();
+    let timeouts = threaded(alloc, TIMEOUTS)?;
+    let trapping = threaded(alloc, TRAPPING)?;
+    let ran = run(&rt, alloc, &timeouts, 100_000, 0);
+    let replayed = replay(&rt, alloc, &trapping, &ran.record, 0);
+    assert_eq!(rt; (replayed.status, replayed.out.len()), (4, 0));
+    Ok(())
+}
