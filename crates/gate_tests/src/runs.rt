@@ -1,6 +1,6 @@
 //! A run behind a gate, and what it left.
 
-use report::{EndState, RecordRunFault, Refusal, load, run_on_words, run_recorded};
+use report::{EndState, RecordRunFault, Refusal, load, record_run, run_on_words};
 use std::alloc::Global;
 use std::sync::Wait;
 use std::thread::Threads;
@@ -55,7 +55,7 @@ where
     let valid = load(alloc, module)?;
     match memory {
         Memory::Locked { limit } => {
-            let (_record, end) = run_recorded(rt, alloc, &valid, "f", args, FUEL, limit, gate)?;
+            let (_record, end) = record_run(rt, alloc, &valid, "f", args, FUEL, limit, gate)?;
             Ok(end)
         }
         Memory::Words => Ok(run_on_words(rt, alloc, &valid, "f", args, FUEL, gate)?),

@@ -1,5 +1,5 @@
 //! The recorder.
-ghost use Rattle.std.specs.Prelude.{ℕ, ◌≡◌, ◌<◌, ◌≤◌, ◌++◌, ◌∷◌, [], true, false, Some, IfOk, All, map, length};
+ghost use Rattle.std.specs.Prelude.{ℕ, ◌≡◌, ◌<◌, ◌≤◌, ◌++◌, ◌∷◌, [], true, false, Some, IfOk, IsOkUnless, All, map, length};
 ghost use Rattle.shared_memory.specs.Access.{Meets};
 ghost use Rattle.seats.specs.Callers.{fresh, fresh_from};
 ghost use Rattle.seats.specs.Moves.{keeper, others_of};
@@ -49,7 +49,8 @@ fn take_seats<B: Naming>(
 ) -> Result<Vec<LockedSeat<B>>, OpenFault>
     requires row { (row.now.table_id ≡ B.table) × (0 < row.now.table_id.words) }
     requires desk { (desk.old.table_id ≡ B.table) × (desk.old.me ≡ (opened, [])) }
-    ensures { IfOk result (λ v. (map (λ s. s.caller) v.items ≡ fresh_from 17 0) × (desk.new.table_id ≡ B.table) × (desk.new.me ≡ (keeper [] [], []))) }
+    ensures seats { IfOk result (λ v. (map (λ s. s.caller) v.items ≡ fresh_from 17 0) × (desk.new.table_id ≡ B.table) × (desk.new.me ≡ (keeper [] [], []))) }
+    ensures fault { IsOkUnless result OpenFault.NoMemory }
 {
     let Ok(mut seats) = Vec::with_capacity(alloc, SEATS as usize) else {
         return Err(OpenFault::NoMemory);
@@ -88,7 +89,8 @@ impl<B: Naming, W: Wait + Drop> LockedRecorder<B, W> {
         requires table { prepared.table ≡ B.table }
         requires opening { prepared.opening ≡ B.opening }
         requires limit { prepared.limit ≡ B.limit }
-        ensures { IfOk result (λ r. map (λ s. s.caller) r.1.items ≡ fresh_from 17 0) }
+        ensures seats { IfOk result (λ r. map (λ s. s.caller) r.1.items ≡ fresh_from 17 0) }
+        ensures fault { IsOkUnless result OpenFault.NoMemory }
     {
         let Prepared {
             board,

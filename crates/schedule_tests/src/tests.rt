@@ -5,7 +5,7 @@ use crate::modules::{
     threaded,
 };
 use crate::{MachineFault, machine_of, schedule_of};
-use report::{EndState, load, run_recorded};
+use report::{EndState, load, record_run};
 use scheduled_machine::{Kind, Mark};
 use std::alloc::{AllocError, Global};
 use std::process::Abort;
@@ -37,9 +37,9 @@ fn record<R: Threads + Wait + Sync>(
     fuel: u64,
     limit: u32,
 ) -> Result<Recorded, Fail> {
-    let (parts, end) = run_recorded(rt, alloc, module, "f", &[], fuel, limit, &OpenGate)?;
+    let (record, end) = record_run(rt, alloc, module, "f", &[], fuel, limit, &OpenGate)?;
     Ok(Recorded {
-        log: Vec::from_slice(alloc, parts.log.as_slice())?,
+        log: Vec::from_slice(alloc, record.parts().log.as_slice())?,
         end,
     })
 }

@@ -1,5 +1,5 @@
 //! The row.
-ghost use Rattle.std.specs.Prelude.{ℕ, ◌≡◌, ◌<◌, ◌≤◌, ◌+◌, [], ◌∷◌, true, false, None, IfOk, All, List, map, length, slice_index};
+ghost use Rattle.std.specs.Prelude.{ℕ, ◌≡◌, ◌<◌, ◌≤◌, ◌+◌, [], ◌∷◌, true, false, None, IfOk, IsOkUnless, All, List, map, length, slice_index};
 ghost use Rattle.types.specs.declared.event.Entry.{Entry};
 ghost use Rattle.shared_memory.specs.Events.{IsEvent, is_of_queue};
 ghost use Rattle.shared_memory.specs.History.{memory_after};
@@ -53,7 +53,8 @@ fn take_seats<B: Naming>(
 ) -> Result<Vec<WordSeat<B>>, OpenFault>
     requires row { (row.now.table_id ≡ B.table) × (0 < row.now.table_id.words) }
     requires all { (all.old.table_id ≡ B.table) × (all.old.me ≡ (opened, [])) }
-    ensures { IfOk result (λ v. map (λ s. s.caller) v.items ≡ fresh_from 17 0) }
+    ensures seats { IfOk result (λ v. map (λ s. s.caller) v.items ≡ fresh_from 17 0) }
+    ensures fault { IsOkUnless result OpenFault.NoMemory }
 {
     let Ok(mut seats) = Vec::with_capacity(alloc, SEATS as usize) else {
         return Err(OpenFault::NoMemory);
@@ -112,7 +113,8 @@ impl<B: Naming> WordRow<B> {
     ) -> Result<(WordRow<B>, Vec<WordSeat<B>>), OpenFault>
         requires table { prepared.table ≡ B.table }
         requires opening { prepared.opening ≡ B.opening }
-        ensures { IfOk result (λ r. map (λ s. s.caller) r.1.items ≡ fresh_from 17 0) }
+        ensures seats { IfOk result (λ r. map (λ s. s.caller) r.1.items ≡ fresh_from 17 0) }
+        ensures fault { IsOkUnless result OpenFault.NoMemory }
     {
         let Prepared {
             board,
