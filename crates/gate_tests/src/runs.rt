@@ -1,5 +1,6 @@
 //! A run behind a gate, and what it left.
 
+use replay::{ReplayFault, replay};
 use report::{EndState, RecordRunFault, Refusal, load, record_run, run_on_words};
 use std::alloc::Global;
 use std::sync::Wait;
@@ -25,6 +26,9 @@ const FUEL: u64 = 1_000_000_000;
 pub(crate) enum Trouble {
     Refused(Refusal),
     Run(RecordRunFault),
+    Replay(ReplayFault),
+    /// The replay came to another end than the run.
+    AnotherEnd,
 }
 
 impl From<Refusal> for Trouble {
@@ -39,7 +43,13 @@ impl From<RecordRunFault> for Trouble {
     }
 }
 
-/// Runs the function `f` of a module behind a gate.
+impl From<ReplayFault> for Trouble {
+    fn from(fault: ReplayFault) -> Trouble {
+        Trouble::Replay(fault)
+    }
+}
+
+/// Runs the function `f` of a module behind a gate. What was recorded is replayed, and has to come to the same end.
 pub(crate) fn run<G, R>(
     rt: &R,
     alloc: Global,
@@ -55,8 +65,12 @@ where
     let valid = load(alloc, module)?;
     match memory {
         Memory::Locked { limit } => {
-            let (_record, end) = record_run(rt, alloc, &valid, "f", args, FUEL, limit, gate)?;
-            Ok(end)
+            let (record, end) = record_run(rt, alloc, &valid, "f", args, FUEL, limit, gate)?;
+            if replay(alloc, &valid, &record)? == end {
+                Ok(end)
+            } else {
+                Err(Trouble::AnotherEnd)
+            }
         }
         Memory::Words => Ok(run_on_words(rt, alloc, &valid, "f", args, FUEL, gate)?),
     }
