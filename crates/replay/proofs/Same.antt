@@ -57,7 +57,7 @@ module _ (m : Parts) (distinct : HasDistinctNames m.exports) where
             let idle : StartsThreads m → ⊥ = λ starts. absurd (omega (arith, starts, none)) in
             let same = same_function name x.own y.own x.func_type y.func_type x.body y.body x.exports y.exports in
             x.idle idle n arg ∙ same_call x.func_type y.func_type x.body y.body (values.I32 n ∷ values.I32 arg ∷ []) same.0 same.1 ∙ sym (y.idle idle n arg)
-        )
+            )
       ]
 
   pub same_start : (r : RecordParts) (x y : BeginsBy m r) → start_of_record m r x ≡ start_of_record m r y

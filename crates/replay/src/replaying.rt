@@ -23,11 +23,7 @@ use validate::ValidModule;
 /// `Line` and `EndLine` name the first line of the record's text that doesn't fit, from line 1 on: 2 where no function of the
 /// module itself is exported under the name, 3 where the arguments don't fit it; behind them the first entry with which no
 /// run goes on, or the first line behind the log with which none ends. `NoMemory` says nothing of the record.
-pub fn replay(
-    alloc: Global,
-    module: &ValidModule,
-    record: &Record,
-) -> Result<EndState, ReplayFault>
+pub fn replay(alloc: Global, module: &ValidModule, record: &Record) -> Result<EndState, ReplayFault>
     ensures run { IfOk result (λ end. IsRunOf «module».now.parts «record».now end) }
     ensures fault { IfErr result (λ fault. IsReplayFault «module».now.parts «record».now fault) }
     ensures none { IfErr result (λ fault. ShowsNoRun «module».now.parts «record».now fault) }

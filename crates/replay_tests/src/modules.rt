@@ -114,7 +114,8 @@ pub(crate) const COUNTING: &[u8] = b"\x0a\x6f\x02\
 \x41\x08\x41\x7f\xfe\x00\x02\x00\x1a\x0b";
 
 /// A thread that traps beside one that ends.
-pub(crate) const TRAPPING: &[u8] = b"\x0a\x0f\x02\x09\x00\x41\x00\x10\x00\x1a\x41\x07\x0b\x03\x00\x00\x0b";
+pub(crate) const TRAPPING: &[u8] =
+    b"\x0a\x0f\x02\x09\x00\x41\x00\x10\x00\x1a\x41\x07\x0b\x03\x00\x00\x0b";
 
 /// Three threads sleep with timeouts 3, 2 and 1, and the first thread without one.
 pub(crate) const TIMEOUTS: &[u8] = b"\x0a\x2c\x02\

@@ -7,10 +7,19 @@ use std::alloc::{AllocError, Global};
 use std::test::Fail;
 
 /// The record with the line of this number, from 1 on, replaced.
-fn with_line(alloc: Global, record: &str, number: usize, line: &str) -> Result<Vec<u8>, AllocError> {
+fn with_line(
+    alloc: Global,
+    record: &str,
+    number: usize,
+    line: &str,
+) -> Result<Vec<u8>, AllocError> {
     let mut text = Vec::new(alloc);
     for (place, old) in record.lines().enumerate() {
-        let chosen = if number > 0 && place == number - 1 { line } else { old };
+        let chosen = if number > 0 && place == number - 1 {
+            line
+        } else {
+            old
+        };
         text.extend_from_slice(chosen.as_bytes())?;
         text.push(b'\n')?;
     }
@@ -57,7 +66,11 @@ static FORGED: [(usize, &str, &str); 41] = [
     (9, "end 0 ok i64:0 4", "end line 9 does not fit"),
     (9, "end 1 ok i32:0 4", "line 9 unreadable"),
     (9, "end 0 ok i32:0 4\nend 2 ok - 1", "line 10 unreadable"),
-    (9, "end 0 ok i32:0 4\nend 1 ok - 1", "end line 10 does not fit"),
+    (
+        9,
+        "end 0 ok i32:0 4\nend 1 ok - 1",
+        "end line 10 does not fit",
+    ),
     (10, "pages 2", "end line 10 does not fit"),
     (11, "finish\n", "line 12 unreadable"),
 ];
@@ -85,13 +98,37 @@ fn accepts_a_small_limit(rt: HostRuntime) -> Result<(), Fail> {
 /// Records of other modules, each with one line replaced.
 static OTHERS: [(Small<'static>, &str, usize, &str, &str); 5] = [
     // a record of another module
-    (ATOMIC_SUB, ADDED, 6, "0 rmw add 0 4 5 = 0", "line 6 does not fit"),
-    (TWO_WORDS, ADDED, 6, "0 rmw add 0 4 5 = 0", "line 6 does not fit"),
+    (
+        ATOMIC_SUB,
+        ADDED,
+        6,
+        "0 rmw add 0 4 5 = 0",
+        "line 6 does not fit",
+    ),
+    (
+        TWO_WORDS,
+        ADDED,
+        6,
+        "0 rmw add 0 4 5 = 0",
+        "line 6 does not fit",
+    ),
     // a second entry that the log had no room for
     (TWO_WORDS, STORED, 5, "limit 1", "line 7 does not fit"),
     // a thread that would need more units than all
-    (SPINNING, SPUN, 7, "0 rmw add 0 4 5 = 5", "line 7 does not fit"),
-    (SPINNING, SPUN, 9, "end 0 stop 1 999999", "end line 9 does not fit"),
+    (
+        SPINNING,
+        SPUN,
+        7,
+        "0 rmw add 0 4 5 = 5",
+        "line 7 does not fit",
+    ),
+    (
+        SPINNING,
+        SPUN,
+        9,
+        "end 0 stop 1 999999",
+        "end line 9 does not fit",
+    ),
 ];
 
 #[test]

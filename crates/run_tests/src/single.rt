@@ -727,3 +727,21 @@ fn runs_single_threads_on_words(rt: HostRuntime) -> Result<(), Fail> {
     }
     Ok(())
 }
+
+/// The row of words takes no limit: where a log of one entry stops a store over two words, that ends well there.
+#[test]
+fn has_no_limit_on_words(rt: HostRuntime) -> Result<(), Fail> {
+    let stopped = "two-word store in a log of one entry";
+    for example in EXAMPLES.iter().filter(|example| example.name == stopped) {
+        let module = example.module.bytes(rt.alloc())?;
+        let on_words = Asked {
+            on_words: true,
+            ..asked(example)
+        };
+        let ran = run(&rt, rt.alloc(), &module, on_words)?;
+        let wanted =
+            b"thread 0: ok i32:0\npages 1\nbytes 00 00 00 00 88 77 66 55 44 33 22 11 00 00 00 00\n";
+        assert_eq!(rt; (ran.out.as_slice(), ran.status), (wanted.as_slice(), 0));
+    }
+    Ok(())
+}

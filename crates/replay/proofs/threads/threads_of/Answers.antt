@@ -15,7 +15,7 @@ returns-clause-threads c =
       is_first = c.in_ok-first.ensures.first;
       are_others =
           elim c.if-starts_threads.branch [
-            then-starts_threads+in_ok-threads w ↦ subst (λ v. Others v.items) (sym w.threads-is) (inl (_, w.if-starts_threads.ensures.0 refl, w.in_ok-threads.ensures))
+            | then-starts_threads+in_ok-threads w ↦ subst (λ v. Others v.items) (sym w.threads-is) (inl (_, w.if-starts_threads.ensures.0 refl, w.in_ok-threads.ensures))
             | else-starts_threads w ↦ subst (λ v. Others v.items) (sym w.threads-is) (inr (λ starts. absurd (cc (w.if-starts_threads.ensures.1 starts)), w.new-threads.ensures.items))
           ];
     }
