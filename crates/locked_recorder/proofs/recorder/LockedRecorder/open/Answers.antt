@@ -8,7 +8,7 @@ use Rattle.locked_recorder.proofs.recorder.LockedRecorder.open.Goals as goal
 pub invariant_of-keeper : goal.invariant_of-keeper
 invariant_of-keeper g c =
     let inv = c.prepared.invariant in
-    let seats = c.in_ok-seats.ensures in (
+    let seats = c.in_ok-seats.ensures.seats in (
       seats.1,
       seats.2 ∙ ap (λ (l : List Entry). (keeper l [], [])) (sym inv.4),
       ap (λ (x : MemoryName). x.limit) c.prepared.view_is ∙ c.requires.limit,
