@@ -2,6 +2,7 @@
 
 use crate::modules::{COUNTING, TIMEOUTS, TRAPPING, summing, threaded};
 use crate::replays::{replay, run};
+use example_modules::{BROKEN_LOCK, C_COUNTER, C_TICKET_LOCK, CONDITION, TICKET_LOCK};
 use record_text::{read_record, write_record};
 use std::alloc::Global;
 use std::sync::Wait;
@@ -35,6 +36,23 @@ fn replays_what_was_recorded(rt: HostRuntime) -> Result<(), Fail> {
         let module = threaded(rt.alloc(), code)?;
         for _ in 0..100 {
             assert!(rt; comes_again(&rt, rt.alloc(), &module));
+        }
+    }
+    Ok(())
+}
+
+/// The broken lock's runs come to different sums, and each comes again.
+#[test]
+fn replays_the_examples(rt: HostRuntime) -> Result<(), Fail> {
+    for module in [
+        BROKEN_LOCK,
+        TICKET_LOCK,
+        CONDITION,
+        C_COUNTER,
+        C_TICKET_LOCK,
+    ] {
+        for _ in 0..100 {
+            assert!(rt; comes_again(&rt, rt.alloc(), module));
         }
     }
     Ok(())

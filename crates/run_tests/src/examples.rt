@@ -1,11 +1,11 @@
 //! The modules of the folder examples, over both memories. The single-threaded ones have the answers of another engine
 //! (node), and units counted by hand; the threaded ones print one text on every schedule.
 
-use crate::programs::{
+use crate::runs::{Asked, USUAL, run};
+use example_modules::{
     ATOMIC_ADD, BROKEN_LOCK, C_COUNTER, C_TICKET_LOCK, CONDITION, COUNTDOWN, COUNTING, FAC, FIB,
     HASH, SIEVE, TICKET_LOCK,
 };
-use crate::runs::{Asked, USUAL, run};
 use std::alloc::{AllocError, Global};
 use std::sync::Wait;
 use std::test::Fail;

@@ -6,8 +6,6 @@ mod examples;
 #[cfg(test)]
 mod modules;
 #[cfg(test)]
-mod programs;
-#[cfg(test)]
 mod runs;
 #[cfg(test)]
 mod single;

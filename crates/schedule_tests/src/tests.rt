@@ -5,6 +5,7 @@ use crate::modules::{
     threaded,
 };
 use crate::{MachineFault, machine_of, schedule_of};
+use example_modules::{BROKEN_LOCK, C_COUNTER, C_TICKET_LOCK, CONDITION, TICKET_LOCK};
 use report::{EndState, load, record_run};
 use scheduled_machine::{Kind, Mark};
 use std::alloc::{AllocError, Global};
@@ -98,6 +99,20 @@ fn four_threads_count(rt: HostRuntime) -> Result<(), Fail> {
     let module = threaded(rt.alloc(), COUNTING)?;
     let end = check(&rt, rt.alloc(), &module, FUEL, LIMIT, 5)?;
     assert_eq!(rt; end.threads.len(), 5);
+    Ok(())
+}
+
+#[test]
+fn the_examples_are_stepped_again(rt: HostRuntime) -> Result<(), Fail> {
+    for module in [
+        BROKEN_LOCK,
+        TICKET_LOCK,
+        CONDITION,
+        C_COUNTER,
+        C_TICKET_LOCK,
+    ] {
+        check(&rt, rt.alloc(), module, FUEL, LIMIT, 2)?;
+    }
     Ok(())
 }
 

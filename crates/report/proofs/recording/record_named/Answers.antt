@@ -8,13 +8,13 @@ use Rattle.report.proofs.Leaving.{leaves, few_reports, limited_by, the_same}
 use Rattle.report.proofs.recording.record_named.Goals as goal
 
 pub run-requires-clause-names : goal.run-requires-clause-names
-run-requires-clause-names g c κs within = λ k d less. seat_name (λ s. s.caller) c.in_ok-memory.seats.items c.in_ok-memory.ensures k d less
+run-requires-clause-names g c κs within = λ k d less. seat_name (λ s. s.caller) c.in_ok-memory.seats.items c.in_ok-memory.ensures.seats k d less
 
 pub run-requires-clause-new : goal.run-requires-clause-new
-run-requires-clause-new g c κs within = λ k d less. seat_new (λ s. s.caller) c.in_ok-memory.seats.items c.in_ok-memory.ensures k d less
+run-requires-clause-new g c κs within = λ k d less. seat_new (λ s. s.caller) c.in_ok-memory.seats.items c.in_ok-memory.ensures.seats k d less
 
 pub run-requires-clause-right : goal.run-requires-clause-right
-run-requires-clause-right g c κs within = λ d. seat_right (λ s. s.caller) c.in_ok-memory.seats.items c.in_ok-memory.ensures d
+run-requires-clause-right g c κs within = λ d. seat_right (λ s. s.caller) c.in_ok-memory.seats.items c.in_ok-memory.ensures.seats d
 
 pub copy_reports-requires : goal.copy_reports-requires
 copy_reports-requires g c =

@@ -8,10 +8,10 @@ use Rattle.report.proofs.Leaving.{leaves}
 use Rattle.report.proofs.words.run_named.Goals as goal
 
 pub run-requires-clause-names : goal.run-requires-clause-names
-run-requires-clause-names g c κs within = λ k d less. seat_name (λ s. s.caller) c.in_ok-memory.seats.items c.in_ok-memory.ensures k d less
+run-requires-clause-names g c κs within = λ k d less. seat_name (λ s. s.caller) c.in_ok-memory.seats.items c.in_ok-memory.ensures.seats k d less
 
 pub run-requires-clause-new : goal.run-requires-clause-new
-run-requires-clause-new g c κs within = λ k d less. seat_new (λ s. s.caller) c.in_ok-memory.seats.items c.in_ok-memory.ensures k d less
+run-requires-clause-new g c κs within = λ k d less. seat_new (λ s. s.caller) c.in_ok-memory.seats.items c.in_ok-memory.ensures.seats k d less
 
 pub returns : goal.returns
 returns g c =

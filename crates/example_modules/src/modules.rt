@@ -1,7 +1,7 @@
 //! The bytes of the modules in the folder examples, whose texts stand there, and of a countdown.
 
 /// `examples/fac.wasm`, of `fac.wat`.
-pub(crate) const FAC: &[u8] = b"\
+pub const FAC: &[u8] = b"\
 \x00\x61\x73\x6d\x01\x00\x00\x00\
 \x01\x06\x01\x60\x01\x7e\x01\x7e\
 \x03\x02\x01\x00\
@@ -10,7 +10,7 @@ pub(crate) const FAC: &[u8] = b"\
 \x00\x42\x01\x7d\x21\x00\x0c\x00\x0b\x0b\x20\x01\x0b";
 
 /// `examples/fib.wasm`, of `fib.wat`.
-pub(crate) const FIB: &[u8] = b"\
+pub const FIB: &[u8] = b"\
 \x00\x61\x73\x6d\x01\x00\x00\x00\
 \x01\x06\x01\x60\x01\x7f\x01\x7f\
 \x03\x02\x01\x00\
@@ -19,7 +19,7 @@ pub(crate) const FIB: &[u8] = b"\
 \x00\x6a\x0b\x0b";
 
 /// `examples/sieve.wasm`, of `sieve.wat`.
-pub(crate) const SIEVE: &[u8] = b"\
+pub const SIEVE: &[u8] = b"\
 \x00\x61\x73\x6d\x01\x00\x00\x00\
 \x01\x06\x01\x60\x01\x7f\x01\x7f\
 \x03\x02\x01\x00\
@@ -31,7 +31,7 @@ pub(crate) const SIEVE: &[u8] = b"\
 \x03\x0b";
 
 /// `examples/hash.wasm`, of `hash.wat`.
-pub(crate) const HASH: &[u8] = b"\
+pub const HASH: &[u8] = b"\
 \x00\x61\x73\x6d\x01\x00\x00\x00\
 \x01\x06\x01\x60\x01\x7f\x01\x7e\
 \x03\x02\x01\x00\
@@ -43,7 +43,7 @@ pub(crate) const HASH: &[u8] = b"\
 \x0b\x0f\x01\x00\x41\x00\x0b\x09wathread\x21";
 
 /// `examples/atomic_add.wasm`, of `atomic_add.wat`.
-pub(crate) const ATOMIC_ADD: &[u8] = b"\
+pub const ATOMIC_ADD: &[u8] = b"\
 \x00\x61\x73\x6d\x01\x00\x00\x00\
 \x01\x05\x01\x60\x00\x01\x7f\
 \x03\x02\x01\x00\
@@ -52,7 +52,7 @@ pub(crate) const ATOMIC_ADD: &[u8] = b"\
 \x0a\x0c\x01\x0a\x00\x41\x00\x41\x05\xfe\x1e\x02\x00\x0b";
 
 /// `examples/counting.wasm`, of `counting.wat`.
-pub(crate) const COUNTING: &[u8] = b"\
+pub const COUNTING: &[u8] = b"\
 \x00\x61\x73\x6d\x01\x00\x00\x00\
 \x01\x0f\x03\x60\x01\x7f\x01\x7f\x60\x00\x01\x7f\x60\x02\x7f\x7f\x00\
 \x02\x15\x01\x04wasi\x0cthread-spawn\x00\x00\
@@ -66,7 +66,7 @@ pub(crate) const COUNTING: &[u8] = b"\
 \x0b";
 
 /// `examples/ticket_lock.wasm`, of `ticket_lock.wat`.
-pub(crate) const TICKET_LOCK: &[u8] = b"\
+pub const TICKET_LOCK: &[u8] = b"\
 \x00\x61\x73\x6d\x01\x00\x00\x00\
 \x01\x12\x04\x60\x01\x7f\x01\x7f\x60\x00\x00\x60\x00\x01\x7f\x60\x02\x7f\x7f\x00\
 \x02\x15\x01\x04wasi\x0cthread-spawn\x00\x00\
@@ -83,7 +83,7 @@ pub(crate) const TICKET_LOCK: &[u8] = b"\
 \x00\x1a\x0b";
 
 /// `examples/condition.wasm`, of `condition.wat`.
-pub(crate) const CONDITION: &[u8] = b"\
+pub const CONDITION: &[u8] = b"\
 \x00\x61\x73\x6d\x01\x00\x00\x00\
 \x01\x12\x04\x60\x01\x7f\x01\x7f\x60\x00\x00\x60\x00\x01\x7f\x60\x02\x7f\x7f\x00\
 \x02\x15\x01\x04wasi\x0cthread-spawn\x00\x00\
@@ -102,7 +102,7 @@ pub(crate) const CONDITION: &[u8] = b"\
 \x0b\x0b";
 
 /// `examples/broken_lock.wasm`, of `broken_lock.wat`.
-pub(crate) const BROKEN_LOCK: &[u8] = b"\
+pub const BROKEN_LOCK: &[u8] = b"\
 \x00\x61\x73\x6d\x01\x00\x00\x00\
 \x01\x12\x04\x60\x01\x7f\x01\x7f\x60\x00\x00\x60\x00\x01\x7f\x60\x02\x7f\x7f\x00\
 \x02\x15\x01\x04wasi\x0cthread-spawn\x00\x00\
@@ -118,7 +118,7 @@ pub(crate) const BROKEN_LOCK: &[u8] = b"\
 \x0b\x41\x08\x41\x01\xfe\x1e\x02\x00\x1a\x41\x08\x41\x7f\xfe\x00\x02\x00\x1a\x0b";
 
 /// `examples/c/counter.wasm`, of `counter.c`.
-pub(crate) const C_COUNTER: &[u8] = b"\
+pub const C_COUNTER: &[u8] = b"\
 \x00\x61\x73\x6d\x01\x00\x00\x00\
 \x01\x0f\x03\x60\x01\x7f\x01\x7f\x60\x00\x01\x7f\x60\x02\x7f\x7f\x00\
 \x02\x24\x02\x03\x65\x6e\x76\x06memory\x02\x03\x01\x01\x04wasi\x0cthread-spawn\x00\x00\
@@ -138,7 +138,7 @@ ack_pointer\
 \x00\x27\x0ftarget_features\x02\x2b\x07atomics\x2b\x0bbulk-memory";
 
 /// `examples/c/ticket_lock.wasm`, of `ticket_lock.c`.
-pub(crate) const C_TICKET_LOCK: &[u8] = b"\
+pub const C_TICKET_LOCK: &[u8] = b"\
 \x00\x61\x73\x6d\x01\x00\x00\x00\
 \x01\x0f\x03\x60\x01\x7f\x01\x7f\x60\x00\x01\x7f\x60\x02\x7f\x7f\x00\
 \x02\x24\x02\x03\x65\x6e\x76\x06memory\x02\x03\x01\x01\x04wasi\x0cthread-spawn\x00\x00\
@@ -174,7 +174,7 @@ ack_pointer\
 ///       local.tee $n
 ///       br_if $next)))
 /// ```
-pub(crate) const COUNTDOWN: &[u8] = b"\
+pub const COUNTDOWN: &[u8] = b"\
 \x00\x61\x73\x6d\x01\x00\x00\x00\
 \x01\x05\x01\x60\x01\x7f\x00\
 \x03\x02\x01\x00\
