@@ -1,4 +1,4 @@
-//! The accesses of `bench_memory` over atomic words, with nothing proved: what the row of words is compared with. It is no
+//! The accesses of `bench memory` over atomic words, with nothing proved: what the row of words is compared with. It is no
 //! part of the product. Built by `rustc -O`.
 //!
 //! The arguments are `adds` or `stores`, in turn with loads; the number of threads, 1 to 16; and the number of accesses

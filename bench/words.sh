@@ -1,24 +1,24 @@
 #!/bin/bash
 # Stores and loads of words in turn, over the recorder and over the row of words, by one thread and by two whose words are
-# apart: of the memories alone (bench_memory, beside a plain Rust program of AtomicU64), and by the whole program on
+# apart: of the memories alone (`bench`, beside a plain Rust program of AtomicU64), and by the whole program on
 # modules (beside node with worker threads on the same modules; they import their memory, so that node can share it).
 # Nanoseconds an access of one thread, by the clock. Of the program it is a run less one of eight accesses; of the others
 # their own time; node makes ten times as many, since it is done so soon. `two` is what two threads do in the time of one: 2 would be twice as much.
 # Needs wabt, node, rustc and python3. ROUNDS=N: how often each runs.
 set -eu
 source "$(dirname "$0")/common.sh"
-(cd "$top/crates/bench_memory" && rt run -- words stores 1 1000 >/dev/null)
+(cd "$top/crates/bench" && rt run -- memory words stores 1 1000 >/dev/null)
 rustc -O -o "$work/plain" "$top/bench/plain.rs"
-memory=$top/crates/bench_memory/out/bench_memory
+bench=$top/crates/bench/out/bench
 
 machine
 printf '%-34s %9s %9s %6s\n' 'memory alone' '1 thread' '2 threads' two
 few=500000
 many=10000000
 for change in stores adds; do
-    "$top/bench/least.py" "$rounds" locked1="$memory locked $change 1 $few time" \
-        locked2="$memory locked $change 2 $((2 * few)) time" words1="$memory words $change 1 $many time" \
-        words2="$memory words $change 2 $((2 * many)) time" plain1="$work/plain $change 1 $many" \
+    "$top/bench/least.py" "$rounds" locked1="$bench memory locked $change 1 $few time" \
+        locked2="$bench memory locked $change 2 $((2 * few)) time" words1="$bench memory words $change 1 $many time" \
+        words2="$bench memory words $change 2 $((2 * many)) time" plain1="$work/plain $change 1 $many" \
         plain2="$work/plain $change 2 $((2 * many))" >"$work/times"
     awk -v change=$change -v few=$few -v many=$many '{ ns[$1] = $4 * 1e6 } END {
         split("locked words plain", sides)

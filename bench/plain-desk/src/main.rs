@@ -1,4 +1,4 @@
-//! The work of `bench_desk` with a mutex, a condition variable and nothing proved: what it is compared with. It is no
+//! The work of `bench desk` with a mutex, a condition variable and nothing proved: what it is compared with. It is no
 //! part of the product.
 //!
 //! The arguments are `alone` (one thread notifies where nobody is asleep) or `turns` (two threads hand a turn to one

@@ -1,4 +1,4 @@
-//! The work of `bench_memory` over bytes and a log under a mutex, with nothing proved: what it is compared with. It is
+//! The work of `bench memory` over bytes and a log under a mutex, with nothing proved: what it is compared with. It is
 //! no part of the product.
 //!
 //! The arguments are the number of threads, 1 to 16, and the number of accesses in all, 1 to 1,000,000.

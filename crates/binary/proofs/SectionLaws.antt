@@ -1,11 +1,13 @@
 -- The laws of sections, with custom sections before them, and of the opening bytes.
-use Rattle.std.proofs.Common.{◌≡◌, ℕ, zero, suc, ◌<◌, ◌≤◌, Bool, true, false, cond, eqb, List, [], ◌∷◌, ◌++◌, length, Option, Some, None, refl, sym, ap, subst, ◌∙◌, arith, inl, inr}
+use Rattle.std.proofs.Common.{◌≡◌, ℕ, zero, suc, ◌<◌, ◌≤◌, Bool, true, false, cond, eqb, List, [], ◌∷◌, ◌++◌, length}
+use Rattle.std.proofs.Common.{Option, Some, None, refl, sym, ap, subst, ◌∙◌, arith, inl, inr}
 use Rattle.std.proofs.lemmas.Bool.{eqb-true, eqb-false, eq-eqb, ne_eqb}
-use Rattle.wire.specs.Reading.{◌>>=◌, byte_at, tag_at, u32_at, block_at, name_at, sized_at, vector_at, front_is}
-use Rattle.wire.specs.Grammar.{Spelling, IsU32, IsBlock, IsName, IsVector}
-use Rattle.wire.proofs.Laws.{Law, either_ok, bind_case, opt_case, one, take_is, some_pair, some_is, tag_takes, u32_law, block_law, name_law, sized_law, vector_law, map_law}
+use Rattle.binary_wire.specs.Reading.{◌>>=◌, byte_at, tag_at, u32_at, block_at, name_at, sized_at, vector_at, front_is}
+use Rattle.binary_wire.specs.Grammar.{Spelling, IsU32, IsBlock, IsName, IsVector}
+use Rattle.binary_wire.proofs.Laws.{Law, either_ok, bind_case, opt_case, one, take_is, some_pair, some_is, tag_takes}
+use Rattle.binary_wire.proofs.Laws.{u32_law, block_law, name_law, sized_law, vector_law, map_law}
 use Rattle.types.specs.declared.parts.FuncType.{FuncType}
-use Rattle.binary.specs.Grammar.{IsCustom, AreCustoms, IsHere, IsPart, IsSection, IsStartFunction, IsCodeSection, opening_bytes}
+use Rattle.binary.specs.Grammar.{IsCustom, AreCustoms, IsSectionHere, IsSectionPart, IsSection, IsStartFunction, IsCodeSection, opening_bytes}
 use Rattle.binary.specs.Reading.{custom_at, customs_at, part_at, section_at, start_function_at, start_at, code_section_at, code_at, fixed_at, opening_at}
 use Rattle.binary.proofs.Laws.{code_section_law}
 
@@ -27,7 +29,8 @@ custom_takes (b ∷ bytes) y rest front e = (
   eqb-true b 0 front,
   bind_case (block_at bytes) (λ block. name_at block.0 >>= λ name. Some (true, block.1)) (y, rest) e (λ block mid e1 e2.
       bind_case (name_at block) (λ name. Some (true, mid)) (y, rest) e2 (λ name more e3 e4.
-      take_is (λ (z : Bool) (r : List ℕ). (block : List ℕ) × IsBlock bytes block r × ((name : List ℕ) × (more : List ℕ) × IsName block name more)) true y mid rest e4
+      take_is (λ (z : Bool) (r : List ℕ). (block : List ℕ) × IsBlock bytes block r
+      × ((name : List ℕ) × (more : List ℕ) × IsName block name more)) true y mid rest e4
       (block, block_law.takes bytes block mid (sym e1), (name, more, name_law.takes block name more (sym e3))))),
 )
 
@@ -70,7 +73,7 @@ customs_within bytes (suc k) rest h = omega (arith, (custom_again bytes h.0 h.1)
 -- ---- one section, where it stands
 
 here_takes : {A : Type 0} (id : ℕ) (absent : A) (P : Spelling A) (at : List ℕ → Option (A × List ℕ)) (law : Law P at) (start : List ℕ) (x : A) (rest : List ℕ)
-    → cond (front_is id start) (byte_at start >>= λ code. sized_at at code.1) (Some (absent, start)) ≡ Some (x, rest) → IsHere id absent P start x rest
+    → cond (front_is id start) (byte_at start >>= λ code. sized_at at code.1) (Some (absent, start)) ≡ Some (x, rest) → IsSectionHere id absent P start x rest
 here_takes id absent P at law [] x rest e = some_pair absent x [] rest e
 here_takes id absent P at law (b ∷ bytes) x rest e =
     elim (either_ok (eqb b id) (sized_at at bytes) (Some (absent, b ∷ bytes)) (Some (x, rest)) e) [
@@ -79,21 +82,25 @@ here_takes id absent P at law (b ∷ bytes) x rest e =
     ]
 
 here_again : {A : Type 0} (id : ℕ) (absent : A) (P : Spelling A) (at : List ℕ → Option (A × List ℕ)) (law : Law P at) (start : List ℕ) (x : A) (rest : List ℕ)
-    → IsHere id absent P start x rest → cond (front_is id start) (byte_at start >>= λ code. sized_at at code.1) (Some (absent, start)) ≡ Some (x, rest)
+    → IsSectionHere id absent P start x rest → cond (front_is id start) (byte_at start >>= λ code. sized_at at code.1) (Some (absent, start)) ≡ Some (x, rest)
 here_again id absent P at law [] x rest h = rw (h.0, h.1) refl
 here_again id absent P at law (b ∷ bytes) x rest (inl h) = rw (eq-eqb b id h.0) ((sized_law P at law).again bytes x rest h.1)
 here_again id absent P at law (b ∷ bytes) x rest (inr h) = rw (ne_eqb b id h.0, h.1, h.2) refl
 
-here_within : {A : Type 0} (id : ℕ) (absent : A) (P : Spelling A) (at : List ℕ → Option (A × List ℕ)) (law : Law P at) (start : List ℕ) (x : A) (rest : List ℕ) → IsHere id absent P start x rest → length rest ≤ length start
+here_within : {A : Type 0} (id : ℕ) (absent : A) (P : Spelling A) (at : List ℕ → Option (A × List ℕ)) (law : Law P at)
+    (start : List ℕ) (x : A) (rest : List ℕ) → IsSectionHere id absent P start x rest → length rest ≤ length start
 here_within id absent P at law [] x rest h = omega (arith, ap length h.1)
 here_within id absent P at law (b ∷ bytes) x rest (inl h) = omega (arith, (sized_law P at law).within bytes x rest h.1)
 here_within id absent P at law (b ∷ bytes) x rest (inr h) = omega (arith, ap length h.2)
 
-pub part_law : {A : Type 0} (id : ℕ) (absent : A) (P : Spelling A) (at : List ℕ → Option (A × List ℕ)) → Law P at → Law (IsPart id absent P) (part_at id absent at)
+pub part_law : {A : Type 0} (id : ℕ) (absent : A) (P : Spelling A) (at : List ℕ → Option (A × List ℕ)) → Law P at
+    → Law (IsSectionPart id absent P) (part_at id absent at)
 unfolding part_at
 part_law id absent P at law = record {
   takes = λ bytes x rest e.
-      opt_case (customs_at (length bytes) bytes) (λ start. cond (front_is id start) (byte_at start >>= λ code. sized_at at code.1) (Some (absent, start))) (x, rest) e (λ start e1 e2.
+      opt_case (customs_at (length bytes) bytes)
+      (λ start. cond (front_is id start) (byte_at start >>= λ code. sized_at at code.1) (Some (absent, start)))
+      (x, rest) e (λ start e1 e2.
       let c = customs_take (length bytes) bytes start (omega arith) (sym e1) in
       (c.0, start, c.1, here_takes id absent P at law start x rest e2));
   again = λ bytes x rest h.
@@ -101,7 +108,8 @@ part_law id absent P at law = record {
   within = λ bytes x rest h. omega (arith, customs_within bytes h.0 h.1 h.2, here_within id absent P at law h.1 x rest h.3);
 }
 
-pub section_law : {A : Type 0} (id limit : ℕ) (P : Spelling A) (at : List ℕ → Option (A × List ℕ)) → Law P at → Law (IsSection id limit P) (section_at id limit at)
+pub section_law : {A : Type 0} (id limit : ℕ) (P : Spelling A) (at : List ℕ → Option (A × List ℕ)) → Law P at
+    → Law (IsSection id limit P) (section_at id limit at)
 unfolding section_at
 section_law id limit P at law = part_law id [] (IsVector limit P) (vector_at limit at) (vector_law limit P at law)
 
@@ -109,11 +117,11 @@ start_function_law : Law IsStartFunction start_function_at
 unfolding start_function_at
 start_function_law = map_law (λ (n : ℕ). one n) IsU32 u32_at u32_law
 
-pub start_law : Law (IsPart 8 None IsStartFunction) start_at
+pub start_law : Law (IsSectionPart 8 None IsStartFunction) start_at
 unfolding start_at
 start_law = part_law 8 None IsStartFunction start_function_at start_function_law
 
-pub code_law : (types : List FuncType) (functions : List ℕ) → Law (IsPart 10 [] (IsCodeSection types functions)) (code_at types functions)
+pub code_law : (types : List FuncType) (functions : List ℕ) → Law (IsSectionPart 10 [] (IsCodeSection types functions)) (code_at types functions)
 unfolding code_at
 code_law types functions = part_law 10 [] (IsCodeSection types functions) (code_section_at types functions) (code_section_law types functions)
 

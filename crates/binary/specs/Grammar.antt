@@ -1,6 +1,7 @@
 -- Which bytes spell which module (Core specification 1.0, sections 5.3 and 5.5; threads proposal, section "Binary
 -- format"). The limits are this project's own.
-use Rattle.std.specs.Prelude.{◌≡◌, ◌≢◌, ℕ, zero, suc, ◌-◌, ◌≤◌, ◌⊎◌, List, [], ◌∷◌, ◌++◌, length, replicate, Bool, true, false, Option, Some, None}
+use Rattle.std.specs.Prelude.{◌≡◌, ◌≢◌, ℕ, zero, suc, ◌-◌, ◌≤◌, ◌⊎◌, List, [], ◌∷◌, ◌++◌, length, replicate, Bool}
+use Rattle.std.specs.Prelude.{true, false, Option, Some, None}
 use Rattle.types.specs.declared.value.ValType.{ValType}
 use Rattle.types.specs.declared.parts.Limits.{Limits}
 use Rattle.types.specs.declared.parts.FuncType.{FuncType}
@@ -15,15 +16,17 @@ use Rattle.types.specs.declared.parts.ElementSegment.{ElementSegment}
 use Rattle.types.specs.declared.parts.DataSegment.{DataSegment}
 use Rattle.types.specs.declared.parts.Body.{Body}
 use Rattle.types.specs.declared.parts.Parts.{Parts}
-use Rattle.wire.specs.Grammar.{Spelling, IsU32, IsU32Within, IsBlock, IsName, IsSized, IsVector}
-use Rattle.instructions.specs.Grammar.{IsValType, IsExpression}
+use Rattle.binary_wire.specs.Grammar.{Spelling, IsU32, IsU32Within, IsBlock, IsName, IsSized, IsVector}
+use Rattle.binary_instructions.specs.Grammar.{IsValType, SpellsExpression}
 use Rattle.binary.specs.declared.kinds.ExternalKind.{ExternalKind}
 use Rattle.binary.specs.declared.kinds.ExternalKind.TheVariants as kinds
 use Rattle.binary.specs.declared.kinds.LimitsFlag.{LimitsFlag}
 use Rattle.binary.specs.declared.kinds.LimitsFlag.TheVariants as flags
 use Rattle.binary.specs.Kinds.{external_kind_of, mutability_of, table_flag_of, memory_flag_of, min_limits, min_max_limits, exported}
 use Rattle.binary.specs.Counts.{function_room}
-use Rattle.types.specs.Limits.{param_count}
+use Rattle.types.specs.Within.{param_count}
+use Rattle.types.specs.Limits.{most_pages, most_module_bytes, most_body_bytes, most_items, most_functions}
+use Rattle.types.specs.Limits.{most_elements, most_params, most_locals}
 
 -- A byte that has a meaning.
 abbrev pub IsCoded : {A : Type 0} → (ℕ → Option A) → Spelling A
@@ -38,7 +41,8 @@ IsTagged tag P bytes x rest = (start : List ℕ) × (bytes ≡ tag ∷ start) ×
 
 abbrev pub IsMinMax : ℕ → ℕ → Bool → Spelling Limits
 IsMinMax most_min most_max shared bytes l rest =
-    (min : ℕ) × (mid : List ℕ) × IsU32Within most_min bytes min mid × ((max : ℕ) × IsU32Within most_max mid max rest × (l ≡ min_max_limits shared min max))
+    (min : ℕ) × (mid : List ℕ) × IsU32Within most_min bytes min mid
+    × ((max : ℕ) × IsU32Within most_max mid max rest × (l ≡ min_max_limits shared min max))
 
 -- What stands behind the flag of limits.
 abbrev pub IsLimitsAfter : ℕ → ℕ → LimitsFlag → Spelling Limits
@@ -48,10 +52,12 @@ IsLimitsAfter most_min most_max flags.SharedMinMax bytes l rest = IsMinMax most_
 
 -- A memory type: at most 64 pages.
 abbrev pub IsMemory : Spelling Limits
-IsMemory bytes l rest = (flag : LimitsFlag) × (mid : List ℕ) × IsCoded memory_flag_of bytes flag mid × IsLimitsAfter 64 64 flag mid l rest
+IsMemory bytes l rest = (flag : LimitsFlag) × (mid : List ℕ) × IsCoded memory_flag_of bytes flag mid
+    × IsLimitsAfter most_pages most_pages flag mid l rest
 
 abbrev pub IsTableLimits : Spelling Limits
-IsTableLimits bytes l rest = (flag : LimitsFlag) × (mid : List ℕ) × IsCoded table_flag_of bytes flag mid × IsLimitsAfter 10000 0xffff_ffff flag mid l rest
+IsTableLimits bytes l rest = (flag : LimitsFlag) × (mid : List ℕ) × IsCoded table_flag_of bytes flag mid
+    × IsLimitsAfter most_elements 0xffff_ffff flag mid l rest
 
 -- A table type: the type of its elements, and at most 10,000 elements at first.
 abbrev pub IsTable : Spelling Limits
@@ -61,12 +67,13 @@ abbrev pub IsGlobalType : Spelling GlobalType
 IsGlobalType bytes g rest = (mid : List ℕ) × IsValType bytes g.val_type mid × IsCoded mutability_of mid g.mutable rest
 
 abbrev pub IsFuncType : Spelling FuncType
-IsFuncType bytes t rest = (start : List ℕ) × (mid : List ℕ) × (bytes ≡ 0x60 ∷ start) × IsVector 1000 IsValType start t.params mid × IsVector 1000 IsValType mid t.results rest
+IsFuncType bytes t rest = (start : List ℕ) × (mid : List ℕ) × (bytes ≡ 0x60 ∷ start)
+    × IsVector most_params IsValType start t.params mid × IsVector most_params IsValType mid t.results rest
 
 -- ---- items of sections
 
 abbrev pub IsGlobal : Spelling Global
-IsGlobal bytes g rest = (mid : List ℕ) × IsGlobalType bytes g.global_type mid × IsExpression mid g.init rest
+IsGlobal bytes g rest = (mid : List ℕ) × IsGlobalType bytes g.global_type mid × SpellsExpression mid g.init rest
 
 -- What stands behind the kind of an import.
 abbrev pub IsDescribed : ExternalKind → Spelling ImportDesc
@@ -82,16 +89,18 @@ abbrev pub IsImport : Spelling Import
 IsImport bytes i rest = (a : List ℕ) × (b : List ℕ) × IsName bytes i.«module» a × IsName a i.name b × IsImportDesc b i.desc rest
 
 abbrev pub IsExportDesc : Spelling ExportDesc
-IsExportDesc bytes d rest = (kind : ExternalKind) × (mid : List ℕ) × IsCoded external_kind_of bytes kind mid × ((n : ℕ) × IsU32 mid n rest × (d ≡ exported kind n))
+IsExportDesc bytes d rest = (kind : ExternalKind) × (mid : List ℕ) × IsCoded external_kind_of bytes kind mid
+    × ((n : ℕ) × IsU32 mid n rest × (d ≡ exported kind n))
 
 abbrev pub IsExport : Spelling Export
 IsExport bytes e rest = (mid : List ℕ) × IsName bytes e.name mid × IsExportDesc mid e.desc rest
 
 abbrev pub IsElement : Spelling ElementSegment
-IsElement bytes e rest = (a : List ℕ) × (b : List ℕ) × IsU32 bytes e.table a × IsExpression a e.offset b × IsVector 10000 IsU32 b e.functions rest
+IsElement bytes e rest = (a : List ℕ) × (b : List ℕ) × IsU32 bytes e.table a × SpellsExpression a e.offset b
+    × IsVector most_functions IsU32 b e.functions rest
 
 abbrev pub IsData : Spelling DataSegment
-IsData bytes d rest = (a : List ℕ) × (b : List ℕ) × IsU32 bytes d.memory a × IsExpression a d.offset b × IsBlock b d.bytes rest
+IsData bytes d rest = (a : List ℕ) × (b : List ℕ) × IsU32 bytes d.memory a × SpellsExpression a d.offset b × IsBlock b d.bytes rest
 
 -- ---- code
 
@@ -107,7 +116,7 @@ IsLocals room bytes locals rest = (count : ℕ) × (mid : List ℕ) × IsU32 byt
 
 -- At most 1,000 locals with the parameters.
 abbrev pub IsBodyContents : ℕ → Spelling Body
-IsBodyContents params bytes b rest = (mid : List ℕ) × IsLocals (1000 - params) bytes b.locals mid × IsExpression mid b.code rest
+IsBodyContents params bytes b rest = (mid : List ℕ) × IsLocals (most_locals - params) bytes b.locals mid × SpellsExpression mid b.code rest
 
 -- A size within a limit, and so many bytes.
 abbrev pub IsBlockWithin : ℕ → Spelling (List ℕ)
@@ -115,25 +124,28 @@ IsBlockWithin limit bytes block rest = (mid : List ℕ) × IsU32Within limit byt
 
 -- The body of a function with so many parameters.
 abbrev pub IsBody : ℕ → Spelling Body
-IsBody params bytes b rest = (block : List ℕ) × IsBlockWithin 65536 bytes block rest × IsBodyContents params block b []
+IsBody params bytes b rest = (block : List ℕ) × IsBlockWithin most_body_bytes bytes block rest × IsBodyContents params block b []
 
 -- A body for each function, which is given by the index of its type.
 abbrev pub AreBodies : List FuncType → List ℕ → Spelling (List Body)
 AreBodies types [] bytes [] rest = rest ≡ bytes
 AreBodies types [] bytes (b ∷ bodies) rest = ⊥
 AreBodies types (f ∷ functions) bytes [] rest = ⊥
-AreBodies types (f ∷ functions) bytes (b ∷ bodies) rest = (mid : List ℕ) × IsBody (param_count types f) bytes b mid × AreBodies types functions mid bodies rest
+AreBodies types (f ∷ functions) bytes (b ∷ bodies) rest = (mid : List ℕ) × IsBody (param_count types f) bytes b mid
+    × AreBodies types functions mid bodies rest
 
 -- The number of the functions, and their bodies.
 abbrev pub IsCodeSection : List FuncType → List ℕ → Spelling (List Body)
-IsCodeSection types functions bytes bodies rest = (mid : List ℕ) × IsU32 bytes (length functions) mid × AreBodies types functions mid bodies rest
+IsCodeSection types functions bytes bodies rest = (mid : List ℕ) × IsU32 bytes (length functions) mid
+    × AreBodies types functions mid bodies rest
 
 -- ---- sections
 
 -- A custom section: its id, and contents that begin with a name.
 abbrev pub IsCustom : List ℕ → List ℕ → Type 0
 IsCustom [] rest = ⊥
-IsCustom (b ∷ bytes) rest = (b ≡ 0) × ((block : List ℕ) × IsBlock bytes block rest × ((name : List ℕ) × (more : List ℕ) × IsName block name more))
+IsCustom (b ∷ bytes) rest = (b ≡ 0) × ((block : List ℕ) × IsBlock bytes block rest
+    × ((name : List ℕ) × (more : List ℕ) × IsName block name more))
 
 -- All the custom sections at the front, so many.
 abbrev pub AreCustoms : ℕ → List ℕ → List ℕ → Type 0
@@ -141,17 +153,17 @@ AreCustoms zero bytes rest = ((more : List ℕ) → bytes ≡ 0 ∷ more → ⊥
 AreCustoms (suc k) bytes rest = (mid : List ℕ) × IsCustom bytes mid × AreCustoms k mid rest
 
 -- The section with an id, or what stands for it where there is none.
-abbrev pub IsHere : {A : Type 0} → ℕ → A → Spelling A → Spelling A
-IsHere id absent P [] x rest = (x ≡ absent) × (rest ≡ [])
-IsHere id absent P (b ∷ bytes) x rest = ((b ≡ id) × IsSized P bytes x rest) ⊎ ((b ≢ id) × (x ≡ absent) × (rest ≡ b ∷ bytes))
+abbrev pub IsSectionHere : {A : Type 0} → ℕ → A → Spelling A → Spelling A
+IsSectionHere id absent P [] x rest = (x ≡ absent) × (rest ≡ [])
+IsSectionHere id absent P (b ∷ bytes) x rest = ((b ≡ id) × IsSized P bytes x rest) ⊎ ((b ≢ id) × (x ≡ absent) × (rest ≡ b ∷ bytes))
 
 -- The same behind custom sections.
-abbrev pub IsPart : {A : Type 0} → ℕ → A → Spelling A → Spelling A
-IsPart id absent P bytes x rest = (k : ℕ) × (start : List ℕ) × AreCustoms k bytes start × IsHere id absent P start x rest
+abbrev pub IsSectionPart : {A : Type 0} → ℕ → A → Spelling A → Spelling A
+IsSectionPart id absent P bytes x rest = (k : ℕ) × (start : List ℕ) × AreCustoms k bytes start × IsSectionHere id absent P start x rest
 
 -- A section that is a vector.
 abbrev pub IsSection : {A : Type 0} → ℕ → ℕ → Spelling A → Spelling (List A)
-IsSection id limit P bytes xs rest = IsPart id [] (IsVector limit P) bytes xs rest
+IsSection id limit P bytes xs rest = IsSectionPart id [] (IsVector limit P) bytes xs rest
 
 abbrev pub IsStartFunction : Spelling (Option ℕ)
 IsStartFunction bytes s rest = (n : ℕ) × IsU32 bytes n rest × (s ≡ Some n)
@@ -166,7 +178,7 @@ opening_bytes = 0x00 ∷ (0x61 ∷ (0x73 ∷ (0x6d ∷ (0x01 ∷ (0x00 ∷ (0x00
 -- between them, and as many bodies as functions. The fields before_S are the bytes from the custom sections before the
 -- section S on.
 pub record IsModuleText (bytes : List ℕ) (m : Parts) : Type 0 where
-  pub size : length bytes ≤ 1048576
+  pub size : length bytes ≤ most_module_bytes
   pub before_types : List ℕ
   pub before_imports : List ℕ
   pub before_functions : List ℕ
@@ -180,17 +192,17 @@ pub record IsModuleText (bytes : List ℕ) (m : Parts) : Type 0 where
   pub before_data : List ℕ
   pub before_end : List ℕ
   pub opening : bytes ≡ opening_bytes ++ before_types
-  pub types : IsSection 1 1000 IsFuncType before_types m.types before_imports
-  pub imports : IsSection 2 1000 IsImport before_imports m.imports before_functions
+  pub types : IsSection 1 most_items IsFuncType before_types m.types before_imports
+  pub imports : IsSection 2 most_items IsImport before_imports m.imports before_functions
   pub functions : IsSection 3 (function_room m.imports) IsU32 before_functions m.functions before_tables
-  pub tables : IsSection 4 1000 IsTable before_tables m.tables before_memories
-  pub memories : IsSection 5 1000 IsMemory before_memories m.memories before_globals
-  pub globals : IsSection 6 1000 IsGlobal before_globals m.globals before_exports
-  pub exports : IsSection 7 1000 IsExport before_exports m.exports before_start
-  pub start : IsPart 8 None IsStartFunction before_start m.start before_elements
-  pub elements : IsSection 9 1000 IsElement before_elements m.elements before_bodies
-  pub bodies : IsPart 10 [] (IsCodeSection m.types m.functions) before_bodies m.bodies before_data
-  pub data_segments : IsSection 11 1000 IsData before_data m.«data» before_end
+  pub tables : IsSection 4 most_items IsTable before_tables m.tables before_memories
+  pub memories : IsSection 5 most_items IsMemory before_memories m.memories before_globals
+  pub globals : IsSection 6 most_items IsGlobal before_globals m.globals before_exports
+  pub exports : IsSection 7 most_items IsExport before_exports m.exports before_start
+  pub start : IsSectionPart 8 None IsStartFunction before_start m.start before_elements
+  pub elements : IsSection 9 most_items IsElement before_elements m.elements before_bodies
+  pub bodies : IsSectionPart 10 [] (IsCodeSection m.types m.functions) before_bodies m.bodies before_data
+  pub data_segments : IsSection 11 most_items IsData before_data m.«data» before_end
   pub customs_at_end : ℕ
   pub end : AreCustoms customs_at_end before_end []
   pub counts : length m.functions ≡ length m.bodies

@@ -1,5 +1,6 @@
 -- Sections and modules, read from left to right.
-use Rattle.std.specs.Prelude.{ℕ, zero, suc, ◌-◌, List, [], ◌∷◌, ◌++◌, length, replicate, Bool, true, false, Option, Some, None, nat_lt, nat_eq, if◌then◌else◌}
+use Rattle.std.specs.Prelude.{ℕ, zero, suc, ◌-◌, List, [], ◌∷◌, ◌++◌, length, replicate, Bool, true, false, Option}
+use Rattle.std.specs.Prelude.{Some, None, nat_lt, nat_eq, if◌then◌else◌}
 use Rattle.types.specs.declared.value.ValType.{ValType}
 use Rattle.types.specs.declared.parts.Limits.{Limits}
 use Rattle.types.specs.declared.parts.FuncType.{FuncType}
@@ -14,15 +15,18 @@ use Rattle.types.specs.declared.parts.ElementSegment.{ElementSegment}
 use Rattle.types.specs.declared.parts.DataSegment.{DataSegment}
 use Rattle.types.specs.declared.parts.Body.{Body}
 use Rattle.types.specs.declared.parts.Parts.{Parts}
-use Rattle.wire.specs.Reading.{◌>>=◌, byte_at, tag_at, end_at, front_is, slice_at, u32_at, u32_within_at, block_at, name_at, sized_at, vector_at}
-use Rattle.instructions.specs.Reading.{val_type_at, expression_at}
+use Rattle.binary_wire.specs.Reading.{◌>>=◌, byte_at, tag_at, end_at, front_is, slice_at, u32_at, u32_within_at}
+use Rattle.binary_wire.specs.Reading.{block_at, name_at, sized_at, vector_at}
+use Rattle.binary_instructions.specs.Reading.{val_type_at, expression_at}
 use Rattle.binary.specs.declared.kinds.ExternalKind.{ExternalKind}
 use Rattle.binary.specs.declared.kinds.ExternalKind.TheVariants as kinds
 use Rattle.binary.specs.declared.kinds.LimitsFlag.{LimitsFlag}
 use Rattle.binary.specs.declared.kinds.LimitsFlag.TheVariants as flags
 use Rattle.binary.specs.Kinds.{external_kind_of, mutability_of, table_flag_of, memory_flag_of, min_limits, min_max_limits, exported}
 use Rattle.binary.specs.Counts.{function_room}
-use Rattle.types.specs.Limits.{param_count}
+use Rattle.types.specs.Within.{param_count}
+use Rattle.types.specs.Limits.{most_pages, most_module_bytes, most_body_bytes, most_items, most_functions}
+use Rattle.types.specs.Limits.{most_elements, most_params, most_locals}
 
 -- A byte that has a meaning.
 unfoldable pub coded_at : {A : Type 0} → (ℕ → Option A) → List ℕ → Option (A × List ℕ)
@@ -31,14 +35,17 @@ coded_at code bytes = byte_at bytes >>= λ b. code b.0 >>= λ x. Some (x, b.1)
 -- What stands behind the flag of limits.
 unfoldable pub limits_after_at : ℕ → ℕ → LimitsFlag → List ℕ → Option (Limits × List ℕ)
 limits_after_at most_min most_max flags.Min bytes = u32_within_at most_min bytes >>= λ n. Some (min_limits n.0, n.1)
-limits_after_at most_min most_max flags.MinMax bytes = u32_within_at most_min bytes >>= λ n. u32_within_at most_max n.1 >>= λ m. Some (min_max_limits false n.0 m.0, m.1)
-limits_after_at most_min most_max flags.SharedMinMax bytes = u32_within_at most_min bytes >>= λ n. u32_within_at most_max n.1 >>= λ m. Some (min_max_limits true n.0 m.0, m.1)
+limits_after_at most_min most_max flags.MinMax bytes =
+    u32_within_at most_min bytes >>= λ n. u32_within_at most_max n.1 >>= λ m. Some (min_max_limits false n.0 m.0, m.1)
+limits_after_at most_min most_max flags.SharedMinMax bytes =
+    u32_within_at most_min bytes >>= λ n. u32_within_at most_max n.1 >>= λ m. Some (min_max_limits true n.0 m.0, m.1)
 
 unfoldable pub memory_at : List ℕ → Option (Limits × List ℕ)
-memory_at bytes = coded_at memory_flag_of bytes >>= λ flag. limits_after_at 64 64 flag.0 flag.1
+memory_at bytes = coded_at memory_flag_of bytes >>= λ flag. limits_after_at most_pages most_pages flag.0 flag.1
 
 unfoldable pub table_at : List ℕ → Option (Limits × List ℕ)
-table_at bytes = tag_at 0x70 bytes >>= λ start. coded_at table_flag_of start >>= λ flag. limits_after_at 10000 0xffff_ffff flag.0 flag.1
+table_at bytes = tag_at 0x70 bytes >>= λ start. coded_at table_flag_of start >>= λ flag. limits_after_at most_elements
+    0xffff_ffff flag.0 flag.1
 
 unfoldable pub global_type_at : List ℕ → Option (GlobalType × List ℕ)
 global_type_at bytes = do
@@ -49,8 +56,8 @@ global_type_at bytes = do
 unfoldable pub func_type_at : List ℕ → Option (FuncType × List ℕ)
 func_type_at bytes = do
   start ← tag_at 0x60 bytes
-  params ← vector_at 1000 val_type_at start
-  results ← vector_at 1000 val_type_at params.1
+  params ← vector_at most_params val_type_at start
+  results ← vector_at most_params val_type_at params.1
   Some (record { params = params.0; results = results.0 }, results.1)
 
 unfoldable pub global_at : List ℕ → Option (Global × List ℕ)
@@ -89,7 +96,7 @@ unfoldable pub element_at : List ℕ → Option (ElementSegment × List ℕ)
 element_at bytes = do
   table ← u32_at bytes
   offset ← expression_at table.1
-  functions ← vector_at 10000 u32_at offset.1
+  functions ← vector_at most_functions u32_at offset.1
   Some (record { table = table.0; offset = offset.0; functions = functions.0 }, functions.1)
 
 unfoldable pub data_at : List ℕ → Option (DataSegment × List ℕ)
@@ -103,14 +110,15 @@ data_at bytes = do
 unfoldable pub groups_at : ℕ → ℕ → List ℕ → Option (List ValType × List ℕ)
 groups_at zero room bytes = Some ([], bytes)
 groups_at (suc count) room bytes =
-    u32_within_at room bytes >>= λ n. val_type_at n.1 >>= λ t. groups_at count (room - n.0) t.1 >>= λ others. Some (replicate n.0 t.0 ++ others.0, others.1)
+    u32_within_at room bytes >>= λ n. val_type_at n.1 >>= λ t. groups_at count (room - n.0) t.1 >>= λ others. Some
+    (replicate n.0 t.0 ++ others.0, others.1)
 
 unfoldable pub locals_at : ℕ → List ℕ → Option (List ValType × List ℕ)
 locals_at room bytes = u32_at bytes >>= λ count. groups_at count.0 room count.1
 
 unfoldable pub body_contents_at : ℕ → List ℕ → Option (Body × List ℕ)
 body_contents_at params bytes = do
-  locals ← locals_at (1000 - params) bytes
+  locals ← locals_at (most_locals - params) bytes
   code ← expression_at locals.1
   Some (record { locals = locals.0; code = code.0 }, code.1)
 
@@ -119,7 +127,7 @@ block_within_at limit bytes = u32_within_at limit bytes >>= λ n. slice_at n.0 n
 
 unfoldable pub body_at : ℕ → List ℕ → Option (Body × List ℕ)
 body_at params bytes = do
-  contents ← block_within_at 65536 bytes
+  contents ← block_within_at most_body_bytes bytes
   b ← body_contents_at params contents.0
   whole ← end_at b.1
   Some (b.0, contents.1)
@@ -177,21 +185,33 @@ unfoldable pub opening_at : List ℕ → Option (List ℕ)
 opening_at bytes = fixed_at (0x00 ∷ (0x61 ∷ (0x73 ∷ (0x6d ∷ [])))) bytes >>= λ rest. fixed_at (0x01 ∷ (0x00 ∷ (0x00 ∷ (0x00 ∷ [])))) rest
 
 unfoldable pub module_at : List ℕ → Option Parts
-module_at bytes = if nat_lt 1048576 (length bytes) then None else (do
+module_at bytes = if nat_lt most_module_bytes (length bytes) then None else (do
   opened ← opening_at bytes
-  types ← section_at 1 1000 func_type_at opened
-  from ← section_at 2 1000 import_at types.1
+  types ← section_at 1 most_items func_type_at opened
+  from ← section_at 2 most_items import_at types.1
   functions ← section_at 3 (function_room from.0) u32_at from.1
-  tables ← section_at 4 1000 table_at functions.1
-  memories ← section_at 5 1000 memory_at tables.1
-  globals ← section_at 6 1000 global_at memories.1
-  exports ← section_at 7 1000 export_at globals.1
+  tables ← section_at 4 most_items table_at functions.1
+  memories ← section_at 5 most_items memory_at tables.1
+  globals ← section_at 6 most_items global_at memories.1
+  exports ← section_at 7 most_items export_at globals.1
   start ← start_at exports.1
-  elements ← section_at 9 1000 element_at start.1
+  elements ← section_at 9 most_items element_at start.1
   bodies ← code_at types.0 functions.0 elements.1
-  segments ← section_at 11 1000 data_at bodies.1
+  segments ← section_at 11 most_items data_at bodies.1
   rest ← customs_at (length segments.1) segments.1
   whole ← end_at rest
   if nat_eq (length functions.0) (length bodies.0)
-      then Some (record { types = types.0; imports = from.0; functions = functions.0; tables = tables.0; memories = memories.0; globals = globals.0; exports = exports.0; start = start.0; elements = elements.0; bodies = bodies.0; «data» = segments.0 })
+      then Some (record {
+        types = types.0;
+        imports = from.0;
+        functions = functions.0;
+        tables = tables.0;
+        memories = memories.0;
+        globals = globals.0;
+        exports = exports.0;
+        start = start.0;
+        elements = elements.0;
+        bodies = bodies.0;
+        «data» = segments.0;
+      })
       else None)

@@ -1,20 +1,14 @@
 //! Bodies of functions: their locals and their code.
 
 ghost use Rattle.std.specs.Prelude.{◌≡◌, ◌<◌, ◌++◌, length, replicate, slice_index_or, IfOk};
-ghost use Rattle.wire.specs.Reading.{Gives};
-ghost use Rattle.types.specs.Limits.{param_count};
+ghost use Rattle.binary_wire.specs.Reading.{Gives};
+ghost use Rattle.types.specs.Within.{param_count};
 ghost use Rattle.binary.specs.Reading.{groups_at, locals_at, body_at, bodies_at, code_section_at};
 
-use instructions::{read_expression, read_val_type};
+use binary_instructions::{read_expression, read_val_type};
+use binary_wire::{Fault, ReadFault, Reader};
 use std::alloc::{AllocError, Global};
-use types::{Body, FuncType, Sequence, ValType};
-use wire::{Fault, ReadFault, Reader};
-
-/// The most bytes of a body.
-const BODY_MAX: u32 = 65_536;
-
-/// The most locals of a function, with its parameters.
-const LOCALS_MAX: usize = 1000;
+use types::{Body, FuncType, MOST_BODY_BYTES, MOST_LOCALS, Sequence, ValType};
 
 /// The parameters of the type with this index, none if there is no such type.
 fn param_count(types: &[FuncType], index: u32) -> usize
@@ -74,9 +68,9 @@ fn read_locals(
 fn read_body(reader: &mut Reader, alloc: Global, params: usize) -> Result<Body, ReadFault>
     ensures { Gives (λ b. (b, reader.new.rest.now)) result (body_at params reader.old.rest.now) }
 {
-    let size = reader.read_u32_within(BODY_MAX)?;
+    let size = reader.read_u32_within(MOST_BODY_BYTES)?;
     let mut contents = reader.read_part(size as usize)?;
-    let room = LOCALS_MAX.saturating_sub(params);
+    let room = MOST_LOCALS.saturating_sub(params);
     let locals = read_locals(&mut contents, alloc, room as u32)?;
     let code = read_expression(&mut contents, alloc)?;
     contents.finish()?;
@@ -92,7 +86,8 @@ fn read_body_of(
     place: usize,
 ) -> Result<Body, ReadFault>
     requires { place < length functions.now }
-    ensures { Gives (λ b. (b, reader.new.rest.now)) result (body_at (param_count types.now (slice_index_or functions.now place 0)) reader.old.rest.now) }
+    ensures { Gives (λ b. (b, reader.new.rest.now)) result
+        (body_at (param_count types.now (slice_index_or functions.now place 0)) reader.old.rest.now) }
 {
     let params = param_count(types, functions[place]);
     read_body(reader, alloc, params)

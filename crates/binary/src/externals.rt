@@ -1,13 +1,13 @@
 //! Imports and exports.
 
-ghost use Rattle.wire.specs.Reading.{Gives, name_at};
+ghost use Rattle.binary_wire.specs.Reading.{Gives, name_at};
 ghost use Rattle.binary.specs.Reading.{described_at, import_desc_at, import_at, export_desc_at, export_at};
 
 use crate::kinds::{ExternalKind, read_external_kind};
 use crate::limits::{read_global_type, read_memory, read_table};
+use binary_wire::{Item, ReadFault, Reader};
 use std::alloc::Global;
 use types::{Export, ExportDesc, Import, ImportDesc, Name};
-use wire::{Item, ReadFault, Reader};
 
 fn read_name(reader: &mut Reader, alloc: Global) -> Result<Name, ReadFault>
     ensures { Gives (λ n. (n, reader.new.rest.now)) result (name_at reader.old.rest.now) }

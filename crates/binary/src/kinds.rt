@@ -1,11 +1,11 @@
 //! Single bytes that have a meaning.
 
 ghost use Rattle.std.specs.Prelude.{◌≡◌};
-ghost use Rattle.wire.specs.Reading.{Gives, tag_at};
+ghost use Rattle.binary_wire.specs.Reading.{Gives, tag_at};
 ghost use Rattle.binary.specs.Kinds.{external_kind_of, mutability_of, memory_flag_of, table_flag_of};
 ghost use Rattle.binary.specs.Reading.{coded_at};
 
-use wire::{Fault, ReadFault, Reader};
+use binary_wire::{Fault, ReadFault, Reader};
 
 /// What an import or an export is (Core specification 1.0, sections 5.5.5 and 5.5.10).
 #[derive(Clone, Copy)]

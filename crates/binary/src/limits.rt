@@ -1,21 +1,15 @@
 //! Tables, memories, globals and function types.
 
-ghost use Rattle.wire.specs.Reading.{Gives};
+ghost use Rattle.binary_wire.specs.Reading.{Gives};
 ghost use Rattle.binary.specs.Reading.{limits_after_at, table_at, memory_at, global_type_at, global_at, func_type_at};
 
 use crate::kinds::{LimitsFlag, read_memory_flag, read_mutability, read_table_flag, read_tag};
-use instructions::{read_expression, read_val_type};
-use types::{FuncType, GlobalType, Limits, ValType};
-use wire::{Item, ReadFault, Reader, read_vector};
-
-/// The most elements that a table may have at first.
-const TABLE_MIN_MAX: u32 = 10_000;
-
-/// The most pages that a memory may have.
-const PAGES_MAX: u32 = 64;
+use binary_instructions::{read_expression, read_val_type};
+use binary_wire::{Item, ReadFault, Reader, read_vector};
+use types::{FuncType, GlobalType, Limits, MOST_ELEMENTS, MOST_PAGES, MOST_PARAMS, ValType};
 
 /// The most parameters or results of a function type.
-const PARAMS_MAX: u32 = 1000;
+const PARAMS_MAX: u32 = MOST_PARAMS as u32;
 
 /// What stands behind the flag of limits.
 #[tactic(auto, unfolding(crate::specs::Reading::limits_after_at))]
@@ -54,7 +48,7 @@ pub fn read_table(reader: &mut Reader) -> Result<Limits, ReadFault>
 {
     read_tag(reader, 0x70)?;
     let flag = read_table_flag(reader)?;
-    read_limits_after(reader, flag, TABLE_MIN_MAX, u32::MAX)
+    read_limits_after(reader, flag, MOST_ELEMENTS, u32::MAX)
 }
 
 /// A memory type (Core specification 1.0, section 5.3.5).
@@ -63,7 +57,7 @@ pub fn read_memory(reader: &mut Reader) -> Result<Limits, ReadFault>
     ensures { Gives (λ l. (l, reader.new.rest.now)) result (memory_at reader.old.rest.now) }
 {
     let flag = read_memory_flag(reader)?;
-    read_limits_after(reader, flag, PAGES_MAX, PAGES_MAX)
+    read_limits_after(reader, flag, MOST_PAGES, MOST_PAGES)
 }
 
 /// A global type (Core specification 1.0, section 5.3.7).
@@ -122,7 +116,7 @@ impl Item for GlobalItem {
 struct ValTypeItem;
 
 impl Item for ValTypeItem {
-    ghost use Rattle.instructions.specs.Reading.{val_type_at};
+    ghost use Rattle.binary_instructions.specs.Reading.{val_type_at};
 
     type Value = ValType;
 

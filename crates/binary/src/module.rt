@@ -1,15 +1,15 @@
 //! The module that bytes spell.
 
 ghost use Rattle.std.specs.Prelude.{◌≡◌, IfOk, MatchResult};
-ghost use Rattle.wire.specs.Reading.{Refuses};
+ghost use Rattle.binary_wire.specs.Reading.{Refuses};
 ghost use Rattle.types.specs.Modules.{IsModule};
 ghost use Rattle.types.specs.declared.parts.Parts.{Parts};
 ghost use Rattle.binary.specs.Grammar.{IsModuleText};
 
 use crate::parts::read_parts;
+use binary_wire::{Fault, ReadFault};
 use std::alloc::Global;
 use types::Module;
-use wire::{Fault, ReadFault};
 
 /// The module that the bytes spell (Core specification 1.0, section 5.5.15).
 pub fn read(alloc: Global, bytes: &[u8]) -> Result<Module, ReadFault>

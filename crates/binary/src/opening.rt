@@ -1,10 +1,10 @@
 //! The bytes that open a module.
 
-ghost use Rattle.wire.specs.Reading.{Gives};
+ghost use Rattle.binary_wire.specs.Reading.{Gives};
 ghost use Rattle.binary.specs.Grammar.{opening_bytes};
 ghost use Rattle.binary.specs.Reading.{fixed_at, opening_at};
 
-use wire::{Fault, ReadFault, Reader};
+use binary_wire::{Fault, ReadFault, Reader};
 
 const MAGIC: [u8; 4] = [0x00, 0x61, 0x73, 0x6d];
 

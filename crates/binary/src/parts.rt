@@ -1,9 +1,9 @@
 //! A whole module.
 
 ghost use Rattle.std.specs.Prelude.{◌≡◌, ◌-◌, IfOk, MatchResult, count_by};
-ghost use Rattle.wire.specs.Reading.{Gives, Refuses};
+ghost use Rattle.binary_wire.specs.Reading.{Gives, Refuses};
 ghost use Rattle.binary.specs.Counts.{function_room};
-ghost use Rattle.types.specs.Limits.{is_func};
+ghost use Rattle.types.specs.Within.{is_func};
 ghost use Rattle.binary.specs.Grammar.{IsModuleText};
 ghost use Rattle.binary.specs.Reading.{module_at};
 ghost use Rattle.types.specs.declared.parts.Parts.{Parts};
@@ -13,18 +13,12 @@ use crate::limits::{FuncTypeItem, GlobalItem, MemoryItem, TableItem};
 use crate::opening::read_opening;
 use crate::sections::{read_code, read_customs, read_end, read_section, read_start};
 use crate::segments::{DataItem, ElementItem};
+use binary_wire::{Fault, IndexItem, ReadFault, Reader};
 use std::alloc::Global;
-use types::{Import, ImportDesc, Parts};
-use wire::{Fault, IndexItem, ReadFault, Reader};
-
-/// The most bytes of a module.
-const BYTES_MAX: usize = 1_048_576;
+use types::{Import, ImportDesc, MOST_FUNCTIONS, MOST_ITEMS, MOST_MODULE_BYTES, Parts};
 
 /// The most items of most sections.
-const ITEMS_MAX: u32 = 1000;
-
-/// The most functions, with imported ones.
-const FUNCTIONS_MAX: usize = 10_000;
+const ITEMS_MAX: u32 = MOST_ITEMS as u32;
 
 fn is_func(import: &Import) -> bool
     ensures { result ≡ is_func import.now.desc }
@@ -40,17 +34,17 @@ fn function_room(imports: &[Import]) -> u32
     ensures { result ≡ function_room imports.now }
 {
     let imported = imports.iter().filter(|import| is_func(import)).count();
-    FUNCTIONS_MAX.saturating_sub(imported) as u32
+    MOST_FUNCTIONS.saturating_sub(imported) as u32
 }
 
 #[tactic(auto, unfolding(crate::specs::Reading::module_at))]
 fn read_whole(alloc: Global, bytes: &[u8]) -> Result<Parts, ReadFault>
     ensures { Gives (λ m. m) result (module_at bytes.now) }
 {
-    if bytes.len() > BYTES_MAX {
+    if bytes.len() > MOST_MODULE_BYTES {
         return Err(ReadFault::Malformed {
             kind: Fault::Limit,
-            offset: BYTES_MAX,
+            offset: MOST_MODULE_BYTES,
         });
     }
     let mut reader = Reader::new(bytes);

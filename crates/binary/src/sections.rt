@@ -1,13 +1,13 @@
 //! Sections, with custom sections before them.
 
 ghost use Rattle.std.specs.Prelude.{length, true};
-ghost use Rattle.wire.specs.Reading.{Gives, end_at, vector_at};
+ghost use Rattle.binary_wire.specs.Reading.{Gives, end_at, vector_at};
 ghost use Rattle.binary.specs.Reading.{custom_at, customs_at, part_at, section_at, start_at, code_at};
 
 use crate::bodies::read_code_section;
+use binary_wire::{Fault, Item, ReadFault, Reader, read_vector};
 use std::alloc::Global;
 use types::{Body, FuncType, Sequence};
-use wire::{Fault, Item, ReadFault, Reader, read_vector};
 
 /// The id of the last kind of section.
 const DATA_ID: u8 = 11;
@@ -39,7 +39,7 @@ pub fn read_customs(reader: &mut Reader) -> Result<(), ReadFault>
 
 /// The section with an id (Core specification 1.0, section 5.5.2), behind custom ones: a vector. It has no items if it
 /// isn't there.
-#[tactic(auto, unfolding(crate::specs::Reading::section_at, crate::specs::Reading::part_at, wire::specs::Reading::sized_at))]
+#[tactic(auto, unfolding(crate::specs::Reading::section_at, crate::specs::Reading::part_at, binary_wire::specs::Reading::sized_at))]
 pub fn read_section<T: Item>(
     reader: &mut Reader,
     alloc: Global,
@@ -60,7 +60,7 @@ pub fn read_section<T: Item>(
 }
 
 /// The start section (Core specification 1.0, section 5.5.11), behind custom ones, if it is there.
-#[tactic(auto, unfolding(crate::specs::Reading::part_at, crate::specs::Reading::start_at, crate::specs::Reading::start_function_at, wire::specs::Reading::sized_at))]
+#[tactic(auto, unfolding(crate::specs::Reading::part_at, crate::specs::Reading::start_at, crate::specs::Reading::start_function_at, binary_wire::specs::Reading::sized_at))]
 pub fn read_start(reader: &mut Reader) -> Result<Option<u32>, ReadFault>
     ensures { Gives (λ s. (s, reader.new.rest.now)) result (start_at reader.old.rest.now) }
 {
@@ -76,7 +76,7 @@ pub fn read_start(reader: &mut Reader) -> Result<Option<u32>, ReadFault>
 }
 
 /// The code section (Core specification 1.0, section 5.5.13), behind custom ones. It has no bodies if it isn't there.
-#[tactic(auto, unfolding(crate::specs::Reading::part_at, crate::specs::Reading::code_at, wire::specs::Reading::sized_at))]
+#[tactic(auto, unfolding(crate::specs::Reading::part_at, crate::specs::Reading::code_at, binary_wire::specs::Reading::sized_at))]
 pub fn read_code(
     reader: &mut Reader,
     alloc: Global,

@@ -2,13 +2,13 @@
 
 ghost use Rattle.binary.specs.Reading.{element_at, data_at};
 
-use instructions::read_expression;
+use binary_instructions::read_expression;
+use binary_wire::{IndexItem, Item, ReadFault, Reader, read_vector};
 use std::alloc::Global;
-use types::{DataSegment, ElementSegment, Sequence};
-use wire::{IndexItem, Item, ReadFault, Reader, read_vector};
+use types::{DataSegment, ElementSegment, MOST_FUNCTIONS, Sequence};
 
 /// The most functions of one element segment.
-const ELEMENTS_MAX: u32 = 10_000;
+const ELEMENTS_MAX: u32 = MOST_FUNCTIONS as u32;
 
 /// The item of an element section (Core specification 1.0, section 5.5.12).
 pub struct ElementItem;

@@ -4,16 +4,13 @@ ghost use Rattle.std.specs.Prelude.{◌≡◌, map, IfOk};
 ghost use Rattle.types.specs.declared.parts.FuncType.{FuncType};
 ghost use Rattle.types.specs.declared.parts.Body.{Body};
 ghost use Rattle.types.specs.Values.{type_of};
-ghost use Rattle.interp.specs.Starts.{IsFunction, StandsAt, start_of};
+ghost use Rattle.interp.specs.Starts.{IsFunction, StandsAtStart};
 
 use crate::opening::{opening_globals, opening_values, program};
-use stands::{Progress, State};
+use interp_state::{Progress, State};
 use std::alloc::{AllocError, Global};
-use types::Value;
+use types::{MOST_FRAMES, Value};
 use validate::ValidModule;
-
-/// The most functions that may be open.
-const OPEN_MAX: usize = 1_000;
 
 /// The state in which a function of the module itself starts with these arguments.
 pub(crate) fn start<'m>(
@@ -24,7 +21,7 @@ pub(crate) fn start<'m>(
 ) -> Result<State<'m>, AllocError>
     requires { (t : FuncType) × (body : Body) × IsFunction valid.now.parts own t body × (map type_of args.now ≡ t.params) }
     ensures function { IfOk result (λ s. s.function ≡ own) }
-    ensures stands { IfOk result (λ s. (t : FuncType) (body : Body) → IsFunction valid.now.parts own t body → StandsAt valid.now.parts s (start_of valid.now.parts t body args.now)) }
+    ensures stands { IfOk result (StandsAtStart valid.now.parts own args.now) }
 {
     let parts = valid.parts();
     let Some(func_type) = valid.func_type(own) else {
@@ -48,7 +45,7 @@ pub(crate) fn start<'m>(
         results: func_type.results.len(),
         values,
         globals: opening_globals(alloc, parts)?,
-        callers: Vec::with_capacity(alloc, OPEN_MAX)?,
+        callers: Vec::with_capacity(alloc, MOST_FRAMES)?,
         progress: Progress::Fresh,
     })
 }

@@ -1,17 +1,18 @@
 //! What a thread has before its first turn.
 
-ghost use Rattle.std.specs.Prelude.{◌≡◌, ◌+◌, ◌≤◌, ◌<◌, ◌++◌, length, map, take, drop, replicate, fold, Option, Some, None, IfOk, All, vec_len, vec_capacity};
+ghost use Rattle.std.specs.Prelude.{◌≡◌, ◌+◌, ◌≤◌, ◌++◌, length, map, drop};
+ghost use Rattle.std.specs.Prelude.{Some, IfOk, All, vec_len, vec_capacity};
 ghost use Rattle.std.specs.List.{slice_get, splice};
-ghost use Rattle.typing.specs.Image.{offset_of};
-ghost use Rattle.typing.specs.Validity.{IsValid};
-ghost use Rattle.machine.specs.Program.{constant_of, opening_globals, opening_table, size_of_table, with_elements, zero_of};
-ghost use Rattle.stands.specs.Stands.{IsProgram};
+ghost use Rattle.types.specs.Limits.{most_values};
+ghost use Rattle.validate_typing.specs.Image.{offset_of};
+ghost use Rattle.interp_machine.specs.Program.{constant_of, opening_globals, opening_table, size_of_table, zero_of};
+ghost use Rattle.interp_state.specs.Stands.{IsProgram};
 
-use module_rules::{IndexSpaces, offset};
-use stands::{Program, VALUES_MAX};
+use interp_state::{Program, push_zeros};
 use std::alloc::{AllocError, Global};
-use types::{Instr, NumericInstr, Parts, PlainInstr, ValType, Value};
+use types::{Instr, MOST_VALUES, NumericInstr, Parts, PlainInstr, ValType, Value};
 use validate::ValidModule;
+use validate_module_rules::{IndexSpaces, offset};
 
 /// The value of a constant expression.
 fn constant(code: &[Instr]) -> Value
@@ -95,16 +96,6 @@ pub(crate) fn program<'m>(alloc: Global, valid: &'m ValidModule) -> Result<Progr
     })
 }
 
-/// The zero of a type, with which a local begins (Core specification 1.0, section 4.4.7).
-fn zero(val_type: ValType) -> Value
-    ensures { result ≡ zero_of val_type }
-{
-    match val_type {
-        ValType::I32 => Value::I32(0),
-        ValType::I64 => Value::I64(0),
-    }
-}
-
 /// Puts values on top.
 fn push_all(values: &mut Vec<Value>, more: &[Value])
     requires { vec_len values.old + length more.now ≤ vec_capacity values.old }
@@ -116,17 +107,6 @@ fn push_all(values: &mut Vec<Value>, more: &[Value])
     }
 }
 
-/// Puts a zero of each type on top.
-fn push_zeros(values: &mut Vec<Value>, val_types: &[ValType])
-    requires { vec_len values.old + length val_types.now ≤ vec_capacity values.old }
-    ensures items { values.new.items ≡ values.old.items ++ map zero_of val_types.now }
-    ensures capacity { vec_capacity values.new ≡ vec_capacity values.old }
-{
-    for val_type in val_types {
-        values.push_reserved(zero(*val_type));
-    }
-}
-
 /// The values of a function that starts: its arguments, and a zero for each other local. There is room for all values
 /// that may ever lie on the stack.
 pub(crate) fn opening_values(
@@ -134,11 +114,11 @@ pub(crate) fn opening_values(
     args: &[Value],
     locals: &[ValType],
 ) -> Result<Vec<Value>, AllocError>
-    requires { length args.now + length locals.now ≤ 65536 }
+    requires { length args.now + length locals.now ≤ most_values }
     ensures items { IfOk result (λ values. values.items ≡ args.now ++ map zero_of locals.now) }
-    ensures room { IfOk result (λ values. 65536 ≤ vec_capacity values) }
+    ensures room { IfOk result (λ values. most_values ≤ vec_capacity values) }
 {
-    let mut values = Vec::with_capacity(alloc, VALUES_MAX)?;
+    let mut values = Vec::with_capacity(alloc, MOST_VALUES)?;
     push_all(&mut values, args);
     push_zeros(&mut values, locals);
     Ok(values)

@@ -1,5 +1,6 @@
 -- What an entry and a full log leave, over plain variables.
-use Rattle.std.proofs.Common.{◌≡◌, ℕ, ◌+◌, ◌<◌, ◌≤◌, Bool, true, false, true≢false, cond, List, [], ◌∷◌, ◌++◌, length, refl, sym, ap, ◌∙◌, subst, arith, eqb, ne_eqb}
+use Rattle.std.proofs.Common.{◌≡◌, ℕ, ◌+◌, ◌<◌, ◌≤◌, Bool, true, false, true≢false, cond, List, [], ◌∷◌, ◌++◌, length}
+use Rattle.std.proofs.Common.{refl, sym, ap, ◌∙◌, subst, arith, eqb, ne_eqb}
 use Rattle.std.specs.Prelude.{Some, nat_le}
 use Rattle.std.proofs.lemmas.List.Elements.{All-nil, All-cons, All-head, All-tail}
 use Rattle.types.specs.declared.event.Entry.{Entry}
@@ -8,16 +9,17 @@ use Rattle.types.specs.declared.event.Event.TheVariants.{Size, Grow, Load, Store
 use Rattle.types.specs.declared.event.Question.TheVariants.{Wait, Notify, Spawn, Leave}
 use Rattle.types.specs.declared.event.Reply.{Reply}
 use Rattle.types.specs.declared.event.Reply.TheVariants.{Value, Done, OutOfBounds, Again, Full}
+use Rattle.types.specs.Limits.{desk_name, seat_count, past_limit, most_limit}
 use Rattle.shared_memory.specs.Events.{IsEvent, is_of_queue, is_exempt}
 use Rattle.shared_memory.specs.Memory.{Memory, pages, reply_of, state_after, if_within}
 use Rattle.shared_memory.specs.History.{entry, entries_of, IsEntry, AreEntries, memory_after}
 use Rattle.shared_memory.specs.Legal.{IsAllowed, MayEnter}
 use Rattle.shared_memory.specs.Access.{IsSeen, Answers, Accesses}
 use Rattle.shared_memory.proofs.Histories.{memory_after-append, IsMemoryLegal-entry, AreEntries-append, same_queue}
-use Rattle.one_memory.specs.Opening.{IsSized}
-use Rattle.seats.specs.declared.view.Caller.{Caller}
-use Rattle.seats.specs.Callers.{GoesOn}
-use Rattle.seats.proofs.GoingOn.{goes_on-queue}
+use Rattle.shared_memory_sequential.specs.Opening.{IsSized}
+use Rattle.shared_memory_on_table.specs.declared.view.Caller.{Caller}
+use Rattle.shared_memory_on_table.specs.Callers.{GoesOn}
+use Rattle.shared_memory_on_table.proofs.GoingOn.{goes_on-queue}
 use Rattle.locked_recorder.specs.Promises.{KeepsLog, IsRecord, IsBounded}
 use Rattle.locked_recorder.proofs.Room.{pushed, first_spare, first_legal}
 
@@ -60,7 +62,8 @@ answered : (opening : Memory) (limit : ℕ) (n : ℕ) (right : Bool) (event : Ev
 unfolding answers
 answered opening limit n right event before after m reply is a = by_reply reply (ap answers is ∙ reply_answers m event) a
   where
-    by_reply : (r : Reply) → answers r ≡ true → Answers opening (Some limit) n right event r before after → Accesses false opening (Some limit) n right event before after r
+    by_reply : (r : Reply) → answers r ≡ true → Answers opening (Some limit) n right event r before after
+        → Accesses false opening (Some limit) n right event before after r
     by_reply (Value v) t a = a
     by_reply Done t a = a
     by_reply OutOfBounds t a = a
@@ -77,8 +80,9 @@ pub record Entered (opening : Memory) (limit capacity : ℕ) (m : Memory) (c : C
   pub keeps : KeepsLog opening limit capacity (state_after m event) (log ++ entry c.name event reply ∷ [])
   pub outcome : Accesses false opening (Some limit) c.name c.has_queue_right event c.seen (log ++ entry c.name event reply ∷ []) reply
 
-pub enters_log : (opening : Memory) (limit capacity : ℕ) (m : Memory) (c : Caller) (event : Event) (reply : Reply) (log : L) → KeepsLog opening limit capacity m log → GoesOn c log
-    → c.name ≤ 16 → IsEvent event → (is_of_queue event ≡ true → c.has_queue_right ≡ true) → (is_of_queue event ≡ true → MayEnter c.name event c.seen)
+pub enters_log : (opening : Memory) (limit capacity : ℕ) (m : Memory) (c : Caller) (event : Event) (reply : Reply)
+    (log : L) → KeepsLog opening limit capacity m log → GoesOn c log
+    → c.name ≤ desk_name → IsEvent event → (is_of_queue event ≡ true → c.has_queue_right ≡ true) → (is_of_queue event ≡ true → MayEnter c.name event c.seen)
     → (is_exempt event ≡ false → length log < limit) → reply ≡ reply_of m event → Entered opening limit capacity m c event reply log
 enters_log opening limit capacity m c event reply log k goes known is right allowed below answer =
     let e : Entry = entry c.name event reply in
@@ -105,7 +109,8 @@ enters_log opening limit capacity m c event reply log k goes known is right allo
     }
 
 -- a new log
-pub opened_keeps : (opening : Memory) (limit capacity : ℕ) (m : Memory) (log : L) → log ≡ [] → m ≡ opening → limit + 48 ≤ capacity → limit ≤ 1000000 → KeepsLog opening limit capacity m log
+pub opened_keeps : (opening : Memory) (limit capacity : ℕ) (m : Memory) (log : L) → log ≡ [] → m ≡ opening
+    → limit + past_limit ≤ capacity → limit ≤ most_limit → KeepsLog opening limit capacity m log
 opened_keeps opening limit capacity m log none same reserved small = subst (λ (l : L). KeepsLog opening limit capacity m l) (sym none) (record {
   after = same;
   seen = record { legal = tt; entries = All-nil IsEntry };
@@ -116,7 +121,7 @@ opened_keeps opening limit capacity m log none same reserved small = subst (λ (
 })
 
 -- what is left
-no_others : (log : L) (n : ℕ) → AreEntries log → 17 ≤ n → entries_of n log ≡ []
+no_others : (log : L) (n : ℕ) → AreEntries log → seat_count ≤ n → entries_of n log ≡ []
 no_others [] n all le = refl
 no_others (e ∷ log) n all le =
     let first = All-head IsEntry e log all in
@@ -125,7 +130,8 @@ no_others (e ∷ log) n all le =
     let rest = no_others log n (All-tail IsEntry e log all) le in
     rw other rest
 
-pub recorded : (opening : Memory) (limit capacity : ℕ) (m : Memory) (log : L) (count : ℕ) (contents : List ℕ) → KeepsLog opening limit capacity m log → count ≡ pages m → contents ≡ m.bytes
+pub recorded : (opening : Memory) (limit capacity : ℕ) (m : Memory) (log : L) (count : ℕ) (contents : List ℕ)
+    → KeepsLog opening limit capacity m log → count ≡ pages m → contents ≡ m.bytes
     → IsRecord opening log count contents
 recorded opening limit capacity m log count contents k p b = record {
   seen = k.seen;
@@ -135,7 +141,8 @@ recorded opening limit capacity m log count contents k p b = record {
   bytes_after = b ∙ ap (λ (x : Memory). x.bytes) k.after;
 }
 
-pub bounded : (opening : Memory) (limit capacity named : ℕ) (m : Memory) (log : L) (count : ℕ) → KeepsLog opening limit capacity m log → limit ≡ named → count ≡ pages m → IsSized m
+pub bounded : (opening : Memory) (limit capacity named : ℕ) (m : Memory) (log : L) (count : ℕ)
+    → KeepsLog opening limit capacity m log → limit ≡ named → count ≡ pages m → IsSized m
     → IsBounded named log count
 bounded opening limit capacity named m log count k same p sized =
     let spare = k.spare in

@@ -1,5 +1,6 @@
 -- Each event that no limit holds back lowers what may still come past the limit.
-use Rattle.std.proofs.Common.{cond, ◌≡◌, ◌≢◌, ℕ, zero, suc, ◌+◌, ◌<◌, ◌≤◌, Bool, true, false, true≢false, not, ◌||◌, List, [], ◌∷◌, ◌++◌, length, set, refl, sym, ap, ◌∙◌, subst, arith, length-append, eqb, eq-eqb, eqb-true, ltb, ltb-true, ltb-false}
+use Rattle.std.proofs.Common.{cond, ◌≡◌, ◌≢◌, ℕ, zero, suc, ◌+◌, ◌<◌, ◌≤◌, Bool, true, false, true≢false, not, ◌||◌, List, []}
+use Rattle.std.proofs.Common.{◌∷◌, ◌++◌, length, set, refl, sym, ap, ◌∙◌, subst, arith, length-append, eqb, eq-eqb, eqb-true, ltb, ltb-true, ltb-false}
 use Rattle.std.specs.Prelude.{Option, Some, None, is_some}
 use Rattle.std.specs.List.{filter, list_any}
 use Rattle.std.specs.Option.{option_map_or}
@@ -13,16 +14,20 @@ use Rattle.types.specs.declared.event.Question.TheVariants.{Wait, Notify, Spawn,
 use Rattle.types.specs.declared.event.Answer.{Answer}
 use Rattle.types.specs.declared.event.Answer.TheVariants.{Number}
 use Rattle.types.specs.declared.event.Reply.{Reply}
+use Rattle.types.specs.Limits.{most_threads, past_limit}
 use Rattle.shared_memory.specs.declared.sleeper.Sleeper.{Sleeper}
 use Rattle.shared_memory.specs.Events.{is_of_queue, is_exempt}
 use Rattle.shared_memory.specs.Memory.{Memory, reply_of}
-use Rattle.shared_memory.specs.WaitQueue.{WaitQueue, first_queue, is_among, is_asleep, answer_due, tells, wakes, leaves, ends_before, earlier, has_timeout, first_to_end, is_stuck, ended, end_answer, settled, after_question, after_answer, IsFree, has_open_question}
+use Rattle.shared_memory.specs.WaitQueue.{WaitQueue, first_queue, is_among, is_asleep, answer_due, tells, wakes, leaves, ends_before, earlier}
+use Rattle.shared_memory.specs.WaitQueue.{has_timeout, first_to_end, is_stuck, ended, end_answer, settled}
+use Rattle.shared_memory.specs.WaitQueue.{after_question, after_answer, IsFree, has_open_question}
 use Rattle.shared_memory.specs.History.{entry, queue_step, queue_after}
 use Rattle.shared_memory.specs.Legal.{IsQueueLegal, MayEnter}
+use Rattle.shared_memory.specs.Sound.{IsSound}
 use Rattle.shared_memory.proofs.Histories.{of_queue-quiet, of_queue-none, same_queue_legal, queue_after-entry, IsQueueLegal-entry}
-use Rattle.seats.specs.Callers.{one_if}
+use Rattle.shared_memory_on_table.specs.Callers.{one_if}
 use Rattle.locked_recorder.specs.Room.{open_questions, still_due, HasSpare}
-use Rattle.shared_memory.proofs.Soundness.{IsSound, IsSound-after}
+use Rattle.shared_memory.proofs.Soundness.{IsSound-after}
 use Rattle.locked_recorder.proofs.Queue.{among_rest, due_other, length-rest, due_taken, few_alive}
 
 abbrev L : Type 0
@@ -59,7 +64,8 @@ open_fewer q r (suc k) h = let t = open_fewer q r k h in let o = fewer_at (has_o
 open_below : (q r : WaitQueue) (n j : ℕ) → ((m : ℕ) → m ≢ n → IsFewer q r m) → j ≤ n → open_questions r j ≤ open_questions q j
 unfolding open_questions
 open_below q r n zero h le = omega arith
-open_below q r n (suc j) h le = let t = open_below q r n j h (omega arith) in let o = fewer_at (has_open_question q j) (has_open_question r j) (h j (λ e. omega arith)) in omega arith
+open_below q r n (suc j) h le = let t = open_below q r n j h (omega arith) in
+    let o = fewer_at (has_open_question q j) (has_open_question r j) (h j (λ e. omega arith)) in omega arith
 
 open_but_one : (q r : WaitQueue) (n k : ℕ) → ((m : ℕ) → m ≢ n → IsFewer q r m) → open_questions r k ≤ open_questions q k + 1
 unfolding open_questions
@@ -71,7 +77,8 @@ open_but_one q r n (suc k) h = by_name (open_but_one q r n k h) (eqb k n) refl
     by_name t false e = let o = fewer_at (has_open_question q k) (has_open_question r k) (h k (eqb-false k n e)) in omega arith
 
 -- and one fewer where that thread's question is closed
-open_one_less : (q r : WaitQueue) (n k : ℕ) → n < k → has_open_question q n ≡ true → has_open_question r n ≡ false → ((m : ℕ) → m ≢ n → IsFewer q r m) → open_questions r k + 1 ≤ open_questions q k
+open_one_less : (q r : WaitQueue) (n k : ℕ) → n < k → has_open_question q n ≡ true → has_open_question r n ≡ false
+    → ((m : ℕ) → m ≢ n → IsFewer q r m) → open_questions r k + 1 ≤ open_questions q k
 unfolding open_questions
 open_one_less q r n zero lt was now h = absurd (omega arith)
 open_one_less q r n (suc k) lt was now h = by_name (λ l. open_one_less q r n k l was now h) (eqb k n) refl
@@ -95,7 +102,8 @@ either : (a b c d : Bool) → (c ≡ true → a ≡ true) → (d ≡ true → (a
 either a b true d f g h = ap (λ x. x || b) (f refl)
 either a b false d f g h = g h
 
-wakes_fewer : (woken : List Sleeper) (answer : Answer) (q : WaitQueue) → ((m : ℕ) → is_among m woken ≡ true → is_asleep q m ≡ true) → (m : ℕ) → IsFewer q (wakes woken answer q) m
+wakes_fewer : (woken : List Sleeper) (answer : Answer) (q : WaitQueue)
+    → ((m : ℕ) → is_among m woken ≡ true → is_asleep q m ≡ true) → (m : ℕ) → IsFewer q (wakes woken answer q) m
 wakes_fewer woken answer q among m h = by_test (is_among m woken) refl
   where
     by_test : (b : Bool) → is_among m woken ≡ b → has_open_question q m ≡ true
@@ -120,15 +128,19 @@ first_among (x ∷ xs) s h = by_test (first_among xs) (has_timeout x) h
     inner : (s t : Sleeper) → Some s ≡ Some t → s ≡ t
     inner s t e = cc
 
-    by_order : ((t : Sleeper) → first_to_end xs ≡ Some t → is_among t.thread xs ≡ true) → (t : Sleeper) → first_to_end xs ≡ Some t → (b : Bool) → cond b t x ≡ s → is_among s.thread (x ∷ xs) ≡ true
+    by_order : ((t : Sleeper) → first_to_end xs ≡ Some t → is_among t.thread xs ≡ true) → (t : Sleeper)
+        → first_to_end xs ≡ Some t → (b : Bool) → cond b t x ≡ s → is_among s.thread (x ∷ xs) ≡ true
     by_order f t e true k = subst (λ (y : Sleeper). is_among y.thread (x ∷ xs) ≡ true) k (behind t (f t e))
     by_order f t e false k = subst (λ (y : Sleeper). is_among y.thread (x ∷ xs) ≡ true) k itself
 
-    by_first : ((t : Sleeper) → first_to_end xs ≡ Some t → is_among t.thread xs ≡ true) → (o : Option Sleeper) → first_to_end xs ≡ o → earlier x o ≡ s → is_among s.thread (x ∷ xs) ≡ true
+    by_first : ((t : Sleeper) → first_to_end xs ≡ Some t → is_among t.thread xs ≡ true) → (o : Option Sleeper)
+        → first_to_end xs ≡ o → earlier x o ≡ s → is_among s.thread (x ∷ xs) ≡ true
     by_first f None e k = subst (λ (y : Sleeper). is_among y.thread (x ∷ xs) ≡ true) k itself
     by_first f (Some t) e k = by_order f t e (ends_before t x) k
 
-    by_test : ((t : Sleeper) → first_to_end xs ≡ Some t → is_among t.thread xs ≡ true) → (b : Bool) → cond b (Some (earlier x (first_to_end xs))) (first_to_end xs) ≡ Some s → is_among s.thread (x ∷ xs) ≡ true
+    by_test : ((t : Sleeper) → first_to_end xs ≡ Some t → is_among t.thread xs ≡ true) → (b : Bool)
+        → cond b (Some (earlier x (first_to_end xs))) (first_to_end xs) ≡ Some s
+        → is_among s.thread (x ∷ xs) ≡ true
     by_test f true k = by_first f (first_to_end xs) refl (inner (earlier x (first_to_end xs)) s k)
     by_test f false k = behind s (f s k)
 
@@ -165,7 +177,8 @@ one_leaves : (n : ℕ) (alive : List ℕ) → list_any (λ m. eqb m n) alive ≡
 one_leaves n [] h = absurd (true≢false (sym h))
 one_leaves n (x ∷ alive) h = by_name (one_leaves n alive) (eqb x n) refl h
   where
-    by_name : (list_any (λ m. eqb m n) alive ≡ true → length (filter (λ m. not (eqb m n)) alive) + 1 ≤ length alive) → (b : Bool) → eqb x n ≡ b → (b || list_any (λ m. eqb m n) alive) ≡ true
+    by_name : (list_any (λ m. eqb m n) alive ≡ true → length (filter (λ m. not (eqb m n)) alive) + 1 ≤ length alive)
+        → (b : Bool) → eqb x n ≡ b → (b || list_any (λ m. eqb m n) alive) ≡ true
         → length (cond (not b) (x ∷ filter (λ m. not (eqb m n)) alive) (filter (λ m. not (eqb m n)) alive)) + 1 ≤ suc (length alive)
     by_name f true e k = let r = length-rest (λ m. not (eqb m n)) alive in omega arith
     by_name f false e k = let r = f k in omega arith
@@ -179,17 +192,18 @@ leave_lowers q n free =
     let told = tells n (Number 0) left in
     let a = ap (λ (xs : List ℕ). length xs) (settled_alive told) in
     let b = one_leaves n q.alive free.alive in
-    let c = open_fewer told (settled told) 16 (settled_fewer told) in
-    let d = open_but_one left told n 16 (tells_fewer n (Some (Number 0)) left) in
-    let e = open_fewer q left 16 (λ m h. h) in
+    let c = open_fewer told (settled told) most_threads (settled_fewer told) in
+    let d = open_but_one left told n most_threads (tells_fewer n (Some (Number 0)) left) in
+    let e = open_fewer q left most_threads (λ m h. h) in
     omega arith
 
 told_lowers : (q : WaitQueue) (n : ℕ) (answer : Answer) → IsSound q → answer_due q n ≡ Some answer → still_due (after_answer q n) + 1 ≤ still_due q
 unfolding still_due after_answer
 told_lowers q n answer s due =
     let was : has_open_question q n ≡ true = ap (λ o. is_asleep q n || is_some o) due ∙ or-true (is_asleep q n) in
-    let now : has_open_question (after_answer q n) n ≡ false = ap (λ x. x || is_some (answer_due (after_answer q n) n)) (awake (is_asleep q n) refl) ∙ ap is_some (due_taken q n) in
-    let r = open_one_less q (after_answer q n) n 16 (inside (ltb n 16) refl) was now (tells_fewer n None q) in
+    let now : has_open_question (after_answer q n) n ≡ false = ap (λ x. x || is_some (answer_due (after_answer q n) n))
+    (awake (is_asleep q n) refl) ∙ ap is_some (due_taken q n) in
+    let r = open_one_less q (after_answer q n) n most_threads (inside (ltb n most_threads) refl) was now (tells_fewer n None q) in
     omega arith
   where
     bad : answer_due q n ≡ None → ⊥
@@ -199,24 +213,27 @@ told_lowers q n answer s due =
     awake true t = absurd (bad (s.unanswered n t))
     awake false t = t
 
-    inside : (b : Bool) → ltb n 16 ≡ b → n < 16
-    inside true t = ltb-true n 16 t
-    inside false t = absurd (bad (get_or_past q.due n None (let p = s.due_length in let l = ltb-false n 16 t in omega arith)))
+    inside : (b : Bool) → ltb n most_threads ≡ b → n < most_threads
+    inside true t = ltb-true n most_threads t
+    inside false t = absurd (bad (get_or_past q.due n None (let p = s.due_length in let l = ltb-false n most_threads t in omega arith)))
 
-bound : (q : WaitQueue) → IsSound q → still_due q ≤ 48
+bound : (q : WaitQueue) → IsSound q → still_due q ≤ past_limit
 unfolding still_due
-bound q s = let a = few_alive q s in let b = s.few in let c = open_bound q 16 in omega arith
+bound q s = let a = few_alive q s in let b = s.few in let c = open_bound q most_threads in omega arith
 
 -- the log, with one entry more
 
-legal_push : (log : L) (n : ℕ) (event : Event) (reply : Reply) → IsQueueLegal log → (is_of_queue event ≡ true → MayEnter n event log) → IsQueueLegal (log ++ entry n event reply ∷ [])
+legal_push : (log : L) (n : ℕ) (event : Event) (reply : Reply) → IsQueueLegal log
+    → (is_of_queue event ≡ true → MayEnter n event log) → IsQueueLegal (log ++ entry n event reply ∷ [])
 legal_push log n event reply legal may = by_test (is_of_queue event) refl
   where
     by_test : (b : Bool) → is_of_queue event ≡ b → IsQueueLegal (log ++ entry n event reply ∷ [])
     by_test true t = IsQueueLegal-entry log n event reply t legal (may t)
-    by_test false t = same_queue_legal (log ++ entry n event reply ∷ []) log (of_queue-quiet log (entry n event reply ∷ []) (of_queue-none (entry n event reply) t)) legal
+    by_test false t = same_queue_legal (log ++ entry n event reply ∷ []) log
+        (of_queue-quiet log (entry n event reply ∷ []) (of_queue-none (entry n event reply) t)) legal
 
-lowers : (m : Memory) (log : L) (n : ℕ) (event : Event) (reply : Reply) → reply ≡ reply_of m event → IsQueueLegal log → (is_of_queue event ≡ true → MayEnter n event log) → is_exempt event ≡ true
+lowers : (m : Memory) (log : L) (n : ℕ) (event : Event) (reply : Reply) → reply ≡ reply_of m event → IsQueueLegal log
+    → (is_of_queue event ≡ true → MayEnter n event log) → is_exempt event ≡ true
     → still_due (queue_after (log ++ entry n event reply ∷ [])) + 1 ≤ still_due (queue_after log)
 unfolding MayEnter
 lowers m log n (Ask Leave) reply is legal may exempt =
@@ -240,7 +257,7 @@ lowers m log n (Ask (Spawn arg)) reply is legal may exempt = absurd (true≢fals
 -- what an entry leaves of the log: it is legal for the queue, it had room, and it has spare room
 pub record Pushed (limit : ℕ) (log after : L) : Type 0 where
   pub legal : IsQueueLegal after
-  pub fits : length log < limit + 48
+  pub fits : length log < limit + past_limit
   pub spare : HasSpare limit after
 
 pub pushed : (limit : ℕ) (m : Memory) (log : L) (n : ℕ) (event : Event) (reply : Reply) → HasSpare limit log → IsQueueLegal log → reply ≡ reply_of m event
@@ -258,7 +275,9 @@ pushed limit m log n event reply spare legal is may below = by_test (is_exempt e
 
     by_test : (b : Bool) → is_exempt event ≡ b → Pushed limit log (log ++ entry n event reply ∷ [])
     by_test true t = let l = lowers m log n event reply is legal may t in let g = grown in record { legal = still; fits = omega arith; spare = omega arith }
-    by_test false t = let l = below t in let b = bound (queue_after (log ++ entry n event reply ∷ [])) (IsSound-after (log ++ entry n event reply ∷ []) still) in let g = grown in record { legal = still; fits = omega arith; spare = omega arith }
+    by_test false t = let l = below t in let b = bound (queue_after (log ++ entry n event reply ∷ []))
+        (IsSound-after (log ++ entry n event reply ∷ []) still) in let g = grown in
+        record { legal = still; fits = omega arith; spare = omega arith }
 
 -- at first
 pub first_spare : (limit : ℕ) → HasSpare limit []

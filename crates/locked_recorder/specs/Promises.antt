@@ -1,22 +1,28 @@
 -- What the recorder promises of its log.
 use Rattle.std.specs.Prelude.{ℕ, ◌+◌, ◌≤◌, ◌≡◌, ◌&&◌, Bool, true, false, not, nat_le, if◌then◌else◌, List, [], ◌∷◌, ◌++◌, length}
 use mathlib.Core.List.{IsPrefix}
+use Rattle.atomic_table.specs.Table.{Me}
+use Rattle.atomic_table.specs.Seated.{TableId}
 use Rattle.types.specs.declared.event.Entry.{Entry}
 use Rattle.types.specs.declared.event.Event.{Event}
 use Rattle.types.specs.declared.event.Reply.{Reply}
 use Rattle.types.specs.declared.event.Reply.TheVariants.{Full}
+use Rattle.types.specs.Limits.{most_pages, seat_count, past_limit, most_limit}
 use Rattle.shared_memory.specs.Events.{is_exempt}
 use Rattle.shared_memory.specs.Memory.{Memory, pages}
 use Rattle.shared_memory.specs.History.{entries_of, memory_after}
 use Rattle.shared_memory.specs.Legal.{IsQueueLegal}
 use Rattle.shared_memory.specs.Access.{IsSeen}
-use Rattle.one_memory.specs.Opening.{can_open}
-use Rattle.seats.specs.declared.view.Caller.{Caller}
+use Rattle.shared_memory_sequential.specs.Opening.{can_open}
+use Rattle.shared_memory_on_table.specs.declared.view.Caller.{Caller}
+use Rattle.shared_memory_on_table.specs.declared.view.View.{View}
+use Rattle.shared_memory_on_table.specs.Moves.{keeper}
+use Rattle.shared_memory_on_table.specs.Rule.{opened}
 use Rattle.locked_recorder.specs.Room.{HasSpare}
 
 -- A log's limit is 1 to 1,000,000 entries, and its memory one that can be opened.
 abbrev pub can_record : List ℕ → ℕ → ℕ → Bool
-can_record image max limit = nat_le 1 limit && nat_le limit 1000000 && can_open image max
+can_record image max limit = nat_le 1 limit && nat_le limit most_limit && can_open image max
 
 abbrev pub is_full : Reply → Bool
 is_full Full = true
@@ -37,8 +43,21 @@ pub record KeepsLog (opening : Memory) (limit : ℕ) (capacity : ℕ) (memory : 
   pub seen : IsSeen opening log
   pub queue : IsQueueLegal log
   pub spare : HasSpare limit log
-  pub reserved : limit + 48 ≤ capacity
-  pub small : limit ≤ 1000000
+  pub reserved : limit + past_limit ≤ capacity
+  pub small : limit ≤ most_limit
+
+-- A keeper logs for the memory with this table, opening and limit: its seat of that table knows the log, and no caller
+-- stands there; it has that limit; and the memory and the log, whose room is the capacity, are kept.
+abbrev pub Logs : TableId → Memory → ℕ → TableId → Me ℕ View → ℕ → ℕ → Memory → List Entry → Type 0
+Logs table opening limit own me held capacity memory log =
+    (own ≡ table) × (me ≡ (keeper log [], [])) × (held ≡ limit) × KeepsLog opening held capacity memory log
+
+-- A recorder that has no name yet: all callers stand on the keeper's seat of its table of one word, and the empty log
+-- has room for all that its limit lets in.
+abbrev pub IsPrepared : TableId → TableId → Me ℕ View → ℕ → ℕ → List Entry → Type 0
+IsPrepared table own me limit capacity log =
+    (own ≡ table) × (me ≡ (opened true, [])) × (table.words ≡ 1) × (limit ≤ most_limit) × (log ≡ [])
+    × (limit + past_limit ≤ capacity)
 
 -- A caller's list begins the log, which has no other entry of its name.
 pub record Begins (c : Caller) (log : List Entry) : Type 0 where
@@ -50,11 +69,11 @@ pub record Begins (c : Caller) (log : List Entry) : Type 0 where
 pub record IsRecord (opening : Memory) (log : List Entry) (count : ℕ) (contents : List ℕ) : Type 0 where
   pub seen : IsSeen opening log
   pub queue : IsQueueLegal log
-  pub others : (n : ℕ) → 17 ≤ n → entries_of n log ≡ []
+  pub others : (n : ℕ) → seat_count ≤ n → entries_of n log ≡ []
   pub pages_after : count ≡ pages (memory_after opening log)
   pub bytes_after : contents ≡ (memory_after opening log).bytes
 
 -- What no run passes: 48 entries above the limit, and 64 pages.
 pub record IsBounded (limit : ℕ) (log : List Entry) (count : ℕ) : Type 0 where
-  pub room : length log ≤ limit + 48
-  pub small : count ≤ 64
+  pub room : length log ≤ limit + past_limit
+  pub small : count ≤ most_pages

@@ -3,20 +3,15 @@ ghost use Rattle.std.specs.Prelude.{◌≡◌, ◌<◌, ◌++◌, ◌∷◌, [],
 ghost use Rattle.shared_memory.specs.Events.{IsEvent, is_of_queue, is_exempt};
 ghost use Rattle.shared_memory.specs.History.{entry};
 ghost use Rattle.shared_memory.specs.Legal.{MayEnter};
-ghost use Rattle.shared_memory.specs.Access.{Accesses};
+ghost use Rattle.shared_memory_on_table.specs.Rule.{AccessesIn};
 ghost use Rattle.locked_recorder.specs.Promises.{is_full, is_held, log_after, Begins, IsRecord, IsBounded};
 
-use crate::naming::Naming;
 use crate::rule::Row;
-use crate::seat::{LockedSeat, Standing};
-use crate::steps;
-use one_memory::OneMemory;
-use seats::Place;
+use crate::{LockedSeat, steps};
+use shared_memory_on_table::{Naming, Place, Standing};
+use shared_memory_sequential::OneMemory;
 use std::marker::{Model, PhantomData};
-use types::{Entry, Event, Question, Reply};
-
-/// The bytes of a page.
-const PAGE: usize = 65_536;
+use types::{Entry, Event, PAGE_SIZE, Question, Reply};
 
 /// The keeper's place on the table, the memory, and the log with its limit. Contracts see the log.
 #[derive(Drop)]
@@ -29,16 +24,15 @@ pub struct Keeper<B: Naming> {
 }
 
 impl<B: Naming> Model for Keeper<B> {
-    ghost use Rattle.std.specs.Prelude.{◌≡◌, List, [], vec_capacity};
+    ghost use Rattle.std.specs.Prelude.{List, vec_capacity};
     ghost use Rattle.types.specs.declared.event.Entry.{Entry};
-    ghost use Rattle.seats.specs.Moves.{keeper};
-    ghost use Rattle.locked_recorder.specs.Promises.{KeepsLog};
+    ghost use Rattle.locked_recorder.specs.Promises.{Logs};
 
     ghost Value = { List Entry };
 
     ghost view = { λ k. k.log.items };
 
-    ghost invariant = { λ k. (k.place.table_id ≡ B.table) × (k.place.me ≡ (keeper k.log.items [], [])) × (k.limit ≡ B.limit) × KeepsLog B.opening k.limit (vec_capacity k.log) k.memory k.log.items };
+    ghost invariant = { λ k. Logs B.table B.opening B.limit k.place.table_id k.place.me k.limit (vec_capacity k.log) k.memory k.log.items };
 }
 
 // Whether a full log still takes the event.
@@ -57,7 +51,7 @@ impl<B: Naming> Keeper<B> {
         requires allowed { is_of_queue event ≡ true → MayEnter seat.old.name event seat.old.seen }
         ensures name { seat.new.name ≡ seat.old.name }
         ensures right { seat.new.has_queue_right ≡ seat.old.has_queue_right }
-        ensures outcome { Accesses false B.opening (Some B.limit) seat.old.name seat.old.has_queue_right event seat.old.seen seat.new.seen result }
+        ensures outcome { AccessesIn false B.opening (Some B.limit) seat.old event seat.new.seen result }
         ensures full { is_full result ≡ is_held B.limit event self.old }
         ensures log { self.new ≡ log_after (is_full result) self.old (entry seat.old.name event result) }
     {
@@ -89,7 +83,7 @@ impl<B: Naming> Keeper<B> {
             log,
             of: _,
         } = self;
-        let pages = (memory.bytes().len() / PAGE) as u32;
+        let pages = (memory.bytes().len() / PAGE_SIZE) as u32;
         Finished {
             log,
             pages,

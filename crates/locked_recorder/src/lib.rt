@@ -6,18 +6,18 @@
 #![tactic(auto)]
 
 mod keeper;
-mod naming;
 mod prepared;
 mod recorder;
 mod rule;
-mod seat;
 mod steps;
 #[cfg(test)]
 mod tests;
 
 pub use keeper::Finished;
-pub use naming::Naming;
-pub use one_memory::OpenFault;
 pub use prepared::Prepared;
 pub use recorder::LockedRecorder;
-pub use seat::LockedSeat;
+pub use shared_memory_on_table::Naming;
+pub use shared_memory_sequential::OpenFault;
+
+/// A caller's place at a recorder.
+pub type LockedSeat<B> = shared_memory_on_table::CallerSeat<B>;

@@ -3,17 +3,11 @@ ghost use Rattle.std.specs.Prelude.{◌≡◌, ◌↔◌, true, false, IfOk, OnO
 ghost use Rattle.locked_recorder.specs.Promises.{can_record};
 
 use crate::rule::Board;
-use one_memory::{OneMemory, OpenFault};
-use seats::Place;
+use shared_memory_on_table::Place;
+use shared_memory_sequential::{OneMemory, OpenFault};
 use std::alloc::Global;
 use std::marker::Model;
-use types::Entry;
-
-/// The most entries that a limit may let a log have.
-const MOST_ENTRIES: u32 = 1_000_000;
-
-/// The entries that a log may still take past its limit: answers, and the last questions of threads.
-const PAST_LIMIT: usize = 48;
+use types::{Entry, MOST_LIMIT, PAST_LIMIT};
 
 /// A recorder that has no name yet. Contracts see by what it is to be named: its table, the memory before any entry,
 /// and the limit of its log.
@@ -27,14 +21,15 @@ pub struct Prepared {
 }
 
 impl Model for Prepared {
-    ghost use Rattle.std.specs.Prelude.{◌≡◌, ◌+◌, ◌≤◌, [], vec_capacity};
-    ghost use Rattle.locked_recorder.specs.Rule.{MemoryName, opened};
+    ghost use Rattle.std.specs.Prelude.{vec_capacity};
+    ghost use Rattle.shared_memory_on_table.specs.Names.{MemoryName};
+    ghost use Rattle.locked_recorder.specs.Promises.{IsPrepared};
 
     ghost Value = { MemoryName };
 
     ghost view = { λ p. record { table = p.board.shared.table_id; opening = p.memory; limit = p.limit } };
 
-    ghost invariant = { λ p. (p.desk.table_id ≡ p.board.shared.table_id) × (p.desk.me ≡ (opened, [])) × (p.board.shared.table_id.words ≡ 1) × (p.limit ≤ 1000000) × (p.log.items ≡ []) × (p.limit + 48 ≤ vec_capacity p.log) };
+    ghost invariant = { λ p. IsPrepared p.board.shared.table_id p.desk.table_id p.desk.me p.limit (vec_capacity p.log) p.log.items };
 }
 
 impl Prepared {
@@ -50,7 +45,7 @@ impl Prepared {
         ensures within { OnOk result (can_record image.now max limit ≡ true) }
         ensures past_limit { IsErrOf result OpenFault.PastLimit ↔ (can_record image.now max limit ≡ false) }
     {
-        if limit == 0 || limit > MOST_ENTRIES {
+        if limit == 0 || limit > MOST_LIMIT {
             return Err(OpenFault::PastLimit);
         }
         let memory = OneMemory::open(alloc, image, max)?;

@@ -1,65 +1,20 @@
 //! The recorder.
-ghost use Rattle.std.specs.Prelude.{ℕ, ◌≡◌, ◌<◌, ◌≤◌, ◌++◌, ◌∷◌, [], true, false, Some, IfOk, IsOkUnless, All, map, length};
-ghost use Rattle.shared_memory.specs.Access.{Meets};
-ghost use Rattle.seats.specs.Callers.{fresh, fresh_from};
-ghost use Rattle.seats.specs.Moves.{keeper, others_of};
-ghost use Rattle.locked_recorder.specs.Rule.{opened};
+ghost use Rattle.std.specs.Prelude.{◌≡◌, ◌<◌, IfOk, IsOkUnless, All, map};
+ghost use Rattle.types.specs.Limits.{seat_count};
+ghost use Rattle.shared_memory_on_table.specs.Callers.{fresh_from};
 ghost use Rattle.locked_recorder.specs.Promises.{Begins, IsRecord, IsBounded};
 
+use crate::LockedSeat;
 use crate::keeper::{Finished, Keeper, check_all};
-use crate::naming::Naming;
 use crate::prepared::Prepared;
-use crate::rule::{Board, Row};
-use crate::seat::{LockedSeat, Standing};
-use crate::steps;
-use one_memory::OpenFault;
-use seats::{FirstOff, Place};
+use crate::rule::{Board, LogLength};
 use shared_memory::SharedMemory;
+use shared_memory_on_table::{Naming, meet, take_seats};
+use shared_memory_sequential::OpenFault;
 use std::alloc::Global;
 use std::marker::PhantomData;
 use std::sync::{Mutex, Wait};
 use types::{Event, Reply};
-
-// How many seats a recorder has: 16 for threads, and the desk's.
-const SEATS: u32 = 17;
-
-// The next caller gets a seat of its own.
-fn take_seat<B: Naming>(row: &Row, desk: &mut Place, name: u32) -> LockedSeat<B>
-    requires row { (row.now.table_id ≡ B.table) × (0 < row.now.table_id.words) }
-    requires name { name ≤ 16 }
-    requires desk { (desk.old.table_id ≡ B.table) × (desk.old.me ≡ (keeper [] (fresh name ∷ others_of desk.old.me.0.callers), [])) }
-    ensures seat { result.caller ≡ fresh name }
-    ensures desk { (desk.new.table_id ≡ B.table) × (desk.new.me ≡ (keeper [] (others_of desk.old.me.0.callers), [])) }
-{
-    let place = row.split_seat::<FirstOff>(desk);
-    LockedSeat {
-        caller: Standing {
-            name,
-            place,
-            of: PhantomData,
-        },
-    }
-}
-
-// All seats, in order of name.
-fn take_seats<B: Naming>(
-    alloc: Global,
-    row: &Row,
-    desk: &mut Place,
-) -> Result<Vec<LockedSeat<B>>, OpenFault>
-    requires row { (row.now.table_id ≡ B.table) × (0 < row.now.table_id.words) }
-    requires desk { (desk.old.table_id ≡ B.table) × (desk.old.me ≡ (opened, [])) }
-    ensures seats { IfOk result (λ v. (map (λ s. s.caller) v.items ≡ fresh_from 17 0) × (desk.new.table_id ≡ B.table) × (desk.new.me ≡ (keeper [] [], []))) }
-    ensures fault { IsOkUnless result OpenFault.NoMemory }
-{
-    let Ok(mut seats) = Vec::with_capacity(alloc, SEATS as usize) else {
-        return Err(OpenFault::NoMemory);
-    };
-    for name in 0..SEATS {
-        seats.push_reserved(take_seat::<B>(row, desk, name));
-    }
-    Ok(seats)
-}
 
 /// A memory that threads share by a lock, with the log of all entries. It is shared by reference.
 #[derive(Drop)]
@@ -89,7 +44,7 @@ impl<B: Naming, W: Wait + Drop> LockedRecorder<B, W> {
         requires table { prepared.table ≡ B.table }
         requires opening { prepared.opening ≡ B.opening }
         requires limit { prepared.limit ≡ B.limit }
-        ensures seats { IfOk result (λ r. map (λ s. s.caller) r.1.items ≡ fresh_from 17 0) }
+        ensures seats { IfOk result (λ r. map (λ s. s.caller) r.1.items ≡ fresh_from seat_count 0) }
         ensures fault { IsOkUnless result OpenFault.NoMemory }
     {
         let Prepared {
@@ -100,7 +55,9 @@ impl<B: Naming, W: Wait + Drop> LockedRecorder<B, W> {
             log,
         } = prepared;
         let pages_max = memory.max();
-        let seats = take_seats::<B>(alloc, &board.shared, &mut desk)?;
+        let Ok(seats) = take_seats::<B, (), LogLength>(alloc, &board.shared, &mut desk) else {
+            return Err(OpenFault::NoMemory);
+        };
         let keeper = Keeper {
             place: desk,
             memory,
@@ -139,17 +96,6 @@ impl<B: Naming, W: Wait + Drop> LockedRecorder<B, W> {
         check_all(&board.shared, &mut keeper, seats);
         keeper.finish()
     }
-}
-
-// Two callers learn from each other, and exchange the queue right.
-fn meet<B: Naming>(row: &Row, a: &mut Standing<B>, b: &mut Standing<B>)
-    requires row { (row.now.table_id ≡ B.table) × (0 < row.now.table_id.words) }
-    ensures names { (a.new.name ≡ a.old.name) × (b.new.name ≡ b.old.name) }
-    ensures rights { (a.new.has_queue_right ≡ b.old.has_queue_right) × (b.new.has_queue_right ≡ a.old.has_queue_right) }
-    ensures one { b.new.seen ≡ a.new.seen }
-    ensures longer { Meets B.opening a.old.name b.old.name a.old.has_queue_right b.old.has_queue_right a.old.seen b.old.seen a.new.seen }
-{
-    steps::meet(row, &mut a.place, &mut b.place);
 }
 
 impl<B: Naming + Send + Sync, W: Wait + Drop> SharedMemory for LockedRecorder<B, W> {

@@ -1,18 +1,19 @@
 //! The rule of the one word, which counts the entries, and its steps.
-use atomic_table::{Play, Shared, Table, TableRule};
-use seats::View;
+use atomic_table::{Play, Table};
+use shared_memory_on_table::{History, OneHistory, View};
 use std::alloc::Global;
 use std::marker::{Brand, PhantomData};
 
-/// The rule: there is one log, the word is its length, and each caller has seen a beginning of it.
-pub struct OneLog;
+/// The one word is the length of the history, which a keeper knows: its log.
+pub struct LogLength;
 
-impl TableRule<u8, View, ()> for OneLog {
-    ghost use Rattle.locked_recorder.specs.Rule.{Kept, opened};
+impl History<()> for LogLength {
+    ghost use Rattle.std.specs.Prelude.{true};
+    ghost use Rattle.locked_recorder.specs.Rule.{counts};
 
-    ghost holds = { λ _ s. Kept s };
+    ghost has_keeper = { true };
 
-    ghost first = { λ _. opened };
+    ghost agree = { λ _. counts };
 }
 
 /// Which entry a step makes. Each call picks it.
@@ -47,7 +48,7 @@ impl Play<u8, View> for Learn {
 }
 
 /// The word and its seats, as all threads share them.
-pub type Row = Shared<u8, View, (), OneLog>;
+pub type Row = shared_memory_on_table::Row<(), LogLength>;
 
 /// The word and its seats, as their owner has them.
-pub type Board = Table<u8, View, (), OneLog, Global>;
+pub type Board = Table<u8, View, (), OneHistory<LogLength>, Global>;

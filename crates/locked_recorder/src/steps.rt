@@ -1,24 +1,13 @@
 //! Moves of the seats, each made of single steps on the word.
-ghost use Rattle.std.specs.Prelude.{◌≡◌, ◌<◌, ◌++◌, ◌∷◌, []};
-ghost use Rattle.seats.specs.Callers.{GoesOn, AllGoOn, seeing};
-ghost use Rattle.seats.specs.Moves.{IsOne, IsKeeper, caller_in, others_stay, first_goes, together, keeper, alone, longer, meeting};
-ghost use Rattle.locked_recorder.specs.Rule.{MayMake, entered};
+ghost use Rattle.std.specs.Prelude.{◌≡◌, ◌<◌, ◌∷◌, []};
+ghost use Rattle.shared_memory_on_table.specs.Callers.{GoesOn, AllGoOn};
+ghost use Rattle.shared_memory_on_table.specs.Moves.{IsOne, IsKeeper, caller_in, keeper, sees};
+ghost use Rattle.locked_recorder.specs.Rule.{MayMake, entered, log_with};
 
 use crate::rule::{Enter, Learn, Making, Row};
-use seats::{FirstOff, Meeting, Place, Together};
+use shared_memory_on_table::{Place, hand};
 use std::marker::Brand;
 use types::Entry;
-
-// The first caller of one seat goes to another.
-fn hand(row: &Row, from: &mut Place, to: &mut Place)
-    requires row { 0 < row.now.table_id.words }
-    requires own { (from.old.table_id ≡ row.now.table_id) × (to.old.table_id ≡ row.now.table_id) }
-    ensures from { (from.new.table_id ≡ from.old.table_id) × (from.new.me ≡ (others_stay from.old.me.0, from.old.me.1)) }
-    ensures to { (to.new.table_id ≡ to.old.table_id) × (to.new.me ≡ (together to.old.me.0 (first_goes from.old.me.0), to.old.me.1)) }
-{
-    let goes = row.split_seat::<FirstOff>(from);
-    row.join_seat::<Together>(to, goes);
-}
 
 // The keeper makes an entry of the caller on its seat.
 fn enter<M: Making>(row: &Row, desk: &mut Place, entry: &Entry)
@@ -40,8 +29,8 @@ pub fn record(row: &Row, desk: &mut Place, caller: &mut Place, entry: &Entry)
     requires desk { IsKeeper desk.old.me }
     requires caller { IsOne caller.old.me }
     requires may { MayMake desk.old.me.0.log (caller_in caller.old.me.0) entry.now }
-    ensures desk { (desk.new.table_id ≡ desk.old.table_id) × (desk.new.me ≡ (keeper (desk.old.me.0.log ++ entry.now ∷ []) [], [])) }
-    ensures caller { (caller.new.table_id ≡ caller.old.table_id) × (caller.new.me ≡ (alone (seeing (desk.old.me.0.log ++ entry.now ∷ []) (caller_in caller.old.me.0)), [])) }
+    ensures desk { (desk.new.table_id ≡ desk.old.table_id) × (desk.new.me ≡ (keeper (log_with entry.now desk.old.me.0) [], [])) }
+    ensures caller { (caller.new.table_id ≡ caller.old.table_id) × (caller.new.me ≡ sees (log_with entry.now desk.old.me.0) caller.old.me) }
     ensures goes_on { GoesOn (caller_in caller.old.me.0) desk.old.me.0.log }
 {
     hand(row, caller, desk);
@@ -56,25 +45,10 @@ pub fn look(row: &Row, desk: &mut Place, caller: &mut Place)
     requires desk { IsKeeper desk.old.me }
     requires caller { IsOne caller.old.me }
     ensures desk { (desk.new.table_id ≡ desk.old.table_id) × (desk.new.me ≡ desk.old.me) }
-    ensures caller { (caller.new.table_id ≡ caller.old.table_id) × (caller.new.me ≡ (alone (seeing desk.old.me.0.log (caller_in caller.old.me.0)), [])) }
+    ensures caller { (caller.new.table_id ≡ caller.old.table_id) × (caller.new.me ≡ sees desk.old.me.0.log caller.old.me) }
     ensures goes_on { GoesOn (caller_in caller.old.me.0) desk.old.me.0.log }
 {
     hand(row, caller, desk);
     row.load::<Learn>(desk, 0);
     hand(row, desk, caller);
-}
-
-/// Two callers meet: both have then seen the longer of their lists, and the queue right is exchanged.
-pub fn meet(row: &Row, a: &mut Place, b: &mut Place)
-    requires row { 0 < row.now.table_id.words }
-    requires own { (a.old.table_id ≡ row.now.table_id) × (b.old.table_id ≡ row.now.table_id) }
-    requires a { IsOne a.old.me }
-    requires b { IsOne b.old.me }
-    ensures a { (a.new.table_id ≡ a.old.table_id) × (a.new.me ≡ (alone (meeting (caller_in a.old.me.0) (caller_in b.old.me.0) (longer (caller_in b.old.me.0).seen (caller_in a.old.me.0).seen)), [])) }
-    ensures b { (b.new.table_id ≡ b.old.table_id) × (b.new.me ≡ (alone (meeting (caller_in b.old.me.0) (caller_in a.old.me.0) (longer (caller_in b.old.me.0).seen (caller_in a.old.me.0).seen)), [])) }
-    ensures goes_on { GoesOn (caller_in a.old.me.0) (longer (caller_in b.old.me.0).seen (caller_in a.old.me.0).seen) × GoesOn (caller_in b.old.me.0) (longer (caller_in b.old.me.0).seen (caller_in a.old.me.0).seen) }
-{
-    hand(row, b, a);
-    row.load::<Meeting>(a, 0);
-    hand(row, a, b);
 }

@@ -1,21 +1,18 @@
 -- From what a walk says to what a replay says: the record's run, or the line that it names and why no run has it.
-use Rattle.std.proofs.Common.{◌≡◌, ◌≢◌, ℕ, List, map, sym, ◌∙◌, ap, subst, inl, inr}
-use Rattle.std.specs.Prelude.{◌⊎◌}
-use Rattle.types.specs.declared.value.ValType.{ValType}
+use Rattle.std.proofs.Common.{◌≡◌, ◌∙◌, ap, subst, inl, inr}
 use Rattle.types.specs.declared.parts.FuncType.{FuncType}
 use Rattle.types.specs.declared.parts.Parts.{Parts}
-use Rattle.types.specs.Values.{type_of}
-use Rattle.typing.specs.Validity.{HasDistinctNames}
+use Rattle.validate_typing.specs.Validity.{HasDistinctNames}
 use Rattle.shared_memory.specs.Memory.{Memory}
-use Rattle.one_schedule.specs.Runs.{Start}
-use Rattle.module_run.specs.Entries.{Refuses}
-use Rattle.record_text.specs.declared.parts.RecordParts.{RecordParts}
-use Rattle.recorded_runs.specs.Recorded.{IsRecordedRun, IsFirstMisfit, IsFirstWrongEnd}
-use Rattle.replay_ends.proofs.Schedules.{no_run_has_a_wrong_end, no_run_has_a_misfit}
+use Rattle.schedule_runs.specs.Runs.{Start}
+use Rattle.spawn_host.specs.Entries.{Refuses}
+use Rattle.replay_text.specs.declared.parts.RecordParts.{RecordParts}
+use Rattle.replay_rules.specs.Recorded.{IsRecordedRun, IsFirstMisfit, IsFirstWrongEnd}
+use Rattle.replay.proofs.Schedules.{no_run_has_a_wrong_end, no_run_has_a_misfit}
 use Rattle.replay.specs.declared.end.EndState.{EndState}
 use Rattle.replay.specs.declared.fault.ReplayFault.{ReplayFault}
 use Rattle.replay.specs.declared.fault.ReplayFault.TheVariants.{Line, EndLine, NoMemory}
-use Rattle.replay.specs.Runs.{BeginsBy, start_of_record, IsRunOf, IsMisfitAt, IsReplayFault, IsOfNoRun, ShowsNoRun}
+use Rattle.replay.specs.Runs.{BeginsBy, start_of_record, IsRunOf, IsReplayFault, IsOfNoRun, ShowsNoRun}
 use Rattle.replay.specs.Threads.{IsCallFault}
 use Rattle.replay.specs.Walks.{IsWalkFault}
 use Rattle.replay.proofs.Same.{same_function, same_start}
@@ -23,7 +20,8 @@ use Rattle.replay.proofs.Same.{same_function, same_start}
 pub is_run : (m : Parts) (r x : RecordParts) → r ≡ x → (b : BeginsBy m r) (last : Memory) → IsRecordedRun (start_of_record m r b) r last
     → (end : EndState) → end.threads.items ≡ r.ends → end.pages ≡ r.pages → end.bytes.items ≡ last.bytes → IsRunOf m x end
 is_run m r x is b last recorded end threads pages bytes =
-    subst (λ (y : RecordParts). IsRunOf m y end) is (record { beginning = b; last = last; recorded = recorded; threads = threads; pages = pages; bytes = bytes })
+    subst (λ (y : RecordParts). IsRunOf m y end) is
+    (record { beginning = b; last = last; recorded = recorded; threads = threads; pages = pages; bytes = bytes })
 
 module _ (m : Parts) (r : RecordParts) where
   pub of_call : (fault : ReplayFault) → IsCallFault m r fault → IsReplayFault m r fault

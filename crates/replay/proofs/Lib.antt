@@ -1,4 +1,7 @@
 pub mod Same
 pub mod Ready
-pub mod Verdicts
+pub mod Deciding
 pub mod Faults
+pub mod Beginning
+pub mod Lines
+pub mod Schedules

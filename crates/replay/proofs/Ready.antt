@@ -1,38 +1,37 @@
 -- The threads of a record's run and the opening memory are where a walk begins.
-use Rattle.std.proofs.Common.{◌≡◌, ◌≢◌, ℕ, zero, suc, ◌+◌, ◌<◌, All, List, [], ◌∷◌, length, Some, None, refl, sym, ◌∙◌, ap, subst, arith, inl, inr, get_or}
+use Rattle.std.proofs.Common.{◌≡◌, ◌≢◌, ℕ, zero, suc, ◌<◌, List, [], ◌∷◌, length, Some, refl, sym, subst, arith, inl, inr}
 use Rattle.std.specs.List.{slice_get}
 use Rattle.std.proofs.lemmas.Option.{slice_get_within, get_or_from_slice_get}
 use Rattle.types.specs.declared.value.ValType.{ValType}
 use Rattle.types.specs.declared.value.Value.{Value}
 use Rattle.types.specs.declared.parts.Parts.{Parts}
-use Rattle.typing.specs.Context.{imported_functions}
+use Rattle.validate_typing.specs.Context.{imported_functions}
 use Rattle.shared_memory.specs.Memory.{Memory}
 use Rattle.schedule.specs.Machine.{Thread.Runs}
-use Rattle.machine.specs.Program.{Program, program_of}
-use Rattle.machine.specs.Config.{Config}
-use Rattle.machine.specs.State.{At}
-use Rattle.takes_turns.specs.Turns.{Running}
+use Rattle.interp_machine.specs.Program.{program_of}
+use Rattle.interp_machine.specs.Config.{Config}
+use Rattle.interp_machine.specs.State.{At}
+use Rattle.interp_trait.specs.Turns.{Meaning, spawn_types, spawned_in}
 use Rattle.interp.specs.Starts.{start_of}
-use Rattle.module_run.specs.Entries.{StartsThreads}
-use Rattle.module_run.specs.Threads.{IsCall, IsFirst, AreSpawnable}
-use Rattle.module_run.specs.Runs.{opening_memory}
-use Rattle.record_text.specs.declared.parts.RecordParts.{RecordParts}
-use Rattle.recorded_runs.specs.Recorded.{spawn_types, spawned_in}
-use Rattle.replay_walk.specs.Walked.{Run, start, IsReady}
+use Rattle.spawn_host.specs.Entries.{StartsThreads}
+use Rattle.spawn_host.specs.Threads.{IsCall, IsFirst, AreSpawnable}
+use Rattle.spawn_host.specs.Runs.{opening_memory}
+use Rattle.replay_text.specs.declared.parts.RecordParts.{RecordParts}
+use Rattle.replay_walk.specs.Walked.{Run, start}
 use Rattle.replay.specs.Runs.{BeginsBy, start_of_record}
-use Rattle.replay.specs.Threads.{AreOthers, AreThreads}
+use Rattle.replay.specs.Threads.{AreThreads}
 use Rattle.replay.specs.Walks.{IsReadyFor}
 
-module _ {T : Type 0} (program : T → Program) (fuel : T → ℕ) (stands : T → Running → Type 0) (begins : T → List ValType → (List Value → Config) → Type 0) (m : Parts) (r : RecordParts) where
+module _ {T : Type 0} (meaning : T → Meaning) (m : Parts) (r : RecordParts) where
   -- A walk can begin, and its run begins as the record's.
   pub record CanBegin (threads : List T) (memory : Memory) : Type 0 where
     pub beginning : BeginsBy m r
     pub run : Run
-    pub ready : IsReadyFor stands begins program fuel run r threads memory
+    pub ready : IsReadyFor meaning run r threads memory
     pub same : start run ≡ start_of_record m r beginning
 
   abbrev First : T → Type 0
-  First first = IsFirst program fuel stands begins m r.invoke r.args r.fuel first
+  First first = IsFirst meaning m r.invoke r.args r.fuel first
 
   abbrev run_with : (first : T) → First first → (List Value → Config) → Run
   run_with first f worker = record {
@@ -48,32 +47,34 @@ module _ {T : Type 0} (program : T → Program) (fuel : T → ℕ) (stands : T �
   at_first first x others h = cc h
 
   stands_first : (first x : T) (others : List T) (f : First first) (worker : List Value → Config) → slice_get (first ∷ others) 0 ≡ Some x
-      → stands x (Runs (At (start_of m f.takes.func_type f.takes.body r.args)) r.fuel)
+      → (meaning x).stands (Runs (At (start_of m f.takes.func_type f.takes.body r.args)) r.fuel)
   stands_first first x others f worker h =
-      subst (λ (y : T). stands y (Runs (At (start_of m f.takes.func_type f.takes.body r.args)) r.fuel)) (at_first first x others h) f.call.stands_so
+      subst (λ (y : T). (meaning y).stands (Runs (At (start_of m f.takes.func_type f.takes.body r.args)) r.fuel)) (at_first first x others h) f.call.stands_so
 
-  alike_first : (first x : T) (others : List T) → First first → slice_get (first ∷ others) 0 ≡ Some x → (program x ≡ program_of m) × (fuel x ≡ r.fuel)
+  alike_first : (first x : T) (others : List T) → First first → slice_get (first ∷ others) 0 ≡ Some x
+      → ((meaning x).program ≡ program_of m) × ((meaning x).fuel ≡ r.fuel)
   alike_first first x others f h =
-      subst (λ (y : T). (program y ≡ program_of m) × (fuel y ≡ r.fuel)) (at_first first x others h) (f.call.program_is, f.call.fuel_is)
+      subst (λ (y : T). ((meaning y).program ≡ program_of m) × ((meaning y).fuel ≡ r.fuel)) (at_first first x others h) (f.call.program_is, f.call.fuel_is)
 
   -- A thread that can be spawned, by its place.
-  spawnable : (args : List Value) (others : List T) (s : AreSpawnable program fuel stands begins m args r.fuel others) (k : ℕ) (x : T) → slice_get others k ≡ Some x
-      → IsCall program fuel stands begins m s.func_type s.body args r.fuel x
+  spawnable : (args : List Value) (others : List T) (s : AreSpawnable meaning m args r.fuel others) (k : ℕ) (x : T) → slice_get others k ≡ Some x
+      → IsCall meaning m s.func_type s.body args r.fuel x
   spawnable args others s k x h =
-      subst (IsCall program fuel stands begins m s.func_type s.body args r.fuel) (get_or_from_slice_get others k x x h) (s.calls k x (slice_get_within others k x h))
+      subst (IsCall meaning m s.func_type s.body args r.fuel) (get_or_from_slice_get others k x x h) (s.calls k x (slice_get_within others k x h))
 
-  begins_other : (first : T) (args : List Value) (others : List T) (s : AreSpawnable program fuel stands begins m args r.fuel others) (k : ℕ) (x : T) → k ≢ 0
-      → slice_get (first ∷ others) k ≡ Some x → begins x spawn_types (start_of m s.func_type s.body)
+  begins_other : (first : T) (args : List Value) (others : List T) (s : AreSpawnable meaning m args r.fuel others) (k : ℕ) (x : T) → k ≢ 0
+      → slice_get (first ∷ others) k ≡ Some x → (meaning x).begins spawn_types (start_of m s.func_type s.body)
   begins_other first args others s zero x other h = absurd (other refl)
   begins_other first args others s (suc k) x other h =
-      subst (λ (types : List ValType). begins x types (start_of m s.func_type s.body)) s.is_start.params (spawnable args others s k x h).begins_so
+      subst (λ (types : List ValType). (meaning x).begins types (start_of m s.func_type s.body)) s.is_start.params (spawnable args others s k x h).begins_so
 
-  alike_others : (first : T) (args : List Value) (others : List T) → First first → AreSpawnable program fuel stands begins m args r.fuel others → (k : ℕ) (x : T)
-      → slice_get (first ∷ others) k ≡ Some x → (program x ≡ program_of m) × (fuel x ≡ r.fuel)
+  alike_others : (first : T) (args : List Value) (others : List T) → First first
+      → AreSpawnable meaning m args r.fuel others → (k : ℕ) (x : T) → slice_get (first ∷ others) k ≡ Some x
+      → ((meaning x).program ≡ program_of m) × ((meaning x).fuel ≡ r.fuel)
   alike_others first args others f s zero x h = alike_first first x others f h
   alike_others first args others f s (suc k) x h = let call = spawnable args others s k x h in (call.program_is, call.fuel_is)
 
-  threaded : (first : T) (args : List Value) (others : List T) (memory : Memory) → First first → StartsThreads m → AreSpawnable program fuel stands begins m args r.fuel others
+  threaded : (first : T) (args : List Value) (others : List T) (memory : Memory) → First first → StartsThreads m → AreSpawnable meaning m args r.fuel others
       → memory ≡ opening_memory m → CanBegin (first ∷ others) memory
   threaded first args others memory f starts s is = record {
     beginning = record {
@@ -101,11 +102,12 @@ module _ {T : Type 0} (program : T → Program) (fuel : T → ℕ) (stands : T �
     same = refl;
   }
 
-  alike_alone : (first : T) → First first → (k : ℕ) (x : T) → slice_get (first ∷ []) k ≡ Some x → (program x ≡ program_of m) × (fuel x ≡ r.fuel)
+  alike_alone : (first : T) → First first → (k : ℕ) (x : T) → slice_get (first ∷ []) k ≡ Some x
+      → ((meaning x).program ≡ program_of m) × ((meaning x).fuel ≡ r.fuel)
   alike_alone first f zero x h = alike_first first x [] f h
   alike_alone first f (suc k) x h = absurd (cc h)
 
-  no_other : (first : T) (worker : List Value → Config) (k : ℕ) (x : T) → k ≢ 0 → slice_get (first ∷ []) k ≡ Some x → begins x spawn_types worker
+  no_other : (first : T) (worker : List Value → Config) (k : ℕ) (x : T) → k ≢ 0 → slice_get (first ∷ []) k ≡ Some x → (meaning x).begins spawn_types worker
   no_other first worker zero x other h = absurd (other refl)
   no_other first worker (suc k) x other h = absurd (cc h)
 
@@ -141,7 +143,7 @@ module _ {T : Type 0} (program : T → Program) (fuel : T → ℕ) (stands : T �
       no_imports zero h = refl
       no_imports (suc n) h = absurd (h (omega arith))
 
-  pub can_begin : (threads : List T) (memory : Memory) → AreThreads program fuel stands begins m r threads → memory ≡ opening_memory m → CanBegin threads memory
+  pub can_begin : (threads : List T) (memory : Memory) → AreThreads meaning m r threads → memory ≡ opening_memory m → CanBegin threads memory
   can_begin threads memory a is =
       subst (λ (l : List T). CanBegin l memory) (sym a.list)
       (elim a.are_others [

@@ -1,5 +1,5 @@
 -- A record's run of a valid module begins in one way.
-use Rattle.std.proofs.Common.{◌≡◌, ℕ, ◌<◌, List, length, Some, refl, sym, ◌∙◌, ap, subst, arith, inl, inr, codes}
+use Rattle.std.proofs.Common.{◌≡◌, ℕ, List, length, Some, sym, ◌∙◌, ap, subst, arith, inl, inr, codes}
 use Rattle.std.specs.List.{slice_get}
 use Rattle.std.proofs.lemmas.Bool.{cases_lt}
 use mathlib.Core.Path.{fun_ext}
@@ -9,15 +9,15 @@ use Rattle.types.specs.declared.parts.Body.{Body}
 use Rattle.types.specs.declared.parts.Parts.{Parts}
 use Rattle.types.specs.declared.value.Value.TheVariants as values
 use Rattle.std.proofs.Common.{[], ◌∷◌}
-use Rattle.typing.specs.Context.{imported_functions}
-use Rattle.typing.specs.Validity.{HasDistinctNames}
-use Rattle.module_rules.specs.Exported.{IsExported}
-use Rattle.module_rules.proofs.ExportLaws.{exported_is}
-use Rattle.machine.specs.State.{State, At}
+use Rattle.validate_typing.specs.Context.{imported_functions}
+use Rattle.validate_typing.specs.Validity.{HasDistinctNames}
+use Rattle.validate_module_rules.specs.Exported.{IsExported}
+use Rattle.validate_module_rules.proofs.ExportLaws.{exported_is}
+use Rattle.interp_machine.specs.State.{State, At}
 use Rattle.interp.specs.Starts.{IsFunction, start_of}
-use Rattle.module_run.specs.Entries.{Exports, StartsThreads, CallsThreadStart}
-use Rattle.module_run.specs.Runs.{Beginning, start_with}
-use Rattle.record_text.specs.declared.parts.RecordParts.{RecordParts}
+use Rattle.spawn_host.specs.Entries.{Exports, StartsThreads, CallsThreadStart}
+use Rattle.spawn_host.specs.Runs.{Beginning, start_with}
+use Rattle.replay_text.specs.declared.parts.RecordParts.{RecordParts}
 use Rattle.replay.specs.Runs.{BeginsBy, start_of_record}
 
 module _ (m : Parts) (distinct : HasDistinctNames m.exports) where

@@ -2,12 +2,12 @@
 use Rattle.std.specs.Prelude.{ℕ, ◌≡◌, ◌+◌, ◌⊎◌, List, length}
 use Rattle.types.specs.declared.parts.Parts.{Parts}
 use Rattle.shared_memory.specs.Memory.{Memory}
-use Rattle.module_rules.specs.Exported.{IsExported}
-use Rattle.one_schedule.specs.Runs.{Start}
-use Rattle.module_run.specs.Entries.{Refuses}
-use Rattle.module_run.specs.Runs.{Beginning, start_by}
-use Rattle.record_text.specs.declared.parts.RecordParts.{RecordParts}
-use Rattle.recorded_runs.specs.Recorded.{IsRecordedRun, IsFirstMisfit, IsFirstWrongEnd}
+use Rattle.validate_module_rules.specs.Exported.{IsExported}
+use Rattle.schedule_runs.specs.Runs.{Start}
+use Rattle.spawn_host.specs.Entries.{Refuses}
+use Rattle.spawn_host.specs.Runs.{Beginning, start_by}
+use Rattle.replay_text.specs.declared.parts.RecordParts.{RecordParts}
+use Rattle.replay_rules.specs.Recorded.{IsRecordedRun, IsFirstMisfit, IsFirstWrongEnd}
 use Rattle.replay.specs.declared.end.EndState.{EndState}
 use Rattle.replay.specs.declared.fault.ReplayFault.{ReplayFault}
 use Rattle.replay.specs.declared.fault.ReplayFault.TheVariants.{Line, EndLine, NoMemory}

@@ -1,15 +1,15 @@
 //! The replay of a recorded run of a module.
 ghost use Rattle.std.specs.Prelude.{◌≡◌, IfOk, IfErr};
-ghost use Rattle.typing.specs.Validity.{HasDistinctNames};
-ghost use Rattle.module_run.specs.Runs.{opening_memory};
+ghost use Rattle.validate_typing.specs.Validity.{HasDistinctNames};
+ghost use Rattle.spawn_host.specs.Runs.{opening_memory};
 ghost use Rattle.replay.specs.Runs.{IsRunOf, IsReplayFault, ShowsNoRun};
 
 use crate::end::EndState;
 use crate::fault::ReplayFault;
 use crate::threads::threads_of;
 use crate::walking::walk;
-use one_memory::OneMemory;
-use record_text::Record;
+use replay_text::Record;
+use shared_memory_sequential::OneMemory;
 use std::alloc::Global;
 use validate::ValidModule;
 

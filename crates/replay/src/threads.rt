@@ -1,15 +1,15 @@
 //! The threads of a run by a record, before their first turn.
-ghost use Rattle.std.specs.Prelude.{◌≡◌, IfOk, IfErr};
-ghost use Rattle.module_run.specs.Threads.{IsFirst};
+ghost use Rattle.std.specs.Prelude.{IfOk, IfErr};
+ghost use Rattle.spawn_host.specs.Threads.{IsFirst};
 ghost use Rattle.replay.specs.Threads.{AreThreads, IsCallFault};
+ghost use Rattle.interp.specs.Threads.{meaning_in};
 
 use crate::fault::ReplayFault;
 use interp::Thread;
-use module_run::{first_thread, spawnable_threads};
-use record_text::RecordParts;
-use spawn_host::RunFault;
+use replay_text::RecordParts;
+use spawn_host::{first_thread, spawnable_threads};
+use spawn_host_workers::RunFault;
 use std::alloc::Global;
-use takes_turns::TakesTurns;
 use validate::ValidModule;
 
 /// Thread 0, and behind it the 15 that can be spawned where the module can start threads.
@@ -18,7 +18,7 @@ pub(crate) fn threads_of<'m>(
     module: &'m ValidModule,
     parts: &RecordParts,
 ) -> Result<Vec<Thread<'m>>, ReplayFault>
-    ensures threads { IfOk result (λ threads. AreThreads ⟦<Thread<'m> as TakesTurns>⟧.program ⟦<Thread<'m> as TakesTurns>⟧.fuel ⟦<Thread<'m> as TakesTurns>⟧.stands ⟦<Thread<'m> as TakesTurns>⟧.begins «module».now.parts parts.now threads.items) }
+    ensures threads { IfOk result (λ threads. AreThreads meaning_in «module».now.parts parts.now threads.items) }
     ensures fault { IfErr result (λ fault. IsCallFault «module».now.parts parts.now fault) }
 {
     let first = first_of(alloc, module, parts)?;
@@ -42,7 +42,7 @@ fn first_of<'m>(
     module: &'m ValidModule,
     parts: &RecordParts,
 ) -> Result<Thread<'m>, ReplayFault>
-    ensures first { IfOk result (λ thread. IsFirst ⟦<Thread<'m> as TakesTurns>⟧.program ⟦<Thread<'m> as TakesTurns>⟧.fuel ⟦<Thread<'m> as TakesTurns>⟧.stands ⟦<Thread<'m> as TakesTurns>⟧.begins «module».now.parts parts.now.invoke parts.now.args parts.now.fuel thread) }
+    ensures first { IfOk result (λ thread. IsFirst meaning_in «module».now.parts parts.now.invoke parts.now.args parts.now.fuel thread) }
     ensures fault { IfErr result (λ fault. IsCallFault «module».now.parts parts.now fault) }
 {
     let (entry, args) = (parts.invoke.as_str(), parts.args.as_slice());

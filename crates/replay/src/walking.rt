@@ -1,16 +1,16 @@
 //! The walk along a record's log, and the lines behind it.
 ghost use Rattle.std.specs.Prelude.{◌≡◌, ◌+◌, ◌≤◌, IfOk, IfErr};
-ghost use Rattle.recorded_runs.specs.Recorded.{IsRecordedRun};
-ghost use Rattle.record_text.specs.Text.{IsRecord};
+ghost use Rattle.replay_rules.specs.Recorded.{IsRecordedRun};
+ghost use Rattle.replay_text.specs.Text.{IsRecord};
 ghost use Rattle.replay_walk.specs.Walked.{Run, start};
 ghost use Rattle.replay.specs.Walks.{IsReadyFor, IsWalkFault};
 
 use crate::fault::ReplayFault;
-use one_memory::OneMemory;
-use record_text::RecordParts;
-use replay_ends::first_wrong_end;
+use crate::first_wrong_end;
+use interp_trait::TakesTurns;
+use replay_text::RecordParts;
 use replay_walk::Walk;
-use takes_turns::TakesTurns;
+use shared_memory_sequential::OneMemory;
 
 /// The line of the first entry.
 const FIRST_ENTRY: usize = 6;
@@ -33,9 +33,11 @@ pub(crate) fn walk<T: TakesTurns + Drop>(
     parts: &RecordParts,
 ) -> Result<OneMemory, ReplayFault>
     requires ranges { IsRecord parts.now }
-    requires ready { (run : Run) × IsReadyFor T.stands T.begins T.program T.fuel run parts.now threads.items memory }
-    ensures run { IfOk result (λ last. (run : Run) → IsReadyFor T.stands T.begins T.program T.fuel run parts.now threads.items memory → IsRecordedRun (start run) parts.now last) }
-    ensures fault { IfErr result (λ fault. (run : Run) → IsReadyFor T.stands T.begins T.program T.fuel run parts.now threads.items memory → IsWalkFault (start run) parts.now fault) }
+    requires ready { (run : Run) × IsReadyFor T.meaning run parts.now threads.items memory }
+    ensures run { IfOk result (λ last. (run : Run) → IsReadyFor T.meaning run parts.now threads.items memory
+        → IsRecordedRun (start run) parts.now last) }
+    ensures fault { IfErr result (λ fault. (run : Run) → IsReadyFor T.meaning run parts.now threads.items memory
+        → IsWalkFault (start run) parts.now fault) }
 {
     let mut walk = Walk::new(threads, memory);
     let log = parts.log.as_slice();

@@ -1,11 +1,17 @@
 -- A run that makes a log leads a walk along it: the walk is never ahead of it, and can take each entry.
-use Rattle.std.proofs.Common.{◌≡◌, ◌≢◌, ℕ, zero, suc, ◌==◌, Bool, true, false, cond, List, [], ◌∷◌, ◌++◌, refl, sym, ◌∙◌, ap, subst, append-nil, append_assoc, Option, Some, None, ◌⊎◌, inl, inr}
-use Rattle.schedule.specs.System.{Want, Want.Turns, Want.Calls, Want.Awaits, Want.Gone, Act, Act.Made, Act.Heard, Step, Step.Own, Step.Lost, Step.Full, Step.Acts, Entry, Mark, Kind, Kind.Turn, Kind.Loses, Kind.Fills, System, State, put}
+use Rattle.std.proofs.Common.{◌≡◌, ◌≢◌, ℕ, zero, suc, ◌==◌, Bool, true, false, cond, List, [], ◌∷◌, ◌++◌, refl, sym}
+use Rattle.std.proofs.Common.{◌∙◌, ap, subst, append-nil, append_assoc, Option, Some, None, ◌⊎◌, inl, inr}
+use Rattle.schedule.specs.System.{Want, Want.Turns, Want.Calls, Want.Awaits, Want.Gone, Act, Act.Made, Act.Heard, Step}
+use Rattle.schedule.specs.System.{Step.Own, Step.Lost, Step.Full, Step.Acts, Entry, Mark, Kind, Kind.Turn}
+use Rattle.schedule.specs.System.{Kind.Loses, Kind.Fills, System, State, put}
 use Rattle.schedule.specs.ThreadRun.{acts, found_full, after_first_act, Laws}
-use Rattle.schedule.specs.Scheduled.{after_event, after_turn, after_mark, with_thread, scheduled_run, entries_made, entries_by, entries_at, steps_made, steps_by, steps_at, heard_step, hears_any, or_started, if_may, full_step}
-use Rattle.schedule.specs.Histories.{Place, Place.Unstarted, Place.Free, Place.Open, Place.Due, IsClosed, placed, without_answers, next_places, next_shared, places_after, IsLegalHistory, IsLegalEntry, IsOrdered}
-use Rattle.schedule.specs.Tries.{TryRules, IsFullOnlyAtLimit, IsWithinLimit, MayMarkAll, HasReached, HasRoom, if_true}
-use Rattle.schedule.proofs.Basics.{same_is, other_is, at_each, same_or_not, put-same, put-other}
+use Rattle.schedule.specs.Scheduled.{after_event, after_turn, after_mark, with_thread, scheduled_run, entries_made}
+use Rattle.schedule.specs.Scheduled.{entries_by, entries_at, steps_made, steps_by, steps_at, heard_step, hears_any}
+use Rattle.schedule.specs.Scheduled.{or_started, if_may, full_step}
+use Rattle.schedule.specs.Histories.{Place, Place.Unstarted, Place.Free, Place.Open, Place.Due, IsClosed, placed, without_answers, next_places, IsLegalHistory}
+use Rattle.schedule.specs.Histories.{IsOrdered}
+use Rattle.schedule.specs.Tries.{TryRules, IsFullOnlyAtLimit, IsWithinLimit, MayMarkAll, HasReached, if_true}
+use Rattle.schedule.proofs.Basics.{same_is, other_is, at_each, put-same, put-other}
 use Rattle.replay_rules.specs.Logs.{MakesLog}
 use Rattle.replay_rules.specs.Walk.{ComesTo, Settles, FindsFull, CanMake, after_made}
 use Rattle.replay_rules.proofs.Making.{put_put}
@@ -135,11 +141,15 @@ module _ {X T E V A W : Type 0} (s : System X T E V A) (rules : TryRules X E W) 
     full_by : (t u : T) (steps : List (Step E V A)) (e : E) → NearBy t u steps → s.may_fill u ≡ true → NearBy t (s.full u) (steps ++ Full e ∷ [])
     full_by t u steps e near h =
         elim near.1 [
-          | inl b ↦ (no_acts steps (Full e ∷ []) near.0, inr (record { settled = u; turns = b.0; comes = b.1; may = h; full = refl }, full_then steps [] e near.0))
+          | inl b ↦ (
+            no_acts steps (Full e ∷ []) near.0,
+            inr (record { settled = u; turns = b.0; comes = b.1; may = h; full = refl }, full_then steps [] e near.0),
+          )
           | inr x ↦ absurd (laws.leave_fills u h (ended_leaves t u x.0))
         ]
 
-    full_at : (p : Place A) (t u : T) (steps : List (Step E V A)) (e : E) → NearAt p t u steps → s.may_fill u ≡ true → NearAt p t (s.full u) (steps ++ Full e ∷ [])
+    full_at : (p : Place A) (t u : T) (steps : List (Step E V A)) (e : E) → NearAt p t u steps → s.may_fill u ≡ true
+        → NearAt p t (s.full u) (steps ++ Full e ∷ [])
     full_at Unstarted t u steps e near h = let c = laws.fill_calls u h in absurd (cc (near.1, ap s.wants near.0, c.1))
     full_at Free t u steps e near h = full_by t u steps e near h
     full_at Open t u steps e near h = let c = laws.fill_calls u h in absurd (cc (near.1, ap s.wants near.0, c.1))
@@ -148,14 +158,16 @@ module _ {X T E V A W : Type 0} (s : System X T E V A) (rules : TryRules X E W) 
     -- a mark that makes no entry, and leaves each thread near
     quiet : (w : State X T) (q : ℕ → Place A) (count : ℕ) (log : List (Entry E V A)) (z u : State X T) (k : ℕ) (kind : Kind) (S : List Mark)
         → entries_at s u k kind ≡ [] → (after_mark s u k kind).shared ≡ u.shared
-        → ((m : ℕ) (steps : List (Step E V A)) → NearAt (q m) (w.threads m) (u.threads m) steps → NearAt (q m) (w.threads m) ((after_mark s u k kind).threads m) (steps ++ steps_at s m u k kind))
+        → ((m : ℕ) (steps : List (Step E V A)) → NearAt (q m) (w.threads m) (u.threads m) steps
+        → NearAt (q m) (w.threads m) ((after_mark s u k kind).threads m) (steps ++ steps_at s m u k kind))
         → LeadsBy w q count log z u (mark_of k kind ∷ S) → LeadsBy w q count log z (after_mark s u k kind) S
     quiet w q count log z u k kind S none same keeps l = record {
       shared = same ∙ l.shared;
       each = λ m. let x = l.each m in record {
         steps = x.steps ++ steps_at s m u k kind;
         near = keeps m x.steps x.near;
-        full = subst (λ y. IsFullOnlyAtLimit s rules log m count y) (sym (append_assoc x.steps (steps_at s m u k kind) (steps_made s m (after_mark s u k kind) S))) x.full;
+        full = subst (λ y. IsFullOnlyAtLimit s rules log m count y)
+            (sym (append_assoc x.steps (steps_at s m u k kind) (steps_made s m (after_mark s u k kind) S))) x.full;
       };
       legal = l.legal;
       ordered = l.ordered;
@@ -171,7 +183,8 @@ module _ {X T E V A W : Type 0} (s : System X T E V A) (rules : TryRules X E W) 
         → (m : ℕ) (steps : List (Step E V A)) → NearAt (q m) (w.threads m) (u.threads m) steps
         → NearAt (q m) (w.threads m) ((with_thread s u k t).threads m) (steps ++ cond (k == m) (x ∷ []) [])
     keeps_at w q u k t x here m =
-        at_each k (λ m. (steps : List (Step E V A)) → NearAt (q m) (w.threads m) (u.threads m) steps → NearAt (q m) (w.threads m) (put u.threads k t m) (steps ++ cond (k == m) (x ∷ []) []))
+        at_each k (λ m. (steps : List (Step E V A)) → NearAt (q m) (w.threads m) (u.threads m) steps
+        → NearAt (q m) (w.threads m) (put u.threads k t m) (steps ++ cond (k == m) (x ∷ []) []))
         (λ steps near. subst (λ y. NearAt (q k) (w.threads k) y (steps ++ cond (k == k) (x ∷ []) [])) (sym (put-same u.threads k t))
         (subst (λ b. NearAt (q k) (w.threads k) t (steps ++ cond b (x ∷ []) [])) (sym (same_is k)) (here steps near)))
         (λ m h steps near. subst (λ y. NearAt (q m) (w.threads m) y (steps ++ cond (k == m) (x ∷ []) [])) (sym (put-other u.threads k t m h))
@@ -185,7 +198,8 @@ module _ {X T E V A W : Type 0} (s : System X T E V A) (rules : TryRules X E W) 
         → NearAt (q m) (w.threads m) (u.threads m) (steps ++ [])
     keeps_still w q u m steps near = subst (λ y. NearAt (q m) (w.threads m) (u.threads m) y) (sym (append-nil steps)) near
 
-    turn : (w : State X T) (q : ℕ → Place A) (count : ℕ) (log : List (Entry E V A)) (z u : State X T) (k : ℕ) (S : List Mark) (want : Want E) → s.wants (u.threads k) ≡ want
+    turn : (w : State X T) (q : ℕ → Place A) (count : ℕ) (log : List (Entry E V A)) (z u : State X T) (k : ℕ)
+        (S : List Mark) (want : Want E) → s.wants (u.threads k) ≡ want
         → LeadsBy w q count log z u (mark_of k Turn ∷ S) → Advances w q count log z u k Turn S
     turn w q count log z u k S (Calls e) h l = inr (e, h, refl)
     turn w q count log z u k S Turns h l =
@@ -194,12 +208,15 @@ module _ {X T E V A W : Type 0} (s : System X T E V A) (rules : TryRules X E W) 
         (keeps_at w q u k (s.own_turn (u.threads k)) Own (λ steps near. own_at (q k) (w.threads k) (u.threads k) steps near h) m steps near)) l)
     turn w q count log z u k S Awaits h l =
         inl (quiet w q count log z u k Turn S (ap (entries_by s u k) h) (ap (λ y. (after_turn s u k y).shared) h)
-        (λ m steps near. subst (λ y. NearAt (q m) (w.threads m) ((after_turn s u k y).threads m) (steps ++ steps_by s m u k y)) (sym h) (keeps_still w q u m steps near)) l)
+        (λ m steps near. subst (λ y. NearAt (q m) (w.threads m) ((after_turn s u k y).threads m)
+        (steps ++ steps_by s m u k y)) (sym h) (keeps_still w q u m steps near)) l)
     turn w q count log z u k S Gone h l =
         inl (quiet w q count log z u k Turn S (ap (entries_by s u k) h) (ap (λ y. (after_turn s u k y).shared) h)
-        (λ m steps near. subst (λ y. NearAt (q m) (w.threads m) ((after_turn s u k y).threads m) (steps ++ steps_by s m u k y)) (sym h) (keeps_still w q u m steps near)) l)
+        (λ m steps near. subst (λ y. NearAt (q m) (w.threads m) ((after_turn s u k y).threads m)
+        (steps ++ steps_by s m u k y)) (sym h) (keeps_still w q u m steps near)) l)
 
-    fill : (w : State X T) (q : ℕ → Place A) (count : ℕ) (log : List (Entry E V A)) (z u : State X T) (k : ℕ) (S : List Mark) (b : Bool) → s.may_fill (u.threads k) ≡ b
+    fill : (w : State X T) (q : ℕ → Place A) (count : ℕ) (log : List (Entry E V A)) (z u : State X T) (k : ℕ)
+        (S : List Mark) (b : Bool) → s.may_fill (u.threads k) ≡ b
         → LeadsBy w q count log z u (mark_of k Fills ∷ S) → Advances w q count log z u k Fills S
     fill w q count log z u k S false h l =
         inl (quiet w q count log z u k Fills S refl (ap (λ y. (if_may s y (with_thread s u k (s.full (u.threads k))) u).shared) h)
@@ -223,10 +240,13 @@ module _ {X T E V A W : Type 0} (s : System X T E V A) (rules : TryRules X E W) 
 
   full_of : (n m count : ℕ) (act : Act E V A) (log : List (Entry E V A)) (steps : List (Step E V A)) (b : Bool) → (n == m) ≡ b
       → IsFullOnlyAtLimit s rules (record { thread = n; act = act } ∷ log) m count steps
-      → if_true b ((found_full steps ≡ true → HasReached rules.limit count) × IsFullOnlyAtLimit s rules log m (suc count) (after_first_act steps)) (IsFullOnlyAtLimit s rules log m (suc count) steps)
+      → if_true b ((found_full steps ≡ true → HasReached rules.limit count)
+      × IsFullOnlyAtLimit s rules log m (suc count) (after_first_act steps))
+      (IsFullOnlyAtLimit s rules log m (suc count) steps)
   full_of n m count act log steps b e h =
       subst
-      (λ b. if_true b ((found_full steps ≡ true → HasReached rules.limit count) × IsFullOnlyAtLimit s rules log m (suc count) (after_first_act steps)) (IsFullOnlyAtLimit s rules log m (suc count) steps))
+      (λ b. if_true b ((found_full steps ≡ true → HasReached rules.limit count) × IsFullOnlyAtLimit s rules log m (suc count) (after_first_act steps))
+      (IsFullOnlyAtLimit s rules log m (suc count) steps))
       e h
 
   abbrev told : ℕ → A → Entry E V A
@@ -267,7 +287,8 @@ module _ {X T E V A W : Type 0} (s : System X T E V A) (rules : TryRules X E W) 
       here : ThreadLeads w (put q n Free) (suc count) log l.state l.schedule n
       here =
           let x = by.each n in
-          let near : NearAt (Due a) (w.threads n) ((l.state).threads n) x.steps = subst (λ p. NearAt p (w.threads n) ((l.state).threads n) x.steps) by.legal.0 x.near in
+          let near : NearAt (Due a) (w.threads n) ((l.state).threads n) x.steps =
+          subst (λ p. NearAt p (w.threads n) ((l.state).threads n) x.steps) by.legal.0 x.near in
           let full = (full_of n n count (Heard a) log (x.steps ++ steps_made s n l.state l.schedule) true (same_is n) x.full).1 in
           record {
             steps = near.0;
@@ -288,14 +309,16 @@ module _ {X T E V A W : Type 0} (s : System X T E V A) (rules : TryRules X E W) 
 
   module _ (laws : Laws s) where
     -- of the thread that makes it, and of another
-    near_here : (t : T) (st : Option T) (gv : Option A) (o : Bool) → ((x : T) → st ≡ Some x → ⊥) → (o ≡ true → s.wants t ≡ Awaits) → ((a : A) → gv ≡ Some a → o ≡ true)
+    near_here : (t : T) (st : Option T) (gv : Option A) (o : Bool) → ((x : T) → st ≡ Some x → ⊥)
+        → (o ≡ true → s.wants t ≡ Awaits) → ((a : A) → gv ≡ Some a → o ≡ true)
         → NearAt (placed st gv o Free) (or_started st (hears_any s t gv)) (or_started st (hears_any s t gv)) (heard_step s gv)
     near_here t (Some x) gv o hs ho hg = absurd (hs x refl)
     near_here t None (Some a) o hs ho hg = ([], refl, (refl, inl (0, refl)))
     near_here t None None true hs ho hg = (refl, ho refl, refl)
     near_here t None None false hs ho hg = (refl, inl (0, refl))
 
-    near_other : (p : Place A) (t u : T) (steps : List (Step E V A)) (st : Option T) (gv : Option A) → ((x : T) → st ≡ Some x → p ≡ Unstarted) → ((a : A) → gv ≡ Some a → p ≡ Open)
+    near_other : (p : Place A) (t u : T) (steps : List (Step E V A)) (st : Option T) (gv : Option A)
+        → ((x : T) → st ≡ Some x → p ≡ Unstarted) → ((a : A) → gv ≡ Some a → p ≡ Open)
         → NearAt p t u steps → NearAt (placed st gv false p) (or_started st (hears_any s t gv)) (or_started st (hears_any s u gv)) (steps ++ heard_step s gv)
     near_other p t u steps (Some x) (Some a) hs hg near = absurd (cc (sym (hs x refl) ∙ hg a refl))
     near_other p t u steps (Some x) None hs hg near =
@@ -373,17 +396,23 @@ module _ {X T E V A W : Type 0} (s : System X T E V A) (rules : TryRules X E W) 
       u2_at m y h = sym (λ i. or_started (s.starts (l.shared i) n e m) (hears_any s (h i) (s.gives (l.shared i) n e m)))
 
       near_by : (p p' : Place A) (t t' y y' : T) (steps : List (Step E V A)) → p ≡ p' → t ≡ t' → y ≡ y' → NearAt p t y steps → NearAt p' t' y' steps
-      near_by p p' t t' y y' steps ep et ey h = subst (λ x. NearAt p' t' x steps) ey (subst (λ x. NearAt p' x y steps) et (subst (λ x. NearAt x t y steps) ep h))
+      near_by p p' t t' y y' steps ep et ey h =
+          subst (λ x. NearAt p' t' x steps) ey
+          (subst (λ x. NearAt p' x y steps) et (subst (λ x. NearAt x t y steps) ep h))
 
-      steps_here : steps_made s n u (mark_of n Turn ∷ S) ≡ Acts (Made e (s.reply u.shared n e)) ∷ (heard_step s (s.gives w.shared n e n) ++ steps_made s n (after_event s u n e) S)
+      steps_here : steps_made s n u (mark_of n Turn ∷ S) ≡ Acts (Made e (s.reply u.shared n e)) ∷
+          (heard_step s (s.gives w.shared n e n) ++ steps_made s n (after_event s u n e) S)
       steps_here =
           (λ i. steps_by s n u n (wants i) ++ steps_made s n (after_turn s u n (wants i)) S)
-          ∙ (λ i. (cond (same_is n i) (Acts (Made e (s.reply u.shared n e)) ∷ []) [] ++ heard_step s (s.gives (l.shared i) n e n)) ++ steps_made s n (after_event s u n e) S)
+          ∙ (λ i. (cond (same_is n i) (Acts (Made e (s.reply u.shared n e)) ∷ []) [] ++ heard_step s
+          (s.gives (l.shared i) n e n)) ++ steps_made s n (after_event s u n e) S)
 
       steps_others : (m : ℕ) → m ≢ n → steps_made s m u (mark_of n Turn ∷ S) ≡ heard_step s (s.gives w.shared n e m) ++ steps_made s m (after_event s u n e) S
       steps_others m h =
           (λ i. steps_by s m u n (wants i) ++ steps_made s m (after_turn s u n (wants i)) S)
-          ∙ (λ i. (cond (other_is n m (λ z. h (sym z)) i) (Acts (Made e (s.reply u.shared n e)) ∷ []) [] ++ heard_step s (s.gives (l.shared i) n e m)) ++ steps_made s m (after_event s u n e) S)
+          ∙ (λ i. (cond (other_is n m (λ z. h (sym z)) i)
+          (Acts (Made e (s.reply u.shared n e)) ∷ []) [] ++ heard_step s (s.gives (l.shared i) n e m)) ++ steps_made
+          s m (after_event s u n e) S)
 
       here : ThreadLeads (after_made s w n e (u.threads n)) (next_places s w.shared q n (Made e v)) (suc count) log (after_event s u n e) S n
       here =
@@ -396,18 +425,22 @@ module _ {X T E V A W : Type 0} (s : System X T E V A) (rules : TryRules X E W) 
             near =
                 near_by (placed (s.starts w.shared n e n) (s.gives w.shared n e n) (s.opens e v) Free) _ _ _ _ _ (heard_step s (s.gives w.shared n e n))
                 (λ i. placed (s.starts w.shared n e n) (s.gives w.shared n e n) (sym (put-same (λ (j : ℕ). false) n (s.opens e v)) i) (sym free i))
-                (w2_at n (s.takes (u.threads n) v) (put-same (put w.threads n (u.threads n)) n (s.takes (put w.threads n (u.threads n) n) (s.reply w.shared n e)) ∙ t_walk))
+                (w2_at n (s.takes (u.threads n) v)
+                (put-same (put w.threads n (u.threads n)) n (s.takes (put w.threads n (u.threads n) n)
+                (s.reply w.shared n e)) ∙ t_walk))
                 (u2_at n (s.takes (u.threads n) v) (put-same u.threads n (s.takes (u.threads n) (s.reply u.shared n e)) ∙ t_run))
                 (near_here (s.takes (u.threads n) v) (s.starts w.shared n e n) (s.gives w.shared n e n) (s.opens e v) (λ x y. cc (free, l.legal.0.2 n x y))
                 (λ y. laws.opened (u.threads n) e v wants y) (λ a y. (l.legal.0.3 n a y).1 refl));
             full =
                 subst (λ y. IsFullOnlyAtLimit s rules log n (suc count) y)
                 (ap (λ y. after_first_act ((l.each n).steps ++ y)) steps_here
-                ∙ first_act (l.each n).steps (heard_step s (s.gives w.shared n e n) ++ steps_made s n (after_event s u n e) S) (Made e (s.reply u.shared n e)) near.0)
+                ∙ first_act (l.each n).steps (heard_step s (s.gives w.shared n e n) ++ steps_made s n
+                (after_event s u n e) S) (Made e (s.reply u.shared n e)) near.0)
                 full_n.1;
           }
 
-      others : (m : ℕ) → m ≢ n → ThreadLeads (after_made s w n e (u.threads n)) (next_places s w.shared q n (Made e v)) (suc count) log (after_event s u n e) S m
+      others : (m : ℕ) → m ≢ n → ThreadLeads (after_made s w n e (u.threads n)) (next_places s w.shared q n (Made e v))
+          (suc count) log (after_event s u n e) S m
       others m h =
           let x = l.each m in
           record {
@@ -415,12 +448,16 @@ module _ {X T E V A W : Type 0} (s : System X T E V A) (rules : TryRules X E W) 
             near =
                 near_by (placed (s.starts w.shared n e m) (s.gives w.shared n e m) false (q m)) _ _ _ _ _ (x.steps ++ heard_step s (s.gives w.shared n e m))
                 (λ i. placed (s.starts w.shared n e m) (s.gives w.shared n e m) (sym (put-other (λ (j : ℕ). false) n (s.opens e v) m h) i) (q m))
-                (w2_at m (w.threads m) (put_put w.threads n (u.threads n) (s.takes (put w.threads n (u.threads n) n) (s.reply w.shared n e)) m ∙ put-other w.threads n _ m h))
+                (w2_at m (w.threads m) (put_put w.threads n (u.threads n)
+                (s.takes (put w.threads n (u.threads n) n) (s.reply w.shared n e)) m ∙ put-other w.threads n _ m h))
                 (u2_at m (u.threads m) (put-other u.threads n _ m h))
-                (near_other (q m) (w.threads m) (u.threads m) x.steps (s.starts w.shared n e m) (s.gives w.shared n e m) (λ y k. l.legal.0.2 m y k) (λ a k. (l.legal.0.3 m a k).0 h) x.near);
+                (near_other (q m) (w.threads m) (u.threads m) x.steps (s.starts w.shared n e m) (s.gives w.shared n e m)
+                (λ y k. l.legal.0.2 m y k) (λ a k. (l.legal.0.3 m a k).0 h) x.near);
             full =
                 subst (λ y. IsFullOnlyAtLimit s rules log m (suc count) y)
-                (ap (λ y. x.steps ++ y) (steps_others m h) ∙ sym (append_assoc x.steps (heard_step s (s.gives w.shared n e m)) (steps_made s m (after_event s u n e) S)))
+                (ap (λ y. x.steps ++ y) (steps_others m h)
+                ∙ sym (append_assoc x.steps (heard_step s (s.gives w.shared n e m))
+                (steps_made s m (after_event s u n e) S)))
                 (full_of n m count (Made e v) log (x.steps ++ steps_made s m u (mark_of n Turn ∷ S)) false (other_is n m (λ z. h (sym z))) x.full);
           }
 
@@ -436,7 +473,8 @@ module _ {X T E V A W : Type 0} (s : System X T E V A) (rules : TryRules X E W) 
           schedule = S;
           leads = record {
             shared = ap (λ x. s.after x n e) l.shared;
-            each = at_each n (λ m. ThreadLeads (after_made s w n e (u.threads n)) (next_places s w.shared q n (Made e v)) (suc count) log (after_event s u n e) S m) here others;
+            each = at_each n (λ m. ThreadLeads (after_made s w n e (u.threads n))
+                (next_places s w.shared q n (Made e v)) (suc count) log (after_event s u n e) S m) here others;
             legal = l.legal.1;
             ordered = l.ordered.1;
             events = cc later;
@@ -468,7 +506,8 @@ module _ {X T E V A W : Type 0} (s : System X T E V A) (rules : TryRules X E W) 
     event (x ∷ S) w q count n e v log z u l =
         elim (advance laws w q count (made n e v ∷ log) z u x.thread x.kind S l) [
           | inl more ↦ event S w q count n e v log z (after_mark s u x.thread x.kind) more
-          | inr c ↦ event_at w q count n e v log z u x.thread S c.0 (subst (λ kind. LeadsBy w q count (made n e v ∷ log) z u (mark_of x.thread kind ∷ S)) c.2 l) c.1
+          | inr c ↦ event_at w q count n e v log z u x.thread S c.0
+              (subst (λ kind. LeadsBy w q count (made n e v ∷ log) z u (mark_of x.thread kind ∷ S)) c.2 l) c.1
         ]
 
     pub leads_event : (w : State X T) (q : ℕ → Place A) (count n : ℕ) (e : E) (v : V) (log : List (Entry E V A)) (z : State X T)
@@ -497,7 +536,10 @@ module _ {X T E V A W : Type 0} (s : System X T E V A) (rules : TryRules X E W) 
 
     ends : (S : List Mark) (w : State X T) (q : ℕ → Place A) (count : ℕ) (z u : State X T) → LeadsBy w q count [] z u S → IsReached w z
     ends [] w q count z u l =
-        subst (λ y. IsReached w y) l.run (record { shared = l.shared; gone = λ m gone. gone_at (q m) (w.threads m) (u.threads m) (l.each m).steps (l.each m).near gone })
+        subst (λ y. IsReached w y) l.run (record {
+          shared = l.shared;
+          gone = λ m gone. gone_at (q m) (w.threads m) (u.threads m) (l.each m).steps (l.each m).near gone;
+        })
     ends (x ∷ S) w q count z u l =
         elim (advance laws w q count [] z u x.thread x.kind S l) [
           | inl more ↦ ends S w q count z (after_mark s u x.thread x.kind) more

@@ -1,11 +1,17 @@
 -- What a walk takes, a schedule makes.
-use Rattle.std.proofs.Common.{◌≡◌, ◌≢◌, ℕ, zero, suc, ◌==◌, Bool, true, false, cond, List, [], ◌∷◌, ◌++◌, refl, sym, ◌∙◌, ap, subst, append-nil, append_assoc, Option, Some, None, ◌⊎◌, inl, inr}
-use Rattle.schedule.specs.System.{Want, Want.Turns, Want.Calls, Want.Awaits, Want.Gone, Act, Act.Made, Act.Heard, Step, Step.Own, Step.Full, Step.Acts, Entry, Mark, Kind, Kind.Turn, Kind.Loses, Kind.Fills, System, State, put}
-use Rattle.schedule.specs.ThreadRun.{acts, found_full, after_first_act, Laws}
-use Rattle.schedule.specs.Scheduled.{after_event, after_turn, after_mark, with_thread, scheduled_run, entries_made, entries_by, entries_at, steps_made, steps_by, steps_at, heard_step, hears_any, or_started, if_may, full_step}
-use Rattle.schedule.specs.Histories.{Place, Place.Unstarted, Place.Free, Place.Open, Place.Due, IsClosed, placed, without_answers, next_places, next_shared, places_after, IsLegalHistory, IsLegalEntry, IsOrdered}
+use Rattle.std.proofs.Common.{◌≡◌, ◌≢◌, ℕ, zero, suc, ◌==◌, Bool, true, false, cond, List, [], ◌∷◌, ◌++◌, refl, sym}
+use Rattle.std.proofs.Common.{◌∙◌, ap, subst, append_assoc, Option, Some, None, ◌⊎◌, inl, inr}
+use Rattle.schedule.specs.System.{Want.Turns, Want.Calls, Act, Act.Made, Act.Heard, Step, Step.Own, Step.Full, Step.Acts, Entry, Mark, Kind, Kind.Turn}
+use Rattle.schedule.specs.System.{Kind.Fills, System, State, put}
+use Rattle.schedule.specs.ThreadRun.{found_full, after_first_act, Laws}
+use Rattle.schedule.specs.Scheduled.{after_turn, after_mark, with_thread, scheduled_run, entries_made, entries_by}
+use Rattle.schedule.specs.Scheduled.{entries_at, steps_made, steps_by, steps_at, heard_step, hears_any}
+use Rattle.schedule.specs.Scheduled.{or_started, if_may, full_step}
+use Rattle.schedule.specs.Histories.{Place, Place.Unstarted, Place.Free, Place.Open, Place.Due, IsClosed, placed}
+use Rattle.schedule.specs.Histories.{without_answers, next_places, places_after, IsLegalHistory}
+use Rattle.schedule.specs.Histories.{IsOrdered}
 use Rattle.schedule.specs.Tries.{TryRules, IsFullOnlyAtLimit, IsWithinLimit, MayMarkAll, HasReached, HasRoom, if_true}
-use Rattle.schedule.proofs.Basics.{same_is, other_is, at_each, same_or_not, put-same, put-other, scheduled_run-append, entries_made-append, steps_made-append}
+use Rattle.schedule.proofs.Basics.{same_is, other_is, at_each, put-same, put-other, scheduled_run-append, entries_made-append, steps_made-append}
 use Rattle.schedule.proofs.Standing.{Facts, facts, due_step}
 use Rattle.schedule.proofs.Schedule.{due_other, due_here, Leads, leads}
 use Rattle.schedule.proofs.Marks.{Front}
@@ -67,14 +73,16 @@ module _ {X T E V A W : Type 0} (s : System X T E V A) (rules : TryRules X E W) 
     may = tt;
   }
 
-  by_own_turn : (w : State X T) (count n : ℕ) (u t : T) → w.threads n ≡ u → s.wants u ≡ Turns → Approach (with_thread s w n (s.own_turn u)) count n t → Approach w count n t
+  by_own_turn : (w : State X T) (count n : ℕ) (u t : T) → w.threads n ≡ u → s.wants u ≡ Turns
+      → Approach (with_thread s w n (s.own_turn u)) count n t → Approach w count n t
   by_own_turn w count n u t at h a =
       let e : s.wants (w.threads n) ≡ Turns = ap s.wants at ∙ h in
       record {
         steps = Own ∷ a.steps;
         marks = mark_of n Turn ∷ a.marks;
         front =
-            front_step w n t (s.own_turn u) Own a.steps Turn a.marks (ap (after_turn s w n) e ∙ ap (λ v. with_thread s w n (s.own_turn v)) at) (ap (entries_by s w n) e)
+            front_step w n t (s.own_turn u) Own a.steps Turn a.marks (ap (after_turn s w n) e
+            ∙ ap (λ v. with_thread s w n (s.own_turn v)) at) (ap (entries_by s w n) e)
             (λ m. ap (steps_by s m w n) e) a.front;
         after = a.after;
         full = a.full;
@@ -82,7 +90,8 @@ module _ {X T E V A W : Type 0} (s : System X T E V A) (rules : TryRules X E W) 
       }
 
   -- so many turns of its own, and then what comes after them
-  by_turns : (z : T) (k : ℕ) (w : State X T) (count n : ℕ) (u t : T) → w.threads n ≡ u → ComesTo s k u t → ((v : State X T) → v.threads n ≡ t → Approach v count n z) → Approach w count n z
+  by_turns : (z : T) (k : ℕ) (w : State X T) (count n : ℕ) (u t : T) → w.threads n ≡ u → ComesTo s k u t
+      → ((v : State X T) → v.threads n ≡ t → Approach v count n z) → Approach w count n z
   by_turns z zero w count n u t at comes on = on w (at ∙ comes)
   by_turns z (suc k) w count n u t at comes on =
       by_own_turn w count n u z at comes.0
@@ -92,7 +101,8 @@ module _ {X T E V A W : Type 0} (s : System X T E V A) (rules : TryRules X E W) 
   no_limit None count h e = absurd h
   no_limit (Some limit) count h e = cc e
 
-  by_full : (laws : Facts s) (w : State X T) (count n : ℕ) (t : T) (e : E) → w.threads n ≡ t → s.wants t ≡ Calls e → s.may_fill t ≡ true → HasReached rules.limit count → Approach w count n (s.full t)
+  by_full : (laws : Facts s) (w : State X T) (count n : ℕ) (t : T) (e : E) → w.threads n ≡ t → s.wants t ≡ Calls e
+      → s.may_fill t ≡ true → HasReached rules.limit count → Approach w count n (s.full t)
   by_full laws w count n t e at h may reached =
       let b : s.may_fill (w.threads n) ≡ true = ap s.may_fill at ∙ may in
       let want : s.wants (w.threads n) ≡ Calls e = ap s.wants at ∙ h in
@@ -100,7 +110,9 @@ module _ {X T E V A W : Type 0} (s : System X T E V A) (rules : TryRules X E W) 
         steps = Full e ∷ [];
         marks = mark_of n Fills ∷ [];
         front =
-            front_step w n (s.full t) (s.full t) (Full e) [] Fills [] (ap (λ z. if_may s z (with_thread s w n (s.full (w.threads n))) w) b ∙ ap (λ v. with_thread s w n (s.full v)) at) refl
+            front_step w n (s.full t) (s.full t) (Full e) [] Fills []
+            (ap (λ z. if_may s z (with_thread s w n (s.full (w.threads n))) w) b
+            ∙ ap (λ v. with_thread s w n (s.full v)) at) refl
             (λ m. (λ i. cond (b i) (cond (n == m) (full_step s (want i)) []) []))
             (record { shared_is = refl; here = put-same w.threads n (s.full t); others = λ m k. refl; no_events = refl; views = refl; no_views = λ m k. refl });
         after = λ a more. refl;
@@ -137,18 +149,22 @@ module _ {X T E V A W : Type 0} (s : System X T E V A) (rules : TryRules X E W) 
   made n e v = record { thread = n; act = Made e v }
 
   -- an entry of thread n, in the list of what it entered, and in that of another
-  full_here : (n count : ℕ) (act : Act E V A) (log : List (Entry E V A)) (steps rest : List (Step E V A)) → (found_full steps ≡ true → HasReached rules.limit count)
-      → after_first_act steps ≡ rest → IsFullOnlyAtLimit s rules log n (suc count) rest → IsFullOnlyAtLimit s rules (record { thread = n; act = act } ∷ log) n count steps
+  full_here : (n count : ℕ) (act : Act E V A) (log : List (Entry E V A)) (steps rest : List (Step E V A))
+      → (found_full steps ≡ true → HasReached rules.limit count)
+      → after_first_act steps ≡ rest → IsFullOnlyAtLimit s rules log n (suc count) rest
+      → IsFullOnlyAtLimit s rules (record { thread = n; act = act } ∷ log) n count steps
   full_here n count act log steps rest h e more =
       subst
-      (λ b. if_true b ((found_full steps ≡ true → HasReached rules.limit count) × IsFullOnlyAtLimit s rules log n (suc count) (after_first_act steps)) (IsFullOnlyAtLimit s rules log n (suc count) steps))
+      (λ b. if_true b ((found_full steps ≡ true → HasReached rules.limit count) × IsFullOnlyAtLimit s rules log n (suc count) (after_first_act steps))
+      (IsFullOnlyAtLimit s rules log n (suc count) steps))
       (sym (same_is n)) (h, subst (λ r. IsFullOnlyAtLimit s rules log n (suc count) r) (sym e) more)
 
   full_there : (n m count : ℕ) (act : Act E V A) (log : List (Entry E V A)) (steps : List (Step E V A)) → m ≢ n
       → IsFullOnlyAtLimit s rules log m (suc count) steps → IsFullOnlyAtLimit s rules (record { thread = n; act = act } ∷ log) m count steps
   full_there n m count act log steps h more =
       subst
-      (λ b. if_true b ((found_full steps ≡ true → HasReached rules.limit count) × IsFullOnlyAtLimit s rules log m (suc count) (after_first_act steps)) (IsFullOnlyAtLimit s rules log m (suc count) steps))
+      (λ b. if_true b ((found_full steps ≡ true → HasReached rules.limit count) × IsFullOnlyAtLimit s rules log m (suc count) (after_first_act steps))
+      (IsFullOnlyAtLimit s rules log m (suc count) steps))
       (sym (other_is n m (λ z. h (sym z)))) more
 
   -- an answer heard is one more entry, and no mark
@@ -176,7 +192,8 @@ module _ {X T E V A W : Type 0} (s : System X T E V A) (rules : TryRules X E W) 
       exempt (Some limit) count = λ h. absurd (cc h)
 
   -- an event is the marks of its thread's way to it, and the turn that makes it
-  pub makes_event : (laws : Laws s) (w : State X T) (q : ℕ → Place A) (count n : ℕ) (e : E) (v : V) (t : T) (log : List (Entry E V A)) (z : State X T) (p : ℕ → Place A)
+  pub makes_event : (laws : Laws s) (w : State X T) (q : ℕ → Place A) (count n : ℕ) (e : E) (v : V) (t : T)
+      (log : List (Entry E V A)) (z : State X T) (p : ℕ → Place A)
       → CanMake s rules w q count n e v t
       → MakesFrom (after_made s w n e t) (next_places s w.shared q n (Made e v)) (suc count) log z p → MakesFrom w q count (made n e v ∷ log) z p
   makes_event laws w q count n e v t log z p can more =
@@ -190,14 +207,16 @@ module _ {X T E V A W : Type 0} (s : System X T E V A) (rules : TryRules X E W) 
       let gv : ℕ → Option A = λ m. s.gives w.shared n e m in
       let st : ℕ → Option T = λ m. s.starts w.shared n e m in
       let taken : (m : ℕ) → put w.threads n (s.takes t v) m ≡ put (put w.threads n t) n (s.takes (put w.threads n t n) (s.reply w.shared n e)) m = λ m.
-      (λ i. put w.threads n (s.takes (sym (put-same w.threads n t) i) (can.legal.1 i)) m) ∙ sym (put_put w.threads n t (s.takes (put w.threads n t n) (s.reply w.shared n e)) m) in
+      (λ i. put w.threads n (s.takes (sym (put-same w.threads n t) i) (can.legal.1 i)) m)
+      ∙ sym (put_put w.threads n t (s.takes (put w.threads n t n) (s.reply w.shared n e)) m) in
       let is : scheduled_run s w S ≡ w2 = λ i. record {
         shared = k.shared_is i;
         threads = λ m. (k.threads_are m ∙ ap (λ x. or_started (st m) (hears_any s x (gv m))) (taken m)) i;
       } in
       let o : Bool = s.opens e v in
       let due_n : due_step (q2 n) ≡ heard_step s (gv n) =
-      (λ i. due_step (placed (st n) (gv n) (put-same (λ (j : ℕ). false) n o i) (can.free i))) ∙ due_here s (st n) (gv n) o (λ x y. cc (can.free, can.legal.2 n x y)) in
+      (λ i. due_step (placed (st n) (gv n) (put-same (λ (j : ℕ). false) n o i) (can.free i)))
+      ∙ due_here s (st n) (gv n) o (λ x y. cc (can.free, can.legal.2 n x y)) in
       let due_m : (m : ℕ) → m ≢ n → due_step (q2 m) ≡ due_step (q m) ++ heard_step s (gv m) = λ m h.
       (λ i. due_step (placed (st m) (gv m) (put-other (λ (j : ℕ). false) n o m h i) (q m)))
       ∙ due_other s (st m) (gv m) (q m) (λ x y. can.legal.2 m x y) (λ b y. (can.legal.3 m b y).0 h) in

@@ -15,7 +15,8 @@ pub record IsBeginning {X T E V A : Type 0} (s : System X T E V A) (first : Stat
   pub idle : (m : ℕ) → places m ≡ Unstarted → s.wants (first.threads m) ≡ Gone
 
 -- A walk along a whole log: a schedule makes the log, and comes to where the walk does;
-pub record IsMadeBy {X T E V A W : Type 0} (s : System X T E V A) (rules : TryRules X E W) (first : State X T) (places : ℕ → Place A) (log : List (Entry E V A))
+pub record IsMadeBy {X T E V A W : Type 0} (s : System X T E V A) (rules : TryRules X E W) (first : State X T) (places : ℕ → Place A)
+    (log : List (Entry E V A))
     (z : State X T) (p : ℕ → Place A) : Type 0 where
   pub schedule : List Mark
   pub makes : MakesLog s rules first places log schedule

@@ -41,7 +41,8 @@ module _ {X T E V A W : Type 0} (s : System X T E V A) (rules : TryRules X E W) 
   -- A walk along a log, from a state and places, after so many entries: each event is made by its thread, and each answer heard
   -- is the one that is due.
   abbrev pub WalksOn : State X T → (ℕ → Place A) → ℕ → ℕ → Act E V A → (State X T → (ℕ → Place A) → Type 0) → Type 0
-  WalksOn w q count n (Made e v) on = (t : T) × CanMake w q count n e v t × on (after_made s w n e t) (next_places s w.shared q n (Made e v))
+  WalksOn w q count n (Made e v) on = (t : T) × CanMake w q count n e v t
+      × on (after_made s w n e t) (next_places s w.shared q n (Made e v))
   WalksOn w q count n (Heard a) on = (q n ≡ Due a) × on w (put q n Free)
 
   abbrev pub Walks : List (Entry E V A) → State X T → (ℕ → Place A) → ℕ → State X T → (ℕ → Place A) → Type 0

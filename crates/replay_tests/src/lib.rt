@@ -4,8 +4,6 @@
 #[cfg(test)]
 mod long;
 #[cfg(test)]
-mod modules;
-#[cfg(test)]
 mod records;
 #[cfg(test)]
 mod refusals;

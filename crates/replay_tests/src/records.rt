@@ -1,8 +1,8 @@
 //! Records by hand, and what their replay prints.
 
-use crate::modules::{ATOMIC_ADD, SPINNING, Small, TWO_WORDS, WAITING, WAITING_FOR_GOOD};
 use crate::replays::prints;
 use std::test::Fail;
+use test_modules::{ADDING, SPINNING, Small, TWO_WORDS, WAITING, WAITING_FOR_GOOD};
 
 /// The record of the atomic add.
 pub(crate) const ADDED: &str =
@@ -36,7 +36,7 @@ struct Example {
 static EXAMPLES: [Example; 5] = [
     Example {
         name: "atomic add",
-        module: ATOMIC_ADD,
+        module: ADDING,
         record: ADDED,
         out: "thread 0: ok i32:0\npages 1\nbytes 05 00 00 00 00 00 00 00\n",
         status: 0,

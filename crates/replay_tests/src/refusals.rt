@@ -1,10 +1,11 @@
 //! Records that are refused, and at which line.
 
-use crate::modules::{ATOMIC_ADD, ATOMIC_SUB, SPINNING, Small, TWO_WORDS};
 use crate::records::{ADDED, SPUN, STORED};
 use crate::replays::{is_refused, prints};
 use std::alloc::{AllocError, Global};
 use std::test::Fail;
+use test_modules::{ADDING, SPINNING, Small, TAKING, TWO_WORDS};
+use types::PAST_LIMIT;
 
 /// The record with the line of this number, from 1 on, replaced.
 fn with_line(
@@ -80,7 +81,7 @@ fn refuses_forged_records(rt: HostRuntime) -> Result<(), Fail> {
     for (number, line, wanted) in FORGED {
         let record = with_line(rt.alloc(), ADDED, number, line)?;
         assert!(rt;
-            is_refused(&rt, rt.alloc(), ATOMIC_ADD, &record, wanted)?,
+            is_refused(&rt, rt.alloc(), ADDING, &record, wanted)?,
             "{number}: {line}"
         );
     }
@@ -91,7 +92,7 @@ fn refuses_forged_records(rt: HostRuntime) -> Result<(), Fail> {
 fn accepts_a_small_limit(rt: HostRuntime) -> Result<(), Fail> {
     let record = with_line(rt.alloc(), ADDED, 5, "limit 1")?;
     let out = "thread 0: ok i32:0\npages 1\nbytes 05 00 00 00\n";
-    assert!(rt; prints(&rt, rt.alloc(), ATOMIC_ADD, &record, 4, out, 0)?);
+    assert!(rt; prints(&rt, rt.alloc(), ADDING, &record, 4, out, 0)?);
     Ok(())
 }
 
@@ -99,7 +100,7 @@ fn accepts_a_small_limit(rt: HostRuntime) -> Result<(), Fail> {
 static OTHERS: [(Small<'static>, &str, usize, &str, &str); 5] = [
     // a record of another module
     (
-        ATOMIC_SUB,
+        TAKING,
         ADDED,
         6,
         "0 rmw add 0 4 5 = 0",
@@ -155,7 +156,7 @@ fn is_cut_right(alloc: Global, front: &[u8], err: &[u8]) -> Result<bool, AllocEr
 
 #[test]
 fn refuses_every_front(rt: HostRuntime) -> Result<(), Fail> {
-    let module = ATOMIC_ADD.bytes(rt.alloc())?;
+    let module = ADDING.bytes(rt.alloc())?;
     for count in 0..ADDED.len() {
         let front = &ADDED.as_bytes()[..count];
         let gave = crate::replays::replay(&rt, rt.alloc(), &module, front, 8);
@@ -192,10 +193,10 @@ fn crowded(alloc: Global, count: usize) -> Result<Vec<u8>, AllocError> {
 fn refuses_other_line_ends_and_long_logs(rt: HostRuntime) -> Result<(), Fail> {
     let alloc = rt.alloc();
     let returns = with_returns(alloc, ADDED)?;
-    assert!(rt; is_refused(&rt, alloc, ATOMIC_ADD, &returns, "header line 1")?);
-    let most = crowded(alloc, 49)?;
-    assert!(rt; is_refused(&rt, alloc, ATOMIC_ADD, &most, "line 6 does not fit")?);
-    let more = crowded(alloc, 50)?;
-    assert!(rt; is_refused(&rt, alloc, ATOMIC_ADD, &more, "line 55 unreadable")?);
+    assert!(rt; is_refused(&rt, alloc, ADDING, &returns, "header line 1")?);
+    let most = crowded(alloc, 1 + PAST_LIMIT)?;
+    assert!(rt; is_refused(&rt, alloc, ADDING, &most, "line 6 does not fit")?);
+    let more = crowded(alloc, 2 + PAST_LIMIT)?;
+    assert!(rt; is_refused(&rt, alloc, ADDING, &more, "line 55 unreadable")?);
     Ok(())
 }

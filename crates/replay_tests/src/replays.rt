@@ -1,10 +1,10 @@
 //! Runs and replays by the program, and what they gave.
 
-use crate::modules::Small;
 use report::{Job, perform};
 use std::alloc::{AllocError, Global};
 use std::sync::Wait;
 use std::thread::Threads;
+use test_modules::Small;
 
 /// What a job wrote, and its status.
 #[derive(Drop)]

@@ -1,13 +1,12 @@
 //! Runs of several threads, kept and replayed.
 
-use crate::modules::{COUNTING, TIMEOUTS, TRAPPING, summing, threaded};
 use crate::replays::{replay, run};
-use example_modules::{BROKEN_LOCK, C_COUNTER, C_TICKET_LOCK, CONDITION, TICKET_LOCK};
-use record_text::{read_record, write_record};
+use replay_text::{read_record, write_record};
 use std::alloc::Global;
 use std::sync::Wait;
 use std::test::Fail;
 use std::thread::Threads;
+use test_modules::{COUNTING, RACING, SUMMING, TIMEOUTS, TRAPPING};
 
 /// Whether the record is written as it was read.
 fn is_written_again(alloc: Global, record: &[u8]) -> bool {
@@ -31,11 +30,9 @@ fn comes_again<R: Threads + Wait + Sync>(rt: &R, alloc: Global, module: &[u8]) -
 
 #[test]
 fn replays_what_was_recorded(rt: HostRuntime) -> Result<(), Fail> {
-    let sums = summing(rt.alloc())?;
-    for code in [COUNTING, TRAPPING, TIMEOUTS, sums.as_slice()] {
-        let module = threaded(rt.alloc(), code)?;
+    for module in [COUNTING, TRAPPING, TIMEOUTS, SUMMING] {
         for _ in 0..100 {
-            assert!(rt; comes_again(&rt, rt.alloc(), &module));
+            assert!(rt; comes_again(&rt, rt.alloc(), module));
         }
     }
     Ok(())
@@ -44,13 +41,7 @@ fn replays_what_was_recorded(rt: HostRuntime) -> Result<(), Fail> {
 /// The broken lock's runs come to different sums, and each comes again.
 #[test]
 fn replays_the_examples(rt: HostRuntime) -> Result<(), Fail> {
-    for module in [
-        BROKEN_LOCK,
-        TICKET_LOCK,
-        CONDITION,
-        C_COUNTER,
-        C_TICKET_LOCK,
-    ] {
+    for module in RACING {
         for _ in 0..100 {
             assert!(rt; comes_again(&rt, rt.alloc(), module));
         }
@@ -62,10 +53,8 @@ fn replays_the_examples(rt: HostRuntime) -> Result<(), Fail> {
 #[test]
 fn replays_of_one_module_are_refused_for_another(rt: HostRuntime) -> Result<(), Fail> {
     let alloc = rt.alloc();
-    let timeouts = threaded(alloc, TIMEOUTS)?;
-    let trapping = threaded(alloc, TRAPPING)?;
-    let ran = run(&rt, alloc, &timeouts, 100_000, 0);
-    let replayed = replay(&rt, alloc, &trapping, &ran.record, 0);
+    let ran = run(&rt, alloc, TIMEOUTS, 100_000, 0);
+    let replayed = replay(&rt, alloc, TRAPPING, &ran.record, 0);
     assert_eq!(rt; (replayed.status, replayed.out.len()), (4, 0));
     Ok(())
 }

@@ -1,7 +1,7 @@
 //! Writing a record to writers that fail.
 
 use crate::records::ADDED;
-use record_text::{WriteFault, read_record, write_record};
+use replay_text::{WriteFault, read_record, write_record};
 use std::io::{self, Write};
 use std::test::Fail;
 

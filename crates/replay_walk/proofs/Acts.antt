@@ -8,9 +8,9 @@ use Rattle.types.specs.declared.event.Reply.TheVariants as replies
 use Rattle.types.specs.declared.event.Entry.{Entry}
 use Rattle.shared_memory.specs.Events.{is_exempt}
 use Rattle.schedule.specs.System.{Act.Made}
-use Rattle.scheduled.specs.Shared.{act_by, act_of}
-use Rattle.record_text.specs.Conditions.{ReplyFits, is_reply_to, IsEntry}
-use Rattle.replay_steps.specs.Standing.{IsAnswered}
+use Rattle.schedule_threads.specs.Shared.{act_by, act_of}
+use Rattle.replay_text.specs.Conditions.{ReplyFits, is_reply_to, IsEntry}
+use Rattle.replay_walk.specs.Standing.{IsAnswered}
 
 leave_reply : (v : Reply) → is_reply_to (events.Ask Leave) v ≡ true → v ≡ replies.Done
 leave_reply (replies.Value n) h = absurd (cc h)
@@ -20,7 +20,9 @@ leave_reply replies.Again h = absurd (cc h)
 leave_reply replies.Full h = absurd (cc h)
 
 pub leave_act : (e : Entry) → IsEntry e → e.event ≡ events.Ask Leave → act_of e ≡ Made (events.Ask Leave) replies.Done
-leave_act e is kind = ap (λ (x : Event). act_by x e.reply) kind ∙ ap (λ (v : Reply). Made (events.Ask Leave) v) (leave_reply e.reply (ap (λ (x : Event). is_reply_to x e.reply) (sym kind) ∙ is.reply))
+leave_act e is kind = ap (λ (x : Event). act_by x e.reply) kind
+    ∙ ap (λ (v : Reply). Made (events.Ask Leave) v)
+    (leave_reply e.reply (ap (λ (x : Event). is_reply_to x e.reply) (sym kind) ∙ is.reply))
 
 pub event_act : (e : Event) (v : Reply) → is_exempt e ≡ false → act_by e v ≡ Made e v
 event_act (events.Told a) v h = absurd (cc h)

@@ -1,31 +1,35 @@
 -- Where a walk begins.
-use Rattle.std.proofs.Common.{◌≡◌, ◌≢◌, ℕ, ◌<◌, true, List, [], ◌∷◌, length, replicate, Option, Some, None, refl, sym, subst, inl, inr, arith, get_or, slice_get}
+use Rattle.std.proofs.Common.{◌≡◌, ◌≢◌, ℕ, ◌<◌, true, List, [], ◌∷◌, length, replicate, Option, Some, None, refl, sym}
+use Rattle.std.proofs.Common.{subst, inl, inr, arith, get_or, slice_get}
 use Rattle.std.proofs.lemmas.Bool.{cases_lt}
 use Rattle.std.proofs.lemmas.List.{get_or-replicate, get_or_past}
-use Rattle.types.specs.declared.value.ValType.{ValType}
-use Rattle.types.specs.declared.value.Value.{Value}
 use Rattle.types.specs.declared.event.Answer.{Answer}
 use Rattle.types.specs.declared.outcome.Outcome.{Outcome}
+use Rattle.types.specs.Limits.{most_threads}
 use Rattle.shared_memory.specs.Memory.{Memory}
 use Rattle.shared_memory.specs.WaitQueue.{first_queue, is_alive, next_id}
 use Rattle.shared_memory.proofs.Soundness.{IsSound-first}
 use Rattle.schedule.specs.Histories.{Place, Place.Unstarted, Place.Free}
 use Rattle.schedule.specs.Machine.{Thread.Absent, Thread.Runs}
 use Rattle.schedule.proofs.Basics.{at_each, put-same, put-other}
-use Rattle.machine.specs.Program.{Program}
-use Rattle.machine.specs.Config.{Config}
-use Rattle.machine.specs.State.{At}
-use Rattle.scheduled.specs.Shared.{without_dues}
-use Rattle.one_schedule.specs.Runs.{first_state, first_places}
-use Rattle.one_schedule.proofs.Linked.{first_stand}
-use Rattle.takes_turns.specs.Turns.{Running}
-use Rattle.replay_steps.specs.Standing.{StandsAt}
+use Rattle.interp_machine.specs.Program.{Program}
+use Rattle.interp_machine.specs.State.{At}
+use Rattle.schedule_threads.specs.Shared.{without_dues}
+use Rattle.schedule_runs.specs.Runs.{first_state, first_places}
+use Rattle.schedule_runs.proofs.Linked.{first_stand}
+use Rattle.interp_trait.specs.Turns.{Running, Meaning}
+use Rattle.replay_walk.specs.Standing.{StandsAt}
 use Rattle.replay_walk.specs.Walked.{Run, HasThreads, start, IsReady, HasWalked}
 
-none_ends : (m : ℕ) → get_or (replicate {A = Option Outcome} 16 None) m None ≡ None
-none_ends m = elim (cases_lt m 16) [ inl within ↦ get_or-replicate 16 m None None within | inr past ↦ get_or_past (replicate 16 None) m None past ]
+none_ends : (m : ℕ) → get_or (replicate {A = Option Outcome} most_threads None) m None ≡ None
+none_ends m = elim (cases_lt m most_threads) [
+  | inl within ↦ get_or-replicate most_threads m None None within
+  | inr past ↦
+      get_or_past (replicate most_threads None) m None past
+]
 
-first_alone : (first_queue.due ≡ replicate 16 None) × (is_alive first_queue 0 ≡ true) × (1 ≡ next_id first_queue) × (first_queue ≡ without_dues first_queue)
+first_alone : (first_queue.due ≡ replicate most_threads None) × (is_alive first_queue 0 ≡ true)
+    × (1 ≡ next_id first_queue) × (first_queue ≡ without_dues first_queue)
 unfolding first_queue
 first_alone = (refl, refl, refl, refl)
 
@@ -37,10 +41,10 @@ some_thread : (p : Program) (count : ℕ) → HasThreads p count → 0 < count
 some_thread p count (inl all) = omega arith
 some_thread p count (inr alone) = let one : count ≡ 1 = alone.1 in omega arith
 
-module _ {S : Type 0} (stands : S → Running → Type 0) (begins : S → List ValType → (List Value → Config) → Type 0) (program : S → Program) (fuel : S → ℕ)
-    (r : Run) (threads : List S) (memory : Memory) (ready : IsReady stands begins program fuel r threads memory) where
+module _ {S : Type 0} (meaning : S → Meaning)
+    (r : Run) (threads : List S) (memory : Memory) (ready : IsReady meaning r threads memory) where
   abbrev Stands : ℕ → Place Answer → Running → Option Outcome → Type 0
-  Stands m place t gone = StandsAt stands begins program fuel r.program r.worker place t (slice_get threads m) gone (is_alive first_queue m)
+  Stands m place t gone = StandsAt meaning r.program r.worker place t (slice_get threads m) gone (is_alive first_queue m)
 
   abbrev threads_at : ℕ → Running
   threads_at m = (first_state (start r)).threads m
@@ -53,7 +57,7 @@ module _ {S : Type 0} (stands : S → Running → Type 0) (begins : S → List V
   there : (m : ℕ) → m ≢ 0 → Stands m Unstarted Absent None
   there m h = (refl, λ x at. ready.others m x h at)
 
-  each : (m : ℕ) → Stands m (first_places m) (threads_at m) (get_or (replicate 16 None) m None)
+  each : (m : ℕ) → Stands m (first_places m) (threads_at m) (get_or (replicate most_threads None) m None)
   each m =
       subst (λ (o : Option Outcome). Stands m (first_places m) (threads_at m) o) (sym (none_ends m))
       (at_each 0 (λ m. Stands m (first_places m) (threads_at m) None)
@@ -62,7 +66,7 @@ module _ {S : Type 0} (stands : S → Running → Type 0) (begins : S → List V
       (λ m h. subst (λ p. Stands m p (threads_at m) None) (sym (put-other (λ (k : ℕ). Unstarted) 0 Free m h))
       (subst (λ t. Stands m Unstarted t None) (sym (put-other (λ (k : ℕ). Absent) 0 (Runs (At r.main) r.budget) m h)) (there m h))) m)
 
-  pub begun : HasWalked stands begins program fuel r [] threads memory first_queue 1 (replicate 16 None)
+  pub begun : HasWalked meaning r [] threads memory first_queue 1 (replicate most_threads None)
   begun = record {
     count = ready.count;
     state = first_state (start r);

@@ -9,16 +9,16 @@ use Rattle.types.specs.declared.outcome.Stop.TheVariants as stops
 use Rattle.shared_memory.specs.Events.{is_exempt}
 use Rattle.schedule.specs.System.{Want.Turns, Want.Calls}
 use Rattle.schedule.specs.Machine.{Wish.Asks, Thread.Absent, Thread.Runs, Thread.Over, Thread.Leaves, Thread.Left, wanted, wants_a, thread_full, thread_wants_a}
-use Rattle.machine.specs.Program.{Program}
-use Rattle.machine.specs.Config as configs
-use Rattle.machine.specs.Step.{next}
-use Rattle.machine.specs.State as states
-use Rattle.scheduled.specs.Threads.{machine_of, wish_of}
-use Rattle.scheduled.proofs.Asking.{IsOfThreads, wishes_of_threads}
-use Rattle.takes_turns.specs.Turns.{Running, left_of, outcome_of, wants_of}
-use Rattle.takes_turns.specs.declared.turn.Turn.{Turn}
-use Rattle.takes_turns.specs.declared.turn.Turn.TheVariants as turns
-use Rattle.replay_steps.specs.Standing.{IsHere, Says}
+use Rattle.interp_machine.specs.Program.{Program}
+use Rattle.interp_machine.specs.Config as configs
+use Rattle.interp_machine.specs.Step.{next}
+use Rattle.interp_machine.specs.State as states
+use Rattle.schedule_threads.specs.Threads.{machine_of, wish_of}
+use Rattle.schedule_threads.proofs.Asking.{IsOfThreads, wishes_of_threads}
+use Rattle.interp_trait.specs.Turns.{Running, left_of, outcome_of, wants_of, IsHere}
+use Rattle.interp_trait.specs.declared.turn.Turn.{Turn}
+use Rattle.interp_trait.specs.declared.turn.Turn.TheVariants as turns
+use Rattle.replay_walk.specs.Standing.{Says}
 
 -- who has ended wants to leave
 pub leaving : (p : Program) (t : Running) (o : Outcome) → IsHere t → outcome_of t ≡ Some o → wants_of p t ≡ Calls (events.Ask Leave)

@@ -1,3 +1,12 @@
+pub mod Turning
+pub mod Places
+pub mod Living
+pub mod Told
+pub mod Events
+pub mod Made
+pub mod Spawned
+pub mod Asked
+pub mod Leaving
 pub mod Acts
 pub mod Ending
 pub mod Settled

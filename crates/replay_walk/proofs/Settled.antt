@@ -1,49 +1,46 @@
 -- Where a walk stands after a thread's turns of its own.
 use Rattle.std.proofs.Common.{◌≡◌, ℕ, ◌<◌, List, length, Option, Some, sym, ◌∙◌, ap, subst, slice_get}
 use Rattle.std.proofs.lemmas.Option.{slice_get_within}
-use Rattle.types.specs.declared.value.ValType.{ValType}
-use Rattle.types.specs.declared.value.Value.{Value}
 use Rattle.types.specs.declared.outcome.Outcome.{Outcome}
 use Rattle.shared_memory.specs.WaitQueue.{WaitQueue}
-use Rattle.machine.specs.Program.{Program}
-use Rattle.machine.specs.Config.{Config}
-use Rattle.takes_turns.specs.Turns.{Running}
-use Rattle.takes_turns.specs.declared.turn.Turn.{Turn}
+use Rattle.interp_machine.specs.Program.{Program}
+use Rattle.interp_trait.specs.Turns.{Running, Meaning, IsHere, spawned_in}
+use Rattle.interp_trait.specs.declared.turn.Turn.{Turn}
 use Rattle.replay_rules.specs.Walk.{Settles}
-use Rattle.recorded_runs.specs.Recorded.{spawned_in}
-use Rattle.replay_steps.specs.Standing.{IsHere, Says, SettlesAs, SettlesAt, Standing, IsStanding, IsSettledOn, IsGoing, system_at}
-use Rattle.replay_steps.proofs.Told.{slice_get-set_same, slice_get-set_other}
+use Rattle.replay_walk.specs.Standing.{Says, SettlesAs, SettlesAt, Standing, IsStanding, IsSettledOn, IsGoing, system_at}
+use Rattle.replay_walk.proofs.Told.{slice_get-set_same, slice_get-set_other}
 use Rattle.replay_walk.proofs.Ending.{rests}
 
-module _ {S : Type 0} (stands : S → Running → Type 0) (begins : S → List ValType → (List Value → Config) → Type 0) (program : S → Program) (fuel : S → ℕ) where
-  module _ (s : Standing) (threads : List S) (queue : WaitQueue) (begun : ℕ) (ends : List (Option Outcome)) (st : IsStanding stands begins program fuel s threads queue begun ends)
-      (n : ℕ) (going : IsGoing stands begins program fuel s threads queue ends n) where
+module _ {S : Type 0} (meaning : S → Meaning) where
+  module _ (s : Standing) (threads : List S) (queue : WaitQueue) (begun : ℕ) (ends : List (Option Outcome)) (st : IsStanding meaning s threads queue begun ends)
+      (n : ℕ) (going : IsGoing meaning s threads queue ends n) where
     -- it is there, with its budget
     pub within : (lent : List S) → lent ≡ threads → n < length lent
     within lent same = subst (λ l. n < length l) (sym same) (slice_get_within threads n (going.runs).thread (going.runs).at)
 
-    pub ready : (lent : List S) → lent ≡ threads → (budget : ℕ) → s.budget ≡ budget → (x : S) → slice_get lent n ≡ Some x → (fuel x ≡ budget) × (t : Running) × stands x t × IsHere t
+    pub ready : (lent : List S) → lent ≡ threads → (budget : ℕ) → s.budget ≡ budget → (x : S) → slice_get lent n ≡ Some x
+        → ((meaning x).fuel ≡ budget) × (t : Running) × (meaning x).stands t × IsHere t
     ready lent same budget enough x at =
         let r = going.runs in
         let here : slice_get threads n ≡ Some x = sym (ap (λ l. slice_get l n) same) ∙ at in
         let is : r.thread ≡ x = cc (here, r.at) in
-        ((st.alike n x here).1 ∙ enough, s.state.threads n, subst (λ y. stands y (s.state.threads n)) is r.standing, r.here)
+        ((st.alike n x here).1 ∙ enough, s.state.threads n, subst (λ y. (meaning y).stands (s.state.threads n)) is r.standing, r.here)
 
     -- it settled, and said what it wants
     pub record IsSettled (turn : Turn) (after : List S) : Type 0 where
       pub thread : Running
-      pub on : IsSettledOn stands begins program fuel s after queue begun ends n thread
+      pub on : IsSettledOn meaning s after queue begun ends n thread
       pub settles : Settles (system_at s) (s.state.threads n) thread
       pub says : Says s.program thread turn
 
-    settled_here : (turn : Turn) (after : List S) → ((x : S) → slice_get threads n ≡ Some x → SettlesAt stands program fuel x turn threads n after) → IsSettled turn after
+    settled_here : (turn : Turn) (after : List S) → ((x : S) → slice_get threads n ≡ Some x → SettlesAt meaning x turn threads n after) → IsSettled turn after
     settled_here turn after settles =
         let r = going.runs in
         let now = settles r.thread r.at in
         let x = (now.replaced).now in
         let alike = st.alike n r.thread r.at in
-        let last : SettlesAs s.program (s.state.threads n) turn (stands x) =
-        subst (λ (p : Program). SettlesAs p (s.state.threads n) turn (stands x)) alike.0 (now.settled (s.state.threads n) r.standing r.here) in
+        let last : SettlesAs s.program (s.state.threads n) turn (meaning x).stands =
+        subst (λ (p : Program). SettlesAs p (s.state.threads n) turn (meaning x).stands) alike.0 (now.settled (s.state.threads n) r.standing r.here) in
         record {
           thread = last.settled;
           on = record {
@@ -59,10 +56,15 @@ module _ {S : Type 0} (stands : S → Running → Type 0) (begins : S → List V
             going = going.going;
             free = going.free;
           };
-          settles = record { turns = last.turns; comes = last.comes (spawned_in s.worker) s.budget; rests = rests s.program last.settled turn last.here last.says };
+          settles = record {
+            turns = last.turns;
+            comes = last.comes (spawned_in s.worker) s.budget;
+            rests = rests s.program last.settled turn last.here last.says;
+          };
           says = last.says;
         }
 
-    pub settled : (lent : List S) → lent ≡ threads → (turn : Turn) (after : List S) → ((x : S) → slice_get lent n ≡ Some x → SettlesAt stands program fuel x turn lent n after) → IsSettled turn after
+    pub settled : (lent : List S) → lent ≡ threads → (turn : Turn) (after : List S)
+        → ((x : S) → slice_get lent n ≡ Some x → SettlesAt meaning x turn lent n after) → IsSettled turn after
     settled lent same turn after settles =
-        settled_here turn after (subst (λ l. (x : S) → slice_get l n ≡ Some x → SettlesAt stands program fuel x turn l n after) same settles)
+        settled_here turn after (subst (λ l. (x : S) → slice_get l n ≡ Some x → SettlesAt meaning x turn l n after) same settles)

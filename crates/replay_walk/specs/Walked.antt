@@ -1,13 +1,13 @@
 -- How far a walk along a recorded log has come, and what it is to take one more entry.
 use Rattle.std.specs.Prelude.{ℕ, ◌≡◌, ◌≢◌, ◌⊎◌, false, List, length, Option, Some}
 use Rattle.std.specs.List.{slice_get}
-use Rattle.types.specs.declared.value.ValType.{ValType}
 use Rattle.types.specs.declared.value.Value.{Value}
 use Rattle.types.specs.declared.event.Event.{Event}
 use Rattle.types.specs.declared.event.Reply.{Reply}
 use Rattle.types.specs.declared.event.Answer.{Answer}
 use Rattle.types.specs.declared.event.Entry as entries
 use Rattle.types.specs.declared.outcome.Outcome.{Outcome}
+use Rattle.types.specs.Limits.{most_threads}
 use Rattle.shared_memory.specs.Memory.{Memory}
 use Rattle.shared_memory.specs.WaitQueue.{WaitQueue}
 use Rattle.schedule.specs.System.{Act}
@@ -15,16 +15,17 @@ use Rattle.schedule.specs.System as systems
 use Rattle.schedule.specs.Histories.{Place}
 use Rattle.schedule.specs.Machine.{Thread.Runs}
 use Rattle.schedule.specs.Tries.{TryRules}
-use Rattle.machine.specs.Program.{Program}
-use Rattle.machine.specs.Config.{Config}
-use Rattle.machine.specs.State.{At}
-use Rattle.scheduled.specs.Shared.{Shared, try_rules}
-use Rattle.one_schedule.specs.Runs.{Start, system_of, first_state, first_places, as_acts}
-use Rattle.takes_turns.specs.Turns.{Running}
+use Rattle.interp_machine.specs.Program.{Program}
+use Rattle.interp_machine.specs.Config.{Config}
+use Rattle.interp_machine.specs.State.{At}
+use Rattle.schedule_threads.specs.Shared.{Shared, try_rules}
+use Rattle.schedule_runs.specs.Runs.{Start, system_of, first_state, first_places, as_acts}
+use Rattle.interp_trait.specs.Turns.{Running, Meaning, spawn_types}
+use Rattle.replay_walk.specs.declared.walk.Walk.{Walk}
 use Rattle.replay_rules.specs.Walk.{WalksOn, Walks, CanTake}
 use Rattle.replay_rules.specs.Logs as logs
-use Rattle.recorded_runs.specs.Recorded.{spawn_types, start_of}
-use Rattle.replay_steps.specs.Standing.{Standing, IsStanding, system_at}
+use Rattle.replay_rules.specs.Recorded.{start_of}
+use Rattle.replay_walk.specs.Standing.{Standing, IsStanding, system_at, StageStands}
 
 -- A log takes so many entries, and no try is lost.
 abbrev pub rules_of : ℕ → TryRules Shared Event (List ℕ)
@@ -32,7 +33,7 @@ rules_of limit = try_rules false (Some limit)
 
 -- A walk of a program that starts threads has 16, and another one thread.
 abbrev pub HasThreads : Program → ℕ → Type 0
-HasThreads p count = (count ≡ 16) ⊎ ((p.imported ≡ 0) × (count ≡ 1))
+HasThreads p count = (count ≡ most_threads) ⊎ ((p.imported ≡ 0) × (count ≡ 1))
 
 -- A walk after an entry: the memory, the state and the places are others.
 abbrev pub moved : Standing → Memory → systems.State Shared Running → (ℕ → Place Answer) → Standing
@@ -42,14 +43,14 @@ moved s memory state places = record s { memory = memory; state = state; places 
 abbrev pub IsRefused : Standing → ℕ → ℕ → ℕ → Act Event Reply Answer → Type 0
 IsRefused s limit count n act = CanTake (system_at s) (rules_of limit) s.state s.places count n act → ⊥
 
-module _ {S : Type 0} (stands : S → Running → Type 0) (begins : S → List ValType → (List Value → Config) → Type 0) (program : S → Program) (fuel : S → ℕ) where
+module _ {S : Type 0} (meaning : S → Meaning) where
   -- Behind so many entries it took this act of thread n.
   pub record HasTaken (s : Standing) (limit count n : ℕ) (act : Act Event Reply Answer)
       (threads : List S) (memory : Memory) (queue : WaitQueue) (begun : ℕ) (ends : List (Option Outcome)) : Type 0 where
     pub state : systems.State Shared Running
     pub places : ℕ → Place Answer
     pub walks : WalksOn (system_at s) (rules_of limit) s.state s.places count n act (λ w q. (w ≡ state) × (q ≡ places))
-    pub standing : IsStanding stands begins program fuel (moved s memory state places) threads queue begun ends
+    pub standing : IsStanding meaning (moved s memory state places) threads queue begun ends
 
 -- A run to be replayed: its program, the call of thread 0, that of a spawned thread, the budget, the opening memory, and how
 -- many entries its log takes.
@@ -65,25 +66,45 @@ abbrev pub start : Run → Start
 start r = start_of r.program r.main r.worker r.budget r.opening
 
 abbrev pub standing_in : Run → Memory → systems.State Shared Running → (ℕ → Place Answer) → Standing
-standing_in r memory state places = record { program = r.program; worker = r.worker; budget = r.budget; memory = memory; state = state; places = places }
+standing_in r memory state places = record {
+  program = r.program;
+  worker = r.worker;
+  budget = r.budget;
+  memory = memory;
+  state = state;
+  places = places;
+}
 
 -- The entry at k is the first of the log that doesn't fit the run.
 abbrev pub IsFirstMisfit : Run → List entries.Entry → ℕ → Type 0
 IsFirstMisfit r log k = logs.IsFirstMisfit (system_of (start r)) (rules_of r.limit) (first_state (start r)) first_places (as_acts log) k
 
-module _ {S : Type 0} (stands : S → Running → Type 0) (begins : S → List ValType → (List Value → Config) → Type 0) (program : S → Program) (fuel : S → ℕ) where
+module _ {S : Type 0} (meaning : S → Meaning) where
   -- Threads and a memory with which a run begins: thread 0 is at its start, and the others can be spawned.
   pub record IsReady (r : Run) (threads : List S) (memory : Memory) : Type 0 where
     pub opening : memory ≡ r.opening
     pub count : HasThreads r.program (length threads)
-    pub first : (x : S) → slice_get threads 0 ≡ Some x → stands x (Runs (At r.main) r.budget)
-    pub others : (m : ℕ) (x : S) → m ≢ 0 → slice_get threads m ≡ Some x → begins x spawn_types r.worker
-    pub alike : (m : ℕ) (x : S) → slice_get threads m ≡ Some x → (program x ≡ r.program) × (fuel x ≡ r.budget)
+    pub first : (x : S) → slice_get threads 0 ≡ Some x → (meaning x).stands (Runs (At r.main) r.budget)
+    pub others : (m : ℕ) (x : S) → m ≢ 0 → slice_get threads m ≡ Some x → (meaning x).begins spawn_types r.worker
+    pub alike : (m : ℕ) (x : S) → slice_get threads m ≡ Some x → ((meaning x).program ≡ r.program) × ((meaning x).fuel ≡ r.budget)
 
   -- The walk came along these entries, and stands there.
-  pub record HasWalked (r : Run) (log : List entries.Entry) (threads : List S) (memory : Memory) (queue : WaitQueue) (begun : ℕ) (ends : List (Option Outcome)) : Type 0 where
+  pub record HasWalked (r : Run) (log : List entries.Entry) (threads : List S) (memory : Memory) (queue : WaitQueue) (begun : ℕ)
+      (ends : List (Option Outcome)) : Type 0 where
     pub count : HasThreads r.program (length threads)
     pub state : systems.State Shared Running
     pub places : ℕ → Place Answer
     pub walks : Walks (system_of (start r)) (rules_of r.limit) (as_acts log) (first_state (start r)) first_places 0 state places
-    pub standing : IsStanding stands begins program fuel (standing_in r memory state places) threads queue begun ends
+    pub standing : IsStanding meaning (standing_in r memory state places) threads queue begun ends
+
+module _ {S : Type 0} (meaning : S → Meaning) where
+  -- The same of a walk as the program has it: where it stands, what it took, and along which entries it came.
+  abbrev pub WalkStands : Standing → Walk S → Type 0
+  WalkStands s w = StageStands meaning s w.threads.items w.stage
+
+  abbrev pub WalkTakes : Standing → ℕ → ℕ → ℕ → Act Event Reply Answer → Walk S → Type 0
+  WalkTakes s limit count n act w =
+      HasTaken meaning s limit count n act w.threads.items w.memory w.stage.queue w.stage.started w.stage.ends
+
+  abbrev pub WalkCame : Run → List entries.Entry → Walk S → Type 0
+  WalkCame r log w = HasWalked meaning r log w.threads.items w.memory w.stage.queue w.stage.started w.stage.ends

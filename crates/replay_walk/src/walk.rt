@@ -4,14 +4,14 @@ ghost use Rattle.types.specs.declared.event.Event.TheVariants as events;
 ghost use Rattle.types.specs.declared.event.Question.TheVariants.{Leave};
 ghost use Rattle.shared_memory.specs.Events.{is_exempt};
 ghost use Rattle.schedule.specs.System.{Act.Heard};
-ghost use Rattle.scheduled.specs.Shared.{act_of};
-ghost use Rattle.record_text.specs.Conditions.{IsEntry};
-ghost use Rattle.replay_steps.specs.Standing.{Standing, IsStanding};
-ghost use Rattle.replay_walk.specs.Walked.{Run, HasThreads, HasTaken, IsRefused, IsReady, HasWalked, IsFirstMisfit};
+ghost use Rattle.schedule_threads.specs.Shared.{act_of};
+ghost use Rattle.replay_text.specs.Conditions.{IsEntry};
+ghost use Rattle.replay_walk.specs.Standing.{Standing};
+ghost use Rattle.replay_walk.specs.Walked.{Run, HasThreads, IsRefused, IsReady, IsFirstMisfit, WalkStands, WalkTakes, WalkCame};
 
-use one_memory::OneMemory;
-use replay_steps::{Stage, is_same_event, settle_at};
-use takes_turns::{TakesTurns, Turn};
+use crate::{Stage, is_same_event, settle_at};
+use interp_trait::{TakesTurns, Turn};
+use shared_memory_sequential::OneMemory;
 use types::{Answer, Entry, Event, Outcome, Question, Stop};
 
 /// A recorded run on its way along its log: its threads by their numbers, its memory, and what they ask of one another.
@@ -28,7 +28,7 @@ pub struct Walk<T> {
 impl<T: TakesTurns> Walk<T> {
     /// Begins a walk, with thread 0 at its start, and the opening memory.
     pub fn new(threads: Vec<T>, memory: OneMemory) -> Walk<T>
-        ensures { (r : Run) → IsReady T.stands T.begins T.program T.fuel r threads.items memory → HasWalked T.stands T.begins T.program T.fuel r [] result.threads.items result.memory result.stage.queue result.stage.started result.stage.ends }
+        ensures { (r : Run) → IsReady T.meaning r threads.items memory → WalkCame T.meaning r [] result }
     {
         Walk {
             threads,
@@ -40,10 +40,13 @@ impl<T: TakesTurns> Walk<T> {
     /// Takes the entry that stands behind `at` others, if it fits.
     fn take(&mut self, entry: &Entry, at: usize, limit: u32, fuel: u64) -> bool
         requires entry { IsEntry entry.now }
-        requires standing { (s : Standing) × IsStanding T.stands T.begins T.program T.fuel s self.old.threads.items self.old.stage.queue self.old.stage.started self.old.stage.ends × (s.memory ≡ self.old.memory) × (s.budget ≡ fuel) × HasThreads s.program (length self.old.threads.items) }
+        requires standing { (s : Standing) × WalkStands T.meaning s self.old × (s.memory ≡ self.old.memory) × (s.budget ≡ fuel)
+            × HasThreads s.program (length self.old.threads.items) }
         ensures count { length self.new.threads.items ≡ length self.old.threads.items }
-        ensures taken { result ≡ true → (s : Standing) → IsStanding T.stands T.begins T.program T.fuel s self.old.threads.items self.old.stage.queue self.old.stage.started self.old.stage.ends → s.memory ≡ self.old.memory → HasTaken T.stands T.begins T.program T.fuel s limit at entry.now.thread (act_of entry.now) self.new.threads.items self.new.memory self.new.stage.queue self.new.stage.started self.new.stage.ends }
-        ensures refused { result ≡ false → (s : Standing) → IsStanding T.stands T.begins T.program T.fuel s self.old.threads.items self.old.stage.queue self.old.stage.started self.old.stage.ends → s.memory ≡ self.old.memory → IsRefused s limit at entry.now.thread (act_of entry.now) }
+        ensures taken { result ≡ true → (s : Standing) → WalkStands T.meaning s self.old → s.memory ≡ self.old.memory
+            → WalkTakes T.meaning s limit at entry.now.thread (act_of entry.now) self.new }
+        ensures refused { result ≡ false → (s : Standing) → WalkStands T.meaning s self.old → s.memory ≡ self.old.memory
+            → IsRefused s limit at entry.now.thread (act_of entry.now) }
     {
         match entry.event {
             Event::Told(answer) => self.take_told(entry.thread, answer),
@@ -56,10 +59,12 @@ impl<T: TakesTurns> Walk<T> {
     fn take_leave(&mut self, entry: &Entry, at: usize, limit: u32, fuel: u64) -> bool
         requires entry { IsEntry entry.now }
         requires kind { entry.now.event ≡ events.Ask Leave }
-        requires standing { (s : Standing) × IsStanding T.stands T.begins T.program T.fuel s self.old.threads.items self.old.stage.queue self.old.stage.started self.old.stage.ends × (s.memory ≡ self.old.memory) × (s.budget ≡ fuel) }
+        requires standing { (s : Standing) × WalkStands T.meaning s self.old × (s.memory ≡ self.old.memory) × (s.budget ≡ fuel) }
         ensures count { length self.new.threads.items ≡ length self.old.threads.items }
-        ensures taken { result ≡ true → (s : Standing) → IsStanding T.stands T.begins T.program T.fuel s self.old.threads.items self.old.stage.queue self.old.stage.started self.old.stage.ends → s.memory ≡ self.old.memory → HasTaken T.stands T.begins T.program T.fuel s limit at entry.now.thread (act_of entry.now) self.new.threads.items self.new.memory self.new.stage.queue self.new.stage.started self.new.stage.ends }
-        ensures refused { result ≡ false → (s : Standing) → IsStanding T.stands T.begins T.program T.fuel s self.old.threads.items self.old.stage.queue self.old.stage.started self.old.stage.ends → IsRefused s limit at entry.now.thread (act_of entry.now) }
+        ensures taken { result ≡ true → (s : Standing) → WalkStands T.meaning s self.old → s.memory ≡ self.old.memory
+            → WalkTakes T.meaning s limit at entry.now.thread (act_of entry.now) self.new }
+        ensures refused { result ≡ false → (s : Standing) → WalkStands T.meaning s self.old
+            → IsRefused s limit at entry.now.thread (act_of entry.now) }
     {
         let n = entry.thread;
         if !self.stage.is_going::<T>(n) {
@@ -83,10 +88,13 @@ impl<T: TakesTurns> Walk<T> {
     fn take_event(&mut self, entry: &Entry, at: usize, limit: u32, fuel: u64) -> bool
         requires entry { IsEntry entry.now }
         requires kind { is_exempt entry.now.event ≡ false }
-        requires standing { (s : Standing) × IsStanding T.stands T.begins T.program T.fuel s self.old.threads.items self.old.stage.queue self.old.stage.started self.old.stage.ends × (s.memory ≡ self.old.memory) × (s.budget ≡ fuel) × HasThreads s.program (length self.old.threads.items) }
+        requires standing { (s : Standing) × WalkStands T.meaning s self.old × (s.memory ≡ self.old.memory) × (s.budget ≡ fuel)
+            × HasThreads s.program (length self.old.threads.items) }
         ensures count { length self.new.threads.items ≡ length self.old.threads.items }
-        ensures taken { result ≡ true → (s : Standing) → IsStanding T.stands T.begins T.program T.fuel s self.old.threads.items self.old.stage.queue self.old.stage.started self.old.stage.ends → s.memory ≡ self.old.memory → HasTaken T.stands T.begins T.program T.fuel s limit at entry.now.thread (act_of entry.now) self.new.threads.items self.new.memory self.new.stage.queue self.new.stage.started self.new.stage.ends }
-        ensures refused { result ≡ false → (s : Standing) → IsStanding T.stands T.begins T.program T.fuel s self.old.threads.items self.old.stage.queue self.old.stage.started self.old.stage.ends → s.memory ≡ self.old.memory → IsRefused s limit at entry.now.thread (act_of entry.now) }
+        ensures taken { result ≡ true → (s : Standing) → WalkStands T.meaning s self.old → s.memory ≡ self.old.memory
+            → WalkTakes T.meaning s limit at entry.now.thread (act_of entry.now) self.new }
+        ensures refused { result ≡ false → (s : Standing) → WalkStands T.meaning s self.old → s.memory ≡ self.old.memory
+            → IsRefused s limit at entry.now.thread (act_of entry.now) }
     {
         let Entry {
             thread: n,
@@ -108,10 +116,12 @@ impl<T: TakesTurns> Walk<T> {
 
     /// An answer heard, which is the one that is due.
     fn take_told(&mut self, n: u32, answer: Answer) -> bool
-        requires standing { (s : Standing) × IsStanding T.stands T.begins T.program T.fuel s self.old.threads.items self.old.stage.queue self.old.stage.started self.old.stage.ends × (s.memory ≡ self.old.memory) }
+        requires standing { (s : Standing) × WalkStands T.meaning s self.old × (s.memory ≡ self.old.memory) }
         ensures count { length self.new.threads.items ≡ length self.old.threads.items }
-        ensures taken { result ≡ true → (s : Standing) (limit at : ℕ) → IsStanding T.stands T.begins T.program T.fuel s self.old.threads.items self.old.stage.queue self.old.stage.started self.old.stage.ends → s.memory ≡ self.old.memory → HasTaken T.stands T.begins T.program T.fuel s limit at n (Heard answer) self.new.threads.items self.new.memory self.new.stage.queue self.new.stage.started self.new.stage.ends }
-        ensures refused { result ≡ false → (s : Standing) (limit at : ℕ) → IsStanding T.stands T.begins T.program T.fuel s self.old.threads.items self.old.stage.queue self.old.stage.started self.old.stage.ends → IsRefused s limit at n (Heard answer) }
+        ensures taken { result ≡ true → (s : Standing) (limit at : ℕ) → WalkStands T.meaning s self.old → s.memory ≡ self.old.memory
+            → WalkTakes T.meaning s limit at n (Heard answer) self.new }
+        ensures refused { result ≡ false → (s : Standing) (limit at : ℕ) → WalkStands T.meaning s self.old
+            → IsRefused s limit at n (Heard answer) }
     {
         self.stage.tell(&mut self.threads, n, answer)
     }
@@ -120,9 +130,11 @@ impl<T: TakesTurns> Walk<T> {
     /// from 0; or to the end of the log.
     pub fn along(&mut self, log: &[Entry], limit: u32, fuel: u64) -> Option<usize>
         requires entries { All IsEntry log.now }
-        requires new { (r : Run) × HasWalked T.stands T.begins T.program T.fuel r [] self.old.threads.items self.old.memory self.old.stage.queue self.old.stage.started self.old.stage.ends × (r.budget ≡ fuel) × (r.limit ≡ limit) }
-        ensures whole { result ≡ None → (r : Run) → HasWalked T.stands T.begins T.program T.fuel r [] self.old.threads.items self.old.memory self.old.stage.queue self.old.stage.started self.old.stage.ends → r.limit ≡ limit → HasWalked T.stands T.begins T.program T.fuel r log.now self.new.threads.items self.new.memory self.new.stage.queue self.new.stage.started self.new.stage.ends }
-        ensures misfit { (k : ℕ) → result ≡ Some k → (r : Run) → HasWalked T.stands T.begins T.program T.fuel r [] self.old.threads.items self.old.memory self.old.stage.queue self.old.stage.started self.old.stage.ends → r.limit ≡ limit → IsFirstMisfit r log.now k }
+        requires new { (r : Run) × WalkCame T.meaning r [] self.old × (r.budget ≡ fuel) × (r.limit ≡ limit) }
+        ensures whole { result ≡ None → (r : Run) → WalkCame T.meaning r [] self.old → r.limit ≡ limit
+            → WalkCame T.meaning r log.now self.new }
+        ensures misfit { (k : ℕ) → result ≡ Some k → (r : Run) → WalkCame T.meaning r [] self.old → r.limit ≡ limit
+            → IsFirstMisfit r log.now k }
     {
         for (at, entry) in log.iter().enumerate() {
             if !self.take(entry, at, limit, fuel) {

@@ -1,7 +1,1 @@
-pub mod NewSeats
-pub mod Whole
-pub mod Leaving
-pub mod Recorded
-pub mod Fronts
-pub mod ThreadLines
 pub mod Replays

@@ -1,9 +1,9 @@
 -- A text is that of one record.
 use Rattle.std.proofs.Common.{◌≡◌, List, ℕ, refl, sym, ◌∙◌, subst}
 use Rattle.types.specs.declared.parts.Parts.{Parts}
-use Rattle.record_text.specs.declared.parts.RecordParts.{RecordParts}
-use Rattle.record_text.specs.Text.{record_text, IsRecord}
-use Rattle.record_text.proofs.Whole.{one_record}
+use Rattle.replay_text.specs.declared.parts.RecordParts.{RecordParts}
+use Rattle.replay_text.specs.Text.{record_text, IsRecord}
+use Rattle.replay_text.proofs.Whole.{one_record}
 use Rattle.replay.specs.declared.end.EndState.{EndState}
 use Rattle.replay.specs.declared.fault.ReplayFault.{ReplayFault}
 use Rattle.replay.specs.declared.fault.ReplayFault.TheVariants.{Line, EndLine, NoMemory}

@@ -1,27 +1,19 @@
 -- The jobs of the command line.
-use Rattle.std.specs.Prelude.{ℕ, ◌≡◌, ◌≤◌, List, length, Option}
+use Rattle.std.specs.Prelude.{ℕ, ◌≡◌, List, length, Option}
 use Rattle.std.specs.Io.KnownBytes.{Appends}
 use Rattle.types.specs.declared.parts.Parts.{Parts}
-use Rattle.wire.specs.declared.fault.ReadFault.TheVariants.{OutOfMemory as ReadOutOfMemory, Malformed}
-use Rattle.typing.specs.Validity.{IsValid}
+use Rattle.binary_wire.specs.declared.fault.ReadFault.TheVariants.{OutOfMemory as ReadOutOfMemory, Malformed}
+use Rattle.validate_typing.specs.Validity.{IsValid}
 use Rattle.binary.specs.Grammar.{IsModuleText}
-use Rattle.record_text.specs.declared.parts.RecordParts.{RecordParts}
-use Rattle.record_text.specs.Text.{record_text, IsRecord}
+use Rattle.replay_text.specs.declared.parts.RecordParts.{RecordParts}
+use Rattle.replay_text.specs.Text.{record_text, IsRecord}
 use Rattle.replay.specs.declared.end.EndState.{EndState}
 use Rattle.replay.specs.Runs.{IsRunOf}
-use Rattle.report.specs.Lines.{functions_line, end_lines}
+use Rattle.report_lines.specs.Lines.{functions_line, end_lines}
 use Rattle.report.specs.declared.replaying.Unfit.{Unfit}
 use Rattle.report.specs.declared.replaying.Unfit.TheVariants.{Unread, Misfit, NoMemory, Output}
 use Rattle.report.specs.declared.loading.Refusal.{Refusal}
 use Rattle.report.specs.declared.loading.Refusal.TheVariants.{Read, Validity}
-use Rattle.report.specs.declared.command_line.Job.{Job}
-use Rattle.report.specs.declared.command_line.Job.TheVariants.{Check, Run, Replay}
-
--- The numbers of a job are in their ranges.
-abbrev pub IsInRange : Job → Type 0
-IsInRange (Check file) = Unit {0}
-IsInRange (Run file invoke on_words fuel limit save dump args) = (fuel ≤ 1000000000000) × (1 ≤ limit) × (limit ≤ 1000000) × (dump ≤ 4096)
-IsInRange (Replay file saved dump) = dump ≤ 4096
 
 -- The bytes are a valid module's text, and what was written is its line.
 pub record IsAccepted (bytes : List ℕ) (old new : Option (List ℕ)) : Type 0 where

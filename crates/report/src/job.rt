@@ -1,20 +1,20 @@
 //! What a job prints, and with which status it ends.
 ghost use Rattle.std.specs.Prelude.{◌≡◌, ◌≤◌, ◌⊎◌, ℕ, List, OnOk};
 ghost use Rattle.std.specs.Io.KnownBytes.{Appends};
-ghost use Rattle.report.specs.Lines.{functions_line};
+ghost use Rattle.report_lines.specs.Lines.{functions_line};
 ghost use Rattle.types.specs.declared.parts.Parts.{Parts};
 ghost use Rattle.report.specs.Jobs.{IsAccepted, IsReplayed, IsNoRecordOf, IsUnfit, IsOfNoRun};
 
-use crate::command_line::Job;
 use crate::loading::{Refusal, load};
 use crate::replaying::{Unfit, replay_record};
 use crate::running::{Trouble, Wanted, run_module};
+use binary_wire::ReadFault;
+use report_command::Job;
 use std::alloc::Global;
 use std::io::{self, Write};
 use std::sync::Wait;
 use std::thread::Threads;
-use typing::ValidFault;
-use wire::ReadFault;
+use validate_typing::ValidFault;
 
 /// The statuses with which the program ends, beside 0 and 1 for a run.
 const MODULE_REFUSED: u8 = 2;

@@ -1,15 +1,15 @@
 //! A module's bytes, read and validated.
 ghost use Rattle.std.specs.Prelude.{IfOk, IfErr};
-ghost use Rattle.typing.specs.Tabled.{IsValidated};
+ghost use Rattle.validate_typing.specs.Tabled.{IsValidated};
 ghost use Rattle.binary.specs.Grammar.{IsModuleText};
 ghost use Rattle.report.specs.Jobs.{IsRefused};
 
 use binary::read;
+use binary_wire::ReadFault;
 use std::alloc::Global;
 use thiserror::Error;
-use typing::ValidFault;
 use validate::{ValidModule, validate};
-use wire::ReadFault;
+use validate_typing::ValidFault;
 
 /// Why bytes give no valid module.
 #[derive(Clone, Copy, Debug, PartialEq, Eq, Error)]

@@ -1,14 +1,14 @@
 //! The replay of a record by the program: what is printed, or why there is nothing to print.
 ghost use Rattle.std.specs.Prelude.{◌≡◌, ◌≤◌, ℕ, List, IfOk, IfErr};
 ghost use Rattle.types.specs.declared.parts.Parts.{Parts};
-ghost use Rattle.record_text.specs.declared.parts.RecordParts.{RecordParts};
-ghost use Rattle.record_text.specs.Text.{record_text, IsRecord};
+ghost use Rattle.replay_text.specs.declared.parts.RecordParts.{RecordParts};
+ghost use Rattle.replay_text.specs.Text.{record_text, IsRecord};
 ghost use Rattle.replay.specs.Runs.{ShowsNoRun};
 ghost use Rattle.report.specs.Jobs.{PrintsReplay, IsUnfit};
 
 use crate::running::print;
-use record_text::{RecordFault, read_record};
 use replay::{ReplayFault, replay};
+use replay_text::{RecordFault, read_record};
 use std::alloc::Global;
 use std::io::Write;
 use validate::ValidModule;
@@ -55,7 +55,8 @@ pub(crate) fn replay_record<W: Write>(
 
 /// What the fault of a replay says of the record's bytes.
 fn misfit(fault: ReplayFault) -> Unfit
-    ensures { (m : Parts) (r : RecordParts) (saved : List ℕ) → IsRecord r → saved ≡ record_text r → ShowsNoRun m r fault → IsUnfit m saved result }
+    ensures { (m : Parts) (r : RecordParts) (saved : List ℕ) → IsRecord r → saved ≡ record_text r
+        → ShowsNoRun m r fault → IsUnfit m saved result }
 {
     match fault {
         ReplayFault::Line(_) => Unfit::Misfit(fault),

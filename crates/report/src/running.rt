@@ -1,20 +1,18 @@
 //! Runs of modules by the program: over which memory, and what is printed.
 ghost use Rattle.std.specs.Prelude.{◌≤◌, IfOk};
 ghost use Rattle.std.specs.Io.KnownBytes.{Appends};
-ghost use Rattle.report.specs.Lines.{end_lines};
+ghost use Rattle.report_lines.specs.Lines.{end_lines};
 
 use crate::args::read_args;
-use crate::lines::write_end;
-use crate::recording::{RecordRunFault, record_run};
-use crate::words::run_on_words;
-use record_text::{Record, write_record};
-use replay::EndState;
-use spawn_host::RunFault;
+use interp_trait::OpenGate;
+use replay_text::{Record, write_record};
+use report_lines::write_end;
+use report_runs::{EndState, RecordRunFault, record_run, run_on_words};
+use spawn_host_workers::RunFault;
 use std::alloc::{AllocError, Global};
 use std::io::{self, Write};
 use std::sync::Wait;
 use std::thread::Threads;
-use takes_turns::OpenGate;
 use types::{Outcome, Value};
 use validate::ValidModule;
 
@@ -119,9 +117,10 @@ where
 /// Prints how the threads ended and what the memory is, and answers the status.
 pub(crate) fn print<W: Write>(out: &mut W, end: &EndState, dump: u32) -> Result<u8, Trouble>
     ensures status { IfOk result (λ status. status ≤ 1) }
-    ensures lines { IfOk result (λ status. Appends (W.contents out.old) (W.contents out.new) (end_lines end.now.threads.items end.now.pages dump end.now.bytes.items)) }
+    ensures lines { IfOk result (λ status. Appends (W.contents out.old) (W.contents out.new)
+        (end_lines end.now.threads.items end.now.pages dump end.now.bytes.items)) }
 {
-    match write_end(out, end, dump) {
+    match write_end(out, &end.threads, end.pages, dump, &end.bytes) {
         Ok(()) => {
             let all_well = end
                 .threads

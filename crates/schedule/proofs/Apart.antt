@@ -1,9 +1,12 @@
 -- Entries of others in a history: what of a thread goes on over them.
-use Rattle.std.proofs.Common.{◌≡◌, ◌≢◌, ℕ, zero, suc, ◌+◌, ◌≤◌, ◌==◌, inl, inr, Bool, true, false, cond, List, [], ◌∷◌, ◌++◌, length, refl, sym, ◌∙◌, ap, subst, arith, append_assoc, append-nil, Option, Some, None}
+use Rattle.std.proofs.Common.{◌≡◌, ◌≢◌, ℕ, zero, suc, ◌+◌, ◌≤◌, ◌==◌, inl, inr, Bool, true, false, cond, List, []}
+use Rattle.std.proofs.Common.{◌∷◌, ◌++◌, length, refl, sym, ◌∙◌, ap, subst, arith, append_assoc, append-nil, Option}
+use Rattle.std.proofs.Common.{Some, None}
 use Rattle.schedule.specs.Histories.{acts_of, next_shared, shared_after, starts_at}
 use Rattle.schedule.specs.System.{Act, Entry, Step, System}
 use Rattle.schedule.specs.ThreadRun.{after_first_act, found_full, losses}
-use Rattle.schedule.specs.Tries.{HasChanges, HasEnough, HasEnoughLater, HasEnoughOnceStarted, HasReached, HasRoom, IsChanged, IsFullOnlyAtLimit, TryRules, if_some, if_true, is_act_exempt}
+use Rattle.schedule.specs.Tries.{HasChanges, HasEnough, HasEnoughLater, HasEnoughOnceStarted, HasReached, HasRoom}
+use Rattle.schedule.specs.Tries.{IsChanged, IsFullOnlyAtLimit, TryRules, if_some, if_true, is_act_exempt}
 use Rattle.schedule.proofs.Basics.{same_is, other_is, same_or_not}
 
 pub true_case : (b : Bool) (this that : Type 0) → (b ≡ true → this) → (b ≡ false → that) → if_true b this that
@@ -64,7 +67,8 @@ module _ {X T E V A W : Type 0} (s : System X T E V A) (rules : TryRules X E W) 
   no_changes (h ∷ H) e x = tt
 
   -- entries of others keep what has changed behind them
-  pub changes_over : (others H : List (Entry E V A)) (count : ℕ) (e : E) (x : X) → acts_of n others ≡ [] → HasChanges s rules H count n e (shared_after s x others)
+  pub changes_over : (others H : List (Entry E V A)) (count : ℕ) (e : E) (x : X) → acts_of n others ≡ []
+      → HasChanges s rules H count n e (shared_after s x others)
       → HasChanges s rules (others ++ H) count n e x
   changes_over [] H count e x apart h = h
   changes_over (o ∷ others) H zero e x apart h = tt
@@ -100,11 +104,13 @@ module _ {X T E V A W : Type 0} (s : System X T E V A) (rules : TryRules X E W) 
           let r = apart_split F G k.1 in
           (ap (λ b. cond b (f.act ∷ acts_of n F) (acts_of n F)) (other_is f.thread n k.0) ∙ r.0, r.1)
 
-  pub enough_over : (others H : List (Entry E V A)) (x : X) (steps : List (Step E V A)) → acts_of n others ≡ [] → HasEnough s rules n (shared_after s x others) H steps
+  pub enough_over : (others H : List (Entry E V A)) (x : X) (steps : List (Step E V A)) → acts_of n others ≡ []
+      → HasEnough s rules n (shared_after s x others) H steps
       → HasEnough s rules n x (others ++ H) steps
   enough_over others H x steps apart h = λ e first. changes_over others H (losses steps) e x apart (h e first)
 
-  pub later_over : (others H : List (Entry E V A)) (x : X) (steps : List (Step E V A)) → acts_of n others ≡ [] → HasEnoughLater s rules H n (shared_after s x others) steps
+  pub later_over : (others H : List (Entry E V A)) (x : X) (steps : List (Step E V A)) → acts_of n others ≡ []
+      → HasEnoughLater s rules H n (shared_after s x others) steps
       → HasEnoughLater s rules (others ++ H) n x steps
   later_over [] H x steps apart h = h
   later_over (o ∷ others) H x steps apart h =
@@ -120,10 +126,12 @@ module _ {X T E V A W : Type 0} (s : System X T E V A) (rules : TryRules X E W) 
   later_by (o ∷ H) x steps steps' e h = go (o.thread == n) h (λ k. later_by H (next_shared s x o.thread o.act) steps steps' e k)
     where
       go : (b : Bool)
-          → if_true b (HasEnough s rules n (next_shared s x o.thread o.act) H (after_first_act steps) × HasEnoughLater s rules H n (next_shared s x o.thread o.act) (after_first_act steps))
+          → if_true b (HasEnough s rules n (next_shared s x o.thread o.act) H (after_first_act steps)
+          × HasEnoughLater s rules H n (next_shared s x o.thread o.act) (after_first_act steps))
           (HasEnoughLater s rules H n (next_shared s x o.thread o.act) steps)
           → (HasEnoughLater s rules H n (next_shared s x o.thread o.act) steps → HasEnoughLater s rules H n (next_shared s x o.thread o.act) steps')
-          → if_true b (HasEnough s rules n (next_shared s x o.thread o.act) H (after_first_act steps') × HasEnoughLater s rules H n (next_shared s x o.thread o.act) (after_first_act steps'))
+          → if_true b (HasEnough s rules n (next_shared s x o.thread o.act) H (after_first_act steps')
+          × HasEnoughLater s rules H n (next_shared s x o.thread o.act) (after_first_act steps'))
           (HasEnoughLater s rules H n (next_shared s x o.thread o.act) steps')
       go true k more = subst (λ z. HasEnough s rules n (next_shared s x o.thread o.act) H z × HasEnoughLater s rules H n (next_shared s x o.thread o.act) z) e k
       go false k more = more k
@@ -143,17 +151,20 @@ module _ {X T E V A W : Type 0} (s : System X T E V A) (rules : TryRules X E W) 
       (λ t k. ((λ e h. absurd h), none_later H x')) (λ k. none_once H x')
 
   -- full logs
-  pub full_over : (others H : List (Entry E V A)) (count : ℕ) (steps : List (Step E V A)) → acts_of n others ≡ [] → IsFullOnlyAtLimit s rules H n (count + length others) steps
+  pub full_over : (others H : List (Entry E V A)) (count : ℕ) (steps : List (Step E V A)) → acts_of n others ≡ []
+      → IsFullOnlyAtLimit s rules H n (count + length others) steps
       → IsFullOnlyAtLimit s rules (others ++ H) n count steps
   full_over [] H count steps apart h = let e : count + 0 ≡ count = omega arith in subst (λ z. IsFullOnlyAtLimit s rules H n z steps) e h
   full_over (o ∷ others) H count steps apart h =
       let k = apart_first n o others apart in
       let e : count + suc (length others) ≡ suc count + length others = omega arith in
-      if_other o.thread n ((found_full steps ≡ true → HasReached rules.limit count) × IsFullOnlyAtLimit s rules (others ++ H) n (suc count) (after_first_act steps))
+      if_other o.thread n ((found_full steps ≡ true → HasReached rules.limit count)
+      × IsFullOnlyAtLimit s rules (others ++ H) n (suc count) (after_first_act steps))
       (IsFullOnlyAtLimit s rules (others ++ H) n (suc count) steps) k.0
       (full_over others H (suc count) steps k.1 (subst (λ z. IsFullOnlyAtLimit s rules H n z steps) e h))
 
-  pub full_by : (H : List (Entry E V A)) (count : ℕ) (steps steps' : List (Step E V A)) → found_full steps ≡ found_full steps' → after_first_act steps ≡ after_first_act steps'
+  pub full_by : (H : List (Entry E V A)) (count : ℕ) (steps steps' : List (Step E V A))
+      → found_full steps ≡ found_full steps' → after_first_act steps ≡ after_first_act steps'
       → IsFullOnlyAtLimit s rules H n count steps → IsFullOnlyAtLimit s rules H n count steps'
   full_by [] count steps steps' f e h = tt
   full_by (o ∷ H) count steps steps' f e h = go (o.thread == n) h (λ k. full_by H (suc count) steps steps' f e k)
@@ -172,7 +183,8 @@ module _ {X T E V A W : Type 0} (s : System X T E V A) (rules : TryRules X E W) 
   reached_next (Some limit) count h = let l : limit ≤ count = h in omega arith
 
   -- once the limit is reached, it stays so up to the next entry
-  pub full_found : (H : List (Entry E V A)) (count : ℕ) (steps steps' : List (Step E V A)) → HasReached rules.limit count → after_first_act steps ≡ after_first_act steps'
+  pub full_found : (H : List (Entry E V A)) (count : ℕ) (steps steps' : List (Step E V A))
+      → HasReached rules.limit count → after_first_act steps ≡ after_first_act steps'
       → IsFullOnlyAtLimit s rules H n count steps → IsFullOnlyAtLimit s rules H n count steps'
   full_found [] count steps steps' reached e h = tt
   full_found (o ∷ H) count steps steps' reached e h =
@@ -190,24 +202,30 @@ module _ {X T E V A W : Type 0} (s : System X T E V A) (rules : TryRules X E W) 
   pub none_full : (H : List (Entry E V A)) (count : ℕ) → IsFullOnlyAtLimit s rules H n count []
   none_full [] count = tt
   none_full (o ∷ H) count =
-      true_case (o.thread == n) ((false ≡ true → HasReached rules.limit count) × IsFullOnlyAtLimit s rules H n (suc count) []) (IsFullOnlyAtLimit s rules H n (suc count) [])
+      true_case (o.thread == n) ((false ≡ true → HasReached rules.limit count)
+      × IsFullOnlyAtLimit s rules H n (suc count) []) (IsFullOnlyAtLimit s rules H n (suc count) [])
       (λ k. ((λ z. absurd (cc (z))), none_full H (suc count))) (λ k. none_full H (suc count))
 
   -- the thread's own entries found room
   abbrev pub HasRoomItself : List (Entry E V A) → ℕ → Type 0
   HasRoomItself [] count = Unit {0}
-  HasRoomItself (h ∷ H) count = if_true (h.thread == n) (HasRoom rules.limit (is_act_exempt s rules h.act) count × HasRoomItself H (suc count)) (HasRoomItself H (suc count))
+  HasRoomItself (h ∷ H) count = if_true (h.thread == n)
+      (HasRoom rules.limit (is_act_exempt s rules h.act) count × HasRoomItself H (suc count))
+      (HasRoomItself H (suc count))
 
   pub room_apart : (H : List (Entry E V A)) (count : ℕ) → acts_of n H ≡ [] → HasRoomItself H count
   room_apart [] count e = tt
   room_apart (o ∷ H) count e =
       let k = apart_first n o H e in
-      if_other o.thread n (HasRoom rules.limit (is_act_exempt s rules o.act) count × HasRoomItself H (suc count)) (HasRoomItself H (suc count)) k.0 (room_apart H (suc count) k.1)
+      if_other o.thread n (HasRoom rules.limit (is_act_exempt s rules o.act) count × HasRoomItself H (suc count))
+      (HasRoomItself H (suc count)) k.0 (room_apart H (suc count) k.1)
 
-  pub room_over : (others H : List (Entry E V A)) (count : ℕ) → acts_of n others ≡ [] → HasRoomItself H (count + length others) → HasRoomItself (others ++ H) count
+  pub room_over : (others H : List (Entry E V A)) (count : ℕ) → acts_of n others ≡ []
+      → HasRoomItself H (count + length others) → HasRoomItself (others ++ H) count
   room_over [] H count apart h = let e : count + 0 ≡ count = omega arith in subst (λ z. HasRoomItself H z) e h
   room_over (o ∷ others) H count apart h =
       let k = apart_first n o others apart in
       let e : count + suc (length others) ≡ suc count + length others = omega arith in
-      if_other o.thread n (HasRoom rules.limit (is_act_exempt s rules o.act) count × HasRoomItself (others ++ H) (suc count)) (HasRoomItself (others ++ H) (suc count)) k.0
+      if_other o.thread n (HasRoom rules.limit (is_act_exempt s rules o.act) count
+      × HasRoomItself (others ++ H) (suc count)) (HasRoomItself (others ++ H) (suc count)) k.0
       (room_over others H (suc count) k.1 (subst (λ z. HasRoomItself H z) e h))

@@ -37,10 +37,13 @@ module _ {X T E V A : Type 0} (s : System X T E V A) where
   entries_made-append w [] S' = refl
   entries_made-append w (k ∷ S) S' =
       ap (λ z. entries_at s w k.thread k.kind ++ z) (entries_made-append (after_mark s w k.thread k.kind) S S')
-      ∙ sym (append_assoc (entries_at s w k.thread k.kind) (entries_made s (after_mark s w k.thread k.kind) S) (entries_made s (scheduled_run s (after_mark s w k.thread k.kind) S) S'))
+      ∙ sym (append_assoc (entries_at s w k.thread k.kind) (entries_made s (after_mark s w k.thread k.kind) S)
+      (entries_made s (scheduled_run s (after_mark s w k.thread k.kind) S) S'))
 
-  pub steps_made-append : (m : ℕ) (w : State X T) (S S' : List Mark) → steps_made s m w (S ++ S') ≡ steps_made s m w S ++ steps_made s m (scheduled_run s w S) S'
+  pub steps_made-append : (m : ℕ) (w : State X T) (S S' : List Mark)
+      → steps_made s m w (S ++ S') ≡ steps_made s m w S ++ steps_made s m (scheduled_run s w S) S'
   steps_made-append m w [] S' = refl
   steps_made-append m w (k ∷ S) S' =
       ap (λ z. steps_at s m w k.thread k.kind ++ z) (steps_made-append m (after_mark s w k.thread k.kind) S S')
-      ∙ sym (append_assoc (steps_at s m w k.thread k.kind) (steps_made s m (after_mark s w k.thread k.kind) S) (steps_made s m (scheduled_run s (after_mark s w k.thread k.kind) S) S'))
+      ∙ sym (append_assoc (steps_at s m w k.thread k.kind) (steps_made s m (after_mark s w k.thread k.kind) S)
+      (steps_made s m (scheduled_run s (after_mark s w k.thread k.kind) S) S'))

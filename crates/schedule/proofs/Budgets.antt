@@ -1,6 +1,9 @@
 -- A thread with a budget keeps the laws of a thread.
 use Rattle.std.proofs.Common.{◌≡◌, ℕ, zero, suc, ◌-◌, Bool, true, false, not, ◌⊎◌, inl, inr, refl, sym, ◌∙◌, ap, subst, arith, Option}
-use Rattle.schedule.specs.Machine.{Machine, MachineLaws, Thread, Thread.Absent, Thread.Leaves, Thread.Left, Thread.Over, Thread.Runs, Wish, Wish.Asks, Wish.Ends, Wish.Goes, Wish.Waits, system, takes_by, thread_full, thread_goes, thread_lost, thread_takes, thread_wants, thread_wants_a, wanted, wants_a}
+use Rattle.schedule.specs.Machine.{Machine, MachineLaws, Thread, Thread.Absent, Thread.Leaves, Thread.Left}
+use Rattle.schedule.specs.Machine.{Thread.Over, Thread.Runs, Wish, Wish.Asks, Wish.Ends, Wish.Goes, Wish.Waits}
+use Rattle.schedule.specs.Machine.{system, takes_by, thread_full, thread_goes, thread_lost, thread_takes}
+use Rattle.schedule.specs.Machine.{thread_wants, thread_wants_a, wanted, wants_a}
 use Rattle.schedule.specs.System.{Want.Awaits, Want.Calls, Want.Gone, Want.Turns}
 use Rattle.schedule.specs.ThreadRun.{Laws}
 use Rattle.schedule.proofs.Leaving.{never_gone}
@@ -9,7 +12,8 @@ module _ {C E V A O : Type 0} (k : Machine C E V A O) (l : MachineLaws k) where
   waits_awaits : (c : C) (n : ℕ) → k.wishes c ≡ Waits → wanted k n (k.wishes c) ≡ Awaits
   waits_awaits c n h = ap (wanted k n) h
 
-  opened_by : (w : Wish E O) (c : C) (n : ℕ) (e : E) (v : V) → k.wishes c ≡ w → wanted k n w ≡ Calls e → k.opens e v ≡ true → thread_wants k (takes_by k w c n v) ≡ Awaits
+  opened_by : (w : Wish E O) (c : C) (n : ℕ) (e : E) (v : V) → k.wishes c ≡ w → wanted k n w ≡ Calls e
+      → k.opens e v ≡ true → thread_wants k (takes_by k w c n v) ≡ Awaits
   opened_by Waits c n e v is h o = absurd (cc)
   opened_by (Ends x) c n e v is h o = refl
   opened_by Goes c n e v is h o = absurd (cc)
@@ -78,7 +82,9 @@ module _ {C E V A O : Type 0} (k : Machine C E V A O) (l : MachineLaws k) where
 
   -- a try that was lost is made again, unless no unit is left
   lost_by : (p : E → Bool) (c : C) (n : ℕ) (e : E) (w : Wish E O) → k.wishes c ≡ w → wants_a k p n w ≡ true → wanted k n w ≡ Calls e
-      → (wanted k (n - 1) w ≡ Calls e) ⊎ ((wanted k (n - 1) w ≡ Turns) × ((thread_wants k (thread_goes k (Runs c (n - 1))) ≡ Calls k.leave) × (thread_wants_a k p (thread_goes k (Runs c (n - 1))) ≡ false)))
+      → (wanted k (n - 1) w ≡ Calls e) ⊎ ((wanted k (n - 1) w ≡ Turns)
+      × ((thread_wants k (thread_goes k (Runs c (n - 1))) ≡ Calls k.leave)
+      × (thread_wants_a k p (thread_goes k (Runs c (n - 1))) ≡ false)))
   lost_by p c n e Waits is h want = absurd (cc)
   lost_by p c n e (Ends o) is h want = absurd (cc)
   lost_by p c n e Goes is h want = absurd (cc)
@@ -88,7 +94,9 @@ module _ {C E V A O : Type 0} (k : Machine C E V A O) (l : MachineLaws k) where
 
   lost_again : (p : E → Bool) (t : Thread C O) (e : E) → thread_wants_a k p t ≡ true → thread_wants k t ≡ Calls e
       → (thread_wants k (thread_lost k t) ≡ Calls e)
-      ⊎ ((thread_wants k (thread_lost k t) ≡ Turns) × ((thread_wants k (thread_goes k (thread_lost k t)) ≡ Calls k.leave) × (thread_wants_a k p (thread_goes k (thread_lost k t)) ≡ false)))
+      ⊎ ((thread_wants k (thread_lost k t) ≡ Turns)
+      × ((thread_wants k (thread_goes k (thread_lost k t)) ≡ Calls k.leave)
+      × (thread_wants_a k p (thread_goes k (thread_lost k t)) ≡ false)))
   lost_again p Absent e h want = absurd (cc)
   lost_again p (Runs c n) e h want = lost_by p c n e (k.wishes c) refl h want
   lost_again p (Over x n) e h want = absurd (cc)

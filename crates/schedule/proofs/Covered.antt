@@ -1,10 +1,13 @@
 -- The schedule of a history follows it.
-use Rattle.std.proofs.Common.{◌≡◌, ◌≢◌, ℕ, suc, ◌+◌, ◌⊎◌, inl, inr, true, false, List, [], ◌∷◌, ◌++◌, length, refl, sym, ◌∙◌, ap, subst, arith, append_assoc, Option, Some, None}
+use Rattle.std.proofs.Common.{◌≡◌, ◌≢◌, ℕ, suc, ◌+◌, ◌⊎◌, inl, inr, true, false, List, [], ◌∷◌, ◌++◌, length, refl}
+use Rattle.std.proofs.Common.{sym, ◌∙◌, ap, subst, arith, append_assoc, Option, Some, None}
 use Rattle.schedule.specs.Histories.{acts_of, next_shared, shared_after}
 use Rattle.schedule.specs.System.{Entry, Step, Step.Acts, Step.Full, Step.Lost, Step.Own, System, Want.Calls}
 use Rattle.schedule.specs.ThreadRun.{IsGivingUp, IsLeaving, IsLost, IsThreadRun, Laws, acts, after_step, losses}
 use Rattle.schedule.specs.Tries.{HasChanges, HasEnough, HasEnoughLater, HasReached, HasRoom, IsChanged, IsFullOnlyAtLimit, SeesAll, TryRules, is_act_exempt}
-use Rattle.schedule.proofs.Apart.{if_same, acts_over, acts_here, length_over, shared_over, no_changes, one_more, enough_over, later_over, later_by, none_later, full_over, full_by, full_found, none_full, HasRoomItself, room_apart, room_over}
+use Rattle.schedule.proofs.Apart.{if_same, acts_over, acts_here, length_over, shared_over, no_changes, one_more}
+use Rattle.schedule.proofs.Apart.{enough_over, later_over, later_by, none_later, full_over, full_by, full_found}
+use Rattle.schedule.proofs.Apart.{none_full, HasRoomItself, room_apart, room_over}
 
 module _ {X T E V A W : Type 0} (s : System X T E V A) (rules : TryRules X E W) (n : ℕ) where
   -- what a thread saw, from a point of the history on: after so many entries, with this shared state, of the rest
@@ -46,7 +49,8 @@ module _ {X T E V A W : Type 0} (s : System X T E V A) (rules : TryRules X E W) 
           lost.apart,
           lost.may,
           lost.cause,
-          ahead_at r (length sees.0) (length before + length lost.others) (shared_after s first sees.0) (shared_after s (shared_after s first before) lost.others) k.0
+          ahead_at r (length sees.0) (length before + length lost.others) (shared_after s first sees.0)
+              (shared_after s (shared_after s first before) lost.others) k.0
               (ap length lost.list ∙ length_over before lost.others) (ap (shared_after s first) lost.list ∙ shared_over s first before lost.others) k.2,
         ),
       )
@@ -62,7 +66,8 @@ module _ {X T E V A W : Type 0} (s : System X T E V A) (rules : TryRules X E W) 
           refl,
           found.apart,
           subst (HasReached rules.limit) count found.reached,
-          ahead_at r (length sees.0) (length before + length found.others) (shared_after s first sees.0) (shared_after s (shared_after s first before) found.others) k.0
+          ahead_at r (length sees.0) (length before + length found.others) (shared_after s first sees.0)
+              (shared_after s (shared_after s first before) found.others) k.0
               count (ap (shared_after s first) found.list ∙ shared_over s first before found.others) k.2,
         ),
       )
@@ -80,7 +85,8 @@ module _ {X T E V A W : Type 0} (s : System X T E V A) (rules : TryRules X E W) 
       ap (shared_after s first) list ∙ (shared_over s first before (did.others ++ (own ∷ did.behind))
       ∙ shared_over s (shared_after s first before) did.others (own ∷ did.behind)) in (
         did.others ++ (own ∷ (did.behind ++ k.0)),
-        k.1 ∙ (ap (λ z. z ++ k.0) list ∙ (append_assoc before (did.others ++ (own ∷ did.behind)) k.0 ∙ ap (λ z. before ++ z) (append_assoc did.others (own ∷ did.behind) k.0))),
+        k.1 ∙ (ap (λ z. z ++ k.0) list ∙ (append_assoc before (did.others ++ (own ∷ did.behind)) k.0
+            ∙ ap (λ z. before ++ z) (append_assoc did.others (own ∷ did.behind) k.0))),
         (
           did.others,
           did.behind,
@@ -98,7 +104,8 @@ module _ {X T E V A W : Type 0} (s : System X T E V A) (rules : TryRules X E W) 
       counted a b c d e h k = omega arith
 
   -- a try that is lost is one of the same event as the one lost before it
-  leaving_loses_none : (leave : E) → ((t : T) → s.may_fill t ≡ true → s.wants t ≡ Calls leave → ⊥) → (r : List (Step E V A)) (t end : T) → IsLeaving s leave t → IsThreadRun s t r end
+  leaving_loses_none : (leave : E) → ((t : T) → s.may_fill t ≡ true → s.wants t ≡ Calls leave → ⊥)
+      → (r : List (Step E V A)) (t end : T) → IsLeaving s leave t → IsThreadRun s t r end
       → (z : E) → IsLost z r → ⊥
   leaving_loses_none leave fills [] t end h run z k = k
   leaving_loses_none leave fills (Own ∷ r) t end h run z k = cc (h.0, run.0)
@@ -124,12 +131,15 @@ module _ {X T E V A W : Type 0} (s : System X T E V A) (rules : TryRules X E W) 
         let same : y ≡ e = cc (h, run.0.0) in
         lost_same r (s.lost t) end y z (laws.lost_again t y run.0.1 run.0.0) run.1 k ∙ same
     lost_same (Lost y ∷ r) t end e z (inr h) run k = absurd (cc (h.0, run.0.0))
-    lost_same (Full y ∷ r) t end e z (inl h) run k = absurd (leaving_loses_none laws.leave laws.leave_fills r (s.full t) end (laws.full_leaves t run.0.1) run.1 z k)
+    lost_same (Full y ∷ r) t end e z (inl h) run k =
+        absurd (leaving_loses_none laws.leave laws.leave_fills r (s.full t) end (laws.full_leaves t run.0.1) run.1 z
+        k)
     lost_same (Full y ∷ r) t end e z (inr h) run k = absurd (cc (h.0, run.0.0))
     lost_same (Acts a ∷ r) t end e z h run k = absurd k
 
     -- up to the next act, others change what is touched as often as tries of it are lost
-    pub enough : (r : List (Step E V A)) (t end : T) (count : ℕ) (x : X) (H : List (Entry E V A)) → IsThreadRun s t r end → Ahead r count x H → HasEnough s rules n x H r
+    pub enough : (r : List (Step E V A)) (t end : T) (count : ℕ) (x : X) (H : List (Entry E V A))
+        → IsThreadRun s t r end → Ahead r count x H → HasEnough s rules n x H r
     enough [] t end count x H run h = λ e is. absurd is
     enough (Own ∷ r) t end count x H run h = enough r (s.own_turn t) end count x H run.1 h
     enough (Lost y ∷ r) t end count x H run h = λ e is.
@@ -149,7 +159,8 @@ module _ {X T E V A W : Type 0} (s : System X T E V A) (rules : TryRules X E W) 
         (enough_over s rules n h.0 h.1 x r h.3 (enough r (s.full t) end (count + length h.0) (shared_after s x h.0) h.1 run.1 h.5))
     enough (Acts a ∷ r) t end count x H run h = λ e is. absurd is
 
-    pub enough_later : (r : List (Step E V A)) (t end : T) (count : ℕ) (x : X) (H : List (Entry E V A)) → IsThreadRun s t r end → Ahead r count x H → HasEnoughLater s rules H n x r
+    pub enough_later : (r : List (Step E V A)) (t end : T) (count : ℕ) (x : X) (H : List (Entry E V A))
+        → IsThreadRun s t r end → Ahead r count x H → HasEnoughLater s rules H n x r
     enough_later [] t end count x H run h = none_later s rules n H x
     enough_later (Own ∷ r) t end count x H run h = later_by s rules n H x r (Own ∷ r) refl (enough_later r (s.own_turn t) end count x H run.1 h)
     enough_later (Lost y ∷ r) t end count x H run h =
@@ -166,10 +177,12 @@ module _ {X T E V A W : Type 0} (s : System X T E V A) (rules : TryRules X E W) 
         let c : ℕ = suc (count + length h.0) + length h.1 in
         let t' : T = after_step s t (Acts a) in
         let here : HasEnough s rules n y (h.1 ++ h.2) r = enough_over s rules n h.1 h.2 y r h.5 (enough r t' end c (shared_after s y h.1) h.2 run.1 h.7) in
-        let later : HasEnoughLater s rules (h.1 ++ h.2) n y r = later_over s rules n h.1 h.2 y r h.5 (enough_later r t' end c (shared_after s y h.1) h.2 run.1 h.7) in
+        let later : HasEnoughLater s rules (h.1 ++ h.2) n y r =
+        later_over s rules n h.1 h.2 y r h.5 (enough_later r t' end c (shared_after s y h.1) h.2 run.1 h.7) in
         subst (λ v. HasEnoughLater s rules v n x (Acts a ∷ r)) (sym h.3)
         (later_over s rules n h.0 (record { thread = n; act = a } ∷ (h.1 ++ h.2)) x (Acts a ∷ r) h.4
-        (if_same n n (HasEnough s rules n y (h.1 ++ h.2) r × HasEnoughLater s rules (h.1 ++ h.2) n y r) (HasEnoughLater s rules (h.1 ++ h.2) n y (Acts a ∷ r)) refl (here, later)))
+        (if_same n n (HasEnough s rules n y (h.1 ++ h.2) r × HasEnoughLater s rules (h.1 ++ h.2) n y r)
+        (HasEnoughLater s rules (h.1 ++ h.2) n y (Acts a ∷ r)) refl (here, later)))
 
   pub full_at_limit : (r : List (Step E V A)) (count : ℕ) (x : X) (H : List (Entry E V A)) → Ahead r count x H → IsFullOnlyAtLimit s rules H n count r
   full_at_limit [] count x H h = none_full s rules n H count
@@ -185,21 +198,26 @@ module _ {X T E V A W : Type 0} (s : System X T E V A) (rules : TryRules X E W) 
   full_at_limit (Acts a ∷ r) count x H h =
       let c : ℕ = count + length h.0 in
       let y : X = shared_after s (next_shared s (shared_after s x h.0) n a) h.1 in
-      let later : IsFullOnlyAtLimit s rules (h.1 ++ h.2) n (suc c) r = full_over s rules n h.1 h.2 (suc c) r h.5 (full_at_limit r (suc c + length h.1) y h.2 h.7) in
+      let later : IsFullOnlyAtLimit s rules (h.1 ++ h.2) n (suc c) r =
+      full_over s rules n h.1 h.2 (suc c) r h.5 (full_at_limit r (suc c + length h.1) y h.2 h.7) in
       subst (λ v. IsFullOnlyAtLimit s rules v n count (Acts a ∷ r)) (sym h.3)
       (full_over s rules n h.0 (record { thread = n; act = a } ∷ (h.1 ++ h.2)) count (Acts a ∷ r) h.4
-      (if_same n n ((false ≡ true → HasReached rules.limit c) × IsFullOnlyAtLimit s rules (h.1 ++ h.2) n (suc c) r) (IsFullOnlyAtLimit s rules (h.1 ++ h.2) n (suc c) (Acts a ∷ r)) refl
+      (if_same n n ((false ≡ true → HasReached rules.limit c) × IsFullOnlyAtLimit s rules (h.1 ++ h.2) n (suc c) r)
+      (IsFullOnlyAtLimit s rules (h.1 ++ h.2) n (suc c) (Acts a ∷ r)) refl
       ((λ z. absurd (cc (z))), later)))
 
-  pub room_itself : (r : List (Step E V A)) (count : ℕ) (x : X) (H : List (Entry E V A)) → Ahead r count x H → acts r ≡ acts_of n H → HasRoomItself s rules n H count
+  pub room_itself : (r : List (Step E V A)) (count : ℕ) (x : X) (H : List (Entry E V A)) → Ahead r count x H
+      → acts r ≡ acts_of n H → HasRoomItself s rules n H count
   room_itself [] count x H h e = room_apart s rules n H count (sym e)
   room_itself (Own ∷ r) count x H h e = room_itself r count x H h e
   room_itself (Lost y ∷ r) count x H h e =
       subst (λ v. HasRoomItself s rules n v count) (sym h.2)
-      (room_over s rules n h.0 h.1 count h.3 (room_itself r (count + length h.0) (shared_after s x h.0) h.1 h.6 (e ∙ (ap (acts_of n) h.2 ∙ acts_over n h.0 h.1 h.3))))
+      (room_over s rules n h.0 h.1 count h.3 (room_itself r (count + length h.0)
+      (shared_after s x h.0) h.1 h.6 (e ∙ (ap (acts_of n) h.2 ∙ acts_over n h.0 h.1 h.3))))
   room_itself (Full y ∷ r) count x H h e =
       subst (λ v. HasRoomItself s rules n v count) (sym h.2)
-      (room_over s rules n h.0 h.1 count h.3 (room_itself r (count + length h.0) (shared_after s x h.0) h.1 h.5 (e ∙ (ap (acts_of n) h.2 ∙ acts_over n h.0 h.1 h.3))))
+      (room_over s rules n h.0 h.1 count h.3 (room_itself r (count + length h.0)
+      (shared_after s x h.0) h.1 h.5 (e ∙ (ap (acts_of n) h.2 ∙ acts_over n h.0 h.1 h.3))))
   room_itself (Acts a ∷ r) count x H h e =
       let c : ℕ = count + length h.0 in
       let own : Entry E V A = record { thread = n; act = a } in
@@ -210,7 +228,8 @@ module _ {X T E V A W : Type 0} (s : System X T E V A) (rules : TryRules X E W) 
       let later : HasRoomItself s rules n (h.1 ++ h.2) (suc c) = room_over s rules n h.1 h.2 (suc c) h.5 (room_itself r (suc c + length h.1) y h.2 h.7 left) in
       subst (λ v. HasRoomItself s rules n v count) (sym h.3)
       (room_over s rules n h.0 (own ∷ (h.1 ++ h.2)) count h.4
-      (if_same n n (HasRoom rules.limit (is_act_exempt s rules a) c × HasRoomItself s rules n (h.1 ++ h.2) (suc c)) (HasRoomItself s rules n (h.1 ++ h.2) (suc c)) refl (h.6, later)))
+      (if_same n n (HasRoom rules.limit (is_act_exempt s rules a) c × HasRoomItself s rules n (h.1 ++ h.2) (suc c))
+      (HasRoomItself s rules n (h.1 ++ h.2) (suc c)) refl (h.6, later)))
 
   -- lost tries and full logs are where they can be
   abbrev pub StepsMay : List (Step E V A) → Type 0

@@ -1,31 +1,41 @@
 -- The schedule of a history follows it, where each thread saw what it says.
-use Rattle.std.proofs.Common.{◌≡◌, ◌≢◌, ℕ, suc, ◌+◌, ◌==◌, ◌⊎◌, inl, inr, Bool, true, false, List, [], ◌∷◌, ◌++◌, length, refl, sym, ◌∙◌, ap, subst, arith, Some, None}
-use Rattle.schedule.specs.Histories.{IsClosed, IsLegalEntry, IsLegalHistory, Place, Place.Due, Place.Free, Place.Open, Place.Unstarted, StartedRun, StartedRunAt, acts_of, next_places, next_shared, places_after, shared_after, starts_at}
+use Rattle.std.proofs.Common.{◌≡◌, ◌≢◌, ℕ, suc, ◌+◌, ◌==◌, ◌⊎◌, inl, inr, Bool, true, false, List, [], ◌∷◌, ◌++◌}
+use Rattle.std.proofs.Common.{length, refl, sym, ◌∙◌, ap, subst, arith, Some, None}
+use Rattle.schedule.specs.Histories.{IsClosed, IsLegalEntry, IsLegalHistory, Place, Place.Due, Place.Free, Place.Open}
+use Rattle.schedule.specs.Histories.{Place.Unstarted, StartedRun, StartedRunAt, acts_of, next_places, next_shared}
+use Rattle.schedule.specs.Histories.{places_after, shared_after, starts_at}
 use Rattle.schedule.specs.Schedules.{AllHaveSeen, Follows, IsOneSchedule, ThreadsRun, marks_before_act, marks_of_entry, schedule_of}
 use Rattle.schedule.specs.System.{Act, Act.Heard, Act.Made, Entry, Kind.Turn, Mark, State, Step, Step.Acts, Step.Full, Step.Lost, Step.Own, System, put}
 use Rattle.schedule.specs.ThreadRun.{IsThreadRun, Laws, acts, after_first_act}
-use Rattle.schedule.specs.Tries.{AreLossesCovered, HasEnough, HasEnoughLater, HasEnoughOnceStarted, HasRoom, IsFullOnlyAtLimit, IsWithinLimit, MayMarkAll, TryRules, if_true, is_act_exempt}
+use Rattle.schedule.specs.Tries.{AreLossesCovered, HasEnough, HasEnoughLater, HasEnoughOnceStarted, HasRoom}
+use Rattle.schedule.specs.Tries.{IsFullOnlyAtLimit, IsWithinLimit, MayMarkAll, TryRules, if_true, is_act_exempt}
 use Rattle.schedule.proofs.Basics.{same_is, at_each, put-same, put-other}
-use Rattle.schedule.proofs.Apart.{some_case, apart_first, enough_over, later_over, none_later, none_once, full_over, none_full, HasRoomItself, room_apart, room_over, acts_over}
+use Rattle.schedule.proofs.Apart.{some_case, apart_first, enough_over, later_over, none_later, none_once, full_over}
+use Rattle.schedule.proofs.Apart.{none_full, HasRoomItself, room_apart, room_over, acts_over}
 use Rattle.schedule.proofs.Covered.{Ahead, ahead, enough, enough_later, full_at_limit, room_itself, StepsMay, steps_may}
 use Rattle.schedule.proofs.Others.{stays_placed}
 
 module _ {X T E V A W : Type 0} (s : System X T E V A) (rules : TryRules X E W) where
   module _ (n : ℕ) where
     -- an entry of another that doesn't start the thread leaves it unstarted
-    stays : (x : X) (q : ℕ → Place A) (k : ℕ) (a : Act E V A) → IsLegalEntry s x q k a → q n ≡ Unstarted → starts_at s n x k a ≡ None → k ≢ n → next_places s x q k a n ≡ Unstarted
+    stays : (x : X) (q : ℕ → Place A) (k : ℕ) (a : Act E V A) → IsLegalEntry s x q k a → q n ≡ Unstarted
+        → starts_at s n x k a ≡ None → k ≢ n → next_places s x q k a n ≡ Unstarted
     stays x q k (Made e v) legal u none apart =
-        stays_placed s n (s.starts x k e n) (s.gives x k e n) (put (λ (j : ℕ). false) k (s.opens e v) n) (q n) u none (put-other (λ (j : ℕ). false) k (s.opens e v) n (λ z. apart (sym z)))
+        stays_placed s n (s.starts x k e n) (s.gives x k e n) (put (λ (j : ℕ). false) k (s.opens e v) n)
+        (q n) u none (put-other (λ (j : ℕ). false) k (s.opens e v) n (λ z. apart (sym z)))
         (λ b z. (legal.3 n b z).0 (λ j. apart (sym j)))
     stays x q k (Heard a) legal u none apart = put-other q k Free n (λ z. apart (sym z)) ∙ u
 
-    runs_from : (steps : ℕ → List (Step E V A)) (ends : ℕ → T) (x : X) (k : ℕ) (a : Act E V A) (t : T) → StartedRunAt s steps ends x k a → starts_at s n x k a ≡ Some t → IsThreadRun s t (steps n) (ends n)
+    runs_from : (steps : ℕ → List (Step E V A)) (ends : ℕ → T) (x : X) (k : ℕ) (a : Act E V A) (t : T)
+        → StartedRunAt s steps ends x k a → starts_at s n x k a ≡ Some t → IsThreadRun s t (steps n) (ends n)
     runs_from steps ends x k (Made e v) t started is = started n t is
     runs_from steps ends x k (Heard a) t started is = absurd (cc (is))
 
     once_started : (steps : ℕ → List (Step E V A)) (ends : ℕ → T) (rest begun : List (Entry E V A)) (x : X) (q : ℕ → Place A)
-        → IsLegalHistory s x q (begun ++ rest) → StartedRun s steps ends x (begun ++ rest) → q n ≡ Unstarted → acts_of n begun ≡ [] → (places_after s x q begun n ≡ Unstarted → ⊥)
-        → ((t : T) → IsThreadRun s t (steps n) (ends n) → HasEnough s rules n (shared_after s x begun) rest (steps n) × HasEnoughLater s rules rest n (shared_after s x begun) (steps n))
+        → IsLegalHistory s x q (begun ++ rest) → StartedRun s steps ends x (begun ++ rest) → q n ≡ Unstarted
+        → acts_of n begun ≡ [] → (places_after s x q begun n ≡ Unstarted → ⊥)
+        → ((t : T) → IsThreadRun s t (steps n) (ends n) → HasEnough s rules n (shared_after s x begun) rest (steps n)
+        × HasEnoughLater s rules rest n (shared_after s x begun) (steps n))
         → HasEnoughOnceStarted s rules (begun ++ rest) n x (steps n)
     once_started steps ends rest [] x q legal started u apart some there = absurd (some u)
     once_started steps ends rest (h ∷ begun) x q legal started u apart some there =
@@ -35,19 +45,22 @@ module _ {X T E V A W : Type 0} (s : System X T E V A) (rules : TryRules X E W) 
         (HasEnoughOnceStarted s rules (begun ++ rest) n x' (steps n))
         (λ t is. let both = there t (runs_from steps ends x h.thread h.act t started.0 is) in
         (enough_over s rules n begun rest x' (steps n) k.1 both.0, later_over s rules n begun rest x' (steps n) k.1 both.1))
-        (λ none. once_started steps ends rest begun x' (next_places s x q h.thread h.act) legal.1 started.1 (stays x q h.thread h.act legal.0 u none k.0) k.1 some there)
+        (λ none. once_started steps ends rest begun x' (next_places s x q h.thread h.act) legal.1 started.1
+        (stays x q h.thread h.act legal.0 u none k.0) k.1 some there)
 
   -- room for each entry, by the room of each thread's own
   within : (H : List (Entry E V A)) (count : ℕ) → ((n : ℕ) → HasRoomItself s rules n H count) → IsWithinLimit s rules H count
   within [] count h = tt
   within (o ∷ H) count h = (here (o.thread == o.thread) (same_is o.thread) (h o.thread), within H (suc count) (λ n. later n (o.thread == n) (h n)))
     where
-      here : (b : Bool) → b ≡ true → if_true b (HasRoom rules.limit (is_act_exempt s rules o.act) count × HasRoomItself s rules o.thread H (suc count)) (HasRoomItself s rules o.thread H (suc count))
+      here : (b : Bool) → b ≡ true → if_true b (HasRoom rules.limit (is_act_exempt s rules o.act) count
+          × HasRoomItself s rules o.thread H (suc count)) (HasRoomItself s rules o.thread H (suc count))
           → HasRoom rules.limit (is_act_exempt s rules o.act) count
       here true e k = k.0
       here false e k = absurd (cc (e))
 
-      later : (n : ℕ) (b : Bool) → if_true b (HasRoom rules.limit (is_act_exempt s rules o.act) count × HasRoomItself s rules n H (suc count)) (HasRoomItself s rules n H (suc count))
+      later : (n : ℕ) (b : Bool) → if_true b (HasRoom rules.limit (is_act_exempt s rules o.act) count
+          × HasRoomItself s rules n H (suc count)) (HasRoomItself s rules n H (suc count))
           → HasRoomItself s rules n H (suc count)
       later n true k = k.1
       later n false k = k
@@ -75,10 +88,13 @@ module _ {X T E V A W : Type 0} (s : System X T E V A) (rules : TryRules X E W) 
   may_entry n (Made e v) r h = may_both (marks_before_act n r) (record { thread = n; kind = Turn } ∷ []) (may_before n r h) (tt, tt)
   may_entry n (Heard a) r h = tt
 
-  may_schedule : (H : List (Entry E V A)) (r : ℕ → List (Step E V A)) → ((m : ℕ) → StepsMay s rules m (r m)) → MayMarkAll rules.loses rules.limit (schedule_of H r)
+  may_schedule : (H : List (Entry E V A)) (r : ℕ → List (Step E V A)) → ((m : ℕ) → StepsMay s rules m (r m))
+      → MayMarkAll rules.loses rules.limit (schedule_of H r)
   may_schedule [] r h = tt
   may_schedule (o ∷ H) r h =
-      may_both (marks_of_entry o.thread o.act (r o.thread)) (schedule_of H (put r o.thread (after_first_act (r o.thread)))) (may_entry o.thread o.act (r o.thread) (h o.thread))
+      may_both (marks_of_entry o.thread o.act (r o.thread))
+      (schedule_of H (put r o.thread (after_first_act (r o.thread))))
+      (may_entry o.thread o.act (r o.thread) (h o.thread))
       (may_schedule H (put r o.thread (after_first_act (r o.thread)))
       (at_each o.thread (λ m. StepsMay s rules m (put r o.thread (after_first_act (r o.thread)) m))
       (subst (StepsMay s rules o.thread) (sym (put-same r o.thread (after_first_act (r o.thread)))) (may_after o.thread (r o.thread) (h o.thread)))
@@ -97,18 +113,27 @@ module _ {X T E V A W : Type 0} (s : System X T E V A) (rules : TryRules X E W) 
   is_unstarted Open = inr (λ e. cc (e))
   is_unstarted (Due a) = inr (λ e. cc (e))
 
-  module _ (laws : Laws s) (w : State X T) (q : ℕ → Place A) (steps : ℕ → List (Step E V A)) (ends : ℕ → T) (H : List (Entry E V A)) (run : ThreadsRun s w q steps ends H) where
-    covered_by : (m : ℕ) (p : Place A) → q m ≡ p → (rest begun : List (Entry E V A)) → H ≡ begun ++ rest → acts_of m begun ≡ [] → (places_after s w.shared q begun m ≡ Unstarted → ⊥)
+  module _ (laws : Laws s) (w : State X T) (q : ℕ → Place A) (steps : ℕ → List (Step E V A)) (ends : ℕ → T)
+      (H : List (Entry E V A)) (run : ThreadsRun s w q steps ends H) where
+    covered_by : (m : ℕ) (p : Place A) → q m ≡ p → (rest begun : List (Entry E V A)) → H ≡ begun ++ rest
+        → acts_of m begun ≡ [] → (places_after s w.shared q begun m ≡ Unstarted → ⊥)
         → Ahead s rules m (steps m) (length begun) (shared_after s w.shared begun) rest → AreLossesCovered s rules p m w.shared H (steps m)
     covered_by m Unstarted is rest begun list apart some h =
         subst (λ z. HasEnoughOnceStarted s rules z m w.shared (steps m)) (sym list)
-        (once_started m steps ends rest begun w.shared q (subst (IsLegalHistory s w.shared q) list run.legal) (subst (StartedRun s steps ends w.shared) list run.started) is apart some
-        (λ t r. (enough s rules m laws (steps m) t (ends m) (length begun) (shared_after s w.shared begun) rest r h, enough_later s rules m laws (steps m) t (ends m) (length begun) (shared_after s w.shared begun) rest r h)))
+        (once_started m steps ends rest begun w.shared q (subst (IsLegalHistory s w.shared q) list run.legal)
+        (subst (StartedRun s steps ends w.shared) list run.started) is apart some
+        (λ t r. (
+          enough s rules m laws (steps m) t (ends m) (length begun) (shared_after s w.shared begun) rest r h,
+          enough_later s rules m laws (steps m) t (ends m) (length begun)
+              (shared_after s w.shared begun) rest r h,
+        )))
     covered_by m Free is rest begun list apart some h =
         let r : IsThreadRun s (w.threads m) (steps m) (ends m) = run.runs m is in
         subst (λ z. HasEnough s rules m w.shared z (steps m) × HasEnoughLater s rules z m w.shared (steps m)) (sym list) (
-          enough_over s rules m begun rest w.shared (steps m) apart (enough s rules m laws (steps m) (w.threads m) (ends m) (length begun) (shared_after s w.shared begun) rest r h),
-          later_over s rules m begun rest w.shared (steps m) apart (enough_later s rules m laws (steps m) (w.threads m) (ends m) (length begun) (shared_after s w.shared begun) rest r h),
+          enough_over s rules m begun rest w.shared (steps m) apart (enough s rules m laws (steps m) (w.threads m)
+              (ends m) (length begun) (shared_after s w.shared begun) rest r h),
+          later_over s rules m begun rest w.shared (steps m) apart (enough_later s rules m laws (steps m)
+              (w.threads m) (ends m) (length begun) (shared_after s w.shared begun) rest r h),
         )
     covered_by m Open is rest begun list apart some h = absurd (subst IsClosed is (run.closed m))
     covered_by m (Due a) is rest begun list apart some h = absurd (subst IsClosed is (run.closed m))
@@ -135,9 +160,11 @@ module _ {X T E V A W : Type 0} (s : System X T E V A) (rules : TryRules X E W) 
           record {
             covered = covered_by m (q m) refl a.0 k.begun a.1 k.fresh k.started a.2;
             full = subst (λ z. IsFullOnlyAtLimit s rules z m 0 (steps m)) (sym a.1) (full_over s rules m k.begun a.0 0 (steps m) k.fresh
-                (subst (λ z. IsFullOnlyAtLimit s rules a.0 m z (steps m)) count (full_at_limit s rules m (steps m) (length k.begun) (shared_after s w.shared k.begun) a.0 a.2)));
+                (subst (λ z. IsFullOnlyAtLimit s rules a.0 m z (steps m)) count (full_at_limit s rules m (steps m)
+                (length k.begun) (shared_after s w.shared k.begun) a.0 a.2)));
             room = subst (λ z. HasRoomItself s rules m z 0) (sym a.1) (room_over s rules m k.begun a.0 0 k.fresh
-                (subst (HasRoomItself s rules m a.0) count (room_itself s rules m (steps m) (length k.begun) (shared_after s w.shared k.begun) a.0 a.2 entries)));
+                (subst (HasRoomItself s rules m a.0) count (room_itself s rules m (steps m) (length k.begun)
+                (shared_after s w.shared k.begun) a.0 a.2 entries)));
             may = steps_may s rules m (steps m) (length k.begun) (shared_after s w.shared k.begun) a.0 a.2;
           })
     ]

@@ -1,5 +1,7 @@
 -- The laws, for crates above to cite.
-use Rattle.schedule.specs.Theorems.{OneSchedule, ScheduleFollows, EveryOtherGivesTheSame, ThreadsWithBudgetsKeepTheLaws, ThreadsLeaveLast, ActsAndLossesFixTheEnd, ScheduledRunsGoOn}
+use Rattle.schedule.specs.Theorems.{OneSchedule, ScheduleFollows, EveryOtherGivesTheSame}
+use Rattle.schedule.specs.Theorems.{ThreadsWithBudgetsKeepTheLaws, ThreadsLeaveLast, ActsAndLossesFixTheEnd}
+use Rattle.schedule.specs.Theorems.{ScheduledRunsGoOn}
 use Rattle.schedule.proofs.Basics.{scheduled_run-append, entries_made-append, steps_made-append}
 use Rattle.schedule.proofs.Standing.{facts}
 use Rattle.schedule.proofs.Between.{same_tries}
@@ -18,7 +20,8 @@ schedule_follows X T E V A W s rules keeps first places steps ends H run seen =
     follows s rules keeps first places steps ends H run seen (schedules.one_schedule s (facts s keeps) steps ends first places H run)
 
 pub every_other_gives_the_same : (X T E V A : Type 0) → EveryOtherGivesTheSame X T E V A
-every_other_gives_the_same X T E V A s keeps first places steps ends H run S makes same gone = other_schedule s (facts s keeps) first places steps ends H run S makes same gone
+every_other_gives_the_same X T E V A s keeps first places steps ends H run S makes same gone =
+    other_schedule s (facts s keeps) first places steps ends H run S makes same gone
 
 pub threads_with_budgets_keep_the_laws : (C E V A O X : Type 0) → ThreadsWithBudgetsKeepTheLaws C E V A O X
 threads_with_budgets_keep_the_laws C E V A O X k keeps reply after gives starts = laws k keeps reply after gives starts
@@ -31,4 +34,9 @@ acts_and_losses_fix_the_end X T E V A s keeps t end end' steps steps' run run' s
     unique s (facts s keeps) steps steps' t end end' run run' (same_tries steps steps' same_acts same_losses)
 
 pub scheduled_runs_go_on : (X T E V A : Type 0) → ScheduledRunsGoOn X T E V A
-scheduled_runs_go_on X T E V A s w S S' = record { run = scheduled_run-append s w S S'; entries = entries_made-append s w S S'; steps = λ m. steps_made-append s m w S S' }
+scheduled_runs_go_on X T E V A s w S S' =
+    record {
+      run = scheduled_run-append s w S S';
+      entries = entries_made-append s w S S';
+      steps = λ m. steps_made-append s m w S S';
+    }

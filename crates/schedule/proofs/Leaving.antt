@@ -1,6 +1,7 @@
 -- A thread with a budget enters a leave and its answer last.
 use Rattle.std.proofs.Common.{◌≡◌, ℕ, zero, suc, ◌-◌, List, [], ◌∷◌, refl, sym, ap, subst, Option}
-use Rattle.schedule.specs.Machine.{Machine, Thread, Thread.Leaves, Thread.Left, Thread.Over, Thread.Runs, Wish, Wish.Asks, Wish.Ends, Wish.Goes, Wish.Waits, system, takes_by, wanted}
+use Rattle.schedule.specs.Machine.{Machine, Thread, Thread.Leaves, Thread.Left, Thread.Over, Thread.Runs, Wish}
+use Rattle.schedule.specs.Machine.{Wish.Asks, Wish.Ends, Wish.Goes, Wish.Waits, system, takes_by, wanted}
 use Rattle.schedule.specs.System.{Act, Act.Heard, Act.Made, Step, Step.Acts, Step.Full, Step.Lost, Step.Own, System, Want.Calls, Want.Gone}
 use Rattle.schedule.specs.ThreadRun.{IsThreadRun, acts}
 use Rattle.schedule.specs.Theorems.{LeavesLast}
@@ -14,7 +15,15 @@ module _ {C E V A O : Type 0} (k : Machine C E V A O) where
   never_gone (suc n) (Asks e) h = cc
 
   one_more : (a : Act E V A) (acts : List (Act E V A)) (end : Thread C O) → LeavesLast k acts end → LeavesLast k (a ∷ acts) end
-  one_more a acts end h = record { before = a ∷ h.before; reply = h.reply; answer = h.answer; outcome = h.outcome; left = h.left; entries = ap (λ z. a ∷ z) h.entries; ends = h.ends }
+  one_more a acts end h = record {
+    before = a ∷ h.before;
+    reply = h.reply;
+    answer = h.answer;
+    outcome = h.outcome;
+    left = h.left;
+    entries = ap (λ z. a ∷ z) h.entries;
+    ends = h.ends;
+  }
 
   module _ {X : Type 0} (reply : X → ℕ → E → V) (after : X → ℕ → E → X) (gives : X → ℕ → E → ℕ → Option A) (starts : X → ℕ → E → ℕ → Option (Thread C O)) where
     abbrev s : System X (Thread C O) E V A
@@ -28,7 +37,8 @@ module _ {C E V A O : Type 0} (k : Machine C E V A O) where
     left_ends o n (Acts (Made e v) ∷ r) end run = absurd (cc (run.0))
     left_ends o n (Acts (Heard a) ∷ r) end run = absurd (cc (run.0))
 
-    leaves_ends : (o : O) (n : ℕ) (v : V) (r : List (Step E V A)) (end : Thread C O) → IsThreadRun s (Leaves o n) r end → LeavesLast k (Made k.leave v ∷ acts r) end
+    leaves_ends : (o : O) (n : ℕ) (v : V) (r : List (Step E V A)) (end : Thread C O)
+        → IsThreadRun s (Leaves o n) r end → LeavesLast k (Made k.leave v ∷ acts r) end
     leaves_ends o n v [] end run = absurd (cc (run.0))
     leaves_ends o n v (Own ∷ r) end run = absurd (cc (run.0))
     leaves_ends o n v (Lost y ∷ r) end run = absurd (cc (run.0.0))
@@ -48,7 +58,8 @@ module _ {C E V A O : Type 0} (k : Machine C E V A O) where
         subst (λ z. LeavesLast k (Made z v ∷ acts r) end) same (leaves_ends o n v r end run.1)
     over_ends o n (Acts (Heard a) ∷ r) end run = absurd (cc (run.0))
 
-    made_ends : (w : Wish E O) (c : C) (n : ℕ) (e : E) (v : V) (r : List (Step E V A)) (end : Thread C O) → wanted k n w ≡ Calls e → IsThreadRun s (takes_by k w c n v) r end
+    made_ends : (w : Wish E O) (c : C) (n : ℕ) (e : E) (v : V) (r : List (Step E V A)) (end : Thread C O)
+        → wanted k n w ≡ Calls e → IsThreadRun s (takes_by k w c n v) r end
         → (IsThreadRun s (Runs (k.takes c v) (n - 1)) r end → LeavesLast k (acts r) end) → LeavesLast k (Made e v ∷ acts r) end
     made_ends Goes c n e v r end fits run more = absurd (cc (fits))
     made_ends Waits c n e v r end fits run more = absurd (cc (fits))

@@ -1,9 +1,12 @@
 -- The steps of one thread up to its next act, as marks.
 use Rattle.std.proofs.Common.{◌≡◌, ◌≢◌, ℕ, ◌==◌, true, cond, List, [], ◌∷◌, ◌++◌, refl, sym, ◌∙◌, ap, subst}
 use Rattle.schedule.proofs.Standing.{Facts, before_first_act}
-use Rattle.schedule.specs.Scheduled.{after_mark, after_turn, entries_at, entries_by, entries_made, full_step, if_may, lost_step, scheduled_run, steps_at, steps_by, steps_made, with_thread}
+use Rattle.schedule.specs.Scheduled.{after_mark, after_turn, entries_at, entries_by, entries_made, full_step, if_may}
+use Rattle.schedule.specs.Scheduled.{lost_step, scheduled_run, steps_at, steps_by, steps_made, with_thread}
 use Rattle.schedule.specs.Schedules.{marks_before_act}
-use Rattle.schedule.specs.System.{Act, Act.Heard, Kind, Kind.Fills, Kind.Loses, Kind.Turn, Mark, State, Step, Step.Acts, Step.Full, Step.Lost, Step.Own, System, Want.Awaits, Want.Calls, Want.Gone, Want.Turns}
+use Rattle.schedule.specs.System.{Act, Act.Heard, Kind, Kind.Fills, Kind.Loses, Kind.Turn, Mark, State, Step}
+use Rattle.schedule.specs.System.{Step.Acts, Step.Full, Step.Lost, Step.Own, System, Want.Awaits, Want.Calls}
+use Rattle.schedule.specs.System.{Want.Gone, Want.Turns}
 use Rattle.schedule.specs.ThreadRun.{Fits, IsThreadRun, acts, after_first_act, after_step}
 use Rattle.schedule.proofs.Basics.{same_is, other_is, put-same, put-other}
 
@@ -30,7 +33,8 @@ module _ {X T E V A : Type 0} (s : System X T E V A) where
     pub no_event : entries_at s w n k ≡ []
     pub views : (m : ℕ) → steps_at s m w n k ≡ cond (n == m) (x ∷ []) []
 
-  front_step : (w : State X T) (n : ℕ) (t t' : T) (x : Step E V A) (b : List (Step E V A)) (k : Kind) (S : List Mark) → OneMark w n t' x k → Front (with_thread s w n t') n t b S
+  front_step : (w : State X T) (n : ℕ) (t t' : T) (x : Step E V A) (b : List (Step E V A)) (k : Kind) (S : List Mark)
+      → OneMark w n t' x k → Front (with_thread s w n t') n t b S
       → Front w n t (x ∷ b) (record { thread = n; kind = k } ∷ S)
   front_step w n t t' x b k S one f = record {
     shared_is = ap (λ v. (scheduled_run s v S).shared) one.is ∙ f.shared_is;
@@ -74,7 +78,8 @@ module _ {X T E V A : Type 0} (s : System X T E V A) where
         views = λ m. (λ i. cond (b i) (cond (n == m) (full_step s (want i)) []) []);
       }
 
-  pub front : (r : List (Step E V A)) (w : State X T) (n : ℕ) (t end : T) → w.threads n ≡ t → IsThreadRun s t r end → Front w n (through t r) (before_first_act r) (marks_before_act n r)
+  pub front : (r : List (Step E V A)) (w : State X T) (n : ℕ) (t end : T) → w.threads n ≡ t → IsThreadRun s t r end
+      → Front w n (through t r) (before_first_act r) (marks_before_act n r)
   front [] w n t end at l = record { shared_is = refl; here = at; others = λ m h. refl; no_events = refl; views = refl; no_views = λ m h. refl }
   front (Own ∷ r) w n t end at l =
       front_step w n (through (s.own_turn t) r) (s.own_turn t) Own (before_first_act r) Turn (marks_before_act n r) (own_mark w n t at l.0)
@@ -111,7 +116,8 @@ module _ {X T E V A : Type 0} (s : System X T E V A) where
   split (Acts b ∷ r) a more e = let same : b ≡ a = cc in ap (λ z. Acts z ∷ r) same
 
   -- who awaits takes its answer next
-  pub awaited : Facts s → (r : List (Step E V A)) (t end : T) (a : A) (more : List (Act E V A)) → s.wants t ≡ Awaits → IsThreadRun s t r end → acts r ≡ Heard a ∷ more
+  pub awaited : Facts s → (r : List (Step E V A)) (t end : T) (a : A) (more : List (Act E V A)) → s.wants t ≡ Awaits
+      → IsThreadRun s t r end → acts r ≡ Heard a ∷ more
       → IsThreadRun s (s.hears t a) (after_first_act r) end × (acts (after_first_act r) ≡ more) × (r ≡ Acts (Heard a) ∷ after_first_act r)
   awaited laws [] t end a more h l e = absurd (cc)
   awaited laws (Own ∷ r) t end a more h l e = absurd (cc (l.0, h))

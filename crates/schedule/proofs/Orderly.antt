@@ -10,7 +10,8 @@ use Rattle.schedule.proofs.Apart.{acts_both, none_behind, acts_here}
 
 module _ {X T E V A : Type 0} (s : System X T E V A) where
   -- who awaits makes no event, and who is gone nothing
-  pub awaits_no_event : (r : List (Step E V A)) (t end : T) (e : E) (v : V) (more : List (Act E V A)) → s.wants t ≡ Awaits → IsThreadRun s t r end → acts r ≡ Made e v ∷ more → ⊥
+  pub awaits_no_event : (r : List (Step E V A)) (t end : T) (e : E) (v : V) (more : List (Act E V A))
+      → s.wants t ≡ Awaits → IsThreadRun s t r end → acts r ≡ Made e v ∷ more → ⊥
   awaits_no_event [] t end e v more h l is = cc
   awaits_no_event (Own ∷ r) t end e v more h l is = cc (h, l.0)
   awaits_no_event (Lost x ∷ r) t end e v more h l is = cc (h, l.0.0)
@@ -27,7 +28,8 @@ module _ {X T E V A : Type 0} (s : System X T E V A) where
   gone_no_act (Acts (Heard a) ∷ r) t end h l = absurd (cc (h, l.0))
 
   -- so an event is of one without an open question
-  pub free_at_event : (p : Place A) (steps r : List (Step E V A)) (end t : T) (e : E) (v : V) (more : List (Act E V A)) → Stands s steps end p t r → acts r ≡ Made e v ∷ more → p ≢ Unstarted → p ≡ Free
+  pub free_at_event : (p : Place A) (steps r : List (Step E V A)) (end t : T) (e : E) (v : V)
+      (more : List (Act E V A)) → Stands s steps end p t r → acts r ≡ Made e v ∷ more → p ≢ Unstarted → p ≡ Free
   free_at_event Unstarted steps r end t e v more h is some = absurd (some refl)
   free_at_event Free steps r end t e v more h is some = refl
   free_at_event Open steps r end t e v more h is some = absurd (awaits_no_event r t end e v more h.0 h.1 is)
@@ -40,17 +42,21 @@ module _ {X T E V A : Type 0} (s : System X T E V A) where
 
 module _ {X T E V A W : Type 0} (s : System X T E V A) (rules : TryRules X E W) where
   -- and what it saw by the way
-  pub sees_snoc : (first : X) (n : ℕ) (r : List (Step E V A)) (before mid after : List (Entry E V A)) (p : Step E V A) → SeesAll s rules first n before r mid → Sees s rules first n p mid after
+  pub sees_snoc : (first : X) (n : ℕ) (r : List (Step E V A)) (before mid after : List (Entry E V A))
+      (p : Step E V A) → SeesAll s rules first n before r mid → Sees s rules first n p mid after
       → SeesAll s rules first n before (r ++ p ∷ []) after
   sees_snoc first n [] before mid after p h sees = (after, subst (λ z. Sees s rules first n p z after) (sym h) sees, refl)
   sees_snoc first n (x ∷ r) before mid after p h sees = (h.0, h.1, sees_snoc first n r h.0 mid after p h.2 sees)
 
   -- whose own entries are the acts
-  pub acts_seen : (first : X) (n : ℕ) (r : List (Step E V A)) (before last : List (Entry E V A)) → SeesAll s rules first n before r last → acts_of n last ≡ acts_of n before ++ acts r
+  pub acts_seen : (first : X) (n : ℕ) (r : List (Step E V A)) (before last : List (Entry E V A))
+      → SeesAll s rules first n before r last → acts_of n last ≡ acts_of n before ++ acts r
   acts_seen first n [] before last h = sym (append-nil (acts_of n before) ∙ ap (acts_of n) h)
   acts_seen first n (Own ∷ r) before last h = acts_seen first n r h.0 last h.2 ∙ ap (λ z. acts_of n z ++ acts r) h.1
-  acts_seen first n (Lost e ∷ r) before last h = acts_seen first n r h.0 last h.2 ∙ ap (λ z. z ++ acts r) (ap (acts_of n) h.1.list ∙ none_behind n before h.1.others h.1.apart)
-  acts_seen first n (Full e ∷ r) before last h = acts_seen first n r h.0 last h.2 ∙ ap (λ z. z ++ acts r) (ap (acts_of n) h.1.list ∙ none_behind n before h.1.others h.1.apart)
+  acts_seen first n (Lost e ∷ r) before last h = acts_seen first n r h.0 last h.2
+      ∙ ap (λ z. z ++ acts r) (ap (acts_of n) h.1.list ∙ none_behind n before h.1.others h.1.apart)
+  acts_seen first n (Full e ∷ r) before last h = acts_seen first n r h.0 last h.2
+      ∙ ap (λ z. z ++ acts r) (ap (acts_of n) h.1.list ∙ none_behind n before h.1.others h.1.apart)
   acts_seen first n (Acts a ∷ r) before last h =
       let did = h.1 in
       let one : acts_of n h.0 ≡ acts_of n before ++ a ∷ [] =

@@ -1,10 +1,13 @@
 -- Every other schedule of the history gives the same ends.
 use Rattle.std.proofs.Common.{◌≡◌, ◌≢◌, ℕ, ◌⊎◌, inl, inr, Bool, true, false, List, [], ◌∷◌, ◌++◌, refl, sym, ◌∙◌, ap, subst, Option, Some, None}
 use Rattle.schedule.proofs.Standing.{Facts, Stands, tries}
-use Rattle.schedule.specs.Histories.{IsClosed, IsLegalEntry, IsLegalHistory, Place, Place.Due, Place.Free, Place.Open, Place.Unstarted, StartedRun, StartedRunAt, if_made, next_places, next_shared, placed, places_after, shared_after, without_answers}
+use Rattle.schedule.specs.Histories.{IsClosed, IsLegalEntry, IsLegalHistory, Place, Place.Due, Place.Free, Place.Open}
+use Rattle.schedule.specs.Histories.{Place.Unstarted, StartedRun, StartedRunAt, if_made, next_places, next_shared}
+use Rattle.schedule.specs.Histories.{placed, places_after, shared_after, without_answers}
 use Rattle.schedule.specs.Scheduled.{after_mark, after_turn, entries_at, entries_by, entries_made, if_may, scheduled_run, steps_made, with_thread}
 use Rattle.schedule.specs.Schedules.{AllGone, GivesEnds, IsOneSchedule, LoseAsMany, Makes, ThreadsRun, schedule_of}
-use Rattle.schedule.specs.System.{Act, Act.Heard, Act.Made, Entry, Kind, Kind.Fills, Kind.Loses, Kind.Turn, Mark, State, Step, System, Want, Want.Awaits, Want.Calls, Want.Gone, Want.Turns, put}
+use Rattle.schedule.specs.System.{Act, Act.Heard, Act.Made, Entry, Kind, Kind.Fills, Kind.Loses, Kind.Turn, Mark}
+use Rattle.schedule.specs.System.{State, Step, System, Want, Want.Awaits, Want.Calls, Want.Gone, Want.Turns, put}
 use Rattle.schedule.specs.ThreadRun.{IsThreadRun, losses_between}
 use Rattle.schedule.proofs.Basics.{put-other}
 use Rattle.schedule.proofs.Schedule.{one_schedule, stands_first}
@@ -51,7 +54,8 @@ module _ {X T E V A : Type 0} (s : System X T E V A) where
     none_of_two (Some x) b h = absurd (cc)
     none_of_two None b h = (refl, h)
 
-    start_step : (steps : ℕ → List (Step E V A)) (ends : ℕ → T) (x : X) (n : ℕ) (act : Act E V A) (G : List (Entry E V A)) (t : T) → StartedRunAt s steps ends x n act
+    start_step : (steps : ℕ → List (Step E V A)) (ends : ℕ → T) (x : X) (n : ℕ) (act : Act E V A)
+        (G : List (Entry E V A)) (t : T) → StartedRunAt s steps ends x n act
         → (start_of s m (next_shared s x n act) G ≡ Some t → IsThreadRun s t (steps m) (ends m))
         → start_of s m x (if_made n act G) ≡ Some t → IsThreadRun s t (steps m) (ends m)
     start_step steps ends x n (Made e v) G t h ih b =
@@ -64,7 +68,8 @@ module _ {X T E V A : Type 0} (s : System X T E V A) where
     run_of_started steps ends (e ∷ H) x t h b =
         start_step steps ends x e.thread e.act (without_answers H) t h.0 (λ k. run_of_started steps ends H (next_shared s x e.thread e.act) t h.1 k) b
 
-    pub stays_placed : (st : Option T) (gv : Option A) (o : Bool) (p : Place A) → p ≡ Unstarted → st ≡ None → o ≡ false → ((a : A) → gv ≡ Some a → p ≡ Open) → placed st gv o p ≡ Unstarted
+    pub stays_placed : (st : Option T) (gv : Option A) (o : Bool) (p : Place A) → p ≡ Unstarted → st ≡ None
+        → o ≡ false → ((a : A) → gv ≡ Some a → p ≡ Open) → placed st gv o p ≡ Unstarted
     stays_placed (Some x) gv o p u b ob hg = absurd (cc)
     stays_placed None (Some a) o p u b ob hg = absurd (cc (u, hg a refl))
     stays_placed None None true p u b ob hg = absurd (cc)
@@ -75,7 +80,8 @@ module _ {X T E V A : Type 0} (s : System X T E V A) where
     stays_step x q n (Made e v) G h u b =
         let k = none_of_two (s.starts x n e m) (start_of s m (s.after x n e) G) b in
         let apart : m ≢ n = λ z. h.0 (sym (ap q z) ∙ u) in (
-          stays_placed (s.starts x n e m) (s.gives x n e m) (put (λ (j : ℕ). false) n (s.opens e v) m) (q m) u k.0 (put-other (λ (j : ℕ). false) n (s.opens e v) m apart)
+          stays_placed (s.starts x n e m) (s.gives x n e m) (put (λ (j : ℕ). false) n (s.opens e v) m)
+              (q m) u k.0 (put-other (λ (j : ℕ). false) n (s.opens e v) m apart)
               (λ a z. (h.3 m a z).0 apart),
           k.1,
         )
@@ -83,7 +89,8 @@ module _ {X T E V A : Type 0} (s : System X T E V A) where
         let apart : m ≢ n = λ z. cc (u, h, ap q z) in
         (put-other q n Free m apart ∙ u, b)
 
-    unstarted_stays : (H : List (Entry E V A)) (x : X) (q : ℕ → Place A) → IsLegalHistory s x q H → q m ≡ Unstarted → start_of s m x (without_answers H) ≡ None → places_after s x q H m ≡ Unstarted
+    unstarted_stays : (H : List (Entry E V A)) (x : X) (q : ℕ → Place A) → IsLegalHistory s x q H → q m ≡ Unstarted
+        → start_of s m x (without_answers H) ≡ None → places_after s x q H m ≡ Unstarted
     unstarted_stays [] x q l u b = u
     unstarted_stays (e ∷ H) x q l u b =
         let k = stays_step x q e.thread e.act (without_answers H) l.0 u b in
@@ -96,7 +103,8 @@ module _ {X T E V A : Type 0} (s : System X T E V A) (laws : Facts s) where
   ready_at Open t c h = absurd c
   ready_at (Due a) t c h = absurd c
 
-  started_ends : (b : Option T) (t f end : T) (r steps : List (Step E V A)) → StartsSo s b t f r → (b ≡ None → ⊥) → ((x : T) → b ≡ Some x → IsThreadRun s x steps end)
+  started_ends : (b : Option T) (t f end : T) (r steps : List (Step E V A)) → StartsSo s b t f r → (b ≡ None → ⊥)
+      → ((x : T) → b ≡ Some x → IsThreadRun s x steps end)
       → s.wants f ≡ Gone → tries r ≡ tries steps → f ≡ end
   started_ends None t f end r steps x none some g e = absurd (none refl)
   started_ends (Some y) t f end r steps x none some g e = unique s laws r steps y f end (run_of_path s r y f x g) (some y refl) e
@@ -113,14 +121,17 @@ module _ {X T E V A : Type 0} (s : System X T E V A) (laws : Facts s) where
     pub same_ends : (S : List Mark) → Makes s w H S → ((m : ℕ) → tries (steps_made s m w S) ≡ tries (steps m)) → AllGone s w q H S → GivesEnds s w q ends H S
     same_ends S makes same gone =
         let fl : FLegal s w.shared (λ m. flat (q m)) (entries_made s w S) =
-        subst (λ G. FLegal s w.shared (λ m. flat (q m)) G) (sym makes.events) (legal_flat s H w.shared q run.legal (one_schedule s laws steps ends w q H run).ordered) in
+        subst (λ G. FLegal s w.shared (λ m. flat (q m)) G) (sym makes.events)
+        (legal_flat s H w.shared q run.legal (one_schedule s laws steps ends w q H run).ordered) in
         let x : (m : ℕ) → Ext s (flat (q m)) (w.threads m) ((scheduled_run s w S).threads m) (steps_made s m w S) (start_of s m w.shared (entries_made s w S)) =
         seen s laws S w (λ m. flat (q m)) fl (λ m. ready_at (q m) (w.threads m) (run.closed m) (run.idle m)) in
         record {
           shared = run_shared s S w ∙ (ap (λ G. shared_after s w.shared G) makes.events ∙ asked_shared s H w.shared);
           threads = λ m h.
-              ends_at (q m) (start_of s m w.shared (without_answers H)) (w.threads m) ((scheduled_run s w S).threads m) (ends m) (steps_made s m w S) (steps m) (run.closed m)
-              (subst (λ G. Ext s (flat (q m)) (w.threads m) ((scheduled_run s w S).threads m) (steps_made s m w S) (start_of s m w.shared G)) makes.events (x m))
+              ends_at (q m) (start_of s m w.shared (without_answers H)) (w.threads m)
+              ((scheduled_run s w S).threads m) (ends m) (steps_made s m w S) (steps m) (run.closed m)
+              (subst (λ G. Ext s (flat (q m)) (w.threads m) ((scheduled_run s w S).threads m) (steps_made s m w S)
+              (start_of s m w.shared G)) makes.events (x m))
               (stands_first s laws steps ends (q m) (w.threads m) (ends m) (steps m) (run.closed m) (run.runs m))
               (λ u b. h (unstarted_stays s m H w.shared q run.legal u b))
               (λ y b. run_of_started s m steps ends H w.shared y run.started b)

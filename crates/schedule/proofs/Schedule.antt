@@ -1,7 +1,10 @@
 -- The induction over the history.
-use Rattle.std.proofs.Common.{◌≡◌, ◌≢◌, ℕ, Bool, true, false, cond, List, [], ◌∷◌, ◌++◌, refl, sym, ◌∙◌, ap, subst, append-nil, append_assoc, Option, Some, None}
+use Rattle.std.proofs.Common.{◌≡◌, ◌≢◌, ℕ, Bool, true, false, cond, List, [], ◌∷◌, ◌++◌, refl, sym, ◌∙◌, ap, subst}
+use Rattle.std.proofs.Common.{append-nil, append_assoc, Option, Some, None}
 use Rattle.schedule.proofs.Standing.{Facts, Rest, Stands, before_first_act, due_step}
-use Rattle.schedule.specs.Histories.{IsClosed, IsLegalHistory, IsOrdered, Place, Place.Due, Place.Free, Place.Open, Place.Unstarted, StartedRun, acts_of, next_places, placed, places_after, shared_after}
+use Rattle.schedule.specs.Histories.{IsClosed, IsLegalHistory, IsOrdered, Place, Place.Due, Place.Free, Place.Open}
+use Rattle.schedule.specs.Histories.{Place.Unstarted, StartedRun, acts_of, next_places, placed, places_after}
+use Rattle.schedule.specs.Histories.{shared_after}
 use Rattle.schedule.specs.Scheduled.{after_event, after_turn, entries_by, entries_made, heard_step, hears_any, or_started, scheduled_run, steps_by, steps_made}
 use Rattle.schedule.specs.Schedules.{IsOneSchedule, ThreadsRun, marks_before_act, schedule_of}
 use Rattle.schedule.specs.System.{Act, Act.Heard, Act.Made, Entry, Kind.Turn, Mark, State, Step, Step.Acts, System, Want.Awaits, Want.Calls, Want.Gone, put}
@@ -14,12 +17,14 @@ module _ {X T E V A : Type 0} (s : System X T E V A) where
   -- what the marks for one event do
   pub record Leads (w : State X T) (n : ℕ) (e : E) (v : V) (t : T) (b : List (Step E V A)) (S : List Mark) : Type 0 where
     pub shared_is : (scheduled_run s w S).shared ≡ s.after w.shared n e
-    pub threads_are : (m : ℕ) → (scheduled_run s w S).threads m ≡ or_started (s.starts w.shared n e m) (hears_any s (put w.threads n t m) (s.gives w.shared n e m))
+    pub threads_are : (m : ℕ) → (scheduled_run s w S).threads m ≡ or_started (s.starts w.shared n e m)
+        (hears_any s (put w.threads n t m) (s.gives w.shared n e m))
     pub events_are : entries_made s w S ≡ record { thread = n; act = Made e v } ∷ []
     pub views_here : steps_made s n w S ≡ b ++ (Acts (Made e v) ∷ heard_step s (s.gives w.shared n e n))
     pub views_others : (m : ℕ) → m ≢ n → steps_made s m w S ≡ heard_step s (s.gives w.shared n e m)
 
-  pub leads : (w : State X T) (n : ℕ) (t : T) (e : E) (v : V) (b : List (Step E V A)) (S : List Mark) → Front s w n t b S → s.wants t ≡ Calls e → v ≡ s.reply w.shared n e
+  pub leads : (w : State X T) (n : ℕ) (t : T) (e : E) (v : V) (b : List (Step E V A)) (S : List Mark)
+      → Front s w n t b S → s.wants t ≡ Calls e → v ≡ s.reply w.shared n e
       → Leads w n e v (s.takes t v) b (S ++ record { thread = n; kind = Turn } ∷ [])
   leads w n t e v b S f h r =
       let w1 : State X T = scheduled_run s w S in
@@ -29,7 +34,8 @@ module _ {X T E V A : Type 0} (s : System X T E V A) where
       let is : scheduled_run s w (S ++ turn) ≡ after_event s w1 n e = scheduled_run-append s w S turn ∙ ap (after_turn s w1 n) want in
       let at : (m : ℕ) → put w1.threads n (s.takes (w1.threads n) (s.reply w1.shared n e)) m ≡ put w.threads n (s.takes t v) m =
       at_each n (λ m. put w1.threads n (s.takes (w1.threads n) (s.reply w1.shared n e)) m ≡ put w.threads n (s.takes t v) m)
-      (put-same w1.threads n (s.takes (w1.threads n) (s.reply w1.shared n e)) ∙ ((λ i. s.takes (f.here i) (value i)) ∙ sym (put-same w.threads n (s.takes t v))))
+      (put-same w1.threads n (s.takes (w1.threads n) (s.reply w1.shared n e))
+      ∙ ((λ i. s.takes (f.here i) (value i)) ∙ sym (put-same w.threads n (s.takes t v))))
       (λ m k. put-other w1.threads n (s.takes (w1.threads n) (s.reply w1.shared n e)) m k ∙ (f.others m k ∙ sym (put-other w.threads n (s.takes t v) m k))) in
       record {
         shared_is = ap (λ z. z.shared) is ∙ ap (λ x. s.after x n e) f.shared_is;
@@ -115,7 +121,8 @@ module _ {X T E V A : Type 0} (s : System X T E V A) (laws : Facts s) (steps : �
       let t1 : T = through s (w.threads n) (r n) in
       let t2 : T = s.takes t1 v in
       let S : List Mark = marks_before_act n (r n) ++ record { thread = n; kind = Turn } ∷ [] in
-      let k : Leads s w n e v t2 (before_first_act (r n)) S = leads s w n t1 e v (before_first_act (r n)) (marks_before_act n (r n)) (front s (r n) w n (w.threads n) (ends n) refl l) f.fits g.legal.0.1 in
+      let k : Leads s w n e v t2 (before_first_act (r n)) S = leads s w n t1 e v (before_first_act (r n))
+      (marks_before_act n (r n)) (front s (r n) w n (w.threads n) (ends n) refl l) f.fits g.legal.0.1 in
       let w2 : State X T = scheduled_run s w S in
       let q2 : ℕ → Place A = next_places s w.shared q n (Made e v) in
       let r2 : ℕ → List (Step E V A) = put r n (after_first_act (r n)) in
@@ -123,24 +130,31 @@ module _ {X T E V A : Type 0} (s : System X T E V A) (laws : Facts s) (steps : �
       let st : ℕ → Option T = λ m. s.starts w.shared n e m in
       let gv : ℕ → Option A = λ m. s.gives w.shared n e m in
       let here : Stands s (steps n) (ends n) (q2 n) (w2.threads n) (r2 n) =
-      stands_by s (steps n) (ends n) (placed (st n) (gv n) o Free) (q2 n) (or_started (st n) (hears_any s t2 (gv n))) (w2.threads n) (after_first_act (r n)) (r2 n)
+      stands_by s (steps n) (ends n) (placed (st n) (gv n) o Free) (q2 n) (or_started (st n) (hears_any s t2 (gv n)))
+      (w2.threads n) (after_first_act (r n)) (r2 n)
       (λ i. placed (st n) (gv n) (sym (put-same (λ (j : ℕ). false) n o) i) (sym free i))
       (sym (k.threads_are n ∙ ap (λ z. or_started (st n) (hears_any s z (gv n))) (put-same w.threads n t2)))
       (sym (put-same r n (after_first_act (r n))))
-      (stands_here s (steps n) (after_first_act (r n)) (ends n) t2 (st n) (gv n) o (λ x z. cc (free, g.legal.0.2 n x z)) (λ a z. (g.legal.0.3 n a z).1 refl) (λ z. laws.opened t1 e v f.fits z) f.runs) in
+      (stands_here s (steps n) (after_first_act (r n)) (ends n) t2 (st n)
+      (gv n) o (λ x z. cc (free, g.legal.0.2 n x z)) (λ a z. (g.legal.0.3 n a z).1 refl)
+      (λ z. laws.opened t1 e v f.fits z) f.runs) in
       let others : (m : ℕ) → m ≢ n → Stands s (steps m) (ends m) (q2 m) (w2.threads m) (r2 m) = λ m h.
-      stands_by s (steps m) (ends m) (placed (st m) (gv m) false (q m)) (q2 m) (or_started (st m) (hears_any s (w.threads m) (gv m))) (w2.threads m) (r m) (r2 m)
+      stands_by s (steps m) (ends m) (placed (st m) (gv m) false (q m)) (q2 m)
+      (or_started (st m) (hears_any s (w.threads m) (gv m))) (w2.threads m) (r m) (r2 m)
       (λ i. placed (st m) (gv m) (sym (put-other (λ (j : ℕ). false) n o m h) i) (q m))
       (sym (k.threads_are m ∙ ap (λ z. or_started (st m) (hears_any s z (gv m))) (put-other w.threads n t2 m h)))
       (sym (put-other r n (after_first_act (r n)) m h))
-      (stands_other s (steps m) (r m) (ends m) (w.threads m) (st m) (gv m) (q m) (λ x z. (g.legal.0.2 m x z, g.starts.0 m x z)) (λ a z. (g.legal.0.3 m a z).0 h) (g.stands m)) in
+      (stands_other s (steps m) (r m) (ends m) (w.threads m) (st m) (gv m) (q m)
+      (λ x z. (g.legal.0.2 m x z, g.starts.0 m x z)) (λ a z. (g.legal.0.3 m a z).0 h) (g.stands m)) in
       let g2 : Going w2 q2 r2 H = record {
         legal = subst (λ x. IsLegalHistory s x q2 H) (sym k.shared_is) g.legal.1;
         stands = at_each n (λ m. Stands s (steps m) (ends m) (q2 m) (w2.threads m) (r2 m)) here others;
         starts = subst (λ x. StartedRun s steps ends x H) (sym k.shared_is) g.starts.1;
         idle = λ m h. g.idle m (ap (λ x. places_after s x q2 H m) (sym k.shared_is) ∙ h);
         owned = at_each n (λ m. acts (r2 m) ≡ acts_of m H) (ap acts (put-same r n (after_first_act (r n))) ∙ f.left)
-            (λ m h. ap acts (put-other r n (after_first_act (r n)) m h) ∙ (g.owned m ∙ ap (λ b. cond b (Made e v ∷ acts_of m H) (acts_of m H)) (other_is n m (λ z. h (sym z)))));
+            (λ m h. ap acts (put-other r n (after_first_act (r n)) m h)
+            ∙ (g.owned m ∙ ap (λ b. cond b (Made e v ∷ acts_of m H) (acts_of m H))
+            (other_is n m (λ z. h (sym z)))));
       } in
       let R : List Mark = schedule_of H r2 in
       let out : Rest s w2 q2 r2 ends H R = ih w2 q2 r2 g2 in
@@ -161,7 +175,9 @@ module _ {X T E V A : Type 0} (s : System X T E V A) (laws : Facts s) (steps : �
       ∙ (ap (λ z. z ++ steps_made s m w2 R) (sym (due_m m h)) ∙ (out.views_are m ∙ put-other r n (after_first_act (r n)) m h))) in
       record {
         ordered = (free, subst (λ x. IsOrdered s x q2 H) k.shared_is out.ordered);
-        events_are = entries_made-append s w S R ∙ (ap (λ z. z ++ entries_made s w2 R) k.events_are ∙ ap (λ z. record { thread = n; act = Made e v } ∷ z) out.events_are);
+        events_are = entries_made-append s w S R
+            ∙ (ap (λ z. z ++ entries_made s w2 R) k.events_are
+            ∙ ap (λ z. record { thread = n; act = Made e v } ∷ z) out.events_are);
         views_are = at_each n (λ m. due_step (q m) ++ steps_made s m w (S ++ R) ≡ r m) views_here views_others;
         shared_is = ap (λ z. z.shared) (scheduled_run-append s w S R) ∙ (out.shared_is ∙ ap (λ x. shared_after s x H) k.shared_is);
         ends_are = λ m h. ap (λ z. z.threads m) (scheduled_run-append s w S R) ∙ out.ends_are m (ap (λ x. places_after s x q2 H m) k.shared_is ∙ h);
@@ -176,20 +192,27 @@ module _ {X T E V A : Type 0} (s : System X T E V A) (laws : Facts s) (steps : �
       let is_due : q n ≡ Due a = g.legal.0 in
       let l : Stands s (steps n) (ends n) (Due a) (w.threads n) (r n) = subst (λ z. Stands s (steps n) (ends n) z (w.threads n) (r n)) is_due (g.stands n) in
       let ow : acts (r n) ≡ Heard a ∷ acts_of n H = g.owned n ∙ ap (λ b. cond b (Heard a ∷ acts_of n H) (acts_of n H)) (same_is n) in
-      let k : IsThreadRun s (s.hears l.0 a) (after_first_act (r n)) (ends n) × (acts (after_first_act (r n)) ≡ acts_of n H) × (r n ≡ Acts (Heard a) ∷ after_first_act (r n)) = awaited s laws (r n) l.0 (ends n) a (acts_of n H) l.2 l.3 ow in
+      let k : IsThreadRun s (s.hears l.0 a) (after_first_act (r n)) (ends n)
+      × (acts (after_first_act (r n)) ≡ acts_of n H)
+      × (r n ≡ Acts (Heard a) ∷ after_first_act (r n)) =
+      awaited s laws (r n) l.0 (ends n) a (acts_of n H) l.2 l.3 ow in
       let q2 : ℕ → Place A = put q n Free in
       let r2 : ℕ → List (Step E V A) = put r n (after_first_act (r n)) in
       let here : Stands s (steps n) (ends n) (q2 n) (w.threads n) (r2 n) =
-      stands_by s (steps n) (ends n) Free (q2 n) (s.hears l.0 a) (w.threads n) (after_first_act (r n)) (r2 n) (sym (put-same q n Free)) (sym l.1) (sym (put-same r n (after_first_act (r n)))) k.0 in
+      stands_by s (steps n) (ends n) Free (q2 n) (s.hears l.0 a) (w.threads n) (after_first_act (r n)) (r2 n)
+      (sym (put-same q n Free)) (sym l.1) (sym (put-same r n (after_first_act (r n)))) k.0 in
       let others : (m : ℕ) → m ≢ n → Stands s (steps m) (ends m) (q2 m) (w.threads m) (r2 m) = λ m h.
-      stands_by s (steps m) (ends m) (q m) (q2 m) (w.threads m) (w.threads m) (r m) (r2 m) (sym (put-other q n Free m h)) refl (sym (put-other r n (after_first_act (r n)) m h)) (g.stands m) in
+      stands_by s (steps m) (ends m) (q m) (q2 m) (w.threads m) (w.threads m) (r m) (r2 m)
+      (sym (put-other q n Free m h)) refl (sym (put-other r n (after_first_act (r n)) m h)) (g.stands m) in
       let g2 : Going w q2 r2 H = record {
         legal = g.legal.1;
         stands = at_each n (λ m. Stands s (steps m) (ends m) (q2 m) (w.threads m) (r2 m)) here others;
         starts = g.starts.1;
         idle = g.idle;
         owned = at_each n (λ m. acts (r2 m) ≡ acts_of m H) (ap acts (put-same r n (after_first_act (r n))) ∙ k.1)
-            (λ m h. ap acts (put-other r n (after_first_act (r n)) m h) ∙ (g.owned m ∙ ap (λ b. cond b (Heard a ∷ acts_of m H) (acts_of m H)) (other_is n m (λ z. h (sym z)))));
+            (λ m h. ap acts (put-other r n (after_first_act (r n)) m h)
+            ∙ (g.owned m ∙ ap (λ b. cond b (Heard a ∷ acts_of m H) (acts_of m H))
+            (other_is n m (λ z. h (sym z)))));
       } in
       let R : List Mark = schedule_of H r2 in
       let out : Rest s w q2 r2 ends H R = ih w q2 r2 g2 in
@@ -198,7 +221,8 @@ module _ {X T E V A : Type 0} (s : System X T E V A) (laws : Facts s) (steps : �
         events_are = out.events_are;
         views_are = at_each n (λ m. due_step (q m) ++ steps_made s m w R ≡ r m)
             (ap (λ z. due_step z ++ steps_made s n w R) is_due
-            ∙ (ap (λ z. Acts (Heard a) ∷ z) (ap (λ z. due_step z ++ steps_made s n w R) (sym (put-same q n Free)) ∙ (out.views_are n ∙ put-same r n (after_first_act (r n)))) ∙ sym k.2))
+            ∙ (ap (λ z. Acts (Heard a) ∷ z) (ap (λ z. due_step z ++ steps_made s n w R) (sym (put-same q n Free))
+            ∙ (out.views_are n ∙ put-same r n (after_first_act (r n)))) ∙ sym k.2))
             (λ m h. ap (λ z. due_step z ++ steps_made s m w R) (sym (put-other q n Free m h)) ∙ (out.views_are m ∙ put-other r n (after_first_act (r n)) m h));
         shared_is = out.shared_is;
         ends_are = out.ends_are;
@@ -212,7 +236,8 @@ module _ {X T E V A : Type 0} (s : System X T E V A) (laws : Facts s) (steps : �
   entry_step H w q r n (Made e v) g ih = did H w q r n e v g ih
   entry_step H w q r n (Heard a) g ih = took_answer H w q r n a g ih
 
-  nothing_left : (p : Place A) (t : T) (m : ℕ) (r : List (Step E V A)) → IsClosed p → Stands s (steps m) (ends m) p t r → acts r ≡ [] → (p ≡ Unstarted → steps m ≡ [])
+  nothing_left : (p : Place A) (t : T) (m : ℕ) (r : List (Step E V A)) → IsClosed p
+      → Stands s (steps m) (ends m) p t r → acts r ≡ [] → (p ≡ Unstarted → steps m ≡ [])
       → due_step {E = E} {V = V} p ++ [] ≡ r
   nothing_left Unstarted t m r c h e idle = sym (h ∙ idle refl)
   nothing_left Free t m r c h e idle = sym (ended s laws r t (ends m) h e).1
@@ -230,7 +255,9 @@ module _ {X T E V A : Type 0} (s : System X T E V A) (laws : Facts s) (steps : �
   from [] w q r g = record {
     ordered = tt;
     events_are = refl;
-    views_are = λ m. nothing_left (q m) (w.threads m) m (r m) (closed_end (q m) (w.threads m) (ends m) (steps m) (r m) (g.stands m) (g.owned m)) (g.stands m) (g.owned m) (g.idle m);
+    views_are = λ m. nothing_left (q m) (w.threads m) m (r m)
+        (closed_end (q m) (w.threads m) (ends m) (steps m) (r m) (g.stands m) (g.owned m)) (g.stands m) (g.owned m)
+        (g.idle m);
     shared_is = refl;
     closed = λ m. closed_end (q m) (w.threads m) (ends m) (steps m) (r m) (g.stands m) (g.owned m);
     gone = λ m h. run_gone s (r m) (w.threads m) (ends m) (subst (λ z. Stands s (steps m) (ends m) z (w.threads m) (r m)) h (g.stands m));

@@ -1,9 +1,11 @@
 -- How a thread stands between a history's beginning and the rest of it, and what the induction over the history shows.
 use Rattle.std.proofs.Common.{◌≡◌, ℕ, ◌⊎◌, inl, inr, Bool, true, false, List, [], ◌∷◌, ◌++◌, refl, Option, Some, None}
-use Rattle.schedule.specs.System.{Want.Turns, Want.Calls, Want.Awaits, Want.Gone, Act, Act.Heard, Step, Step.Own, Step.Lost, Step.Full, Step.Acts, Entry, Mark, System, State}
+use Rattle.schedule.specs.System.{Want.Turns, Want.Calls, Want.Awaits, Want.Gone, Act, Act.Heard, Step, Step.Own}
+use Rattle.schedule.specs.System.{Step.Lost, Step.Full, Step.Acts, Entry, Mark, System, State}
 use Rattle.schedule.specs.ThreadRun.{IsThreadRun, Laws, IsGivingUp}
 use Rattle.schedule.specs.Scheduled.{scheduled_run, entries_made, steps_made}
-use Rattle.schedule.specs.Histories.{Place, Place.Unstarted, Place.Free, Place.Open, Place.Due, IsClosed, without_answers, shared_after, places_after, IsOrdered}
+use Rattle.schedule.specs.Histories.{Place, Place.Unstarted, Place.Free, Place.Open, Place.Due, IsClosed}
+use Rattle.schedule.specs.Histories.{without_answers, shared_after, places_after, IsOrdered}
 
 module _ {X T E V A : Type 0} (s : System X T E V A) where
   -- The laws, and what follows of them.

@@ -19,9 +19,11 @@ module _ {X T E V A : Type 0} (s : System X T E V A) (laws : Facts s) where
 
   full_first : (r : List (Step E V A)) (t end : T) → s.may_fill t ≡ true → IsThreadRun s (s.full t) r end
       → (v : V) × (later : List (Option (Act E V A))) × (tries r ≡ Some (Made laws.leave v) ∷ later)
-  full_first r t end h l = leaves_first r (s.full t) end (laws.full_leaves t h) (laws.full_loses t h) (λ k. laws.leave_fills (s.full t) k (laws.full_leaves t h)) l
+  full_first r t end h l = leaves_first r (s.full t) end (laws.full_leaves t h) (laws.full_loses t h)
+      (λ k. laws.leave_fills (s.full t) k (laws.full_leaves t h)) l
 
-  full_not_lost : (r : List (Step E V A)) (t end : T) (o : List (Option (Act E V A))) → s.may_fill t ≡ true → IsThreadRun s (s.full t) r end → tries r ≡ None ∷ o → ⊥
+  full_not_lost : (r : List (Step E V A)) (t end : T) (o : List (Option (Act E V A))) → s.may_fill t ≡ true
+      → IsThreadRun s (s.full t) r end → tries r ≡ None ∷ o → ⊥
   full_not_lost r t end o h l e = let k = full_first r t end h l in cc (k.2, e)
 
   full_not_did : (r : List (Step E V A)) (t end : T) (e : E) (v : V) (o : List (Option (Act E V A))) → s.may_fill t ≡ true → IsThreadRun s (s.full t) r end

@@ -1,5 +1,6 @@
 -- The worked example.
-use Rattle.std.proofs.Common.{◌≡◌, ◌≢◌, ℕ, ◌<◌, ◌==◌, inl, inr, true, false, cond, List, [], ◌∷◌, ◌++◌, length, refl, sym, ◌∙◌, ap, subst, arith, Option, Some, None}
+use Rattle.std.proofs.Common.{◌≡◌, ◌≢◌, ℕ, ◌<◌, ◌==◌, inl, inr, true, false, cond, List, [], ◌∷◌, ◌++◌, length, refl}
+use Rattle.std.proofs.Common.{sym, ◌∙◌, ap, subst, arith, Option, Some, None}
 use Rattle.schedule.proofs.Standing.{facts}
 use Rattle.schedule.specs.Histories.{IsClosed, IsLegalHistory, Place, Place.Free, Place.Open, Place.Unstarted, acts_of, places_after}
 use Rattle.schedule.specs.Machine.{MachineLaws, Thread, Thread.Absent, Thread.Left, Thread.Runs, Wish.Asks, Wish.Waits}
@@ -8,7 +9,12 @@ use Rattle.schedule.specs.Schedules.{AllGone, AllHaveSeen, LoseAsMany, Makes, Th
 use Rattle.schedule.specs.System.{Act, Act.Heard, Act.Made, Entry, Step, Want.Gone, put}
 use Rattle.schedule.specs.ThreadRun.{IsThreadRun, Laws, acts, losses_between}
 use Rattle.schedule.specs.Tries.{HasRoom, HasSeen, SeesAct, SeesLost, is_act_exempt}
-use Rattle.schedule.specs.Example.{Event, Event.Add, Event.Wait, Event.Notify, Event.Spawn, Event.Leave, is_question, Instruction.Think, Instruction.Do, Configuration, Configuration.At, Configuration.Waiting, Outcome, Outcome.Done, wishes, goes_on, machine, first_program, other_program, example, first_state, first_places, made, heard, beginning, history, first_steps, other_steps, steps, ends, rules, WorkedRun, another, AnotherSchedule, NoAnswerOfAnother, NoEntryAfterLeave}
+use Rattle.schedule.specs.Example.{Event, Event.Add, Event.Wait, Event.Notify, Event.Spawn, Event.Leave, is_question}
+use Rattle.schedule.specs.Example.{Instruction.Think, Instruction.Do, Configuration, Configuration.At}
+use Rattle.schedule.specs.Example.{Configuration.Waiting, Outcome, Outcome.Done, wishes, goes_on, machine}
+use Rattle.schedule.specs.Example.{first_program, other_program, example, first_state, first_places, made, heard}
+use Rattle.schedule.specs.Example.{beginning, history, first_steps, other_steps, steps, ends, rules, WorkedRun}
+use Rattle.schedule.specs.Example.{another, AnotherSchedule, NoAnswerOfAnother, NoEntryAfterLeave}
 use Rattle.schedule.proofs.Basics.{other_is, same_or_not, at_each, put-other}
 use Rattle.schedule.proofs.Budgets.{laws}
 use Rattle.schedule.proofs.Schedule.{one_schedule}
@@ -49,11 +55,24 @@ mine m n b a h = elim (same_or_not m n) [ inl e ↦ e | inr e ↦ absurd (cc (h,
 own_answer : (p : ℕ → Place ℕ) (m n : ℕ) (b a : ℕ) → cond (m == n) (Some b) None ≡ Some a → (m ≢ n → p m ≡ Open) × (m ≡ n → true ≡ true)
 own_answer p m n b a h = ((λ k. absurd (k (mine m n b a h))), (λ k. refl))
 
-woken : (p : ℕ → Place ℕ) → p 0 ≡ Open → (m a : ℕ) → cond (m == 1) (Some 1) (cond (m == 0) (Some 0) None) ≡ Some a → (m ≢ 1 → p m ≡ Open) × (m ≡ 1 → true ≡ true)
-woken p is m a h = ((λ k. let e : m ≡ 0 = mine m 0 0 a (ap (λ z. cond z (Some 1) (cond (m == 0) (Some 0) None)) (sym (other_is m 1 k)) ∙ h) in ap p e ∙ is), (λ k. refl))
+woken : (p : ℕ → Place ℕ) → p 0 ≡ Open → (m a : ℕ) → cond (m == 1) (Some 1) (cond (m == 0) (Some 0) None) ≡ Some a
+    → (m ≢ 1 → p m ≡ Open) × (m ≡ 1 → true ≡ true)
+woken p is m a h = (
+  (λ k. let e : m ≡ 0 =
+      mine m 0 0 a (ap (λ z. cond z (Some 1) (cond (m == 0) (Some 0) None)) (sym (other_is m 1 k)) ∙ h) in ap p e ∙ is),
+  (λ k. refl),
+)
 
 starts_one : (p : ℕ → Place ℕ) → p 1 ≡ Unstarted → (m : ℕ) (t : Threads) → cond (m == 1) (Some (Runs (At other_program) 10)) None ≡ Some t → p m ≡ Unstarted
-starts_one p is m t h = elim (same_or_not m 1) [ inl e ↦ ap p e ∙ is | inr e ↦ absurd (cc (h, ap (λ z. cond {A = Option Threads} z (Some (Runs (At other_program) 10)) None) (other_is m 1 e))) ]
+starts_one p is m t h = elim (same_or_not m 1) [
+  | inl e ↦ ap p e
+      ∙ is
+  | inr e ↦ absurd (cc (
+    h,
+    ap (λ z. cond {A = Option Threads} z (Some (Runs (At other_program) 10)) None)
+        (other_is m 1 e),
+  ))
+]
 
 abbrev places : Entries → ℕ → Place ℕ
 places H = places_after example first_state.shared first_places H
@@ -75,13 +94,26 @@ legal = (
             (
               refl,
               (
-                ((λ z. cc (z)), refl, (λ m t h. absurd (cc (h))), (λ m a h. own_answer (places (beginning ++ made 1 (Add 1) (Some 5) ∷ made 1 Notify None ∷ heard 1 1 ∷ [])) m 1 0 a h)),
+                (
+                  (λ z. cc (z)),
+                  refl,
+                  (λ m t h. absurd (cc (h))),
+                  (λ m a h. own_answer (places (beginning ++ made 1 (Add 1)
+                      (Some 5) ∷ made 1 Notify None ∷ heard 1 1 ∷ [])) m 1 0 a h),
+                ),
                 (
                   refl,
                   (
                     refl,
                     (
-                      ((λ z. cc (z)), refl, (λ m t h. absurd (cc (h))), (λ m a h. own_answer (places (beginning ++ made 1 (Add 1) (Some 5) ∷ made 1 Notify None ∷ heard 1 1 ∷ made 1 Leave None ∷ heard 0 0 ∷ heard 1 0 ∷ [])) m 0 0 a h)),
+                      (
+                        (λ z. cc (z)),
+                        refl,
+                        (λ m t h. absurd (cc (h))),
+                        (λ m a h. own_answer (places (beginning ++ made 1 (Add 1)
+                            (Some 5) ∷ made 1 Notify None ∷ heard 1 1 ∷ made 1 Leave None ∷ heard 0 0 ∷ heard 1 0 ∷ []))
+                            m 0 0 a h),
+                      ),
                       (refl, tt),
                     ),
                   ),
@@ -128,13 +160,39 @@ run = record {
   closed = at_each 0 (λ m. IsClosed (first_places m)) tt (λ m h. subst IsClosed (sym (not_there m h)) tt);
   idle = at_each 0 (λ m. first_places m ≡ Unstarted → example.wants (first_state.threads m) ≡ Gone) (λ z. absurd (cc (z)))
       (λ m h z. ap example.wants (put-other (λ (j : ℕ). Absent) 0 (first_state.threads 0) m h));
-  runs = at_each 0 (λ m. first_places m ≡ Free → IsThreadRun example (first_state.threads m) (steps m) (ends m)) (λ z. first_run) (λ m h z. absurd (cc (z, not_there m h)));
-  started = (starts_other, (tt, ((λ m t h. absurd (cc (h))), ((λ m t h. absurd (cc (h))), ((λ m t h. absurd (cc (h))), ((λ m t h. absurd (cc (h))), (tt, ((λ m t h. absurd (cc (h))), (tt, (tt, ((λ m t h. absurd (cc (h))), (tt, tt))))))))))));
+  runs = at_each 0 (λ m. first_places m ≡ Free → IsThreadRun example (first_state.threads m) (steps m) (ends m))
+      (λ z. first_run) (λ m h z. absurd (cc (z, not_there m h)));
+  started = (
+    starts_other,
+    (
+      tt,
+      (
+        (λ m t h. absurd (cc (h))),
+        (
+          (λ m t h. absurd (cc (h))),
+          (
+            (λ m t h. absurd (cc (h))),
+            (
+              (λ m t h. absurd (cc (h))),
+              (
+                tt,
+                (
+                  (λ m t h. absurd (cc (h))),
+                  (tt, (tt, ((λ m t h. absurd (cc (h))), (tt, tt)))),
+                ),
+              ),
+            ),
+          ),
+        ),
+      ),
+    ),
+  );
   entries = of_each (λ m. acts (steps m) ≡ acts_of m history) refl refl (λ m h0 h1. ap acts (no_more_steps m h0 h1) ∙ no_more_entries m h0 h1);
   no_steps = of_each (λ m. places history m ≡ Unstarted → steps m ≡ []) (λ z. absurd (cc (z))) (λ z. absurd (cc (z))) (λ m h0 h1 z. no_more_steps m h0 h1);
 }
 
-sees_act : (n : ℕ) (a : Act Event (Option ℕ) ℕ) (before others : Entries) → acts_of n others ≡ [] → HasRoom (Some 10) (is_act_exempt example rules a) (length (before ++ others))
+sees_act : (n : ℕ) (a : Act Event (Option ℕ) ℕ) (before others : Entries) → acts_of n others ≡ []
+    → HasRoom (Some 10) (is_act_exempt example rules a) (length (before ++ others))
     → SeesAct example rules n a before ((before ++ others) ++ record { thread = n; act = a } ∷ [])
 sees_act n a before others apart room = record {
   others = others;
@@ -201,7 +259,8 @@ first_seen =
     }
 
 -- the try is lost to the 5 that thread 0 adds
-lost_try : SeesLost example rules first_state.shared 1 (Add 1) (made 0 Spawn None ∷ heard 0 1 ∷ []) (made 0 Spawn None ∷ heard 0 1 ∷ made 0 (Add 5) (Some 0) ∷ [])
+lost_try : SeesLost example rules first_state.shared 1 (Add 1) (made 0 Spawn None ∷ heard 0 1 ∷ [])
+    (made 0 Spawn None ∷ heard 0 1 ∷ made 0 (Add 5) (Some 0) ∷ [])
 lost_try = record {
   others = made 0 (Add 5) (Some 0) ∷ [];
   list = refl;
@@ -264,7 +323,8 @@ never_started m h0 h1 = let e0 : (m == 0) ≡ false = other_is m 0 h0 in let e1 
 
 seen : AllHaveSeen example rules first_state first_places steps history
 unfolding put
-seen = of_each (λ m. places history m ≢ Unstarted → HasSeen example rules first_state.shared first_places history m (steps m)) (λ z. first_seen) (λ z. other_seen)
+seen = of_each (λ m. places history m ≢ Unstarted
+    → HasSeen example rules first_state.shared first_places history m (steps m)) (λ z. first_seen) (λ z. other_seen)
     (λ m h0 h1 z. absurd (z (never_started m h0 h1)))
 
 pub worked : WorkedRun
@@ -298,10 +358,12 @@ another_schedule =
     let one = one_schedule example (facts example example_laws) steps ends first_state first_places history run in
     let makes : Makes example first_state history another = record {
       events = refl;
-      answers = of_each (λ m. acts (steps_made example m first_state another) ≡ acts_of m history) refl refl (λ m h0 h1. ap acts (no_steps_made m h0 h1) ∙ no_more_entries m h0 h1);
+      answers = of_each (λ m. acts (steps_made example m first_state another) ≡ acts_of m history) refl refl
+          (λ m h0 h1. ap acts (no_steps_made m h0 h1) ∙ no_more_entries m h0 h1);
     } in
     let as_many : LoseAsMany example first_state (schedule_of history steps) another =
-    of_each (λ m. losses_between (steps_made example m first_state (schedule_of history steps)) ≡ losses_between (steps_made example m first_state another)) refl refl
+    of_each (λ m. losses_between (steps_made example m first_state (schedule_of history steps)) ≡ losses_between
+    (steps_made example m first_state another)) refl refl
     (λ m h0 h1. ap losses_between (one.makes_steps m ∙ (no_more_steps m h0 h1 ∙ sym (no_steps_made m h0 h1)))) in
     let gone : AllGone example first_state first_places history another =
     of_each (λ m. places history m ≢ Unstarted → example.wants ((scheduled_run example first_state another).threads m) ≡ Gone) (λ z. refl) (λ z. refl)

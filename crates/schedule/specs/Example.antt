@@ -1,11 +1,13 @@
 -- A worked example: two threads over one word and a queue in which one thread can sleep.
 use Rattle.std.specs.Prelude.{ℕ, ◌≡◌, ◌+◌, ◌==◌, Bool, true, false, cond, List, [], ◌∷◌, ◌++◌, Option, Some, None}
-use Rattle.schedule.specs.System.{Act.Made, Act.Heard, Step, Step.Own, Step.Lost, Step.Acts, Entry, Kind, Kind.Turn, Kind.Loses, Mark, System, State, put}
+use Rattle.schedule.specs.System.{Act.Made, Act.Heard, Step, Step.Own, Step.Lost, Step.Acts, Entry, Kind, Kind.Turn}
+use Rattle.schedule.specs.System.{Kind.Loses, Mark, System, State, put}
 use Rattle.schedule.specs.Scheduled.{scheduled_run}
 use Rattle.schedule.specs.Histories.{Place, Place.Unstarted, Place.Free, IsLegalHistory}
 use Rattle.schedule.specs.Tries.{TryRules}
 use Rattle.schedule.specs.Schedules.{schedule_of, ThreadsRun, AllHaveSeen, Follows, Makes, LoseAsMany, AllGone, GivesEnds}
-use Rattle.schedule.specs.Machine.{Wish, Wish.Goes, Wish.Asks, Wish.Waits, Wish.Ends, Machine, MachineLaws, Thread, Thread.Absent, Thread.Runs, Thread.Left, system}
+use Rattle.schedule.specs.Machine.{Wish, Wish.Goes, Wish.Asks, Wish.Waits, Wish.Ends, Machine, MachineLaws, Thread}
+use Rattle.schedule.specs.Machine.{Thread.Absent, Thread.Runs, Thread.Left, system}
 
 -- A number is added to the word; a thread sleeps if the word is this one; who sleeps is woken; a thread starts; one leaves.
 pub data Event : Type 0 where
@@ -155,16 +157,19 @@ beginning = made 0 Spawn None ∷ heard 0 1 ∷ made 0 (Add 5) (Some 0) ∷ made
 -- It adds, and wakes thread 0, which hears of it later; both leave.
 abbrev pub ending : List (Entry Event (Option ℕ) ℕ)
 ending =
-    made 1 (Add 1) (Some 5) ∷ made 1 Notify None ∷ heard 1 1 ∷ made 1 Leave None ∷ heard 0 0 ∷ heard 1 0 ∷ made 0 Leave None ∷ heard 0 0 ∷ []
+    made 1 (Add 1) (Some 5) ∷ made 1 Notify None ∷ heard 1 1 ∷ made 1 Leave None ∷ heard 0 0 ∷ heard 1 0 ∷ made 0 Leave
+    None ∷ heard 0 0 ∷ []
 
 abbrev pub history : List (Entry Event (Option ℕ) ℕ)
 history = beginning ++ ending
 
 abbrev pub first_steps : List (Step Event (Option ℕ) ℕ)
-first_steps = Acts (Made Spawn None) ∷ Acts (Heard 1) ∷ Acts (Made (Add 5) (Some 0)) ∷ Acts (Made (Wait 5) (Some 5)) ∷ Acts (Heard 0) ∷ Acts (Made Leave None) ∷ Acts (Heard 0) ∷ []
+first_steps = Acts (Made Spawn None) ∷ Acts (Heard 1) ∷ Acts (Made (Add 5) (Some 0)) ∷ Acts (Made (Wait 5)
+    (Some 5)) ∷ Acts (Heard 0) ∷ Acts (Made Leave None) ∷ Acts (Heard 0) ∷ []
 
 abbrev pub other_steps : List (Step Event (Option ℕ) ℕ)
-other_steps = Own ∷ Lost (Add 1) ∷ Acts (Made (Add 1) (Some 5)) ∷ Acts (Made Notify None) ∷ Acts (Heard 1) ∷ Acts (Made Leave None) ∷ Acts (Heard 0) ∷ []
+other_steps = Own ∷ Lost (Add 1) ∷ Acts (Made (Add 1)
+    (Some 5)) ∷ Acts (Made Notify None) ∷ Acts (Heard 1) ∷ Acts (Made Leave None) ∷ Acts (Heard 0) ∷ []
 
 abbrev pub steps : ℕ → List (Step Event (Option ℕ) ℕ)
 steps = put (put (λ (m : ℕ). []) 1 other_steps) 0 first_steps
@@ -198,7 +203,8 @@ pub record WorkedRun : Type 0 where
 -- spawn is never lost.
 abbrev pub another : List Mark
 another =
-    mark 0 Loses ∷ mark 0 Turn ∷ mark 1 Turn ∷ mark 1 Loses ∷ mark 0 Turn ∷ mark 0 Turn ∷ mark 1 Turn ∷ mark 1 Turn ∷ mark 1 Turn ∷ mark 0 Turn ∷ []
+    mark 0 Loses ∷ mark 0 Turn ∷ mark 1 Turn ∷ mark 1 Loses ∷ mark 0 Turn ∷ mark 0 Turn ∷ mark 1 Turn ∷ mark 1 Turn ∷
+    mark 1 Turn ∷ mark 0 Turn ∷ []
 
 -- It makes the history with as many lost tries, leaves both threads gone, and so gives the same ends.
 pub record AnotherSchedule : Type 0 where
@@ -209,7 +215,8 @@ pub record AnotherSchedule : Type 0 where
 
 -- Thread 1 hears what thread 0 was told: no legal history goes on so.
 abbrev pub NoAnswerOfAnother : Type 0
-NoAnswerOfAnother = (more : List (Entry Event (Option ℕ) ℕ)) → IsLegalHistory example first_state.shared first_places (made 0 Spawn None ∷ heard 1 1 ∷ more) → ⊥
+NoAnswerOfAnother = (more : List (Entry Event (Option ℕ) ℕ))
+    → IsLegalHistory example first_state.shared first_places (made 0 Spawn None ∷ heard 1 1 ∷ more) → ⊥
 
 -- Thread 0 adds once more after it has left: no threads run so.
 abbrev pub NoEntryAfterLeave : Type 0

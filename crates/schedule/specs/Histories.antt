@@ -74,7 +74,8 @@ module _ {X T E V A : Type 0} (s : System X T E V A) where
 
   abbrev pub IsLegalHistory : X → (ℕ → Place A) → List (Entry E V A) → Type 0
   IsLegalHistory x q [] = Unit {0}
-  IsLegalHistory x q (h ∷ H) = IsLegalEntry x q h.thread h.act × IsLegalHistory (next_shared x h.thread h.act) (next_places x q h.thread h.act) H
+  IsLegalHistory x q (h ∷ H) = IsLegalEntry x q h.thread h.act
+      × IsLegalHistory (next_shared x h.thread h.act) (next_places x q h.thread h.act) H
 
   -- Each event is of a thread without an open question.
   abbrev pub IsFreeAt : (ℕ → Place A) → ℕ → Act E V A → Type 0

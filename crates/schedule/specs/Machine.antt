@@ -119,7 +119,8 @@ module _ {C E V A O : Type 0} (k : Machine C E V A O) where
     pub exempt : k.is_exempt k.leave ≡ true
 
   -- The system of its threads over something shared.
-  abbrev pub system : {X : Type 0} → (X → ℕ → E → V) → (X → ℕ → E → X) → (X → ℕ → E → ℕ → Option A) → (X → ℕ → E → ℕ → Option (Thread C O)) → System X (Thread C O) E V A
+  abbrev pub system : {X : Type 0} → (X → ℕ → E → V) → (X → ℕ → E → X) → (X → ℕ → E → ℕ → Option A)
+      → (X → ℕ → E → ℕ → Option (Thread C O)) → System X (Thread C O) E V A
   system reply after gives starts = record {
     reply = reply;
     after = after;

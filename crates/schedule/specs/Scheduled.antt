@@ -1,6 +1,8 @@
 -- The scheduled machine: one thread steps all, mark by mark.
 use Rattle.std.specs.Prelude.{ℕ, ◌==◌, Bool, true, false, cond, List, [], ◌∷◌, ◌++◌, Option, Some, None}
-use Rattle.schedule.specs.System.{Want, Want.Turns, Want.Calls, Want.Awaits, Want.Gone, Act.Made, Act.Heard, Step, Step.Own, Step.Lost, Step.Full, Step.Acts, Entry, Mark, Kind, Kind.Turn, Kind.Loses, Kind.Fills, System, State, put}
+use Rattle.schedule.specs.System.{Want, Want.Turns, Want.Calls, Want.Awaits, Want.Gone, Act.Made, Act.Heard, Step}
+use Rattle.schedule.specs.System.{Step.Own, Step.Lost, Step.Full, Step.Acts, Entry, Mark, Kind, Kind.Turn, Kind.Loses}
+use Rattle.schedule.specs.System.{Kind.Fills, System, State, put}
 
 -- A thread that starts takes the place of what was there.
 abbrev pub or_started : {B : Type 0} → Option B → B → B
@@ -18,7 +20,8 @@ module _ {X T E V A : Type 0} (s : System X T E V A) where
   after_event w n e =
       record {
         shared = s.after w.shared n e;
-        threads = λ m. or_started (s.starts w.shared n e m) (hears_any (put w.threads n (s.takes (w.threads n) (s.reply w.shared n e)) m) (s.gives w.shared n e m));
+        threads = λ m. or_started (s.starts w.shared n e m)
+            (hears_any (put w.threads n (s.takes (w.threads n) (s.reply w.shared n e)) m) (s.gives w.shared n e m));
       }
 
   abbrev pub with_thread : State X T → ℕ → T → State X T

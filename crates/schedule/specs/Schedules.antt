@@ -1,9 +1,11 @@
 -- Schedules: the one of a history, and which schedules follow one.
 use Rattle.std.specs.Prelude.{ℕ, ◌≡◌, ◌≢◌, List, [], ◌∷◌, ◌++◌}
-use Rattle.schedule.specs.System.{Want.Gone, Act, Act.Made, Act.Heard, Step, Step.Own, Step.Lost, Step.Full, Step.Acts, Entry, Mark, Kind.Turn, Kind.Loses, Kind.Fills, System, State, put}
+use Rattle.schedule.specs.System.{Want.Gone, Act, Act.Made, Act.Heard, Step, Step.Own, Step.Lost, Step.Full}
+use Rattle.schedule.specs.System.{Step.Acts, Entry, Mark, Kind.Turn, Kind.Loses, Kind.Fills, System, State, put}
 use Rattle.schedule.specs.ThreadRun.{acts, after_first_act, losses_between, IsThreadRun}
 use Rattle.schedule.specs.Scheduled.{scheduled_run, entries_made, steps_made}
-use Rattle.schedule.specs.Histories.{Place, Place.Unstarted, Place.Free, IsClosed, acts_of, without_answers, shared_after, places_after, IsLegalHistory, IsOrdered, StartedRun}
+use Rattle.schedule.specs.Histories.{Place, Place.Unstarted, Place.Free, IsClosed, acts_of, without_answers}
+use Rattle.schedule.specs.Histories.{shared_after, places_after, IsLegalHistory, IsOrdered, StartedRun}
 use Rattle.schedule.specs.Tries.{TryRules, HasSeen, AreLossesCovered, IsFullOnlyAtLimit, IsWithinLimit, MayMarkAll}
 
 module _ {E V A : Type 0} where
@@ -23,12 +25,14 @@ module _ {E V A : Type 0} where
   -- The schedule of a history whose threads make these steps.
   abbrev pub schedule_of : List (Entry E V A) → (ℕ → List (Step E V A)) → List Mark
   schedule_of [] steps = []
-  schedule_of (h ∷ H) steps = marks_of_entry h.thread h.act (steps h.thread) ++ schedule_of H (put steps h.thread (after_first_act (steps h.thread)))
+  schedule_of (h ∷ H) steps = marks_of_entry h.thread h.act (steps h.thread) ++ schedule_of H
+      (put steps h.thread (after_first_act (steps h.thread)))
 
 module _ {X T E V A : Type 0} (s : System X T E V A) where
   -- A legal history of threads that ran: from the beginning, where no question is open and who isn't started does nothing,
   -- each thread runs by its steps, whose acts are its entries.
-  pub record ThreadsRun (first : State X T) (places : ℕ → Place A) (steps : ℕ → List (Step E V A)) (ends : ℕ → T) (H : List (Entry E V A)) : Type 0 where
+  pub record ThreadsRun (first : State X T) (places : ℕ → Place A) (steps : ℕ → List (Step E V A)) (ends : ℕ → T)
+      (H : List (Entry E V A)) : Type 0 where
     pub legal : IsLegalHistory s first.shared places H
     pub closed : (m : ℕ) → IsClosed (places m)
     pub idle : (m : ℕ) → places m ≡ Unstarted → s.wants (first.threads m) ≡ Gone
@@ -52,14 +56,16 @@ module _ {X T E V A : Type 0} (s : System X T E V A) where
 
   -- All threads that were started are gone.
   abbrev pub AllGone : State X T → (ℕ → Place A) → List (Entry E V A) → List Mark → Type 0
-  AllGone first places H S = (m : ℕ) → places_after s first.shared places H m ≢ Unstarted → s.wants ((scheduled_run s first S).threads m) ≡ Gone
+  AllGone first places H S = (m : ℕ) → places_after s first.shared places H m ≢ Unstarted
+      → s.wants ((scheduled_run s first S).threads m) ≡ Gone
 
   -- Two schedules lose as many tries of each thread between its neighbouring acts; marks without a step don't count.
   abbrev pub LoseAsMany : State X T → List Mark → List Mark → Type 0
   LoseAsMany first S S' = (m : ℕ) → losses_between (steps_made s m first S) ≡ losses_between (steps_made s m first S')
 
   -- What one schedule of a history does: it makes the history and each thread's steps, gives all ends, and leaves all gone.
-  pub record IsOneSchedule (first : State X T) (places : ℕ → Place A) (steps : ℕ → List (Step E V A)) (ends : ℕ → T) (H : List (Entry E V A)) (S : List Mark) : Type 0 where
+  pub record IsOneSchedule (first : State X T) (places : ℕ → Place A) (steps : ℕ → List (Step E V A)) (ends : ℕ → T)
+      (H : List (Entry E V A)) (S : List Mark) : Type 0 where
     pub makes : Makes first H S
     pub makes_steps : (m : ℕ) → steps_made s m first S ≡ steps m
     pub gives : GivesEnds first places ends H S

@@ -58,7 +58,8 @@ abbrev pub ThreadsLeaveLast : (C E V A O X : Type 0) → Type 0
 ThreadsLeaveLast C E V A O X =
     (k : Machine C E V A O)
     → (reply : X → ℕ → E → V) (after : X → ℕ → E → X) (gives : X → ℕ → E → ℕ → Option A) (starts : X → ℕ → E → ℕ → Option (Thread C O))
-    → (c : C) (fuel : ℕ) (steps : List (Step E V A)) (end : Thread C O) → IsThreadRun (system k reply after gives starts) (Runs c fuel) steps end
+    → (c : C) (fuel : ℕ) (steps : List (Step E V A)) (end : Thread C O)
+    → IsThreadRun (system k reply after gives starts) (Runs c fuel) steps end
     → LeavesLast k (acts steps) end
 
 -- Two runs of one thread with the same acts and as many lost tries between them come to the same end.

@@ -1,6 +1,7 @@
 -- The run of one thread: steps that fit, one after the other, until it is gone.
 use Rattle.std.specs.Prelude.{ℕ, suc, ◌≡◌, ◌⊎◌, Bool, true, false, List, [], ◌∷◌}
-use Rattle.schedule.specs.System.{Want.Turns, Want.Calls, Want.Awaits, Want.Gone, Act, Act.Made, Act.Heard, Step, Step.Own, Step.Lost, Step.Full, Step.Acts, System}
+use Rattle.schedule.specs.System.{Want.Turns, Want.Calls, Want.Awaits, Want.Gone, Act, Act.Made, Act.Heard, Step}
+use Rattle.schedule.specs.System.{Step.Own, Step.Lost, Step.Full, Step.Acts, System}
 
 module _ {E V A : Type 0} where
   -- The acts among the steps, which are the thread's entries in a history.
@@ -99,7 +100,8 @@ module _ {X T E V A : Type 0} (s : System X T E V A) where
     -- the event by which threads leave
     pub leave : E
     -- who lost a try wants the same again, or gives up
-    pub lost_again : (t : T) (e : E) → s.may_lose t ≡ true → s.wants t ≡ Calls e → (s.wants (s.lost t) ≡ Calls e) ⊎ IsGivingUp leave (s.lost t)
+    pub lost_again : (t : T) (e : E) → s.may_lose t ≡ true → s.wants t ≡ Calls e → (s.wants (s.lost t) ≡ Calls e)
+        ⊎ IsGivingUp leave (s.lost t)
     -- who found the log full leaves, and a leave never finds it full
     pub full_leaves : (t : T) → s.may_fill t ≡ true → IsLeaving leave (s.full t)
     pub leave_fills : (t : T) → s.may_fill t ≡ true → s.wants t ≡ Calls leave → ⊥

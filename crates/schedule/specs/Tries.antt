@@ -1,8 +1,11 @@
 -- Lost tries and full logs: what a thread saw at each of its steps, and what then stands in the history.
-use Rattle.std.specs.Prelude.{ℕ, suc, zero, ◌≡◌, ◌≢◌, ◌==◌, ◌<◌, ◌≤◌, ◌⊎◌, Bool, true, false, List, [], ◌∷◌, ◌++◌, length, Option, Some, None}
-use Rattle.schedule.specs.System.{Act, Act.Made, Act.Heard, Step, Step.Own, Step.Lost, Step.Full, Step.Acts, Entry, Mark, Kind, Kind.Turn, Kind.Loses, Kind.Fills, System}
+use Rattle.std.specs.Prelude.{ℕ, suc, zero, ◌≡◌, ◌≢◌, ◌==◌, ◌<◌, ◌≤◌, ◌⊎◌, Bool, true, false, List, [], ◌∷◌, ◌++◌}
+use Rattle.std.specs.Prelude.{length, Option, Some, None}
+use Rattle.schedule.specs.System.{Act, Act.Made, Act.Heard, Step, Step.Own, Step.Lost, Step.Full, Step.Acts, Entry}
+use Rattle.schedule.specs.System.{Mark, Kind, Kind.Turn, Kind.Loses, Kind.Fills, System}
 use Rattle.schedule.specs.ThreadRun.{after_first_act, losses, IsLost, found_full}
-use Rattle.schedule.specs.Histories.{Place, Place.Unstarted, Place.Free, Place.Open, Place.Due, acts_of, next_shared, shared_after, places_after, starts_at}
+use Rattle.schedule.specs.Histories.{Place, Place.Unstarted, Place.Free, Place.Open, Place.Due, acts_of, next_shared}
+use Rattle.schedule.specs.Histories.{shared_after, places_after, starts_at}
 
 -- Of a shared state X and events E: whether tries can be lost, what an event touches, which another changes where a try of
 -- it is lost, how many entries a log holds, if that is limited, and which events it takes even when it is full.
@@ -112,7 +115,8 @@ module _ {X T E V A W : Type 0} (s : System X T E V A) (rules : TryRules X E W) 
   HasEnoughLater [] n x steps = Unit {0}
   HasEnoughLater (h ∷ H) n x steps =
       if_true (h.thread == n)
-      (HasEnough n (next_shared s x h.thread h.act) H (after_first_act steps) × HasEnoughLater H n (next_shared s x h.thread h.act) (after_first_act steps))
+      (HasEnough n (next_shared s x h.thread h.act) H (after_first_act steps)
+      × HasEnoughLater H n (next_shared s x h.thread h.act) (after_first_act steps))
       (HasEnoughLater H n (next_shared s x h.thread h.act) steps)
 
   -- and after the entry that starts it,

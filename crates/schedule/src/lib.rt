@@ -17,7 +17,9 @@
 #[cfg(test)]
 mod tests;
 
-ghost use Rattle.schedule.specs.Theorems.{OneSchedule, ScheduleFollows, EveryOtherGivesTheSame, ThreadsWithBudgetsKeepTheLaws, ThreadsLeaveLast, ActsAndLossesFixTheEnd, ScheduledRunsGoOn};
+ghost use Rattle.schedule.specs.Theorems.{OneSchedule, ScheduleFollows, EveryOtherGivesTheSame};
+ghost use Rattle.schedule.specs.Theorems.{ThreadsWithBudgetsKeepTheLaws, ThreadsLeaveLast};
+ghost use Rattle.schedule.specs.Theorems.{ActsAndLossesFixTheEnd, ScheduledRunsGoOn};
 ghost use Rattle.schedule.specs.Example.{WorkedRun, AnotherSchedule, NoAnswerOfAnother, NoEntryAfterLeave};
 
 /// The schedule of a history makes the history, gives every thread's end and the shared state after the history.

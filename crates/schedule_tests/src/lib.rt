@@ -1,8 +1,6 @@
 //! The scheduled machine of a module, and the schedule of a log; the tests step it along the schedules of real runs.
 #![tactic(auto)]
 
-#[cfg(test)]
-mod modules;
 mod opening;
 mod scheduling;
 #[cfg(test)]

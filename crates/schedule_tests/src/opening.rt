@@ -1,24 +1,24 @@
 //! The scheduled machine of a module, before its first mark.
 ghost use Rattle.std.specs.Prelude.{◌≡◌, ◌≤◌, ◌+◌, ℕ, All, IfOk, length, vec_len, vec_capacity};
 ghost use Rattle.schedule.specs.Machine.{Thread.Absent};
-ghost use Rattle.takes_turns.specs.Turns.{Running};
-ghost use Rattle.scheduled_machine.specs.Threads.{Setting, IsPrepared};
-ghost use Rattle.scheduled_machine.specs.Runs.{AreThreads};
+ghost use Rattle.interp_trait.specs.Turns.{Running};
+ghost use Rattle.schedule_machine.specs.Threads.{Setting, IsPrepared};
+ghost use Rattle.schedule_machine.specs.Runs.{AreThreads};
 ghost use Rattle.schedule_tests.specs.Machines.{IsMachineOf};
+ghost use Rattle.interp.specs.Threads.{meaning_in};
 
 use interp::Thread;
-use module_run::{first_thread, spawnable_threads};
-use one_memory::{OneMemory, OpenFault};
-use scheduled_machine::{Machine, Stepped};
-use spawn_host::RunFault;
+use interp_trait::TakesTurns;
+use schedule_machine::{Machine, Stepped};
+use shared_memory_sequential::{OneMemory, OpenFault};
+use spawn_host::{first_thread, spawnable_threads};
+use spawn_host_workers::RunFault;
 use std::alloc::{AllocError, Global};
-use takes_turns::TakesTurns;
 use thiserror::Error;
-use types::Value;
+use types::{MOST_THREADS, Value};
 use validate::ValidModule;
 
 /// The most threads of a machine.
-const MOST_THREADS: usize = 16;
 
 /// Why there is no machine.
 #[derive(Clone, Copy, PartialEq, Eq, Debug, Error)]
@@ -55,9 +55,11 @@ impl From<AllocError> for MachineFault {
 /// Puts threads that aren't started behind those that are there.
 fn add_absent<T: TakesTurns + Drop>(threads: &mut Vec<Stepped<T>>, mut spawned: Vec<T>)
     requires room { vec_len threads.old + vec_len spawned ≤ vec_capacity threads.old }
-    requires prepared { (s : Setting) × All (IsPrepared T.begins T.program T.fuel s) spawned.items }
+    requires prepared { (s : Setting) × All (IsPrepared T.meaning s) spawned.items }
     ensures count { length threads.new.items ≡ length threads.old.items + length spawned.items }
-    ensures threads { (s : Setting) (f : ℕ → Running) → All (IsPrepared T.begins T.program T.fuel s) spawned.items → AreThreads T.stands T.begins T.program T.fuel s threads.old.items f → ((m : ℕ) → length threads.old.items ≤ m → f m ≡ Absent) → AreThreads T.stands T.begins T.program T.fuel s threads.new.items f }
+    ensures threads { (s : Setting) (f : ℕ → Running) → All (IsPrepared T.meaning s) spawned.items
+        → AreThreads T.meaning s threads.old.items f → ((m : ℕ) → length threads.old.items ≤ m → f m ≡ Absent)
+        → AreThreads T.meaning s threads.new.items f }
 {
     while let Some(thread) = spawned.pop() {
         threads.push_reserved(Stepped::absent(thread));
@@ -77,7 +79,7 @@ pub fn machine_of<'m>(
     args: &[Value],
     fuel: u64,
 ) -> Result<Machine<Thread<'m>>, MachineFault>
-    ensures { IfOk result (λ machine. IsMachineOf ⟦<Thread<'m> as TakesTurns>⟧.stands ⟦<Thread<'m> as TakesTurns>⟧.begins ⟦<Thread<'m> as TakesTurns>⟧.program ⟦<Thread<'m> as TakesTurns>⟧.fuel «module».now.parts entry.now args.now fuel machine) }
+    ensures { IfOk result (λ machine. IsMachineOf meaning_in «module».now.parts entry.now args.now fuel machine) }
 {
     let first = first_thread(alloc, module, entry, args, fuel)?;
     let image = module.image(alloc)?;

@@ -1,9 +1,9 @@
 //! The schedule of a log: stepped along it, the machine makes the log's events in their order.
-ghost use Rattle.schedule_tests.specs.Machines.{IsSomewhere};
+ghost use Rattle.schedule_machine.specs.Runs.{IsSomewhere};
 
-use scheduled_machine::{Kind, Machine, Mark};
+use interp_trait::TakesTurns;
+use schedule_machine::{Kind, Machine, Mark};
 use std::alloc::{AllocError, Global};
-use takes_turns::TakesTurns;
 use types::{Entry, Event, Question};
 
 /// Steps the machine by a mark, and keeps the mark.
@@ -13,8 +13,8 @@ fn step<T: TakesTurns>(
     kind: Kind,
     marks: &mut Vec<Mark>,
 ) -> Result<(), AllocError>
-    requires { IsSomewhere T.stands T.begins T.program T.fuel machine.old }
-    ensures { IsSomewhere T.stands T.begins T.program T.fuel machine.new }
+    requires { IsSomewhere T.meaning machine.old }
+    ensures { IsSomewhere T.meaning machine.new }
 {
     let mark = Mark { thread, kind };
     let _entry = machine.step(mark);
@@ -29,8 +29,8 @@ fn go_on<T: TakesTurns>(
     most: u32,
     marks: &mut Vec<Mark>,
 ) -> Result<(), AllocError>
-    requires { IsSomewhere T.stands T.begins T.program T.fuel machine.old }
-    ensures { IsSomewhere T.stands T.begins T.program T.fuel machine.new }
+    requires { IsSomewhere T.meaning machine.old }
+    ensures { IsSomewhere T.meaning machine.new }
 {
     'turns: for _ in 0..most {
         if machine.wanted(thread).is_some() {
@@ -47,8 +47,8 @@ fn fill_before_leave<T: TakesTurns>(
     entry: &Entry,
     marks: &mut Vec<Mark>,
 ) -> Result<(), AllocError>
-    requires { IsSomewhere T.stands T.begins T.program T.fuel machine.old }
-    ensures { IsSomewhere T.stands T.begins T.program T.fuel machine.new }
+    requires { IsSomewhere T.meaning machine.old }
+    ensures { IsSomewhere T.meaning machine.new }
 {
     let leave = Event::Ask(Question::Leave);
     if entry.event == leave && machine.wanted(entry.thread) != Some(leave) {
@@ -69,8 +69,8 @@ pub fn schedule_of<T: TakesTurns>(
     log: &[Entry],
     most: u32,
 ) -> Result<Vec<Mark>, AllocError>
-    requires { IsSomewhere T.stands T.begins T.program T.fuel machine.old }
-    ensures { IsSomewhere T.stands T.begins T.program T.fuel machine.new }
+    requires { IsSomewhere T.meaning machine.old }
+    ensures { IsSomewhere T.meaning machine.new }
 {
     let mut marks = Vec::new(alloc);
     for entry in log {

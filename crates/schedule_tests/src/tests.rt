@@ -1,19 +1,18 @@
 //! Runs of real threads, and the scheduled machine along the schedules of their logs.
 
-use crate::modules::{
-    ADDING, COUNTING, ENDLESS, GROWING, OUTSIDE, TIMEOUTS, TRAPPING, WAITING, single, summing,
-    threaded,
-};
 use crate::{MachineFault, machine_of, schedule_of};
-use example_modules::{BROKEN_LOCK, C_COUNTER, C_TICKET_LOCK, CONDITION, TICKET_LOCK};
+use interp_trait::OpenGate;
 use report::{EndState, load, record_run};
-use scheduled_machine::{Kind, Mark};
+use schedule_machine::{Kind, Mark};
 use std::alloc::{AllocError, Global};
 use std::process::Abort;
 use std::sync::Wait;
 use std::test::Fail;
 use std::thread::Threads;
-use takes_turns::OpenGate;
+use test_modules::{
+    ADDING, COUNTING, ENDLESS, GROWING, OUTSIDE, RACING, SUMMING, TIMEOUTS, TRAPPING,
+    WAITING_FOR_GOOD,
+};
 use types::{Entry, Event, Outcome, Stop, ThreadReport, Value};
 use validate::ValidModule;
 
@@ -94,49 +93,28 @@ fn check<R: Threads + Wait + Abort + Sync>(
     Ok(recorded.end)
 }
 
-#[test]
-fn four_threads_count(rt: HostRuntime) -> Result<(), Fail> {
-    let module = threaded(rt.alloc(), COUNTING)?;
-    let end = check(&rt, rt.alloc(), &module, FUEL, LIMIT, 5)?;
-    assert_eq!(rt; end.threads.len(), 5);
-    Ok(())
-}
+/// Modules, how often each is run, and how many threads have an end.
+static STEPPED: [(&[u8], u32, usize); 4] = [
+    (COUNTING, 5, 5),
+    (SUMMING, 20, 16),
+    (TRAPPING, 20, 2),
+    (TIMEOUTS, 20, 4),
+];
 
 #[test]
-fn the_examples_are_stepped_again(rt: HostRuntime) -> Result<(), Fail> {
-    for module in [
-        BROKEN_LOCK,
-        TICKET_LOCK,
-        CONDITION,
-        C_COUNTER,
-        C_TICKET_LOCK,
-    ] {
-        check(&rt, rt.alloc(), module, FUEL, LIMIT, 2)?;
+fn modules_are_stepped_again(rt: HostRuntime) -> Result<(), Fail> {
+    for (module, times, threads) in STEPPED {
+        let end = check(&rt, rt.alloc(), module, FUEL, LIMIT, times)?;
+        assert_eq!(rt; end.threads.len(), threads);
     }
     Ok(())
 }
 
 #[test]
-fn sixteen_spawns_are_summed(rt: HostRuntime) -> Result<(), Fail> {
-    let module = threaded(rt.alloc(), &summing(rt.alloc())?)?;
-    let end = check(&rt, rt.alloc(), &module, FUEL, LIMIT, 20)?;
-    assert_eq!(rt; end.threads.len(), 16);
-    Ok(())
-}
-
-#[test]
-fn one_of_two_threads_traps(rt: HostRuntime) -> Result<(), Fail> {
-    let module = threaded(rt.alloc(), TRAPPING)?;
-    let end = check(&rt, rt.alloc(), &module, FUEL, LIMIT, 20)?;
-    assert_eq!(rt; end.threads.len(), 2);
-    Ok(())
-}
-
-#[test]
-fn timeouts_end(rt: HostRuntime) -> Result<(), Fail> {
-    let module = threaded(rt.alloc(), TIMEOUTS)?;
-    let end = check(&rt, rt.alloc(), &module, FUEL, LIMIT, 20)?;
-    assert_eq!(rt; end.threads.len(), 4);
+fn the_examples_are_stepped_again(rt: HostRuntime) -> Result<(), Fail> {
+    for module in RACING {
+        check(&rt, rt.alloc(), module, FUEL, LIMIT, 2)?;
+    }
     Ok(())
 }
 
@@ -149,10 +127,9 @@ fn has_stopped(end: &EndState, stop: Stop) -> bool {
 
 #[test]
 fn a_log_is_full(rt: HostRuntime) -> Result<(), Fail> {
-    let module = threaded(rt.alloc(), COUNTING)?;
-    let end = check(&rt, rt.alloc(), &module, FUEL, 1_000, 5)?;
+    let end = check(&rt, rt.alloc(), COUNTING, FUEL, 1_000, 5)?;
     assert!(rt; has_stopped(&end, Stop::RecordFull), "{end:?}");
-    let module = single(rt.alloc(), ENDLESS)?;
+    let module = ENDLESS.bytes(rt.alloc())?;
     let end = check(&rt, rt.alloc(), &module, FUEL, 7, 1)?;
     assert!(rt; has_stopped(&end, Stop::RecordFull), "{end:?}");
     Ok(())
@@ -160,21 +137,20 @@ fn a_log_is_full(rt: HostRuntime) -> Result<(), Fail> {
 
 #[test]
 fn the_units_are_spent(rt: HostRuntime) -> Result<(), Fail> {
-    let module = single(rt.alloc(), ENDLESS)?;
+    let module = ENDLESS.bytes(rt.alloc())?;
     for fuel in [0, 1, 2, 3, 100, 1_001] {
         let end = check(&rt, rt.alloc(), &module, fuel, LIMIT, 1)?;
         assert!(rt; has_stopped(&end, Stop::OutOfFuel), "{end:?}");
     }
-    let module = threaded(rt.alloc(), COUNTING)?;
-    let end = check(&rt, rt.alloc(), &module, 1_000, LIMIT, 5)?;
+    let end = check(&rt, rt.alloc(), COUNTING, 1_000, LIMIT, 5)?;
     assert!(rt; has_stopped(&end, Stop::AsleepForGood), "{end:?}");
     Ok(())
 }
 
 #[test]
 fn one_thread_alone(rt: HostRuntime) -> Result<(), Fail> {
-    for body in [ADDING, OUTSIDE, GROWING, WAITING] {
-        let module = single(rt.alloc(), body)?;
+    for small in [ADDING, OUTSIDE, GROWING, WAITING_FOR_GOOD] {
+        let module = small.bytes(rt.alloc())?;
         let end = check(&rt, rt.alloc(), &module, FUEL, LIMIT, 1)?;
         assert_eq!(rt; end.threads.len(), 1);
     }
@@ -229,7 +205,7 @@ const SOME_IDLE: [Mark; 10] = [
 /// The thread spends a unit on each of two constants, on the try that it loses, on the one that it makes, and on its return.
 #[test]
 fn some_marks_are_idle(rt: HostRuntime) -> Result<(), Fail> {
-    let bytes = single(rt.alloc(), ADDING)?;
+    let bytes = ADDING.bytes(rt.alloc())?;
     let module = load(rt.alloc(), &bytes)?;
     let mut machine = machine_of(rt.alloc(), &module, "f", &[], 10)?;
     let mut entries = Vec::new(rt.alloc());
@@ -246,7 +222,7 @@ fn some_marks_are_idle(rt: HostRuntime) -> Result<(), Fail> {
 
 #[test]
 fn refused_as_a_run(rt: HostRuntime) -> Result<(), Fail> {
-    let bytes = single(rt.alloc(), ADDING)?;
+    let bytes = ADDING.bytes(rt.alloc())?;
     let module = load(rt.alloc(), &bytes)?;
     assert!(rt;
         matches!(

@@ -64,7 +64,8 @@ IsMemoryLegal-rest m [] ys h = h
 IsMemoryLegal-rest m (x ∷ xs) ys h = IsMemoryLegal-rest (state_after m x.event) xs ys h.1
 
 -- one more entry, with the memory's reply
-pub IsMemoryLegal-entry : (m : Memory) (xs : List Entry) (n : ℕ) (event : Event) (reply : Reply) → IsMemoryLegal m xs → reply ≡ reply_of (memory_after m xs) event
+pub IsMemoryLegal-entry : (m : Memory) (xs : List Entry) (n : ℕ) (event : Event) (reply : Reply) → IsMemoryLegal m xs
+    → reply ≡ reply_of (memory_after m xs) event
     → IsMemoryLegal m (xs ++ entry n event reply ∷ [])
 IsMemoryLegal-entry m xs n event reply h is = IsMemoryLegal-append m xs (entry n event reply ∷ []) h (is, tt)
 
@@ -87,7 +88,8 @@ pub queue_from-append : (q : WaitQueue) (xs ys : List Entry) → queue_from q (x
 queue_from-append q [] ys = refl
 queue_from-append q (x ∷ xs) ys = queue_from-append (queue_step q x.thread x.event x.reply) xs ys
 
-pub IsQueueLegalFrom-append : (q : WaitQueue) (xs ys : List Entry) → IsQueueLegalFrom q xs → IsQueueLegalFrom (queue_from q xs) ys → IsQueueLegalFrom q (xs ++ ys)
+pub IsQueueLegalFrom-append : (q : WaitQueue) (xs ys : List Entry) → IsQueueLegalFrom q xs
+    → IsQueueLegalFrom (queue_from q xs) ys → IsQueueLegalFrom q (xs ++ ys)
 IsQueueLegalFrom-append q [] ys h k = k
 IsQueueLegalFrom-append q (x ∷ xs) ys h k = (h.0, IsQueueLegalFrom-append (queue_step q x.thread x.event x.reply) xs ys h.1 k)
 

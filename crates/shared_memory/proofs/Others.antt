@@ -1,6 +1,7 @@
 -- What the entries of others leave of a thread: that it is alive, that it is quiet, which answer is due to it, and that
 -- its question is open.
-use Rattle.std.proofs.Common.{◌≡◌, ◌≢◌, ℕ, ◌==◌, Bool, true, false, not, ◌||◌, cond, List, [], ◌∷◌, ◌++◌, length, Some, None, refl, sym, ◌∙◌, ap, subst, inl, inr, get_or-set_other}
+use Rattle.std.proofs.Common.{◌≡◌, ◌≢◌, ℕ, ◌==◌, Bool, true, false, not, ◌||◌, cond, List, [], ◌∷◌, ◌++◌, length, Some}
+use Rattle.std.proofs.Common.{None, refl, sym, ◌∙◌, ap, subst, inl, inr, get_or-set_other}
 use Rattle.std.specs.Prelude.{nat_lt, is_some}
 use Rattle.std.proofs.lemmas.Bool.{both_ways, or_from, or_left, or_right, eqb-false, ne_eqb, cond_both, cond-false, cases_Bool}
 use Rattle.std.proofs.lemmas.List.Folds.{list_any-append}
@@ -13,14 +14,18 @@ use Rattle.types.specs.declared.event.Answer.{Answer}
 use Rattle.types.specs.declared.event.Answer.TheVariants.{Number}
 use Rattle.types.specs.declared.event.Reply.{Reply}
 use Rattle.types.specs.declared.event.Reply.TheVariants.{Value, Done, OutOfBounds, Again, Full}
+use Rattle.types.specs.Limits.{most_threads}
 use Rattle.shared_memory.specs.declared.sleeper.Sleeper.{Sleeper}
 use Rattle.shared_memory.specs.Events.{is_of_queue}
-use Rattle.shared_memory.specs.WaitQueue.{WaitQueue, first_queue, is_alive, is_among, is_asleep, answer_due, next_id, tells, wakes, sleeps, starts, leaves, woken_at, ends_at_once, ended, end_answer, is_stuck, settled, asked, after_question, after_answer, IsFree, has_open_question}
+use Rattle.shared_memory.specs.WaitQueue.{WaitQueue, first_queue, is_alive, is_among, is_asleep, answer_due, next_id, tells, wakes, sleeps, starts, leaves}
+use Rattle.shared_memory.specs.WaitQueue.{woken_at, ends_at_once, ended, end_answer, is_stuck, settled, asked}
+use Rattle.shared_memory.specs.WaitQueue.{after_question, after_answer, IsFree, has_open_question}
 use Rattle.shared_memory.specs.History.{entries_of, of_queue, queue_step, queue_from, queue_after}
 use Rattle.shared_memory.specs.Legal.{IsAllowed, IsQueueLegalFrom, IsQueueLegal}
+use Rattle.shared_memory.specs.Sound.{IsSound}
 use Rattle.shared_memory.proofs.Histories.{of_queue-append, queue_from-append, IsQueueLegalFrom-rest, IsQueueLegal-prefix}
 use Rattle.shared_memory.proofs.Sleepers.{due_after-other, due_after-woken, others_than-other}
-use Rattle.shared_memory.proofs.Soundness.{IsSound, IsSound-asked, IsSound-step, IsSound-after, awake_if_due, has_place, alive_but}
+use Rattle.shared_memory.proofs.Soundness.{IsSound-asked, IsSound-step, IsSound-after, awake_if_due, has_place, alive_but}
 use Rattle.shared_memory.proofs.Woken.{ended_sleeps, woken_sleeps}
 
 -- A thread without an open question: it doesn't sleep, and is owed no answer.
@@ -47,7 +52,8 @@ Keeps-trans n p q r h k = record {
 }
 
 -- one with the same sleepers and answers due, as far as they are thread n's
-Keeps-alike : (n : ℕ) (q r : WaitQueue) → (is_alive q n ≡ true → is_alive r n ≡ true) → is_asleep r n ≡ is_asleep q n → answer_due r n ≡ answer_due q n → Keeps n q r
+Keeps-alike : (n : ℕ) (q r : WaitQueue) → (is_alive q n ≡ true → is_alive r n ≡ true) → is_asleep r n ≡ is_asleep q n
+    → answer_due r n ≡ answer_due q n → Keeps n q r
 Keeps-alike n q r alive asleep due = record {
   alive = alive;
   quiet = λ h. record { awake = asleep ∙ h.awake; told = due ∙ h.told };
@@ -63,7 +69,8 @@ unfolding after_answer
 Keeps-taken n t q apart = Keeps-alike n q (after_answer q t) (λ h. h) refl (get_or-set_other q.due t n None None (λ e. apart (sym e)))
 
 -- who is woken had been asleep
-Keeps-woken : (n : ℕ) (q : WaitQueue) (woken : List Sleeper) (a : Answer) → IsSound q → is_asleep q n ≡ true → is_among n woken ≡ true → Keeps n q (wakes woken a q)
+Keeps-woken : (n : ℕ) (q : WaitQueue) (woken : List Sleeper) (a : Answer) → IsSound q → is_asleep q n ≡ true
+    → is_among n woken ≡ true → Keeps n q (wakes woken a q)
 Keeps-woken n q woken a sound asleep among =
     let now : answer_due (wakes woken a q) n ≡ Some a = due_after-woken n woken a q.due (has_place q sound n asleep) among in
     record {
@@ -73,7 +80,8 @@ Keeps-woken n q woken a sound asleep among =
       waits = λ h. or_right (is_asleep (wakes woken a q) n) (is_some (answer_due (wakes woken a q) n)) (ap is_some now);
     }
 
-Keeps-wakes : (n : ℕ) (q : WaitQueue) (woken : List Sleeper) (a : Answer) → IsSound q → (is_among n woken ≡ true → is_asleep q n ≡ true) → Keeps n q (wakes woken a q)
+Keeps-wakes : (n : ℕ) (q : WaitQueue) (woken : List Sleeper) (a : Answer) → IsSound q
+    → (is_among n woken ≡ true → is_asleep q n ≡ true) → Keeps n q (wakes woken a q)
 Keeps-wakes n q woken a sound asleep =
     elim (cases_Bool (is_among n woken)) [
       | inl among ↦ Keeps-woken n q woken a sound (asleep among) among
@@ -108,15 +116,17 @@ Keeps-asked n t q (Wait addr width expected timeout) v apart sound =
     let s : Sleeper = record { thread = t; addr = addr; timeout = timeout } in
     cond_both (not (v == expected)) (tells t (Number 1) q) (cond (ends_at_once timeout) (tells t (Number 2) q) (sleeps s q)) (λ w. Keeps n q w)
     (λ e. Keeps-tells n t q (Number 1) apart)
-    (λ e. cond_both (ends_at_once timeout) (tells t (Number 2) q) (sleeps s q) (λ w. Keeps n q w) (λ d. Keeps-tells n t q (Number 2) apart) (λ d. Keeps-sleeps n q s apart))
+    (λ e. cond_both (ends_at_once timeout) (tells t (Number 2) q) (sleeps s q) (λ w. Keeps n q w)
+    (λ d. Keeps-tells n t q (Number 2) apart) (λ d. Keeps-sleeps n q s apart))
 Keeps-asked n t q (Notify addr count) v apart sound =
     let woken : List Sleeper = woken_at addr count q.sleepers in
     Keeps-trans n q (wakes woken (Number 0) q) (tells t (Number (length woken)) (wakes woken (Number 0) q))
     (Keeps-wakes n q woken (Number 0) sound (λ among. woken_sleeps n addr count q.sleepers among))
     (Keeps-tells n t (wakes woken (Number 0) q) (Number (length woken)) apart)
 Keeps-asked n t q (Spawn arg) v apart sound =
-    cond_both (nat_lt (next_id q) 16) (tells t (Number (next_id q)) (starts arg q)) (tells t (Number 4294967295) q) (λ w. Keeps n q w)
-    (λ e. Keeps-trans n q (starts arg q) (tells t (Number (next_id q)) (starts arg q)) (Keeps-starts n q arg) (Keeps-tells n t (starts arg q) (Number (next_id q)) apart))
+    cond_both (nat_lt (next_id q) most_threads) (tells t (Number (next_id q)) (starts arg q)) (tells t (Number 4294967295) q) (λ w. Keeps n q w)
+    (λ e. Keeps-trans n q (starts arg q) (tells t (Number (next_id q)) (starts arg q)) (Keeps-starts n q arg)
+    (Keeps-tells n t (starts arg q) (Number (next_id q)) apart))
     (λ e. Keeps-tells n t q (Number 4294967295) apart)
 Keeps-asked n t q Leave v apart sound =
     Keeps-trans n q (leaves t q) (tells t (Number 0) (leaves t q)) (Keeps-leaves n t q apart) (Keeps-tells n t (leaves t q) (Number 0) apart)
@@ -173,4 +183,6 @@ Keeps-after n xs ys none legal =
     let kept : Keeps n (queue_after xs) (queue_from (queue_after xs) (of_queue ys)) =
     Keeps-from n (queue_after xs) (of_queue ys) (others_of_queue n ys none) (IsQueueLegalFrom-rest first_queue (of_queue xs) (of_queue ys) split)
     (IsSound-after xs (IsQueueLegal-prefix xs ys legal)) in
-    subst (λ w. Keeps n (queue_after xs) w) (sym (ap (queue_from first_queue) (of_queue-append xs ys) ∙ queue_from-append first_queue (of_queue xs) (of_queue ys))) kept
+    subst (λ w. Keeps n (queue_after xs) w)
+    (sym (ap (queue_from first_queue) (of_queue-append xs ys)
+    ∙ queue_from-append first_queue (of_queue xs) (of_queue ys))) kept

@@ -11,12 +11,15 @@ use Rattle.types.specs.declared.event.Question.{Question}
 use Rattle.types.specs.declared.event.Reply.{Reply}
 use Rattle.types.specs.declared.event.Reply.TheVariants.{Value, Done, OutOfBounds, Again, Full}
 use Rattle.shared_memory.specs.declared.sleeper.Sleeper.{Sleeper}
-use Rattle.shared_memory.specs.WaitQueue.{WaitQueue, first_queue, is_alive, is_among, is_asleep, wakes, first_to_end, ended, end_answer, is_stuck, settled, asked, after_question, after_answer, IsFree}
+use Rattle.shared_memory.specs.WaitQueue.{WaitQueue, first_queue, is_alive, is_among, is_asleep, wakes, first_to_end}
+use Rattle.shared_memory.specs.WaitQueue.{ended, end_answer, is_stuck, settled, asked, after_question, after_answer}
+use Rattle.shared_memory.specs.WaitQueue.{IsFree}
 use Rattle.shared_memory.specs.History.{of_queue, queue_step, queue_from, queue_after}
 use Rattle.shared_memory.specs.Legal.{IsAllowed, IsQueueLegalFrom, IsQueueLegal}
+use Rattle.shared_memory.specs.Sound.{IsSound}
 use Rattle.shared_memory.proofs.Sleepers.{others_than-woken}
 use Rattle.shared_memory.proofs.Woken.{first_is_among}
-use Rattle.shared_memory.proofs.Soundness.{IsSound, IsSound-asked, IsSound-step, IsSound-first}
+use Rattle.shared_memory.proofs.Soundness.{IsSound-asked, IsSound-step, IsSound-first}
 
 -- after settling
 
@@ -39,7 +42,9 @@ first_sleeps : (q : WaitQueue) (ns : List ℕ) → q.alive ≡ ns → is_stuck q
 first_sleeps q [] is stuck =
     let bad : is_stuck q ≡ false = rw is refl in absurd (both_ways (is_stuck q) bad stuck)
 first_sleeps q (n ∷ ns) is stuck =
-    let parts : (nat_lt 0 (length q.alive) ≡ true) × (list_all (λ m. is_asleep q m) q.alive ≡ true) = and_parts (nat_lt 0 (length q.alive)) (list_all (λ m. is_asleep q m) q.alive) stuck in
+    let parts : (nat_lt 0 (length q.alive) ≡ true)
+    × (list_all (λ m. is_asleep q m) q.alive ≡ true) = and_parts (nat_lt 0 (length q.alive))
+    (list_all (λ m. is_asleep q m) q.alive) stuck in
     let each : (is_asleep q n && list_all (λ m. is_asleep q m) ns) ≡ true = subst (λ w. list_all (λ m. is_asleep q m) w ≡ true) is parts.1 in
     let among : list_any (λ m. m == n) (n ∷ ns) ≡ true = or_left (n == n) (list_any (λ m. m == n) ns) (eq-eqb n n refl) in
     (n, subst (λ w. list_any (λ m. m == n) w ≡ true) (sym is) among, (and_parts (is_asleep q n) (list_all (λ m. is_asleep q m) ns) each).0)
@@ -77,7 +82,8 @@ pub unstuck_answer : (q : WaitQueue) (n : ℕ) → is_stuck q ≡ false → is_s
 unfolding after_answer
 unstuck_answer q n unstuck = unstuck
 
-unstuck_ask : (q : WaitQueue) (n : ℕ) (question : Question) (reply : Reply) → IsFree q n → IsSound q → is_stuck q ≡ false → is_stuck (queue_step q n (Ask question) reply) ≡ false
+unstuck_ask : (q : WaitQueue) (n : ℕ) (question : Question) (reply : Reply) → IsFree q n → IsSound q
+    → is_stuck q ≡ false → is_stuck (queue_step q n (Ask question) reply) ≡ false
 unstuck_ask q n question OutOfBounds free sound unstuck = unstuck
 unstuck_ask q n question (Value v) free sound unstuck = unstuck_question q n question v free sound
 unstuck_ask q n question Done free sound unstuck = unstuck_question q n question 0 free sound

@@ -1,11 +1,14 @@
 -- Lists of sleepers: who is among them, who is left of them, and what an answer to each of them makes due.
-use Rattle.std.proofs.Common.{◌≡◌, ℕ, ◌<◌, ◌==◌, Bool, true, false, not, ◌||◌, List, [], ◌∷◌, ◌++◌, length, take, zero, suc, Option, Some, None, refl, sym, ◌∙◌, ap, subst, inl, inr, arith, get_or, set, get_or-set_same, get_or-set_other, length-set}
+use Rattle.std.proofs.Common.{◌≡◌, ℕ, ◌<◌, ◌==◌, Bool, true, false, not, ◌||◌, List, [], ◌∷◌, ◌++◌, length, take, zero, suc}
+use Rattle.std.proofs.Common.{Option, Some, None, refl, sym, ◌∙◌, ap, subst, inl, inr, arith, get_or, set, get_or-set_same, get_or-set_other, length-set}
 use Rattle.std.specs.List.{filter, list_any}
-use Rattle.std.proofs.lemmas.Bool.{both_ways, or_parts, or_from, or_left, or_right, or_cases, eqb-true, eqb-false, ne_eqb, cond_both, cases_Bool, not-true, not-false, false_from_ne_true}
+use Rattle.std.proofs.lemmas.Bool.{both_ways, or_parts, or_from, or_left, or_right, or_cases, eqb-true, eqb-false}
+use Rattle.std.proofs.lemmas.Bool.{ne_eqb, cond_both, cases_Bool, not-true, not-false, false_from_ne_true}
 use Rattle.std.proofs.lemmas.List.Folds.{list_any-append}
 use Rattle.types.specs.declared.event.Answer.{Answer}
 use Rattle.shared_memory.specs.declared.sleeper.Sleeper.{Sleeper}
 use Rattle.shared_memory.specs.WaitQueue.{is_among, due_after}
+use Rattle.shared_memory.specs.Sound.{AreDistinct, SleepOnce}
 
 -- lists of any kind
 
@@ -61,19 +64,10 @@ others_than-other n woken (s ∷ sleepers) isnt =
     (λ e. let same : (s.thread == n) ≡ false = other s (not-false (is_among s.thread woken) e) in rest ∙ ap (λ w. w || is_among n sleepers) (sym same))
   where
     other : (t : Sleeper) → is_among t.thread woken ≡ true → (t.thread == n) ≡ false
-    other t is = false_from_ne_true (t.thread == n) (λ e. both_ways (is_among n woken) isnt (subst (λ (k : ℕ). is_among k woken ≡ true) (eqb-true t.thread n e) is))
+    other t is = false_from_ne_true (t.thread == n)
+        (λ e. both_ways (is_among n woken) isnt (subst (λ (k : ℕ). is_among k woken ≡ true) (eqb-true t.thread n e) is))
 
 -- distinct numbers and sleepers
-
--- no number stands twice
-abbrev pub AreDistinct : List ℕ → Type 0
-AreDistinct [] = Unit {0}
-AreDistinct (n ∷ ns) = (list_any (λ m. m == n) ns ≡ false) × AreDistinct ns
-
--- no thread sleeps twice
-abbrev pub SleepOnce : List Sleeper → Type 0
-SleepOnce [] = Unit {0}
-SleepOnce (s ∷ sleepers) = (is_among s.thread sleepers ≡ false) × SleepOnce sleepers
 
 pub AreDistinct-filter : (p : ℕ → Bool) (ns : List ℕ) → AreDistinct ns → AreDistinct (filter p ns)
 AreDistinct-filter p [] h = tt
@@ -85,14 +79,18 @@ pub AreDistinct-push : (ns : List ℕ) (n : ℕ) → AreDistinct ns → list_any
 AreDistinct-push [] n h fresh = (refl, tt)
 AreDistinct-push (m ∷ ns) n h fresh =
     let parts : ((m == n) ≡ false) × (list_any (λ k. k == n) ns ≡ false) = or_parts (m == n) (list_any (λ k. k == n) ns) fresh in
-    let back : (n == m) ≡ false = ne_eqb n m (λ e. eqb-false m n parts.0 (sym e)) in
-    (list_any-append (λ k. k == m) ns (n ∷ []) ∙ or_from (list_any (λ k. k == m) ns) ((n == m) || false) h.0 (or_from (n == m) false back refl), AreDistinct-push ns n h.1 parts.1)
+    let back : (n == m) ≡ false = ne_eqb n m (λ e. eqb-false m n parts.0 (sym e)) in (
+      list_any-append (λ k. k == m) ns (n ∷ [])
+          ∙ or_from (list_any (λ k. k == m) ns) ((n == m) || false) h.0 (or_from (n == m) false back refl),
+      AreDistinct-push ns n h.1 parts.1,
+    )
 
 pub SleepOnce-filter : (p : Sleeper → Bool) (sleepers : List Sleeper) → SleepOnce sleepers → SleepOnce (filter p sleepers)
 SleepOnce-filter p [] h = tt
 SleepOnce-filter p (s ∷ sleepers) h =
     let rest : SleepOnce (filter p sleepers) = SleepOnce-filter p sleepers h.1 in
-    cond_both (p s) (s ∷ filter p sleepers) (filter p sleepers) (λ w. SleepOnce w) (λ e. (list_any-filter p (λ (t : Sleeper). t.thread == s.thread) sleepers h.0, rest)) (λ e. rest)
+    cond_both (p s) (s ∷ filter p sleepers) (filter p sleepers) (λ w. SleepOnce w)
+    (λ e. (list_any-filter p (λ (t : Sleeper). t.thread == s.thread) sleepers h.0, rest)) (λ e. rest)
 
 pub SleepOnce-push : (sleepers : List Sleeper) (s : Sleeper) → SleepOnce sleepers → is_among s.thread sleepers ≡ false → SleepOnce (sleepers ++ s ∷ [])
 SleepOnce-push [] s h fresh = (refl, tt)
@@ -129,7 +127,8 @@ due_after-woken n (s ∷ woken) a due within is =
       | inr no_more ↦ due_after-other n woken a (set due s.thread (Some a)) no_more ∙ at_last due s woken within is no_more
     ]
   where
-    at_last : (ds : List (Option Answer)) (t : Sleeper) (ts : List Sleeper) → n < length ds → is_among n (t ∷ ts) ≡ true → is_among n ts ≡ false → get_or (set ds t.thread (Some a)) n None ≡ Some a
+    at_last : (ds : List (Option Answer)) (t : Sleeper) (ts : List Sleeper) → n < length ds
+        → is_among n (t ∷ ts) ≡ true → is_among n ts ≡ false → get_or (set ds t.thread (Some a)) n None ≡ Some a
     at_last ds t ts inside among isnt =
         elim (or_cases (t.thread == n) (is_among n ts) among) [
           | inl e ↦ (let same : n ≡ t.thread = sym (eqb-true t.thread n e) in

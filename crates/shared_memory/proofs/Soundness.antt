@@ -1,8 +1,10 @@
--- What holds of the wait queue after each history that is legal for it.
-use Rattle.std.proofs.Common.{◌≡◌, ◌≢◌, ℕ, ◌+◌, ◌<◌, ◌≤◌, ◌==◌, true, false, not, ◌||◌, cond, List, [], ◌∷◌, ◌++◌, length, Option, Some, None, refl, sym, ◌∙◌, subst, ◌⊎◌, inl, inr, arith, get_or, replicate, get_or-set_other, length-set}
+-- After each history that is legal for it the wait queue is sound.
+use Rattle.std.proofs.Common.{◌≡◌, ◌≢◌, ℕ, ◌+◌, ◌<◌, ◌≤◌, ◌==◌, true, false, not, ◌||◌, cond, List, [], ◌∷◌, ◌++◌}
+use Rattle.std.proofs.Common.{length, Option, Some, None, refl, sym, ◌∙◌, subst, ◌⊎◌, inl, inr, arith, get_or, replicate, get_or-set_other, length-set}
 use Rattle.std.specs.Prelude.{nat_lt}
 use Rattle.std.specs.List.{filter, list_any}
-use Rattle.std.proofs.lemmas.Bool.{both_ways, or_left, or_right, or_cases, eqb-true, cond_both, cases_Bool, cases_eq, cases_lt, not-false, ltb-true, false_from_ne_true}
+use Rattle.std.proofs.lemmas.Bool.{both_ways, or_left, or_right, or_cases, eqb-true, cond_both, cases_Bool, cases_eq}
+use Rattle.std.proofs.lemmas.Bool.{cases_lt, not-false, ltb-true, false_from_ne_true}
 use Rattle.std.proofs.lemmas.List.{length-replicate, length-append, get_or-replicate, get_or_past}
 use Rattle.std.proofs.lemmas.List.Folds.{list_any-append}
 use Rattle.types.specs.declared.event.Entry.{Entry}
@@ -14,24 +16,16 @@ use Rattle.types.specs.declared.event.Answer.{Answer}
 use Rattle.types.specs.declared.event.Answer.TheVariants.{Number}
 use Rattle.types.specs.declared.event.Reply.{Reply}
 use Rattle.types.specs.declared.event.Reply.TheVariants.{Value, Done, OutOfBounds, Again, Full}
+use Rattle.types.specs.Limits.{most_threads}
 use Rattle.shared_memory.specs.declared.sleeper.Sleeper.{Sleeper}
-use Rattle.shared_memory.specs.WaitQueue.{WaitQueue, first_queue, is_alive, is_among, is_asleep, answer_due, next_id, tells, wakes, sleeps, starts, leaves, woken_at, ends_at_once, ended, end_answer, is_stuck, settled, asked, after_question, after_answer, IsFree}
+use Rattle.shared_memory.specs.WaitQueue.{WaitQueue, first_queue, is_alive, is_among, is_asleep, answer_due, next_id, tells, wakes, sleeps, starts}
+use Rattle.shared_memory.specs.WaitQueue.{leaves, woken_at, ends_at_once, ended, end_answer, is_stuck, settled, asked, after_question, after_answer, IsFree}
 use Rattle.shared_memory.specs.History.{of_queue, queue_step, queue_from, queue_after}
 use Rattle.shared_memory.specs.Legal.{IsAllowed, IsQueueLegalFrom, IsQueueLegal}
+use Rattle.shared_memory.specs.Sound.{AreDistinct, SleepOnce, IsSound}
 use Rattle.shared_memory.proofs.Woken.{ended_sleeps, woken_sleeps}
-use Rattle.shared_memory.proofs.Sleepers.{list_any-filter, list_any-filtered, others_than, AreDistinct, SleepOnce, AreDistinct-filter, AreDistinct-push, SleepOnce-filter, SleepOnce-push, length-due_after, due_after-other, others_than-woken}
-
--- The live threads are distinct and their numbers given out, as are those of whom an answer is due to; who sleeps is
--- alive, sleeps once, and is owed no answer.
-pub record IsSound (q : WaitQueue) : Type 0 where
-  pub named : (n : ℕ) → is_alive q n ≡ true → n < next_id q
-  pub distinct : AreDistinct q.alive
-  pub living : (n : ℕ) → is_asleep q n ≡ true → is_alive q n ≡ true
-  pub once : SleepOnce q.sleepers
-  pub unanswered : (n : ℕ) → is_asleep q n ≡ true → answer_due q n ≡ None
-  pub owed : (n : ℕ) (a : Answer) → answer_due q n ≡ Some a → n < next_id q
-  pub due_length : length q.due ≡ 16
-  pub few : length q.args ≤ 15
+use Rattle.shared_memory.proofs.Sleepers.{list_any-filter, list_any-filtered, others_than, AreDistinct-filter}
+use Rattle.shared_memory.proofs.Sleepers.{AreDistinct-push, SleepOnce-filter, SleepOnce-push, length-due_after, due_after-other, others_than-woken}
 
 -- whom an answer is due to doesn't sleep
 pub awake_if_due : (q : WaitQueue) → IsSound q → (n : ℕ) (a : Answer) → answer_due q n ≡ Some a → is_asleep q n ≡ false
@@ -39,10 +33,10 @@ awake_if_due q sound n a due =
     false_from_ne_true (is_asleep q n) (λ is. let none : answer_due q n ≡ None = sound.unanswered n is in absurd (cc (none, due)))
 
 -- there are at most 16 threads, numbered from 0
-pub alive_below : (q : WaitQueue) → IsSound q → (n : ℕ) → is_alive q n ≡ true → n < 16
+pub alive_below : (q : WaitQueue) → IsSound q → (n : ℕ) → is_alive q n ≡ true → n < most_threads
 alive_below q sound n is = let known : n < next_id q = sound.named n is in omega (arith, sound.few)
 
-pub owed_below : (q : WaitQueue) → IsSound q → (n : ℕ) (a : Answer) → answer_due q n ≡ Some a → n < 16
+pub owed_below : (q : WaitQueue) → IsSound q → (n : ℕ) (a : Answer) → answer_due q n ≡ Some a → n < most_threads
 owed_below q sound n a due = let known : n < next_id q = sound.owed n a due in omega (arith, sound.few)
 
 -- each sleeper has a place for its answer
@@ -58,13 +52,19 @@ IsSound-tells q n a awake known sound = record {
   distinct = sound.distinct;
   living = sound.living;
   once = sound.once;
-  unanswered = λ m is. get_or-set_other q.due n m (Some a) None (λ e. both_ways (is_asleep q n) awake (subst (λ (k : ℕ). is_asleep q k ≡ true) e is)) ∙ sound.unanswered m is;
-  owed = λ m b due. elim (cases_eq m n) [ inl e ↦ subst (λ (k : ℕ). k < next_id q) (sym e) known | inr apart ↦ sound.owed m b (sym (get_or-set_other q.due n m (Some a) None apart) ∙ due) ];
+  unanswered = λ m is. get_or-set_other q.due n m (Some a) None
+      (λ e. both_ways (is_asleep q n) awake (subst (λ (k : ℕ). is_asleep q k ≡ true) e is)) ∙ sound.unanswered m is;
+  owed = λ m b due. elim (cases_eq m n) [
+    | inl e ↦ subst (λ (k : ℕ). k < next_id q)
+        (sym e) known
+    | inr apart ↦ sound.owed m b (sym (get_or-set_other q.due n m (Some a) None apart) ∙ due)
+  ];
   due_length = length-set q.due n (Some a) ∙ sound.due_length;
   few = sound.few;
 }
 
-pub IsSound-wakes : (q : WaitQueue) (woken : List Sleeper) (a : Answer) → ((m : ℕ) → is_among m woken ≡ true → is_asleep q m ≡ true) → IsSound q → IsSound (wakes woken a q)
+pub IsSound-wakes : (q : WaitQueue) (woken : List Sleeper) (a : Answer)
+    → ((m : ℕ) → is_among m woken ≡ true → is_asleep q m ≡ true) → IsSound q → IsSound (wakes woken a q)
 IsSound-wakes q woken a slept sound = record {
   named = sound.named;
   distinct = sound.distinct;
@@ -83,7 +83,8 @@ IsSound-wakes q woken a slept sound = record {
     before n is = list_any-filtered (λ (s : Sleeper). not (is_among s.thread woken)) (λ (s : Sleeper). s.thread == n) q.sleepers is
 
     left : (n : ℕ) → is_among n (others_than woken q.sleepers) ≡ true → is_among n woken ≡ false
-    left n is = false_from_ne_true (is_among n woken) (λ among. both_ways (is_among n (others_than woken q.sleepers)) (others_than-woken n woken q.sleepers among) is)
+    left n is = false_from_ne_true (is_among n woken)
+        (λ among. both_ways (is_among n (others_than woken q.sleepers)) (others_than-woken n woken q.sleepers among) is)
 
 -- who falls asleep
 pub asleep_cases : (q : WaitQueue) (s : Sleeper) (n : ℕ) → is_asleep (sleeps s q) n ≡ true → (is_asleep q n ≡ true) ⊎ (s.thread ≡ n)
@@ -113,7 +114,7 @@ alive_cases q arg n is =
       | inr e ↦ elim (or_cases (next_id q == n) false e) [ inl same ↦ inr (eqb-true (next_id q) n same) | inr bad ↦ absurd (cc bad) ]
     ]
 
-pub IsSound-starts : (q : WaitQueue) (arg : ℕ) → next_id q < 16 → IsSound q → IsSound (starts arg q)
+pub IsSound-starts : (q : WaitQueue) (arg : ℕ) → next_id q < most_threads → IsSound q → IsSound (starts arg q)
 IsSound-starts q arg room sound = record {
   named = λ n is. below n is;
   distinct = AreDistinct-push q.alive (next_id q) sound.distinct fresh;
@@ -129,7 +130,11 @@ IsSound-starts q arg room sound = record {
     longer = length-append q.args (arg ∷ [])
 
     below : (n : ℕ) → is_alive (starts arg q) n ≡ true → n < length (q.args ++ arg ∷ []) + 1
-    below n is = elim (alive_cases q arg n is) [ inl e ↦ (let known : n < next_id q = sound.named n e in omega (arith, longer)) | inr e ↦ omega (arith, longer) ]
+    below n is = elim (alive_cases q arg n is) [
+      | inl e ↦
+          (let known : n < next_id q = sound.named n e in omega (arith, longer))
+      | inr e ↦ omega (arith, longer)
+    ]
 
     fresh : is_alive q (next_id q) ≡ false
     fresh = false_from_ne_true (is_alive q (next_id q)) (λ is. let known : next_id q < next_id q = sound.named (next_id q) is in absurd (omega arith))
@@ -184,8 +189,8 @@ IsSound-asked q n (Notify addr count) v free sound =
 IsSound-asked q n (Spawn arg) v free sound =
     let known : n < next_id q = sound.named n free.alive in
     let still : n < length (q.args ++ arg ∷ []) + 1 = omega (arith, length-append q.args (arg ∷ []), known) in
-    cond_both (nat_lt (next_id q) 16) (tells n (Number (next_id q)) (starts arg q)) (tells n (Number 4294967295) q) (λ w. IsSound w)
-    (λ e. IsSound-tells (starts arg q) n (Number (next_id q)) free.awake still (IsSound-starts q arg (ltb-true (next_id q) 16 e) sound))
+    cond_both (nat_lt (next_id q) most_threads) (tells n (Number (next_id q)) (starts arg q)) (tells n (Number 4294967295) q) (λ w. IsSound w)
+    (λ e. IsSound-tells (starts arg q) n (Number (next_id q)) free.awake still (IsSound-starts q arg (ltb-true (next_id q) most_threads e) sound))
     (λ e. IsSound-tells q n (Number 4294967295) free.awake known sound)
 IsSound-asked q n Leave v free sound =
     IsSound-tells (leaves n q) n (Number 0) free.awake (sound.named n free.alive) (IsSound-leaves q n free.awake sound)
@@ -201,8 +206,13 @@ IsSound-answer q n awake known sound = record {
   distinct = sound.distinct;
   living = sound.living;
   once = sound.once;
-  unanswered = λ m is. get_or-set_other q.due n m None None (λ e. both_ways (is_asleep q n) awake (subst (λ (k : ℕ). is_asleep q k ≡ true) e is)) ∙ sound.unanswered m is;
-  owed = λ m b due. elim (cases_eq m n) [ inl e ↦ subst (λ (k : ℕ). k < next_id q) (sym e) known | inr apart ↦ sound.owed m b (sym (get_or-set_other q.due n m None None apart) ∙ due) ];
+  unanswered = λ m is. get_or-set_other q.due n m None None
+      (λ e. both_ways (is_asleep q n) awake (subst (λ (k : ℕ). is_asleep q k ≡ true) e is)) ∙ sound.unanswered m is;
+  owed = λ m b due. elim (cases_eq m n) [
+    | inl e ↦ subst (λ (k : ℕ). k < next_id q)
+        (sym e) known
+    | inr apart ↦ sound.owed m b (sym (get_or-set_other q.due n m None None apart) ∙ due)
+  ];
   due_length = length-set q.due n None ∙ sound.due_length;
   few = sound.few;
 }
@@ -235,12 +245,16 @@ IsSound-first = record {
   once = tt;
   unanswered = λ n is. absurd (cc is);
   owed = λ n a due. absurd (cc (none n, due));
-  due_length = length-replicate {A = Option Answer} 16 None;
+  due_length = length-replicate {A = Option Answer} most_threads None;
   few = omega arith;
 }
   where
-    none : (n : ℕ) → get_or (replicate {A = Option Answer} 16 None) n None ≡ None
-    none n = elim (cases_lt n 16) [ inl within ↦ get_or-replicate 16 n None None within | inr past ↦ get_or_past (replicate 16 None) n None past ]
+    none : (n : ℕ) → get_or (replicate {A = Option Answer} most_threads None) n None ≡ None
+    none n = elim (cases_lt n most_threads) [
+      | inl within ↦ get_or-replicate most_threads n None None within
+      | inr past ↦
+          get_or_past (replicate most_threads None) n None past
+    ]
 
     below : (n : ℕ) → ((0 == n) || false) ≡ true → n < 1
     below n is = elim (or_cases (0 == n) false is) [ inl e ↦ (let same : 0 ≡ n = eqb-true 0 n e in omega arith) | inr bad ↦ absurd (cc bad) ]

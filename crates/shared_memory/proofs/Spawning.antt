@@ -1,5 +1,6 @@
 -- A thread that is spawned: it wasn't there before, and is free after.
-use Rattle.std.proofs.Common.{◌≡◌, ◌≢◌, ℕ, ◌<◌, ◌≤◌, ◌==◌, false, ◌||◌, List, [], ◌∷◌, ◌++◌, length, Option, Some, None, refl, sym, ◌∙◌, ap, subst, arith, get_or-set_same, get_or-set_other}
+use Rattle.std.proofs.Common.{◌≡◌, ◌≢◌, ℕ, ◌<◌, ◌≤◌, ◌==◌, false, ◌||◌, List, [], ◌∷◌, ◌++◌, length, Option, Some, None}
+use Rattle.std.proofs.Common.{refl, sym, ◌∙◌, ap, subst, arith, get_or-set_same, get_or-set_other}
 use Rattle.std.specs.Prelude.{nat_lt}
 use Rattle.std.proofs.lemmas.Bool.{or_left, or_right, cond-true, lt-ltb, eq-eqb, false_from_ne_true}
 use Rattle.std.proofs.lemmas.List.Folds.{list_any-append}
@@ -10,11 +11,13 @@ use Rattle.types.specs.declared.event.Answer.{Answer}
 use Rattle.types.specs.declared.event.Answer.TheVariants.{Number}
 use Rattle.types.specs.declared.event.Reply.{Reply}
 use Rattle.types.specs.declared.event.Reply.TheVariants.{Value, Done, OutOfBounds, Again, Full}
+use Rattle.types.specs.Limits.{most_threads}
 use Rattle.shared_memory.specs.WaitQueue.{WaitQueue, is_alive, is_asleep, answer_due, next_id, tells, starts, settled, asked, after_question, IsFree}
 use Rattle.shared_memory.specs.History.{entry, queue_step, queue_after}
 use Rattle.shared_memory.specs.Legal.{IsQueueLegal}
+use Rattle.shared_memory.specs.Sound.{IsSound}
 use Rattle.shared_memory.proofs.Histories.{IsQueueLegal-prefix}
-use Rattle.shared_memory.proofs.Soundness.{IsSound, IsSound-after}
+use Rattle.shared_memory.proofs.Soundness.{IsSound-after}
 use Rattle.shared_memory.proofs.Settling.{awake_unstuck, settled_same}
 use Rattle.shared_memory.proofs.Standing.{IsAbsent}
 use Rattle.shared_memory.proofs.Turns.{queue_after-one, last_allowed}
@@ -37,13 +40,14 @@ pub record Spawns (t arg : ℕ) (before after : WaitQueue) : Type 0 where
   pub args : after.args ≡ before.args ++ arg ∷ []
   pub free : IsFree after (next_id before)
 
-module _ (t arg : ℕ) (q : WaitQueue) (sound : IsSound q) (free : IsFree q t) (room : next_id q < 16) where
+module _ (t arg : ℕ) (q : WaitQueue) (sound : IsSound q) (free : IsFree q t) (room : next_id q < most_threads) where
   -- who spawns is awake, so there is nothing to settle
   unsettled_spawn : (v : ℕ) → after_question q t (Spawn arg) v ≡ tells t (Number (next_id q)) (starts arg q)
   unfolding after_question
   unsettled_spawn v =
       let step : asked q t (Spawn arg) v ≡ tells t (Number (next_id q)) (starts arg q) =
-      cond-true (nat_lt (next_id q) 16) (tells t (Number (next_id q)) (starts arg q)) (tells t (Number 4294967295) q) (lt-ltb (next_id q) 16 room) in
+      cond-true (nat_lt (next_id q) most_threads) (tells t (Number (next_id q)) (starts arg q))
+      (tells t (Number 4294967295) q) (lt-ltb (next_id q) most_threads room) in
       ap settled step
       ∙ settled_same (tells t (Number (next_id q)) (starts arg q))
       (awake_unstuck (tells t (Number (next_id q)) (starts arg q)) t
@@ -60,7 +64,8 @@ module _ (t arg : ℕ) (q : WaitQueue) (sound : IsSound q) (free : IsFree q t) (
         args = refl;
         free = record {
           alive = list_any-append (λ m. m == next_id q) q.alive (next_id q ∷ [])
-              ∙ or_right (is_alive q (next_id q)) ((next_id q == next_id q) || false) (or_left (next_id q == next_id q) false (eq-eqb (next_id q) (next_id q) refl));
+              ∙ or_right (is_alive q (next_id q)) ((next_id q == next_id q) || false)
+              (or_left (next_id q == next_id q) false (eq-eqb (next_id q) (next_id q) refl));
           awake = absent.awake;
           told = get_or-set_other q.due t (next_id q) (Some (Number (next_id q))) None apart ∙ absent.told;
         };
@@ -77,7 +82,7 @@ module _ (t arg : ℕ) (q : WaitQueue) (sound : IsSound q) (free : IsFree q t) (
   spawns_step Full inside = spawns_question 0
 
 -- where fewer than 15 threads were spawned before
-pub spawned : (history : List Entry) (t arg : ℕ) (reply : Reply) → reply ≢ OutOfBounds → next_id (queue_after history) < 16
+pub spawned : (history : List Entry) (t arg : ℕ) (reply : Reply) → reply ≢ OutOfBounds → next_id (queue_after history) < most_threads
     → IsQueueLegal (history ++ entry t (Ask (Spawn arg)) reply ∷ [])
     → Spawns t arg (queue_after history) (queue_after (history ++ entry t (Ask (Spawn arg)) reply ∷ []))
 spawned history t arg reply inside room legal =

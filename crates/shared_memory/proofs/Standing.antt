@@ -6,11 +6,13 @@ use Rattle.std.proofs.lemmas.List.{get_or-replicate, get_or_past, append_cancel_
 use mathlib.Core.List.{IsPrefix}
 use Rattle.types.specs.declared.event.Entry.{Entry}
 use Rattle.types.specs.declared.event.Answer.{Answer}
+use Rattle.types.specs.Limits.{most_threads}
 use Rattle.shared_memory.specs.WaitQueue.{WaitQueue, first_queue, is_alive, is_asleep, answer_due, IsFree, has_open_question}
 use Rattle.shared_memory.specs.History.{entries_of, queue_after}
 use Rattle.shared_memory.specs.Legal.{IsQueueLegal}
+use Rattle.shared_memory.specs.Sound.{IsSound}
 use Rattle.shared_memory.proofs.Histories.{entries_of-append}
-use Rattle.shared_memory.proofs.Soundness.{IsSound, IsSound-after}
+use Rattle.shared_memory.proofs.Soundness.{IsSound-after}
 use Rattle.shared_memory.proofs.Others.{IsQuiet, Keeps, Keeps-after}
 
 -- A thread that no spawn has started, or that is gone: not alive, not asleep, and owed nothing.
@@ -33,7 +35,8 @@ quiet_from_not_open q n none =
     record { awake = parts.0; told = none_due (answer_due q n) parts.1 }
 
 -- a thread is never asleep and owed an answer
-pub asleep_not_owed : (history : List Entry) (n : ℕ) → IsQueueLegal history → is_asleep (queue_after history) n ≡ true → answer_due (queue_after history) n ≡ None
+pub asleep_not_owed : (history : List Entry) (n : ℕ) → IsQueueLegal history → is_asleep (queue_after history) n ≡ true
+    → answer_due (queue_after history) n ≡ None
 asleep_not_owed history n legal asleep = let sound : IsSound (queue_after history) = IsSound-after history legal in sound.unanswered n asleep
 
 -- entries of others, added to a history
@@ -74,7 +77,8 @@ module _ (n : ℕ) (xs ys : List Entry) (none : entries_of n ys ≡ []) (legal :
 -- what a longer list without entries of the thread has more
 more_of_others : (n : ℕ) (xs zs : List Entry) → (p : IsPrefix xs zs) → entries_of n zs ≡ entries_of n xs → entries_of n p.0 ≡ []
 more_of_others n xs zs p same =
-    append_cancel_left (entries_of n xs) (entries_of n p.0) [] (sym (entries_of-append n xs p.0) ∙ (ap (entries_of n) p.1 ∙ (same ∙ sym (append-nil (entries_of n xs)))))
+    append_cancel_left (entries_of n xs) (entries_of n p.0) [] (sym (entries_of-append n xs p.0)
+    ∙ (ap (entries_of n) p.1 ∙ (same ∙ sym (append-nil (entries_of n xs)))))
 
 -- the same, of a list that goes on without entries of the thread
 module _ (n : ℕ) (xs zs : List Entry) (p : IsPrefix xs zs) (same : entries_of n zs ≡ entries_of n xs) (legal : IsQueueLegal zs) where
@@ -103,9 +107,9 @@ pub quiet_first : (n : ℕ) → IsQuiet (queue_after []) n
 unfolding queue_after first_queue
 quiet_first n = record {
   awake = refl;
-  told = elim (cases_lt n 16) [
-    | inl within ↦ get_or-replicate 16 n None None within
-    | inr past ↦ get_or_past (replicate 16 None) n None past
+  told = elim (cases_lt n most_threads) [
+    | inl within ↦ get_or-replicate most_threads n None None within
+    | inr past ↦ get_or_past (replicate most_threads None) n None past
   ];
 }
 
@@ -113,7 +117,8 @@ pub newcomer_quiet : (n : ℕ) (history : List Entry) → entries_of n history �
 newcomer_quiet n history none legal = quiet_later n [] history none legal (quiet_first n)
 
 -- who has entered nothing isn't there or is free
-pub newcomer : (n : ℕ) (history : List Entry) → entries_of n history ≡ [] → IsQueueLegal history → IsAbsent (queue_after history) n ⊎ IsFree (queue_after history) n
+pub newcomer : (n : ℕ) (history : List Entry) → entries_of n history ≡ [] → IsQueueLegal history
+    → IsAbsent (queue_after history) n ⊎ IsFree (queue_after history) n
 newcomer n history none legal =
     let quiet : IsQuiet (queue_after history) n = newcomer_quiet n history none legal in
     elim (cases_Bool (is_alive (queue_after history) n)) [

@@ -1,5 +1,6 @@
 -- A thread's turns: its question is open from the entry on until it takes the answer, and then it is free again.
-use Rattle.std.proofs.Common.{◌≡◌, ◌≢◌, ℕ, ◌<◌, ◌==◌, true, false, not, ◌||◌, cond, List, [], ◌∷◌, ◌++◌, length, Option, Some, None, refl, sym, ◌∙◌, ap, subst, inl, inr, arith, get_or, set, get_or-set_same, length-set}
+use Rattle.std.proofs.Common.{◌≡◌, ◌≢◌, ℕ, ◌<◌, ◌==◌, true, false, not, ◌||◌, cond, List, [], ◌∷◌, ◌++◌, length}
+use Rattle.std.proofs.Common.{Option, Some, None, refl, sym, ◌∙◌, ap, subst, inl, inr, arith, get_or, set, get_or-set_same, length-set}
 use Rattle.std.specs.Prelude.{nat_lt, is_some}
 use Rattle.std.proofs.lemmas.Bool.{or_left, or_right, cond_both, eq-eqb, cases_lt}
 use Rattle.std.proofs.lemmas.List.{get_or_past}
@@ -13,25 +14,31 @@ use Rattle.types.specs.declared.event.Answer.{Answer}
 use Rattle.types.specs.declared.event.Answer.TheVariants.{Number}
 use Rattle.types.specs.declared.event.Reply.{Reply}
 use Rattle.types.specs.declared.event.Reply.TheVariants.{Value, Done, OutOfBounds, Again, Full}
+use Rattle.types.specs.Limits.{most_threads}
 use Rattle.shared_memory.specs.declared.sleeper.Sleeper.{Sleeper}
 use Rattle.shared_memory.specs.Events.{is_of_queue}
-use Rattle.shared_memory.specs.WaitQueue.{WaitQueue, first_queue, is_alive, is_asleep, answer_due, next_id, tells, wakes, sleeps, starts, leaves, woken_at, ends_at_once, settled, asked, after_question, after_answer, IsFree, has_open_question}
+use Rattle.shared_memory.specs.WaitQueue.{WaitQueue, first_queue, is_alive, is_asleep, answer_due, next_id, tells, wakes, sleeps, starts}
+use Rattle.shared_memory.specs.WaitQueue.{leaves, woken_at, ends_at_once, settled, asked, after_question, after_answer, IsFree, has_open_question}
 use Rattle.shared_memory.specs.History.{entry, of_queue, queue_step, queue_after}
 use Rattle.shared_memory.specs.Legal.{IsAllowed, IsQueueLegalFrom, IsQueueLegal, MayEnter}
-use Rattle.shared_memory.proofs.Histories.{of_queue-append, of_queue-one, of_queue-quiet, queue_after-entry, same_queue, IsQueueLegalFrom-rest, IsQueueLegal-prefix}
+use Rattle.shared_memory.specs.Sound.{IsSound}
+use Rattle.shared_memory.proofs.Histories.{of_queue-append, of_queue-one, of_queue-quiet, queue_after-entry, same_queue}
+use Rattle.shared_memory.proofs.Histories.{IsQueueLegalFrom-rest, IsQueueLegal-prefix}
 use Rattle.shared_memory.proofs.Sleepers.{length-due_after}
-use Rattle.shared_memory.proofs.Soundness.{IsSound, IsSound-asked, IsSound-after, awake_if_due}
+use Rattle.shared_memory.proofs.Soundness.{IsSound-asked, IsSound-after, awake_if_due}
 use Rattle.shared_memory.proofs.Others.{IsQuiet, Keeps, Keeps-settled}
 
 -- one more entry, of any kind
 
 -- is the next step
-pub queue_after-one : (xs : List Entry) (n : ℕ) (event : Event) (reply : Reply) → queue_after (xs ++ entry n event reply ∷ []) ≡ queue_step (queue_after xs) n event reply
+pub queue_after-one : (xs : List Entry) (n : ℕ) (event : Event) (reply : Reply)
+    → queue_after (xs ++ entry n event reply ∷ []) ≡ queue_step (queue_after xs) n event reply
 queue_after-one xs n (Ask question) reply = queue_after-entry xs n (Ask question) reply refl
 queue_after-one xs n (Told answer) reply = queue_after-entry xs n (Told answer) reply refl
 queue_after-one xs n event reply = same_queue (xs ++ entry n event reply ∷ []) xs (of_queue-quiet xs (entry n event reply ∷ []) refl)
 
-last_of_queue : (xs : List Entry) (n : ℕ) (event : Event) (reply : Reply) → is_of_queue event ≡ true → IsQueueLegal (xs ++ entry n event reply ∷ []) → IsAllowed (queue_after xs) n event
+last_of_queue : (xs : List Entry) (n : ℕ) (event : Event) (reply : Reply) → is_of_queue event ≡ true
+    → IsQueueLegal (xs ++ entry n event reply ∷ []) → IsAllowed (queue_after xs) n event
 unfolding IsQueueLegal queue_after
 last_of_queue xs n event reply is legal =
     let split : of_queue (xs ++ entry n event reply ∷ []) ≡ of_queue xs ++ entry n event reply ∷ [] =
@@ -39,7 +46,8 @@ last_of_queue xs n event reply is legal =
     (IsQueueLegalFrom-rest first_queue (of_queue xs) (entry n event reply ∷ []) (subst (IsQueueLegalFrom first_queue) split legal)).0
 
 -- and was allowed
-pub last_allowed : (xs : List Entry) (n : ℕ) (event : Event) (reply : Reply) → IsQueueLegal (xs ++ entry n event reply ∷ []) → IsAllowed (queue_after xs) n event
+pub last_allowed : (xs : List Entry) (n : ℕ) (event : Event) (reply : Reply)
+    → IsQueueLegal (xs ++ entry n event reply ∷ []) → IsAllowed (queue_after xs) n event
 last_allowed xs n (Ask question) reply legal = last_of_queue xs n (Ask question) reply refl legal
 last_allowed xs n (Told answer) reply legal = last_of_queue xs n (Told answer) reply refl legal
 last_allowed xs n event reply legal = tt
@@ -70,7 +78,8 @@ open_asked q n question v free sound = go question
     go : (k : Question) → has_open_question (asked q n k v) n ≡ true
     go (Wait addr width expected timeout) =
         let s : Sleeper = record { thread = n; addr = addr; timeout = timeout } in
-        cond_both (not (v == expected)) (tells n (Number 1) q) (cond (ends_at_once timeout) (tells n (Number 2) q) (sleeps s q)) (λ w. has_open_question w n ≡ true)
+        cond_both (not (v == expected)) (tells n (Number 1) q)
+        (cond (ends_at_once timeout) (tells n (Number 2) q) (sleeps s q)) (λ w. has_open_question w n ≡ true)
         (λ e. open_tells q n (Number 1) within)
         (λ e. cond_both (ends_at_once timeout) (tells n (Number 2) q) (sleeps s q) (λ w. has_open_question w n ≡ true)
         (λ d. open_tells q n (Number 2) within) (λ d. open_sleeps q s))
@@ -78,7 +87,8 @@ open_asked q n question v free sound = go question
         let woken : List Sleeper = woken_at addr count q.sleepers in
         open_tells (wakes woken (Number 0) q) n (Number (length woken)) (omega (arith, length-due_after woken (Number 0) q.due, within))
     go (Spawn arg) =
-        cond_both (nat_lt (next_id q) 16) (tells n (Number (next_id q)) (starts arg q)) (tells n (Number 4294967295) q) (λ w. has_open_question w n ≡ true)
+        cond_both (nat_lt (next_id q) most_threads) (tells n (Number (next_id q)) (starts arg q))
+        (tells n (Number 4294967295) q) (λ w. has_open_question w n ≡ true)
         (λ e. open_tells (starts arg q) n (Number (next_id q)) within) (λ e. open_tells q n (Number 4294967295) within)
     go Leave = open_tells (leaves n q) n (Number 0) within
 
@@ -86,7 +96,8 @@ open_asked q n question v free sound = go question
 pub open_question : (q : WaitQueue) (n : ℕ) (question : Question) (v : ℕ) → IsFree q n → IsSound q → has_open_question (after_question q n question v) n ≡ true
 unfolding after_question
 open_question q n question v free sound =
-    let kept : Keeps n (asked q n question v) (settled (asked q n question v)) = Keeps-settled n (asked q n question v) (IsSound-asked q n question v free sound) in
+    let kept : Keeps n (asked q n question v) (settled (asked q n question v)) = Keeps-settled n (asked q n question v)
+    (IsSound-asked q n question v free sound) in
     kept.waits (open_asked q n question v free sound)
 
 pub open_step : (q : WaitQueue) (n : ℕ) (question : Question) (reply : Reply) → reply ≢ OutOfBounds → IsFree q n → IsSound q
@@ -98,11 +109,13 @@ open_step q n question Again within free sound = open_question q n question 0 fr
 open_step q n question Full within free sound = open_question q n question 0 free sound
 
 -- a question within bounds is open after its entry
-pub open_after_question : (xs : List Entry) (n : ℕ) (question : Question) (reply : Reply) → reply ≢ OutOfBounds → IsQueueLegal (xs ++ entry n (Ask question) reply ∷ [])
+pub open_after_question : (xs : List Entry) (n : ℕ) (question : Question) (reply : Reply) → reply ≢ OutOfBounds
+    → IsQueueLegal (xs ++ entry n (Ask question) reply ∷ [])
     → has_open_question (queue_after (xs ++ entry n (Ask question) reply ∷ [])) n ≡ true
 open_after_question xs n question reply within legal =
     ap (λ w. has_open_question w n) (queue_after-one xs n (Ask question) reply)
-    ∙ open_step (queue_after xs) n question reply within (last_allowed xs n (Ask question) reply legal) (IsSound-after xs (IsQueueLegal-prefix xs (entry n (Ask question) reply ∷ []) legal))
+    ∙ open_step (queue_after xs) n question reply within (last_allowed xs n (Ask question) reply legal)
+    (IsSound-after xs (IsQueueLegal-prefix xs (entry n (Ask question) reply ∷ []) legal))
 
 -- at an answer taken
 
@@ -130,7 +143,8 @@ quiet_after_answer xs n a reply legal =
     (quiet_answer (queue_after xs) n a (last_allowed xs n (Told a) reply legal) (IsSound-after xs (IsQueueLegal-prefix xs (entry n (Told a) reply ∷ []) legal)))
 
 -- so it is free, unless it left
-pub free_after_answer : (xs : List Entry) (n : ℕ) (a : Answer) (reply : Reply) → IsQueueLegal (xs ++ entry n (Told a) reply ∷ []) → is_alive (queue_after xs) n ≡ true
+pub free_after_answer : (xs : List Entry) (n : ℕ) (a : Answer) (reply : Reply)
+    → IsQueueLegal (xs ++ entry n (Told a) reply ∷ []) → is_alive (queue_after xs) n ≡ true
     → IsFree (queue_after (xs ++ entry n (Told a) reply ∷ [])) n
 free_after_answer xs n a reply legal alive =
     let quiet : IsQuiet (queue_after (xs ++ entry n (Told a) reply ∷ [])) n = quiet_after_answer xs n a reply legal in

@@ -35,7 +35,8 @@ ended_cases n sleepers None is among = among
 ended_cases n sleepers (Some f) is among =
     elim (cases_Bool (f.thread == n)) [
       | inl e ↦ subst (λ (k : ℕ). is_among k sleepers ≡ true) (eqb-true f.thread n e) (first_is_among sleepers f is)
-      | inr e ↦ (let none : ((f.thread == n) || false) ≡ false = or_from (f.thread == n) false e refl in absurd (both_ways ((f.thread == n) || false) none among))
+      | inr e ↦ (let none : ((f.thread == n) || false) ≡ false = or_from (f.thread == n) false e refl in
+          absurd (both_ways ((f.thread == n) || false) none among))
     ]
 
 -- whom settling wakes sleeps

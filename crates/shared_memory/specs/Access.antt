@@ -33,7 +33,8 @@ HasReached None history = ⊥
 HasReached (Some limit) history = limit ≤ length history
 
 -- Answered: the list before, entries of others, and last the caller's own entry.
-pub record Answers (opening : Memory) (limit : Option ℕ) (n : ℕ) (has_right : Bool) (event : Event) (reply : Reply) (before after : List Entry) : Type 0 where
+pub record Answers (opening : Memory) (limit : Option ℕ) (n : ℕ) (has_right : Bool) (event : Event) (reply : Reply)
+    (before after : List Entry) : Type 0 where
   pub others : List Entry
   pub so_far : List Entry
   pub gains : Gains n has_right before others so_far
@@ -61,7 +62,8 @@ WasExpected m (Cmpxchg addr width expected replacement) others = WasThere m addr
 WasExpected m _ others = Unit {0}
 
 -- Lost: nothing of the caller is entered, and an entry of another changed what the event touches.
-pub record LosesTry (loses : Bool) (opening : Memory) (n : ℕ) (has_right : Bool) (event : Event) (before after : List Entry) : Type 0 where
+pub record LosesTry (loses : Bool) (opening : Memory) (n : ℕ) (has_right : Bool) (event : Event)
+    (before after : List Entry) : Type 0 where
   pub others : List Entry
   pub gains : Gains n has_right before others after
   pub seen : IsSeen opening after
@@ -71,7 +73,8 @@ pub record LosesTry (loses : Bool) (opening : Memory) (n : ℕ) (has_right : Boo
   pub expected : WasExpected (memory_after opening before) event others
 
 -- Full: nothing of the caller is entered, and the list seen has reached the limit.
-pub record IsFull (opening : Memory) (limit : Option ℕ) (n : ℕ) (has_right : Bool) (event : Event) (before after : List Entry) : Type 0 where
+pub record IsFull (opening : Memory) (limit : Option ℕ) (n : ℕ) (has_right : Bool) (event : Event)
+    (before after : List Entry) : Type 0 where
   pub others : List Entry
   pub gains : Gains n has_right before others after
   pub seen : IsSeen opening after

@@ -6,6 +6,7 @@ use Rattle.types.specs.declared.event.Event.{Event}
 use Rattle.types.specs.declared.event.Event.TheVariants.{Ask, Told}
 use Rattle.types.specs.declared.event.Reply.{Reply}
 use Rattle.types.specs.declared.event.Reply.TheVariants.{Value, OutOfBounds}
+use Rattle.types.specs.Limits.{desk_name}
 use Rattle.shared_memory.specs.Events.{IsEvent, is_of_queue}
 use Rattle.shared_memory.specs.Memory.{Memory, state_after}
 use Rattle.shared_memory.specs.WaitQueue.{WaitQueue, first_queue, after_question, after_answer}
@@ -23,7 +24,7 @@ of_queue history = filter (λ (e : Entry). is_of_queue e.event) history
 
 -- An entry is of one of 17 names, of which the last is the desk's, and its event meets the conditions on events.
 pub record IsEntry (e : Entry) : Type 0 where
-  pub named : e.thread ≤ 16
+  pub named : e.thread ≤ desk_name
   pub event : IsEvent e.event
 
 abbrev pub AreEntries : List Entry → Type 0

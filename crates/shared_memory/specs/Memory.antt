@@ -1,5 +1,6 @@
 -- The sequential memory: what an event reads and writes where one thread alone steps it.
-use Rattle.std.specs.Prelude.{ℕ, ◌+◌, ◌-◌, ◌*◌, ◌/◌, ◌%◌, ◌^◌, ◌==◌, Bool, nat_le, if◌then◌else◌, List, [], ◌∷◌, ◌++◌, length, take, drop, replicate, bit_and, bit_or, bit_xor}
+use Rattle.std.specs.Prelude.{ℕ, ◌+◌, ◌-◌, ◌*◌, ◌/◌, ◌%◌, ◌^◌, ◌==◌, Bool, nat_le, if◌then◌else◌}
+use Rattle.std.specs.Prelude.{List, [], ◌∷◌, ◌++◌, length, take, drop, replicate, bit_and, bit_or, bit_xor}
 use Rattle.std.specs.List.{splice}
 use Rattle.types.specs.declared.event.Event.{Event}
 use Rattle.types.specs.declared.event.Event.TheVariants.{Size, Grow, Load, Store, Rmw, Cmpxchg, Ask, Told}
@@ -9,6 +10,7 @@ use Rattle.types.specs.declared.event.Reply.{Reply}
 use Rattle.types.specs.declared.event.Reply.TheVariants.{Value, Done, OutOfBounds}
 use Rattle.types.specs.declared.event.RmwOp.{RmwOp}
 use Rattle.types.specs.declared.event.RmwOp.TheVariants as ops
+use Rattle.types.specs.Limits.{page_size}
 use Rattle.shared_memory.specs.Numbers.{le_number, le_bytes}
 
 -- A linear memory: its bytes, and how many pages it may have (Core specification 1.0, section 4.2.8).
@@ -18,7 +20,7 @@ pub record Memory : Type 0 where
 
 -- The page count; a page has 65,536 bytes (section 4.2.8).
 abbrev pub pages : Memory → ℕ
-pages m = length m.bytes / 65536
+pages m = length m.bytes / page_size
 
 -- The number in so many bytes at an address (section 4.4.4, loads).
 abbrev pub loaded : Memory → ℕ → ℕ → ℕ
@@ -43,7 +45,7 @@ can_grow m more = nat_le (pages m + more) m.max
 
 -- The memory with so many pages of zeros behind it (section 4.4.4, memory.grow).
 abbrev pub grown : Memory → ℕ → Memory
-grown m more = record m { bytes = m.bytes ++ replicate (65536 * more) 0 }
+grown m more = record m { bytes = m.bytes ++ replicate (page_size * more) 0 }
 
 -- An access that ends at this address has its effect only within the memory.
 abbrev pub if_within : {A : Type 0} → Memory → ℕ → A → A → A
@@ -73,7 +75,8 @@ state_after m Size = m
 state_after m (Grow more) = if can_grow m more then grown m more else m
 state_after m (Load addr width reach) = m
 state_after m (Store addr width reach value) = if_within m reach (written m addr width value) m
-state_after m (Rmw op addr width value) = if_within m (addr + width) (written m addr width (combined op width (loaded m addr width) value)) m
+state_after m (Rmw op addr width value) =
+    if_within m (addr + width) (written m addr width (combined op width (loaded m addr width) value)) m
 state_after m (Cmpxchg addr width expected replacement) =
     if_within m (addr + width) (if loaded m addr width == expected then written m addr width replacement else m) m
 state_after m (Ask question) = m

@@ -1,12 +1,14 @@
 -- The wait queue: who is alive, who sleeps, and which answers are due (threads proposal, "Wait and notify
 -- operators"; the ids and the settling are the profile's own).
-use Rattle.std.specs.Prelude.{ℕ, ℤ, pos, negsuc, ◌≡◌, ◌+◌, ◌==◌, ◌&&◌, ◌||◌, Bool, true, false, not, nat_lt, if◌then◌else◌, List, [], ◌∷◌, ◌++◌, length, take, filter, replicate, Option, Some, None, is_some, slice_index_or, slice_set}
+use Rattle.std.specs.Prelude.{ℕ, ℤ, pos, negsuc, ◌≡◌, ◌+◌, ◌==◌, ◌&&◌, ◌||◌, Bool, true, false, not, nat_lt, if◌then◌else◌}
+use Rattle.std.specs.Prelude.{List, [], ◌∷◌, ◌++◌, length, take, filter, replicate, Option, Some, None, is_some, slice_index_or, slice_set}
 use Rattle.std.specs.List.{list_any, list_all}
 use Rattle.std.specs.Option.{option_map_or}
 use Rattle.types.specs.declared.event.Question.{Question}
 use Rattle.types.specs.declared.event.Question.TheVariants.{Wait, Notify, Spawn, Leave}
 use Rattle.types.specs.declared.event.Answer.{Answer}
 use Rattle.types.specs.declared.event.Answer.TheVariants.{Number, ForGood}
+use Rattle.types.specs.Limits.{most_threads}
 use Rattle.shared_memory.specs.declared.sleeper.Sleeper.{Sleeper}
 
 -- The live threads; the sleepers, who has slept longest first; the answer due to each thread, by number; and the
@@ -19,7 +21,7 @@ pub record WaitQueue : Type 0 where
 
 -- At first thread 0 alone is alive.
 unfoldable pub first_queue : WaitQueue
-first_queue = record { alive = 0 ∷ []; sleepers = []; due = replicate 16 None; args = [] }
+first_queue = record { alive = 0 ∷ []; sleepers = []; due = replicate most_threads None; args = [] }
 
 abbrev pub is_alive : WaitQueue → ℕ → Bool
 is_alive q n = list_any (λ m. m == n) q.alive
@@ -117,7 +119,8 @@ asked q n (Wait addr width expected timeout) loaded =
     sleeps (record { thread = n; addr = addr; timeout = timeout }) q
 asked q n (Notify addr count) loaded =
     let woken = woken_at addr count q.sleepers in tells n (Number (length woken)) (wakes woken (Number 0) q)
-asked q n (Spawn arg) loaded = if nat_lt (next_id q) 16 then tells n (Number (next_id q)) (starts arg q) else tells n (Number 4294967295) q
+asked q n (Spawn arg) loaded =
+    if nat_lt (next_id q) most_threads then tells n (Number (next_id q)) (starts arg q) else tells n (Number 4294967295) q
 asked q n Leave loaded = tells n (Number 0) (leaves n q)
 
 -- The step at a question.

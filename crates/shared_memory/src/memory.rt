@@ -1,6 +1,7 @@
 //! The trait of a memory that threads share.
 ghost use Rattle.std.specs.Prelude.{◌≡◌, ℕ, Bool, true, ◌≤◌, List, Option};
 ghost use Rattle.types.specs.declared.event.Entry.{Entry};
+ghost use Rattle.types.specs.Limits.{desk_name};
 ghost use Rattle.shared_memory.specs.Events.{IsEvent, is_of_queue};
 ghost use Rattle.shared_memory.specs.Memory.{Memory};
 ghost use Rattle.shared_memory.specs.Legal.{MayEnter};
@@ -57,14 +58,16 @@ pub trait SharedMemory {
         requires allowed { is_of_queue event ≡ true → MayEnter (name seat.old) event (seen seat.old) }
         ensures name { name seat.new ≡ name seat.old }
         ensures right { has_queue_right seat.new ≡ has_queue_right seat.old }
-        ensures outcome { Accesses LOSES opening (limit self.now) (name seat.old) (has_queue_right seat.old) event (seen seat.old) (seen seat.new) result };
+        ensures outcome { Accesses LOSES opening (limit self.now) (name seat.old) (has_queue_right seat.old) event
+            (seen seat.old) (seen seat.new) result };
 
     /// Two seats learn from each other, and exchange the queue right.
     fn meet(&self, a: &mut Self::Seat, b: &mut Self::Seat)
         ensures names { (name a.new ≡ name a.old) × (name b.new ≡ name b.old) }
         ensures rights { (has_queue_right a.new ≡ has_queue_right b.old) × (has_queue_right b.new ≡ has_queue_right a.old) }
         ensures one { seen b.new ≡ seen a.new }
-        ensures longer { Meets opening (name a.old) (name b.old) (has_queue_right a.old) (has_queue_right b.old) (seen a.old) (seen b.old) (seen a.new) };
+        ensures longer { Meets opening (name a.old) (name b.old) (has_queue_right a.old) (has_queue_right b.old)
+            (seen a.old) (seen b.old) (seen a.new) };
 
     /// The number under which a seat enters, 0 to 16.
     fn name(&self, seat: &Self::Seat) -> u32
@@ -79,5 +82,5 @@ pub trait SharedMemory {
         ensures { result ≡ pages_max self.now };
 
     /// A name is one of 17.
-    ghost names: { (s : Self.Seat) → name s ≤ 16 };
+    ghost names: { (s : Self.Seat) → name s ≤ desk_name };
 }

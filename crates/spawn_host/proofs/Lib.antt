@@ -1,8 +1,3 @@
-pub mod Levelling
-pub mod Growing
-pub mod Pairing
-pub mod Duties
-pub mod Arguments
-pub mod Home
-pub mod OneList
-pub mod Unspawned
+pub mod Imported
+pub mod Calling
+pub mod Together

@@ -1,7 +1,4 @@
-pub mod Level
-pub mod Works
-pub mod Pairs
-pub mod Crew
-pub mod Duties
-pub mod Composed
+pub mod Entries
 pub mod Faults
+pub mod Threads
+pub mod Runs

@@ -1,13 +1,9 @@
-//! Runs the threads of a module as real threads, over one shared memory.
+//! The run of a module: each of its threads is a real one, over one shared memory, and what they did together is one run.
 #![tactic(auto)]
 
-mod alone;
-mod crew;
-mod host;
-mod report;
-mod rounds;
-mod worker;
+mod fit;
+mod running;
+mod threads;
 
-pub use alone::run_alone;
-pub use host::run_all;
-pub use report::{RunEnd, RunFault};
+pub use running::run;
+pub use threads::{first_thread, spawnable_threads};

@@ -10,10 +10,13 @@ use Rattle.types.specs.declared.parts.ImportDesc.TheVariants as imports
 use Rattle.types.specs.declared.parts.Body.{Body}
 use Rattle.types.specs.declared.parts.Parts.{Parts}
 use Rattle.types.specs.Nesting.{IsExpression}
-use Rattle.types.specs.Limits.{IsWithinLimits, IsTypeWithin, IsTableWithin, IsMemoryWithin, IsDescWithin, IsBodyWithin, is_func, param_count}
+use Rattle.types.specs.Within.{IsWithinLimits, IsTypeWithin, IsTableWithin, IsMemoryWithin, IsDescWithin, IsBodyWithin, is_func, param_count}
 use Rattle.types.specs.Modules.{IsModule}
-use Rattle.types.specs.Tests.{is_expression, is_type_within, is_table_within, is_max_within, is_memory_within, is_desc_within, is_body_within, has_few_items, has_items_within, has_bodies_within, has_nested_code, is_module}
+use Rattle.types.specs.Tests.{is_expression, is_type_within, is_table_within, is_max_within, is_memory_within}
+use Rattle.types.specs.Tests.{is_desc_within, is_body_within, has_few_items, has_items_within, has_bodies_within}
+use Rattle.types.specs.Tests.{has_nested_code, is_module}
 use Rattle.types.proofs.Nested.{Decides-expression}
+use Rattle.types.specs.Limits.{most_pages, most_items, most_functions, most_elements, most_params, most_locals}
 
 Decides-leb : (a b : ℕ) → Decides (nat_le a b) (a ≤ b)
 Decides-leb a b = (λ h. grind (arith, nat_tests), λ h. grind (arith, nat_tests))
@@ -22,17 +25,17 @@ Decides-all : {X : Type 0} (p : X → Bool) (P : X → Type 0) → ((x : X) → 
 Decides-all p P each xs = Decides-by_and p P (list_all p) each refl (λ _ _. refl) xs
 
 Decides-type : (t : FuncType) → Decides (is_type_within t) (IsTypeWithin t)
-Decides-type t = Decides-and _ _ (Decides-leb (length t.params) 1000) (Decides-leb (length t.results) 1000)
+Decides-type t = Decides-and _ _ (Decides-leb (length t.params) most_params) (Decides-leb (length t.results) most_params)
 
 Decides-table : (l : Limits) → Decides (is_table_within l) (IsTableWithin l)
-Decides-table l = Decides-leb l.min 10000
+Decides-table l = Decides-leb l.min most_elements
 
-Decides-max : (m : Option ℕ) → Decides (is_max_within m) (IfSome m (λ m. m ≤ 64))
+Decides-max : (m : Option ℕ) → Decides (is_max_within m) (IfSome m (λ m. m ≤ most_pages))
 Decides-max None = (λ _. tt, λ _. refl)
-Decides-max (Some m) = Decides-leb m 64
+Decides-max (Some m) = Decides-leb m most_pages
 
 Decides-memory : (l : Limits) → Decides (is_memory_within l) (IsMemoryWithin l)
-Decides-memory l = Decides-and _ _ (Decides-leb l.min 64) (Decides-max l.max)
+Decides-memory l = Decides-and _ _ (Decides-leb l.min most_pages) (Decides-max l.max)
 
 Decides-desc : (d : ImportDesc) → Decides (is_desc_within d) (IsDescWithin d)
 Decides-desc (imports.Func f) = (λ _. tt, λ _. refl)
@@ -41,26 +44,26 @@ Decides-desc (imports.Memory l) = Decides-memory l
 Decides-desc (imports.Global g) = (λ _. tt, λ _. refl)
 
 Decides-body : (types : List FuncType) (f : ℕ × Body) → Decides (is_body_within types f.0 f.1) (IsBodyWithin types f.0 f.1)
-Decides-body types f = Decides-leb (param_count types f.0 + length f.1.locals) 1000
+Decides-body types f = Decides-leb (param_count types f.0 + length f.1.locals) most_locals
 
 -- the facts of each group of tests
 record HasFewItems (m : Parts) : Type 0 where
-  types : length m.types ≤ 1000
-  imports : length m.imports ≤ 1000
-  functions : count_by (λ i. is_func i.desc) m.imports + length m.functions ≤ 10000
-  tables : length m.tables ≤ 1000
-  memories : length m.memories ≤ 1000
-  globals : length m.globals ≤ 1000
-  exports : length m.exports ≤ 1000
-  elements : length m.elements ≤ 1000
-  data_segments : length m.data ≤ 1000
+  types : length m.types ≤ most_items
+  imports : length m.imports ≤ most_items
+  functions : count_by (λ i. is_func i.desc) m.imports + length m.functions ≤ most_functions
+  tables : length m.tables ≤ most_items
+  memories : length m.memories ≤ most_items
+  globals : length m.globals ≤ most_items
+  exports : length m.exports ≤ most_items
+  elements : length m.elements ≤ most_items
+  data_segments : length m.data ≤ most_items
 
 record HasItemsWithin (m : Parts) : Type 0 where
   each_type : All IsTypeWithin m.types
   each_import : All (λ i. IsDescWithin i.desc) m.imports
   each_table : All IsTableWithin m.tables
   each_memory : All IsMemoryWithin m.memories
-  each_element : All (λ e. length e.functions ≤ 10000) m.elements
+  each_element : All (λ e. length e.functions ≤ most_functions) m.elements
 
 record HasNestedCode (m : Parts) : Type 0 where
   initial_values : All (λ g. IsExpression g.init) m.globals
@@ -71,18 +74,28 @@ record HasNestedCode (m : Parts) : Type 0 where
 Decides-few : (m : Parts) → Decides (has_few_items m) (HasFewItems m)
 Decides-few m =
     Decides-like (has_few_items m)
-    (λ t. record { types = t.0.0.0.0.0.0.0.0; imports = t.0.0.0.0.0.0.0.1; functions = t.0.0.0.0.0.0.1; tables = t.0.0.0.0.0.1; memories = t.0.0.0.0.1; globals = t.0.0.0.1; exports = t.0.0.1; elements = t.0.1; data_segments = t.1 })
+    (λ t. record {
+      types = t.0.0.0.0.0.0.0.0;
+      imports = t.0.0.0.0.0.0.0.1;
+      functions = t.0.0.0.0.0.0.1;
+      tables = t.0.0.0.0.0.1;
+      memories = t.0.0.0.0.1;
+      globals = t.0.0.0.1;
+      exports = t.0.0.1;
+      elements = t.0.1;
+      data_segments = t.1;
+    })
     (λ t. ((((((((t.types, t.imports), t.functions), t.tables), t.memories), t.globals), t.exports), t.elements), t.data_segments))
     (Decides-and _ _ (Decides-and _ _ (Decides-and _ _ (Decides-and _ _ (Decides-and _ _ (Decides-and _ _ (Decides-and _ _ (Decides-and _ _
-    (Decides-leb (length m.types) 1000)
-    (Decides-leb (length m.imports) 1000))
-    (Decides-leb (count_by (λ i. is_func i.desc) m.imports + length m.functions) 10000))
-    (Decides-leb (length m.tables) 1000))
-    (Decides-leb (length m.memories) 1000))
-    (Decides-leb (length m.globals) 1000))
-    (Decides-leb (length m.exports) 1000))
-    (Decides-leb (length m.elements) 1000))
-    (Decides-leb (length m.data) 1000))
+    (Decides-leb (length m.types) most_items)
+    (Decides-leb (length m.imports) most_items))
+    (Decides-leb (count_by (λ i. is_func i.desc) m.imports + length m.functions) most_functions))
+    (Decides-leb (length m.tables) most_items))
+    (Decides-leb (length m.memories) most_items))
+    (Decides-leb (length m.globals) most_items))
+    (Decides-leb (length m.exports) most_items))
+    (Decides-leb (length m.elements) most_items))
+    (Decides-leb (length m.data) most_items))
 
 Decides-items : (m : Parts) → Decides (has_items_within m) (HasItemsWithin m)
 Decides-items m =
@@ -94,7 +107,8 @@ Decides-items m =
     (Decides-all (λ i. is_desc_within i.desc) (λ i. IsDescWithin i.desc) (λ i. Decides-desc i.desc) m.imports))
     (Decides-all is_table_within IsTableWithin Decides-table m.tables))
     (Decides-all is_memory_within IsMemoryWithin Decides-memory m.memories))
-    (Decides-all (λ e. nat_le (length e.functions) 10000) (λ e. length e.functions ≤ 10000) (λ e. Decides-leb (length e.functions) 10000) m.elements))
+    (Decides-all (λ e. nat_le (length e.functions) most_functions) (λ e. length e.functions ≤ most_functions)
+    (λ e. Decides-leb (length e.functions) most_functions) m.elements))
 
 Decides-nested : (m : Parts) → Decides (has_nested_code m) (HasNestedCode m)
 Decides-nested m =
@@ -108,15 +122,32 @@ Decides-nested m =
     (Decides-all (λ b. is_expression b.code) (λ b. IsExpression b.code) (λ b. Decides-expression b.code) m.bodies))
 
 few_of : (m : Parts) → IsWithinLimits m → HasFewItems m
-few_of m w = record { types = w.types; imports = w.imports; functions = w.functions; tables = w.tables; memories = w.memories; globals = w.globals; exports = w.exports; elements = w.elements; data_segments = w.data_segments }
+few_of m w = record {
+  types = w.types;
+  imports = w.imports;
+  functions = w.functions;
+  tables = w.tables;
+  memories = w.memories;
+  globals = w.globals;
+  exports = w.exports;
+  elements = w.elements;
+  data_segments = w.data_segments;
+}
 
 items_of : (m : Parts) → IsWithinLimits m → HasItemsWithin m
-items_of m w = record { each_type = w.each_type; each_import = w.each_import; each_table = w.each_table; each_memory = w.each_memory; each_element = w.each_element }
+items_of m w = record {
+  each_type = w.each_type;
+  each_import = w.each_import;
+  each_table = w.each_table;
+  each_memory = w.each_memory;
+  each_element = w.each_element;
+}
 
 nested_of : (m : Parts) → IsModule m → HasNestedCode m
 nested_of m w = record { initial_values = w.initial_values; element_offsets = w.element_offsets; data_offsets = w.data_offsets; code = w.code }
 
-Decides-bodies : (m : Parts) → Decides (has_bodies_within m) ((length m.functions ≡ length m.bodies) × All (λ f. IsBodyWithin m.types f.0 f.1) (zip m.functions m.bodies))
+Decides-bodies : (m : Parts) → Decides (has_bodies_within m)
+    ((length m.functions ≡ length m.bodies) × All (λ f. IsBodyWithin m.types f.0 f.1) (zip m.functions m.bodies))
 Decides-bodies m =
     Decides-and _ _ (Decides-eqb (length m.functions) (length m.bodies))
     (Decides-all (λ f. is_body_within m.types f.0 f.1) (λ f. IsBodyWithin m.types f.0 f.1) (Decides-body m.types) (zip m.functions m.bodies))

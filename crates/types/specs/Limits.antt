@@ -1,61 +1,75 @@
--- The limits on a module, other than those on sizes in bytes. They are this project's own (Core specification 1.0,
--- appendix 7.2, leaves limits to an implementation).
-use Rattle.std.specs.Prelude.{ℕ, ◌+◌, ◌≤◌, List, length, count_by, Bool, true, false, IfSome, unwrap_or}
-use Rattle.std.specs.Option.{option_map}
-use Rattle.std.specs.Bool.{⊤}
-use Rattle.std.specs.List.{All, slice_get, zip}
-use Rattle.types.specs.declared.parts.Limits.{Limits}
-use Rattle.types.specs.declared.parts.FuncType.{FuncType}
-use Rattle.types.specs.declared.parts.ImportDesc.{ImportDesc}
-use Rattle.types.specs.declared.parts.ImportDesc.TheVariants as imports
-use Rattle.types.specs.declared.parts.Body.{Body}
-use Rattle.types.specs.declared.parts.Parts.{Parts}
+-- The limits of modules and runs, each in one word. They are this project's own (Core specification 1.0, appendix 7.2, leaves
+-- them to an implementation), but for the size of a page (section 4.2.8).
+use Rattle.std.specs.Prelude.{ℕ, ◌+◌, ◌*◌, ◌-◌}
 
-abbrev pub IsTypeWithin : FuncType → Type 0
-IsTypeWithin t = (length t.params ≤ 1000) × (length t.results ≤ 1000)
+-- Bytes of a page.
+abbrev pub page_size : ℕ
+page_size = 65536
 
--- A table has at most 10,000 elements at first.
-abbrev pub IsTableWithin : Limits → Type 0
-IsTableWithin l = l.min ≤ 10000
+-- Pages of a memory, at first and at most.
+abbrev pub most_pages : ℕ
+most_pages = 64
 
--- A memory has at most 64 pages at first, and at most 64 where a maximum is given.
-abbrev pub IsMemoryWithin : Limits → Type 0
-IsMemoryWithin l = (l.min ≤ 64) × IfSome l.max (λ m. m ≤ 64)
+-- Threads of a run: thread 0, and those that it spawns.
+abbrev pub most_threads : ℕ
+most_threads = 16
 
--- What holds of tables and memories holds of imported ones too.
-abbrev pub IsDescWithin : ImportDesc → Type 0
-IsDescWithin (imports.Func f) = ⊤
-IsDescWithin (imports.Table l) = IsTableWithin l
-IsDescWithin (imports.Memory l) = IsMemoryWithin l
-IsDescWithin (imports.Global g) = ⊤
+abbrev pub most_spawned : ℕ
+most_spawned = 15
 
-abbrev pub is_func : ImportDesc → Bool
-is_func (imports.Func f) = true
-is_func (imports.Table l) = false
-is_func (imports.Memory l) = false
-is_func (imports.Global g) = false
+-- The name of the desk's seat, behind those of the threads' seats; and how many seats a memory has.
+abbrev pub desk_name : ℕ
+desk_name = 16
 
--- The parameters of a type by its index: none where no type has it.
-abbrev pub param_count : List FuncType → ℕ → ℕ
-param_count types index = unwrap_or (option_map (λ t. length t.params) (slice_get types index)) 0
+abbrev pub seat_count : ℕ
+seat_count = 17
 
-abbrev pub IsBodyWithin : List FuncType → ℕ → Body → Type 0
-IsBodyWithin types index body = param_count types index + length body.locals ≤ 1000
+-- Entries that a log takes past its limit: three for each thread.
+abbrev pub past_limit : ℕ
+past_limit = 48
 
--- A module within the limits. The number of bodies has none of its own.
-pub record IsWithinLimits (m : Parts) : Type 0 where
-  pub types : length m.types ≤ 1000
-  pub imports : length m.imports ≤ 1000
-  pub functions : count_by (λ i. is_func i.desc) m.imports + length m.functions ≤ 10000
-  pub tables : length m.tables ≤ 1000
-  pub memories : length m.memories ≤ 1000
-  pub globals : length m.globals ≤ 1000
-  pub exports : length m.exports ≤ 1000
-  pub elements : length m.elements ≤ 1000
-  pub data_segments : length m.data ≤ 1000
-  pub each_type : All IsTypeWithin m.types
-  pub each_import : All (λ i. IsDescWithin i.desc) m.imports
-  pub each_table : All IsTableWithin m.tables
-  pub each_memory : All IsMemoryWithin m.memories
-  pub each_element : All (λ e. length e.functions ≤ 10000) m.elements
-  pub each_body : All (λ f. IsBodyWithin m.types f.0 f.1) (zip m.functions m.bodies)
+-- The greatest limit of a log, in entries.
+abbrev pub most_limit : ℕ
+most_limit = 1000000
+
+-- The greatest budget of a thread, in units.
+abbrev pub most_fuel : ℕ
+most_fuel = 1000000000000
+
+-- Values on a stack, the locals of all open functions counted.
+abbrev pub most_values : ℕ
+most_values = 65536
+
+-- Functions that a thread may have open.
+abbrev pub most_frames : ℕ
+most_frames = 1000
+
+-- Bytes of a module, and of a body by its stated size.
+abbrev pub most_module_bytes : ℕ
+most_module_bytes = 1048576
+
+abbrev pub most_body_bytes : ℕ
+most_body_bytes = 65536
+
+-- Items of a section other than those of functions and code.
+abbrev pub most_items : ℕ
+most_items = 1000
+
+-- Functions with imported ones, and functions of one element segment.
+abbrev pub most_functions : ℕ
+most_functions = 10000
+
+-- Elements of a table at first.
+abbrev pub most_elements : ℕ
+most_elements = 10000
+
+-- Parameters or results of one type; locals with parameters.
+abbrev pub most_params : ℕ
+most_params = 1000
+
+abbrev pub most_locals : ℕ
+most_locals = 1000
+
+-- Nested blocks in one body or constant expression.
+abbrev pub most_nested : ℕ
+most_nested = 255

@@ -2,7 +2,7 @@
 use Rattle.std.specs.Prelude.{◌≡◌, length}
 use Rattle.std.specs.List.{All}
 use Rattle.types.specs.declared.parts.Parts.{Parts}
-use Rattle.types.specs.Limits.{IsWithinLimits}
+use Rattle.types.specs.Within.{IsWithinLimits}
 use Rattle.types.specs.Nesting.{IsExpression}
 
 -- The parts keep the limits, each function has a body, and each expression is nested blocks with a final end.

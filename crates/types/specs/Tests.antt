@@ -1,5 +1,6 @@
 -- The tests by which parts are found to make a module. That each holds exactly where its fact does is proved.
-use Rattle.std.specs.Prelude.{ℕ, ◌+◌, if◌then◌else◌, List, [], ◌∷◌, length, count_by, Bool, true, false, ◌&&◌, nat_le, nat_lt, nat_eq, Option, Some, None}
+use Rattle.std.specs.Prelude.{ℕ, ◌+◌, if◌then◌else◌, List, [], ◌∷◌, length, count_by, Bool, true, false, ◌&&◌, nat_le}
+use Rattle.std.specs.Prelude.{nat_lt, nat_eq, Option, Some, None}
 use Rattle.std.specs.List.{list_all, zip}
 use Rattle.types.specs.declared.instr.Instr.{Instr}
 use Rattle.types.specs.declared.instr.Instr.TheVariants as instrs
@@ -9,7 +10,8 @@ use Rattle.types.specs.declared.parts.ImportDesc.{ImportDesc}
 use Rattle.types.specs.declared.parts.ImportDesc.TheVariants as imports
 use Rattle.types.specs.declared.parts.Body.{Body}
 use Rattle.types.specs.declared.parts.Parts.{Parts}
-use Rattle.types.specs.Limits.{param_count, is_func}
+use Rattle.types.specs.Within.{param_count, is_func}
+use Rattle.types.specs.Limits.{most_pages, most_items, most_functions, most_elements, most_params, most_locals, most_nested}
 
 -- The open blocks at a place of an expression are listed with the innermost first; the outermost is the whole
 -- expression. Of each it is kept whether an else may come: in an if that has had none.
@@ -17,7 +19,7 @@ use Rattle.types.specs.Limits.{param_count, is_func}
 -- A further block inside the innermost one.
 abbrev pub opened : Bool → List Bool → Option (List Bool)
 opened o [] = None
-opened o (out ∷ opens) = if nat_lt (length opens) 255 then Some (o ∷ (out ∷ opens)) else None
+opened o (out ∷ opens) = if nat_lt (length opens) most_nested then Some (o ∷ (out ∷ opens)) else None
 
 -- An else in the innermost one.
 abbrev pub divided : List Bool → Option (List Bool)
@@ -54,17 +56,17 @@ abbrev pub is_expression : List Instr → Bool
 is_expression code = closes (Some (false ∷ [])) code
 
 abbrev pub is_type_within : FuncType → Bool
-is_type_within t = nat_le (length t.params) 1000 && nat_le (length t.results) 1000
+is_type_within t = nat_le (length t.params) most_params && nat_le (length t.results) most_params
 
 abbrev pub is_table_within : Limits → Bool
-is_table_within l = nat_le l.min 10000
+is_table_within l = nat_le l.min most_elements
 
 abbrev pub is_max_within : Option ℕ → Bool
 is_max_within None = true
-is_max_within (Some m) = nat_le m 64
+is_max_within (Some m) = nat_le m most_pages
 
 abbrev pub is_memory_within : Limits → Bool
-is_memory_within l = nat_le l.min 64 && is_max_within l.max
+is_memory_within l = nat_le l.min most_pages && is_max_within l.max
 
 abbrev pub is_desc_within : ImportDesc → Bool
 is_desc_within (imports.Func f) = true
@@ -73,18 +75,20 @@ is_desc_within (imports.Memory l) = is_memory_within l
 is_desc_within (imports.Global g) = true
 
 abbrev pub is_body_within : List FuncType → ℕ → Body → Bool
-is_body_within types index body = nat_le (param_count types index + length body.locals) 1000
+is_body_within types index body = nat_le (param_count types index + length body.locals) most_locals
 
 abbrev pub has_few_items : Parts → Bool
 has_few_items m =
-    nat_le (length m.types) 1000 && nat_le (length m.imports) 1000 && nat_le (count_by (λ i. is_func i.desc) m.imports + length m.functions) 10000
-    && nat_le (length m.tables) 1000 && nat_le (length m.memories) 1000 && nat_le (length m.globals) 1000 && nat_le (length m.exports) 1000
-    && nat_le (length m.elements) 1000 && nat_le (length m.data) 1000
+    nat_le (length m.types) most_items && nat_le (length m.imports) most_items && nat_le
+    (count_by (λ i. is_func i.desc) m.imports + length m.functions) most_functions
+    && nat_le (length m.tables) most_items && nat_le (length m.memories) most_items && nat_le (length m.globals)
+    most_items && nat_le (length m.exports) most_items
+    && nat_le (length m.elements) most_items && nat_le (length m.data) most_items
 
 abbrev pub has_items_within : Parts → Bool
 has_items_within m =
     list_all is_type_within m.types && list_all (λ i. is_desc_within i.desc) m.imports && list_all is_table_within m.tables
-    && list_all is_memory_within m.memories && list_all (λ e. nat_le (length e.functions) 10000) m.elements
+    && list_all is_memory_within m.memories && list_all (λ e. nat_le (length e.functions) most_functions) m.elements
 
 abbrev pub has_bodies_within : Parts → Bool
 has_bodies_within m =

@@ -14,9 +14,15 @@ mod sequence;
 #[cfg(test)]
 mod tests;
 mod value;
+mod within;
 
 pub use event::{Answer, Entry, Event, Question, Reply, RmwOp};
 pub use instr::{BlockType, Instr, PlainInstr};
+pub use limits::{
+    DESK_NAME, MOST_BODY_BYTES, MOST_ELEMENTS, MOST_FRAMES, MOST_FUEL, MOST_FUNCTIONS, MOST_ITEMS,
+    MOST_LIMIT, MOST_LOCALS, MOST_MODULE_BYTES, MOST_NESTED, MOST_PAGES, MOST_PARAMS, MOST_SPAWNED,
+    MOST_THREADS, MOST_VALUES, PAGE_SIZE, PAST_LIMIT, SEATS,
+};
 pub use module::Module;
 pub use operators::{
     AccessWidth, AtomicOp, BinaryOp, CompareOp, ConvertOp, LoadOp, MemArg, NarrowWidth,

@@ -1,172 +1,62 @@
-//! Tests of a module's parts for the limits on numbers of items.
-ghost use Rattle.std.specs.Prelude.{◌≡◌, ◌+◌, ◌≤◌, length, count_by, nat_le};
-ghost use Rattle.std.specs.List.{list_all, zip};
-ghost use Rattle.types.specs.Limits.{param_count, is_func};
-ghost use Rattle.types.specs.Tests.{is_type_within, is_table_within, is_max_within, is_memory_within, is_desc_within, is_body_within, has_few_items, has_items_within, has_bodies_within};
+//! The limits of modules and runs, each in one word, as `specs/Limits.antt` has them for contracts.
 
-use crate::parts::{Body, ElementSegment, FuncType, Import, ImportDesc, Limits, Parts};
-
-/// Items of a section other than those of functions and code.
-const ITEMS: usize = 1_000;
-
-/// Functions with imported ones, and functions of one element segment.
-const FUNCTIONS: usize = 10_000;
-
-/// Elements of a table at first.
-const ELEMENTS: u32 = 10_000;
-
-/// Parameters, results, and locals with parameters.
-const LOCALS: usize = 1_000;
+/// Bytes of a page (Core specification 1.0, section 4.2.8).
+pub const PAGE_SIZE: usize = 65_536;
 
 /// Pages of a memory, at first and at most.
-const PAGES: u32 = 64;
+pub const MOST_PAGES: u32 = 64;
 
-fn is_type_in(func_type: &FuncType) -> bool
-    ensures { result ≡ is_type_within func_type.now }
-{
-    func_type.params.len() <= LOCALS && func_type.results.len() <= LOCALS
-}
+/// Threads of a run: thread 0, and those that it spawns.
+pub const MOST_THREADS: usize = 16;
 
-fn is_table_in(limits: &Limits) -> bool
-    ensures { result ≡ is_table_within limits.now }
-{
-    limits.min <= ELEMENTS
-}
+/// Threads that a run spawns.
+pub const MOST_SPAWNED: usize = 15;
 
-fn is_memory_in(limits: &Limits) -> bool
-    ensures { result ≡ is_memory_within limits.now }
-{
-    limits.min <= PAGES
-        && match limits.max {
-            Some(max) => max <= PAGES,
-            None => true,
-        }
-}
+/// The name of the desk's seat, behind those of the threads' seats.
+pub const DESK_NAME: u32 = 16;
 
-fn is_import_in(import: &Import) -> bool
-    ensures { result ≡ is_desc_within import.now.desc }
-{
-    match &import.desc {
-        ImportDesc::Func(_) | ImportDesc::Global(_) => true,
-        ImportDesc::Table(limits) => is_table_in(limits),
-        ImportDesc::Memory(limits) => is_memory_in(limits),
-    }
-}
+/// Seats of a memory: one for each thread, and the desk's.
+pub const SEATS: u32 = 17;
 
-fn is_imported_function(import: &Import) -> bool
-    ensures { result ≡ is_func import.now.desc }
-{
-    match import.desc {
-        ImportDesc::Func(_) => true,
-        _ => false,
-    }
-}
+/// Entries that a log takes past its limit: three for each thread.
+pub const PAST_LIMIT: usize = 48;
 
-/// How many functions are imported.
-fn imported_functions(imports: &[Import]) -> usize
-    ensures { result ≡ count_by (λ i. is_func i.desc) imports.now }
-{
-    imports
-        .iter()
-        .filter(|import| is_imported_function(import))
-        .count()
-}
+/// The greatest limit of a log, in entries.
+pub const MOST_LIMIT: u32 = 1_000_000;
 
-/// The parameters of the type with this index, none if there is no such type.
-fn params(types: &[FuncType], index: u32) -> usize
-    ensures { result ≡ param_count types.now index }
-{
-    match types.get(index as usize) {
-        Some(func_type) => func_type.params.len(),
-        None => 0,
-    }
-}
+/// The greatest budget of a thread, in units.
+pub const MOST_FUEL: u64 = 1_000_000_000_000;
 
-fn is_body_in(types: &[FuncType], index: u32, body: &Body) -> bool
-    ensures { result ≡ is_body_within types.now index body.now }
-{
-    let params = params(types, index);
-    params <= LOCALS && body.locals.len() <= LOCALS - params
-}
+/// Values on a stack, the locals of all open functions counted.
+pub const MOST_VALUES: usize = 65_536;
 
-/// Whether each section has as few items as a module may have.
-pub fn has_few_items_in(parts: &Parts) -> bool
-    ensures { result ≡ has_few_items parts.now }
-{
-    let imported = imported_functions(parts.imports.as_slice());
-    parts.types.len() <= ITEMS
-        && parts.imports.len() <= ITEMS
-        && imported <= FUNCTIONS
-        && parts.functions.len() <= FUNCTIONS - imported
-        && parts.tables.len() <= ITEMS
-        && parts.memories.len() <= ITEMS
-        && parts.globals.len() <= ITEMS
-        && parts.exports.len() <= ITEMS
-        && parts.elements.len() <= ITEMS
-        && parts.data.len() <= ITEMS
-}
+/// Functions that a thread may have open.
+pub const MOST_FRAMES: usize = 1_000;
 
-fn are_types_in(types: &[FuncType]) -> bool
-    ensures { result ≡ list_all is_type_within types.now }
-{
-    types.iter().all(|func_type| is_type_in(func_type))
-}
+/// Bytes of a module.
+pub const MOST_MODULE_BYTES: usize = 1_048_576;
 
-fn are_imports_in(imports: &[Import]) -> bool
-    ensures { result ≡ list_all (λ i. is_desc_within i.desc) imports.now }
-{
-    imports.iter().all(|import| is_import_in(import))
-}
+/// Bytes of a body, by its stated size.
+pub const MOST_BODY_BYTES: u32 = 65_536;
 
-fn are_tables_in(tables: &[Limits]) -> bool
-    ensures { result ≡ list_all is_table_within tables.now }
-{
-    tables.iter().all(|limits| is_table_in(limits))
-}
+/// Items of a section other than those of functions and code.
+pub const MOST_ITEMS: usize = 1_000;
 
-fn are_memories_in(memories: &[Limits]) -> bool
-    ensures { result ≡ list_all is_memory_within memories.now }
-{
-    memories.iter().all(|limits| is_memory_in(limits))
-}
+/// Functions with imported ones, and functions of one element segment.
+pub const MOST_FUNCTIONS: usize = 10_000;
 
-fn are_elements_in(elements: &[ElementSegment]) -> bool
-    ensures { result ≡ list_all (λ e. nat_le (length e.functions) 10000) elements.now }
-{
-    elements
-        .iter()
-        .all(|segment| segment.functions.len() <= FUNCTIONS)
-}
+/// Elements of a table at first.
+pub const MOST_ELEMENTS: u32 = 10_000;
 
-/// Whether each body has no more locals than it may have with the parameters of its function.
-fn are_bodies_in(types: &[FuncType], functions: &[u32], bodies: &[Body]) -> bool
-    ensures { result ≡ list_all (λ f. is_body_within types.now f.0 f.1) (zip functions.now bodies.now) }
-{
-    functions
-        .iter()
-        .zip(bodies.iter())
-        .all(|(index, body)| is_body_in(types, *index, body))
-}
+/// Parameters or results of one type.
+pub const MOST_PARAMS: usize = 1_000;
 
-/// Whether each item keeps the limits on it.
-pub fn has_items_in(parts: &Parts) -> bool
-    ensures { result ≡ has_items_within parts.now }
-{
-    are_types_in(parts.types.as_slice())
-        && are_imports_in(parts.imports.as_slice())
-        && are_tables_in(parts.tables.as_slice())
-        && are_memories_in(parts.memories.as_slice())
-        && are_elements_in(parts.elements.as_slice())
-}
+/// Locals with parameters.
+pub const MOST_LOCALS: usize = 1_000;
 
-/// Whether each function has its body, with no more locals than a body may have.
-pub fn has_bodies_in(parts: &Parts) -> bool
-    ensures { result ≡ has_bodies_within parts.now }
-{
-    parts.functions.len() == parts.bodies.len()
-        && are_bodies_in(
-            parts.types.as_slice(),
-            parts.functions.as_slice(),
-            parts.bodies.as_slice(),
-        )
-}
+/// Nested blocks in one body or constant expression.
+pub const MOST_NESTED: usize = 255;
+
+const _: () = prove!(SEATS as usize == MOST_THREADS + 1 && MOST_SPAWNED == MOST_THREADS - 1);
+
+const _: () = prove!(DESK_NAME as usize == MOST_THREADS && PAST_LIMIT == 3 * MOST_THREADS);

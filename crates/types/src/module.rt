@@ -3,9 +3,9 @@ ghost use Rattle.std.specs.Prelude.{◌≡◌, IfOk, IfErr};
 ghost use Rattle.types.specs.Modules.{IsModule};
 ghost use Rattle.types.specs.Tests.{is_module};
 
-use crate::limits::{has_bodies_in, has_few_items_in, has_items_in};
 use crate::nesting::has_nested_code_in;
 use crate::parts::Parts;
+use crate::within::{has_bodies_in, has_few_items_in, has_items_in};
 use std::marker::Model;
 
 /// A module whose parts keep the limits, whose functions have a body each, and whose expressions are nested blocks

@@ -5,6 +5,7 @@ ghost use Rattle.std.specs.List.{list_all};
 ghost use Rattle.types.specs.Tests.{opens_behind, opened, divided, ended, is_expression, has_nested_code};
 
 use crate::instr::Instr;
+use crate::limits::MOST_NESTED;
 use crate::parts::{Body, DataSegment, ElementSegment, Global, Parts};
 use std::marker::Model;
 
@@ -66,7 +67,7 @@ impl OpenBlocks {
     fn open(&mut self, may_divide: bool) -> bool
         ensures { opened may_divide self.old ≡ (if result then Some self.new else None) }
     {
-        if self.len() == 0 || self.len() > 255 {
+        if self.len() == 0 || self.len() > MOST_NESTED {
             return false;
         }
         self.push(may_divide);

@@ -2,14 +2,12 @@
 
 ghost use Rattle.std.specs.Prelude.{◌≡◌, ◌+◌, ◌*◌, ◌≤◌, length, replicate, fold, IfOk};
 ghost use Rattle.std.specs.List.{All};
-ghost use Rattle.typing.specs.Image.{offset_of, with_segment};
+ghost use Rattle.types.specs.Limits.{page_size};
+ghost use Rattle.validate_typing.specs.Image.{offset_of, with_segment};
 
-use module_rules::offset;
 use std::alloc::{AllocError, Global};
-use types::DataSegment;
-
-/// The bytes of a page.
-const PAGE: usize = 65_536;
+use types::{DataSegment, PAGE_SIZE};
+use validate_module_rules::offset;
 
 /// Writes a segment's bytes at its offset.
 fn write_segment(image: &mut [u8], segment: &DataSegment)
@@ -28,10 +26,10 @@ pub fn opening_image(
     pages: u32,
     segments: &[DataSegment],
 ) -> Result<Vec<u8>, AllocError>
-    requires { All (λ d. offset_of d.offset + length d.bytes ≤ 65536 * pages) segments.now }
-    ensures { IfOk result (λ image. image.items ≡ fold with_segment (replicate (65536 * pages) 0) segments.now) }
+    requires { All (λ d. offset_of d.offset + length d.bytes ≤ page_size * pages) segments.now }
+    ensures { IfOk result (λ image. image.items ≡ fold with_segment (replicate (page_size * pages) 0) segments.now) }
 {
-    let mut image = vec![in alloc; 0; PAGE * pages as usize]?;
+    let mut image = vec![in alloc; 0; PAGE_SIZE * pages as usize]?;
     for segment in segments {
         write_segment(&mut image, segment);
     }

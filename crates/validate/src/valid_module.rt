@@ -4,23 +4,21 @@ ghost use Rattle.std.specs.Prelude.{◌≡◌, ◌↔◌, ℕ, ◌+◌, ◌<◌,
 ghost use Rattle.std.specs.Option.{MatchOption};
 ghost use Rattle.std.specs.List.{slice_get};
 ghost use Rattle.types.specs.Modules.{IsModule};
-ghost use Rattle.typing.specs.Context.{imported_functions, memories_of};
-ghost use Rattle.typing.specs.Image.{opening_image, opening_pages, pages_max_of};
-ghost use Rattle.typing.specs.Tabled.{IsValidated, target_at};
-ghost use Rattle.module_rules.specs.Exported.{IsExported};
-ghost use Rattle.module_rules.specs.Faults.{fault_outside};
+ghost use Rattle.validate_typing.specs.Context.{imported_functions, memories_of};
+ghost use Rattle.types.specs.Limits.{most_pages};
+ghost use Rattle.validate_typing.specs.Image.{opening_image, opening_pages, pages_max_of};
+ghost use Rattle.validate_typing.specs.Tabled.{IsValidated, target_at};
+ghost use Rattle.validate_module_rules.specs.Exported.{IsExported};
+ghost use Rattle.validate_module_rules.specs.Faults.{fault_outside};
 ghost use Rattle.validate.specs.Refusals.{IsRefusal};
 
 use crate::check::check_parts;
 use crate::image::opening_image;
-use module_rules::exported_function;
 use std::alloc::{AllocError, Global};
 use std::marker::Model;
-use types::{Body, FuncType, Limits, Module, Parts};
-use typing::{Table, Target, ValidFault};
-
-/// The most pages of a memory that states no maximum.
-const PAGES: u32 = 64;
+use types::{Body, FuncType, Limits, MOST_PAGES, Module, Parts};
+use validate_module_rules::exported_function;
+use validate_typing::{Table, Target, ValidFault};
 
 /// A valid module with the table of branches of each body. In contracts it is the module's parts and the tables' rows.
 #[derive(Drop, Debug)]
@@ -37,14 +35,15 @@ pub struct ValidModule {
 impl Model for ValidModule {
     ghost use Rattle.std.specs.Prelude.{◌≡◌, length};
     ghost use Rattle.std.specs.List.{slice_get};
-    ghost use Rattle.typing.specs.Context.{imported_functions, memories_of};
-    ghost use Rattle.typing.specs.Tabled.{WithTables, IsValidated};
+    ghost use Rattle.validate_typing.specs.Context.{imported_functions, memories_of};
+    ghost use Rattle.validate_typing.specs.Tabled.{WithTables, IsValidated};
 
     ghost Value = { WithTables };
 
     ghost view = { λ v. record { parts = v.module; tables = v.tables.items } };
 
-    ghost invariant = { λ v. IsValidated (record { parts = v.module; tables = v.tables.items }) × (v.imported ≡ length (imported_functions v.module)) × (v.memory ≡ slice_get (memories_of v.module) 0) };
+    ghost invariant = { λ v. IsValidated (record { parts = v.module; tables = v.tables.items })
+        × (v.imported ≡ length (imported_functions v.module)) × (v.memory ≡ slice_get (memories_of v.module) 0) };
 }
 
 impl ValidModule {
@@ -77,10 +76,10 @@ impl ValidModule {
 
     /// The most pages that the memory may have: 64 where none are stated, 0 without a memory.
     pub fn pages_max(&self) -> u32
-        ensures { result ≡ pages_max_of self.now.parts }
+        ensures { result ≡ pages_max_of most_pages self.now.parts }
     {
         match self.memory {
-            Some(memory) => memory.max.unwrap_or(PAGES),
+            Some(memory) => memory.max.unwrap_or(MOST_PAGES),
             None => 0,
         }
     }
@@ -117,7 +116,8 @@ impl ValidModule {
     /// its body and `which` the targets of the instruction, each from 0. None where there is no such target, as of an
     /// imported function.
     pub fn target(&self, function: usize, instruction: usize, which: usize) -> Option<Target>
-        ensures own { (own : ℕ) → function ≡ length (imported_functions self.now.parts) + own → result ≡ target_at self.now own instruction which }
+        ensures own { (own : ℕ) → function ≡ length (imported_functions self.now.parts) + own
+            → result ≡ target_at self.now own instruction which }
         ensures imported { function < length (imported_functions self.now.parts) → result ≡ None }
     {
         let own = function.checked_sub(self.imported)?;
@@ -126,14 +126,17 @@ impl ValidModule {
 
     /// A function's body; functions of the module itself, from 0.
     pub fn body(&self, own: usize) -> Option<&Body>
-        ensures { MatchOption result (slice_get self.now.parts.bodies own ≡ None) (λ body. slice_get self.now.parts.bodies own ≡ Some body.now) }
+        ensures { MatchOption result (slice_get self.now.parts.bodies own ≡ None)
+            (λ body. slice_get self.now.parts.bodies own ≡ Some body.now) }
     {
         self.parts().bodies.as_slice().get(own)
     }
 
     /// A function's type; functions of the module itself, from 0.
     pub fn func_type(&self, own: usize) -> Option<&FuncType>
-        ensures { MatchOption result (length self.now.parts.functions ≤ own) (λ t. (index : ℕ) × (slice_get self.now.parts.functions own ≡ Some index) × (slice_get self.now.parts.types index ≡ Some t.now)) }
+        ensures { MatchOption result (length self.now.parts.functions ≤ own)
+            (λ t. (index : ℕ) × (slice_get self.now.parts.functions own ≡ Some index)
+            × (slice_get self.now.parts.types index ≡ Some t.now)) }
     {
         let parts = self.parts();
         let index = *parts.functions.as_slice().get(own)?;

@@ -2,7 +2,11 @@
 #![tactic(auto)]
 
 #[cfg(test)]
+mod bodies;
+#[cfg(test)]
 mod bytes;
+#[cfg(test)]
+mod parts;
 #[cfg(test)]
 mod sections;
 #[cfg(test)]

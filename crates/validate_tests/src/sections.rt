@@ -4,9 +4,12 @@ ghost use Rattle.std.specs.Prelude.{◌<◌};
 
 use std::alloc::{AllocError, Global};
 use std::test::Fail;
-use types::{Export, ExportDesc, Import, ImportDesc, Limits, Module, Name, Parts, Sequence};
-use typing::Fault;
+use types::{
+    Body, Export, ExportDesc, FuncType, Import, ImportDesc, Limits, Module, Name, Parts, Sequence,
+    ValType,
+};
 use validate::validate;
+use validate_typing::Fault;
 
 /// A module without anything.
 pub fn empty(alloc: Global) -> Parts {
@@ -23,6 +26,30 @@ pub fn empty(alloc: Global) -> Parts {
         bodies: Sequence::from_vec(Vec::new(alloc)),
         data: Sequence::from_vec(Vec::new(alloc)),
     }
+}
+
+/// A type of functions.
+pub fn func_type(
+    alloc: Global,
+    params: &[ValType],
+    results: &[ValType],
+) -> Result<FuncType, AllocError> {
+    let params = Sequence::from_vec(Vec::from_slice(alloc, params)?);
+    let results = Sequence::from_vec(Vec::from_slice(alloc, results)?);
+    Ok(FuncType { params, results })
+}
+
+/// A module with one function of this body, without parameters and results.
+pub fn one_function(alloc: Global, body: Body) -> Result<Parts, AllocError> {
+    let bodies = Sequence::from_vec(vec![in alloc; body]?);
+    let types = Sequence::from_vec(vec![in alloc; func_type(alloc, &[], &[])?]?);
+    let functions = Sequence::from_vec(vec![in alloc; 0]?);
+    Ok(Parts {
+        types,
+        functions,
+        bodies,
+        ..empty(alloc)
+    })
 }
 
 /// The fault of a module of these parts, if it has one.

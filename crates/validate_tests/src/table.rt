@@ -1,7 +1,7 @@
 //! Modules in the binary format, with what the validator answers of them. Written by modules/generate.py from
 //! modules/modules.txt.
 
-use typing::Fault;
+use validate_typing::Fault;
 
 /// What the reader and the validator answer.
 #[derive(Clone, Copy, PartialEq, Eq, Debug)]

@@ -6,12 +6,13 @@ use crate::table::{
     Answer, CASES, Case, DATA_OVER_DATA, DATA_TO_THE_END, GLOBALS, SPAWNS, TABLE_OF_LABELS,
 };
 use binary::read;
+use binary_wire::ReadFault;
 use std::alloc::Global;
+use std::process::Abort;
 use std::test::Fail;
-use types::Limits;
-use typing::{Fault, Target, ValidFault};
+use types::{Limits, MOST_PAGES, PAGE_SIZE};
 use validate::{ValidModule, validate};
-use wire::ReadFault;
+use validate_typing::{Fault, Target, ValidFault};
 
 /// What is answered of a module's bytes.
 fn answer(alloc: Global, bytes: &[u8]) -> Result<Answer, Fail> {
@@ -95,47 +96,70 @@ fn takes_1000_exports(rt: HostRuntime) -> Result<(), Fail> {
     Ok(())
 }
 
+/// The most pages of a module of the table.
+fn pages_max(alloc: Global, number: usize) -> Result<u32, Fail> {
+    let module = valid(alloc, number)?;
+    Ok(module.pages_max())
+}
+
+/// The opening image of a module of the table.
+fn image(alloc: Global, number: usize) -> Result<Vec<u8>, Fail> {
+    let module = valid(alloc, number)?;
+    Ok(module.image(alloc)?)
+}
+
 #[test]
 fn writes_segments_over_one_another(rt: HostRuntime) -> Result<(), Fail> {
-    let module = valid(rt.alloc(), DATA_OVER_DATA)?;
-    let image = module.image(rt.alloc())?;
-    assert_eq!(rt; image.len(), 65_536);
+    let image = image(rt.alloc(), DATA_OVER_DATA)?;
+    assert_eq!(rt; image.len(), PAGE_SIZE);
     assert_eq!(rt; image.get(..8), Some(b"\0\0abXY\0\0".as_slice()));
     assert_eq!(rt; image.last().copied(), Some(b'z'));
-    assert_eq!(rt; module.pages_max(), 3);
+    assert_eq!(rt; pages_max(rt.alloc(), DATA_OVER_DATA)?, 3);
     Ok(())
 }
 
 #[test]
 fn a_memory_has_64_pages_at_most(rt: HostRuntime) -> Result<(), Fail> {
-    let module = valid(rt.alloc(), DATA_TO_THE_END)?;
-    assert_eq!(rt; module.pages_max(), 64);
-    let module = valid(rt.alloc(), GLOBALS)?;
-    assert_eq!(rt; module.pages_max(), 0);
-    assert_eq!(rt; module.image(rt.alloc())?.len(), 0);
+    assert_eq!(rt; pages_max(rt.alloc(), DATA_TO_THE_END)?, MOST_PAGES);
+    assert_eq!(rt; pages_max(rt.alloc(), GLOBALS)?, 0);
+    assert_eq!(rt; image(rt.alloc(), GLOBALS)?.len(), 0);
     Ok(())
+}
+
+/// Of functions and instructions the targets, by their numbers, and where each leads.
+static TARGETS: [(usize, usize, usize, Option<usize>); 6] = [
+    (0, 3, 0, Some(5)),
+    (0, 3, 1, Some(6)),
+    (0, 3, 2, Some(7)),
+    (0, 3, 3, None),
+    (0, 2, 0, None),
+    (1, 3, 0, None),
+];
+
+/// Whether branches lead where the table says.
+fn leads_so(module: &ValidModule) -> bool {
+    for (function, instruction, which, to) in TARGETS {
+        let target = to.map(|to| Target {
+            to,
+            height: 0,
+            carried: 0,
+        });
+        if module.target(function, instruction, which) != target {
+            return false;
+        }
+    }
+    true
 }
 
 #[test]
 fn tells_where_branches_lead(rt: HostRuntime) -> Result<(), Fail> {
     let module = valid(rt.alloc(), TABLE_OF_LABELS)?;
-    for (which, to) in [5, 6, 7].iter().enumerate() {
-        let target = Target {
-            to: *to,
-            height: 0,
-            carried: 0,
-        };
-        assert_eq!(rt; module.target(0, 3, which), Some(target));
-    }
-    assert_eq!(rt; module.target(0, 3, 3), None);
-    assert_eq!(rt; module.target(0, 2, 0), None);
-    assert_eq!(rt; module.target(1, 3, 0), None);
+    assert!(rt; leads_so(&module));
     Ok(())
 }
 
-#[test]
-fn counts_imported_functions(rt: HostRuntime) -> Result<(), Fail> {
-    let module = valid(rt.alloc(), SPAWNS)?;
+/// What a module that starts threads says of its functions.
+fn check_functions(rt: &impl Abort, module: &ValidModule) {
     assert!(rt; module.starts_threads());
     assert_eq!(rt; module.imported_functions(), 1);
     assert_eq!(rt; module.exported("wasi_thread_start"), Some(0));
@@ -148,6 +172,12 @@ fn counts_imported_functions(rt: HostRuntime) -> Result<(), Fail> {
     );
     assert!(rt; module.table(1).is_none());
     assert_eq!(rt; module.target(0, 0, 0), None);
+}
+
+#[test]
+fn counts_imported_functions(rt: HostRuntime) -> Result<(), Fail> {
+    let module = valid(rt.alloc(), SPAWNS)?;
+    check_functions(&rt, &module);
     Ok(())
 }
 

@@ -1,2 +1,2 @@
-pub mod Lists
-pub mod Asleep
+pub mod Few
+pub mod Woken

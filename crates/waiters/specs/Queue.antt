@@ -1,26 +1,28 @@
--- What a queue keeps true of its state, and which argument a spawned thread has.
-use Rattle.std.specs.Prelude.{ℕ, ◌≢◌, ◌+◌, ◌<◌, ◌≤◌, List, length, Option, None, slice_get, zero, suc}
-use Rattle.std.specs.List.{All, AllPairs}
+-- Which argument a spawned thread has, which question sleeps, and of whom a queue is told.
+use Rattle.std.specs.Prelude.{ℕ, ◌≡◌, ◌<◌, ◌==◌, ◌&&◌, Bool, true, false, not, List, Option, None, slice_get, zero, suc}
+use Rattle.std.specs.List.{All}
+use Rattle.types.specs.declared.event.Question.{Question}
+use Rattle.types.specs.declared.event.Question.TheVariants.{Wait, Notify, Spawn, Leave}
+use Rattle.types.specs.Limits.{most_threads}
 use Rattle.shared_memory.specs.declared.sleeper.Sleeper.{Sleeper}
-use Rattle.shared_memory.specs.WaitQueue.{WaitQueue}
+use Rattle.shared_memory.specs.WaitQueue.{WaitQueue, is_among, is_asleep, ends_at_once}
 
 -- The argument of a spawned thread. Thread 0 has none, nor has one that wasn't spawned.
 abbrev pub arg_of : WaitQueue → ℕ → Option ℕ
 arg_of q zero = None
 arg_of q (suc n) = slice_get q.args n
 
+-- The question of who falls asleep: a wait, where the value is there and the timeout isn't 0.
+abbrev pub falls_asleep : Question → ℕ → Bool
+falls_asleep (Wait addr width expected timeout) loaded = (loaded == expected) && not (ends_at_once timeout)
+falls_asleep (Notify addr count) loaded = false
+falls_asleep (Spawn arg) loaded = false
+falls_asleep Leave loaded = false
+
 -- Each sleeper is one of the threads 0 to 15.
 abbrev pub AreNumbered : List Sleeper → Type 0
-AreNumbered sleepers = All (λ (s : Sleeper). s.thread < 16) sleepers
+AreNumbered sleepers = All (λ (s : Sleeper). s.thread < most_threads) sleepers
 
--- No thread sleeps twice.
-abbrev pub AreApart : List Sleeper → Type 0
-AreApart sleepers = AllPairs (λ (s t : Sleeper). s.thread ≢ t.thread) sleepers
-
--- Threads are numbered 0 to 15, at most 15 are spawned, and none sleeps twice.
-pub record IsSound (q : WaitQueue) : Type 0 where
-  pub numbered : All (λ n. n < 16) q.alive
-  pub room : length q.alive ≤ length q.args + 1
-  pub few : length q.args ≤ 15
-  pub within : AreNumbered q.sleepers
-  pub apart : AreApart q.sleepers
+-- Each of these sleepers sleeps in the queue.
+abbrev pub AreAsleep : List Sleeper → WaitQueue → Type 0
+AreAsleep sleepers q = (n : ℕ) → is_among n sleepers ≡ true → is_asleep q n ≡ true

@@ -1,14 +1,17 @@
 //! The state of the wait queue, and its steps.
 ghost use Rattle.std.specs.Prelude.{◌≡◌, ◌<◌, ◌↔◌, [], length, false, nat_lt, if◌then◌else◌, IsTrue, MatchOption};
 ghost use Rattle.std.specs.List.{list_all};
-ghost use Rattle.shared_memory.specs.WaitQueue.{IsFree, after_answer, after_question, answer_due, asked, first_queue, has_open_question, is_alive, is_asleep, is_among, is_stuck, leaves, next_id, settled, sleeps, starts, tells, wakes, woken_at};
-ghost use Rattle.waiters.specs.Queue.{AreNumbered, arg_of};
+ghost use Rattle.types.specs.Limits.{most_threads};
+ghost use Rattle.shared_memory.specs.WaitQueue.{IsFree, after_answer, after_question, answer_due, asked, first_queue, has_open_question};
+ghost use Rattle.shared_memory.specs.WaitQueue.{is_alive, is_asleep, is_among, is_stuck, leaves, next_id, settled};
+ghost use Rattle.shared_memory.specs.WaitQueue.{sleeps, starts, tells, wakes, woken_at};
+ghost use Rattle.waiters.specs.Queue.{AreAsleep, arg_of, falls_asleep};
 
 use crate::waking::{ends_at_once, first_to_end, is_among, tell_each, woken_at};
 use arrayvec::ArrayVec;
 use shared_memory::Sleeper;
 use std::marker::Model;
-use types::{Answer, Question};
+use types::{Answer, MOST_SPAWNED, MOST_THREADS, Question};
 
 /// What a spawn answers where 15 threads were spawned already.
 const NO_THREAD: u32 = 4_294_967_295;
@@ -21,15 +24,15 @@ const NO_THREAD: u32 = 4_294_967_295;
 /// settling are the profile's own.
 #[derive(Drop)]
 pub struct Queue {
-    alive: ArrayVec<u32, 16>,
-    sleepers: ArrayVec<Sleeper, 16>,
-    due: [Option<Answer>; 16],
-    args: ArrayVec<u32, 15>,
+    alive: ArrayVec<u32, MOST_THREADS>,
+    sleepers: ArrayVec<Sleeper, MOST_THREADS>,
+    due: [Option<Answer>; MOST_THREADS],
+    args: ArrayVec<u32, MOST_SPAWNED>,
 }
 
 impl Model for Queue {
     ghost use Rattle.shared_memory.specs.WaitQueue.{WaitQueue};
-    ghost use Rattle.waiters.specs.Queue.{IsSound};
+    ghost use Rattle.shared_memory.specs.Sound.{IsSound};
 
     ghost Value = { WaitQueue };
 
@@ -49,24 +52,25 @@ impl Queue {
         Queue {
             alive,
             sleepers: ArrayVec::new(),
-            due: [None; 16],
+            due: [None; MOST_THREADS],
             args: ArrayVec::new(),
         }
     }
 
-    /// A live thread without an open question asks a question. `loaded` is the value of the word that a wait is at, and
-    /// counts for nothing at another question. The answer is due at once, or when the thread is woken. Then the queue
-    /// settles: where each live thread is asleep, the least timeout ends, ties at the lowest thread, and where none
-    /// has one, all sleep for good.
+    /// A live thread without an open question asks a question, and hears whether it falls asleep. `loaded` is the value
+    /// of the word that a wait is at, and counts for nothing at another question. The answer of who falls asleep is due
+    /// when it is woken, and any other answer at once. Then the queue settles: where each live thread is asleep, the
+    /// least timeout ends, ties at the lowest thread, and where none has one, all sleep for good. So who falls asleep
+    /// may be woken in this very call.
     #[tactic(auto, unfolding(shared_memory::specs::WaitQueue::after_question))]
-    pub fn ask(&mut self, thread: u32, question: &Question, loaded: u64)
+    pub fn ask(&mut self, thread: u32, question: &Question, loaded: u64) -> bool
         requires { IsFree self.old thread }
-        ensures { self.new ≡ after_question self.old thread question.now loaded }
+        ensures after { self.new ≡ after_question self.old thread question.now loaded }
+        ensures asleep { result ≡ falls_asleep question.now loaded }
     {
-        // A live thread's number is below 16.
-        let _ = &self.alive;
-        self.put_question(thread, question, loaded);
+        let asleep = self.put_question(thread, question, loaded);
         self.settle();
+        asleep
     }
 
     /// The answer that is due to the thread, which is then taken. It is `None`, with no change, where none is due, as
@@ -123,12 +127,14 @@ impl Queue {
         self.args.get(place as usize).copied()
     }
 
-    /// What a question does before the queue settles.
-    fn put_question(&mut self, thread: u32, question: &Question, loaded: u64)
-        requires numbered { thread < 16 }
-        requires awake { is_asleep self.old thread ≡ false }
-        ensures { self.new ≡ asked self.old thread question.now loaded }
+    /// What a question does before the queue settles, and whether the thread falls asleep.
+    fn put_question(&mut self, thread: u32, question: &Question, loaded: u64) -> bool
+        requires { IsFree self.old thread }
+        ensures after { self.new ≡ asked self.old thread question.now loaded }
+        ensures asleep { result ≡ falls_asleep question.now loaded }
     {
+        // A live thread has a number that was given out.
+        let _ = &self.alive;
         match *question {
             Question::Wait {
                 addr,
@@ -146,6 +152,7 @@ impl Queue {
                         addr,
                         timeout,
                     });
+                    return true;
                 }
             }
             Question::Notify { addr, count } => {
@@ -161,11 +168,13 @@ impl Queue {
                 self.tell(thread, Answer::Number(0));
             }
         }
+        false
     }
 
     /// The thread is given an answer, which is due until it takes it.
     fn tell(&mut self, thread: u32, answer: Answer)
-        requires { thread < 16 }
+        requires known { thread < next_id self.old }
+        requires awake { is_asleep self.old thread ≡ false }
         ensures { self.new ≡ tells thread answer self.old }
     {
         self.due[thread as usize] = Some(answer);
@@ -173,8 +182,7 @@ impl Queue {
 
     /// A thread falls asleep, behind those that sleep already.
     fn sleep(&mut self, s: Sleeper)
-        requires numbered { s.thread < 16 }
-        requires awake { is_asleep self.old s.thread ≡ false }
+        requires { IsFree self.old s.thread }
         ensures { self.new ≡ sleeps s self.old }
     {
         self.sleepers.push(s);
@@ -192,11 +200,11 @@ impl Queue {
 
     /// A thread with the next number comes alive, unless 15 were spawned already.
     fn spawn(&mut self, arg: u32) -> u32
-        ensures after { self.new ≡ (if nat_lt (next_id self.old) 16 then starts arg self.old else self.old) }
-        ensures id { result ≡ (if nat_lt (next_id self.old) 16 then next_id self.old else NO_THREAD) }
+        ensures after { self.new ≡ (if nat_lt (next_id self.old) most_threads then starts arg self.old else self.old) }
+        ensures id { result ≡ (if nat_lt (next_id self.old) most_threads then next_id self.old else NO_THREAD) }
     {
         let id = self.args.len() as u32 + 1;
-        if id >= 16 {
+        if id >= MOST_THREADS as u32 {
             return NO_THREAD;
         }
         self.alive.push(id);
@@ -206,6 +214,7 @@ impl Queue {
 
     /// The thread is alive no more.
     fn leave(&mut self, thread: u32)
+        requires { is_asleep self.old thread ≡ false }
         ensures { self.new ≡ leaves thread self.old }
     {
         self.alive.retain(|m| *m != thread);
@@ -213,7 +222,7 @@ impl Queue {
 
     /// Each of these sleepers sleeps no more, and is given the answer.
     fn wake(&mut self, woken: &[Sleeper], answer: Answer)
-        requires { AreNumbered woken.now }
+        requires { AreAsleep woken.now self.old }
         ensures { self.new ≡ wakes woken.now answer self.old }
     {
         self.sleepers.retain(|s| !is_among(s.thread, woken));

@@ -1,16 +1,18 @@
 //! Whom of the sleepers a notify or settling wakes.
 ghost use Rattle.std.specs.Prelude.{◌≡◌, ◌≤◌, ◌==◌, length, filter};
+ghost use Rattle.types.specs.Limits.{most_threads};
 ghost use Rattle.shared_memory.specs.declared.sleeper.Sleeper.{Sleeper};
-ghost use Rattle.shared_memory.specs.WaitQueue.{amount, due_after, earlier, ends_at_once, ends_before, first_to_end, has_timeout, is_among, woken_at};
+ghost use Rattle.shared_memory.specs.WaitQueue.{amount, due_after, earlier, ends_at_once, ends_before};
+ghost use Rattle.shared_memory.specs.WaitQueue.{first_to_end, has_timeout, is_among, woken_at};
 ghost use Rattle.waiters.specs.Queue.{AreNumbered};
 
 use arrayvec::ArrayVec;
 use shared_memory::Sleeper;
-use types::Answer;
+use types::{Answer, MOST_THREADS};
 
 /// The sleepers at an address.
-fn at_address(sleepers: &[Sleeper], addr: u64) -> ArrayVec<Sleeper, 16>
-    requires { length sleepers.now ≤ 16 }
+fn at_address(sleepers: &[Sleeper], addr: u64) -> ArrayVec<Sleeper, MOST_THREADS>
+    requires { length sleepers.now ≤ most_threads }
     ensures { result.items ≡ filter (λ (s : Sleeper). s.addr == addr) sleepers.now }
 {
     let mut found = ArrayVec::new();
@@ -23,8 +25,12 @@ fn at_address(sleepers: &[Sleeper], addr: u64) -> ArrayVec<Sleeper, 16>
 }
 
 /// Whom a notify wakes: those that have slept longest at the address, as many as it counts.
-pub(crate) fn woken_at(sleepers: &[Sleeper], addr: u64, count: u32) -> ArrayVec<Sleeper, 16>
-    requires { length sleepers.now ≤ 16 }
+pub(crate) fn woken_at(
+    sleepers: &[Sleeper],
+    addr: u64,
+    count: u32,
+) -> ArrayVec<Sleeper, MOST_THREADS>
+    requires { length sleepers.now ≤ most_threads }
     ensures { result.items ≡ woken_at addr count sleepers.now }
 {
     let mut woken = at_address(sleepers, addr);
@@ -93,7 +99,7 @@ pub(crate) fn first_to_end(sleepers: &[Sleeper]) -> Option<Sleeper>
 }
 
 /// Gives each of these sleepers an answer.
-pub(crate) fn tell_each(due: &mut [Option<Answer>; 16], woken: &[Sleeper], answer: Answer)
+pub(crate) fn tell_each(due: &mut [Option<Answer>; MOST_THREADS], woken: &[Sleeper], answer: Answer)
     requires { AreNumbered woken.now }
     ensures { due.new ≡ due_after woken.now answer due.old }
 {

@@ -1,5 +1,6 @@
 -- What a try leaves of its caller's list, from what its steps tell.
-use Rattle.std.proofs.Common.{◌≡◌, ◌≢◌, ℕ, ◌+◌, ◌*◌, ◌<◌, ◌≤◌, Bool, true, cond, List, [], ◌∷◌, ◌++◌, length, take, drop, get_or, Option, Some, None, refl, sym, ap, ◌∙◌, subst, arith, append_assoc, eqb, ne_eqb}
+use Rattle.std.proofs.Common.{◌≡◌, ◌≢◌, ℕ, ◌+◌, ◌*◌, ◌<◌, ◌≤◌, Bool, true, cond, List, [], ◌∷◌, ◌++◌, length}
+use Rattle.std.proofs.Common.{take, drop, get_or, Option, Some, None, refl, sym, ap, ◌∙◌, subst, arith, append_assoc, eqb, ne_eqb}
 use native.Mathlib.Decide.{ℕ_discrete}
 use mathlib.Core.Logic.{dite}
 use Rattle.types.specs.declared.event.Entry.{Entry}
@@ -7,21 +8,22 @@ use Rattle.types.specs.declared.event.Event.{Event}
 use Rattle.types.specs.declared.event.Event.TheVariants.{Size, Grow, Load, Store, Rmw, Cmpxchg, Ask, Told}
 use Rattle.types.specs.declared.event.Reply.{Reply}
 use Rattle.types.specs.declared.event.Reply.TheVariants.{Value, Done, OutOfBounds, Again, Full}
+use Rattle.types.specs.Limits.{most_pages}
 use Rattle.shared_memory.specs.Numbers.{le_number}
 use Rattle.shared_memory.specs.Events.{IsEvent, is_of_queue}
 use Rattle.shared_memory.specs.Memory.{Memory, pages, state_after, touched}
 use Rattle.shared_memory.specs.History.{entry, AreEntries, memory_after}
 use Rattle.shared_memory.specs.Access.{Gains, IsSeen, Answers, Changes, WasThere, WasExpected, LosesTry, Accesses}
 use Rattle.shared_memory.proofs.Histories.{memory_after-append, AreEntries-prefix}
-use Rattle.seats.specs.declared.view.Caller.{Caller}
-use Rattle.seats.specs.Callers.{GoesOn, seeing}
-use Rattle.seats.proofs.GoingOn.{none_of}
-use Rattle.word_rules.specs.Words.{words_of, IsStored}
-use Rattle.word_rules.specs.Answers.{end_of, place_of, size_answer, Makes, made_reply, exchange_answer}
-use Rattle.word_rules.specs.Rule.{list_after, Steps}
-use Rattle.word_rules.proofs.Memories.{outlasts}
-use Rattle.word_rules.proofs.Settling.{IsAnswer, touched_is, expected_there, makes_may_lose, open_within, place_within}
-use Rattle.word_rules.proofs.Moves.{later_than}
+use Rattle.shared_memory_on_table.specs.declared.view.Caller.{Caller}
+use Rattle.shared_memory_on_table.specs.Callers.{GoesOn, seeing}
+use Rattle.shared_memory_on_table.proofs.GoingOn.{none_of}
+use Rattle.word_row_rules.specs.Words.{words_of, IsStored}
+use Rattle.word_row_rules.specs.Answers.{end_of, place_of, size_answer, Makes, made_reply, exchange_answer}
+use Rattle.word_row_rules.specs.Rule.{list_after, Steps}
+use Rattle.word_row_rules.proofs.Memories.{outlasts}
+use Rattle.word_row_rules.proofs.Settling.{IsAnswer, touched_is, expected_there, makes_may_lose, open_within, place_within}
+use Rattle.word_row_rules.proofs.Moves.{later_than}
 
 abbrev L : Type 0
 L = List Entry
@@ -46,7 +48,8 @@ changes-later m xs ys event ch = record {
       ∙ e ∙ ap (λ (x : Memory). touched x event) (memory_after-append m xs ch.front));
 }
 
-there-later : (m : Memory) (xs ys : L) (addr width expected : ℕ) → WasThere (memory_after m xs) addr width expected ys → WasThere m addr width expected (xs ++ ys)
+there-later : (m : Memory) (xs ys : L) (addr width expected : ℕ) → WasThere (memory_after m xs) addr width expected ys
+    → WasThere m addr width expected (xs ++ ys)
 there-later m xs ys addr width expected w = record {
   front = xs ++ w.front;
   back = w.back;
@@ -101,7 +104,9 @@ accesses-later opening n right event before xs middle after reply g = by_reply r
     by_reply Full a = elim a.reached [ ]
 
 -- A step that settles the reply answers.
-pub answered : (opening : Memory) (event : Event) (answer : Option Reply) (place found : ℕ) (c w : Caller) (reply : Reply) → Steps opening event answer place c found w → answer ≡ Some reply → IsAnswer answer
+pub answered : (opening : Memory) (event : Event) (answer : Option Reply) (place found : ℕ) (c w : Caller)
+    (reply : Reply) → Steps opening event answer place c found w → answer ≡ Some reply
+    → IsAnswer answer
     → Accesses true opening None c.name c.has_queue_right event c.seen w.seen reply
 answered opening event answer place found c w reply s is kind = by_reply reply (subst IsAnswer is kind) (record {
   others = s.goes_on.0;
@@ -112,7 +117,8 @@ answered opening event answer place found c w reply s is kind = by_reply reply (
   room = tt;
 })
   where
-    by_reply : (r : Reply) → IsAnswer (Some r) → Answers opening None c.name c.has_queue_right event r c.seen w.seen → Accesses true opening None c.name c.has_queue_right event c.seen w.seen r
+    by_reply : (r : Reply) → IsAnswer (Some r) → Answers opening None c.name c.has_queue_right event r c.seen w.seen
+        → Accesses true opening None c.name c.has_queue_right event c.seen w.seen r
     by_reply (Value v) k a = a
     by_reply Done k a = a
     by_reply OutOfBounds k a = a
@@ -126,7 +132,8 @@ pub record Shows (opening : Memory) (place : ℕ) (c : Caller) (found : ℕ) (w 
   pub seen : IsSeen opening w.seen
   pub word : get_or (words_of (memory_after opening w.seen)) place 0 ≡ found
 
-pub shows : (opening : Memory) (event : Event) (answer : Option Reply) (place found : ℕ) (c w : Caller) → Steps opening event answer place c found w → answer ≡ None → Shows opening place c found w
+pub shows : (opening : Memory) (event : Event) (answer : Option Reply) (place found : ℕ) (c w : Caller)
+    → Steps opening event answer place c found w → answer ≡ None → Shows opening place c found w
 shows opening event answer place found c w s is =
     let list : w ≡ seeing s.log c = s.list ∙ ap (λ (a : Option Reply). seeing (list_after c.name event a s.log) c) is in
     let log : s.log ≡ w.seen = sym (ap (λ (x : Caller). x.seen) list) in
@@ -138,12 +145,14 @@ shows opening event answer place found c w s is =
     }
 
 pub accesses-after : (opening : Memory) (event : Event) (place found : ℕ) (c w : Caller) (after : L) (reply : Reply) → Shows opening place c found w
-    → Accesses true opening None w.name w.has_queue_right event w.seen after reply → Accesses true opening None c.name c.has_queue_right event c.seen after reply
+    → Accesses true opening None w.name w.has_queue_right event w.seen after reply
+    → Accesses true opening None c.name c.has_queue_right event c.seen after reply
 accesses-after opening event place found c w after reply s a =
     let name : w.name ≡ c.name = ap (λ (x : Caller). x.name) s.same in
     let right : w.has_queue_right ≡ c.has_queue_right = ap (λ (x : Caller). x.has_queue_right) s.same in
     accesses-later opening c.name c.has_queue_right event c.seen s.goes_on.0 w.seen after reply s.goes_on.1
-    (subst (λ (r : Bool). Accesses true opening None c.name r event w.seen after reply) right (subst (λ (n : ℕ). Accesses true opening None n w.has_queue_right event w.seen after reply) name a))
+    (subst (λ (r : Bool). Accesses true opening None c.name r event w.seen after reply) right
+    (subst (λ (n : ℕ). Accesses true opening None n w.has_queue_right event w.seen after reply) name a))
 
 -- What an event touches is another where it spells another number, so some entry changed it.
 changed : (m : Memory) (event : Event) (others : L) → le_number (touched (memory_after m others) event) ≢ le_number (touched m event) → Changes m event others
@@ -161,8 +170,10 @@ changed m event (e ∷ others) ne = dite (ℕ_discrete (le_number (touched (stat
 
 -- A try that found another word than the one that the list seen leaves was lost.
 pub lost : (opening : Memory) (event : Event) (old found new : ℕ) (c w : Caller) → IsStored opening → IsEvent event
-    → end_of event ≤ length (memory_after opening c.seen).bytes → Makes opening.max event old new → get_or (words_of (memory_after opening c.seen)) (place_of event) 0 ≡ old
-    → Steps opening event (exchange_answer event old found) (place_of event) c found w → found ≢ old → LosesTry true opening c.name c.has_queue_right event c.seen w.seen
+    → end_of event ≤ length (memory_after opening c.seen).bytes → Makes opening.max event old new
+    → get_or (words_of (memory_after opening c.seen)) (place_of event) 0 ≡ old
+    → Steps opening event (exchange_answer event old found) (place_of event) c found w → found ≢ old
+    → LosesTry true opening c.name c.has_queue_right event c.seen w.seen
 lost opening event old found new c w stored is within makes word s miss =
     let none : exchange_answer event old found ≡ None = ap (λ (b : Bool). cond b (Some (made_reply event old)) None) (ne_eqb found old miss) in
     let sh = shows opening event (exchange_answer event old found) (place_of event) found c w s none in
@@ -187,7 +198,8 @@ lost opening event old found new c w stored is within makes word s miss =
       expected = by_event others entries event is within makes word;
     }
   where
-    by_event : (others : L) → AreEntries c.seen → (e : Event) → IsEvent e → end_of e ≤ length (memory_after opening c.seen).bytes → Makes opening.max e old new → get_or (words_of (memory_after opening c.seen)) (place_of e) 0 ≡ old
+    by_event : (others : L) → AreEntries c.seen → (e : Event) → IsEvent e → end_of e ≤ length (memory_after opening c.seen).bytes → Makes opening.max e old new
+        → get_or (words_of (memory_after opening c.seen)) (place_of e) 0 ≡ old
         → WasExpected (memory_after opening c.seen) e others
     by_event others entries Size is within makes word = tt
     by_event others entries (Grow more) is within makes word = tt
@@ -198,13 +210,16 @@ lost opening event old found new c w stored is within makes word s miss =
       front = [];
       back = others;
       among = refl;
-      found = expected_there (memory_after opening c.seen) addr width expected replacement opening.max old new (outlasts opening c.seen stored entries).stored is within makes word;
+      found = expected_there (memory_after opening c.seen) addr width expected replacement opening.max old new
+          (outlasts opening c.seen stored entries).stored is within makes word;
     }
     by_event others entries (Ask question) is within makes word = tt
     by_event others entries (Told answer) is within makes word = tt
 
 -- The place of an access within the memory seen is one of the row's.
-pub place_in : (opening : Memory) (seen : L) (event : Event) → IsStored opening → AreEntries seen → IsEvent event → end_of event ≤ length (memory_after opening seen).bytes → place_of event < 8192 * opening.max + 1
+pub place_in : (opening : Memory) (seen : L) (event : Event) → IsStored opening → AreEntries seen → IsEvent event
+    → end_of event ≤ length (memory_after opening seen).bytes
+    → place_of event < 8192 * opening.max + 1
 place_in opening seen event stored all is within =
     let o = outlasts opening seen stored all in
     let p = place_within (memory_after opening seen) event o.stored is within in
@@ -212,10 +227,11 @@ place_in opening seen event stored all is within =
     omega (arith, p, same)
 
 -- What a history shows of the page count is at most 64.
-pub few_pages : (opening : Memory) (event : Event) (answer : Option Reply) (found : ℕ) (c w : Caller) → IsStored opening → Steps opening event answer 0 c found w → found ≤ 64
+pub few_pages : (opening : Memory) (event : Event) (answer : Option Reply) (found : ℕ) (c w : Caller)
+    → IsStored opening → Steps opening event answer 0 c found w → found ≤ most_pages
 few_pages opening event answer found c w stored s = by_list answer s.list
   where
-    by_log : (log : L) → AreEntries log → pages (memory_after opening log) ≡ found → found ≤ 64
+    by_log : (log : L) → AreEntries log → pages (memory_after opening log) ≡ found → found ≤ most_pages
     by_log log all e =
         let o = outlasts opening log stored all in
         let sized = o.stored.sized in
@@ -223,9 +239,10 @@ few_pages opening event answer found c w stored s = by_list answer s.list
         let small = sized.small in
         omega (arith, e)
 
-    by_list : (a : Option Reply) → w ≡ seeing (list_after c.name event a s.log) c → found ≤ 64
+    by_list : (a : Option Reply) → w ≡ seeing (list_after c.name event a s.log) c → found ≤ most_pages
     by_list None e = by_log s.log (subst AreEntries (ap (λ (x : Caller). x.seen) e) s.seen.entries) s.word
-    by_list (Some r) e = by_log s.log (AreEntries-prefix s.log (entry c.name event r ∷ []) (subst AreEntries (ap (λ (x : Caller). x.seen) e) s.seen.entries)) s.word
+    by_list (Some r) e = by_log s.log (AreEntries-prefix s.log (entry c.name event r ∷ [])
+        (subst AreEntries (ap (λ (x : Caller). x.seen) e) s.seen.entries)) s.word
 
 -- What the page count leaves open lies within the memory seen.
 pub noted_within : (opening : Memory) (event : Event) (count : ℕ) (c w : Caller) → Shows opening 0 c count w → size_answer opening.max event count ≡ None
@@ -236,7 +253,8 @@ noted_within opening event count c w sh none =
     omega (arith, end, word)
 
 -- What lay within the memory seen lies within the memory seen later.
-pub still_within : (opening : Memory) (event : Event) (place found : ℕ) (c w : Caller) → IsStored opening → Shows opening place c found w → end_of event ≤ length (memory_after opening c.seen).bytes
+pub still_within : (opening : Memory) (event : Event) (place found : ℕ) (c w : Caller) → IsStored opening
+    → Shows opening place c found w → end_of event ≤ length (memory_after opening c.seen).bytes
     → end_of event ≤ length (memory_after opening w.seen).bytes
 still_within opening event place found c w stored sh within =
     let more = later_than opening c w.seen stored sh.seen.entries sh.goes_on in

@@ -8,10 +8,12 @@ use Rattle.types.specs.declared.event.Reply.{Reply}
 use Rattle.types.specs.declared.event.Reply.TheVariants.{Value, OutOfBounds}
 use Rattle.shared_memory.specs.Numbers.{le_number}
 use Rattle.shared_memory.specs.Memory.{Memory, loaded, reply_of}
-use Rattle.one_memory.specs.Opening.{IsSized}
+use Rattle.shared_memory_sequential.specs.Opening.{IsSized}
 
 -- past the end there is nothing, and its number is zero
-pub zero_past : (m : Memory) (addr : ℕ) (reply : Reply) → IsSized m → addr % 8 ≡ 0 → reply ≡ reply_of m (Load addr 8 (addr + 8)) → ((word : ℕ) → reply ≢ Value word) → 0 ≡ le_number (take 8 (drop addr m.bytes))
+pub zero_past : (m : Memory) (addr : ℕ) (reply : Reply) → IsSized m → addr % 8 ≡ 0
+    → reply ≡ reply_of m (Load addr 8 (addr + 8)) → ((word : ℕ) → reply ≢ Value word)
+    → 0 ≡ le_number (take 8 (drop addr m.bytes))
 zero_past m addr reply s aligned is none = by_test (nat_le (addr + 8) (length m.bytes)) refl
   where
     by_test : (b : Bool) → nat_le (addr + 8) (length m.bytes) ≡ b → 0 ≡ le_number (take 8 (drop addr m.bytes))

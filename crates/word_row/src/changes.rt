@@ -1,16 +1,17 @@
 //! What the page count and the word of an access settle of an event.
 ghost use Rattle.std.specs.Prelude.{◌≡◌, ◌+◌, ◌*◌, ◌%◌, ◌^◌, ◌<◌, ◌≤◌, ◌⊎◌, ℕ, true};
-ghost use Rattle.shared_memory.specs.Events.{IsEvent, IsAtomic, FitsWidth};
-ghost use Rattle.shared_memory.specs.Memory.{combined};
-ghost use Rattle.lanes.specs.Words.{lane_of, IsWithLane};
-ghost use Rattle.word_rules.specs.Answers.{refusal, size_answer, is_access, place_of};
+ghost use Rattle.types.specs.Limits.{most_pages};
+ghost use Rattle.shared_memory.specs.Events.{IsEvent};
+ghost use Rattle.shared_memory_lanes.specs.Words.{lane_of, IsWithLane};
+ghost use Rattle.word_row_rules.specs.Answers.{refusal, size_answer, is_access, place_of};
 ghost use Rattle.word_row.specs.Changes.{IsNext};
 
-use lanes::{lane, with_lane};
-use types::{Event, Question, Reply, RmwOp};
+use shared_memory_lanes::{lane, with_lane};
+use shared_memory_sequential::combine;
+use types::{Event, PAGE_SIZE, Question, Reply};
 
 /// The bytes of a page.
-const PAGE: u64 = 65536;
+const PAGE: u64 = PAGE_SIZE as u64;
 
 /// What an exchange makes of a word, and the reply that the event gets where it was made.
 #[derive(Clone, Copy)]
@@ -31,7 +32,7 @@ pub enum Next {
 /// The refusal of an access of `width` bytes at an address, where it ends past so many pages, at most 64. The end may
 /// pass the last address.
 fn refuse(addr: u64, width: u8, pages: u64) -> Option<Reply>
-    requires { pages ≤ 64 }
+    requires { pages ≤ most_pages }
     ensures { result ≡ refusal (addr + width) pages }
 {
     let length = PAGE * pages;
@@ -45,7 +46,7 @@ fn refuse(addr: u64, width: u8, pages: u64) -> Option<Reply>
 /// The reply that the page count settles: a page count, a refusal, or that of an event that reads no byte. `None` for
 /// an access within bounds and a growth that can succeed. The count is at most 64.
 pub fn by_size(pages_max: u32, event: Event, pages: u64) -> Option<Reply>
-    requires { pages ≤ 64 }
+    requires { pages ≤ most_pages }
     ensures { result ≡ size_answer pages_max event pages }
 {
     match event {
@@ -74,36 +75,6 @@ pub fn word_place(event: Event) -> usize
         | Event::Cmpxchg { addr, .. }
         | Event::Ask(Question::Wait { addr, .. }) => (addr / 8) as usize + 1,
         _ => 0,
-    }
-}
-
-/// A number modulo the width.
-fn low_bytes(number: u64, width: u8) -> u64
-    requires { (width ≡ 1) ⊎ (width ≡ 2) ⊎ (width ≡ 4) ⊎ (width ≡ 8) }
-    ensures { result ≡ number % 2 ^ (8 * width) }
-{
-    match width {
-        1 => number % (1 << 8),
-        2 => number % (1 << 16),
-        4 => number % (1 << 32),
-        _ => number,
-    }
-}
-
-/// What a read-modify-write makes of the old value and its operand, modulo the width (threads proposal, section
-/// "Read-Modify-Write").
-fn combine(op: RmwOp, width: u8, old: u64, value: u64) -> u64
-    requires width { (width ≡ 1) ⊎ (width ≡ 2) ⊎ (width ≡ 4) ⊎ (width ≡ 8) }
-    requires value { value < 2 ^ (8 * width) }
-    ensures { result ≡ combined op width old value }
-{
-    match op {
-        RmwOp::Add => low_bytes(old.wrapping_add(value), width),
-        RmwOp::Sub => low_bytes(old.wrapping_sub(value), width),
-        RmwOp::And => old & value,
-        RmwOp::Or => old | value,
-        RmwOp::Xor => old ^ value,
-        RmwOp::Xchg => value,
     }
 }
 

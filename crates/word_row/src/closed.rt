@@ -1,15 +1,16 @@
 //! A row that no thread shares any more.
 ghost use Rattle.std.specs.Prelude.{◌≡◌, slice_get};
 ghost use Rattle.shared_memory.specs.Memory.{pages};
-ghost use Rattle.one_memory.specs.Opening.{IsSized};
+ghost use Rattle.shared_memory_sequential.specs.Opening.{IsSized};
 
 use atomic_table::Closed;
-use lanes::lane;
+use shared_memory_lanes::lane;
 use std::alloc::Global;
 use std::marker::Model;
+use types::PAGE_SIZE;
 
 /// The bytes of a page.
-const PAGE: usize = 65536;
+const PAGE: usize = PAGE_SIZE;
 
 /// A row that no thread shares any more. Contracts see the memory for which its words stand.
 pub struct ClosedRow {
@@ -21,13 +22,14 @@ impl Model for ClosedRow {
     ghost use Rattle.std.specs.Prelude.{◌≡◌};
     ghost use Rattle.std.specs.Mem.Slots.{slots_items, slots_len, IsFull};
     ghost use Rattle.shared_memory.specs.Memory.{Memory};
-    ghost use Rattle.word_rules.specs.Words.{memory_of, words_of, IsStored};
+    ghost use Rattle.word_row_rules.specs.Words.{memory_of};
+    ghost use Rattle.word_row.specs.Rows.{StandFor};
 
     ghost Value = { Memory };
 
     ghost view = { λ r. memory_of r.pages_max (slots_items r.closed.words) };
 
-    ghost invariant = { λ r. IsFull r.closed.words × (slots_len r.closed.slots ≡ 0) × (slots_items r.closed.words ≡ words_of (memory_of r.pages_max (slots_items r.closed.words))) × IsStored (memory_of r.pages_max (slots_items r.closed.words)) };
+    ghost invariant = { λ r. IsFull r.closed.words × (slots_len r.closed.slots ≡ 0) × StandFor r.pages_max (slots_items r.closed.words) };
 }
 
 impl ClosedRow {

@@ -9,14 +9,16 @@ mod changes;
 mod closed;
 mod prepared;
 mod row;
-mod seat;
 mod steps;
 #[cfg(test)]
 mod tests;
+mod tries;
 
 pub use closed::ClosedRow;
-pub use one_memory::OpenFault;
 pub use prepared::Prepared;
 pub use row::WordRow;
-pub use seat::WordSeat;
-pub use word_rules::Naming;
+pub use shared_memory_on_table::Naming;
+pub use shared_memory_sequential::OpenFault;
+
+/// A caller's place at a row.
+pub type WordSeat<B> = shared_memory_on_table::CallerSeat<B>;

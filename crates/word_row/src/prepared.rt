@@ -1,15 +1,15 @@
 //! The opening of a row, up to its name.
 ghost use Rattle.std.specs.Prelude.{◌≡◌, ◌↔◌, ◌<◌, ◌≤◌, ◌%◌, ◌^◌, true, false, IfOk, OnOk, IsErrOf, All, take, drop};
 ghost use Rattle.shared_memory.specs.Numbers.{le_number};
-ghost use Rattle.one_memory.specs.Opening.{can_open, IsSized};
-ghost use Rattle.word_rules.specs.Words.{words_of, IsStored};
+ghost use Rattle.shared_memory_sequential.specs.Opening.{can_open, IsSized};
+ghost use Rattle.word_row_rules.specs.Words.{words_of, IsStored};
 
-use one_memory::{OneMemory, OpenFault};
-use seats::Place;
+use shared_memory_on_table::Place;
+use shared_memory_sequential::{OneMemory, OpenFault};
 use std::alloc::{AllocError, Global};
 use std::marker::Model;
 use types::{Event, Reply};
-use word_rules::Board;
+use word_row_rules::Board;
 
 /// The words of a page: a page has 65,536 bytes, and a word eight.
 const PAGE_WORDS: usize = 8192;
@@ -70,14 +70,14 @@ pub struct Prepared {
 }
 
 impl Model for Prepared {
-    ghost use Rattle.std.specs.Prelude.{◌≡◌, []};
-    ghost use Rattle.word_rules.specs.Rule.{MemoryName, IsRow, opened};
+    ghost use Rattle.shared_memory_on_table.specs.Names.{MemoryName};
+    ghost use Rattle.word_row.specs.Rows.{IsPrepared};
 
     ghost Value = { MemoryName };
 
-    ghost view = { λ p. record { table = p.board.shared.table_id; opening = p.board.shared.key } };
+    ghost view = { λ p. record { table = p.board.shared.table_id; opening = p.board.shared.key; limit = 0 } };
 
-    ghost invariant = { λ p. (p.all.table_id ≡ p.board.shared.table_id) × (p.all.me ≡ (opened, [])) × IsRow p.board.shared.table_id p.board.shared.key p.board.shared.table_id p.board.shared.key × (p.pages_max ≡ p.board.shared.key.max) };
+    ghost invariant = { λ p. IsPrepared p.board.shared.table_id p.board.shared.key p.all.table_id p.all.me p.pages_max };
 }
 
 impl Prepared {

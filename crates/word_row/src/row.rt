@@ -1,69 +1,28 @@
 //! The row.
-ghost use Rattle.std.specs.Prelude.{ℕ, ◌≡◌, ◌<◌, ◌≤◌, ◌+◌, [], ◌∷◌, true, false, None, IfOk, IsOkUnless, All, List, map, length, slice_index};
+ghost use Rattle.std.specs.Prelude.{◌≡◌, ◌<◌, ◌≤◌, ◌∷◌, true, None, IfOk, IsOkUnless, All, List, map, length, slice_index};
 ghost use Rattle.types.specs.declared.event.Entry.{Entry};
+ghost use Rattle.types.specs.Limits.{seat_count};
 ghost use Rattle.shared_memory.specs.Events.{IsEvent, is_of_queue};
 ghost use Rattle.shared_memory.specs.History.{memory_after};
-ghost use Rattle.shared_memory.specs.Access.{Accesses, IsSeen, Meets};
-ghost use Rattle.seats.specs.Callers.{GoesOn, AllGoOn, fresh, fresh_from};
-ghost use Rattle.seats.specs.Moves.{others_of, nobody};
-ghost use Rattle.word_rules.specs.Words.{words_of};
-ghost use Rattle.word_rules.specs.Answers.{end_of, is_access, place_of};
-ghost use Rattle.word_rules.specs.Rule.{IsRow, crowd, opened};
+ghost use Rattle.shared_memory_on_table.specs.Callers.{GoesOn, AllGoOn, fresh_from};
+ghost use Rattle.shared_memory_on_table.specs.Rule.{AccessesIn, MeetsIn};
+ghost use Rattle.word_row_rules.specs.Words.{words_of};
+ghost use Rattle.word_row_rules.specs.Answers.{end_of, is_access, place_of};
+ghost use Rattle.word_row_rules.specs.Rule.{IsRow};
 ghost use Rattle.word_row.specs.Changes.{IsChange};
+ghost use Rattle.word_row.specs.Rows.{EndsAfter};
 
 use crate::changes::{Change, Next, by_size, by_word};
 use crate::closed::ClosedRow;
 use crate::prepared::Prepared;
-use crate::seat::{Standing, WordSeat};
-use crate::steps;
-use one_memory::OpenFault;
-use seats::{FirstOff, Place};
+use crate::{WordSeat, tries};
 use shared_memory::SharedMemory;
+use shared_memory_on_table::{Naming, Place, Standing, hand, meet, take_seats};
+use shared_memory_sequential::{OneMemory, OpenFault};
 use std::alloc::Global;
 use std::marker::PhantomData;
 use types::{Event, Reply};
-use word_rules::{Arrive, Board, Naming, Row};
-
-// How many seats a row has: 16 for threads, and the desk's.
-const SEATS: u32 = 17;
-
-// The next caller gets a seat of its own.
-fn take_seat<B: Naming>(row: &Row, all: &mut Place, name: u32) -> WordSeat<B>
-    requires row { (row.now.table_id ≡ B.table) × (0 < row.now.table_id.words) }
-    requires name { name ≤ 16 }
-    requires all { (all.old.table_id ≡ B.table) × (all.old.me ≡ (crowd (fresh name ∷ others_of all.old.me.0.callers), [])) }
-    ensures seat { result.caller ≡ fresh name }
-    ensures all { (all.new.table_id ≡ B.table) × (all.new.me ≡ (crowd (others_of all.old.me.0.callers), [])) }
-{
-    let place = row.split_seat::<FirstOff>(all);
-    WordSeat {
-        caller: Standing {
-            name,
-            place,
-            of: PhantomData,
-        },
-    }
-}
-
-// All seats, in order of name.
-fn take_seats<B: Naming>(
-    alloc: Global,
-    row: &Row,
-    all: &mut Place,
-) -> Result<Vec<WordSeat<B>>, OpenFault>
-    requires row { (row.now.table_id ≡ B.table) × (0 < row.now.table_id.words) }
-    requires all { (all.old.table_id ≡ B.table) × (all.old.me ≡ (opened, [])) }
-    ensures seats { IfOk result (λ v. map (λ s. s.caller) v.items ≡ fresh_from 17 0) }
-    ensures fault { IsOkUnless result OpenFault.NoMemory }
-{
-    let Ok(mut seats) = Vec::with_capacity(alloc, SEATS as usize) else {
-        return Err(OpenFault::NoMemory);
-    };
-    for name in 0..SEATS {
-        seats.push_reserved(take_seat::<B>(row, all, name));
-    }
-    Ok(seats)
-}
+use word_row_rules::{Arrive, Board, MemoryWords, Row};
 
 // The caller of a seat goes to another, for good.
 fn give_up<B: Naming>(row: &Row, host: &mut Place, seat: Standing<B>)
@@ -76,7 +35,7 @@ fn give_up<B: Naming>(row: &Row, host: &mut Place, seat: Standing<B>)
         mut place,
         of: _,
     } = seat;
-    steps::hand(row, &mut place, host);
+    hand(row, &mut place, host);
 }
 
 // All callers come to one seat: a history that goes on from what is seen there goes on from the list of each.
@@ -113,7 +72,7 @@ impl<B: Naming> WordRow<B> {
     ) -> Result<(WordRow<B>, Vec<WordSeat<B>>), OpenFault>
         requires table { prepared.table ≡ B.table }
         requires opening { prepared.opening ≡ B.opening }
-        ensures seats { IfOk result (λ r. map (λ s. s.caller) r.1.items ≡ fresh_from 17 0) }
+        ensures seats { IfOk result (λ r. map (λ s. s.caller) r.1.items ≡ fresh_from seat_count 0) }
         ensures fault { IsOkUnless result OpenFault.NoMemory }
     {
         let Prepared {
@@ -121,7 +80,10 @@ impl<B: Naming> WordRow<B> {
             mut all,
             pages_max,
         } = prepared;
-        let seats = take_seats::<B>(alloc, &board.shared, &mut all)?;
+        let Ok(seats) = take_seats::<B, OneMemory, MemoryWords>(alloc, &board.shared, &mut all)
+        else {
+            return Err(OpenFault::NoMemory);
+        };
         Ok((
             WordRow {
                 board,
@@ -139,7 +101,7 @@ impl<B: Naming> WordRow<B> {
         requires right { is_of_queue event ≡ true → seat.old.caller.has_queue_right ≡ true }
         ensures name { seat.new.caller.name ≡ seat.old.caller.name }
         ensures right { seat.new.caller.has_queue_right ≡ seat.old.caller.has_queue_right }
-        ensures outcome { Accesses true B.opening None seat.old.caller.name seat.old.caller.has_queue_right event seat.old.caller.seen seat.new.caller.seen result }
+        ensures outcome { AccessesIn true B.opening None seat.old.caller event seat.new.caller.seen result }
     {
         self.make(&mut seat.caller, event)
     }
@@ -147,9 +109,10 @@ impl<B: Naming> WordRow<B> {
     /// Two seats learn from each other, and exchange the queue right. It waits for nobody.
     pub fn meet(&self, a: &mut WordSeat<B>, b: &mut WordSeat<B>)
         ensures names { (a.new.caller.name ≡ a.old.caller.name) × (b.new.caller.name ≡ b.old.caller.name) }
-        ensures rights { (a.new.caller.has_queue_right ≡ b.old.caller.has_queue_right) × (b.new.caller.has_queue_right ≡ a.old.caller.has_queue_right) }
+        ensures right_of_a { a.new.caller.has_queue_right ≡ b.old.caller.has_queue_right }
+        ensures right_of_b { b.new.caller.has_queue_right ≡ a.old.caller.has_queue_right }
         ensures one { b.new.caller.seen ≡ a.new.caller.seen }
-        ensures longer { Meets B.opening a.old.caller.name b.old.caller.name a.old.caller.has_queue_right b.old.caller.has_queue_right a.old.caller.seen b.old.caller.seen a.new.caller.seen }
+        ensures longer { MeetsIn B.opening a.old.caller b.old.caller a.new.caller.seen }
     {
         meet(&self.board.shared, &mut a.caller, &mut b.caller);
     }
@@ -157,7 +120,7 @@ impl<B: Naming> WordRow<B> {
     /// Gives up the row and all its seats for the memory after one history. The list of each seat begins the history,
     /// which has of its name what it has.
     pub fn close(self, seats: Vec<WordSeat<B>>) -> ClosedRow
-        ensures { (log : List Entry) × All (λ s. GoesOn s.caller log) seats.items × IsSeen B.opening log × (result ≡ memory_after B.opening log) }
+        ensures { EndsAfter B.opening (λ log. All (λ s. GoesOn s.caller log) seats.items) result }
     {
         let WordRow {
             board,
@@ -178,9 +141,9 @@ impl<B: Naming> WordRow<B> {
         requires right { is_of_queue event ≡ true → caller.old.has_queue_right ≡ true }
         ensures name { caller.new.name ≡ caller.old.name }
         ensures right { caller.new.has_queue_right ≡ caller.old.has_queue_right }
-        ensures outcome { Accesses true B.opening None caller.old.name caller.old.has_queue_right event caller.old.seen caller.new.seen result }
+        ensures outcome { AccessesIn true B.opening None caller.old event caller.new.seen result }
     {
-        let pages = caller.note(&self.board.shared, event);
+        let pages = tries::note(&self.board.shared, caller, event);
         if let Some(reply) = by_size(self.pages_max, event, pages) {
             return reply;
         }
@@ -202,9 +165,9 @@ impl<B: Naming> WordRow<B> {
         requires within { end_of event ≤ length (memory_after B.opening caller.old.seen).bytes }
         ensures name { caller.new.name ≡ caller.old.name }
         ensures right { caller.new.has_queue_right ≡ caller.old.has_queue_right }
-        ensures outcome { Accesses true B.opening None caller.old.name caller.old.has_queue_right event caller.old.seen caller.new.seen result }
+        ensures outcome { AccessesIn true B.opening None caller.old event caller.new.seen result }
     {
-        let word = caller.read(&self.board.shared, event);
+        let word = tries::read(&self.board.shared, caller, event);
         match by_word(event, word) {
             Next::Answer(reply) => reply,
             Next::Exchange(change) => self.exchange(caller, event, word, change),
@@ -219,26 +182,15 @@ impl<B: Naming> WordRow<B> {
         requires word { slice_index (words_of (memory_after B.opening caller.old.seen)) (place_of event) ≡ old }
         ensures name { caller.new.name ≡ caller.old.name }
         ensures right { caller.new.has_queue_right ≡ caller.old.has_queue_right }
-        ensures outcome { Accesses true B.opening None caller.old.name caller.old.has_queue_right event caller.old.seen caller.new.seen result }
+        ensures outcome { AccessesIn true B.opening None caller.old event caller.new.seen result }
     {
-        let found = caller.exchange(&self.board.shared, event, old, change.new);
+        let found = tries::exchange(&self.board.shared, caller, event, old, change.new);
         if found == old {
             change.reply
         } else {
             Reply::Again
         }
     }
-}
-
-// Two callers learn from each other, and exchange the queue right.
-fn meet<B: Naming>(row: &Row, a: &mut Standing<B>, b: &mut Standing<B>)
-    requires row { (row.now.table_id ≡ B.table) × (0 < row.now.table_id.words) }
-    ensures names { (a.new.name ≡ a.old.name) × (b.new.name ≡ b.old.name) }
-    ensures rights { (a.new.has_queue_right ≡ b.old.has_queue_right) × (b.new.has_queue_right ≡ a.old.has_queue_right) }
-    ensures one { b.new.seen ≡ a.new.seen }
-    ensures longer { Meets B.opening a.old.name b.old.name a.old.has_queue_right b.old.has_queue_right a.old.seen b.old.seen a.new.seen }
-{
-    steps::meet(row, &mut a.place, &mut b.place);
 }
 
 impl<B: Naming + Send + Sync> SharedMemory for WordRow<B> {

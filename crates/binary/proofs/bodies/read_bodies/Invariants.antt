@@ -1,5 +1,5 @@
 use Rattle.std.proofs.Common.{◌≡◌, drop}
-use Rattle.wire.proofs.Loop.{with_front}
+use Rattle.binary_wire.proofs.Loop.{with_front}
 use Rattle.binary.specs.Reading.{bodies_at}
 use Rattle.binary.proofs.bodies.read_bodies.Given as goal
 

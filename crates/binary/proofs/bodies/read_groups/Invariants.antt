@@ -1,5 +1,5 @@
 use Rattle.std.proofs.Common.{◌≡◌, ◌-◌}
-use Rattle.wire.proofs.Loop.{with_front}
+use Rattle.binary_wire.proofs.Loop.{with_front}
 use Rattle.binary.specs.Reading.{groups_at}
 use Rattle.binary.proofs.bodies.read_groups.Given as goal
 

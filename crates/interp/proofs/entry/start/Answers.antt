@@ -1,12 +1,10 @@
-use Rattle.std.proofs.Common.{rules, ◌≡◌, ◌+◌, ◌≤◌, ◌++◌, List, length, map, refl, sym, ◌∙◌, ap, subst, arith}
+use Rattle.std.proofs.Common.{rules, ◌≡◌, ◌++◌, List, length, map, refl, ◌∙◌, ap, arith}
 use Rattle.std.specs.List.{slice_get}
 use Rattle.types.specs.declared.value.ValType.{ValType}
-use Rattle.types.specs.declared.value.Value.{Value}
 use Rattle.types.specs.declared.parts.FuncType.{FuncType}
 use Rattle.types.specs.declared.parts.Body.{Body}
-use Rattle.types.specs.declared.parts.Parts.{Parts}
 use Rattle.types.specs.Values.{type_of}
-use Rattle.machine.specs.Program.{zero_of, opening_globals}
+use Rattle.interp_machine.specs.Program.{zero_of, opening_globals}
 use Rattle.interp.proofs.Begun.{one_function}
 use Rattle.interp.proofs.Starting.{starts, few_values}
 use Rattle.interp.proofs.entry.start.Goals as goal
@@ -32,7 +30,8 @@ returns-clause-stands c = λ t body f.
     let type_is : c.in-Some.func_type.now ≡ t =
     (let x = f.type_is in let y = ap (λ i. slice_get m.types i) index in let z = found.2 in cc) in
     let locals : c.as_slice.result.now ≡ body.locals = c.as_slice.ensures ∙ ap (λ (b : Body). b.locals) same in
-    starts c.args.valid.now _ c.args.own t body c.in-Some-table.table.now c.args.args.now c.parts-parts.ensures.validated c.parts-parts.ensures.tested.bodies f fit
+    starts c.args.valid.now _ c.args.own t body c.in-Some-table.table.now c.args.args.now c.parts-parts.ensures.validated
+    c.parts-parts.ensures.tested.bodies f fit
     (record {
       program = c.in_ok-program.ensures;
       function = refl;

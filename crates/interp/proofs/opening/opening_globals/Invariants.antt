@@ -1,5 +1,5 @@
 use Rattle.std.proofs.Common.{◌≡◌, map, take}
-use Rattle.machine.specs.Program.{constant_of}
+use Rattle.interp_machine.specs.Program.{constant_of}
 use Rattle.interp.proofs.opening.opening_globals.Given as goal
 
 abbrev pub invariant-loop-global : goal.invariant-loop-global

@@ -1,6 +1,6 @@
 use Rattle.std.proofs.Common.{◌≡◌, length, drop, replicate, None}
 use Rattle.std.specs.List.{fold}
-use Rattle.machine.specs.Program.{with_elements}
+use Rattle.interp_machine.specs.Program.{with_elements}
 use Rattle.interp.proofs.opening.opening_table.Given as goal
 
 -- what is written so far, with the rest written over it, is the whole

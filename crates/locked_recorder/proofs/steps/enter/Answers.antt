@@ -1,6 +1,6 @@
 use Rattle.std.proofs.Common.{sym, subst}
 use Rattle.types.specs.declared.event.Entry.{Entry}
-use Rattle.seats.specs.Moves.{caller_in}
+use Rattle.shared_memory_on_table.specs.Moves.{caller_in}
 use Rattle.locked_recorder.specs.Rule.{MayMake}
 use Rattle.locked_recorder.proofs.Moves.{enters}
 use Rattle.locked_recorder.proofs.steps.enter.Goals as goal
@@ -8,5 +8,9 @@ use Rattle.locked_recorder.proofs.steps.enter.Goals as goal
 pub fetch_add-requires : goal.fetch_add-requires
 fetch_add-requires g c =
     let desk = c.args.desk.now in
-    let may = subst (λ (e : Entry). MayMake desk.me.0.log (caller_in desk.me.0) e) (sym c.requires.entry) c.requires.may in
-    (c.requires.own, c.requires.row, enters c.args.row.now.table_id.slots desk.id desk.me desk.me.0.log (caller_in desk.me.0) g.M.Making.entry c.requires.guest may)
+    let may = subst (λ (e : Entry). MayMake desk.me.0.log (caller_in desk.me.0) e) (sym c.requires.entry) c.requires.may in (
+      c.requires.own,
+      c.requires.row,
+      enters c.args.row.now.table_id.slots desk.id desk.me desk.me.0.log
+          (caller_in desk.me.0) g.M.Making.entry c.requires.guest may,
+    )

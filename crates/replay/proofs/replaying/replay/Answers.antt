@@ -1,10 +1,9 @@
 use Rattle.std.proofs.Common.{refl, ◌∙◌, subst}
 use Rattle.std.proofs.lemmas.Result.{err_from_is_err_and}
-use Rattle.interp.specs.declared.thread.Thread.{Thread}
-use Rattle.interp.specs.Threads.{program_in, StandsFor, IsBegun}
-use Rattle.one_schedule.specs.Runs.{Start}
-use Rattle.record_text.specs.declared.parts.RecordParts.{RecordParts}
-use Rattle.recorded_runs.specs.Recorded.{IsRecordedRun}
+use Rattle.interp.specs.Threads.{meaning_in}
+use Rattle.schedule_runs.specs.Runs.{Start}
+use Rattle.replay_text.specs.declared.parts.RecordParts.{RecordParts}
+use Rattle.replay_rules.specs.Recorded.{IsRecordedRun}
 use Rattle.replay_walk.specs.Walked.{start}
 use Rattle.replay.specs.Runs.{IsReplayFault, ShowsNoRun}
 use Rattle.replay.proofs.Ready.{can_begin}
@@ -16,7 +15,8 @@ returns-in_err-threads-clause-fault c =
     let p = err_from_is_err_and c.from_residual.result c.from_residual.ensures.1 in
     let m = c.args.module.now.parts in
     let e = c.in_err-threads.field-0.0 in
-    rw (p.1, p.2) (subst (λ (r : RecordParts). IsReplayFault m r e) c.parts-parts.ensures.parts (of_call m c.parts-parts.result.now e c.in_err-threads.ensures.fault))
+    rw (p.1, p.2) (subst (λ (r : RecordParts). IsReplayFault m r e) c.parts-parts.ensures.parts
+    (of_call m c.parts-parts.result.now e c.in_err-threads.ensures.fault))
 
 pub returns-in_err-threads-clause-none : goal.returns-in_err-threads-clause-none
 returns-in_err-threads-clause-none c =
@@ -24,11 +24,13 @@ returns-in_err-threads-clause-none c =
     let m = c.args.module.now.parts in
     let r = c.parts-parts.result.now in
     let e = c.in_err-threads.field-0.0 in
-    rw (p.1, p.2) (subst (λ (x : RecordParts). ShowsNoRun m x e) c.parts-parts.ensures.parts (no_run m r c.has_distinct_names.ensures e (of_call m r e c.in_err-threads.ensures.fault)))
+    rw (p.1, p.2) (subst (λ (x : RecordParts). ShowsNoRun m x e) c.parts-parts.ensures.parts
+    (no_run m r c.has_distinct_names.ensures e (of_call m r e c.in_err-threads.ensures.fault)))
 
 pub walk-requires-clause-ready : goal.walk-requires-clause-ready
 walk-requires-clause-ready c =
-    let b = can_begin program_in (λ (t : Thread). t.fuel) StandsFor IsBegun c.args.module.now.parts c.parts-parts.result.now c.in_ok-threads.threads.items c.in_ok-opening.field-0 c.in_ok-threads.ensures.threads c.in_ok-opening.ensures.opened in
+    let b = can_begin meaning_in c.args.module.now.parts c.parts-parts.result.now c.in_ok-threads.threads.items c.in_ok-opening.field-0
+    c.in_ok-threads.ensures.threads c.in_ok-opening.ensures.opened in
     (b.run, b.ready)
 
 pub returns-in_err-memory-clause-fault : goal.returns-in_err-memory-clause-fault
@@ -37,8 +39,9 @@ returns-in_err-memory-clause-fault c =
     let m = c.args.module.now.parts in
     let r = c.parts-parts.result.now in
     let e = c.in_err-memory.field-0.0 in
-    let b = can_begin program_in (λ (t : Thread). t.fuel) StandsFor IsBegun m r c.in_ok-threads.threads.items c.in_ok-opening.field-0 c.in_ok-threads.ensures.threads c.in_ok-opening.ensures.opened in
-    rw (p.1, p.2) (subst (λ (x : RecordParts). IsReplayFault m x e) c.parts-parts.ensures.parts (of_walk m r b.beginning (start b.run) b.same e (c.in_err-memory.ensures.fault b.run b.ready)))
+    let b = can_begin meaning_in m r c.in_ok-threads.threads.items c.in_ok-opening.field-0 c.in_ok-threads.ensures.threads c.in_ok-opening.ensures.opened in
+    rw (p.1, p.2) (subst (λ (x : RecordParts). IsReplayFault m x e) c.parts-parts.ensures.parts
+    (of_walk m r b.beginning (start b.run) b.same e (c.in_err-memory.ensures.fault b.run b.ready)))
 
 pub returns-in_err-memory-clause-none : goal.returns-in_err-memory-clause-none
 returns-in_err-memory-clause-none c =
@@ -46,7 +49,7 @@ returns-in_err-memory-clause-none c =
     let m = c.args.module.now.parts in
     let r = c.parts-parts.result.now in
     let e = c.in_err-memory.field-0.0 in
-    let b = can_begin program_in (λ (t : Thread). t.fuel) StandsFor IsBegun m r c.in_ok-threads.threads.items c.in_ok-opening.field-0 c.in_ok-threads.ensures.threads c.in_ok-opening.ensures.opened in
+    let b = can_begin meaning_in m r c.in_ok-threads.threads.items c.in_ok-opening.field-0 c.in_ok-threads.ensures.threads c.in_ok-opening.ensures.opened in
     let fault = of_walk m r b.beginning (start b.run) b.same e (c.in_err-memory.ensures.fault b.run b.ready) in
     rw (p.1, p.2) (subst (λ (x : RecordParts). ShowsNoRun m x e) c.parts-parts.ensures.parts (no_run m r c.has_distinct_names.ensures e fault))
 
@@ -54,6 +57,7 @@ pub returns-clause-run : goal.returns-clause-run
 returns-clause-run c =
     let m = c.args.module.now.parts in
     let r = c.parts-parts.result.now in
-    let b = can_begin program_in (λ (t : Thread). t.fuel) StandsFor IsBegun m r c.in_ok-threads.threads.items c.in_ok-opening.field-0 c.in_ok-threads.ensures.threads c.in_ok-opening.ensures.opened in
+    let b = can_begin meaning_in m r c.in_ok-threads.threads.items c.in_ok-opening.field-0 c.in_ok-threads.ensures.threads c.in_ok-opening.ensures.opened in
     is_run m r c.args.record.now c.parts-parts.ensures.parts b.beginning c.in_ok-memory.memory
-    (subst (λ (s : Start). IsRecordedRun s r c.in_ok-memory.memory) b.same (c.in_ok-memory.ensures.run b.run b.ready)) _ (c.in_ok-ends.ensures.items ∙ c.as_slice.ensures) refl c.into_bytes.ensures
+    (subst (λ (s : Start). IsRecordedRun s r c.in_ok-memory.memory) b.same (c.in_ok-memory.ensures.run b.run b.ready)) _
+    (c.in_ok-ends.ensures.items ∙ c.as_slice.ensures) refl c.into_bytes.ensures

@@ -1,5 +1,5 @@
 use Rattle.std.proofs.Common.{ℕ, List, refl, sym, subst, inl}
-use Rattle.module_rules.specs.Exported.{IsExported}
+use Rattle.validate_module_rules.specs.Exported.{IsExported}
 use Rattle.replay.proofs.threads.first_of.Goals as goal
 
 pub returns-in-Err-UnknownExport-clause-fault : goal.returns-in-Err-UnknownExport-clause-fault

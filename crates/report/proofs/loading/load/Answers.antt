@@ -1,7 +1,7 @@
 -- Where nothing was read for another cause than memory, the bytes spell no module.
 use Rattle.std.proofs.Common.{sym, subst}
-use Rattle.wire.specs.Reading.{Refuses}
-use Rattle.wire.specs.declared.fault.ReadFault.{ReadFault}
+use Rattle.binary_wire.specs.Reading.{Refuses}
+use Rattle.binary_wire.specs.declared.fault.ReadFault.{ReadFault}
 use Rattle.report.proofs.loading.load.Goals as goal
 
 pub returns-in-Err-Malformed-clause-err : goal.returns-in-Err-Malformed-clause-err

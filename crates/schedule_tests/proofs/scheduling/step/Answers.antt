@@ -1,5 +1,5 @@
 use Rattle.schedule.specs.Scheduled.{after_mark}
-use Rattle.scheduled_machine.specs.Runs.{kind_of, system_by}
+use Rattle.schedule_machine.specs.Runs.{kind_of, system_by}
 use Rattle.schedule_tests.proofs.scheduling.step.Goals as goal
 
 pub returns : goal.returns

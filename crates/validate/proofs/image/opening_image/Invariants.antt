@@ -1,11 +1,12 @@
 use Rattle.std.proofs.Common.{◌≡◌, ◌*◌, length, drop, replicate}
 use Rattle.std.specs.List.{fold}
-use Rattle.typing.specs.Image.{with_segment}
+use Rattle.types.specs.Limits.{page_size}
+use Rattle.validate_typing.specs.Image.{with_segment}
 use Rattle.validate.proofs.image.opening_image.Given as goal
 
 -- what is written so far, with the rest written over it, is the whole
 abbrev pub invariant-loop-segment : goal.invariant-loop-segment
 invariant-loop-segment l = record {
-  whole : fold with_segment l.image.items (drop l.segment-index l.segments) ≡ fold with_segment (replicate (65536 * l.pages) 0) l.segments;
-  long : length l.image.items ≡ 65536 * l.pages;
+  whole : fold with_segment l.image.items (drop l.segment-index l.segments) ≡ fold with_segment (replicate (page_size * l.pages) 0) l.segments;
+  long : length l.image.items ≡ page_size * l.pages;
 }

@@ -2,9 +2,9 @@ use Rattle.std.proofs.Common.{ℕ, ◌≡◌, ◌+◌, ◌*◌, ◌++◌, ◌∷
 use Rattle.std.proofs.lemmas.List.{take_all}
 use Rattle.shared_memory.specs.Numbers.{le_number}
 use Rattle.shared_memory.specs.Memory.{Memory}
-use Rattle.word_rules.specs.Words.{words_of}
-use Rattle.word_rules.proofs.Memories.{length-words_of}
-use Rattle.word_rules.proofs.Settling.{words_of-more}
+use Rattle.word_row_rules.specs.Words.{words_of}
+use Rattle.word_row_rules.proofs.Memories.{length-words_of}
+use Rattle.word_row_rules.proofs.Settling.{words_of-more}
 use Rattle.word_row.proofs.prepared.words.Goals as goal
 
 pub loop-k-preserved : goal.loop-k-preserved
@@ -13,7 +13,8 @@ loop-k-preserved c =
     let k : ℕ = c.loop-k.k in
     let i = c.loop-k.invariant in
     let pushed = c.push_reserved-in-loop-k.ensures.items in
-    let word : c.word_at.result ≡ le_number (take 8 (drop (8 * k) m.bytes)) = c.word_at.ensures.word ∙ ap (λ (x : Memory). le_number (take 8 (drop (8 * k) x.bytes))) i.same in
+    let word : c.word_at.result ≡ le_number (take 8 (drop (8 * k) m.bytes)) = c.word_at.ensures.word
+    ∙ ap (λ (x : Memory). le_number (take 8 (drop (8 * k) x.bytes))) i.same in
     let items = pushed ∙ ap (λ (x : ℕ). c.loop-k.words.items ++ x ∷ []) word ∙ ap (λ (l : List ℕ). l ++ le_number (take 8 (drop (8 * k) m.bytes)) ∷ []) i.items
     ∙ sym (words_of-more m k (omega (arith, c.max.ensures))) in
     record {

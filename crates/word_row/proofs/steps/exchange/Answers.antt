@@ -4,10 +4,10 @@ use Rattle.atomic_table.specs.Table.{Allows}
 use Rattle.types.specs.declared.event.Event.{Event}
 use Rattle.shared_memory.specs.Memory.{Memory}
 use Rattle.shared_memory.specs.History.{memory_after}
-use Rattle.seats.specs.Moves.{caller_in}
-use Rattle.word_rules.specs.Answers.{end_of, place_of, Makes, exchange_answer}
-use Rattle.word_rules.specs.Rule.{Kept, MayTry, StepsAs}
-use Rattle.word_rules.proofs.Moves.{exchanges}
+use Rattle.shared_memory_on_table.specs.Moves.{caller_in}
+use Rattle.word_row_rules.specs.Answers.{end_of, place_of, Makes, exchange_answer}
+use Rattle.word_row_rules.specs.Rule.{KeptRow, MayTry, StepsAs}
+use Rattle.word_row_rules.proofs.Moves.{exchanges}
 use Rattle.word_row.proofs.steps.exchange.Goals as goal
 
 pub compare_exchange-requires : goal.compare_exchange-requires
@@ -25,7 +25,10 @@ compare_exchange-requires g c =
     subst (λ (e : Event). end_of e ≤ length (memory_after opening (caller_in place.me.0).seen).bytes) (sym same) c.requires.within in (
       c.requires.row.0,
       c.requires.row.1,
-      subst (λ (k : Memory). Allows (Kept k) slots place.id place.me c.args.word (λ n. either (eqb n old) new n) (λ n x. StepsAs opening event (exchange_answer event old n) c.args.word place.me n x)) (sym c.requires.row.2)
-          (subst (λ (w : ℕ). Allows (Kept opening) slots place.id place.me w (λ n. either (eqb n old) new n) (λ n x. StepsAs opening event (exchange_answer event old n) w place.me n x)) (ap place_of same ∙ c.requires.word)
+      subst (λ (k : Memory). Allows (KeptRow k) slots place.id place.me c.args.word (λ n. either (eqb n old) new n)
+          (λ n x. StepsAs opening event (exchange_answer event old n) c.args.word place.me n x)) (sym c.requires.row.2)
+          (subst (λ (w : ℕ). Allows (KeptRow opening) slots place.id place.me w (λ n. either (eqb n old) new n)
+          (λ n x. StepsAs opening event (exchange_answer event old n) w place.me n x))
+          (ap place_of same ∙ c.requires.word)
           (exchanges opening slots place.id old new place.me event c.requires.one may within (omega arith) makes)),
     )

@@ -2,10 +2,10 @@ use Rattle.std.proofs.Common.{ℕ, sym, subst}
 use Rattle.atomic_table.specs.Table.{Allows}
 use Rattle.types.specs.declared.event.Event.{Event}
 use Rattle.shared_memory.specs.Memory.{Memory}
-use Rattle.seats.specs.Moves.{caller_in}
-use Rattle.word_rules.specs.Answers.{size_answer}
-use Rattle.word_rules.specs.Rule.{Kept, MayTry, StepsAs}
-use Rattle.word_rules.proofs.Moves.{notes}
+use Rattle.shared_memory_on_table.specs.Moves.{caller_in}
+use Rattle.word_row_rules.specs.Answers.{size_answer}
+use Rattle.word_row_rules.specs.Rule.{KeptRow, MayTry, StepsAs}
+use Rattle.word_row_rules.proofs.Moves.{notes}
 use Rattle.word_row.proofs.steps.note.Goals as goal
 
 pub load-requires : goal.load-requires
@@ -17,6 +17,7 @@ load-requires g c =
     let may : MayTry (caller_in place.me.0) event = subst (λ (e : Event). MayTry (caller_in place.me.0) e) (sym c.requires.making) c.requires.may in (
       c.requires.row.0,
       c.requires.row.1,
-      subst (λ (k : Memory). Allows (Kept k) slots place.id place.me 0 (λ n. n) (λ n x. StepsAs opening event (size_answer opening.max event n) 0 place.me n x)) (sym c.requires.row.2)
+      subst (λ (k : Memory). Allows (KeptRow k) slots place.id place.me 0 (λ n. n)
+          (λ n x. StepsAs opening event (size_answer opening.max event n) 0 place.me n x)) (sym c.requires.row.2)
           (notes opening slots place.id place.me event c.requires.one may),
     )

@@ -3,10 +3,10 @@ use Rattle.atomic_table.specs.Table.{Allows}
 use Rattle.types.specs.declared.event.Event.{Event}
 use Rattle.shared_memory.specs.Memory.{Memory}
 use Rattle.shared_memory.specs.History.{memory_after}
-use Rattle.seats.specs.Moves.{caller_in}
-use Rattle.word_rules.specs.Answers.{end_of, is_access, place_of, word_answer}
-use Rattle.word_rules.specs.Rule.{Kept, MayTry, StepsAs}
-use Rattle.word_rules.proofs.Moves.{reads}
+use Rattle.shared_memory_on_table.specs.Moves.{caller_in}
+use Rattle.word_row_rules.specs.Answers.{end_of, is_access, place_of, word_answer}
+use Rattle.word_row_rules.specs.Rule.{KeptRow, MayTry, StepsAs}
+use Rattle.word_row_rules.proofs.Moves.{reads}
 use Rattle.word_row.proofs.steps.read.Goals as goal
 
 pub load-requires : goal.load-requires
@@ -22,7 +22,9 @@ load-requires g c =
     subst (λ (e : Event). end_of e ≤ length (memory_after opening (caller_in place.me.0).seen).bytes) (sym same) c.requires.within in (
       c.requires.row.0,
       c.requires.row.1,
-      subst (λ (k : Memory). Allows (Kept k) slots place.id place.me c.args.word (λ n. n) (λ n x. StepsAs opening event (word_answer event n) c.args.word place.me n x)) (sym c.requires.row.2)
-          (subst (λ (w : ℕ). Allows (Kept opening) slots place.id place.me w (λ n. n) (λ n x. StepsAs opening event (word_answer event n) w place.me n x)) (ap place_of same ∙ c.requires.word)
+      subst (λ (k : Memory). Allows (KeptRow k) slots place.id place.me c.args.word (λ n. n)
+          (λ n x. StepsAs opening event (word_answer event n) c.args.word place.me n x)) (sym c.requires.row.2)
+          (subst (λ (w : ℕ). Allows (KeptRow opening) slots place.id place.me w (λ n. n)
+          (λ n x. StepsAs opening event (word_answer event n) w place.me n x)) (ap place_of same ∙ c.requires.word)
           (reads opening slots place.id place.me event c.requires.one may access within)),
     )

@@ -7,15 +7,16 @@ use Rattle.shared_memory.specs.Memory.{Memory}
 use Rattle.shared_memory.specs.History.{entry}
 use Rattle.shared_memory.specs.Legal.{MayEnter}
 use Rattle.shared_memory.specs.Access.{Accesses, IsSeen}
-use Rattle.seats.specs.declared.view.Caller.{Caller}
-use Rattle.seats.specs.declared.view.View.{View}
-use Rattle.seats.specs.Callers.{GoesOn, seeing}
-use Rattle.seats.specs.Moves.{caller_in, keeper, alone}
+use Rattle.shared_memory_on_table.specs.declared.view.Caller.{Caller}
+use Rattle.shared_memory_on_table.specs.declared.view.View.{View}
+use Rattle.shared_memory_on_table.specs.Callers.{GoesOn, seeing}
+use Rattle.shared_memory_on_table.specs.Moves.{caller_in, keeper, alone}
 use Rattle.locked_recorder.specs.Promises.{KeepsLog}
-use Rattle.locked_recorder.proofs.Moves.{is_one}
+use Rattle.shared_memory_on_table.proofs.Moves.{is_one}
 use Rattle.locked_recorder.proofs.Access.{Entered, enters_log}
 use Rattle.locked_recorder.proofs.keeper.Keeper.access.Goals as goal
-use Rattle.locked_recorder.proofs.keeper.Keeper.access.Goals.{else-not-is_always_taken-via-then-not-is_always_taken+else-len-self, else-not-is_always_taken-via-else-not-is_always_taken}
+use Rattle.locked_recorder.proofs.keeper.Keeper.access.Goals.{else-not-is_always_taken-via-then-not-is_always_taken+else-len-self}
+use Rattle.locked_recorder.proofs.keeper.Keeper.access.Goals.{else-not-is_always_taken-via-else-not-is_always_taken}
 
 pub push_reserved-requires : goal.push_reserved-requires
 push_reserved-requires g c =
@@ -25,14 +26,21 @@ push_reserved-requires g c =
     let at = ap (λ (m : Me ℕ View). m.0.log) inv.1 in
     let goes : GoesOn who log = subst (λ (l : List Entry). GoesOn who l) at c.record.ensures.goes_on in
     let below : is_exempt c.args.event ≡ false → length log < c.self.inside.limit =
-    elim c.else-not-is_always_taken.branch [ else-not-is_always_taken-via-then-not-is_always_taken+else-len-self w ↦ λ h. omega arith | else-not-is_always_taken-via-else-not-is_always_taken w ↦ λ h. absurd (cc (w.if-not-is_always_taken.ensures)) ] in
-    let right : is_of_queue c.args.event ≡ true → who.has_queue_right ≡ true = λ h. subst (λ (x : Caller). x.has_queue_right ≡ true) (sym c.seat.view_is) (c.requires.right h) in
-    let allowed : is_of_queue c.args.event ≡ true → MayEnter who.name c.args.event who.seen = λ h. subst (λ (x : Caller). MayEnter x.name c.args.event x.seen) (sym c.seat.view_is) (c.requires.allowed h) in
+    elim c.else-not-is_always_taken.branch [
+      | else-not-is_always_taken-via-then-not-is_always_taken+else-len-self w ↦ λ h. omega arith
+      | else-not-is_always_taken-via-else-not-is_always_taken w ↦ λ h. absurd (cc (w.if-not-is_always_taken.ensures))
+    ] in
+    let right : is_of_queue c.args.event ≡ true
+    → who.has_queue_right ≡ true = λ h. subst (λ (x : Caller). x.has_queue_right ≡ true) (sym c.seat.view_is)
+    (c.requires.right h) in
+    let allowed : is_of_queue c.args.event ≡ true → MayEnter who.name c.args.event who.seen =
+    λ h. subst (λ (x : Caller). MayEnter x.name c.args.event x.seen) (sym c.seat.view_is) (c.requires.allowed h) in
     let cap : ℕ = vec_capacity c.self.inside.log in
     let known = c.seat.invariant.2 in
     let small = c.seat.invariant.4 in
     let e : Entered g.B.Naming.opening c.self.inside.limit cap c.self.inside.memory who c.args.event c.step-reply.result log =
-    enters_log g.B.Naming.opening c.self.inside.limit cap c.self.inside.memory who c.args.event c.step-reply.result log inv.3 goes (omega arith) c.requires.event right allowed below c.step-reply.ensures.reply in
+    enters_log g.B.Naming.opening c.self.inside.limit cap c.self.inside.memory who c.args.event c.step-reply.result log inv.3 goes
+    (omega arith) c.requires.event right allowed below c.step-reply.ensures.reply in
     let r = e.room in omega arith
 
 pub invariant_of-self-2 : goal.invariant_of-self-2
@@ -43,24 +51,33 @@ invariant_of-self-2 g c =
     let at = ap (λ (m : Me ℕ View). m.0.log) inv.1 in
     let goes : GoesOn who log = subst (λ (l : List Entry). GoesOn who l) at c.record.ensures.goes_on in
     let below : is_exempt c.args.event ≡ false → length log < c.self.inside.limit =
-    elim c.else-not-is_always_taken.branch [ else-not-is_always_taken-via-then-not-is_always_taken+else-len-self w ↦ λ h. omega arith | else-not-is_always_taken-via-else-not-is_always_taken w ↦ λ h. absurd (cc (w.if-not-is_always_taken.ensures)) ] in
-    let right : is_of_queue c.args.event ≡ true → who.has_queue_right ≡ true = λ h. subst (λ (x : Caller). x.has_queue_right ≡ true) (sym c.seat.view_is) (c.requires.right h) in
-    let allowed : is_of_queue c.args.event ≡ true → MayEnter who.name c.args.event who.seen = λ h. subst (λ (x : Caller). MayEnter x.name c.args.event x.seen) (sym c.seat.view_is) (c.requires.allowed h) in
+    elim c.else-not-is_always_taken.branch [
+      | else-not-is_always_taken-via-then-not-is_always_taken+else-len-self w ↦ λ h. omega arith
+      | else-not-is_always_taken-via-else-not-is_always_taken w ↦ λ h. absurd (cc (w.if-not-is_always_taken.ensures))
+    ] in
+    let right : is_of_queue c.args.event ≡ true
+    → who.has_queue_right ≡ true = λ h. subst (λ (x : Caller). x.has_queue_right ≡ true) (sym c.seat.view_is)
+    (c.requires.right h) in
+    let allowed : is_of_queue c.args.event ≡ true → MayEnter who.name c.args.event who.seen =
+    λ h. subst (λ (x : Caller). MayEnter x.name c.args.event x.seen) (sym c.seat.view_is) (c.requires.allowed h) in
     let cap : ℕ = vec_capacity c.self.inside.log in
     let known = c.seat.invariant.2 in
     let small = c.seat.invariant.4 in
     let e : Entered g.B.Naming.opening c.self.inside.limit cap c.self.inside.memory who c.args.event c.step-reply.result log =
-    enters_log g.B.Naming.opening c.self.inside.limit cap c.self.inside.memory who c.args.event c.step-reply.result log inv.3 goes (omega arith) c.requires.event right allowed below c.step-reply.ensures.reply in
+    enters_log g.B.Naming.opening c.self.inside.limit cap c.self.inside.memory who c.args.event c.step-reply.result log inv.3 goes
+    (omega arith) c.requires.event right allowed below c.step-reply.ensures.reply in
     let e0 : Entry = record { thread = c.seat.inside.name; event = c.args.event; reply = c.step-reply.result } in
     let name : e0 ≡ entry who.name c.args.event c.step-reply.result = ap (λ (n : ℕ). entry n c.args.event c.step-reply.result) known in
     let items = c.push_reserved.ensures.items in
     let grown : c.push_reserved.new.self.items ≡ log ++ entry who.name c.args.event c.step-reply.result ∷ [] = items ∙ ap (λ (x : Entry). log ++ x ∷ []) name in
     let kept = subst (λ (l : List Entry). KeepsLog g.B.Naming.opening c.self.inside.limit cap c.step-reply.new.self l) (sym grown)
-    (subst (λ (m : Memory). KeepsLog g.B.Naming.opening c.self.inside.limit cap m (log ++ entry who.name c.args.event c.step-reply.result ∷ [])) (sym c.step-reply.ensures.state) e.keeps) in (
+    (subst (λ (m : Memory). KeepsLog g.B.Naming.opening c.self.inside.limit cap m
+    (log ++ entry who.name c.args.event c.step-reply.result ∷ [])) (sym c.step-reply.ensures.state) e.keeps) in (
       c.record.ensures.desk.0 ∙ inv.0,
       c.record.ensures.desk.1 ∙ ap (λ (l : List Entry). (keeper (l ++ e0 ∷ []) [], [])) at ∙ ap (λ (l : List Entry). (keeper l [], [])) (sym items),
       inv.2,
-      subst (λ (k : ℕ). KeepsLog g.B.Naming.opening c.self.inside.limit k c.step-reply.new.self c.push_reserved.new.self.items) (sym c.push_reserved.ensures.capacity) kept,
+      subst (λ (k : ℕ). KeepsLog g.B.Naming.opening c.self.inside.limit k c.step-reply.new.self
+          c.push_reserved.new.self.items) (sym c.push_reserved.ensures.capacity) kept,
     )
 
 pub invariant_of-seat-2 : goal.invariant_of-seat-2
@@ -71,17 +88,25 @@ invariant_of-seat-2 g c =
     let at = ap (λ (m : Me ℕ View). m.0.log) inv.1 in
     let goes : GoesOn who log = subst (λ (l : List Entry). GoesOn who l) at c.record.ensures.goes_on in
     let below : is_exempt c.args.event ≡ false → length log < c.self.inside.limit =
-    elim c.else-not-is_always_taken.branch [ else-not-is_always_taken-via-then-not-is_always_taken+else-len-self w ↦ λ h. omega arith | else-not-is_always_taken-via-else-not-is_always_taken w ↦ λ h. absurd (cc (w.if-not-is_always_taken.ensures)) ] in
-    let right : is_of_queue c.args.event ≡ true → who.has_queue_right ≡ true = λ h. subst (λ (x : Caller). x.has_queue_right ≡ true) (sym c.seat.view_is) (c.requires.right h) in
-    let allowed : is_of_queue c.args.event ≡ true → MayEnter who.name c.args.event who.seen = λ h. subst (λ (x : Caller). MayEnter x.name c.args.event x.seen) (sym c.seat.view_is) (c.requires.allowed h) in
+    elim c.else-not-is_always_taken.branch [
+      | else-not-is_always_taken-via-then-not-is_always_taken+else-len-self w ↦ λ h. omega arith
+      | else-not-is_always_taken-via-else-not-is_always_taken w ↦ λ h. absurd (cc (w.if-not-is_always_taken.ensures))
+    ] in
+    let right : is_of_queue c.args.event ≡ true
+    → who.has_queue_right ≡ true = λ h. subst (λ (x : Caller). x.has_queue_right ≡ true) (sym c.seat.view_is)
+    (c.requires.right h) in
+    let allowed : is_of_queue c.args.event ≡ true → MayEnter who.name c.args.event who.seen =
+    λ h. subst (λ (x : Caller). MayEnter x.name c.args.event x.seen) (sym c.seat.view_is) (c.requires.allowed h) in
     let cap : ℕ = vec_capacity c.self.inside.log in
     let known = c.seat.invariant.2 in
     let small = c.seat.invariant.4 in
     let e : Entered g.B.Naming.opening c.self.inside.limit cap c.self.inside.memory who c.args.event c.step-reply.result log =
-    enters_log g.B.Naming.opening c.self.inside.limit cap c.self.inside.memory who c.args.event c.step-reply.result log inv.3 goes (omega arith) c.requires.event right allowed below c.step-reply.ensures.reply in
+    enters_log g.B.Naming.opening c.self.inside.limit cap c.self.inside.memory who c.args.event c.step-reply.result log inv.3 goes
+    (omega arith) c.requires.event right allowed below c.step-reply.ensures.reply in
     let e0 : Entry = record { thread = c.seat.inside.name; event = c.args.event; reply = c.step-reply.result } in
     let name : e0 ≡ entry who.name c.args.event c.step-reply.result = ap (λ (n : ℕ). entry n c.args.event c.step-reply.result) known in
-    let caller = c.record.ensures.caller.1 ∙ ap (λ (l : List Entry). (alone (seeing (l ++ e0 ∷ []) who), [])) at ∙ ap (λ (x : Entry). (alone (seeing (log ++ x ∷ []) who), [])) name in
+    let caller = c.record.ensures.caller.1 ∙ ap (λ (l : List Entry). (alone (seeing (l ++ e0 ∷ []) who), [])) at
+    ∙ ap (λ (x : Entry). (alone (seeing (log ++ x ∷ []) who), [])) name in
     let now : List Entry = log ++ entry who.name c.args.event c.step-reply.result ∷ [] in (
       c.record.ensures.caller.0 ∙ c.seat.invariant.0,
       is_one c.record.new.caller.me (seeing now who) caller,
@@ -98,19 +123,29 @@ returns-clause-outcome g c =
     let at = ap (λ (m : Me ℕ View). m.0.log) inv.1 in
     let goes : GoesOn who log = subst (λ (l : List Entry). GoesOn who l) at c.record.ensures.goes_on in
     let below : is_exempt c.args.event ≡ false → length log < c.self.inside.limit =
-    elim c.else-not-is_always_taken.branch [ else-not-is_always_taken-via-then-not-is_always_taken+else-len-self w ↦ λ h. omega arith | else-not-is_always_taken-via-else-not-is_always_taken w ↦ λ h. absurd (cc (w.if-not-is_always_taken.ensures)) ] in
-    let right : is_of_queue c.args.event ≡ true → who.has_queue_right ≡ true = λ h. subst (λ (x : Caller). x.has_queue_right ≡ true) (sym c.seat.view_is) (c.requires.right h) in
-    let allowed : is_of_queue c.args.event ≡ true → MayEnter who.name c.args.event who.seen = λ h. subst (λ (x : Caller). MayEnter x.name c.args.event x.seen) (sym c.seat.view_is) (c.requires.allowed h) in
+    elim c.else-not-is_always_taken.branch [
+      | else-not-is_always_taken-via-then-not-is_always_taken+else-len-self w ↦ λ h. omega arith
+      | else-not-is_always_taken-via-else-not-is_always_taken w ↦ λ h. absurd (cc (w.if-not-is_always_taken.ensures))
+    ] in
+    let right : is_of_queue c.args.event ≡ true
+    → who.has_queue_right ≡ true = λ h. subst (λ (x : Caller). x.has_queue_right ≡ true) (sym c.seat.view_is)
+    (c.requires.right h) in
+    let allowed : is_of_queue c.args.event ≡ true → MayEnter who.name c.args.event who.seen =
+    λ h. subst (λ (x : Caller). MayEnter x.name c.args.event x.seen) (sym c.seat.view_is) (c.requires.allowed h) in
     let cap : ℕ = vec_capacity c.self.inside.log in
     let known = c.seat.invariant.2 in
     let small = c.seat.invariant.4 in
     let e : Entered g.B.Naming.opening c.self.inside.limit cap c.self.inside.memory who c.args.event c.step-reply.result log =
-    enters_log g.B.Naming.opening c.self.inside.limit cap c.self.inside.memory who c.args.event c.step-reply.result log inv.3 goes (omega arith) c.requires.event right allowed below c.step-reply.ensures.reply in
+    enters_log g.B.Naming.opening c.self.inside.limit cap c.self.inside.memory who c.args.event c.step-reply.result log inv.3 goes
+    (omega arith) c.requires.event right allowed below c.step-reply.ensures.reply in
     let e0 : Entry = record { thread = c.seat.inside.name; event = c.args.event; reply = c.step-reply.result } in
     let name : e0 ≡ entry who.name c.args.event c.step-reply.result = ap (λ (n : ℕ). entry n c.args.event c.step-reply.result) known in
-    let caller = c.record.ensures.caller.1 ∙ ap (λ (l : List Entry). (alone (seeing (l ++ e0 ∷ []) who), [])) at ∙ ap (λ (x : Entry). (alone (seeing (log ++ x ∷ []) who), [])) name in
+    let caller = c.record.ensures.caller.1 ∙ ap (λ (l : List Entry). (alone (seeing (l ++ e0 ∷ []) who), [])) at
+    ∙ ap (λ (x : Entry). (alone (seeing (log ++ x ∷ []) who), [])) name in
     let now : List Entry = log ++ entry who.name c.args.event c.step-reply.result ∷ [] in
     let seen = ap (λ (m : Me ℕ View). (caller_in m.0).seen) caller in
-    subst (λ (x : Caller). Accesses false g.B.Naming.opening (Some g.B.Naming.limit) x.name x.has_queue_right c.args.event x.seen (caller_in c.record.new.caller.me.0).seen c.step-reply.result) c.seat.view_is
-    (subst (λ (l : List Entry). Accesses false g.B.Naming.opening (Some g.B.Naming.limit) who.name who.has_queue_right c.args.event who.seen l c.step-reply.result) (sym seen)
+    subst (λ (x : Caller). Accesses false g.B.Naming.opening (Some g.B.Naming.limit) x.name x.has_queue_right c.args.event x.seen
+    (caller_in c.record.new.caller.me.0).seen c.step-reply.result) c.seat.view_is
+    (subst (λ (l : List Entry). Accesses false g.B.Naming.opening (Some g.B.Naming.limit) who.name who.has_queue_right
+    c.args.event who.seen l c.step-reply.result) (sym seen)
     (subst (λ (k : ℕ). Accesses false g.B.Naming.opening (Some k) who.name who.has_queue_right c.args.event who.seen now c.step-reply.result) inv.2 e.outcome))

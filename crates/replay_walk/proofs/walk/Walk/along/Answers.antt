@@ -17,16 +17,24 @@ returns-then-not-take-clause-misfit g c = λ k is r walked limit.
     let w = c.loop-at.invariant r walked limit in
     let here : c.loop-at.at ≡ k = cc is in
     subst (λ (j : ℕ). IsFirstMisfit r c.args.log.now j) here
-    (stops_in g.T.TakesTurns.stands g.T.TakesTurns.begins g.T.TakesTurns.program g.T.TakesTurns.fuel r c.args.log.now c.loop-at.self.threads.items c.loop-at.self.memory c.loop-at.self.stage.queue c.loop-at.self.stage.started c.loop-at.self.stage.ends c.loop-at.at c.args.limit limit w _ c.loop-at-test.true
+    (stops_in g.T.TakesTurns.meaning r c.args.log.now c.loop-at.self.threads.items c.loop-at.self.memory
+    c.loop-at.self.stage.queue c.loop-at.self.stage.started c.loop-at.self.stage.ends c.loop-at.at
+    c.args.limit limit w _ c.loop-at-test.true
     (c.take.ensures.refused c.if-not-take.true (standing_in r c.loop-at.self.memory w.state w.places) w.standing refl))
 
 pub loop-at-preserved : goal.loop-at-preserved
 loop-at-preserved g c = λ r walked limit.
     let w = c.loop-at.invariant r walked limit in
-    goes_in g.T.TakesTurns.stands g.T.TakesTurns.begins g.T.TakesTurns.program g.T.TakesTurns.fuel r c.args.log.now c.loop-at.self.threads.items c.loop-at.self.memory c.loop-at.self.stage.queue c.loop-at.self.stage.started c.loop-at.self.stage.ends c.loop-at.at c.args.limit limit w _ c.loop-at-test.true c.take.new.self.threads.items c.take.new.self.memory c.take.new.self.stage.queue c.take.new.self.stage.started c.take.new.self.stage.ends c.take.ensures.count
+    goes_in g.T.TakesTurns.meaning r c.args.log.now c.loop-at.self.threads.items c.loop-at.self.memory
+    c.loop-at.self.stage.queue c.loop-at.self.stage.started c.loop-at.self.stage.ends c.loop-at.at
+    c.args.limit limit w _ c.loop-at-test.true c.take.new.self.threads.items c.take.new.self.memory
+    c.take.new.self.stage.queue c.take.new.self.stage.started c.take.new.self.stage.ends
+    c.take.ensures.count
     (c.take.ensures.taken c.if-not-take.false (standing_in r c.loop-at.self.memory w.state w.places) w.standing refl)
 
 pub returns-clause-whole : goal.returns-clause-whole
 returns-clause-whole g c = λ none r walked limit.
     let w = c.loop-at.invariant r walked limit in
-    ends_in g.T.TakesTurns.stands g.T.TakesTurns.begins g.T.TakesTurns.program g.T.TakesTurns.fuel r c.args.log.now c.loop-at.self.threads.items c.loop-at.self.memory c.loop-at.self.stage.queue c.loop-at.self.stage.started c.loop-at.self.stage.ends c.loop-at.at c.args.limit limit w c.loop-at.auto.at-end c.loop-at-test.false
+    ends_in g.T.TakesTurns.meaning r c.args.log.now c.loop-at.self.threads.items c.loop-at.self.memory
+    c.loop-at.self.stage.queue c.loop-at.self.stage.started c.loop-at.self.stage.ends c.loop-at.at
+    c.args.limit limit w c.loop-at.auto.at-end c.loop-at-test.false

@@ -4,5 +4,7 @@ use Rattle.replay_walk.proofs.walk.Walk.along.Given as goal
 
 abbrev pub invariant-loop-at : goal.invariant-loop-at
 invariant-loop-at g l =
-    (r : Run) → HasWalked g.T.TakesTurns.stands g.T.TakesTurns.begins g.T.TakesTurns.program g.T.TakesTurns.fuel r [] l.initial.self.threads.items l.initial.self.memory l.initial.self.stage.queue l.initial.self.stage.started l.initial.self.stage.ends → r.limit ≡ l.limit
-    → HasWalked g.T.TakesTurns.stands g.T.TakesTurns.begins g.T.TakesTurns.program g.T.TakesTurns.fuel r (take l.at l.log) l.self.threads.items l.self.memory l.self.stage.queue l.self.stage.started l.self.stage.ends
+    (r : Run) → HasWalked g.T.TakesTurns.meaning r [] l.initial.self.threads.items l.initial.self.memory
+    l.initial.self.stage.queue l.initial.self.stage.started l.initial.self.stage.ends
+    → r.limit ≡ l.limit
+    → HasWalked g.T.TakesTurns.meaning r (take l.at l.log) l.self.threads.items l.self.memory l.self.stage.queue l.self.stage.started l.self.stage.ends

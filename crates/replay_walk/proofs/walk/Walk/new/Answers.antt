@@ -7,7 +7,8 @@ use Rattle.replay_walk.proofs.walk.Walk.new.Goals as goal
 
 pub returns : goal.returns
 returns g c = λ r ready.
-    subst (λ (q : WaitQueue). HasWalked g.T.TakesTurns.stands g.T.TakesTurns.begins g.T.TakesTurns.program g.T.TakesTurns.fuel r [] c.args.threads.items c.args.memory q c.new.result.started c.new.result.ends) (sym c.new.ensures.queue)
-    (subst (λ (k : ℕ). HasWalked g.T.TakesTurns.stands g.T.TakesTurns.begins g.T.TakesTurns.program g.T.TakesTurns.fuel r [] c.args.threads.items c.args.memory first_queue k c.new.result.ends) (sym c.new.ensures.started)
-    (subst (λ (l : List (Option Outcome)). HasWalked g.T.TakesTurns.stands g.T.TakesTurns.begins g.T.TakesTurns.program g.T.TakesTurns.fuel r [] c.args.threads.items c.args.memory first_queue 1 l) (sym c.new.ensures.ends)
-    (begun g.T.TakesTurns.stands g.T.TakesTurns.begins g.T.TakesTurns.program g.T.TakesTurns.fuel r c.args.threads.items c.args.memory ready)))
+    subst (λ (q : WaitQueue). HasWalked g.T.TakesTurns.meaning r [] c.args.threads.items c.args.memory q
+    c.new.result.started c.new.result.ends) (sym c.new.ensures.queue)
+    (subst (λ (k : ℕ). HasWalked g.T.TakesTurns.meaning r [] c.args.threads.items c.args.memory first_queue k c.new.result.ends) (sym c.new.ensures.started)
+    (subst (λ (l : List (Option Outcome)). HasWalked g.T.TakesTurns.meaning r [] c.args.threads.items c.args.memory first_queue 1 l) (sym c.new.ensures.ends)
+    (begun g.T.TakesTurns.meaning r c.args.threads.items c.args.memory ready)))

@@ -5,10 +5,10 @@ use Rattle.types.specs.declared.event.Reply.{Reply}
 use Rattle.types.specs.declared.event.Answer.{Answer}
 use Rattle.shared_memory.specs.Memory.{Memory, reply_of, state_after}
 use Rattle.schedule.specs.System.{Act, Want.Calls}
-use Rattle.scheduled.specs.Shared.{act_of}
-use Rattle.takes_turns.specs.declared.turn.Turn.{Turn}
-use Rattle.takes_turns.specs.declared.turn.Turn.TheVariants as turns
-use Rattle.replay_steps.specs.Standing.{Says}
+use Rattle.schedule_threads.specs.Shared.{act_of}
+use Rattle.interp_trait.specs.declared.turn.Turn.{Turn}
+use Rattle.interp_trait.specs.declared.turn.Turn.TheVariants as turns
+use Rattle.replay_walk.specs.Standing.{Says}
 use Rattle.replay_walk.specs.Walked.{IsRefused}
 use Rattle.replay_walk.proofs.Acts.{event_act, answered}
 use Rattle.replay_walk.proofs.Settled.{within, ready, settled}
@@ -22,8 +22,13 @@ returns-then-at-limit-clause-refused g c = λ no s st same.
     let act = event_act c.args.entry.now.event c.args.entry.now.reply c.requires.kind in
     subst (λ (a : Act Event Reply Answer). IsRefused s c.args.limit c.args.at c.args.entry.now.thread a) (sym act)
     (elim c.then-at-limit.branch [
-      | then-at-limit-via-then-at-limit w ↦ refused_full g.T.TakesTurns.stands g.T.TakesTurns.begins g.T.TakesTurns.program g.T.TakesTurns.fuel s c.args.self.now.threads.items c.args.self.now.stage.queue c.args.self.now.stage.started c.args.self.now.stage.ends st c.args.entry.now.thread c.args.limit c.args.at c.args.entry.now.event c.args.entry.now.reply c.requires.kind w.if-at-limit.true
-      | then-at-limit-via-else-at-limit+then-not-is_going w ↦ refused_gone g.T.TakesTurns.stands g.T.TakesTurns.begins g.T.TakesTurns.program g.T.TakesTurns.fuel s c.args.self.now.threads.items c.args.self.now.stage.queue c.args.self.now.stage.started c.args.self.now.stage.ends st c.args.entry.now.thread c.args.limit c.args.at c.args.entry.now.event c.args.entry.now.reply
+      | then-at-limit-via-then-at-limit w ↦ refused_full g.T.TakesTurns.meaning s c.args.self.now.threads.items
+          c.args.self.now.stage.queue c.args.self.now.stage.started c.args.self.now.stage.ends st
+          c.args.entry.now.thread c.args.limit c.args.at c.args.entry.now.event c.args.entry.now.reply c.requires.kind w.if-at-limit.true
+      | then-at-limit-via-else-at-limit+then-not-is_going w ↦
+          refused_gone g.T.TakesTurns.meaning s c.args.self.now.threads.items c.args.self.now.stage.queue
+          c.args.self.now.stage.started
+          c.args.self.now.stage.ends st c.args.entry.now.thread c.args.limit c.args.at c.args.entry.now.event c.args.entry.now.reply
           (λ free. w.is_going.ensures.gone w.if-not-is_going.true s c.args.self.now.threads.items st free)
     ])
 
@@ -31,29 +36,43 @@ pub settle_at-requires-clause-within : goal.settle_at-requires-clause-within
 settle_at-requires-clause-within g c =
     let s = c.requires.standing.0 in let st = c.requires.standing.1 in
     let going = c.is_going.ensures.going c.if-not-is_going.false s c.args.self.now.threads.items st in
-    within g.T.TakesTurns.stands g.T.TakesTurns.begins g.T.TakesTurns.program g.T.TakesTurns.fuel s c.args.self.now.threads.items c.args.self.now.stage.queue c.args.self.now.stage.started c.args.self.now.stage.ends st c.args.entry.now.thread going c.as_mut_slice-threads.result.now c.as_mut_slice-threads.ensures.value
+    within g.T.TakesTurns.meaning s c.args.self.now.threads.items c.args.self.now.stage.queue
+    c.args.self.now.stage.started c.args.self.now.stage.ends st c.args.entry.now.thread going
+    c.as_mut_slice-threads.result.now c.as_mut_slice-threads.ensures.value
 
 pub settle_at-requires-clause-here : goal.settle_at-requires-clause-here
 settle_at-requires-clause-here g c =
     let s = c.requires.standing.0 in let st = c.requires.standing.1 in
     let going = c.is_going.ensures.going c.if-not-is_going.false s c.args.self.now.threads.items st in
-    ready g.T.TakesTurns.stands g.T.TakesTurns.begins g.T.TakesTurns.program g.T.TakesTurns.fuel s c.args.self.now.threads.items c.args.self.now.stage.queue c.args.self.now.stage.started c.args.self.now.stage.ends st c.args.entry.now.thread going c.as_mut_slice-threads.result.now c.as_mut_slice-threads.ensures.value c.args.fuel c.requires.standing.3
+    ready g.T.TakesTurns.meaning s c.args.self.now.threads.items c.args.self.now.stage.queue
+    c.args.self.now.stage.started c.args.self.now.stage.ends st c.args.entry.now.thread going
+    c.as_mut_slice-threads.result.now c.as_mut_slice-threads.ensures.value c.args.fuel c.requires.standing.3
 
 pub returns-in_default-clause-refused : goal.returns-in_default-clause-refused
 returns-in_default-clause-refused g c = λ no s st same.
     let act = event_act c.args.entry.now.event c.args.entry.now.reply c.requires.kind in
     let going = c.is_going.ensures.going c.if-not-is_going.false s c.args.self.now.threads.items st in
-    let d = settled g.T.TakesTurns.stands g.T.TakesTurns.begins g.T.TakesTurns.program g.T.TakesTurns.fuel s c.args.self.now.threads.items c.args.self.now.stage.queue c.args.self.now.stage.started c.args.self.now.stage.ends st c.args.entry.now.thread going c.as_mut_slice-threads.result.now c.as_mut_slice-threads.ensures.value c.settle_at.result c.settle_at.new.threads c.settle_at.ensures.settled in
+    let d = settled g.T.TakesTurns.meaning s c.args.self.now.threads.items c.args.self.now.stage.queue
+    c.args.self.now.stage.started c.args.self.now.stage.ends st c.args.entry.now.thread going
+    c.as_mut_slice-threads.result.now c.as_mut_slice-threads.ensures.value c.settle_at.result c.settle_at.new.threads c.settle_at.ensures.settled in
     subst (λ (a : Act Event Reply Answer). IsRefused s c.args.limit c.args.at c.args.entry.now.thread a) (sym act)
-    (refused_other g.T.TakesTurns.stands g.T.TakesTurns.begins g.T.TakesTurns.program g.T.TakesTurns.fuel s c.args.self.now.threads.items c.args.self.now.stage.queue c.args.self.now.stage.started c.args.self.now.stage.ends st c.args.entry.now.thread c.args.limit c.args.at going c.settle_at.result c.settle_at.new.threads d c.args.entry.now.event c.args.entry.now.reply c.requires.kind (λ is. c.in_default.not-Wants c.args.entry.now.event is))
+    (refused_other g.T.TakesTurns.meaning s c.args.self.now.threads.items c.args.self.now.stage.queue
+    c.args.self.now.stage.started c.args.self.now.stage.ends st c.args.entry.now.thread c.args.limit
+    c.args.at going c.settle_at.result c.settle_at.new.threads d c.args.entry.now.event c.args.entry.now.reply
+    c.requires.kind (λ is. c.in_default.not-Wants c.args.entry.now.event is))
 
 pub returns-then-not-is_same_event-clause-refused : goal.returns-then-not-is_same_event-clause-refused
 returns-then-not-is_same_event-clause-refused g c = λ no s st same.
     let act = event_act c.args.entry.now.event c.args.entry.now.reply c.requires.kind in
     let going = c.is_going.ensures.going c.if-not-is_going.false s c.args.self.now.threads.items st in
-    let d = settled g.T.TakesTurns.stands g.T.TakesTurns.begins g.T.TakesTurns.program g.T.TakesTurns.fuel s c.args.self.now.threads.items c.args.self.now.stage.queue c.args.self.now.stage.started c.args.self.now.stage.ends st c.args.entry.now.thread going c.as_mut_slice-threads.result.now c.as_mut_slice-threads.ensures.value c.settle_at.result c.settle_at.new.threads c.settle_at.ensures.settled in
+    let d = settled g.T.TakesTurns.meaning s c.args.self.now.threads.items c.args.self.now.stage.queue
+    c.args.self.now.stage.started c.args.self.now.stage.ends st c.args.entry.now.thread going
+    c.as_mut_slice-threads.result.now c.as_mut_slice-threads.ensures.value c.settle_at.result c.settle_at.new.threads c.settle_at.ensures.settled in
     subst (λ (a : Act Event Reply Answer). IsRefused s c.args.limit c.args.at c.args.entry.now.thread a) (sym act)
-    (refused_other g.T.TakesTurns.stands g.T.TakesTurns.begins g.T.TakesTurns.program g.T.TakesTurns.fuel s c.args.self.now.threads.items c.args.self.now.stage.queue c.args.self.now.stage.started c.args.self.now.stage.ends st c.args.entry.now.thread c.args.limit c.args.at going c.settle_at.result c.settle_at.new.threads d c.args.entry.now.event c.args.entry.now.reply c.requires.kind (λ is. let apart : c.in-Wants.wanted ≡ c.args.entry.now.event = cc (is, c.in-Wants.is) in c.is_same_event.ensures.other c.if-not-is_same_event.true apart))
+    (refused_other g.T.TakesTurns.meaning s c.args.self.now.threads.items c.args.self.now.stage.queue
+    c.args.self.now.stage.started c.args.self.now.stage.ends st c.args.entry.now.thread c.args.limit
+    c.args.at going c.settle_at.result c.settle_at.new.threads d c.args.entry.now.event c.args.entry.now.reply c.requires.kind
+    (λ is. let apart : c.in-Wants.wanted ≡ c.args.entry.now.event = cc (is, c.in-Wants.is) in c.is_same_event.ensures.other c.if-not-is_same_event.true apart))
 
 pub make-requires-clause-event : goal.make-requires-clause-event
 make-requires-clause-event g c = c.requires.entry.event
@@ -65,7 +84,9 @@ pub make-requires-clause-room : goal.make-requires-clause-room
 make-requires-clause-room g c = λ arg is.
     let s = c.requires.standing.0 in let st = c.requires.standing.1 in
     let going = c.is_going.ensures.going c.if-not-is_going.false s c.args.self.now.threads.items st in
-    let d = settled g.T.TakesTurns.stands g.T.TakesTurns.begins g.T.TakesTurns.program g.T.TakesTurns.fuel s c.args.self.now.threads.items c.args.self.now.stage.queue c.args.self.now.stage.started c.args.self.now.stage.ends st c.args.entry.now.thread going c.as_mut_slice-threads.result.now c.as_mut_slice-threads.ensures.value c.settle_at.result c.settle_at.new.threads c.settle_at.ensures.settled in
+    let d = settled g.T.TakesTurns.meaning s c.args.self.now.threads.items c.args.self.now.stage.queue
+    c.args.self.now.stage.started c.args.self.now.stage.ends st c.args.entry.now.thread going
+    c.as_mut_slice-threads.result.now c.as_mut_slice-threads.ensures.value c.settle_at.result c.settle_at.new.threads c.settle_at.ensures.settled in
     let same : c.in-Wants.wanted ≡ c.args.entry.now.event = c.is_same_event.ensures.same c.if-not-is_same_event.false in
     let says = subst (λ (t : Turn). Says s.program d.thread t) (c.in-Wants.is ∙ ap (λ (e : Event). turns.Wants e) same) d.says in
     c.settle_at.ensures.count ∙ (ap (λ (l : List g.row.T.Denot). length l) c.as_mut_slice-threads.ensures.value
@@ -75,7 +96,9 @@ pub make-requires-clause-settled : goal.make-requires-clause-settled
 make-requires-clause-settled g c =
     let s = c.requires.standing.0 in let st = c.requires.standing.1 in
     let going = c.is_going.ensures.going c.if-not-is_going.false s c.args.self.now.threads.items st in
-    let d = settled g.T.TakesTurns.stands g.T.TakesTurns.begins g.T.TakesTurns.program g.T.TakesTurns.fuel s c.args.self.now.threads.items c.args.self.now.stage.queue c.args.self.now.stage.started c.args.self.now.stage.ends st c.args.entry.now.thread going c.as_mut_slice-threads.result.now c.as_mut_slice-threads.ensures.value c.settle_at.result c.settle_at.new.threads c.settle_at.ensures.settled in
+    let d = settled g.T.TakesTurns.meaning s c.args.self.now.threads.items c.args.self.now.stage.queue
+    c.args.self.now.stage.started c.args.self.now.stage.ends st c.args.entry.now.thread going
+    c.as_mut_slice-threads.result.now c.as_mut_slice-threads.ensures.value c.settle_at.result c.settle_at.new.threads c.settle_at.ensures.settled in
     let same : c.in-Wants.wanted ≡ c.args.entry.now.event = c.is_same_event.ensures.same c.if-not-is_same_event.false in
     let says = subst (λ (t : Turn). Says s.program d.thread t) (c.in-Wants.is ∙ ap (λ (e : Event). turns.Wants e) same) d.says in
     (s, d.thread, d.on, c.requires.standing.2, says.0, says.1)
@@ -84,17 +107,26 @@ pub returns-clause-taken : goal.returns-clause-taken
 returns-clause-taken g c = λ yes s st same.
     let act = event_act c.args.entry.now.event c.args.entry.now.reply c.requires.kind in
     let going = c.is_going.ensures.going c.if-not-is_going.false s c.args.self.now.threads.items st in
-    let d = settled g.T.TakesTurns.stands g.T.TakesTurns.begins g.T.TakesTurns.program g.T.TakesTurns.fuel s c.args.self.now.threads.items c.args.self.now.stage.queue c.args.self.now.stage.started c.args.self.now.stage.ends st c.args.entry.now.thread going c.as_mut_slice-threads.result.now c.as_mut_slice-threads.ensures.value c.settle_at.result c.settle_at.new.threads c.settle_at.ensures.settled in
+    let d = settled g.T.TakesTurns.meaning s c.args.self.now.threads.items c.args.self.now.stage.queue
+    c.args.self.now.stage.started c.args.self.now.stage.ends st c.args.entry.now.thread going
+    c.as_mut_slice-threads.result.now c.as_mut_slice-threads.ensures.value c.settle_at.result c.settle_at.new.threads c.settle_at.ensures.settled in
     let alike : c.in-Wants.wanted ≡ c.args.entry.now.event = c.is_same_event.ensures.same c.if-not-is_same_event.false in
     let says = subst (λ (t : Turn). Says s.program d.thread t) (c.in-Wants.is ∙ ap (λ (e : Event). turns.Wants e) alike) d.says in
     let made = c.make.ensures.made yes s d.thread d.on same says.0 says.1 in
-    let can = can_event g.T.TakesTurns.stands g.T.TakesTurns.begins g.T.TakesTurns.program g.T.TakesTurns.fuel s c.settle_at.new.threads c.args.self.now.stage.queue c.args.self.now.stage.started c.args.self.now.stage.ends c.args.entry.now.thread d.thread d.on d.settles c.args.limit c.args.at c.args.entry.now.event c.args.entry.now.reply c.requires.kind made.0 says.1 c.if-at-limit.false in
-    took_as g.T.TakesTurns.stands g.T.TakesTurns.begins g.T.TakesTurns.program g.T.TakesTurns.fuel s c.args.limit c.args.at c.args.entry.now.thread c.args.entry.now.event c.args.entry.now.reply d.thread can (act_of c.args.entry.now) act _ c.make.new.threads
+    let can = can_event g.T.TakesTurns.meaning s c.settle_at.new.threads c.args.self.now.stage.queue
+    c.args.self.now.stage.started c.args.self.now.stage.ends c.args.entry.now.thread d.thread d.on
+    d.settles c.args.limit c.args.at c.args.entry.now.event c.args.entry.now.reply c.requires.kind made.0 says.1 c.if-at-limit.false in
+    took_as g.T.TakesTurns.meaning s c.args.limit c.args.at c.args.entry.now.thread c.args.entry.now.event
+    c.args.entry.now.reply d.thread can (act_of c.args.entry.now) act _ c.make.new.threads
     (take_at c.make.new.threads _ c.args.self.now.threads.len (c.make.ensures.count ∙ (c.settle_at.ensures.count ∙ c.as_mut_slice-threads.ensures.len)))
-    c.make.new.memory c.make.new.self.queue c.make.new.self.started c.make.new.self.ends (ap (λ (m : Memory). state_after m c.args.entry.now.event) same ∙ sym c.make.ensures.memory) made.1
+    c.make.new.memory c.make.new.self.queue c.make.new.self.started c.make.new.self.ends
+    (ap (λ (m : Memory). state_after m c.args.entry.now.event) same ∙ sym c.make.ensures.memory) made.1
 
 pub returns-clause-refused : goal.returns-clause-refused
 returns-clause-refused g c = λ no s st same.
     let act = event_act c.args.entry.now.event c.args.entry.now.reply c.requires.kind in
     subst (λ (a : Act Event Reply Answer). IsRefused s c.args.limit c.args.at c.args.entry.now.thread a) (sym act)
-    (refused_reply g.T.TakesTurns.stands g.T.TakesTurns.begins g.T.TakesTurns.program g.T.TakesTurns.fuel s c.args.self.now.threads.items c.args.self.now.stage.queue c.args.self.now.stage.started c.args.self.now.stage.ends st c.args.entry.now.thread c.args.limit c.args.at c.args.entry.now.event c.args.entry.now.reply (λ is. c.make.ensures.refused no (is ∙ ap (λ (m : Memory). reply_of m c.args.entry.now.event) same)))
+    (refused_reply g.T.TakesTurns.meaning s c.args.self.now.threads.items c.args.self.now.stage.queue
+    c.args.self.now.stage.started c.args.self.now.stage.ends st c.args.entry.now.thread c.args.limit
+    c.args.at c.args.entry.now.event c.args.entry.now.reply
+    (λ is. c.make.ensures.refused no (is ∙ ap (λ (m : Memory). reply_of m c.args.entry.now.event) same)))

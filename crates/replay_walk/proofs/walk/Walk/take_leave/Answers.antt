@@ -9,10 +9,10 @@ use Rattle.types.specs.declared.event.Answer.{Answer}
 use Rattle.types.specs.declared.outcome.Outcome.{Outcome}
 use Rattle.shared_memory.proofs.Soundness.{alive_below}
 use Rattle.schedule.specs.System.{Act}
-use Rattle.scheduled.specs.Shared.{act_of}
-use Rattle.takes_turns.specs.declared.turn.Turn.{Turn}
-use Rattle.replay_steps.specs.Standing.{Says}
-use Rattle.replay_steps.proofs.Made.{is_free}
+use Rattle.schedule_threads.specs.Shared.{act_of}
+use Rattle.interp_trait.specs.declared.turn.Turn.{Turn}
+use Rattle.replay_walk.specs.Standing.{Says}
+use Rattle.replay_walk.proofs.Made.{is_free}
 use Rattle.replay_walk.specs.Walked.{IsRefused}
 use Rattle.replay_walk.proofs.Acts.{leave_act}
 use Rattle.replay_walk.proofs.Settled.{within, ready, settled}
@@ -25,42 +25,59 @@ pub returns-then-not-is_going-clause-refused : goal.returns-then-not-is_going-cl
 returns-then-not-is_going-clause-refused g c = λ no s st.
     let act = leave_act c.args.entry.now c.requires.entry c.requires.kind in
     subst (λ (a : Act Event Reply Answer). IsRefused s c.args.limit c.args.at c.args.entry.now.thread a) (sym act)
-    (refused_gone g.T.TakesTurns.stands g.T.TakesTurns.begins g.T.TakesTurns.program g.T.TakesTurns.fuel s c.args.self.now.threads.items c.args.self.now.stage.queue c.args.self.now.stage.started c.args.self.now.stage.ends st c.args.entry.now.thread c.args.limit c.args.at (events.Ask Leave) Done (λ free. c.is_going.ensures.gone c.if-not-is_going.true s c.args.self.now.threads.items st free))
+    (refused_gone g.T.TakesTurns.meaning s c.args.self.now.threads.items c.args.self.now.stage.queue
+    c.args.self.now.stage.started c.args.self.now.stage.ends st c.args.entry.now.thread c.args.limit
+    c.args.at (events.Ask Leave) Done (λ free. c.is_going.ensures.gone c.if-not-is_going.true s c.args.self.now.threads.items st free))
 
 pub settle_at-requires-clause-within : goal.settle_at-requires-clause-within
 settle_at-requires-clause-within g c =
     let s = c.requires.standing.0 in let st = c.requires.standing.1 in
     let going = c.is_going.ensures.going c.if-not-is_going.false s c.args.self.now.threads.items st in
-    within g.T.TakesTurns.stands g.T.TakesTurns.begins g.T.TakesTurns.program g.T.TakesTurns.fuel s c.args.self.now.threads.items c.args.self.now.stage.queue c.args.self.now.stage.started c.args.self.now.stage.ends st c.args.entry.now.thread going c.deref_mut.result.now c.deref_mut.ensures.value
+    within g.T.TakesTurns.meaning s c.args.self.now.threads.items c.args.self.now.stage.queue
+    c.args.self.now.stage.started c.args.self.now.stage.ends st c.args.entry.now.thread going
+    c.deref_mut.result.now c.deref_mut.ensures.value
 
 pub settle_at-requires-clause-here : goal.settle_at-requires-clause-here
 settle_at-requires-clause-here g c =
     let s = c.requires.standing.0 in let st = c.requires.standing.1 in
     let going = c.is_going.ensures.going c.if-not-is_going.false s c.args.self.now.threads.items st in
-    ready g.T.TakesTurns.stands g.T.TakesTurns.begins g.T.TakesTurns.program g.T.TakesTurns.fuel s c.args.self.now.threads.items c.args.self.now.stage.queue c.args.self.now.stage.started c.args.self.now.stage.ends st c.args.entry.now.thread going c.deref_mut.result.now c.deref_mut.ensures.value c.args.fuel c.requires.standing.3
+    ready g.T.TakesTurns.meaning s c.args.self.now.threads.items c.args.self.now.stage.queue
+    c.args.self.now.stage.started c.args.self.now.stage.ends st c.args.entry.now.thread going
+    c.deref_mut.result.now c.deref_mut.ensures.value c.args.fuel c.requires.standing.3
 
 pub returns-then-at-limit-clause-refused : goal.returns-then-at-limit-clause-refused
 returns-then-at-limit-clause-refused g c = λ no s st.
     let act = leave_act c.args.entry.now c.requires.entry c.requires.kind in
     let going = c.is_going.ensures.going c.if-not-is_going.false s c.args.self.now.threads.items st in
-    let d = settled g.T.TakesTurns.stands g.T.TakesTurns.begins g.T.TakesTurns.program g.T.TakesTurns.fuel s c.args.self.now.threads.items c.args.self.now.stage.queue c.args.self.now.stage.started c.args.self.now.stage.ends st c.args.entry.now.thread going c.deref_mut.result.now c.deref_mut.ensures.value c.settle_at.result c.settle_at.new.threads c.settle_at.ensures.settled in
+    let d = settled g.T.TakesTurns.meaning s c.args.self.now.threads.items c.args.self.now.stage.queue
+    c.args.self.now.stage.started c.args.self.now.stage.ends st c.args.entry.now.thread going
+    c.deref_mut.result.now c.deref_mut.ensures.value c.settle_at.result c.settle_at.new.threads c.settle_at.ensures.settled in
     subst (λ (a : Act Event Reply Answer). IsRefused s c.args.limit c.args.at c.args.entry.now.thread a) (sym act)
-    (refused_leave g.T.TakesTurns.stands g.T.TakesTurns.begins g.T.TakesTurns.program g.T.TakesTurns.fuel s c.args.self.now.threads.items c.args.self.now.stage.queue c.args.self.now.stage.started c.args.self.now.stage.ends st c.args.entry.now.thread c.args.limit c.args.at going c.settle_at.result c.settle_at.new.threads d (λ o is. cc (is, c.in-Wants.is)) (λ e is. c.if-at-limit.true))
+    (refused_leave g.T.TakesTurns.meaning s c.args.self.now.threads.items c.args.self.now.stage.queue
+    c.args.self.now.stage.started c.args.self.now.stage.ends st c.args.entry.now.thread c.args.limit
+    c.args.at going c.settle_at.result c.settle_at.new.threads d (λ o is. cc (is, c.in-Wants.is)) (λ e is. c.if-at-limit.true))
 
 pub returns-in_default-clause-refused : goal.returns-in_default-clause-refused
 returns-in_default-clause-refused g c = λ no s st.
     let act = leave_act c.args.entry.now c.requires.entry c.requires.kind in
     let going = c.is_going.ensures.going c.if-not-is_going.false s c.args.self.now.threads.items st in
-    let d = settled g.T.TakesTurns.stands g.T.TakesTurns.begins g.T.TakesTurns.program g.T.TakesTurns.fuel s c.args.self.now.threads.items c.args.self.now.stage.queue c.args.self.now.stage.started c.args.self.now.stage.ends st c.args.entry.now.thread going c.deref_mut.result.now c.deref_mut.ensures.value c.settle_at.result c.settle_at.new.threads c.settle_at.ensures.settled in
+    let d = settled g.T.TakesTurns.meaning s c.args.self.now.threads.items c.args.self.now.stage.queue
+    c.args.self.now.stage.started c.args.self.now.stage.ends st c.args.entry.now.thread going
+    c.deref_mut.result.now c.deref_mut.ensures.value c.settle_at.result c.settle_at.new.threads c.settle_at.ensures.settled in
     subst (λ (a : Act Event Reply Answer). IsRefused s c.args.limit c.args.at c.args.entry.now.thread a) (sym act)
-    (refused_leave g.T.TakesTurns.stands g.T.TakesTurns.begins g.T.TakesTurns.program g.T.TakesTurns.fuel s c.args.self.now.threads.items c.args.self.now.stage.queue c.args.self.now.stage.started c.args.self.now.stage.ends st c.args.entry.now.thread c.args.limit c.args.at going c.settle_at.result c.settle_at.new.threads d (λ o is. c.in_default.not-Ended o is) (λ e is. absurd (c.in_default.not-Wants e is)))
+    (refused_leave g.T.TakesTurns.meaning s c.args.self.now.threads.items c.args.self.now.stage.queue
+    c.args.self.now.stage.started c.args.self.now.stage.ends st c.args.entry.now.thread c.args.limit
+    c.args.at going c.settle_at.result c.settle_at.new.threads d (λ o is. c.in_default.not-Ended o is) (λ e is. absurd (c.in_default.not-Wants e is)))
 
 pub leave-requires-clause-free : goal.leave-requires-clause-free
 leave-requires-clause-free g c =
     let s = c.requires.standing.0 in let st = c.requires.standing.1 in
     let going = c.is_going.ensures.going c.if-not-is_going.false s c.args.self.now.threads.items st in
-    let d = settled g.T.TakesTurns.stands g.T.TakesTurns.begins g.T.TakesTurns.program g.T.TakesTurns.fuel s c.args.self.now.threads.items c.args.self.now.stage.queue c.args.self.now.stage.started c.args.self.now.stage.ends st c.args.entry.now.thread going c.deref_mut.result.now c.deref_mut.ensures.value c.settle_at.result c.settle_at.new.threads c.settle_at.ensures.settled in
-    is_free g.T.TakesTurns.stands g.T.TakesTurns.begins g.T.TakesTurns.program g.T.TakesTurns.fuel s c.settle_at.new.threads c.args.self.now.stage.queue c.args.self.now.stage.started c.args.self.now.stage.ends c.args.entry.now.thread d.thread d.on
+    let d = settled g.T.TakesTurns.meaning s c.args.self.now.threads.items c.args.self.now.stage.queue
+    c.args.self.now.stage.started c.args.self.now.stage.ends st c.args.entry.now.thread going
+    c.deref_mut.result.now c.deref_mut.ensures.value c.settle_at.result c.settle_at.new.threads c.settle_at.ensures.settled in
+    is_free g.T.TakesTurns.meaning s c.settle_at.new.threads c.args.self.now.stage.queue c.args.self.now.stage.started
+    c.args.self.now.stage.ends c.args.entry.now.thread d.thread d.on
 
 pub leave-requires-clause-number : goal.leave-requires-clause-number
 leave-requires-clause-number g c =
@@ -72,17 +89,32 @@ pub returns-clause-taken : goal.returns-clause-taken
 returns-clause-taken g c = λ yes s st same.
     let act = leave_act c.args.entry.now c.requires.entry c.requires.kind in
     let going = c.is_going.ensures.going c.if-not-is_going.false s c.args.self.now.threads.items st in
-    let d = settled g.T.TakesTurns.stands g.T.TakesTurns.begins g.T.TakesTurns.program g.T.TakesTurns.fuel s c.args.self.now.threads.items c.args.self.now.stage.queue c.args.self.now.stage.started c.args.self.now.stage.ends st c.args.entry.now.thread going c.deref_mut.result.now c.deref_mut.ensures.value c.settle_at.result c.settle_at.new.threads c.settle_at.ensures.settled in
-    let l : Leaves g.T.TakesTurns.stands g.T.TakesTurns.begins g.T.TakesTurns.program g.T.TakesTurns.fuel s c.settle_at.new.threads c.args.self.now.stage.queue c.args.self.now.stage.started c.args.self.now.stage.ends c.args.entry.now.thread d.thread d.on d.settles c.args.limit c.args.at c.match-settle_at.outcome =
+    let d = settled g.T.TakesTurns.meaning s c.args.self.now.threads.items c.args.self.now.stage.queue
+    c.args.self.now.stage.started c.args.self.now.stage.ends st c.args.entry.now.thread going
+    c.deref_mut.result.now c.deref_mut.ensures.value c.settle_at.result c.settle_at.new.threads c.settle_at.ensures.settled in
+    let l : Leaves g.T.TakesTurns.meaning s c.settle_at.new.threads c.args.self.now.stage.queue
+    c.args.self.now.stage.started c.args.self.now.stage.ends c.args.entry.now.thread d.thread d.on d.settles
+    c.args.limit c.args.at c.match-settle_at.outcome =
     elim c.match-settle_at.branch [
-      | in-Ended w ↦ subst (λ (o : Outcome). Leaves g.T.TakesTurns.stands g.T.TakesTurns.begins g.T.TakesTurns.program g.T.TakesTurns.fuel s c.settle_at.new.threads c.args.self.now.stage.queue c.args.self.now.stage.started c.args.self.now.stage.ends c.args.entry.now.thread d.thread d.on d.settles c.args.limit c.args.at o) (sym w.outcome-is)
-          (leaves_ended g.T.TakesTurns.stands g.T.TakesTurns.begins g.T.TakesTurns.program g.T.TakesTurns.fuel s c.settle_at.new.threads c.args.self.now.stage.queue c.args.self.now.stage.started c.args.self.now.stage.ends c.args.entry.now.thread d.thread d.on d.settles c.args.limit c.args.at w.in-Ended.outcome
+      | in-Ended w ↦ subst (λ (o : Outcome). Leaves g.T.TakesTurns.meaning s c.settle_at.new.threads
+          c.args.self.now.stage.queue c.args.self.now.stage.started c.args.self.now.stage.ends
+          c.args.entry.now.thread d.thread d.on d.settles c.args.limit c.args.at o) (sym w.outcome-is)
+          (leaves_ended g.T.TakesTurns.meaning s c.settle_at.new.threads c.args.self.now.stage.queue
+          c.args.self.now.stage.started c.args.self.now.stage.ends c.args.entry.now.thread d.thread d.on
+          d.settles c.args.limit c.args.at w.in-Ended.outcome
           (subst (λ (t : Turn). Says s.program d.thread t) w.in-Ended.is d.says))
       | in-Wants+else-at-limit w ↦
           (let says = subst (λ (t : Turn). Says s.program d.thread t) w.in-Wants.is d.says in
-          subst (λ (o : Outcome). Leaves g.T.TakesTurns.stands g.T.TakesTurns.begins g.T.TakesTurns.program g.T.TakesTurns.fuel s c.settle_at.new.threads c.args.self.now.stage.queue c.args.self.now.stage.started c.args.self.now.stage.ends c.args.entry.now.thread d.thread d.on d.settles c.args.limit c.args.at o) (sym w.outcome-is)
-          (leaves_full g.T.TakesTurns.stands g.T.TakesTurns.begins g.T.TakesTurns.program g.T.TakesTurns.fuel s c.settle_at.new.threads c.args.self.now.stage.queue c.args.self.now.stage.started c.args.self.now.stage.ends c.args.entry.now.thread d.thread d.on d.settles c.args.limit c.args.at w.in-Wants.field-0 says.1 says.0 w.if-at-limit.false))
+          subst (λ (o : Outcome). Leaves g.T.TakesTurns.meaning s c.settle_at.new.threads c.args.self.now.stage.queue
+          c.args.self.now.stage.started c.args.self.now.stage.ends c.args.entry.now.thread
+          d.thread d.on d.settles c.args.limit c.args.at o) (sym w.outcome-is)
+          (leaves_full g.T.TakesTurns.meaning s c.settle_at.new.threads c.args.self.now.stage.queue
+          c.args.self.now.stage.started c.args.self.now.stage.ends c.args.entry.now.thread d.thread d.on
+          d.settles c.args.limit c.args.at w.in-Wants.field-0 says.1 says.0 w.if-at-limit.false))
     ] in
-    took_as g.T.TakesTurns.stands g.T.TakesTurns.begins g.T.TakesTurns.program g.T.TakesTurns.fuel s c.args.limit c.args.at c.args.entry.now.thread (events.Ask Leave) Done l.thread l.can (act_of c.args.entry.now) act _ c.settle_at.new.threads
-    (take_at c.settle_at.new.threads _ c.args.self.now.threads.len (c.settle_at.ensures.count ∙ c.deref_mut.ensures.len)) c.args.self.now.memory c.leave.new.self.queue c.leave.new.self.started c.leave.new.self.ends same
+    took_as g.T.TakesTurns.meaning s c.args.limit c.args.at c.args.entry.now.thread (events.Ask Leave) Done l.thread
+    l.can (act_of c.args.entry.now) act _ c.settle_at.new.threads
+    (take_at c.settle_at.new.threads _ c.args.self.now.threads.len (c.settle_at.ensures.count ∙ c.deref_mut.ensures.len))
+    c.args.self.now.memory c.leave.new.self.queue c.leave.new.self.started
+    c.leave.new.self.ends same
     (c.leave.ensures.stands s d.thread l.thread c.settle_at.new.threads d.on (l.can).wants l.ended l.left l.here)

@@ -1,17 +1,20 @@
-use Rattle.std.proofs.Common.{ℕ, ◌≡◌, ◌+◌, ◌*◌, List, [], length, refl, ap, ◌∙◌, sym, subst}
+use Rattle.std.proofs.Common.{ℕ, ◌≡◌, ◌+◌, ◌*◌, false, List, [], length, refl, ap, ◌∙◌, sym, subst}
 use Rattle.atomic_table.specs.Table.{opening}
 use Rattle.shared_memory.specs.Memory.{Memory}
-use Rattle.word_rules.specs.Words.{words_of, IsStored}
-use Rattle.word_rules.specs.Rule.{Kept, opened}
-use Rattle.word_rules.proofs.Memories.{length-words_of}
-use Rattle.word_rules.proofs.Moves.{opens}
+use Rattle.shared_memory_on_table.specs.Rule.{opened}
+use Rattle.word_row_rules.specs.Words.{words_of, IsStored}
+use Rattle.word_row_rules.specs.Rule.{KeptRow}
+use Rattle.word_row_rules.proofs.Memories.{length-words_of}
+use Rattle.word_row_rules.proofs.Moves.{opens}
 use Rattle.word_row.proofs.prepared.Prepared.new.Goals as goal
 
 pub of_words-requires : goal.of_words-requires
 of_words-requires c =
     let memory : Memory = c.words.new.memory in
     let stored : IsStored memory = subst IsStored (sym c.words.ensures.same) c.words.ensures.stored in
-    subst (λ (ws : List ℕ). Kept memory (opening ws [] opened)) (sym (c.deref.ensures.value ∙ c.in-Ok.ensures.words ∙ ap words_of (sym c.words.ensures.same))) (opens memory stored)
+    subst (λ (ws : List ℕ). KeptRow memory (opening ws [] (opened false)))
+    (sym (c.deref.ensures.value ∙ c.in-Ok.ensures.words ∙ ap words_of (sym c.words.ensures.same)))
+    (opens memory stored)
 
 pub invariant_of-result : goal.invariant_of-result
 invariant_of-result c =

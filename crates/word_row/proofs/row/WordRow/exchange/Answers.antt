@@ -4,5 +4,6 @@ use Rattle.word_row.proofs.row.WordRow.exchange.Goals as goal
 pub returns-else-found-old-clause-outcome : goal.returns-else-found-old-clause-outcome
 returns-else-found-old-clause-outcome g c =
     let row = c.args.self.now.row in
-    lost g.B.Naming.opening c.args.event c.args.old c.exchange-found.result c.args.change.new c.args.caller.now c.exchange-found.new.self row.stored c.requires.event c.requires.within c.requires.change.makes
+    lost g.B.Naming.opening c.args.event c.args.old c.exchange-found.result c.args.change.new c.args.caller.now c.exchange-found.new.caller row.stored
+    c.requires.event c.requires.within c.requires.change.makes
     c.requires.word c.exchange-found.ensures c.if-found-old.false

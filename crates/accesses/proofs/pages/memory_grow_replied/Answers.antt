@@ -1,7 +1,0 @@
-use Rattle.numeric.specs.Integers.{wrap}
-use Rattle.accesses.proofs.Paging.{grow_replied}
-use Rattle.accesses.proofs.pages.memory_grow_replied.Goals as goal
-
-pub returns : goal.returns
-unfolding wrap
-returns c = λ w k v st. grow_replied w c.args.state.now _ k c.args.number _ st c.requires c.i32_wrap_i64.ensures c.replace_top.ensures

@@ -1,9 +1,0 @@
-use Rattle.bench_memory.proofs.main.Given as goal
-
--- the recorder that was just prepared
-abbrev pub ghosts-over_recorder : goal.ghosts-over_recorder
-ghosts-over_recorder g a = record { table = a.prepared.table; opening = a.prepared.opening; limit = a.prepared.limit }
-
--- the row that was just prepared
-abbrev pub ghosts-over_words : goal.ghosts-over_words
-ghosts-over_words g a = record { table = a.prepared.table; opening = a.prepared.opening }

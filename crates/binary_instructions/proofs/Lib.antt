@@ -1,0 +1,4 @@
+pub mod Laws
+pub mod Loop
+pub mod Table
+pub mod Nesting

@@ -1,0 +1,12 @@
+use Rattle.std.proofs.Common.{◌≡◌, ◌-◌, ◌<◌, ◌∷◌, [], false, length, reverse}
+use Rattle.binary_wire.proofs.Loop.{with_front}
+use Rattle.binary_instructions.specs.Reading.{code_at}
+use Rattle.binary_instructions.proofs.expression.read_expression.Given as goal
+
+abbrev pub invariant-loop : goal.invariant-loop
+invariant-loop l = record {
+  some : 0 < length (reverse l.open_blocks.items);
+  top : l.end ≡ length l.fn.reader.rest.now;
+  so_far : with_front l.code.items (code_at (l.end - l.counter)
+      (reverse l.open_blocks.items) l.reader.rest.now) ≡ code_at l.end (false ∷ []) l.fn.reader.rest.now;
+}

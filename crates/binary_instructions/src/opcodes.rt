@@ -1,0 +1,530 @@
+//! The opcodes (Core specification 1.0, section 5.4) and the numbers of atomic instructions (threads proposal, section
+//! "Binary format"): which instruction each begins.
+
+ghost use Rattle.std.specs.Prelude.{◌≡◌};
+ghost use Rattle.binary_instructions.specs.Opcodes.{opcode, atomic_number};
+
+use binary_wire::Fault;
+use types::{
+    AccessWidth, AtomicOp, BinaryOp, CompareOp, ConvertOp, LoadOp, NarrowWidth, NumericInstr,
+    RmwOp, UnaryOp, ValType,
+};
+
+/// What begins a block.
+#[derive(Clone, Copy)]
+pub enum Opener {
+    Block,
+    Loop,
+    If,
+}
+
+/// An instruction without immediates.
+#[derive(Clone, Copy)]
+pub enum BareInstr {
+    Unreachable,
+    Nop,
+    Return,
+    Drop,
+    Select,
+}
+
+/// An instruction whose one immediate is an index.
+#[derive(Clone, Copy)]
+pub enum IndexInstr {
+    Br,
+    BrIf,
+    Call,
+    LocalGet,
+    LocalSet,
+    LocalTee,
+    GlobalGet,
+    GlobalSet,
+}
+
+/// What an opcode begins: an instruction, whose shape says which immediates stand behind the opcode.
+#[derive(Clone, Copy)]
+pub enum Shape {
+    /// A block type.
+    Open(Opener),
+    /// Nothing.
+    Else,
+    /// Nothing.
+    End,
+    /// Nothing.
+    Bare(BareInstr),
+    /// Nothing.
+    Numeric(NumericInstr),
+    /// A signed number of the type.
+    Const(ValType),
+    /// An index.
+    Index(IndexInstr),
+    /// A vector of labels, and the default label.
+    BrTable,
+    /// The index of a type, and a reserved byte.
+    CallIndirect,
+    /// An alignment and an offset.
+    Load(LoadOp),
+    /// An alignment and an offset.
+    Store(AccessWidth),
+    /// A reserved byte.
+    MemorySize,
+    /// A reserved byte.
+    MemoryGrow,
+    /// A number, which says which atomic instruction it is.
+    Atomic,
+}
+
+/// What a number behind the prefix of atomic instructions begins.
+#[derive(Clone, Copy)]
+pub enum AtomicShape {
+    /// An alignment and an offset.
+    Access(AtomicOp),
+    /// A reserved byte.
+    Fence,
+}
+
+/// The instruction that an opcode begins, or why there is none: the opcode is unknown, or one of floats, which are
+/// left out.
+pub fn shape_of_opcode(code: u8) -> Result<Shape, Fault>
+    ensures { result ≡ opcode code }
+{
+    OPCODES[usize::from(code)]
+}
+
+/// The instruction that a number behind the prefix of atomic instructions begins, if there is one.
+pub fn shape_of_atomic(number: u32) -> Option<AtomicShape>
+    ensures { result ≡ atomic_number number }
+{
+    if number < 79 {
+        ATOMICS[number as usize]
+    } else {
+        None
+    }
+}
+
+/// The instruction that each opcode begins.
+static OPCODES: [Result<Shape, Fault>; 256] = [
+    Ok(Shape::Bare(BareInstr::Unreachable)),
+    Ok(Shape::Bare(BareInstr::Nop)),
+    Ok(Shape::Open(Opener::Block)),
+    Ok(Shape::Open(Opener::Loop)),
+    Ok(Shape::Open(Opener::If)),
+    Ok(Shape::Else),
+    Err(Fault::UnknownByte),
+    Err(Fault::UnknownByte),
+    Err(Fault::UnknownByte),
+    Err(Fault::UnknownByte),
+    Err(Fault::UnknownByte),
+    Ok(Shape::End),
+    Ok(Shape::Index(IndexInstr::Br)),
+    Ok(Shape::Index(IndexInstr::BrIf)),
+    Ok(Shape::BrTable),
+    Ok(Shape::Bare(BareInstr::Return)),
+    Ok(Shape::Index(IndexInstr::Call)),
+    Ok(Shape::CallIndirect),
+    Err(Fault::UnknownByte),
+    Err(Fault::UnknownByte),
+    Err(Fault::UnknownByte),
+    Err(Fault::UnknownByte),
+    Err(Fault::UnknownByte),
+    Err(Fault::UnknownByte),
+    Err(Fault::UnknownByte),
+    Err(Fault::UnknownByte),
+    Ok(Shape::Bare(BareInstr::Drop)),
+    Ok(Shape::Bare(BareInstr::Select)),
+    Err(Fault::UnknownByte),
+    Err(Fault::UnknownByte),
+    Err(Fault::UnknownByte),
+    Err(Fault::UnknownByte),
+    Ok(Shape::Index(IndexInstr::LocalGet)),
+    Ok(Shape::Index(IndexInstr::LocalSet)),
+    Ok(Shape::Index(IndexInstr::LocalTee)),
+    Ok(Shape::Index(IndexInstr::GlobalGet)),
+    Ok(Shape::Index(IndexInstr::GlobalSet)),
+    Err(Fault::UnknownByte),
+    Err(Fault::UnknownByte),
+    Err(Fault::UnknownByte),
+    Ok(Shape::Load(LoadOp::ZeroExtend(AccessWidth::Whole(ValType::I32)))),
+    Ok(Shape::Load(LoadOp::ZeroExtend(AccessWidth::Whole(ValType::I64)))),
+    Err(Fault::Float),
+    Err(Fault::Float),
+    Ok(Shape::Load(LoadOp::SignExtend(NarrowWidth::I32Bits8))),
+    Ok(Shape::Load(LoadOp::ZeroExtend(AccessWidth::Narrow(NarrowWidth::I32Bits8)))),
+    Ok(Shape::Load(LoadOp::SignExtend(NarrowWidth::I32Bits16))),
+    Ok(Shape::Load(LoadOp::ZeroExtend(AccessWidth::Narrow(NarrowWidth::I32Bits16)))),
+    Ok(Shape::Load(LoadOp::SignExtend(NarrowWidth::I64Bits8))),
+    Ok(Shape::Load(LoadOp::ZeroExtend(AccessWidth::Narrow(NarrowWidth::I64Bits8)))),
+    Ok(Shape::Load(LoadOp::SignExtend(NarrowWidth::I64Bits16))),
+    Ok(Shape::Load(LoadOp::ZeroExtend(AccessWidth::Narrow(NarrowWidth::I64Bits16)))),
+    Ok(Shape::Load(LoadOp::SignExtend(NarrowWidth::I64Bits32))),
+    Ok(Shape::Load(LoadOp::ZeroExtend(AccessWidth::Narrow(NarrowWidth::I64Bits32)))),
+    Ok(Shape::Store(AccessWidth::Whole(ValType::I32))),
+    Ok(Shape::Store(AccessWidth::Whole(ValType::I64))),
+    Err(Fault::Float),
+    Err(Fault::Float),
+    Ok(Shape::Store(AccessWidth::Narrow(NarrowWidth::I32Bits8))),
+    Ok(Shape::Store(AccessWidth::Narrow(NarrowWidth::I32Bits16))),
+    Ok(Shape::Store(AccessWidth::Narrow(NarrowWidth::I64Bits8))),
+    Ok(Shape::Store(AccessWidth::Narrow(NarrowWidth::I64Bits16))),
+    Ok(Shape::Store(AccessWidth::Narrow(NarrowWidth::I64Bits32))),
+    Ok(Shape::MemorySize),
+    Ok(Shape::MemoryGrow),
+    Ok(Shape::Const(ValType::I32)),
+    Ok(Shape::Const(ValType::I64)),
+    Err(Fault::Float),
+    Err(Fault::Float),
+    Ok(Shape::Numeric(NumericInstr::Test(ValType::I32))),
+    Ok(Shape::Numeric(NumericInstr::Compare(ValType::I32, CompareOp::Eq))),
+    Ok(Shape::Numeric(NumericInstr::Compare(ValType::I32, CompareOp::Ne))),
+    Ok(Shape::Numeric(NumericInstr::Compare(ValType::I32, CompareOp::LtS))),
+    Ok(Shape::Numeric(NumericInstr::Compare(ValType::I32, CompareOp::LtU))),
+    Ok(Shape::Numeric(NumericInstr::Compare(ValType::I32, CompareOp::GtS))),
+    Ok(Shape::Numeric(NumericInstr::Compare(ValType::I32, CompareOp::GtU))),
+    Ok(Shape::Numeric(NumericInstr::Compare(ValType::I32, CompareOp::LeS))),
+    Ok(Shape::Numeric(NumericInstr::Compare(ValType::I32, CompareOp::LeU))),
+    Ok(Shape::Numeric(NumericInstr::Compare(ValType::I32, CompareOp::GeS))),
+    Ok(Shape::Numeric(NumericInstr::Compare(ValType::I32, CompareOp::GeU))),
+    Ok(Shape::Numeric(NumericInstr::Test(ValType::I64))),
+    Ok(Shape::Numeric(NumericInstr::Compare(ValType::I64, CompareOp::Eq))),
+    Ok(Shape::Numeric(NumericInstr::Compare(ValType::I64, CompareOp::Ne))),
+    Ok(Shape::Numeric(NumericInstr::Compare(ValType::I64, CompareOp::LtS))),
+    Ok(Shape::Numeric(NumericInstr::Compare(ValType::I64, CompareOp::LtU))),
+    Ok(Shape::Numeric(NumericInstr::Compare(ValType::I64, CompareOp::GtS))),
+    Ok(Shape::Numeric(NumericInstr::Compare(ValType::I64, CompareOp::GtU))),
+    Ok(Shape::Numeric(NumericInstr::Compare(ValType::I64, CompareOp::LeS))),
+    Ok(Shape::Numeric(NumericInstr::Compare(ValType::I64, CompareOp::LeU))),
+    Ok(Shape::Numeric(NumericInstr::Compare(ValType::I64, CompareOp::GeS))),
+    Ok(Shape::Numeric(NumericInstr::Compare(ValType::I64, CompareOp::GeU))),
+    Err(Fault::Float),
+    Err(Fault::Float),
+    Err(Fault::Float),
+    Err(Fault::Float),
+    Err(Fault::Float),
+    Err(Fault::Float),
+    Err(Fault::Float),
+    Err(Fault::Float),
+    Err(Fault::Float),
+    Err(Fault::Float),
+    Err(Fault::Float),
+    Err(Fault::Float),
+    Ok(Shape::Numeric(NumericInstr::Unary(ValType::I32, UnaryOp::Clz))),
+    Ok(Shape::Numeric(NumericInstr::Unary(ValType::I32, UnaryOp::Ctz))),
+    Ok(Shape::Numeric(NumericInstr::Unary(ValType::I32, UnaryOp::Popcnt))),
+    Ok(Shape::Numeric(NumericInstr::Binary(ValType::I32, BinaryOp::Add))),
+    Ok(Shape::Numeric(NumericInstr::Binary(ValType::I32, BinaryOp::Sub))),
+    Ok(Shape::Numeric(NumericInstr::Binary(ValType::I32, BinaryOp::Mul))),
+    Ok(Shape::Numeric(NumericInstr::Binary(ValType::I32, BinaryOp::DivS))),
+    Ok(Shape::Numeric(NumericInstr::Binary(ValType::I32, BinaryOp::DivU))),
+    Ok(Shape::Numeric(NumericInstr::Binary(ValType::I32, BinaryOp::RemS))),
+    Ok(Shape::Numeric(NumericInstr::Binary(ValType::I32, BinaryOp::RemU))),
+    Ok(Shape::Numeric(NumericInstr::Binary(ValType::I32, BinaryOp::And))),
+    Ok(Shape::Numeric(NumericInstr::Binary(ValType::I32, BinaryOp::Or))),
+    Ok(Shape::Numeric(NumericInstr::Binary(ValType::I32, BinaryOp::Xor))),
+    Ok(Shape::Numeric(NumericInstr::Binary(ValType::I32, BinaryOp::Shl))),
+    Ok(Shape::Numeric(NumericInstr::Binary(ValType::I32, BinaryOp::ShrS))),
+    Ok(Shape::Numeric(NumericInstr::Binary(ValType::I32, BinaryOp::ShrU))),
+    Ok(Shape::Numeric(NumericInstr::Binary(ValType::I32, BinaryOp::Rotl))),
+    Ok(Shape::Numeric(NumericInstr::Binary(ValType::I32, BinaryOp::Rotr))),
+    Ok(Shape::Numeric(NumericInstr::Unary(ValType::I64, UnaryOp::Clz))),
+    Ok(Shape::Numeric(NumericInstr::Unary(ValType::I64, UnaryOp::Ctz))),
+    Ok(Shape::Numeric(NumericInstr::Unary(ValType::I64, UnaryOp::Popcnt))),
+    Ok(Shape::Numeric(NumericInstr::Binary(ValType::I64, BinaryOp::Add))),
+    Ok(Shape::Numeric(NumericInstr::Binary(ValType::I64, BinaryOp::Sub))),
+    Ok(Shape::Numeric(NumericInstr::Binary(ValType::I64, BinaryOp::Mul))),
+    Ok(Shape::Numeric(NumericInstr::Binary(ValType::I64, BinaryOp::DivS))),
+    Ok(Shape::Numeric(NumericInstr::Binary(ValType::I64, BinaryOp::DivU))),
+    Ok(Shape::Numeric(NumericInstr::Binary(ValType::I64, BinaryOp::RemS))),
+    Ok(Shape::Numeric(NumericInstr::Binary(ValType::I64, BinaryOp::RemU))),
+    Ok(Shape::Numeric(NumericInstr::Binary(ValType::I64, BinaryOp::And))),
+    Ok(Shape::Numeric(NumericInstr::Binary(ValType::I64, BinaryOp::Or))),
+    Ok(Shape::Numeric(NumericInstr::Binary(ValType::I64, BinaryOp::Xor))),
+    Ok(Shape::Numeric(NumericInstr::Binary(ValType::I64, BinaryOp::Shl))),
+    Ok(Shape::Numeric(NumericInstr::Binary(ValType::I64, BinaryOp::ShrS))),
+    Ok(Shape::Numeric(NumericInstr::Binary(ValType::I64, BinaryOp::ShrU))),
+    Ok(Shape::Numeric(NumericInstr::Binary(ValType::I64, BinaryOp::Rotl))),
+    Ok(Shape::Numeric(NumericInstr::Binary(ValType::I64, BinaryOp::Rotr))),
+    Err(Fault::Float),
+    Err(Fault::Float),
+    Err(Fault::Float),
+    Err(Fault::Float),
+    Err(Fault::Float),
+    Err(Fault::Float),
+    Err(Fault::Float),
+    Err(Fault::Float),
+    Err(Fault::Float),
+    Err(Fault::Float),
+    Err(Fault::Float),
+    Err(Fault::Float),
+    Err(Fault::Float),
+    Err(Fault::Float),
+    Err(Fault::Float),
+    Err(Fault::Float),
+    Err(Fault::Float),
+    Err(Fault::Float),
+    Err(Fault::Float),
+    Err(Fault::Float),
+    Err(Fault::Float),
+    Err(Fault::Float),
+    Err(Fault::Float),
+    Err(Fault::Float),
+    Err(Fault::Float),
+    Err(Fault::Float),
+    Err(Fault::Float),
+    Err(Fault::Float),
+    Ok(Shape::Numeric(NumericInstr::Convert(ConvertOp::WrapI64))),
+    Err(Fault::Float),
+    Err(Fault::Float),
+    Err(Fault::Float),
+    Err(Fault::Float),
+    Ok(Shape::Numeric(NumericInstr::Convert(ConvertOp::ExtendI32S))),
+    Ok(Shape::Numeric(NumericInstr::Convert(ConvertOp::ExtendI32U))),
+    Err(Fault::Float),
+    Err(Fault::Float),
+    Err(Fault::Float),
+    Err(Fault::Float),
+    Err(Fault::Float),
+    Err(Fault::Float),
+    Err(Fault::Float),
+    Err(Fault::Float),
+    Err(Fault::Float),
+    Err(Fault::Float),
+    Err(Fault::Float),
+    Err(Fault::Float),
+    Err(Fault::Float),
+    Err(Fault::Float),
+    Err(Fault::Float),
+    Err(Fault::Float),
+    Err(Fault::Float),
+    Err(Fault::Float),
+    Err(Fault::UnknownByte),
+    Err(Fault::UnknownByte),
+    Err(Fault::UnknownByte),
+    Err(Fault::UnknownByte),
+    Err(Fault::UnknownByte),
+    Err(Fault::UnknownByte),
+    Err(Fault::UnknownByte),
+    Err(Fault::UnknownByte),
+    Err(Fault::UnknownByte),
+    Err(Fault::UnknownByte),
+    Err(Fault::UnknownByte),
+    Err(Fault::UnknownByte),
+    Err(Fault::UnknownByte),
+    Err(Fault::UnknownByte),
+    Err(Fault::UnknownByte),
+    Err(Fault::UnknownByte),
+    Err(Fault::UnknownByte),
+    Err(Fault::UnknownByte),
+    Err(Fault::UnknownByte),
+    Err(Fault::UnknownByte),
+    Err(Fault::UnknownByte),
+    Err(Fault::UnknownByte),
+    Err(Fault::UnknownByte),
+    Err(Fault::UnknownByte),
+    Err(Fault::UnknownByte),
+    Err(Fault::UnknownByte),
+    Err(Fault::UnknownByte),
+    Err(Fault::UnknownByte),
+    Err(Fault::UnknownByte),
+    Err(Fault::UnknownByte),
+    Err(Fault::UnknownByte),
+    Err(Fault::UnknownByte),
+    Err(Fault::UnknownByte),
+    Err(Fault::UnknownByte),
+    Err(Fault::UnknownByte),
+    Err(Fault::UnknownByte),
+    Err(Fault::UnknownByte),
+    Err(Fault::UnknownByte),
+    Err(Fault::UnknownByte),
+    Err(Fault::UnknownByte),
+    Err(Fault::UnknownByte),
+    Err(Fault::UnknownByte),
+    Err(Fault::UnknownByte),
+    Err(Fault::UnknownByte),
+    Err(Fault::UnknownByte),
+    Err(Fault::UnknownByte),
+    Err(Fault::UnknownByte),
+    Err(Fault::UnknownByte),
+    Err(Fault::UnknownByte),
+    Err(Fault::UnknownByte),
+    Err(Fault::UnknownByte),
+    Err(Fault::UnknownByte),
+    Err(Fault::UnknownByte),
+    Err(Fault::UnknownByte),
+    Err(Fault::UnknownByte),
+    Err(Fault::UnknownByte),
+    Err(Fault::UnknownByte),
+    Err(Fault::UnknownByte),
+    Err(Fault::UnknownByte),
+    Err(Fault::UnknownByte),
+    Err(Fault::UnknownByte),
+    Err(Fault::UnknownByte),
+    Ok(Shape::Atomic),
+    Err(Fault::UnknownByte),
+];
+
+/// The instruction that each number behind the prefix begins.
+static ATOMICS: [Option<AtomicShape>; 79] = [
+    Some(AtomicShape::Access(AtomicOp::Notify)),
+    Some(AtomicShape::Access(AtomicOp::Wait(ValType::I32))),
+    Some(AtomicShape::Access(AtomicOp::Wait(ValType::I64))),
+    Some(AtomicShape::Fence),
+    None,
+    None,
+    None,
+    None,
+    None,
+    None,
+    None,
+    None,
+    None,
+    None,
+    None,
+    None,
+    Some(AtomicShape::Access(AtomicOp::Load(AccessWidth::Whole(ValType::I32)))),
+    Some(AtomicShape::Access(AtomicOp::Load(AccessWidth::Whole(ValType::I64)))),
+    Some(AtomicShape::Access(AtomicOp::Load(AccessWidth::Narrow(NarrowWidth::I32Bits8)))),
+    Some(AtomicShape::Access(AtomicOp::Load(AccessWidth::Narrow(NarrowWidth::I32Bits16)))),
+    Some(AtomicShape::Access(AtomicOp::Load(AccessWidth::Narrow(NarrowWidth::I64Bits8)))),
+    Some(AtomicShape::Access(AtomicOp::Load(AccessWidth::Narrow(NarrowWidth::I64Bits16)))),
+    Some(AtomicShape::Access(AtomicOp::Load(AccessWidth::Narrow(NarrowWidth::I64Bits32)))),
+    Some(AtomicShape::Access(AtomicOp::Store(AccessWidth::Whole(ValType::I32)))),
+    Some(AtomicShape::Access(AtomicOp::Store(AccessWidth::Whole(ValType::I64)))),
+    Some(AtomicShape::Access(AtomicOp::Store(AccessWidth::Narrow(NarrowWidth::I32Bits8)))),
+    Some(AtomicShape::Access(AtomicOp::Store(AccessWidth::Narrow(NarrowWidth::I32Bits16)))),
+    Some(AtomicShape::Access(AtomicOp::Store(AccessWidth::Narrow(NarrowWidth::I64Bits8)))),
+    Some(AtomicShape::Access(AtomicOp::Store(AccessWidth::Narrow(NarrowWidth::I64Bits16)))),
+    Some(AtomicShape::Access(AtomicOp::Store(AccessWidth::Narrow(NarrowWidth::I64Bits32)))),
+    Some(AtomicShape::Access(AtomicOp::Rmw(RmwOp::Add, AccessWidth::Whole(ValType::I32)))),
+    Some(AtomicShape::Access(AtomicOp::Rmw(RmwOp::Add, AccessWidth::Whole(ValType::I64)))),
+    Some(AtomicShape::Access(AtomicOp::Rmw(
+        RmwOp::Add,
+        AccessWidth::Narrow(NarrowWidth::I32Bits8),
+    ))),
+    Some(AtomicShape::Access(AtomicOp::Rmw(
+        RmwOp::Add,
+        AccessWidth::Narrow(NarrowWidth::I32Bits16),
+    ))),
+    Some(AtomicShape::Access(AtomicOp::Rmw(
+        RmwOp::Add,
+        AccessWidth::Narrow(NarrowWidth::I64Bits8),
+    ))),
+    Some(AtomicShape::Access(AtomicOp::Rmw(
+        RmwOp::Add,
+        AccessWidth::Narrow(NarrowWidth::I64Bits16),
+    ))),
+    Some(AtomicShape::Access(AtomicOp::Rmw(
+        RmwOp::Add,
+        AccessWidth::Narrow(NarrowWidth::I64Bits32),
+    ))),
+    Some(AtomicShape::Access(AtomicOp::Rmw(RmwOp::Sub, AccessWidth::Whole(ValType::I32)))),
+    Some(AtomicShape::Access(AtomicOp::Rmw(RmwOp::Sub, AccessWidth::Whole(ValType::I64)))),
+    Some(AtomicShape::Access(AtomicOp::Rmw(
+        RmwOp::Sub,
+        AccessWidth::Narrow(NarrowWidth::I32Bits8),
+    ))),
+    Some(AtomicShape::Access(AtomicOp::Rmw(
+        RmwOp::Sub,
+        AccessWidth::Narrow(NarrowWidth::I32Bits16),
+    ))),
+    Some(AtomicShape::Access(AtomicOp::Rmw(
+        RmwOp::Sub,
+        AccessWidth::Narrow(NarrowWidth::I64Bits8),
+    ))),
+    Some(AtomicShape::Access(AtomicOp::Rmw(
+        RmwOp::Sub,
+        AccessWidth::Narrow(NarrowWidth::I64Bits16),
+    ))),
+    Some(AtomicShape::Access(AtomicOp::Rmw(
+        RmwOp::Sub,
+        AccessWidth::Narrow(NarrowWidth::I64Bits32),
+    ))),
+    Some(AtomicShape::Access(AtomicOp::Rmw(RmwOp::And, AccessWidth::Whole(ValType::I32)))),
+    Some(AtomicShape::Access(AtomicOp::Rmw(RmwOp::And, AccessWidth::Whole(ValType::I64)))),
+    Some(AtomicShape::Access(AtomicOp::Rmw(
+        RmwOp::And,
+        AccessWidth::Narrow(NarrowWidth::I32Bits8),
+    ))),
+    Some(AtomicShape::Access(AtomicOp::Rmw(
+        RmwOp::And,
+        AccessWidth::Narrow(NarrowWidth::I32Bits16),
+    ))),
+    Some(AtomicShape::Access(AtomicOp::Rmw(
+        RmwOp::And,
+        AccessWidth::Narrow(NarrowWidth::I64Bits8),
+    ))),
+    Some(AtomicShape::Access(AtomicOp::Rmw(
+        RmwOp::And,
+        AccessWidth::Narrow(NarrowWidth::I64Bits16),
+    ))),
+    Some(AtomicShape::Access(AtomicOp::Rmw(
+        RmwOp::And,
+        AccessWidth::Narrow(NarrowWidth::I64Bits32),
+    ))),
+    Some(AtomicShape::Access(AtomicOp::Rmw(RmwOp::Or, AccessWidth::Whole(ValType::I32)))),
+    Some(AtomicShape::Access(AtomicOp::Rmw(RmwOp::Or, AccessWidth::Whole(ValType::I64)))),
+    Some(AtomicShape::Access(AtomicOp::Rmw(RmwOp::Or, AccessWidth::Narrow(NarrowWidth::I32Bits8)))),
+    Some(AtomicShape::Access(AtomicOp::Rmw(
+        RmwOp::Or,
+        AccessWidth::Narrow(NarrowWidth::I32Bits16),
+    ))),
+    Some(AtomicShape::Access(AtomicOp::Rmw(RmwOp::Or, AccessWidth::Narrow(NarrowWidth::I64Bits8)))),
+    Some(AtomicShape::Access(AtomicOp::Rmw(
+        RmwOp::Or,
+        AccessWidth::Narrow(NarrowWidth::I64Bits16),
+    ))),
+    Some(AtomicShape::Access(AtomicOp::Rmw(
+        RmwOp::Or,
+        AccessWidth::Narrow(NarrowWidth::I64Bits32),
+    ))),
+    Some(AtomicShape::Access(AtomicOp::Rmw(RmwOp::Xor, AccessWidth::Whole(ValType::I32)))),
+    Some(AtomicShape::Access(AtomicOp::Rmw(RmwOp::Xor, AccessWidth::Whole(ValType::I64)))),
+    Some(AtomicShape::Access(AtomicOp::Rmw(
+        RmwOp::Xor,
+        AccessWidth::Narrow(NarrowWidth::I32Bits8),
+    ))),
+    Some(AtomicShape::Access(AtomicOp::Rmw(
+        RmwOp::Xor,
+        AccessWidth::Narrow(NarrowWidth::I32Bits16),
+    ))),
+    Some(AtomicShape::Access(AtomicOp::Rmw(
+        RmwOp::Xor,
+        AccessWidth::Narrow(NarrowWidth::I64Bits8),
+    ))),
+    Some(AtomicShape::Access(AtomicOp::Rmw(
+        RmwOp::Xor,
+        AccessWidth::Narrow(NarrowWidth::I64Bits16),
+    ))),
+    Some(AtomicShape::Access(AtomicOp::Rmw(
+        RmwOp::Xor,
+        AccessWidth::Narrow(NarrowWidth::I64Bits32),
+    ))),
+    Some(AtomicShape::Access(AtomicOp::Rmw(RmwOp::Xchg, AccessWidth::Whole(ValType::I32)))),
+    Some(AtomicShape::Access(AtomicOp::Rmw(RmwOp::Xchg, AccessWidth::Whole(ValType::I64)))),
+    Some(AtomicShape::Access(AtomicOp::Rmw(
+        RmwOp::Xchg,
+        AccessWidth::Narrow(NarrowWidth::I32Bits8),
+    ))),
+    Some(AtomicShape::Access(AtomicOp::Rmw(
+        RmwOp::Xchg,
+        AccessWidth::Narrow(NarrowWidth::I32Bits16),
+    ))),
+    Some(AtomicShape::Access(AtomicOp::Rmw(
+        RmwOp::Xchg,
+        AccessWidth::Narrow(NarrowWidth::I64Bits8),
+    ))),
+    Some(AtomicShape::Access(AtomicOp::Rmw(
+        RmwOp::Xchg,
+        AccessWidth::Narrow(NarrowWidth::I64Bits16),
+    ))),
+    Some(AtomicShape::Access(AtomicOp::Rmw(
+        RmwOp::Xchg,
+        AccessWidth::Narrow(NarrowWidth::I64Bits32),
+    ))),
+    Some(AtomicShape::Access(AtomicOp::Cmpxchg(AccessWidth::Whole(ValType::I32)))),
+    Some(AtomicShape::Access(AtomicOp::Cmpxchg(AccessWidth::Whole(ValType::I64)))),
+    Some(AtomicShape::Access(AtomicOp::Cmpxchg(AccessWidth::Narrow(NarrowWidth::I32Bits8)))),
+    Some(AtomicShape::Access(AtomicOp::Cmpxchg(AccessWidth::Narrow(NarrowWidth::I32Bits16)))),
+    Some(AtomicShape::Access(AtomicOp::Cmpxchg(AccessWidth::Narrow(NarrowWidth::I64Bits8)))),
+    Some(AtomicShape::Access(AtomicOp::Cmpxchg(AccessWidth::Narrow(NarrowWidth::I64Bits16)))),
+    Some(AtomicShape::Access(AtomicOp::Cmpxchg(AccessWidth::Narrow(NarrowWidth::I64Bits32)))),
+];

@@ -1,0 +1,197 @@
+//! What is left of the input, and what stands at its front.
+
+ghost use Rattle.std.specs.Prelude.{◌≡◌, ◌+◌, ◌-◌, ◌≤◌, length, IfOk, IfErr, Option, true};
+ghost use Rattle.std.specs.Str.{is_utf8};
+ghost use Rattle.binary_wire.specs.Reading.{Gives, Refuses, byte_at, slice_at, block_at, name_at, end_at, front_is, front};
+ghost use Rattle.binary_wire.specs.Faults.{IsMissing, IsMissingOr};
+ghost use Rattle.binary_wire.specs.declared.fault.Fault.TheVariants as kinds;
+ghost use Rattle.binary_wire.specs.declared.fault.ReadFault.TheVariants.{Malformed};
+
+use crate::bounds::Bounds;
+use crate::fault::{Fault, ReadFault};
+
+/// What is left to read: of the whole input, or of contents of stated size.
+#[derive(Drop)]
+pub struct Reader<'a> {
+    rest: &'a [u8],
+    bounds: Bounds,
+    ghost within: { length rest.now ≤ bounds.end },
+}
+
+impl<'a> Reader<'a> {
+    /// A reader of the whole input.
+    pub fn new(bytes: &'a [u8]) -> Reader<'a>
+        ensures rest { result.rest.now ≡ bytes.now }
+        ensures bounds { result.bounds ≡ record { end = length bytes.now; missing = kinds.EndOfInput } }
+    {
+        Reader {
+            rest: bytes,
+            bounds: Bounds {
+                end: bytes.len(),
+                missing: Fault::EndOfInput,
+            },
+        }
+    }
+
+    /// How many bytes are left.
+    pub fn len(&self) -> usize
+        ensures { result ≡ length self.now.rest.now }
+    {
+        self.rest.len()
+    }
+
+    /// The offset in the input of the next byte.
+    pub fn offset(&self) -> usize
+        ensures { result ≡ self.now.bounds.end - length self.now.rest.now }
+    {
+        self.bounds.end - self.rest.len()
+    }
+
+    /// A fault at the next byte.
+    pub fn fault(&self, kind: Fault) -> ReadFault
+        ensures refuses { Refuses result }
+        ensures exact { result ≡ Malformed kind (self.now.bounds.end - length self.now.rest.now) }
+    {
+        ReadFault::Malformed {
+            kind,
+            offset: self.offset(),
+        }
+    }
+
+    /// The fault that more bytes are needed than there are.
+    pub fn missing(&self) -> ReadFault
+        ensures refuses { Refuses result }
+        ensures exact { IsMissing self.now.bounds result }
+    {
+        ReadFault::Malformed {
+            kind: self.bounds.missing,
+            offset: self.bounds.end,
+        }
+    }
+
+    /// The next byte, which stays.
+    pub fn peek(&self) -> Option<u8>
+        ensures { result ≡ front self.now.rest.now }
+    {
+        match self.rest {
+            [] => None,
+            [b, ..] => Some(*b),
+        }
+    }
+
+    /// Whether a byte is the next one.
+    pub fn front_is(&self, byte: u8) -> bool
+        ensures { result ≡ front_is byte self.now.rest.now }
+    {
+        match self.rest {
+            [] => false,
+            [b, ..] => *b == byte,
+        }
+    }
+
+    /// The next byte.
+    pub fn read_byte(&mut self) -> Result<u8, ReadFault>
+        ensures gives { Gives (λ b. (b, self.new.rest.now)) result (byte_at self.old.rest.now) }
+        ensures keeps { self.new.bounds ≡ self.old.bounds }
+        ensures faults { IfErr result (IsMissing self.old.bounds) }
+    {
+        match self.rest {
+            [] => Err(self.missing()),
+            [b, rest @ ..] => {
+                self.rest = rest;
+                Ok(*b)
+            }
+        }
+    }
+
+    /// The next bytes, so many.
+    pub fn read_slice(&mut self, len: usize) -> Result<&'a [u8], ReadFault>
+        ensures gives { Gives (λ s. (s.now, self.new.rest.now)) result (slice_at len self.old.rest.now) }
+        ensures keeps { self.new.bounds ≡ self.old.bounds }
+        ensures faults { IfErr result (IsMissing self.old.bounds) }
+    {
+        if self.rest.len() < len {
+            return Err(self.missing());
+        }
+        let (front, rest) = self.rest.split_at(len);
+        self.rest = rest;
+        Ok(front)
+    }
+
+    /// A reader of the next bytes, so many, as contents of stated size.
+    pub fn read_part(&mut self, len: usize) -> Result<Reader<'a>, ReadFault>
+        ensures gives { Gives (λ r. (r.rest.now, self.new.rest.now)) result (slice_at len self.old.rest.now) }
+        ensures keeps { self.new.bounds ≡ self.old.bounds }
+        ensures faults { IfErr result (IsMissing self.old.bounds) }
+        ensures bounds { IfOk result (λ r. r.bounds ≡ record {
+          end = self.new.bounds.end - length self.new.rest.now;
+          missing = kinds.Size;
+        }) }
+    {
+        let contents = self.read_slice(len)?;
+        Ok(Reader {
+            rest: contents,
+            bounds: Bounds {
+                end: self.offset(),
+                missing: Fault::Size,
+            },
+        })
+    }
+
+    /// That nothing is left of contents of stated size.
+    pub fn finish(&self) -> Result<(), ReadFault>
+        ensures gives { Gives (λ _. true) result (end_at self.now.rest.now) }
+        ensures faults { IfErr result (λ e. e ≡ Malformed kinds.Size (self.now.bounds.end - length self.now.rest.now)) }
+    {
+        match self.rest {
+            [] => Ok(()),
+            [_, ..] => Err(self.fault(Fault::Size)),
+        }
+    }
+
+    /// A size, and a reader of so many bytes.
+    #[tactic(auto, unfolding(crate::specs::Reading::block_at))]
+    pub fn read_block(&mut self) -> Result<Reader<'a>, ReadFault>
+        ensures gives { Gives (λ r. (r.rest.now, self.new.rest.now)) result (block_at self.old.rest.now) }
+        ensures keeps { self.new.bounds ≡ self.old.bounds }
+        ensures faults { IfErr result (IsMissingOr self.old.bounds
+            (Malformed kinds.Number (self.old.bounds.end - length self.old.rest.now))) }
+        ensures bounds { IfOk result (λ r. r.bounds ≡ record {
+          end = self.new.bounds.end - length self.new.rest.now;
+          missing = kinds.Size;
+        }) }
+    {
+        let size = self.read_u32()?;
+        self.read_part(size as usize)
+    }
+
+    /// A size, and so many bytes.
+    #[tactic(auto, unfolding(crate::specs::Reading::block_at))]
+    pub fn read_bytes(&mut self) -> Result<&'a [u8], ReadFault>
+        ensures gives { Gives (λ s. (s.now, self.new.rest.now)) result (block_at self.old.rest.now) }
+        ensures keeps { self.new.bounds ≡ self.old.bounds }
+        ensures faults { IfErr result (IsMissingOr self.old.bounds
+            (Malformed kinds.Number (self.old.bounds.end - length self.old.rest.now))) }
+    {
+        let len = self.read_u32()?;
+        self.read_slice(len as usize)
+    }
+
+    /// A name (Core specification 1.0, section 5.2.4).
+    #[tactic(auto, unfolding(crate::specs::Reading::name_at, crate::specs::Reading::block_at))]
+    pub fn read_name(&mut self) -> Result<&'a str, ReadFault>
+        ensures gives { Gives (λ s. (s.now, self.new.rest.now)) result (name_at self.old.rest.now) }
+        ensures keeps { self.new.bounds ≡ self.old.bounds }
+    {
+        let size = self.read_u32()?;
+        let offset = self.offset();
+        let bytes = self.read_slice(size as usize)?;
+        match std::str::from_utf8(bytes) {
+            Ok(text) => Ok(text),
+            Err(_) => Err(ReadFault::Malformed {
+                kind: Fault::Name,
+                offset,
+            }),
+        }
+    }
+}

@@ -1,0 +1,64 @@
+//! Vectors: a count, and so many items (Core specification 1.0, section 5.1.3).
+
+ghost use Rattle.std.specs.Prelude.{◌≡◌, ℕ, List, Option};
+ghost use Rattle.binary_wire.specs.Reading.{Gives, vector_at, items_at, u32_at};
+
+use crate::fault::ReadFault;
+use crate::reader::Reader;
+use std::alloc::Global;
+use types::Sequence;
+
+/// A kind of item that a vector may hold: a type without values, which says how one item is read. So a crate above may
+/// say it of types of the crate `types`.
+pub trait Item {
+    type Value: Drop;
+
+    /// The item at the front of the bytes, and the bytes behind it.
+    ghost at: { List ℕ → Option (Self.Value × List ℕ) };
+
+    /// Reads one item.
+    fn read(reader: &mut Reader, alloc: Global) -> Result<Self::Value, ReadFault>
+        ensures { Gives (λ x. (x, reader.new.rest.now)) result (at reader.old.rest.now) };
+}
+
+/// An index: an unsigned number of 32 bits (Core specification 1.0, section 5.5.1).
+pub struct IndexItem;
+
+impl Item for IndexItem {
+    type Value = u32;
+
+    ghost at = { u32_at };
+
+    fn read(reader: &mut Reader, _alloc: Global) -> Result<u32, ReadFault> {
+        reader.read_u32()
+    }
+}
+
+/// So many items, one after the other. Memory is taken as they come, whatever their number is said to be.
+pub fn read_items<T: Item>(
+    reader: &mut Reader,
+    alloc: Global,
+    count: u32,
+) -> Result<Sequence<T::Value>, ReadFault>
+    ensures { Gives (λ v. (v, reader.new.rest.now)) result (items_at T.at count reader.old.rest.now) }
+{
+    let mut items = Vec::new(alloc);
+    for _ in 0..count {
+        let item = T::read(reader, alloc)?;
+        items.push(item)?;
+    }
+    Ok(Sequence::from_vec(items))
+}
+
+/// A count within a limit, and so many items.
+#[tactic(auto, unfolding(crate::specs::Reading::vector_at))]
+pub fn read_vector<T: Item>(
+    reader: &mut Reader,
+    alloc: Global,
+    limit: u32,
+) -> Result<Sequence<T::Value>, ReadFault>
+    ensures { Gives (λ v. (v, reader.new.rest.now)) result (vector_at limit T.at reader.old.rest.now) }
+{
+    let count = reader.read_u32_within(limit)?;
+    read_items::<T>(reader, alloc, count)
+}

@@ -1,6 +1,0 @@
-use Rattle.std.proofs.lemmas.Result.{on_ok_weaker}
-use Rattle.bodies.proofs.Moves.{moved}
-use Rattle.bodies.proofs.operands.replace.Goals as goal
-
-pub returns : goal.returns
-returns c = on_ok_weaker _ (moved _ _ _ _ _ c.in_ok-take_all.ensures) c.put_result.ensures

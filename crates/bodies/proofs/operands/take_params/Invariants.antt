@@ -1,8 +1,0 @@
-use Rattle.std.proofs.Common.{map}
-use denote.Ref.{Bor}
-use Rattle.types.specs.declared.value.ValType.{ValType}
-use Rattle.bodies.specs.Blocks.{Takes}
-use Rattle.bodies.proofs.operands.take_params.Given as goal
-
-abbrev pub invariant-loop-val_type : goal.invariant-loop-val_type
-invariant-loop-val_type l = Takes (map (λ (t : Bor ValType). t.now) l.yielded) l.initial.block l.block

@@ -1,7 +1,0 @@
-use Rattle.std.proofs.Common.{refl}
-use Rattle.types.specs.declared.instr.PlainInstr.TheVariants as plain
-use Rattle.bodies.proofs.Fitting.{checked_nothing}
-use Rattle.bodies.proofs.parametric.check_nop.Goals as goal
-
-pub returns : goal.returns
-returns c = checked_nothing plain.Nop c.args.block.now (λ con labels ts. (ts, refl, refl)) (λ live. refl) refl

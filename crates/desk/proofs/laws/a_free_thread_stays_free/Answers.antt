@@ -1,5 +1,0 @@
-use Rattle.desk.proofs.Surviving.{free_accessed}
-use Rattle.desk.proofs.laws.a_free_thread_stays_free.Goals as goal
-
-pub returns : goal.returns
-returns c loses opening limit n right event reply before after isnt did free = free_accessed loses opening limit n right event before after isnt free reply did

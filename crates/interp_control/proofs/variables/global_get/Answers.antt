@@ -1,0 +1,21 @@
+use Rattle.std.proofs.Common.{rules, ◌≡◌, ◌≢◌, ◌<◌, length, refl}
+use Rattle.std.proofs.lemmas.Option.{slice_get_within}
+use Rattle.types.specs.Limits.{most_values}
+use Rattle.interp_control.proofs.Slots.{global_get_ready, global_get_full, global_gets}
+use Rattle.interp_control.proofs.variables.global_get.Goals as goal
+
+pub overflow_add-state : goal.overflow_add-state
+overflow_add-state c =
+    let h : c.args.state.now.pc < length c.args.state.now.code.now = slice_get_within _ _ _ c.requires.here in search rules
+
+pub index-value-requires : goal.index-value-requires
+index-value-requires c = let h = global_get_ready c.args.state.now c.args.index c.requires in search rules
+
+pub returns-then-len-eq-MOST_VALUES : goal.returns-then-len-eq-MOST_VALUES
+returns-then-len-eq-MOST_VALUES c = let e : length c.args.state.now.values.items ≡ most_values = search rules in
+    λ w k v st. global_get_full w c.args.state.now _ k c.args.index st c.requires e
+
+pub returns : goal.returns
+returns c = let e : length c.args.state.now.values.items ≢ most_values = search rules in
+    λ w k v st. global_gets w c.args.state.now _ k c.args.index c.index-value.result.now st c.requires
+    c.index-value.ensures c.push.ensures.value e refl refl refl refl

@@ -1,0 +1,17 @@
+use Rattle.std.proofs.Common.{rules, ◌<◌, length, refl}
+use Rattle.std.proofs.lemmas.Option.{slice_get_within}
+use Rattle.interp_control.proofs.Slots.{global_set_ready, global_sets}
+use Rattle.interp_control.proofs.variables.global_set.Goals as goal
+
+pub overflow_add-state : goal.overflow_add-state
+overflow_add-state c =
+    let h : c.args.state.now.pc < length c.args.state.now.code.now = slice_get_within _ _ _ c.requires.here in search rules
+
+pub pop-value-requires : goal.pop-value-requires
+pop-value-requires c = (global_set_ready c.args.state.now c.args.index c.requires).0
+
+pub index_mut-requires : goal.index_mut-requires
+index_mut-requires c = let h = (global_set_ready c.args.state.now c.args.index c.requires).1 in search rules
+
+pub returns : goal.returns
+returns c = λ w k v st. global_sets w c.args.state.now _ k c.args.index c.pop-value.result st c.requires c.pop-value.ensures.value refl refl refl refl

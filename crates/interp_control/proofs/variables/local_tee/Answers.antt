@@ -1,0 +1,19 @@
+use Rattle.std.proofs.Common.{rules, ◌<◌, length, refl}
+use Rattle.std.proofs.lemmas.Option.{slice_get_within}
+use Rattle.interp_control.proofs.Slots.{local_tee_ready, local_tee_place, local_tees}
+use Rattle.interp_control.proofs.variables.local_tee.Goals as goal
+
+pub overflow_add-state : goal.overflow_add-state
+overflow_add-state c =
+    let h : c.args.state.now.pc < length c.args.state.now.code.now = slice_get_within _ _ _ c.requires.here in search rules
+
+pub pop-value-requires : goal.pop-value-requires
+pop-value-requires c = local_tee_ready c.args.state.now c.args.index c.requires
+
+pub index_mut-requires : goal.index_mut-requires
+index_mut-requires c = let h = local_tee_place c.args.state.now c.args.index c.pop-value.result
+    c.pop-value.new.values.items c.requires c.pop-value.ensures.value in search rules
+
+pub returns : goal.returns
+returns c = λ w k v st. local_tees w c.args.state.now _ k c.args.index c.pop-value.result c.pop-value.new.values.items
+    _ st c.requires c.pop-value.ensures.value refl c.push.ensures.value refl refl refl refl

@@ -1,0 +1,16 @@
+use Rattle.std.proofs.Common.{sym, arith}
+use Rattle.std.specs.Int.{w64}
+use Rattle.interp_numeric.proofs.wide.remainder_signed.Goals as goal
+use Rattle.interp_numeric.proofs.Division.{irem_s-zero, remainder_given, remainder_refused}
+
+pub returns-then-right-eq0 : goal.returns-then-right-eq0
+returns-then-right-eq0 c = sym (irem_s-zero 64 _ _ c.if-right-eq0.true)
+
+pub returns-in-Some : goal.returns-in-Some
+returns-in-Some c = remainder_given w64 _ _ _ _ _ _ (omega arith)
+    (omega arith) c.if-right-eq0.false c.cast_signed.ensures c.cast_signed-2.ensures c.in-Some.ensures
+    c.cast_unsigned.ensures
+
+pub returns-in-None : goal.returns-in-None
+returns-in-None c = remainder_refused w64 _ _ _ _ (omega arith)
+    (omega arith) c.if-right-eq0.false c.cast_signed.ensures c.cast_signed-2.ensures c.in-None.ensures

@@ -1,0 +1,11 @@
+//! The state of a thread over flat code with its table of branches, and which configuration of the thread machine it
+//! stands for.
+#![tactic(auto)]
+
+mod functions;
+mod stack;
+mod state;
+
+pub use functions::{code_of, table_of};
+pub use stack::{pop, pop_i32, pop_i64, push, push_zeros};
+pub use state::{Caller, Program, Progress, State, Step};

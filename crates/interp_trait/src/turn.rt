@@ -1,0 +1,53 @@
+//! A thread, turn by turn.
+
+ghost use Rattle.interp_trait.specs.Turns.{Meaning, BeginsAlike, HasSpent, MayBeGiven, MayBeginWith, StartsWith, StaysAs, MakesTurn};
+
+use types::{Answer, Event, Outcome, Reply, Value};
+
+/// What a turn is given.
+#[derive(Clone, Copy, PartialEq, Eq, Debug)]
+pub enum Given {
+    /// Nothing: the thread makes a turn of its own, or says what it wants.
+    Nothing,
+    /// The reply to the event that it wants.
+    Reply(Reply),
+    /// The answer to its open question.
+    Told(Answer),
+}
+
+/// What a turn came to.
+#[derive(Clone, Copy, PartialEq, Eq, Debug)]
+pub enum Turn {
+    /// The thread goes on.
+    Moved,
+    /// It wants an event, whose reply the next turn brings.
+    Wants(Event),
+    /// It asked a question, whose answer the next turn brings.
+    Awaits,
+    /// It has ended.
+    Ended(Outcome),
+}
+
+/// A thread with a budget of units, which makes its turns one by one (Core specification 1.0, chapter 4, and the threads
+/// proposal; the costs are this project's own).
+pub trait TakesTurns {
+    /// What it means: its program and its budget, which thread of the machine it stands for, and how it begins.
+    ghost meaning: { Self → Meaning };
+
+    /// Makes a turn. A reply is given where an event is wanted, and an answer where one is awaited.
+    fn turn(&mut self, given: Given) -> Turn
+        requires given { MayBeGiven (meaning self.old) given }
+        ensures stays { StaysAs (meaning self.old) (meaning self.new) }
+        ensures turned { MakesTurn (meaning self.old) given result (meaning self.new) };
+
+    /// Replaces the arguments before the first turn.
+    fn set_args(&mut self, args: &[Value])
+        requires begins { MayBeginWith (meaning self.old) args.now }
+        ensures stays { StaysAs (meaning self.old) (meaning self.new) }
+        ensures begins { BeginsAlike (meaning self.old) (meaning self.new) }
+        ensures stands { StartsWith (meaning self.old) args.now (meaning self.new) };
+
+    /// How many units it has spent so far.
+    fn spent(&self) -> u64
+        ensures { HasSpent (meaning self.now) result };
+}

@@ -1,5 +1,0 @@
-use Rattle.shared_memory.proofs.Prefixes.{IsLegal-prefix}
-use Rattle.laws.proofs.a_prefix_of_a_legal_history_is_legal.Goals as goal
-
-pub returns : goal.returns
-returns c = IsLegal-prefix

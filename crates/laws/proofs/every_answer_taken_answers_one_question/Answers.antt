@@ -1,5 +1,0 @@
-use Rattle.laws.proofs.Alternating.{exchanges_alternate}
-use Rattle.laws.proofs.every_answer_taken_answers_one_question.Goals as goal
-
-pub returns : goal.returns
-returns c = exchanges_alternate

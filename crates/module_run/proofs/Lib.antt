@@ -1,3 +1,0 @@
-pub mod Imported
-pub mod Calling
-pub mod Together

@@ -1,4 +1,0 @@
-pub mod Entries
-pub mod Faults
-pub mod Threads
-pub mod Runs

@@ -1,9 +1,0 @@
-//! The run of a module: each of its threads is a real one, over one shared memory, and what they did together is one run.
-#![tactic(auto)]
-
-mod fit;
-mod running;
-mod threads;
-
-pub use running::run;
-pub use threads::{first_thread, spawnable_threads};

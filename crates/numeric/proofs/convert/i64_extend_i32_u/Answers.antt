@@ -1,7 +1,0 @@
-use Rattle.std.proofs.Common.{rules}
-use Rattle.numeric.specs.Integers.{extend_u}
-use Rattle.numeric.proofs.convert.i64_extend_i32_u.Goals as goal
-
-pub returns : goal.returns
-unfolding extend_u
-returns c = search rules

@@ -1,5 +1,0 @@
-use Rattle.numeric.proofs.Typed.{below_stays}
-use Rattle.numeric.proofs.laws.below_stays.Goals as goal
-
-pub returns : goal.returns
-returns c = below_stays

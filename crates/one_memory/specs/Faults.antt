@@ -1,9 +1,0 @@
--- The numbers of the faults of opening.
-use Rattle.std.specs.Prelude.{ℕ}
-use Rattle.one_memory.specs.declared.fault.OpenFault.{OpenFault}
-use Rattle.one_memory.specs.declared.fault.OpenFault.TheVariants.{NoMemory, PastLimit}
-
--- A fault's number.
-abbrev pub fault_number : OpenFault → ℕ
-fault_number NoMemory = 1
-fault_number PastLimit = 2

@@ -1,4 +1,0 @@
-pub mod Runs
-pub mod Theorem
-pub mod Example
-pub mod Beginnings

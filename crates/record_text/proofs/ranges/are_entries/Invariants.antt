@@ -1,7 +1,0 @@
-use Rattle.std.proofs.Common.{take}
-use Rattle.std.specs.List.{All}
-use Rattle.record_text.specs.Conditions.{IsEntry}
-use Rattle.record_text.proofs.ranges.are_entries.Given as goal
-
-abbrev pub invariant-loop-entry : goal.invariant-loop-entry
-invariant-loop-entry l = All IsEntry (take l.entry-index l.log)

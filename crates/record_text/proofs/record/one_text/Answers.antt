@@ -1,5 +1,0 @@
-use Rattle.record_text.proofs.Whole.{one_record}
-use Rattle.record_text.proofs.record.one_text.Goals as goal
-
-pub returns : goal.returns
-returns c = one_record

@@ -1,4 +1,0 @@
-pub mod Free
-pub mod Recording
-pub mod Replies
-pub mod Ranges

@@ -1,3 +1,0 @@
-pub mod Beginning
-pub mod Lines
-pub mod Schedules

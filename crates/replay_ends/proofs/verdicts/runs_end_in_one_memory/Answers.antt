@@ -1,5 +1,0 @@
-use Rattle.replay_ends.proofs.Schedules.{runs_end_in_one_memory}
-use Rattle.replay_ends.proofs.verdicts.runs_end_in_one_memory.Goals as goal
-
-pub returns : goal.returns
-returns c = runs_end_in_one_memory

@@ -1,5 +1,0 @@
-use Rattle.replay_ends.proofs.Schedules.{wrong_ends_are_of_no_run}
-use Rattle.replay_ends.proofs.verdicts.wrong_ends_are_of_no_run.Goals as goal
-
-pub returns : goal.returns
-returns c = wrong_ends_are_of_no_run

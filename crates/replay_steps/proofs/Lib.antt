@@ -1,9 +1,0 @@
-pub mod Turning
-pub mod Places
-pub mod Living
-pub mod Told
-pub mod Events
-pub mod Made
-pub mod Spawned
-pub mod Asked
-pub mod Leaving

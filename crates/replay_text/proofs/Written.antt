@@ -1,0 +1,103 @@
+-- Lines written piece by piece.
+use Rattle.std.proofs.Common.{◌≡◌, ℕ, ◌+◌, List, [], ◌∷◌, ◌++◌, Option, refl, sym, ap, subst, ◌∙◌, append_assoc, map}
+use Rattle.std.specs.Prelude.{codes}
+use Rattle.std.specs.Fmt.{decimal}
+use Rattle.std.specs.Io.KnownBytes.{Appends}
+use Rattle.types.specs.declared.event.Entry.{Entry}
+use Rattle.types.specs.declared.outcome.ThreadReport.{ThreadReport}
+use Rattle.types.specs.declared.value.Value.{Value}
+use Rattle.types.specs.Values.{value_text}
+use Rattle.replay_forms.specs.Texts.{line, words_line, spaced, lines_text, pieces}
+use Rattle.replay_forms.proofs.Lines.{words_line_spaced}
+use Rattle.replay_forms.proofs.Written.{appends_then, line_front}
+use Rattle.replay_text.specs.Text.{name_word, header_lines, end_lines, record_text}
+use Rattle.replay_text.specs.declared.parts.RecordParts.{RecordParts}
+use Rattle.replay_text.specs.Words.{event_words, reply_word, entry_words, outcome_words, end_words}
+
+spaced_front : (words : List (List ℕ)) (rest : List ℕ) → spaced words [] ++ rest ≡ spaced words rest
+spaced_front [] rest = refl
+spaced_front (w ∷ words) rest = append_assoc w (32 ∷ spaced words []) rest ∙ ap (λ (t : List ℕ). w ++ 32 ∷ t) (spaced_front words rest)
+
+three : (words : List (List ℕ)) (front word : List ℕ) (more : List (List ℕ))
+    → (front ++ 32 ∷ []) ++ (spaced words [] ++ (word ++ words_line more [])) ≡ front ++ words_line
+    (words ++ word ∷ more) []
+three words front word more = append_assoc front (32 ∷ []) (spaced words [] ++ (word ++ words_line more []))
+    ∙ ap (λ (t : List ℕ). front ++ t) (ap (λ (t : List ℕ). 32 ∷ t) (spaced_front words (word ++ words_line more []))
+    ∙ sym (words_line_spaced words word more []))
+
+pub entry_appends : (e : Entry) (a b c d : Option (List ℕ)) → Appends a b (decimal e.thread ++ 32 ∷ [])
+    → Appends b c (spaced (event_words e.event) []) → Appends c d (line (codes "=" ∷ reply_word e.reply ∷ []) [])
+    → Appends a d (line (entry_words e) [])
+entry_appends e a b c d p q r = subst (λ (t : List ℕ). Appends a d t)
+    (three (event_words e.event) (decimal e.thread) (codes "=") (reply_word e.reply ∷ []))
+    (appends_then a b d _ _ p (appends_then b c d _ _ q r))
+
+pub end_appends : (thread : ℕ) (report : ThreadReport) (a b c d : Option (List ℕ))
+    → Appends a b (codes "end " ++ (decimal thread ++ 32 ∷ []))
+    → Appends b c (spaced (outcome_words report.outcome) []) → Appends c d (decimal report.spent ++ 10 ∷ [])
+    → Appends a d (line (end_words thread report) [])
+end_appends thread report a b c d p q r = subst (λ (t : List ℕ). Appends a d t)
+    (ap (λ (t : List ℕ). codes "end " ++ t)
+    (three (outcome_words report.outcome) (decimal thread) (decimal report.spent) []))
+    (appends_then a b d _ _ p (appends_then b c d _ _ q r))
+
+-- ---- the parts of a record
+
+line_then : (words : List (List ℕ)) (more rest : List ℕ) → line words more ++ rest ≡ line words (more ++ rest)
+line_then words more rest = ap (λ (t : List ℕ). t ++ rest) (sym (line_front words more))
+    ∙ append_assoc (line words []) more rest ∙ line_front words (more ++ rest)
+
+lines_then : (lines more : List (List (List ℕ))) → lines_text lines ++ lines_text more ≡ lines_text (lines ++ more)
+lines_then [] more = refl
+lines_then (words ∷ lines) more = line_then words (lines_text lines) (lines_text more) ∙ ap (line words) (lines_then lines more)
+
+abbrev arg_piece : ℕ → Value → List ℕ
+arg_piece place value = 32 ∷ value_text value
+
+args_pieces : (i : ℕ) (args : List Value) (rest : List ℕ) → pieces arg_piece i args ++ 10 ∷ rest ≡ words_line (map value_text args) rest
+args_pieces i [] rest = refl
+args_pieces i (v ∷ args) rest = ap (λ (t : List ℕ). 32 ∷ t)
+    (append_assoc (value_text v) (pieces arg_piece (i + 1) args) (10 ∷ rest)
+    ∙ ap (λ (t : List ℕ). value_text v ++ t) (args_pieces (i + 1) args rest))
+
+pub header_appends : (r : RecordParts) (a b c d e f : Option (List ℕ))
+    → Appends a b (codes "wathread-record 1" ++ 10 ∷ codes "invoke ") → Appends b c (name_word r.invoke)
+    → Appends c d (10 ∷ codes "args") → Appends d e (pieces arg_piece 0 r.args)
+    → Appends e f (10 ∷ codes "fuel " ++ (decimal r.fuel ++ (10 ∷ codes "limit " ++ (decimal r.limit ++ 10 ∷ [])))) → Appends a f (lines_text (header_lines r))
+header_appends r a b c d e f p q s t u =
+    let behind_args = codes "fuel " ++ (decimal r.fuel ++ (10 ∷ codes "limit " ++ (decimal r.limit ++ 10 ∷ []))) in
+    subst (λ (z : List ℕ). Appends a f z) (ap
+    (λ (z : List ℕ). (codes "wathread-record 1" ++ 10 ∷ codes "invoke ") ++
+    (name_word r.invoke ++ (10 ∷ codes "args" ++ z))) (args_pieces 0 r.args behind_args))
+    (appends_then a b f _ _ p (appends_then b c f _ _ q (appends_then c d f _ _ s (appends_then d e f _ _ t u))))
+
+entry_pieces : (i : ℕ) (log : List Entry) (more : List (List (List ℕ)))
+    → pieces (λ place entry. line (entry_words entry) []) i log ++ lines_text more ≡ lines_text
+    (map entry_words log ++ more)
+entry_pieces i [] more = refl
+entry_pieces i (x ∷ log) more = append_assoc (line (entry_words x) [])
+    (pieces (λ place entry. line (entry_words entry) []) (i + 1) log) (lines_text more)
+    ∙ line_front (entry_words x) (pieces (λ place entry. line (entry_words entry) []) (i + 1) log ++ lines_text more)
+    ∙ ap (line (entry_words x)) (entry_pieces (i + 1) log more)
+
+end_pieces : (i : ℕ) (ends : List ThreadReport) (more : List (List (List ℕ)))
+    → pieces (λ place report. line (end_words place report) []) i ends ++ lines_text more ≡ lines_text
+    (end_lines i ends ++ more)
+end_pieces i [] more = refl
+end_pieces i (x ∷ ends) more = append_assoc (line (end_words i x) [])
+    (pieces (λ place report. line (end_words place report) []) (i + 1) ends) (lines_text more)
+    ∙ line_front (end_words i x) (pieces (λ place report. line (end_words place report) [])
+    (i + 1) ends ++ lines_text more) ∙ ap (line (end_words i x)) (end_pieces (i + 1) ends more)
+
+pub parts_appends : (r : RecordParts) (a b c d e : Option (List ℕ)) → Appends a b (lines_text (header_lines r))
+    → Appends b c (pieces (λ place entry. line (entry_words entry) []) 0 r.log)
+    → Appends c d (pieces (λ place report. line (end_words place report) []) 0 r.ends)
+    → Appends d e (codes "pages " ++ (decimal r.pages ++ (10 ∷ codes "finish" ++ 10 ∷ []))) → Appends a e (record_text r)
+parts_appends r a b c d e p q s t =
+    let last : List (List (List ℕ)) = (codes "pages" ∷ decimal r.pages ∷ []) ∷ (codes "finish" ∷ []) ∷ [] in
+    subst (λ (z : List ℕ). Appends a e z)
+    (ap (λ (z : List ℕ). lines_text (header_lines r) ++ z)
+    (ap (λ (z : List ℕ). pieces (λ place entry. line (entry_words entry) []) 0 r.log ++ z)
+    (end_pieces 0 r.ends last) ∙ entry_pieces 0 r.log (end_lines 0 r.ends ++ last))
+    ∙ lines_then (header_lines r) (map entry_words r.log ++ (end_lines 0 r.ends ++ last)))
+    (appends_then a b e _ _ p (appends_then b c e _ _ q (appends_then c d e _ _ s t)))

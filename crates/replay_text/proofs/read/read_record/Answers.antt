@@ -1,0 +1,5 @@
+use Rattle.replay_text.proofs.Whole.{record_takes}
+use Rattle.replay_text.proofs.read.read_record.Goals as goal
+
+pub from_tested-requires : goal.from_tested-requires
+from_tested-requires c = (record_takes c.args.bytes.now c.in-Ok.parts c.in-Ok.ensures).0

@@ -1,0 +1,65 @@
+-- The text of a record, and which records there are.
+use Rattle.std.specs.Prelude.{◌≡◌, ℕ, ◌+◌, ◌≤◌, true, List, [], ◌∷◌, ◌++◌, codes, length, map}
+use Rattle.std.specs.List.{All}
+use Rattle.std.specs.Str.{is_utf8}
+use Rattle.std.specs.Fmt.{decimal}
+use Rattle.types.specs.declared.outcome.ThreadReport.{ThreadReport}
+use Rattle.types.specs.Values.{value_text}
+use Rattle.types.specs.Limits.{most_pages, most_threads, past_limit, most_limit, most_fuel}
+use Rattle.replay_forms.specs.Texts.{hex_text, lines_text}
+use Rattle.replay_text.specs.Words.{entry_words, end_words}
+use Rattle.replay_text.specs.Conditions.{IsValue, IsEntry, IsReport}
+use Rattle.replay_text.specs.declared.parts.RecordParts.{RecordParts}
+
+-- A name: its bytes by two digits each, or a dash for the empty one.
+abbrev pub name_word : List ℕ → List ℕ
+name_word [] = codes "-"
+name_word (b ∷ bytes) = hex_text (b ∷ bytes)
+
+-- The ends of the threads from this number on.
+abbrev pub end_lines : ℕ → List ThreadReport → List (List (List ℕ))
+end_lines thread [] = []
+end_lines thread (report ∷ reports) = end_words thread report ∷ end_lines (thread + 1) reports
+
+-- The first five lines of a record, each as its words.
+abbrev pub header_lines : RecordParts → List (List (List ℕ))
+header_lines r =
+    (codes "wathread-record" ∷ codes "1" ∷ [])
+    ∷ (codes "invoke" ∷ name_word r.invoke ∷ [])
+    ∷ (codes "args" ∷ map value_text r.args)
+    ∷ (codes "fuel" ∷ decimal r.fuel ∷ [])
+    ∷ (codes "limit" ∷ decimal r.limit ∷ [])
+    ∷ []
+
+-- The lines of a record.
+abbrev pub record_lines : RecordParts → List (List (List ℕ))
+record_lines r =
+    header_lines r
+    ++ (map entry_words r.log
+    ++ (end_lines 0 r.ends
+    ++ (codes "pages" ∷ decimal r.pages ∷ [])
+    ∷ (codes "finish" ∷ [])
+    ∷ []))
+
+-- Every line ends with one line feed, and one space stands between two words.
+abbrev pub record_text : RecordParts → List ℕ
+record_text r = lines_text (record_lines r)
+
+-- The numbers and the lengths of a record.
+pub record HasNumbers (r : RecordParts) : Type 0 where
+  pub fuel : r.fuel ≤ most_fuel
+  pub limit_low : 1 ≤ r.limit
+  pub limit : r.limit ≤ most_limit
+  pub log : length r.log ≤ r.limit + past_limit
+  pub ends_low : 1 ≤ length r.ends
+  pub ends : length r.ends ≤ most_threads
+  pub pages : r.pages ≤ most_pages
+
+-- The ranges of a record.
+pub record IsRecord (r : RecordParts) : Type 0 where
+  pub invoke : is_utf8 r.invoke ≡ true
+  pub bytes : All (λ b. b ≤ 255) r.invoke
+  pub numbers : HasNumbers r
+  pub args : All IsValue r.args
+  pub log : All IsEntry r.log
+  pub ends : All IsReport r.ends

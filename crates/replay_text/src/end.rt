@@ -1,0 +1,111 @@
+//! Reading the ends of threads.
+
+ghost use Rattle.std.specs.Prelude.{◌≡◌, codes};
+ghost use Rattle.replay_forms.specs.Reading.{Reads, behind};
+ghost use Rattle.replay_text.specs.Reading.{trap_of, stop_of, result_at, trap_at, stop_at, outcome_at, end_at};
+
+use crate::value::value_at;
+use replay_forms::{Item, after, number_then};
+use types::{MOST_SPAWNED, Outcome, Stop, ThreadReport, Trap};
+
+fn trap_of(number: u64) -> Option<Trap>
+    ensures { result ≡ trap_of number }
+{
+    match number {
+        1 => Some(Trap::Unreachable),
+        2 => Some(Trap::DivideByZero),
+        3 => Some(Trap::IntegerOverflow),
+        4 => Some(Trap::OutOfBounds),
+        5 => Some(Trap::UnalignedAtomic),
+        6 => Some(Trap::NotShared),
+        7 => Some(Trap::UndefinedElement),
+        8 => Some(Trap::UninitializedElement),
+        9 => Some(Trap::SignatureMismatch),
+        10 => Some(Trap::StackExhausted),
+        _ => None,
+    }
+}
+
+fn stop_of(number: u64) -> Option<Stop>
+    ensures { result ≡ stop_of number }
+{
+    match number {
+        1 => Some(Stop::OutOfFuel),
+        2 => Some(Stop::AsleepForGood),
+        3 => Some(Stop::RecordFull),
+        _ => None,
+    }
+}
+
+fn result_at(bytes: &[u8]) -> Option<(Outcome, &[u8])>
+    ensures { Reads (λ r. (r.0, r.1.now)) result (behind (codes "ok ") result_at bytes.now) }
+{
+    let rest = after(b"ok ", bytes)?;
+    let (value, rest) = value_at(rest)?;
+    let rest = after(b" ", rest)?;
+    Some((Outcome::Done(Some(value)), rest))
+}
+
+fn trap_at(bytes: &[u8]) -> Option<(Outcome, &[u8])>
+    ensures { Reads (λ r. (r.0, r.1.now)) result (trap_at bytes.now) }
+{
+    let rest = after(b"trap ", bytes)?;
+    let (number, rest) = number_then(10, b" ", rest)?;
+    let trap = trap_of(number)?;
+    Some((Outcome::Trap(trap), rest))
+}
+
+fn stop_at(bytes: &[u8]) -> Option<(Outcome, &[u8])>
+    ensures { Reads (λ r. (r.0, r.1.now)) result (stop_at bytes.now) }
+{
+    let rest = after(b"stop ", bytes)?;
+    let (number, rest) = number_then(3, b" ", rest)?;
+    let stop = stop_of(number)?;
+    Some((Outcome::Stop(stop), rest))
+}
+
+fn outcome_at(bytes: &[u8]) -> Option<(Outcome, &[u8])>
+    ensures { Reads (λ r. (r.0, r.1.now)) result (outcome_at bytes.now) }
+{
+    if let Some(rest) = after(b"ok - ", bytes) {
+        return Some((Outcome::Done(None), rest));
+    }
+    if let Some(found) = result_at(bytes) {
+        return Some(found);
+    }
+    if let Some(found) = trap_at(bytes) {
+        return Some(found);
+    }
+    stop_at(bytes)
+}
+
+/// The line of this thread's end.
+#[tactic(auto, unfolding(crate::specs::Reading::end_at))]
+fn end_at(thread: usize, bytes: &[u8]) -> Option<(ThreadReport, &[u8])>
+    ensures { Reads (λ r. (r.0, r.1.now)) result (end_at thread bytes.now) }
+{
+    let rest = after(b"end ", bytes)?;
+    let (number, rest) = number_then(MOST_SPAWNED as u64, b" ", rest)?;
+    let (outcome, rest) = outcome_at(rest)?;
+    let (spent, rest) = number_then(1_000_000_000_000, b"\n", rest)?;
+    if number as usize == thread {
+        Some((ThreadReport { outcome, spent }, rest))
+    } else {
+        None
+    }
+}
+
+/// The lines of the threads' ends.
+pub struct EndLine;
+
+impl Item for EndLine {
+    ghost use Rattle.replay_text.specs.Reading.{end_at};
+
+    type Value = ThreadReport;
+
+    ghost at = { end_at };
+
+    fn read(place: usize, bytes: &[u8]) -> Option<(ThreadReport, &[u8])> {
+        end_at(place, bytes)
+    }
+}

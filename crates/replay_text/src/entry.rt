@@ -1,0 +1,59 @@
+//! Reading entries.
+
+ghost use Rattle.replay_forms.specs.Reading.{Reads};
+ghost use Rattle.replay_text.specs.Reading.{reply_at, entry_at};
+
+use crate::conditions::{is_event, is_reply_to};
+use crate::event::event_at;
+use replay_forms::{Item, after, number_then};
+use types::{Entry, MOST_SPAWNED, Reply};
+
+/// What an entry's event got, and the line feed behind it.
+fn reply_at(bytes: &[u8]) -> Option<(Reply, &[u8])>
+    ensures { Reads (λ r. (r.0, r.1.now)) result (reply_at bytes.now) }
+{
+    if let Some((value, rest)) = number_then(u64::MAX, b"\n", bytes) {
+        return Some((Reply::Value(value), rest));
+    }
+    if let Some(rest) = after(b"done\n", bytes) {
+        return Some((Reply::Done, rest));
+    }
+    let rest = after(b"out\n", bytes)?;
+    Some((Reply::OutOfBounds, rest))
+}
+
+/// The line of an entry.
+#[tactic(auto, unfolding(crate::specs::Reading::entry_at))]
+fn entry_at(bytes: &[u8]) -> Option<(Entry, &[u8])>
+    ensures { Reads (λ r. (r.0, r.1.now)) result (entry_at bytes.now) }
+{
+    let (thread, rest) = number_then(MOST_SPAWNED as u64, b" ", bytes)?;
+    let (event, rest) = event_at(rest)?;
+    let rest = after(b"= ", rest)?;
+    let (reply, rest) = reply_at(rest)?;
+    if is_event(event) && is_reply_to(event, reply) {
+        let entry = Entry {
+            thread: thread as u32,
+            event,
+            reply,
+        };
+        Some((entry, rest))
+    } else {
+        None
+    }
+}
+
+/// The lines of the log.
+pub struct EntryLine;
+
+impl Item for EntryLine {
+    ghost use Rattle.replay_text.specs.Reading.{entry_at};
+
+    type Value = Entry;
+
+    ghost at = { λ place. entry_at };
+
+    fn read(_place: usize, bytes: &[u8]) -> Option<(Entry, &[u8])> {
+        entry_at(bytes)
+    }
+}

@@ -1,0 +1,49 @@
+//! Reading values.
+
+ghost use Rattle.replay_forms.specs.Reading.{Reads};
+ghost use Rattle.replay_text.specs.Reading.{i32_at, i64_at, value_at};
+
+use replay_forms::{Item, after, number_within};
+use types::Value;
+
+fn i32_at(bytes: &[u8]) -> Option<(Value, &[u8])>
+    ensures { Reads (λ r. (r.0, r.1.now)) result (i32_at bytes.now) }
+{
+    let rest = after(b"i32:", bytes)?;
+    let (n, rest) = number_within(4294967295, rest)?;
+    Some((Value::I32(n as u32), rest))
+}
+
+fn i64_at(bytes: &[u8]) -> Option<(Value, &[u8])>
+    ensures { Reads (λ r. (r.0, r.1.now)) result (i64_at bytes.now) }
+{
+    let rest = after(b"i64:", bytes)?;
+    let (n, rest) = number_within(u64::MAX, rest)?;
+    Some((Value::I64(n), rest))
+}
+
+/// A value.
+pub fn value_at(bytes: &[u8]) -> Option<(Value, &[u8])>
+    ensures { Reads (λ r. (r.0, r.1.now)) result (value_at bytes.now) }
+{
+    if let Some(found) = i32_at(bytes) {
+        return Some(found);
+    }
+    i64_at(bytes)
+}
+
+/// The arguments, a space before each.
+pub struct Argument;
+
+impl Item for Argument {
+    ghost use Rattle.replay_text.specs.Reading.{arg_at};
+
+    type Value = Value;
+
+    ghost at = { λ place. arg_at };
+
+    fn read(_place: usize, bytes: &[u8]) -> Option<(Value, &[u8])> {
+        let rest = after(b" ", bytes)?;
+        value_at(rest)
+    }
+}

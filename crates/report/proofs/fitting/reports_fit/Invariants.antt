@@ -1,7 +1,0 @@
-use Rattle.std.proofs.Common.{take}
-use Rattle.std.specs.List.{All}
-use Rattle.recorded_runs.specs.Ranges.{ReportFits}
-use Rattle.report.proofs.fitting.reports_fit.Given as goal
-
-abbrev pub invariant-loop-report : goal.invariant-loop-report
-invariant-loop-report l = All ReportFits (take l.report-index l.reports)

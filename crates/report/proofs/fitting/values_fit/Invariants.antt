@@ -1,7 +1,0 @@
-use Rattle.std.proofs.Common.{take}
-use Rattle.std.specs.List.{All}
-use Rattle.record_text.specs.Conditions.{IsValue}
-use Rattle.report.proofs.fitting.values_fit.Given as goal
-
-abbrev pub invariant-loop-value : goal.invariant-loop-value
-invariant-loop-value l = All IsValue (take l.value-index l.values)

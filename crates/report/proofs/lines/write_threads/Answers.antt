@@ -1,5 +1,0 @@
-use Rattle.report.proofs.ThreadLines.{lines_go_on}
-use Rattle.report.proofs.lines.write_threads.Goals as goal
-
-pub loop-thread-preserved : goal.loop-thread-preserved
-loop-thread-preserved g c = lines_go_on _ _ _ c.args.reports.now c.loop-thread.thread _ c.loop-thread-test.true c.loop-thread.invariant c.in_ok-write_thread.ensures

@@ -1,0 +1,289 @@
+//! The command line.
+ghost use Rattle.std.specs.Prelude.{◌≤◌, IfOk, IfSome};
+ghost use Rattle.types.specs.Limits.{most_limit, most_fuel};
+ghost use Rattle.report_command.specs.Jobs.{IsInRange};
+
+use clap::error::ErrorKind;
+use clap::{Arg, ArgMatches, Command, Error, value_parser};
+use std::alloc::{AllocError, Global};
+use types::{MOST_FUEL, MOST_LIMIT};
+
+/// The most bytes that a dump shows.
+pub const DUMP_MOST: u32 = 4096;
+
+/// The kinds of memory.
+const MEMORIES: [&str; 2] = ["locked", "words"];
+
+/// What the command line asks for.
+#[derive(PartialEq, Eq, Debug, Drop)]
+pub enum Job<'a> {
+    /// Read and validate a module, and say how many functions of its own it has.
+    Check {
+        /// The path of the module.
+        file: &'a str,
+    },
+    /// Run a function of a module, and print how its threads ended.
+    Run {
+        /// The path of the module.
+        file: &'a str,
+        /// The name under which the function is exported.
+        invoke: &'a str,
+        /// Whether the memory is the row of words, and not the one that records.
+        on_words: bool,
+        /// How many units each thread may spend, 0 to 1,000,000,000,000.
+        fuel: u64,
+        /// How many entries the log takes, 1 to 1,000,000.
+        limit: u32,
+        /// The path of the record to be written, if one is wanted.
+        save: Option<&'a str>,
+        /// How many bytes of the memory are printed, 0 to 4096.
+        dump: u32,
+        /// The arguments as they were written.
+        args: Vec<&'a str>,
+    },
+    /// Run a record again by one thread, and print what the run printed.
+    Replay {
+        /// The path of the module.
+        file: &'a str,
+        /// The path of the record.
+        saved: &'a str,
+        /// How many bytes of the memory are printed, 0 to 4096.
+        dump: u32,
+    },
+}
+
+/// Why the command line is no job.
+#[derive(Debug, Drop)]
+pub enum Usage {
+    /// 1: the words are wrong; the error's text says how, and shows the usage.
+    Wrong(Error),
+    /// 2: help or the version was asked for, which is the error's text.
+    Help(Error),
+    /// 3: the system had too little memory left.
+    NoMemory,
+}
+
+impl From<Error> for Usage {
+    fn from(error: Error) -> Usage {
+        match error.kind() {
+            ErrorKind::DisplayHelp | ErrorKind::DisplayVersion => Usage::Help(error),
+            ErrorKind::OutOfMemory => Usage::NoMemory,
+            _ => Usage::Wrong(error),
+        }
+    }
+}
+
+impl From<AllocError> for Usage {
+    fn from(_: AllocError) -> Usage {
+        Usage::NoMemory
+    }
+}
+
+/// The module's path, which every command takes.
+fn file_argument<'a>(alloc: Global) -> Arg<'a> {
+    Arg::new(alloc, "file")
+        .value_name("FILE")
+        .help("The module, in the binary format")
+        .required(true)
+}
+
+/// `check FILE`
+fn check_command<'a>(alloc: Global) -> Result<Command<'a>, AllocError> {
+    Command::new(alloc, "check")
+        .about("Reads a module, and says how many functions of its own it has")
+        .arg(file_argument(alloc))
+}
+
+/// How many bytes a dump shows.
+fn dump_argument<'a>(alloc: Global) -> Arg<'a> {
+    Arg::new(alloc, "dump")
+        .long("dump")
+        .value_name("N")
+        .help("Print the first N bytes of the memory, 0 to 4096")
+        .value_parser(value_parser!(u32).range(0..4097))
+        .default_value("0")
+}
+
+/// How much a run may take.
+fn with_bounds<'a>(alloc: Global, command: Command<'a>) -> Result<Command<'a>, AllocError> {
+    let fuel = Arg::new(alloc, "fuel")
+        .long("fuel")
+        .value_name("N")
+        .help("How many units each thread may spend, 0 to 1000000000000")
+        .value_parser(value_parser!(u64).range(0..1_000_000_000_001))
+        .default_value("1000000000");
+    let limit = Arg::new(alloc, "limit")
+        .long("limit")
+        .value_name("N")
+        .help("How many entries the log takes, 1 to 1000000")
+        .value_parser(value_parser!(u32).range(1..1_000_001))
+        .default_value("100000");
+    command.arg(fuel)?.arg(limit)
+}
+
+/// Where a run happens, and where its record goes.
+fn with_memory<'a>(alloc: Global, command: Command<'a>) -> Result<Command<'a>, AllocError> {
+    let memory = Arg::new(alloc, "memory")
+        .long("memory")
+        .value_name("KIND")
+        .help("Which memory: one behind a lock, which records, or a row of atomic words")
+        .value_parser(MEMORIES.as_slice())
+        .default_value("locked");
+    let record = Arg::new(alloc, "record")
+        .long("record")
+        .value_name("OUT")
+        .help("Write a record of the run to this file; not with words");
+    command.arg(memory)?.arg(record)
+}
+
+/// `run FILE --invoke NAME [--memory locked|words] [--fuel N] [--limit N] [--record OUT] [--dump N] [ARG..]`
+fn run_command<'a>(alloc: Global) -> Result<Command<'a>, AllocError> {
+    let invoke = Arg::new(alloc, "invoke")
+        .long("invoke")
+        .value_name("NAME")
+        .help("The exported function that thread 0 runs")
+        .required(true);
+    let args = Arg::new(alloc, "args")
+        .value_name("ARG")
+        .help("The function's arguments, unsigned decimals")
+        .num_args(0..);
+    let command = Command::new(alloc, "run")
+        .about("Runs a function of a module, and prints how its threads ended")
+        .arg(file_argument(alloc))?
+        .arg(invoke)?;
+    with_bounds(alloc, with_memory(alloc, command)?)?
+        .arg(dump_argument(alloc))?
+        .arg(args)
+}
+
+/// `replay FILE RECORD [--dump N]`
+fn replay_command<'a>(alloc: Global) -> Result<Command<'a>, AllocError> {
+    let record = Arg::new(alloc, "record")
+        .value_name("RECORD")
+        .help("The record of a run of the module")
+        .required(true);
+    Command::new(alloc, "replay")
+        .about("Runs a record again by one thread, and prints what the run printed")
+        .arg(file_argument(alloc))?
+        .arg(record)?
+        .arg(dump_argument(alloc))
+}
+
+/// The whole command line.
+fn commands<'a>(alloc: Global) -> Result<Command<'a>, AllocError> {
+    Command::new(alloc, "wathread")
+        .version("0.1.0")
+        .about("A proved interpreter of WebAssembly modules whose threads share one linear memory")
+        .subcommand_required(true)
+        .subcommand(check_command(alloc)?)?
+        .subcommand(run_command(alloc)?)?
+        .subcommand(replay_command(alloc)?)
+}
+
+/// The numbers of a run, where they are there and in range, as the parser sees to.
+fn bounds_of(matches: &ArgMatches) -> Option<(u64, u32, u32)>
+    ensures { IfSome result (λ n. (n.0 ≤ most_fuel) × (1 ≤ n.1) × (n.1 ≤ most_limit) × (n.2 ≤ 4096)) }
+{
+    let fuel = matches.get_one::<u64>("fuel")?;
+    let limit = matches.get_one::<u32>("limit")?;
+    let dump = matches.get_one::<u32>("dump")?;
+    if fuel <= MOST_FUEL && limit >= 1 && limit <= MOST_LIMIT && dump <= DUMP_MOST {
+        Some((fuel, limit, dump))
+    } else {
+        None
+    }
+}
+
+/// The job of `run`.
+fn run_job<'a>(alloc: Global, matches: &ArgMatches<'a>) -> Result<Option<Job<'a>>, AllocError>
+    ensures { IfOk result (λ job. IfSome job IsInRange) }
+{
+    let (Some(file), Some(invoke), Some((fuel, limit, dump))) = (
+        matches.get_str("file"),
+        matches.get_str("invoke"),
+        bounds_of(matches),
+    ) else {
+        return Ok(None);
+    };
+    let on_words = matches.get_str("memory") == Some("words");
+    let save = matches.get_str("record");
+    let args = match matches.get_strs("args") {
+        Some(texts) => Vec::from_slice(alloc, texts)?,
+        None => Vec::new(alloc),
+    };
+    Ok(Some(Job::Run {
+        file,
+        invoke,
+        on_words,
+        fuel,
+        limit,
+        save,
+        dump,
+        args,
+    }))
+}
+
+/// The job of `replay`, where its number is there and in range, as the parser sees to.
+fn replay_job<'a>(matches: &ArgMatches<'a>) -> Option<Job<'a>>
+    ensures { IfSome result IsInRange }
+{
+    let file = matches.get_str("file")?;
+    let saved = matches.get_str("record")?;
+    let dump = matches.get_one::<u32>("dump")?;
+    if dump <= DUMP_MOST {
+        Some(Job::Replay { file, saved, dump })
+    } else {
+        None
+    }
+}
+
+/// The job of the words, if they name one.
+fn job_of<'a>(alloc: Global, matches: &ArgMatches<'a>) -> Result<Option<Job<'a>>, AllocError>
+    ensures { IfOk result (λ job. IfSome job IsInRange) }
+{
+    let Some((name, matches)) = matches.subcommand() else {
+        return Ok(None);
+    };
+    match name {
+        "run" => run_job(alloc, matches),
+        "replay" => Ok(replay_job(matches)),
+        _ => Ok(matches.get_str("file").map(|file| Job::Check { file })),
+    }
+}
+
+/// Whether the job wants a record of a memory that keeps none.
+fn records_words(job: &Job) -> bool {
+    matches!(
+        job,
+        Job::Run {
+            on_words: true,
+            save: Some(_),
+            ..
+        }
+    )
+}
+
+/// An error about words that are no job.
+fn refused(alloc: Global, kind: ErrorKind, text: &str) -> Result<Error, AllocError> {
+    commands(alloc)?.error(kind, text)
+}
+
+/// Reads the command line, of which the first word is the program's name.
+///
+/// # Errors
+/// `Wrong` where the words are no job, also where a record of a memory of words is wanted, which keeps none; `Help` where
+/// they ask for help or the version; `NoMemory`.
+pub fn command<'a>(alloc: Global, words: &'a [&'a str]) -> Result<Job<'a>, Usage>
+    ensures { IfOk result IsInRange }
+{
+    let matches = commands(alloc)?.try_get_matches_from(words)?;
+    let Some(job) = job_of(alloc, &matches)? else {
+        let text = "the command line can't be read";
+        return Err(Usage::Wrong(refused(alloc, ErrorKind::InvalidValue, text)?));
+    };
+    if records_words(&job) {
+        let text = "the argument '--record <OUT>' cannot be used with '--memory words'";
+        return Err(Usage::Wrong(refused(alloc, ErrorKind::ArgumentConflict, text)?));
+    }
+    Ok(job)
+}

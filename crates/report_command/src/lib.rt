@@ -1,0 +1,6 @@
+//! The command line as a job.
+#![tactic(auto)]
+
+mod command_line;
+
+pub use command_line::{Job, Usage, command};

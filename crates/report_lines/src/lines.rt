@@ -1,0 +1,80 @@
+//! The lines on standard output.
+ghost use Rattle.std.specs.Prelude.{◌≡◌, ◌∷◌, [], ◌<◌, OnOk};
+ghost use Rattle.std.specs.Io.KnownBytes.{Appends};
+ghost use Rattle.report_lines.specs.Lines.{thread_line, thread_lines, pages_line, bytes_line, hex_bytes, hex_digit, end_lines};
+
+use std::io::{self, Write};
+use types::{Outcome, ThreadReport};
+
+/// The lines of a run: one a thread, the page count, and the first bytes where a dump is wanted.
+pub fn write_end<W: Write>(
+    out: &mut W,
+    threads: &[ThreadReport],
+    pages: u32,
+    dump: u32,
+    bytes: &[u8],
+) -> io::Result<()>
+    ensures { OnOk result (Appends (W.contents out.old) (W.contents out.new) (end_lines threads.now pages dump bytes.now)) }
+{
+    write_threads(out, threads)?;
+    write_pages(out, pages)?;
+    write_bytes(out, dump, bytes)?;
+    out.flush()
+}
+
+/// The lines of threads, from thread 0 on.
+fn write_threads<W: Write>(out: &mut W, reports: &[ThreadReport]) -> io::Result<()>
+    ensures { OnOk result (Appends (W.contents out.old) (W.contents out.new) (thread_lines 0 reports.now)) }
+{
+    for (thread, report) in reports.iter().enumerate() {
+        write_thread(out, thread, report.outcome)?;
+    }
+    Ok(())
+}
+
+/// The line of a thread: `thread T: ` and its outcome.
+fn write_thread<W: Write>(out: &mut W, thread: usize, outcome: Outcome) -> io::Result<()>
+    ensures { OnOk result (Appends (W.contents out.old) (W.contents out.new) (thread_line thread outcome)) }
+{
+    write!(out, "thread {thread}: {outcome}\n")
+}
+
+/// The line of the page count: `pages P`.
+fn write_pages<W: Write>(out: &mut W, pages: u32) -> io::Result<()>
+    ensures { OnOk result (Appends (W.contents out.old) (W.contents out.new) (pages_line pages)) }
+{
+    write!(out, "pages {pages}\n")
+}
+
+/// The line of the first `dump` bytes, or of all if there are fewer; none where `dump` is 0.
+fn write_bytes<W: Write>(out: &mut W, dump: u32, bytes: &[u8]) -> io::Result<()>
+    ensures { OnOk result (Appends (W.contents out.old) (W.contents out.new) (bytes_line dump bytes.now)) }
+{
+    if dump == 0 {
+        return Ok(());
+    }
+    let count = bytes.len().min(dump as usize);
+    write!(out, "bytes")?;
+    write_hex(out, &bytes[..count])?;
+    write!(out, "\n")
+}
+
+fn write_hex<W: Write>(out: &mut W, bytes: &[u8]) -> io::Result<()>
+    ensures { OnOk result (Appends (W.contents out.old) (W.contents out.new) (hex_bytes bytes.now)) }
+{
+    for byte in bytes {
+        out.write_all(&[b' ', digit(*byte / 16), digit(*byte % 16)])?;
+    }
+    Ok(())
+}
+
+fn digit(value: u8) -> u8
+    requires { value < 16 }
+    ensures { result ≡ hex_digit value }
+{
+    if value < 10 {
+        b'0' + value
+    } else {
+        b'a' + (value - 10)
+    }
+}

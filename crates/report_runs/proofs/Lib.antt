@@ -1,0 +1,5 @@
+pub mod NewSeats
+pub mod Whole
+pub mod Leaving
+pub mod Recorded
+pub mod Fronts

@@ -1,0 +1,7 @@
+use Rattle.std.proofs.Common.{take}
+use Rattle.std.specs.List.{All}
+use Rattle.replay_text.specs.Conditions.{IsValue}
+use Rattle.report_runs.proofs.fitting.show_values_fit.Given as goal
+
+abbrev pub invariant-loop-value : goal.invariant-loop-value
+invariant-loop-value l = All IsValue (take l.value-index l.values)

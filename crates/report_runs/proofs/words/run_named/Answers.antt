@@ -1,0 +1,25 @@
+use Rattle.std.proofs.Common.{◌∙◌, ap}
+use Rattle.shared_memory.specs.Memory.{Memory, pages}
+use Rattle.shared_memory.specs.History.{memory_after}
+use Rattle.shared_memory_on_table.specs.Callers.{GoesOn}
+use Rattle.report_runs.proofs.NewSeats.{seat_name, seat_new}
+use Rattle.report_runs.proofs.Whole.{of_no_seat, went_on}
+use Rattle.report_runs.proofs.Leaving.{leaves}
+use Rattle.report_runs.proofs.words.run_named.Goals as goal
+
+pub run-requires-clause-names : goal.run-requires-clause-names
+run-requires-clause-names g c κs within = λ k d less. seat_name (λ s. s.caller) c.in_ok-memory.seats.items c.in_ok-memory.ensures.seats k d less
+
+pub run-requires-clause-new : goal.run-requires-clause-new
+run-requires-clause-new g c κs within = λ k d less. seat_new (λ s. s.caller) c.in_ok-memory.seats.items c.in_ok-memory.ensures.seats k d less
+
+pub returns : goal.returns
+returns g c =
+    let close = c.close-closed.ensures in (
+      close.0,
+      leaves (λ s. s.caller) (λ s. GoesOn s.caller close.0) _ _ _ _ _ _ c.in_ok-end.end.seats.items close.0 _
+          c.in_ok-end.ensures.run (λ n large. of_no_seat close.0 n close.2.entries large)
+          (λ s x. went_on s.caller close.0 x) close.1
+          (c.pages-pages.ensures.count ∙ ap pages close.3 ∙ ap (λ (o : Memory). pages (memory_after o close.0)) c.requires.image)
+          (c.in_ok-bytes.ensures ∙ ap (λ (m : Memory). m.bytes) close.3 ∙ ap (λ (o : Memory). (memory_after o close.0).bytes) c.requires.image),
+    )

@@ -1,0 +1,194 @@
+//! A run over the memory that records.
+ghost use Rattle.std.specs.Prelude.{◌≡◌, ◌≤◌, ◌+◌, ◌++◌, [], length, vec_len, vec_capacity, IfOk};
+ghost use Rattle.types.specs.Limits.{most_threads, most_limit};
+ghost use Rattle.spawn_host.specs.Runs.{opening_memory};
+ghost use Rattle.replay.specs.Runs.{IsRunOf};
+ghost use Rattle.report_runs.specs.Ends.{RecordsRun};
+
+use crate::fitting::show_parts_fit;
+use interp_trait::Gate;
+use locked_recorder::{LockedRecorder, Naming, Prepared};
+use replay::EndState;
+use replay_text::{Record, RecordParts};
+use shared_memory_sequential::OpenFault;
+use spawn_host::run;
+use spawn_host_workers::RunFault;
+use std::alloc::{AllocError, Global};
+use std::marker::Brand;
+use std::sync::Wait;
+use std::thread::Threads;
+use thiserror::Error;
+use types::{MOST_FUEL, MOST_THREADS, Name, Sequence, ThreadReport, Value};
+use validate::ValidModule;
+
+/// Why there is no run over a memory of its own. All come before the first turn.
+#[derive(Clone, Copy, PartialEq, Eq, Debug, Error)]
+pub enum RecordRunFault {
+    /// 1: the memory couldn't be opened.
+    #[error("open: {0}")]
+    Open(OpenFault),
+    /// 2: the run couldn't begin.
+    #[error("run: {0}")]
+    Run(RunFault),
+    /// 3: the system had too little memory left.
+    #[error("no memory")]
+    NoMemory,
+    /// 4: the fuel passes 1,000,000,000,000 units.
+    #[error("fuel")]
+    Fuel,
+}
+
+impl From<AllocError> for RecordRunFault {
+    fn from(_: AllocError) -> RecordRunFault {
+        RecordRunFault::NoMemory
+    }
+}
+
+impl From<OpenFault> for RecordRunFault {
+    fn from(fault: OpenFault) -> RecordRunFault {
+        RecordRunFault::Open(fault)
+    }
+}
+
+impl From<RunFault> for RecordRunFault {
+    fn from(fault: RunFault) -> RecordRunFault {
+        RecordRunFault::Run(fault)
+    }
+}
+
+/// What a record says of the call, and room for its ends: all that is taken before the first turn.
+#[derive(Drop)]
+struct Header {
+    invoke: Name,
+    args: Sequence<Value>,
+    ends: Vec<ThreadReport>,
+}
+
+/// Runs an exported function over a new memory that records, and gives the record of the run, and what the run leaves. The
+/// limit is 1 to 1,000,000 entries, and the fuel 0 to 1,000,000,000,000 units.
+///
+/// There is one history that all threads saw: the record's log. It is legal for the memory and for the wait queue; each
+/// thread's report follows from its own entries in it; and one thread that steps all threads along it comes to the same
+/// reports, pages and bytes. So the record is of a run of the module, and that ends as this one did.
+///
+/// # Errors
+/// `Fuel` where the fuel is out of its range, `Open` where the recorder can't be opened, also where the limit is out of its
+/// range, `Run` where the run can't begin, `NoMemory`. All come before the first turn.
+pub fn record_run<G, R>(
+    rt: &R,
+    alloc: Global,
+    module: &ValidModule,
+    entry: &str,
+    args: &[Value],
+    fuel: u64,
+    limit: u32,
+    gate: &G,
+) -> Result<(Record, EndState), RecordRunFault>
+where
+    G: Gate + Sync,
+    R: Threads + Wait + Sync,
+    ensures record { IfOk result (λ r. RecordsRun «module».now.parts entry.now args.now fuel limit r.0 r.1) }
+    ensures run { IfOk result (λ r. IsRunOf «module».now.parts r.0 r.1) }
+{
+    if fuel > MOST_FUEL {
+        return Err(RecordRunFault::Fuel);
+    }
+    let (parts, end) = run_recorded(rt, alloc, module, entry, args, fuel, limit, gate)?;
+    match Record::new(parts) {
+        Ok(record) => Ok((record, end)),
+        Err(parts) => {
+            // Never: this shows that the parts are in range.
+            show_parts_fit(&parts);
+            unreachable!()
+        }
+    }
+}
+
+/// The same, up to the record's parts.
+fn run_recorded<G, R>(
+    rt: &R,
+    alloc: Global,
+    module: &ValidModule,
+    entry: &str,
+    args: &[Value],
+    fuel: u64,
+    limit: u32,
+    gate: &G,
+) -> Result<(RecordParts, EndState), RecordRunFault>
+where
+    G: Gate + Sync,
+    R: Threads + Wait + Sync,
+    ensures { IfOk result (λ r. RecordsRun «module».now.parts entry.now args.now fuel limit r.0 r.1) }
+{
+    let header = Header {
+        invoke: Name::from_string(String::from_str(alloc, entry)?),
+        args: Sequence::from_vec(Vec::from_slice(alloc, args)?),
+        ends: Vec::with_capacity(alloc, MOST_THREADS)?,
+    };
+    let image = module.image(alloc)?;
+    let prepared = Prepared::new(alloc, &image, module.pages_max(), limit)?;
+    record_named::<Brand, _, _>(rt, alloc, module, prepared, header, fuel, limit, gate)
+}
+
+/// The same, over a recorder whose type has been named.
+fn record_named<B, G, R>(
+    rt: &R,
+    alloc: Global,
+    module: &ValidModule,
+    prepared: Prepared,
+    header: Header,
+    fuel: u64,
+    limit: u32,
+    gate: &G,
+) -> Result<(RecordParts, EndState), RecordRunFault>
+where
+    B: Naming + Send + Sync,
+    G: Gate + Sync,
+    R: Threads + Wait + Sync,
+    requires table { prepared.table ≡ B.table }
+    requires opening { prepared.opening ≡ B.opening }
+    requires limit { prepared.limit ≡ B.limit }
+    requires image { B.opening ≡ opening_memory «module».now.parts }
+    requires bound { B.limit ≡ limit }
+    requires range { (1 ≤ limit) × (limit ≤ most_limit) }
+    requires ends { header.ends.items ≡ [] }
+    requires room { most_threads ≤ vec_capacity header.ends }
+    ensures { IfOk result (λ r. RecordsRun «module».now.parts header.invoke header.args fuel limit r.0 r.1) }
+{
+    let Header {
+        invoke,
+        args,
+        mut ends,
+    } = header;
+    let (memory, seats) = LockedRecorder::<B, &R>::open(alloc, rt, prepared)?;
+    let (entry, given) = (invoke.as_str(), args.as_slice());
+    let end = run(rt, alloc, module, entry, given, fuel, &memory, seats, gate)?;
+    let finished = memory.finish(end.seats);
+    copy_reports(&end.threads, &mut ends);
+    let parts = RecordParts {
+        invoke,
+        args,
+        fuel,
+        limit,
+        log: Sequence::from_vec(finished.log),
+        ends: Sequence::from_vec(ends),
+        pages: finished.pages,
+    };
+    let end = EndState {
+        threads: end.threads,
+        pages: finished.pages,
+        bytes: finished.bytes,
+    };
+    Ok((parts, end))
+}
+
+/// Copies the reports into the room that was kept for them.
+fn copy_reports(reports: &[ThreadReport], ends: &mut Vec<ThreadReport>)
+    requires { vec_len ends.old + length reports.now ≤ vec_capacity ends.old }
+    ensures items { ends.new.items ≡ ends.old.items ++ reports.now }
+    ensures capacity { vec_capacity ends.new ≡ vec_capacity ends.old }
+{
+    for report in reports {
+        ends.push_reserved(*report);
+    }
+}

@@ -1,5 +1,0 @@
-use Rattle.row_tests.proofs.tests.each_try_that_is_answered_adds_once.Given as goal
-
--- the row that was just prepared
-abbrev pub ghosts-add_at_once : goal.ghosts-add_at_once
-ghosts-add_at_once g a = record { table = a.prepared.table; opening = a.prepared.opening }

@@ -1,0 +1,5 @@
+pub mod Runs
+pub mod Theorem
+pub mod Example
+pub mod Beginnings
+pub mod Places

@@ -1,0 +1,31 @@
+//! The theorem of one schedule for the threads of a module: what they did together over one memory, one thread that steps
+//! them all does again, along a schedule of their history.
+//!
+//! `specs/Runs.antt` says what a history and the runs of its threads are to that theorem, `specs/Theorem.antt` what comes
+//! of it.
+#![tactic(auto)]
+
+ghost use Rattle.schedule_runs.specs.Theorem.{ThreadsMakeOneRun};
+ghost use Rattle.schedule_runs.specs.Beginnings.{BeginningsStay, NobodyBeginsLater};
+ghost use Rattle.schedule_runs.specs.Example.{TwoThreadsRanTogether};
+
+/// Threads of a module that each ran to an end, and together made a history that is legal, made one run: its schedule gives
+/// every outcome, the units left to each thread and the memory, and so does every other schedule along the history.
+pub fn threads_make_one_run()
+    ensures { ThreadsMakeOneRun }
+{}
+
+/// A thread that begins in a history begins as it does in each longer one.
+pub fn beginnings_stay()
+    ensures { BeginningsStay }
+{}
+
+/// A thread that hasn't begun where nobody is alive any more never begins.
+pub fn nobody_begins_later()
+    ensures { NobodyBeginsLater }
+{}
+
+/// A worked run, so that what is asked of threads can be met: one spawns another and ends, and the other one ends meanwhile.
+pub fn two_threads_ran_together()
+    ensures { TwoThreadsRanTogether }
+{}

@@ -1,5 +1,0 @@
-use Rattle.scheduled.proofs.Asking.{machine_laws}
-use Rattle.scheduled.proofs.programs_keep_the_laws_of_a_machine.Goals as goal
-
-pub returns : goal.returns
-returns c = machine_laws

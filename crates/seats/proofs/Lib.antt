@@ -1,3 +1,0 @@
-pub mod Totals
-pub mod GoingOn
-pub mod Seating

@@ -1,0 +1,4 @@
+pub mod Totals
+pub mod GoingOn
+pub mod Seating
+pub mod Moves

@@ -1,0 +1,60 @@
+//! The seats of a memory that opens.
+ghost use Rattle.std.specs.Prelude.{◌≡◌, ◌<◌, ◌≤◌, ◌∷◌, [], IfOk, map};
+ghost use Rattle.types.specs.Limits.{desk_name, seat_count};
+ghost use Rattle.shared_memory_on_table.specs.Callers.{fresh, fresh_from};
+ghost use Rattle.shared_memory_on_table.specs.Moves.{others_of};
+ghost use Rattle.shared_memory_on_table.specs.Rule.{gathered, opened};
+
+use crate::naming::Naming;
+use crate::rule::{History, Row};
+use crate::seat::{CallerSeat, Standing};
+use crate::view::{FirstOff, Place};
+use std::alloc::{AllocError, Global};
+use std::marker::PhantomData;
+use types::SEATS;
+
+// The next caller gets a seat of its own.
+fn take_seat<B: Naming, K, H: History<K>>(
+    row: &Row<K, H>,
+    all: &mut Place,
+    name: u32,
+) -> CallerSeat<B>
+    requires row { (row.now.table_id ≡ B.table) × (0 < row.now.table_id.words) }
+    requires name { name ≤ desk_name }
+    requires here { all.old.table_id ≡ B.table }
+    requires all { all.old.me ≡ (gathered H.has_keeper (fresh name ∷ others_of all.old.me.0.callers), []) }
+    ensures seat { result.caller ≡ fresh name }
+    ensures here { all.new.table_id ≡ B.table }
+    ensures all { all.new.me ≡ (gathered H.has_keeper (others_of all.old.me.0.callers), []) }
+{
+    let place = row.split_seat::<FirstOff>(all);
+    CallerSeat {
+        caller: Standing {
+            name,
+            place,
+            of: PhantomData,
+        },
+    }
+}
+
+/// The 17 seats of a memory, in order of name: 0 to 15 for threads, and 16 for the desk. The first seat, on which all
+/// callers stood, has none then.
+///
+/// # Errors
+/// Where the room for them can't be had.
+pub fn take_seats<B: Naming, K, H: History<K>>(
+    alloc: Global,
+    row: &Row<K, H>,
+    all: &mut Place,
+) -> Result<Vec<CallerSeat<B>>, AllocError>
+    requires row { (row.now.table_id ≡ B.table) × (0 < row.now.table_id.words) }
+    requires all { (all.old.table_id ≡ B.table) × (all.old.me ≡ (opened H.has_keeper, [])) }
+    ensures seats { IfOk result (λ v. map (λ s. s.caller) v.items ≡ fresh_from seat_count 0) }
+    ensures all { IfOk result (λ _. (all.new.table_id ≡ B.table) × (all.new.me ≡ (gathered H.has_keeper [], []))) }
+{
+    let mut seats = Vec::with_capacity(alloc, SEATS as usize)?;
+    for name in 0..SEATS {
+        seats.push_reserved(take_seat::<B, K, H>(row, all, name));
+    }
+    Ok(seats)
+}

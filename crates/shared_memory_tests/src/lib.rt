@@ -1,0 +1,12 @@
+//! Runs of the memories: what the sequential one answers; and told through their trait, the recorder's log replayed on it, and
+//! threads that change the same word of a row.
+#![tactic(auto)]
+
+#[cfg(test)]
+mod adding;
+#[cfg(test)]
+mod recorder;
+#[cfg(test)]
+mod row;
+#[cfg(test)]
+mod sequential;

@@ -1,0 +1,59 @@
+//! The run of a module.
+ghost use Rattle.std.specs.Prelude.{◌≡◌, ◌<◌, ℕ, true, [], IfOk, IfErr, slice_index_or, vec_len};
+ghost use Rattle.types.specs.Limits.{desk_name, seat_count};
+ghost use Rattle.spawn_host.specs.Faults.{IsFaultOf};
+ghost use Rattle.spawn_host.specs.Runs.{opening_memory, IsRun};
+
+use crate::threads::{first_thread, spawnable_threads};
+use interp_trait::Gate;
+use shared_memory::SharedMemory;
+use spawn_host_workers::{RunEnd, RunFault, run_all, run_alone};
+use std::alloc::Global;
+use std::sync::Wait;
+use std::thread::Threads;
+use types::Value;
+use validate::ValidModule;
+
+/// Runs an exported function of a module with arguments, and the threads that are spawned meanwhile, each as a real thread over
+/// the memory. Each has the budget `fuel`, in units.
+///
+/// The memory begins as the module's does. The 17 seats are those of a new memory, in order of their names, and the last has
+/// the queue right.
+///
+/// # Errors
+/// `UnknownExport` where no function of the module itself is exported under the name. `WrongArguments` where one is, and the
+/// arguments don't fit it. `NoMemory` where memory is refused, and `NoThread` where the system starts no further thread,
+/// both before the first turn of a thread.
+pub fn run<M, G, R>(
+    rt: &R,
+    alloc: Global,
+    module: &ValidModule,
+    entry: &str,
+    args: &[Value],
+    fuel: u64,
+    memory: &M,
+    seats: Vec<M::Seat>,
+    gate: &G,
+) -> Result<RunEnd<M::Seat>, RunFault>
+where
+    M: SharedMemory + Sync,
+    G: Gate + Sync,
+    R: Threads + Wait + Sync,
+    requires opening { M.opening ≡ opening_memory «module».now.parts }
+    requires len { vec_len seats ≡ seat_count }
+    requires names { (k : ℕ) (d : M.Seat) → k < seat_count → M.name (slice_index_or seats.items k d) ≡ k }
+    requires new { (k : ℕ) (d : M.Seat) → k < seat_count → M.seen (slice_index_or seats.items k d) ≡ [] }
+    requires right { (d : M.Seat) → M.has_queue_right (slice_index_or seats.items desk_name d) ≡ true }
+    ensures run { IfOk result (λ end. IsRun «module».now.parts entry.now args.now fuel M.LOSES (M.limit memory.now) M.name M.seen
+        end.threads.items end.seats.items) }
+    ensures fault { IfErr result (λ fault. IsFaultOf «module».now.parts entry.now args.now fault) }
+{
+    let first = first_thread(alloc, module, entry, args, fuel)?;
+    if !module.starts_threads() {
+        return run_alone(rt, alloc, first, memory, seats, gate);
+    }
+    let Ok(spawned) = spawnable_threads(alloc, module, fuel) else {
+        return Err(RunFault::NoMemory);
+    };
+    run_all(rt, alloc, first, spawned, memory, seats, gate)
+}

@@ -1,0 +1,115 @@
+//! The threads of a run before their first turn.
+ghost use Rattle.std.specs.Prelude.{◌≡◌, ◌<◌, ◌+◌, length, map, IfOk, IfErr};
+ghost use Rattle.types.specs.declared.parts.FuncType.{FuncType};
+ghost use Rattle.types.specs.declared.parts.Body.{Body};
+ghost use Rattle.types.specs.Values.{type_of};
+ghost use Rattle.validate_typing.specs.Context.{imported_functions};
+ghost use Rattle.interp.specs.Starts.{IsFunction};
+ghost use Rattle.spawn_host.specs.Entries.{StartsThreads, IsThreadStart};
+ghost use Rattle.spawn_host.specs.Faults.{IsFaultOf};
+ghost use Rattle.spawn_host.specs.Threads.{IsCall, IsFirst, AreSpawnable};
+ghost use Rattle.interp.specs.Threads.{meaning_in};
+
+use crate::fit::fit;
+use interp::Thread;
+use spawn_host_workers::RunFault;
+use std::alloc::{AllocError, Global};
+use types::{FuncType, MOST_SPAWNED, Value};
+use validate::ValidModule;
+
+/// What stands in place of a spawned thread's number and argument.
+const PLACEHOLDERS: [Value; 2] = [Value::I32(0), Value::I32(0)];
+
+/// The index of a function of the module itself, with the imported ones counted.
+#[tactic(auto, using(crate::proofs::Imported::few_imported))]
+fn index_of(valid: &ValidModule, own: usize) -> u32
+    requires { own < length valid.now.parts.functions }
+    ensures { result ≡ length (imported_functions valid.now.parts) + own }
+{
+    let parts = valid.parts();
+    prove!(parts.imports.len() <= 1_000 && parts.functions.len() <= 10_000);
+    (valid.imported_functions() + own) as u32
+}
+
+/// A thread that is about to call a function of the module itself.
+fn calling<'m>(
+    alloc: Global,
+    valid: &'m ValidModule,
+    own: usize,
+    args: &[Value],
+    fuel: u64,
+) -> Result<Thread<'m>, AllocError>
+    requires within { own < length valid.now.parts.functions }
+    requires call { (t : FuncType) × (body : Body) × IsFunction valid.now.parts own t body × (map type_of args.now ≡ t.params) }
+    ensures { IfOk result (λ thread. (t : FuncType) (body : Body) → IsFunction valid.now.parts own t body
+        → IsCall meaning_in valid.now.parts t body args.now fuel thread) }
+{
+    Thread::new(alloc, valid, index_of(valid, own), args, fuel)
+}
+
+/// The type of a function of the module itself.
+fn func_type(valid: &ValidModule, own: usize) -> &FuncType
+    requires { own < length valid.now.parts.functions }
+    ensures { (body : Body) × IsFunction valid.now.parts own result.now body }
+{
+    let parts = valid.parts();
+    prove!(parts.functions.len() == parts.bodies.len());
+    let Some(func_type) = valid.func_type(own) else {
+        unreachable!()
+    };
+    func_type
+}
+
+/// Thread 0: it is about to call the exported function with the arguments.
+pub fn first_thread<'m>(
+    alloc: Global,
+    valid: &'m ValidModule,
+    entry: &str,
+    args: &[Value],
+    fuel: u64,
+) -> Result<Thread<'m>, RunFault>
+    ensures first { IfOk result (λ thread. IsFirst meaning_in valid.now.parts entry.now args.now fuel thread) }
+    ensures fault { IfErr result (λ fault. IsFaultOf valid.now.parts entry.now args.now fault) }
+{
+    let Some(own) = valid.exported(entry) else {
+        return Err(RunFault::UnknownExport);
+    };
+    if !fit(args, func_type(valid, own).params.as_slice()) {
+        return Err(RunFault::WrongArguments);
+    }
+    let Ok(thread) = calling(alloc, valid, own, args, fuel) else {
+        return Err(RunFault::NoMemory);
+    };
+    Ok(thread)
+}
+
+/// The function of the module itself that spawned threads call.
+fn thread_start(valid: &ValidModule) -> usize
+    requires { StartsThreads valid.now.parts }
+    ensures within { result < length valid.now.parts.functions }
+    ensures start { (t : FuncType) × (body : Body) × IsThreadStart valid.now.parts result t body }
+{
+    let parts = valid.parts();
+    prove!(parts.functions.len() == parts.bodies.len());
+    let Some(own) = valid.exported("wasi_thread_start") else {
+        unreachable!()
+    };
+    own
+}
+
+/// The threads that can be spawned: each is about to call the function for that.
+pub fn spawnable_threads<'m>(
+    alloc: Global,
+    valid: &'m ValidModule,
+    fuel: u64,
+) -> Result<Vec<Thread<'m>>, AllocError>
+    requires { StartsThreads valid.now.parts }
+    ensures { IfOk result (λ threads. AreSpawnable meaning_in valid.now.parts PLACEHOLDERS fuel threads.items) }
+{
+    let own = thread_start(valid);
+    let mut threads = Vec::with_capacity(alloc, MOST_SPAWNED)?;
+    for _ in 0..MOST_SPAWNED {
+        threads.push_reserved(calling(alloc, valid, own, &PLACEHOLDERS, fuel)?);
+    }
+    Ok(threads)
+}

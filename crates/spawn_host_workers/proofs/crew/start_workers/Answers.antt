@@ -1,0 +1,50 @@
+use Rattle.std.proofs.Common.{rules, ◌≡◌, [], All, sym, subst, vec_items}
+use Rattle.shared_memory.specs.History.{entries_of}
+use Rattle.interp_trait.specs.Turns.{MayBeSpawned}
+use Rattle.spawn_host_workers.specs.Duties.{IsDuty}
+use Rattle.spawn_host_workers.proofs.Pairing.{so_far_none, so_far_more, all_first, all_rest}
+use Rattle.spawn_host_workers.proofs.crew.start_workers.Goals as goal
+
+pub loop-seat-init : goal.loop-seat-init
+loop-seat-init g c =
+    let m = g.M.SharedMemory in
+    let gives = c.into_iter-seat-iterator.ensures.into_iter_gives in record {
+      len = search rules;
+      room = search rules;
+      same = search rules;
+      new = subst (λ w. All (λ s. entries_of (m.name s) (m.seen s) ≡ []) w) (sym gives.0) c.requires.new;
+      begins = subst (λ w. All (λ t. MayBeSpawned (g.T.TakesTurns.meaning t)) w) (sym c.into_iter-threads.ensures.rest) c.requires.begins;
+      duties = rw (c.into_iter-threads.ensures.rest, gives.0, c.in-Ok.ensures.items)
+          (so_far_none (IsDuty c.args.memory.now) (vec_items c.args.threads) (vec_items c.args.seats));
+    }
+
+pub spawn_with-requires-clause-runs : goal.spawn_with-requires-clause-runs
+spawn_with-requires-clause-runs g c κs within =
+    let m = g.M.SharedMemory in
+    let i = c.loop-seat.invariant in
+    let step = c.in-Some.ensures.steps in
+    let next = c.in-Some-next.ensures.cases in
+    let new : entries_of (m.name c.in-Some.seat) (m.seen c.in-Some.seat) ≡ [] =
+    all_first (λ s. entries_of (m.name s) (m.seen s) ≡ []) _ _ c.in-Some.seat i.new step.0 in
+    let begins : MayBeSpawned (g.T.TakesTurns.meaning c.in-Some-next.thread)
+    = all_first (λ t. MayBeSpawned (g.T.TakesTurns.meaning t)) _ _ c.in-Some-next.thread i.begins next.0 in
+    search rules
+
+pub loop-seat-preserved : goal.loop-seat-preserved
+loop-seat-preserved g c =
+    let m = g.M.SharedMemory in
+    let i = c.loop-seat.invariant in
+    let step = c.in-Some.ensures.steps in
+    let promise = c.in-Ok-spawn_with.ensures.ok in
+    let next = c.in-Some-next.ensures.cases in record {
+      len = search rules;
+      room = search rules;
+      same = search rules;
+      new = all_rest (λ s. entries_of (m.name s) (m.seen s) ≡ []) _ _ c.in-Some.seat i.new step.0;
+      begins = all_rest (λ t. MayBeSpawned (g.T.TakesTurns.meaning t)) _ _ c.in-Some-next.thread i.begins next.0;
+      duties = rw (c.push_reserved.ensures.items)
+          (so_far_more (IsDuty c.args.memory.now) (vec_items c.args.threads) (vec_items c.args.seats)
+          (vec_items c.loop-seat.handles) _ _ _ _
+          c.in-Some-next.thread c.in-Some.seat c.in-Ok-spawn_with.handle i.duties next.0 step.0
+          (record { memory_is = rw promise c.of.ensures; thread_is = rw promise c.of-in-loop-seat-2.ensures; seat_is = rw promise c.of-in-loop-seat.ensures }));
+    }

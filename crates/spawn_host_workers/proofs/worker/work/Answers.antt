@@ -1,0 +1,29 @@
+use Rattle.std.proofs.Common.{[], ◌∷◌, ◌∙◌}
+use Rattle.types.specs.declared.value.Value.TheVariants.{I32}
+use Rattle.interp_machine.specs.State.{At}
+use Rattle.schedule.specs.Machine.Thread.{Runs}
+use Rattle.spawn_host_workers.proofs.Growing.{sees_grows}
+use Rattle.spawn_host_workers.proofs.worker.work.Goals as goal
+
+pub returns : goal.returns
+returns g c =
+    let m = g.M.SharedMemory in
+    let n = m.name c.args.seat in
+    let limit = m.limit c.args.memory.now in
+    let end = c.run_thread-outcome in
+    let ran = rw (c.set_args.ensures.stays.program, c.set_args.ensures.stays.fuel, c.begin.ensures.name) at end.ensures.ran in
+    let last = rw (c.begin.ensures.name) at end.ensures.last in
+    let stands = rw (c.set_args.ensures.stays.fuel, c.name-name.ensures) at c.set_args.ensures.stands in
+    let some = ran (Runs (At (c.requires.begins.0 (I32 n ∷ I32 c.in-Some.arg ∷ [])))
+    (g.T.TakesTurns.meaning c.args.thread).fuel) (stands _ _ c.requires.begins.1) tt in record {
+      name_is = end.ensures.seat.name_is ∙ c.begin.ensures.name;
+      works = record {
+        arg = c.in-Some.arg;
+        begun = m.seen c.begin.new.seat;
+        begins_with = c.in-Some.ensures.begun;
+        ran = λ types start begins.
+            ran (Runs (At (start (I32 n ∷ I32 c.in-Some.arg ∷ []))) (g.T.TakesTurns.meaning c.args.thread).fuel) (stands types start begins) tt;
+        grows = sees_grows m.LOSES m.opening limit n some.run.steps (m.seen c.begin.new.seat) (m.seen end.result.seat) some.run.sees;
+        last = last;
+      };
+    }

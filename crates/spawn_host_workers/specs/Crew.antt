@@ -1,0 +1,38 @@
+-- What the threads of a run bring back.
+use Rattle.std.specs.Prelude.{ℕ, ◌≡◌, Bool, List, ◌∷◌, Option, Some, None}
+use mathlib.Core.List.{IsPrefix}
+use Rattle.types.specs.declared.event.Entry.{Entry}
+use Rattle.types.specs.declared.outcome.ThreadReport.{ThreadReport}
+use Rattle.shared_memory.specs.Memory.{Memory}
+use Rattle.interp_trait.specs.Turns.{Running, Meaning, IsHere}
+use Rattle.spawn_host_thread.specs.Ends.{IsLast, RunsOut}
+use Rattle.spawn_host_workers.specs.declared.worker.WorkerEnd.{WorkerEnd}
+use Rattle.spawn_host_workers.specs.Pairs.{AllThree}
+use Rattle.spawn_host_workers.specs.Works.{EndsWork}
+
+-- The first thread ran from its start to its end.
+pub record RunsFirst (loses : Bool) (opening : Memory) (limit : Option ℕ) (n : ℕ) (m : Meaning) (report : ThreadReport)
+    (before after : List Entry) : Type 0 where
+  pub ran : (t : Running) → m.stands t → IsHere t
+      → RunsOut m.program loses opening limit n t report.outcome report.spent m.fuel before after
+  pub grows : IsPrefix before after
+  pub last : IsLast opening n after
+
+abbrev pub WorksFirst : Bool → Memory → Option ℕ → ℕ → Meaning → Option ThreadReport → List Entry → List Entry → Type 0
+WorksFirst loses opening limit n m None before after = ⊥
+WorksFirst loses opening limit n m (Some report) before after = RunsFirst loses opening limit n m report before after
+
+pub record EndsFirst {S T : Type 0} (loses : Bool) (opening : Memory) (limit : Option ℕ) (name : S → ℕ) (seen : S → List Entry)
+    (meaning : T → Meaning) (thread : T) (seat : S) (end : WorkerEnd S) : Type 0 where
+  pub name_is : name end.seat ≡ name seat
+  pub works : WorksFirst loses opening limit (name seat) (meaning thread) end.report (seen seat) (seen end.seat)
+
+-- The ends of the first thread and of the workers, in order.
+pub record IsCrew {S T : Type 0} (loses : Bool) (opening : Memory) (limit : Option ℕ) (name : S → ℕ) (seen : S → List Entry)
+    (meaning : T → Meaning) (first : T) (seat : S) (threads : List T) (seats : List S)
+    (ends : List (WorkerEnd S)) : Type 0 where
+  pub head : WorkerEnd S
+  pub others : List (WorkerEnd S)
+  pub parts : ends ≡ head ∷ others
+  pub ended : EndsFirst loses opening limit name seen meaning first seat head
+  pub worked : AllThree (EndsWork loses opening limit name seen meaning) threads seats others

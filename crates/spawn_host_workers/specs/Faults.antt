@@ -1,0 +1,10 @@
+-- Why threads give no run.
+use Rattle.spawn_host_workers.specs.declared.report.RunFault.{RunFault}
+use Rattle.spawn_host_workers.specs.declared.report.RunFault.TheVariants.{NoMemory, UnknownExport, WrongArguments, NoThread}
+
+-- The system had too little memory left, or started no further thread. The other faults are of what was asked for.
+abbrev pub IsOfSystem : RunFault → Type 0
+IsOfSystem NoMemory = Unit {0}
+IsOfSystem NoThread = Unit {0}
+IsOfSystem UnknownExport = ⊥
+IsOfSystem WrongArguments = ⊥

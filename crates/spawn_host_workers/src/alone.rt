@@ -1,0 +1,67 @@
+//! A run of one thread, of a program that starts no other.
+ghost use Rattle.std.specs.Prelude.{◌≡◌, ◌<◌, ℕ, true, [], IfOk, IsOkUnless, slice_index_or, vec_len};
+ghost use Rattle.types.specs.Limits.{desk_name, seat_count};
+ghost use Rattle.interp_trait.specs.Turns.{MayRun};
+ghost use Rattle.interp_machine.specs.Program.{Program};
+ghost use Rattle.spawn_host_workers.specs.declared.report.RunFault.{RunFault};
+ghost use Rattle.spawn_host_workers.specs.Composed.{IsComposed};
+
+use crate::host::level_all;
+use crate::report::{RunEnd, RunFault};
+use interp_trait::{Gate, TakesTurns};
+use shared_memory::SharedMemory;
+use spawn_host_thread::{ThreadEnd, run_thread};
+use std::alloc::Global;
+use std::sync::Wait;
+use types::ThreadReport;
+use waiters_desk::Desk;
+
+/// Runs the first thread of a program that imports no function that starts threads, in the calling thread. No other is
+/// started.
+///
+/// The 17 seats are those of a new memory, in order of their names. Memory is taken before the first turn alone.
+pub fn run_alone<T, M, G, R>(
+    rt: &R,
+    alloc: Global,
+    first: T,
+    memory: &M,
+    mut seats: Vec<M::Seat>,
+    gate: &G,
+) -> Result<RunEnd<M::Seat>, RunFault>
+where
+    T: TakesTurns + Drop,
+    M: SharedMemory,
+    G: Gate,
+    R: Wait,
+    requires here { MayRun (T.meaning first) }
+    requires alone { Program.imported (T.meaning first).program ≡ 0 }
+    requires len { vec_len seats ≡ seat_count }
+    requires names { (k : ℕ) (d : M.Seat) → k < seat_count → M.name (slice_index_or seats.items k d) ≡ k }
+    requires new { (k : ℕ) (d : M.Seat) → k < seat_count → M.seen (slice_index_or seats.items k d) ≡ [] }
+    requires right { (d : M.Seat) → M.has_queue_right (slice_index_or seats.items desk_name d) ≡ true }
+    ensures fault { IsOkUnless result RunFault.NoMemory }
+    ensures composed { IfOk result (λ end. IsComposed M.LOSES M.opening (M.limit memory.now) M.name M.seen T.meaning first []
+        end.threads.items end.seats.items) }
+{
+    let Ok(mut threads) = Vec::with_capacity(alloc, 1) else {
+        return Err(RunFault::NoMemory);
+    };
+    let Some(desk_seat) = seats.pop() else {
+        unreachable!()
+    };
+    let seat = seats.remove(0);
+    let desk = Desk::open(rt, memory, desk_seat);
+    let ThreadEnd {
+        outcome,
+        seat,
+        spent,
+    } = run_thread(rt, first, memory, seat, &desk, gate);
+    threads.push_reserved(ThreadReport { outcome, spent });
+    let mut hub = desk.close();
+    let Ok(()) = seats.insert(0, seat) else {
+        unreachable!()
+    };
+    level_all(memory, &mut hub, &mut seats);
+    seats.push_reserved(hub);
+    Ok(RunEnd { threads, seats })
+}

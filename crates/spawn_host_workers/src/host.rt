@@ -1,0 +1,150 @@
+//! A run of real threads.
+ghost use Rattle.std.specs.Prelude.{◌≡◌, ◌≤◌, ◌<◌, ◌+◌, ℕ, true, [], All, IfOk, IfErr, slice_index_or, vec_len, vec_capacity};
+ghost use Rattle.types.specs.Limits.{most_threads, most_spawned, desk_name, seat_count};
+ghost use Rattle.shared_memory.specs.History.{entries_of, queue_after};
+ghost use Rattle.shared_memory.specs.WaitQueue.{IsFree};
+ghost use Rattle.interp_trait.specs.Turns.{MayRun, MayBeSpawned};
+ghost use Rattle.spawn_host_workers.specs.Level.{Level};
+ghost use Rattle.spawn_host_workers.specs.Crew.{IsCrew};
+ghost use Rattle.spawn_host_workers.specs.Faults.{IsOfSystem};
+ghost use Rattle.spawn_host_workers.specs.Composed.{IsComposed, reported, seats_of};
+
+use crate::crew::run_crew;
+use crate::report::{RunEnd, RunFault};
+use crate::rounds::level;
+use crate::worker::WorkerEnd;
+use interp_trait::{Gate, TakesTurns};
+use shared_memory::SharedMemory;
+use std::alloc::Global;
+use std::sync::Wait;
+use std::thread;
+use std::thread::Threads;
+use types::{MOST_THREADS, SEATS, ThreadReport};
+use waiters_desk::Desk;
+
+/// The reports of those that ran, and the seats of all.
+fn split<S: Drop>(ends: Vec<WorkerEnd<S>>, threads: &mut Vec<ThreadReport>, seats: &mut Vec<S>)
+    requires empty { (threads.old.items ≡ []) × (seats.old.items ≡ []) }
+    requires room { (vec_len threads.old + vec_len ends ≤ vec_capacity threads.old)
+        × (vec_len seats.old + vec_len ends ≤ vec_capacity seats.old) }
+    ensures threads { threads.new.items ≡ reported ends.items }
+    ensures seats { seats.new.items ≡ seats_of ends.items }
+    ensures capacity { vec_capacity seats.new ≡ vec_capacity seats.old }
+    ensures len { vec_len seats.new ≡ vec_len ends }
+{
+    for end in ends {
+        let WorkerEnd { report, seat } = end;
+        if let Some(report) = report {
+            threads.push_reserved(report);
+        }
+        seats.push_reserved(seat);
+    }
+}
+
+/// Runs all threads in a scope of their own.
+fn run_threads<T, M, G, R>(
+    rt: &R,
+    alloc: Global,
+    first: T,
+    threads: Vec<T>,
+    memory: &M,
+    seat: M::Seat,
+    seats: Vec<M::Seat>,
+    desk: &Desk<M, &R>,
+    gate: &G,
+) -> Result<Vec<WorkerEnd<M::Seat>>, RunFault>
+where
+    T: TakesTurns + Send + Drop,
+    M: SharedMemory + Sync,
+    G: Gate + Sync,
+    R: Threads + Wait + Sync,
+    requires here { MayRun (T.meaning first) }
+    requires free { IsFree (queue_after (M.seen seat)) (M.name seat) }
+    requires len { vec_len threads ≡ vec_len seats }
+    requires few { vec_len seats < most_threads }
+    requires new { All (λ (s : M.Seat). entries_of (M.name s) (M.seen s) ≡ []) seats.items }
+    requires begins { All (λ (t : T). MayBeSpawned (T.meaning t)) threads.items }
+    ensures fault { IfErr result (λ fault. IsOfSystem fault) }
+    ensures crew { IfOk result (λ ends. IsCrew M.LOSES M.opening (M.limit memory.now) M.name M.seen T.meaning first seat threads.items
+        seats.items ends.items) }
+{
+    thread::scope(
+        thread::scope_env(),
+        rt,
+        move |scope| -> Result<Vec<WorkerEnd<M::Seat>>, RunFault>
+            requires here { MayRun (T.meaning first) }
+            requires free { IsFree (queue_after (M.seen seat)) (M.name seat) }
+            requires len { vec_len threads ≡ vec_len seats }
+            requires few { vec_len seats < most_threads }
+            requires new { All (λ (s : M.Seat). entries_of (M.name s) (M.seen s) ≡ []) seats.items }
+            requires begins { All (λ (t : T). MayBeSpawned (T.meaning t)) threads.items }
+            ensures fault { IfErr result (λ fault. IsOfSystem fault) }
+            ensures crew { IfOk result (λ ends. IsCrew M.LOSES M.opening (M.limit memory.entry.now) M.name M.seen T.meaning first seat
+                threads.items seats.items ends.items) }
+        {
+            run_crew(
+                scope, rt, alloc, first, threads, memory, seat, seats, desk, gate,
+            )
+        },
+    )
+}
+
+pub(crate) fn level_all<M: SharedMemory>(memory: &M, hub: &mut M::Seat, seats: &mut Vec<M::Seat>)
+    requires { M.has_queue_right hub.old ≡ true }
+    ensures level { Level M.opening M.name M.has_queue_right M.seen hub.old hub.new seats.old.items seats.new.items }
+    ensures len { vec_len seats.new ≡ vec_len seats.old }
+    ensures capacity { vec_capacity seats.new ≡ vec_capacity seats.old }
+{
+    level(memory, hub, seats.as_mut_slice());
+}
+
+/// Runs the threads of a module as real threads, over one shared memory: the first in the calling thread, and each
+/// spawned one in a thread of its own, which waits until it is spawned.
+///
+/// The 17 seats are those of a new memory, in order of their names. Memory is taken before the first turn alone.
+pub fn run_all<T, M, G, R>(
+    rt: &R,
+    alloc: Global,
+    first: T,
+    spawned: Vec<T>,
+    memory: &M,
+    mut seats: Vec<M::Seat>,
+    gate: &G,
+) -> Result<RunEnd<M::Seat>, RunFault>
+where
+    T: TakesTurns + Send + Drop,
+    M: SharedMemory + Sync,
+    G: Gate + Sync,
+    R: Threads + Wait + Sync,
+    requires here { MayRun (T.meaning first) }
+    requires count { vec_len spawned ≡ most_spawned }
+    requires begins { All (λ (t : T). MayBeSpawned (T.meaning t)) spawned.items }
+    requires len { vec_len seats ≡ seat_count }
+    requires names { (k : ℕ) (d : M.Seat) → k < seat_count → M.name (slice_index_or seats.items k d) ≡ k }
+    requires new { (k : ℕ) (d : M.Seat) → k < seat_count → M.seen (slice_index_or seats.items k d) ≡ [] }
+    requires right { (d : M.Seat) → M.has_queue_right (slice_index_or seats.items desk_name d) ≡ true }
+    ensures fault { IfErr result (λ fault. IsOfSystem fault) }
+    ensures composed { IfOk result (λ end. IsComposed M.LOSES M.opening (M.limit memory.now) M.name M.seen T.meaning first spawned.items
+        end.threads.items end.seats.items) }
+{
+    let Ok(mut reports) = Vec::with_capacity(alloc, MOST_THREADS) else {
+        return Err(RunFault::NoMemory);
+    };
+    let Ok(mut home) = Vec::with_capacity(alloc, SEATS as usize) else {
+        return Err(RunFault::NoMemory);
+    };
+    let Some(desk_seat) = seats.pop() else {
+        unreachable!()
+    };
+    let seat = seats.remove(0);
+    let desk = Desk::open(rt, memory, desk_seat);
+    let ends = run_threads(rt, alloc, first, spawned, memory, seat, seats, &desk, gate)?;
+    let mut hub = desk.close();
+    split(ends, &mut reports, &mut home);
+    level_all(memory, &mut hub, &mut home);
+    home.push_reserved(hub);
+    Ok(RunEnd {
+        threads: reports,
+        seats: home,
+    })
+}

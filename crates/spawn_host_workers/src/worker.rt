@@ -1,0 +1,46 @@
+//! What a worker does: it waits until its thread is spawned, and runs it.
+ghost use Rattle.std.specs.Prelude.{◌≡◌, []};
+ghost use Rattle.shared_memory.specs.History.{entries_of};
+ghost use Rattle.spawn_host_workers.specs.Works.{EndsWork};
+ghost use Rattle.interp_trait.specs.Turns.{MayBeSpawned};
+
+use interp_trait::{Gate, TakesTurns};
+use shared_memory::SharedMemory;
+use spawn_host_thread::{ThreadEnd, run_thread};
+use std::sync::Wait;
+use types::{ThreadReport, Value};
+use waiters_desk::Desk;
+
+/// A seat that comes back, with the report of its thread, if that one was spawned.
+#[derive(Drop)]
+pub(crate) struct WorkerEnd<S> {
+    pub(crate) report: Option<ThreadReport>,
+    pub(crate) seat: S,
+}
+
+/// Waits until the thread of the seat's name is spawned, and runs it to its end.
+pub(crate) fn work<T: TakesTurns + Drop, M: SharedMemory, W: Wait + Drop, G: Gate, R: Wait>(
+    rt: &R,
+    mut thread: T,
+    memory: &M,
+    mut seat: M::Seat,
+    desk: &Desk<M, W>,
+    gate: &G,
+) -> WorkerEnd<M::Seat>
+    requires new { entries_of (M.name seat) (M.seen seat) ≡ [] }
+    requires begins { MayBeSpawned (T.meaning thread) }
+    ensures { EndsWork M.LOSES M.opening (M.limit memory.now) M.name M.seen T.meaning thread seat result }
+{
+    let name = memory.name(&seat);
+    let Some(arg) = desk.begin(memory, &mut seat) else {
+        return WorkerEnd { report: None, seat };
+    };
+    thread.set_args(&[Value::I32(name), Value::I32(arg)]);
+    let ThreadEnd {
+        outcome,
+        seat,
+        spent,
+    } = run_thread(rt, thread, memory, seat, desk, gate);
+    let report = Some(ThreadReport { outcome, spent });
+    WorkerEnd { report, seat }
+}

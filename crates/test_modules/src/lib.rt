@@ -1,0 +1,18 @@
+//! Modules for tests, each once: as bytes, with its text.
+#![tactic(auto)]
+
+mod examples;
+mod small;
+#[cfg(test)]
+mod tests;
+mod threads;
+
+pub use examples::{
+    ATOMIC_ADD, BROKEN_LOCK, C_COUNTER, C_TICKET_LOCK, CONDITION, COUNTING, FAC, FIB, HASH, RACING,
+    SIEVE, TICKET_LOCK,
+};
+pub use small::{
+    ADDING, COUNTDOWN, ENDLESS, GIVING_I32, GIVING_NOTHING, GROWING, HEADER, I32, I64, OUTSIDE,
+    PLAIN, SHARED, SPINNING, Small, TAKING, TWO_WORDS, WAITING, WAITING_FOR_GOOD,
+};
+pub use threads::{FOUR, SIXTEEN, SLEEPERS, SUMMING, TABLE, TELLING, TIMEOUTS, TRAPPING, TREE};

@@ -1,0 +1,11 @@
+//! What is put together from code is what another tool made of the text.
+
+use crate::{ADDING, ATOMIC_ADD};
+use std::test::Fail;
+
+#[test]
+fn puts_a_module_together(rt: HostRuntime) -> Result<(), Fail> {
+    let module = ADDING.bytes(rt.alloc())?;
+    assert_eq!(rt; module.as_slice(), ATOMIC_ADD);
+    Ok(())
+}

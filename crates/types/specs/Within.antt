@@ -1,0 +1,62 @@
+-- The limits on a module, other than those on sizes in bytes. They are this project's own (Core specification 1.0,
+-- appendix 7.2, leaves limits to an implementation).
+use Rattle.std.specs.Prelude.{ℕ, ◌+◌, ◌≤◌, List, length, count_by, Bool, true, false, IfSome, unwrap_or}
+use Rattle.std.specs.Option.{option_map}
+use Rattle.std.specs.Bool.{⊤}
+use Rattle.std.specs.List.{All, slice_get, zip}
+use Rattle.types.specs.declared.parts.Limits.{Limits}
+use Rattle.types.specs.declared.parts.FuncType.{FuncType}
+use Rattle.types.specs.declared.parts.ImportDesc.{ImportDesc}
+use Rattle.types.specs.declared.parts.ImportDesc.TheVariants as imports
+use Rattle.types.specs.declared.parts.Body.{Body}
+use Rattle.types.specs.declared.parts.Parts.{Parts}
+use Rattle.types.specs.Limits.{most_pages, most_items, most_functions, most_elements, most_params, most_locals}
+
+abbrev pub IsTypeWithin : FuncType → Type 0
+IsTypeWithin t = (length t.params ≤ most_params) × (length t.results ≤ most_params)
+
+-- A table has at most 10,000 elements at first.
+abbrev pub IsTableWithin : Limits → Type 0
+IsTableWithin l = l.min ≤ most_elements
+
+-- A memory has at most 64 pages at first, and at most 64 where a maximum is given.
+abbrev pub IsMemoryWithin : Limits → Type 0
+IsMemoryWithin l = (l.min ≤ most_pages) × IfSome l.max (λ m. m ≤ most_pages)
+
+-- What holds of tables and memories holds of imported ones too.
+abbrev pub IsDescWithin : ImportDesc → Type 0
+IsDescWithin (imports.Func f) = ⊤
+IsDescWithin (imports.Table l) = IsTableWithin l
+IsDescWithin (imports.Memory l) = IsMemoryWithin l
+IsDescWithin (imports.Global g) = ⊤
+
+abbrev pub is_func : ImportDesc → Bool
+is_func (imports.Func f) = true
+is_func (imports.Table l) = false
+is_func (imports.Memory l) = false
+is_func (imports.Global g) = false
+
+-- The parameters of a type by its index: none where no type has it.
+abbrev pub param_count : List FuncType → ℕ → ℕ
+param_count types index = unwrap_or (option_map (λ t. length t.params) (slice_get types index)) 0
+
+abbrev pub IsBodyWithin : List FuncType → ℕ → Body → Type 0
+IsBodyWithin types index body = param_count types index + length body.locals ≤ most_locals
+
+-- A module within the limits. The number of bodies has none of its own.
+pub record IsWithinLimits (m : Parts) : Type 0 where
+  pub types : length m.types ≤ most_items
+  pub imports : length m.imports ≤ most_items
+  pub functions : count_by (λ i. is_func i.desc) m.imports + length m.functions ≤ most_functions
+  pub tables : length m.tables ≤ most_items
+  pub memories : length m.memories ≤ most_items
+  pub globals : length m.globals ≤ most_items
+  pub exports : length m.exports ≤ most_items
+  pub elements : length m.elements ≤ most_items
+  pub data_segments : length m.data ≤ most_items
+  pub each_type : All IsTypeWithin m.types
+  pub each_import : All (λ i. IsDescWithin i.desc) m.imports
+  pub each_table : All IsTableWithin m.tables
+  pub each_memory : All IsMemoryWithin m.memories
+  pub each_element : All (λ e. length e.functions ≤ most_functions) m.elements
+  pub each_body : All (λ f. IsBodyWithin m.types f.0 f.1) (zip m.functions m.bodies)

@@ -1,0 +1,163 @@
+//! Tests of a module's parts for the limits on numbers of items.
+ghost use Rattle.std.specs.Prelude.{◌≡◌, ◌+◌, ◌≤◌, length, count_by, nat_le};
+ghost use Rattle.std.specs.List.{list_all, zip};
+ghost use Rattle.types.specs.Within.{param_count, is_func};
+ghost use Rattle.types.specs.Tests.{is_type_within, is_table_within, is_max_within, is_memory_within};
+ghost use Rattle.types.specs.Tests.{is_desc_within, is_body_within, has_few_items, has_items_within};
+ghost use Rattle.types.specs.Tests.{has_bodies_within};
+ghost use Rattle.types.specs.Limits.{most_functions};
+
+use crate::limits::{
+    MOST_ELEMENTS, MOST_FUNCTIONS, MOST_ITEMS, MOST_LOCALS, MOST_PAGES, MOST_PARAMS,
+};
+use crate::parts::{Body, ElementSegment, FuncType, Import, ImportDesc, Limits, Parts};
+
+fn is_type_in(func_type: &FuncType) -> bool
+    ensures { result ≡ is_type_within func_type.now }
+{
+    func_type.params.len() <= MOST_PARAMS && func_type.results.len() <= MOST_PARAMS
+}
+
+fn is_table_in(limits: &Limits) -> bool
+    ensures { result ≡ is_table_within limits.now }
+{
+    limits.min <= MOST_ELEMENTS
+}
+
+fn is_memory_in(limits: &Limits) -> bool
+    ensures { result ≡ is_memory_within limits.now }
+{
+    limits.min <= MOST_PAGES
+        && match limits.max {
+            Some(max) => max <= MOST_PAGES,
+            None => true,
+        }
+}
+
+fn is_import_in(import: &Import) -> bool
+    ensures { result ≡ is_desc_within import.now.desc }
+{
+    match &import.desc {
+        ImportDesc::Func(_) | ImportDesc::Global(_) => true,
+        ImportDesc::Table(limits) => is_table_in(limits),
+        ImportDesc::Memory(limits) => is_memory_in(limits),
+    }
+}
+
+fn is_imported_function(import: &Import) -> bool
+    ensures { result ≡ is_func import.now.desc }
+{
+    match import.desc {
+        ImportDesc::Func(_) => true,
+        _ => false,
+    }
+}
+
+/// How many functions are imported.
+fn imported_functions(imports: &[Import]) -> usize
+    ensures { result ≡ count_by (λ i. is_func i.desc) imports.now }
+{
+    imports
+        .iter()
+        .filter(|import| is_imported_function(import))
+        .count()
+}
+
+/// The parameters of the type with this index, none if there is no such type.
+fn params(types: &[FuncType], index: u32) -> usize
+    ensures { result ≡ param_count types.now index }
+{
+    match types.get(index as usize) {
+        Some(func_type) => func_type.params.len(),
+        None => 0,
+    }
+}
+
+fn is_body_in(types: &[FuncType], index: u32, body: &Body) -> bool
+    ensures { result ≡ is_body_within types.now index body.now }
+{
+    let params = params(types, index);
+    params <= MOST_LOCALS && body.locals.len() <= MOST_LOCALS - params
+}
+
+/// Whether each section has as few items as a module may have.
+pub fn has_few_items_in(parts: &Parts) -> bool
+    ensures { result ≡ has_few_items parts.now }
+{
+    let imported = imported_functions(parts.imports.as_slice());
+    parts.types.len() <= MOST_ITEMS
+        && parts.imports.len() <= MOST_ITEMS
+        && imported <= MOST_FUNCTIONS
+        && parts.functions.len() <= MOST_FUNCTIONS - imported
+        && parts.tables.len() <= MOST_ITEMS
+        && parts.memories.len() <= MOST_ITEMS
+        && parts.globals.len() <= MOST_ITEMS
+        && parts.exports.len() <= MOST_ITEMS
+        && parts.elements.len() <= MOST_ITEMS
+        && parts.data.len() <= MOST_ITEMS
+}
+
+fn are_types_in(types: &[FuncType]) -> bool
+    ensures { result ≡ list_all is_type_within types.now }
+{
+    types.iter().all(|func_type| is_type_in(func_type))
+}
+
+fn are_imports_in(imports: &[Import]) -> bool
+    ensures { result ≡ list_all (λ i. is_desc_within i.desc) imports.now }
+{
+    imports.iter().all(|import| is_import_in(import))
+}
+
+fn are_tables_in(tables: &[Limits]) -> bool
+    ensures { result ≡ list_all is_table_within tables.now }
+{
+    tables.iter().all(|limits| is_table_in(limits))
+}
+
+fn are_memories_in(memories: &[Limits]) -> bool
+    ensures { result ≡ list_all is_memory_within memories.now }
+{
+    memories.iter().all(|limits| is_memory_in(limits))
+}
+
+fn are_elements_in(elements: &[ElementSegment]) -> bool
+    ensures { result ≡ list_all (λ e. nat_le (length e.functions) most_functions) elements.now }
+{
+    elements
+        .iter()
+        .all(|segment| segment.functions.len() <= MOST_FUNCTIONS)
+}
+
+/// Whether each body has no more locals than it may have with the parameters of its function.
+fn are_bodies_in(types: &[FuncType], functions: &[u32], bodies: &[Body]) -> bool
+    ensures { result ≡ list_all (λ f. is_body_within types.now f.0 f.1) (zip functions.now bodies.now) }
+{
+    functions
+        .iter()
+        .zip(bodies.iter())
+        .all(|(index, body)| is_body_in(types, *index, body))
+}
+
+/// Whether each item keeps the limits on it.
+pub fn has_items_in(parts: &Parts) -> bool
+    ensures { result ≡ has_items_within parts.now }
+{
+    are_types_in(parts.types.as_slice())
+        && are_imports_in(parts.imports.as_slice())
+        && are_tables_in(parts.tables.as_slice())
+        && are_memories_in(parts.memories.as_slice())
+        && are_elements_in(parts.elements.as_slice())
+}
+
+/// Whether each function has its body, with no more locals than a body may have.
+pub fn has_bodies_in(parts: &Parts) -> bool
+    ensures { result ≡ has_bodies_within parts.now }
+{
+    parts.functions.len() == parts.bodies.len()
+        && are_bodies_in(
+            parts.types.as_slice(),
+            parts.functions.as_slice(),
+            parts.bodies.as_slice(),
+        )
+}

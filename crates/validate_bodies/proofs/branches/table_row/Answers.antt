@@ -1,0 +1,32 @@
+use Rattle.std.proofs.Common.{rules, ◌≡◌, ◌∙◌, ap, Some, take, arith}
+use Rattle.std.proofs.lemmas.List.{take_all}
+use Rattle.std.proofs.lemmas.List.Elements.{All-nil, All-more}
+use Rattle.validate_typing.specs.Typing.{results_of}
+use Rattle.validate_bodies.specs.Blocks.{labels_at, as_label}
+use Rattle.validate_bodies.proofs.Labels.{Carry, types_at, row_none, row_step}
+use Rattle.validate_bodies.proofs.branches.table_row.Goals as goal
+
+pub loop-index-init : goal.loop-index-init
+loop-index-init c = record {
+  row = row_none (labels_at c.args.block.now c.args.outer.now) c.args.row.now.items c.requires;
+  carried = All-nil (Carry (labels_at c.args.block.now c.args.outer.now) (results_of c.args.default.carries));
+}
+
+pub loop-index-preserved : goal.loop-index-preserved
+loop-index-preserved c =
+    let labels = labels_at c.args.block.now c.args.outer.now in
+    let l = c.in_ok-label.label in
+    let same : l.carries ≡ c.args.default.carries = search rules in
+    record {
+      row = row_step labels c.args.indices.now c.loop-index.index-index 0 (as_label l) _ _ _ (omega arith)
+          c.loop-index.invariant.row c.in_ok-label.ensures c.target.ensures c.in_ok-push.ensures.items;
+      carried = All-more (Carry labels (results_of c.args.default.carries)) c.args.indices.now c.loop-index.index-index
+          0 (omega arith) c.loop-index.invariant.carried
+          (types_at labels _ (as_label l) c.in_ok-label.ensures ∙ ap (λ k. Some (results_of k)) same);
+    }
+
+pub returns : goal.returns
+returns c =
+    let all : take c.loop-index.index-index c.args.indices.now ≡ c.args.indices.now = take_all _ _ (omega arith) in
+    let t = rw all at c.loop-index.invariant in
+    record { row = t.row; carried = t.carried }

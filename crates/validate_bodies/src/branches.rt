@@ -1,0 +1,146 @@
+//! Instructions that never go on, and branches (Core specification 1.0, section 3.3.5).
+
+ghost use Rattle.std.specs.Prelude.{◌≡◌, [], ◌∷◌, ◌++◌, map, Some, OnOk, IfOk};
+ghost use Rattle.std.specs.List.{slice_get, All};
+ghost use Rattle.types.specs.declared.instr.PlainInstr.TheVariants as plain;
+ghost use Rattle.validate_typing.specs.Typing.{results_of};
+ghost use Rattle.validate_typing.specs.Placed.{types_of, IsRow};
+ghost use Rattle.validate_bodies.specs.Blocks.{Checked, CheckedInside, CheckedAnywhere, as_label, labels_at};
+ghost use Rattle.validate_bodies.specs.Scope.{context_of};
+
+use crate::block::{BlockLabel, Flow, OpenBlock};
+use crate::operands::{put_result, take_one, take_result};
+use crate::problem::Problem;
+use crate::scope::Scope;
+use types::{Sequence, ValType};
+use validate_typing::{Fault, Target};
+
+/// The label with this index: of the innermost block, or of one around it.
+fn find_label(block: &OpenBlock, outer: &[OpenBlock], index: u32) -> Result<BlockLabel, Problem>
+    ensures { IfOk result (λ l. slice_get (labels_at block.now outer.now) index ≡ Some (as_label l)) }
+{
+    let index = index as usize;
+    if index == 0 {
+        Ok(block.shape.label)
+    } else if index <= outer.len() {
+        Ok(outer[outer.len() - index].shape.label)
+    } else {
+        Err(Problem::Wrong(Fault::UnknownLabel))
+    }
+}
+
+/// The rest of the block doesn't run.
+fn stop(block: &mut OpenBlock)
+    ensures shape { block.new.shape ≡ block.old.shape }
+    ensures flow { block.new.flow ≡ Flow.Free }
+    ensures bare { block.new.operands.items ≡ [] }
+{
+    block.operands.clear();
+    block.flow = Flow::Free;
+}
+
+/// `unreachable`
+pub fn check_unreachable(block: &mut OpenBlock) -> Result<(), Problem>
+    ensures { OnOk result (CheckedAnywhere plain.Unreachable block.old block.new) }
+{
+    stop(block);
+    Ok(())
+}
+
+/// `return`
+pub fn check_return(scope: &Scope, block: &mut OpenBlock) -> Result<(), Problem>
+    ensures { OnOk result (CheckedInside (context_of scope.now) plain.Return block.old block.new) }
+{
+    take_result(block, scope.result)?;
+    stop(block);
+    Ok(())
+}
+
+/// `br`
+pub fn check_br(
+    scope: &Scope,
+    block: &mut OpenBlock,
+    outer: &[OpenBlock],
+    index: u32,
+    row: &mut Vec<Target>,
+) -> Result<(), Problem>
+    requires { row.old.items ≡ [] }
+    ensures { OnOk result (Checked (context_of scope.now) (labels_at block.old outer.now)
+        (plain.Br index) block.old block.new row.new.items) }
+{
+    let label = find_label(block, outer, index)?;
+    take_result(block, label.carries)?;
+    stop(block);
+    row.push(label.target())?;
+    Ok(())
+}
+
+/// `br_if`
+pub fn check_br_if(
+    scope: &Scope,
+    block: &mut OpenBlock,
+    outer: &[OpenBlock],
+    index: u32,
+    row: &mut Vec<Target>,
+) -> Result<(), Problem>
+    requires { row.old.items ≡ [] }
+    ensures { OnOk result (Checked (context_of scope.now) (labels_at block.old outer.now)
+        (plain.BrIf index) block.old block.new row.new.items) }
+{
+    let label = find_label(block, outer, index)?;
+    take_one(block, ValType::I32)?;
+    take_result(block, label.carries)?;
+    put_result(block, label.carries)?;
+    row.push(label.target())?;
+    Ok(())
+}
+
+/// The targets of these labels, each of which has to be there and to carry what the default does. The default comes
+/// last.
+fn table_row(
+    block: &OpenBlock,
+    outer: &[OpenBlock],
+    indices: &[u32],
+    default: BlockLabel,
+    row: &mut Vec<Target>,
+) -> Result<(), Problem>
+    requires { row.old.items ≡ [] }
+    ensures row { OnOk result (IsRow (labels_at block.now outer.now) indices.now row.new.items) }
+    ensures carried { OnOk result (All (λ k. slice_get (types_of (labels_at block.now outer.now)) k ≡ Some
+        (results_of default.carries)) indices.now) }
+{
+    for index in indices {
+        let label = find_label(block, outer, *index)?;
+        if label.carries != default.carries {
+            return Err(Problem::Wrong(Fault::TypeMismatch));
+        }
+        row.push(label.target())?;
+    }
+    Ok(())
+}
+
+/// `br_table`
+pub fn check_br_table(
+    scope: &Scope,
+    block: &mut OpenBlock,
+    outer: &[OpenBlock],
+    indices: &Sequence<u32>,
+    default_index: u32,
+    row: &mut Vec<Target>,
+) -> Result<(), Problem>
+    requires { row.old.items ≡ [] }
+    ensures { OnOk result (Checked (context_of scope.now) (labels_at block.old outer.now)
+        (plain.BrTable indices.now default_index) block.old block.new row.new.items) }
+{
+    let default = find_label(block, outer, default_index)?;
+    let indices = indices.as_slice();
+    for index in indices {
+        find_label(block, outer, *index)?;
+    }
+    table_row(block, outer, indices, default, row)?;
+    row.push(default.target())?;
+    take_one(block, ValType::I32)?;
+    take_result(block, default.carries)?;
+    stop(block);
+    Ok(())
+}

@@ -1,0 +1,41 @@
+//! Numeric instructions (Core specification 1.0, section 3.3.1).
+
+ghost use Rattle.std.specs.Prelude.{◌≡◌, [], ◌∷◌, OnOk};
+ghost use Rattle.validate_typing.specs.Typing.{numeric_takes, numeric_gives};
+ghost use Rattle.types.specs.declared.instr.PlainInstr.TheVariants as plain;
+ghost use Rattle.validate_bodies.specs.Blocks.{Moved, CheckedAnywhere};
+
+use crate::block::OpenBlock;
+use crate::operands::replace;
+use crate::problem::Problem;
+use types::{ConvertOp, NumericInstr, ValType};
+
+/// The operands of a numeric instruction and its result.
+fn replace_numbers(block: &mut OpenBlock, instr: NumericInstr) -> Result<(), Problem>
+    ensures { OnOk result (Moved (numeric_takes instr) (numeric_gives instr ∷ []) block.old block.new) }
+{
+    match instr {
+        NumericInstr::Const(value) => replace(block, &[], Some(value.val_type())),
+        NumericInstr::Unary(t, _) => replace(block, &[t], Some(t)),
+        NumericInstr::Binary(t, _) => replace(block, &[t, t], Some(t)),
+        NumericInstr::Test(t) => replace(block, &[t], Some(ValType::I32)),
+        NumericInstr::Compare(t, _) => replace(block, &[t, t], Some(ValType::I32)),
+        NumericInstr::Convert(ConvertOp::WrapI64) => replace(
+            block,
+            &[ValType::I64],
+            Some(ValType::I32),
+        ),
+        NumericInstr::Convert(ConvertOp::ExtendI32S | ConvertOp::ExtendI32U) => replace(
+            block,
+            &[ValType::I32],
+            Some(ValType::I64),
+        ),
+    }
+}
+
+/// A numeric instruction.
+pub fn check_numeric(block: &mut OpenBlock, instr: NumericInstr) -> Result<(), Problem>
+    ensures { OnOk result (CheckedAnywhere (plain.Numeric instr) block.old block.new) }
+{
+    replace_numbers(block, instr)
+}

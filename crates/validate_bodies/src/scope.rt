@@ -1,0 +1,99 @@
+//! What the code of a body may name.
+
+ghost use Rattle.std.specs.Prelude.{◌≡◌, Some, IfOk, OnOk};
+ghost use Rattle.std.specs.List.{slice_get};
+ghost use Rattle.types.specs.declared.parts.Limits.{Limits};
+ghost use Rattle.validate_typing.specs.Typing.{HasMemory};
+ghost use Rattle.validate_bodies.specs.Scope.{context_of};
+
+use crate::problem::Problem;
+use types::{FuncType, Global, GlobalType, Limits, ValType};
+use validate_typing::Fault;
+
+/// What all code of a module may name (Core specification 1.0, section 3.1.1).
+#[derive(Clone, Copy)]
+pub struct Declared<'m> {
+    pub types: &'m [FuncType],
+    /// The index of each function's type, imported functions first.
+    pub functions: &'m [u32],
+    pub tables: &'m [Limits],
+    /// Imported memories first.
+    pub memories: &'m [Limits],
+    pub globals: &'m [Global],
+}
+
+/// What the code of one body may name.
+#[derive(Clone, Copy)]
+pub struct Scope<'m> {
+    pub declared: Declared<'m>,
+    pub params: &'m [ValType],
+    /// The locals that aren't parameters.
+    pub locals: &'m [ValType],
+    pub result: Option<ValType>,
+}
+
+impl<'m> Scope<'m> {
+    /// The type of a local; parameters come first.
+    pub fn local(&self, index: u32) -> Result<ValType, Problem>
+        ensures { IfOk result (λ t. slice_get (context_of self.now).locals index ≡ Some t) }
+    {
+        let index = index as usize;
+        if index < self.params.len() {
+            return Ok(self.params[index]);
+        }
+        match self.locals.get(index - self.params.len()) {
+            Some(local) => Ok(*local),
+            None => Err(Problem::Wrong(Fault::UnknownLocal)),
+        }
+    }
+
+    /// The type of a global.
+    pub fn global(&self, index: u32) -> Result<GlobalType, Problem>
+        ensures { IfOk result (λ g. slice_get (context_of self.now).globals index ≡ Some g) }
+    {
+        match self.declared.globals.get(index as usize) {
+            Some(global) => Ok(global.global_type),
+            None => Err(Problem::Wrong(Fault::UnknownGlobal)),
+        }
+    }
+
+    /// A type.
+    pub fn func_type(&self, index: u32) -> Result<&'m FuncType, Problem>
+        ensures { IfOk result (λ t. slice_get (context_of self.now).types index ≡ Some t.now) }
+    {
+        match self.declared.types.get(index as usize) {
+            Some(func_type) => Ok(func_type),
+            None => Err(Problem::Wrong(Fault::UnknownType)),
+        }
+    }
+
+    /// The index of a function's type.
+    pub fn function(&self, index: u32) -> Result<u32, Problem>
+        ensures { IfOk result (λ t. slice_get (context_of self.now).functions index ≡ Some t) }
+    {
+        match self.declared.functions.get(index as usize) {
+            Some(type_index) => Ok(*type_index),
+            None => Err(Problem::Wrong(Fault::UnknownFunction)),
+        }
+    }
+
+    /// That there is a table.
+    pub fn need_table(&self) -> Result<(), Problem>
+        ensures { OnOk result ((l : Limits) × (slice_get (context_of self.now).tables 0 ≡ Some l)) }
+    {
+        match self.declared.tables.first() {
+            Some(_) => Ok(()),
+            None => Err(Problem::Wrong(Fault::UnknownTable)),
+        }
+    }
+
+    /// That there is a memory.
+    pub fn need_memory(&self) -> Result<(), Problem>
+        ensures { OnOk result (HasMemory (context_of self.now)) }
+    {
+        match self.declared.memories.first() {
+            Some(_) => Ok(()),
+            None => Err(Problem::Wrong(Fault::UnknownMemory)),
+        }
+    }
+}

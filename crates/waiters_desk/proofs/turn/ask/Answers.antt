@@ -1,0 +1,53 @@
+use Rattle.std.proofs.Common.{refl, sym}
+use Rattle.waiters_desk.proofs.Turning.{may_enter, gains_beside, answers_beside, value_reply, done_reply, asks_with, asks_step, asks_outside, asks_refused}
+use Rattle.waiters_desk.proofs.turn.ask.Goals as goal
+
+pub access-requires-clause-allowed : goal.access-requires-clause-allowed
+access-requires-clause-allowed g c is = may_enter _ _ _ _ c.requires.beside c.requires.free
+
+pub returns-in-Value-clause-beside : goal.returns-in-Value-clause-beside
+returns-in-Value-clause-beside g c =
+    rw (c.ask-asleep.ensures.after, c.name-name.ensures)
+    (answers_beside _ _ _ _ _ _ _ _ _ refl c.requires.right c.requires.beside c.requires.free
+    c.in-Value.ensures.outcome)
+
+pub returns-in-Value-clause-step : goal.returns-in-Value-clause-step
+returns-in-Value-clause-step g c =
+    rw (c.ask-asleep.ensures.after, c.name-name.ensures)
+    (sym (asks_step _ _ _ _ _ c.args.question _ _ c.requires.right c.requires.beside c.requires.free _ c.in-Value.loaded
+    (λ m. value_reply m c.args.question c.in-Value.loaded) c.in-Value.ensures.outcome))
+
+pub returns-in-Value-clause-asked : goal.returns-in-Value-clause-asked
+returns-in-Value-clause-asked g c =
+    asks_with _ _ _ _ _ c.args.question _ _ c.requires.right c.requires.beside c.requires.free _ c.in-Value.loaded
+    (λ m. value_reply m c.args.question c.in-Value.loaded) c.in-Value.ensures.outcome
+
+pub returns-in-Done-clause-beside : goal.returns-in-Done-clause-beside
+returns-in-Done-clause-beside g c =
+    rw (c.ask-asleep-in-Done.ensures.after, c.name-name.ensures)
+    (answers_beside _ _ _ _ _ _ _ _ _ refl c.requires.right c.requires.beside c.requires.free
+    c.in-Done.ensures.outcome)
+
+pub returns-in-Done-clause-step : goal.returns-in-Done-clause-step
+returns-in-Done-clause-step g c =
+    rw (c.ask-asleep-in-Done.ensures.after, c.name-name.ensures)
+    (sym (asks_step _ _ _ _ _ c.args.question _ _ c.requires.right c.requires.beside c.requires.free _ 0
+    (λ m. done_reply m c.args.question) c.in-Done.ensures.outcome))
+
+pub returns-in-Done-clause-asked : goal.returns-in-Done-clause-asked
+returns-in-Done-clause-asked g c =
+    asks_with _ _ _ _ _ c.args.question _ _ c.requires.right c.requires.beside c.requires.free _ 0 (λ m. done_reply m c.args.question) c.in-Done.ensures.outcome
+
+pub returns-in-OutOfBounds-clause-beside : goal.returns-in-OutOfBounds-clause-beside
+returns-in-OutOfBounds-clause-beside g c =
+    answers_beside _ _ _ _ _ _ _ _ _ refl c.requires.right c.requires.beside c.requires.free
+    c.in-OutOfBounds.ensures.outcome
+
+pub returns-in-OutOfBounds-clause-asked : goal.returns-in-OutOfBounds-clause-asked
+returns-in-OutOfBounds-clause-asked g c = asks_outside _ _ _ _ _ _ _ _ c.requires.right c.requires.beside c.requires.free c.in-OutOfBounds.ensures.outcome
+
+pub returns-in-Full-clause-beside : goal.returns-in-Full-clause-beside
+returns-in-Full-clause-beside g c = let full = c.in-Full.ensures.outcome in gains_beside _ _ _ _ _ _ c.requires.right c.requires.beside full.gains
+
+pub returns-in-Full-clause-full : goal.returns-in-Full-clause-full
+returns-in-Full-clause-full g c = asks_refused _ _ _ _ _ c.args.question _ _ c.requires.right c.requires.beside c.requires.free c.in-Full.ensures.outcome

@@ -1,0 +1,209 @@
+//! The desk.
+ghost use Rattle.std.specs.Prelude.{◌≡◌, ◌%◌, [], true, false, IfOk, OnErr};
+ghost use Rattle.types.specs.declared.event.Event.TheVariants.{Ask};
+ghost use Rattle.types.specs.declared.event.Question.TheVariants.{Wait};
+ghost use Rattle.types.specs.Limits.{desk_name};
+ghost use Rattle.shared_memory.specs.Events.{IsQuestion, is_exempt};
+ghost use Rattle.shared_memory.specs.WaitQueue.{IsFree};
+ghost use Rattle.shared_memory.specs.History.{entries_of, of_queue, queue_after};
+ghost use Rattle.shared_memory.specs.Legal.{IsQueueLegal};
+ghost use Rattle.waiters_desk.specs.Calls.{BeginsOrNever, Collects, IsWaiting, Leaves, Notifies, Puts, Refused, Spawns, Waits};
+ghost use Rattle.waiters_desk.specs.Locks.{WaitsReadWhatNotifiersSaw};
+
+use crate::answers::{Asked, Full, Notified};
+use crate::locked::Locked;
+use shared_memory::SharedMemory;
+use std::sync::{Condvar, Mutex, Wait};
+use types::{Answer, Question};
+
+/// Where threads that share one memory ask one another: they wait and notify, spawn threads and end.
+///
+/// Each call enters its question or its answer with the queue right, under one lock and between two meetings of the
+/// caller's seat with the desk's. So a question and the place that it takes in the wait queue are one moment of the
+/// history, and the caller knows afterwards all that earlier callers of the desk had seen. A call may wait for the lock;
+/// `collect` and `begin` also wait until there is something to tell. No call takes memory.
+pub struct Desk<M: SharedMemory, W: Wait + Drop> {
+    state: Mutex<Locked<M>>,
+    changed: Condvar,
+    rt: W,
+}
+
+impl<M: SharedMemory, W: Wait + Drop> Drop for Desk<M, W> {
+    fn drop(self) {
+        let Desk {
+            state: _,
+            changed: _,
+            rt: _,
+        } = self;
+    }
+}
+
+impl<M: SharedMemory, W: Wait + Drop> Desk<M, W> {
+    /// The desk of a memory, with the seat named 16, which has the queue right. That seat has entered nothing, and has
+    /// seen no question and no answer.
+    pub fn open(rt: W, _memory: &M, seat: M::Seat) -> Desk<M, W>
+        requires right { M.has_queue_right seat ≡ true }
+        requires name { M.name seat ≡ desk_name }
+        requires quiet { of_queue (M.seen seat) ≡ [] }
+        requires silent { entries_of desk_name (M.seen seat) ≡ [] }
+    {
+        Desk {
+            state: Mutex::new(Locked::new(seat)),
+            changed: Condvar::new(),
+            rt,
+        }
+    }
+
+    /// Gives the desk's seat back. What it has seen is legal for the wait queue, and it has entered nothing itself.
+    pub fn close(self) -> M::Seat
+        ensures right { M.has_queue_right result ≡ true }
+        ensures name { M.name result ≡ desk_name }
+        ensures legal { IsQueueLegal (M.seen result) }
+        ensures silent { entries_of desk_name (M.seen result) ≡ [] }
+    {
+        let Desk {
+            state,
+            changed: _,
+            rt: _,
+        } = self;
+        state.into_inner().into_seat()
+    }
+
+    /// Asks a question of the caller's thread, and takes the answer unless the thread falls asleep. Where it does, the
+    /// question stays open, and `collect` gives its answer; this call doesn't sleep.
+    pub fn ask(&self, memory: &M, seat: &mut M::Seat, question: Question) -> Result<Asked, Full>
+        requires question { IsQuestion question }
+        requires free { IsFree (queue_after (M.seen seat.old)) (M.name seat.old) }
+        ensures name { M.name seat.new ≡ M.name seat.old }
+        ensures right { M.has_queue_right seat.new ≡ M.has_queue_right seat.old }
+        ensures asked { IfOk result (Puts M.opening (M.limit memory.now) (M.name seat.old) question (M.seen seat.old) (M.seen seat.new)) }
+        ensures full { OnErr result (Refused M.opening (M.limit memory.now) (M.name seat.old) (M.seen seat.old) (M.seen seat.new)) }
+        ensures exempt { OnErr result (is_exempt (Ask question) ≡ false) }
+        ensures reads { WaitsReadWhatNotifiersSaw M.opening (M.seen seat.new) }
+    {
+        let asked = self.state.lock(&self.rt).put(memory, seat, question);
+        self.changed.notify_all();
+        asked
+    }
+
+    /// Asks to sleep while the number in `width` bytes at `addr` is the expected one (threads proposal,
+    /// `memory.atomic.wait32` and `wait64`). The width is 4 or 8 and divides the address, and `expected` fits it.
+    ///
+    /// The answer comes at once where another value is there (1), or the timeout is 0 (2). Otherwise the question
+    /// stays open, and `collect` gives its answer; this call doesn't sleep.
+    pub fn wait(
+        &self,
+        memory: &M,
+        seat: &mut M::Seat,
+        addr: u64,
+        width: u8,
+        expected: u64,
+        timeout: i64,
+    ) -> Result<Asked, Full>
+        requires question { IsQuestion (Wait addr width expected timeout) }
+        requires free { IsFree (queue_after (M.seen seat.old)) (M.name seat.old) }
+        ensures name { M.name seat.new ≡ M.name seat.old }
+        ensures right { M.has_queue_right seat.new ≡ M.has_queue_right seat.old }
+        ensures asked { IfOk result (Waits M.opening (M.limit memory.now) (M.name seat.old) addr width expected timeout
+            (M.seen seat.old) (M.seen seat.new)) }
+        ensures full { OnErr result (Refused M.opening (M.limit memory.now) (M.name seat.old) (M.seen seat.old) (M.seen seat.new)) }
+        ensures reads { WaitsReadWhatNotifiersSaw M.opening (M.seen seat.new) }
+    {
+        let question = Question::Wait {
+            addr,
+            width,
+            expected,
+            timeout,
+        };
+        self.ask(memory, seat, question)
+    }
+
+    /// Waits for the answer to the caller's open question, and takes it: 0 where it was notified, 2 where its timeout
+    /// ended, and for good where nobody is left who could wake it.
+    pub fn collect(&self, memory: &M, seat: &mut M::Seat) -> Answer
+        requires waiting { IsWaiting (queue_after (M.seen seat.old)) (M.name seat.old) }
+        ensures name { M.name seat.new ≡ M.name seat.old }
+        ensures right { M.has_queue_right seat.new ≡ M.has_queue_right seat.old }
+        ensures collected { Collects M.opening (M.name seat.old) result (M.seen seat.old) (M.seen seat.new) }
+    {
+        let name = memory.name(seat);
+        let mut locked = self.changed.wait_while(
+            &self.rt,
+            self.state.lock(&self.rt),
+            |locked| locked.is_asleep(name),
+        );
+        let answer = locked.collect(memory, seat);
+        drop(locked);
+        self.changed.notify_all();
+        answer
+    }
+
+    /// Wakes those that have slept longest at an address that 4 divides, as many as are counted (threads proposal,
+    /// `memory.atomic.notify`), and answers how many they were.
+    pub fn notify(
+        &self,
+        memory: &M,
+        seat: &mut M::Seat,
+        addr: u64,
+        count: u32,
+    ) -> Result<Notified, Full>
+        requires address { addr % 4 ≡ 0 }
+        requires free { IsFree (queue_after (M.seen seat.old)) (M.name seat.old) }
+        ensures name { M.name seat.new ≡ M.name seat.old }
+        ensures right { M.has_queue_right seat.new ≡ M.has_queue_right seat.old }
+        ensures notified { IfOk result (Notifies M.opening (M.limit memory.now) (M.name seat.old) addr count
+            (M.seen seat.old) (M.seen seat.new)) }
+        ensures full { OnErr result (Refused M.opening (M.limit memory.now) (M.name seat.old) (M.seen seat.old) (M.seen seat.new)) }
+        ensures reads { WaitsReadWhatNotifiersSaw M.opening (M.seen seat.new) }
+    {
+        match self.ask(memory, seat, Question::Notify { addr, count })? {
+            Asked::OutOfBounds => Ok(Notified::OutOfBounds),
+            Asked::Told(number) => Ok(Notified::Woke(number)),
+            Asked::Asleep => unreachable!(),
+        }
+    }
+
+    /// Spawns a thread with this argument, and answers its id, 1 to 15, or 4294967295 where none is left.
+    pub fn spawn(&self, memory: &M, seat: &mut M::Seat, arg: u32) -> Result<u32, Full>
+        requires free { IsFree (queue_after (M.seen seat.old)) (M.name seat.old) }
+        ensures name { M.name seat.new ≡ M.name seat.old }
+        ensures right { M.has_queue_right seat.new ≡ M.has_queue_right seat.old }
+        ensures spawned { IfOk result (Spawns M.opening (M.limit memory.now) (M.name seat.old) arg (M.seen seat.old) (M.seen seat.new)) }
+        ensures full { OnErr result (Refused M.opening (M.limit memory.now) (M.name seat.old) (M.seen seat.old) (M.seen seat.new)) }
+    {
+        match self.ask(memory, seat, Question::Spawn { arg })? {
+            Asked::Told(id) => Ok(id),
+            Asked::OutOfBounds | Asked::Asleep => unreachable!(),
+        }
+    }
+
+    /// Waits until a thread of the seat's name was spawned, and gives its argument, or `None` where nobody is alive any
+    /// more who could spawn it. The seat has entered nothing, and enters nothing here.
+    pub fn begin(&self, memory: &M, seat: &mut M::Seat) -> Option<u32>
+        requires new { entries_of (M.name seat.old) (M.seen seat.old) ≡ [] }
+        ensures name { M.name seat.new ≡ M.name seat.old }
+        ensures right { M.has_queue_right seat.new ≡ M.has_queue_right seat.old }
+        ensures begun { BeginsOrNever M.opening (M.name seat.old) (M.seen seat.old) (M.seen seat.new) result }
+    {
+        let name = memory.name(seat);
+        let mut locked = self.changed.wait_while(
+            &self.rt,
+            self.state.lock(&self.rt),
+            |locked| locked.is_to_come(name),
+        );
+        locked.begin(memory, seat)
+    }
+
+    /// Ends the caller's thread: it is alive no more.
+    pub fn end(&self, memory: &M, seat: &mut M::Seat)
+        requires free { IsFree (queue_after (M.seen seat.old)) (M.name seat.old) }
+        ensures name { M.name seat.new ≡ M.name seat.old }
+        ensures right { M.has_queue_right seat.new ≡ M.has_queue_right seat.old }
+        ensures left { Leaves M.opening (M.limit memory.now) (M.name seat.old) (M.seen seat.old) (M.seen seat.new) }
+    {
+        match self.ask(memory, seat, Question::Leave) {
+            Ok(Asked::Told(_)) => {}
+            Ok(Asked::OutOfBounds | Asked::Asleep) | Err(Full) => unreachable!(),
+        }
+    }
+}

@@ -1,0 +1,111 @@
+//! What a caller does at the desk while its seat has the queue right: it enters its question or answer, and puts it to
+//! the wait queue.
+ghost use Rattle.std.specs.Prelude.{◌≡◌, ◌≢◌, [], ◌∷◌, true, false, Some, None, IfOk, IfSome, OnErr};
+ghost use Rattle.types.specs.declared.event.Event.TheVariants.{Ask};
+ghost use Rattle.shared_memory.specs.Events.{IsQuestion, is_exempt};
+ghost use Rattle.shared_memory.specs.WaitQueue.{IsFree, after_answer, answer_due};
+ghost use Rattle.waiters_desk.specs.Calls.{Asks, EntersAtDesk, IsBeside, Puts, Refused, loaded_of, step_of, taken};
+ghost use Rattle.waiters.specs.Queue.{falls_asleep};
+
+use crate::answers::{Asked, Full};
+use shared_memory::SharedMemory;
+use types::{Answer, Event, Question, Reply};
+use waiters::Queue;
+
+/// A question that was entered and put to the wait queue.
+#[derive(Clone, Copy)]
+struct Entered {
+    /// The value that it loaded, or 0 where it loads none.
+    loaded: u64,
+    /// Whether its thread falls asleep.
+    asleep: bool,
+}
+
+/// Enters a question, and puts it to the wait queue, or answers `None` where it is out of bounds.
+fn ask<M: SharedMemory>(
+    memory: &M,
+    seat: &mut M::Seat,
+    queue: &mut Queue,
+    question: Question,
+) -> Result<Option<Entered>, Full>
+    requires right { M.has_queue_right seat.old ≡ true }
+    requires question { IsQuestion question }
+    requires beside { IsBeside queue.old (M.seen seat.old) }
+    requires free { IsFree queue.old (M.name seat.old) }
+    ensures name { M.name seat.new ≡ M.name seat.old }
+    ensures right { M.has_queue_right seat.new ≡ true }
+    ensures beside { IsBeside queue.new (M.seen seat.new) }
+    ensures step { IfOk result (λ entered. queue.new ≡ step_of question (loaded_of entered) (M.name seat.old) queue.old) }
+    ensures asleep { IfOk result (λ entered. IfSome entered (λ e. e.asleep ≡ falls_asleep question e.loaded)) }
+    ensures asked { IfOk result (λ entered. Asks M.opening (M.limit memory.now) (M.name seat.old) question (loaded_of entered)
+        (M.seen seat.old) (M.seen seat.new)) }
+    ensures full { OnErr result (Refused M.opening (M.limit memory.now) (M.name seat.old) (M.seen seat.old) (M.seen seat.new)) }
+    ensures unchanged { OnErr result (queue.new ≡ queue.old) }
+    ensures exempt { OnErr result (is_exempt (Ask question) ≡ false) }
+{
+    let name = memory.name(seat);
+    match memory.access(seat, Event::Ask(question)) {
+        Reply::Value(loaded) => {
+            let asleep = queue.ask(name, &question, loaded);
+            Ok(Some(Entered { loaded, asleep }))
+        }
+        Reply::Done => {
+            let asleep = queue.ask(name, &question, 0);
+            Ok(Some(Entered { loaded: 0, asleep }))
+        }
+        Reply::OutOfBounds => Ok(None),
+        Reply::Again => unreachable!(),
+        Reply::Full => Err(Full),
+    }
+}
+
+/// Takes the answer that is due, and enters it.
+pub(crate) fn hear<M: SharedMemory>(memory: &M, seat: &mut M::Seat, queue: &mut Queue) -> Answer
+    requires right { M.has_queue_right seat.old ≡ true }
+    requires beside { IsBeside queue.old (M.seen seat.old) }
+    requires due { answer_due queue.old (M.name seat.old) ≢ None }
+    ensures name { M.name seat.new ≡ M.name seat.old }
+    ensures right { M.has_queue_right seat.new ≡ true }
+    ensures beside { IsBeside queue.new (M.seen seat.new) }
+    ensures due { answer_due queue.old (M.name seat.old) ≡ Some result }
+    ensures after { queue.new ≡ after_answer queue.old (M.name seat.old) }
+    ensures heard { EntersAtDesk M.opening (M.name seat.old) (taken (M.name seat.old) result ∷ []) (M.seen seat.old) (M.seen seat.new) }
+{
+    let name = memory.name(seat);
+    let Some(answer) = queue.told(name) else {
+        unreachable!()
+    };
+    let _ = memory.access(seat, Event::Told(answer));
+    answer
+}
+
+/// Asks a question, and takes the answer unless the thread falls asleep.
+pub(crate) fn put<M: SharedMemory>(
+    memory: &M,
+    seat: &mut M::Seat,
+    queue: &mut Queue,
+    question: Question,
+) -> Result<Asked, Full>
+    requires right { M.has_queue_right seat.old ≡ true }
+    requires question { IsQuestion question }
+    requires beside { IsBeside queue.old (M.seen seat.old) }
+    requires free { IsFree queue.old (M.name seat.old) }
+    ensures name { M.name seat.new ≡ M.name seat.old }
+    ensures right { M.has_queue_right seat.new ≡ true }
+    ensures beside { IsBeside queue.new (M.seen seat.new) }
+    ensures asked { IfOk result (Puts M.opening (M.limit memory.now) (M.name seat.old) question (M.seen seat.old) (M.seen seat.new)) }
+    ensures full { OnErr result (Refused M.opening (M.limit memory.now) (M.name seat.old) (M.seen seat.old) (M.seen seat.new)) }
+    ensures unchanged { OnErr result (queue.new ≡ queue.old) }
+    ensures exempt { OnErr result (is_exempt (Ask question) ≡ false) }
+{
+    let Some(entered) = ask(memory, seat, queue, question)? else {
+        return Ok(Asked::OutOfBounds);
+    };
+    if entered.asleep {
+        return Ok(Asked::Asleep);
+    }
+    match hear(memory, seat, queue) {
+        Answer::Number(number) => Ok(Asked::Told(number)),
+        Answer::ForGood => unreachable!(),
+    }
+}
