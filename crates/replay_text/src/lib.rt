@@ -12,8 +12,6 @@ mod parts;
 mod ranges;
 mod read;
 mod record;
-#[cfg(test)]
-mod tests;
 mod value;
 mod write;
 

@@ -11,8 +11,6 @@ mod operators;
 mod outcome;
 mod parts;
 mod sequence;
-#[cfg(test)]
-mod tests;
 mod value;
 mod within;
 

@@ -2,8 +2,6 @@
 #![tactic(auto)]
 
 mod queue;
-#[cfg(test)]
-mod tests;
 mod waking;
 
 pub use queue::Queue;

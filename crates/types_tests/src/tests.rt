@@ -1,5 +1,6 @@
-use crate::*;
+//! What no clause says of the types, or says in other words: texts and widths.
 use std::test::Fail;
+use types::{AccessWidth, AtomicOp, LoadOp, Name, NarrowWidth, Outcome, Stop, ValType, Value};
 
 #[test]
 fn names_are_their_texts(rt: HostRuntime) -> Result<(), Fail> {

@@ -1,6 +1,6 @@
 //! Records, forged records and cut records.
 
-use crate::{Record, RecordFault, WriteFault, read_record, write_record};
+use replay_text::{Record, RecordFault, WriteFault, read_record, write_record};
 use std::alloc::{AllocError, Global};
 use std::io::{self, Write};
 use std::test::Fail;

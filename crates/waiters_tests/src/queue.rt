@@ -1,9 +1,9 @@
 //! Scripts that drive a queue. What each step answers was worked out by hand from the rules of waiting, notifying,
 //! spawning and settling.
-use crate::Queue;
 use std::process::Abort;
 use std::test::Fail;
 use types::{Answer, Question};
+use waiters::Queue;
 
 /// A step of a script, with what it has to answer.
 #[derive(Clone, Copy)]
