@@ -1,4 +1,3 @@
 pub mod Masks
-pub mod Settled
 pub mod Taken
 pub mod Turns

@@ -1,5 +1,5 @@
 -- Calls are the machine's steps.
-use Rattle.std.proofs.Common.{◌≡◌, ℕ, ◌+◌, ◌-◌, ◌<◌, ◌≤◌, List, [], ◌∷◌, ◌++◌, length, map, reverse, sum_by, Some}
+use Rattle.std.proofs.Common.{◌≡◌, ◌≢◌, ℕ, ◌+◌, ◌-◌, ◌<◌, ◌≤◌, List, [], ◌∷◌, ◌++◌, length, map, reverse, sum_by, Some}
 use Rattle.std.proofs.Common.{slice_get, nat_lt, true, false, refl, sym, ◌∙◌, ap, subst, arith, length-append}
 use Rattle.std.proofs.Common.{append_assoc}
 use Rattle.std.specs.Option.{option_map}
@@ -23,17 +23,18 @@ use Rattle.validate_typing.specs.Typing.{HasOnTop}
 use Rattle.validate_typing.specs.Placed.{Flat, goes_on}
 use Rattle.validate_typing.specs.Context.{imported_functions, functions_of}
 use Rattle.validate_typing.specs.Tabled.{WithTables, IsValidated}
-use Rattle.interp_machine.specs.Config.{Config, Progress as Reached, Fresh as NotBegun, Halfway as FirstPart, Asked as Due, Asks, values_in, values_of}
+use Rattle.interp_machine.specs.Config.{Config, Asks, values_in, values_of}
 use Rattle.interp_machine.specs.Program.{Program, Function, program_of, function_of_body}
-use Rattle.interp_machine.specs.Step.{next, next_by, runs, limited, opens, calls, calls_own, waits}
+use Rattle.interp_machine.specs.Step.{next, runs, opens, calls, calls_own, waits}
 use Rattle.interp_state.specs.declared.state.Program.{Program as Prog}
 use Rattle.interp_state.specs.declared.state.State.{State}
 use Rattle.interp_state.specs.declared.state.Progress.TheVariants.{Fresh, Asked}
 use Rattle.interp_state.specs.declared.state.Step.{Step}
 use Rattle.interp_state.specs.declared.state.Step.TheVariants.{Wants}
-use Rattle.interp_state.specs.Stands.{belows, values_on, FrameAt, Stands, reached, due}
+use Rattle.interp_state.specs.Stands.{belows, values_on, FrameAt, Stands}
 use Rattle.interp_state.specs.Steps.{Steps, Replies, ComesNext, IsAt}
-use Rattle.interp_state.proofs.Views.{AtPlain, Still, still, at_plain, fits_room, all_values, values_long}
+use Rattle.interp_state.proofs.Views.{AtPlain, Still, still, all_values, values_long, frame_behind, remade}
+use Rattle.interp_state.proofs.Events.{fresh_not_asked, at_undue, wants, replies}
 use Rattle.interp_state.proofs.Branch.{split_types, front_is}
 use Rattle.interp_calls.specs.Entering.{IsOwnFunction, CanEnter, IsEntered, HasBodies}
 use Rattle.interp_calls.proofs.Opening.{Midway, waiting_frame, inner, opening, is_function}
@@ -47,15 +48,8 @@ unmoved s = record { same = refl; pc = refl; globals = refl; progress = refl }
 pub waits_there : (w : WithTables) (s : State) (c : Config) (st : Stands w s c) (op : PlainInstr) (at : AtPlain st.body [] c.frame op s.pc)
     (results tail : List ValType) (below : List Value) → goes_on op true ≡ true → at.middle ≡ results ++ tail → map type_of below ≡ tail →
     FrameAt st.body results (waiting_frame c.frame at.rest below) (s.pc + 1)
-waits_there w s c st op at results tail below g m h = record {
-  statics = at.statics;
-  stop = at.stop;
-  ends = at.ends;
-  placed = rw (h, sym m) (rw g at at.placed);
-  runs = at.runs;
-  locals = st.frame.locals;
-  arity = st.frame.arity;
-}
+waits_there w s c st op at results tail below g m h =
+    frame_behind w s c st op at results below c.frame.locals g (ap (λ (ts : List ValType). results ++ ts) h ∙ sym m) refl
 
 -- ---- Functions of the module itself
 
@@ -127,27 +121,6 @@ enters_own w s old n c st step rest operands f index t tail v bodies fresh x wai
 
 -- ---- The imported function
 
--- no answer is due
-abbrev pub Undue : Reached → Type 0
-Undue NotBegun = Unit {0}
-Undue (FirstPart n) = Unit {0}
-Undue Due = ⊥
-
-pub next_undue : (p : Program) (c : Config) (q : Reached) → c.progress ≡ q → Undue q → next p c ≡ limited (runs p c c.frame.code c.frame.operands)
-next_undue p c NotBegun e h = ap (next_by p c) e
-next_undue p c (FirstPart n) e h = ap (next_by p c) e
-next_undue p c Due e h = absurd h
-
-no_due : (q : Reached) → Undue q → due q ≡ []
-no_due NotBegun h = refl
-no_due (FirstPart n) h = refl
-no_due Due h = absurd h
-
-pub at_undue : (w : WithTables) (s : State) (c : Config) (op : PlainInstr) → (st : Stands w s c) → IsAt s (Plain op) → Undue (reached s.progress) →
-    AtPlain st.body [] c.frame op s.pc
-at_undue w s c op st h u =
-    subst (λ (ts : List ValType). AtPlain st.body ts c.frame op s.pc) (ap due st.progress ∙ no_due (reached s.progress) u) (at_plain w s c op st h)
-
 -- the imported function is called with an argument, which lies below these values
 pub record Spawns (w : WithTables) (s : State) (c : Config) (st : Stands w s c) (above : List Value) : Type 0 where
   pub arg : ℕ
@@ -170,50 +143,28 @@ left_values w s c st above x =
     let parts = length-append above (values.I32 x.arg ∷ values_on waiting st.lower) in
     omega arith
 
-spawn_next : (w : WithTables) (s : State) (c : Config) (st : Stands w s c) (above : List Value) (x : Spawns w s c st above) → Undue (reached s.progress) →
-    next (program_of w.parts) c ≡ Asks (Ask (Spawn x.arg)) (λ _. waits c x.rest x.below)
-spawn_next w s c st above x u =
-    next_undue (program_of w.parts) c (reached s.progress) st.progress u ∙ ap limited x.runs
-    ∙ fits_room (waits c x.rest x.below) (Asks (Ask (Spawn x.arg)) (λ _. waits c x.rest x.below))
-    (let a = left_values w s c st above x in let b = st.room in omega arith)
+left_room : (w : WithTables) (s : State) (c : Config) (st : Stands w s c) (above : List Value) (x : Spawns w s c st above) →
+    values_of (waits c x.rest x.below) ≤ most_values
+left_room w s c st above x = let a = left_values w s c st above x in let b = st.room in omega arith
 
 -- the question is asked
 pub spawn_wants : (w : WithTables) (s : State) (c : Config) (st : Stands w s c) (above : List Value)
     (x : Spawns w s c st above) (arg : ℕ) → s.progress ≡ Fresh →
     arg ≡ x.arg → Steps w c (next (program_of w.parts) c) (Wants (Ask (Spawn arg))) s
-spawn_wants w s c st above x arg f e = rw (spawn_next w s c st above x (rw f tt), e) (refl, tt, st)
+spawn_wants w s c st above x arg f e =
+    rw e (wants w s c (Ask (Spawn x.arg)) (λ _. waits c x.rest x.below) st (fresh_not_asked s f) (left_room w s c st above x) tt x.runs)
 
 -- the answer is due
 pub spawn_replied : (w : WithTables) (s n : State) (c : Config) (st : Stands w s c) (above : List Value)
-    (x : Spawns w s c st above) (number : ℕ) → Undue (reached s.progress) →
+    (x : Spawns w s c st above) (number : ℕ) → s.progress ≢ Asked →
     still n ≡ still s → n.pc ≡ s.pc + 1 → n.progress ≡ Asked → n.globals.items ≡ s.globals.items →
     reverse n.values.items ≡ values_on (waiting_frame c.frame x.rest x.below) st.lower → Replies w (next (program_of w.parts) c) number n
 spawn_replied w s n c st above x number u e k p g v =
     let less : length n.values.items < most_values =
     (let a = ap length v in let b = length-reverse n.values.items in let d = ap length x.values in let f = length-reverse s.values.items in
     let h = length-append above (values.I32 x.arg ∷ values_on (waiting_frame c.frame x.rest x.below) st.lower) in let i = st.room in omega arith) in
-    let stands : Stands w n (waits c x.rest x.below) = record {
-      body = st.body;
-      lower = st.lower;
-      program = rw (ap (λ (y : Still). y.program) e) st.program;
-      own = rw (ap (λ (y : Still). y.function) e) st.own;
-      code = st.code ∙ sym (ap (λ (y : Still). y.code) e);
-      rows = st.rows ∙ sym (ap (λ (y : Still). y.table) e);
-      frame = rw k x.frame;
-      values = v;
-      base = ap (λ (y : Still). y.base) e ∙ st.base;
-      operands = ap (λ (y : Still). y.operands) e ∙ st.operands;
-      results = ap (λ (y : Still). y.results) e ∙ st.results;
-      callers = rw (ap (λ (y : Still). y.callers) e) st.callers;
-      globals = g ∙ st.globals;
-      globals_typed = st.globals_typed;
-      progress = sym (ap reached p);
-      part = rw p tt;
-      few = rw (ap (λ (y : Still). y.callers) e) st.few;
-      room = omega arith;
-      answer_fits = less;
-    } in
-    rw (spawn_next w s c st above x u) stands
+    replies w s n c (Ask (Spawn x.arg)) (λ _. waits c x.rest x.below) number st u (left_room w s c st above x) x.runs
+    (remade w s n c st (waiting_frame c.frame x.rest x.below) c.globals Asked (rw k x.frame) e p v (omega (arith, less)) refl (g ∙ st.globals) refl tt less)
 
 -- a number of 32 bits on top
 pub record Number (vs : List Value) (ts : List ValType) : Type 0 where
@@ -257,7 +208,7 @@ call_runs : (p : Program) (c : Config) (f index : ℕ) (t : FuncType) (rest : Co
 call_runs p c f index t rest h e g = rw (h, e, g) refl
 
 pub call_at : (w : WithTables) (s : State) (c : Config) (f : ℕ) (st : Stands w s c) → IsAt s (Plain (plain.Call f))
-    → Undue (reached s.progress) → CallAt w s c st f
+    → s.progress ≢ Asked → CallAt w s c st f
 call_at w s c f st h u =
     let at = at_undue w s c (plain.Call f) st h u in
     let fits = at.fits in
@@ -296,14 +247,14 @@ pub call_asks : (s : State) (f : ℕ) → ComesNext s (Plain (plain.Call f)) →
     → HasOnTop (types.I32 ∷ []) (map type_of (reverse s.values.items))
 call_asks s f b k =
     let w = b.sound.0 in let c = b.sound.1 in let st = b.sound.3 in
-    let x = call_spawns w s c st f b.sound.2 k (call_at w s c f st b.here (rw b.fresh tt)) in
+    let x = call_spawns w s c st f b.sound.2 k (call_at w s c f st b.here (fresh_not_asked s b.fresh)) in
     (map type_of (values_on (waiting_frame c.frame x.rest x.below) st.lower), ap (map type_of) x.values)
 
 pub call_wants : (w : WithTables) (s : State) (c : Config) (f arg : ℕ) (below : List Value) → IsValidated w
     → Stands w s c → ComesNext s (Plain (plain.Call f)) →
     f < s.program.imported → reverse s.values.items ≡ values.I32 arg ∷ below → Steps w c (next (program_of w.parts) c) (Wants (Ask (Spawn arg))) s
 call_wants w s c f arg below v st b k h =
-    let x = call_spawns w s c st f v k (call_at w s c f st b.here (rw b.fresh tt)) in
+    let x = call_spawns w s c st f v k (call_at w s c f st b.here (fresh_not_asked s b.fresh)) in
     let same : values.I32 arg ∷ below ≡ values.I32 x.arg ∷ values_on (waiting_frame c.frame x.rest x.below) st.lower = sym h ∙ x.values in
     spawn_wants w s c st [] x arg b.fresh cc
 
@@ -322,7 +273,7 @@ own_call w s c st f k x = record {
 pub call_ready : (s : State) (f : ℕ) → ComesNext s (Plain (plain.Call f)) → HasBodies s → s.program.imported ≤ f → CanEnter s (f - s.program.imported)
 call_ready s f b bodies k =
     let w = b.sound.0 in let c = b.sound.1 in let st = b.sound.3 in
-    let x = call_at w s c f st b.here (rw b.fresh tt) in
+    let x = call_at w s c f st b.here (fresh_not_asked s b.fresh) in
     can_enter w s s c st x.at.rest c.frame.operands f x.index x.func_type x.tail b.sound.2 bodies
     (own_call w s c st f k x) st.room (slice_get_within _ _ _ b.here)
 
@@ -330,6 +281,6 @@ pub call_enters : (w : WithTables) (s n : State) (c : Config) (step : Step) (f :
     → ComesNext s (Plain (plain.Call f)) → HasBodies s →
     s.program.imported ≤ f → IsEntered s (f - s.program.imported) step n → Steps w c (next (program_of w.parts) c) step n
 call_enters w s n c step f v st b bodies k e =
-    let x = call_at w s c f st b.here (rw b.fresh tt) in
+    let x = call_at w s c f st b.here (fresh_not_asked s b.fresh) in
     enters_own w s s n c st step x.at.rest c.frame.operands f x.index x.func_type x.tail v bodies b.fresh (own_call w s c st f k x)
     (λ below h. waits_there w s c st (plain.Call f) x.at x.func_type.results x.tail below refl x.middle h) e x.runs

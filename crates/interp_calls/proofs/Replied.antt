@@ -13,16 +13,17 @@ use Rattle.types.specs.declared.parts.FuncType.{FuncType}
 use Rattle.types.specs.Nesting.{Code}
 use Rattle.types.specs.Limits.{most_values, most_frames}
 use Rattle.validate_typing.specs.Tabled.{WithTables, IsValidated}
-use Rattle.interp_machine.specs.Config.{Config, Progress as Reached, Fresh as NotBegun, Halfway as FirstPart, Asked as Due, Goes, Traps, Stuck, values_of}
+use Rattle.interp_machine.specs.Config.{Config, Goes, Traps, Stuck, values_of}
 use Rattle.interp_machine.specs.Program.{Program, Function, program_of}
-use Rattle.interp_machine.specs.Step.{next, next_by, limited, opens, calls, calls_own, calls_spawn, on_some}
+use Rattle.interp_machine.specs.Step.{next, limited, opens, calls, calls_own, calls_spawn, on_some}
 use Rattle.interp_state.specs.declared.state.State.{State}
 use Rattle.interp_state.specs.declared.state.Progress.TheVariants.{Asked}
-use Rattle.interp_state.specs.Stands.{values_on, Stands, reached}
+use Rattle.interp_state.specs.Stands.{values_on, Stands}
 use Rattle.interp_state.specs.Steps.{Replies, Wanting, IsAsking}
 use Rattle.interp_state.proofs.Views.{still}
+use Rattle.interp_state.proofs.Events.{undue, next_limited, not_asked}
 use Rattle.interp_calls.proofs.Opening.{waiting_frame, inner}
-use Rattle.interp_calls.proofs.Calls.{Undue, next_undue, spawn_replied, call_at, call_spawns}
+use Rattle.interp_calls.proofs.Calls.{spawn_replied, call_at, call_spawns}
 
 -- ---- What asks nothing
 
@@ -54,37 +55,28 @@ own_asks p c f t rest operands k h =
     (if b then calls_spawn c rest operands else on_some (slice_get p.bodies (f - p.imported))
     (λ own. calls_own c t own rest operands)))) g h)
 
--- a due answer
-asks_by : (p : Program) (c : Config) (q : Reached) → IsAsking (next_by p c q) → Undue q
-asks_by p c NotBegun h = tt
-asks_by p c (FirstPart n) h = tt
-asks_by p c Due h = h
-
-pub undue : (s : State) (op : _) (b : Wanting s op) → Undue (reached s.progress)
-undue s op b = subst Undue b.stands.progress (asks_by (program_of b.tables.parts) b.config b.config.progress b.asks)
-
 -- ---- Calls
 
 pub call_imported : (s : State) (f : ℕ) → Wanting s (Plain (plain.Call f)) → f < s.program.imported
 call_imported s f b =
     let p = program_of b.tables.parts in let st = b.stands in
-    let x = call_at b.tables s b.config f st b.here (undue s _ b) in
+    let x = call_at b.tables s b.config f st b.here (not_asked s _ b) in
     elim (cases_lt f s.program.imported) [
       | inl k ↦ k
       | inr k ↦
-          let e = next_undue p b.config (reached s.progress) st.progress (undue s _ b) ∙ ap limited x.runs in
+          let e = next_limited p b.config _ (undue b.tables s b.config st (not_asked s _ b)) x.runs in
           absurd (own_asks p b.config f x.func_type x.at.rest b.config.frame.operands (rw (sym st.program.imported) k) (subst IsAsking e b.asks))
     ]
 
 pub call_pops : (s : State) (f : ℕ) → Wanting s (Plain (plain.Call f)) → 0 < length s.values.items
 call_pops s f b =
-    let st = b.stands in let x = call_spawns b.tables s b.config st f b.valid (call_imported s f b) (call_at b.tables s b.config f st b.here (undue s _ b)) in
+    let st = b.stands in let x = call_spawns b.tables s b.config st f b.valid (call_imported s f b) (call_at b.tables s b.config f st b.here (not_asked s _ b)) in
     let a = ap length x.values in let d = length-reverse s.values.items in omega arith
 
 pub call_heard : (w : WithTables) (s n : State) (c : Config) (f number : ℕ) (v : Value) → IsValidated w → Stands w s c → Wanting s (Plain (plain.Call f)) →
     still n ≡ still s → n.pc ≡ s.pc + 1 → n.progress ≡ Asked → n.globals.items ≡ s.globals.items → reverse s.values.items ≡ v ∷ reverse n.values.items →
     Replies w (next (program_of w.parts) c) number n
 call_heard w s n c f number v valid st b e k p g h =
-    let x = call_spawns w s c st f valid (call_imported s f b) (call_at w s c f st b.here (undue s _ b)) in
+    let x = call_spawns w s c st f valid (call_imported s f b) (call_at w s c f st b.here (not_asked s _ b)) in
     let both : v ∷ reverse n.values.items ≡ values.I32 x.arg ∷ values_on (waiting_frame c.frame x.rest x.below) st.lower = sym h ∙ x.values in
-    spawn_replied w s n c st [] x number (undue s _ b) e k p g cc
+    spawn_replied w s n c st [] x number (not_asked s _ b) e k p g cc

@@ -1,5 +1,5 @@
 -- Indirect calls are the machine's steps.
-use Rattle.std.proofs.Common.{◌≡◌, ℕ, ◌+◌, ◌-◌, ◌<◌, ◌≤◌, List, [], ◌∷◌, ◌++◌, length, map, reverse, take, Option}
+use Rattle.std.proofs.Common.{◌≡◌, ◌≢◌, ℕ, ◌+◌, ◌-◌, ◌<◌, ◌≤◌, List, [], ◌∷◌, ◌++◌, length, map, reverse, take, Option}
 use Rattle.std.proofs.Common.{Some, None, slice_get, Bool, true, false, inl, inr, refl, sym, ◌∙◌, ap, subst, arith}
 use Rattle.std.proofs.Common.{length-append}
 use Rattle.std.proofs.lemmas.List.{length-reverse, reverse-append, reverse-reverse}
@@ -32,15 +32,16 @@ use Rattle.interp_state.specs.declared.state.State.{State}
 use Rattle.interp_state.specs.declared.state.Progress.TheVariants.{Asked}
 use Rattle.interp_state.specs.declared.state.Step.{Step}
 use Rattle.interp_state.specs.declared.state.Step.TheVariants.{Trapped, Wants}
-use Rattle.interp_state.specs.Stands.{belows, values_on, IsProgram, Stands, reached}
+use Rattle.interp_state.specs.Stands.{belows, values_on, IsProgram, Stands}
 use Rattle.interp_state.specs.Steps.{Steps, Replies, ComesNext, Wanting, IsAsking, IsAt}
 use Rattle.interp_state.proofs.Views.{AtPlain, still}
+use Rattle.interp_state.proofs.Events.{fresh_not_asked, undue, at_undue, next_limited, not_asked}
 use Rattle.interp_calls.specs.Entering.{CanEnter, IsEntered, HasBodies, FunctionHasType}
 use Rattle.interp_calls.proofs.Opening.{Midway, waiting_frame}
 use Rattle.interp_calls.proofs.Functions.{spawn_type, in_table, Typed, typed_function, equal_types}
-use Rattle.interp_calls.proofs.Calls.{waits_there, CallsOwn, can_enter, enters_own, Undue, next_undue, at_undue}
+use Rattle.interp_calls.proofs.Calls.{waits_there, CallsOwn, can_enter, enters_own}
 use Rattle.interp_calls.proofs.Calls.{Spawns, spawn_wants, spawn_replied, number_on, types_are, spawn_is}
-use Rattle.interp_calls.proofs.Replied.{own_asks, undue}
+use Rattle.interp_calls.proofs.Replied.{own_asks}
 
 -- ---- The place and the stated type
 
@@ -64,7 +65,7 @@ indirect_runs : (p : Program) (c : Config) (type_index place : ℕ) (t : FuncTyp
 indirect_runs p c type_index place t rest operands h e g = rw (h, e, g) refl
 
 pub indirect_at : (w : WithTables) (s : State) (c : Config) (type_index : ℕ) (st : Stands w s c) → IsAt s (Plain (plain.CallIndirect type_index)) →
-    Undue (reached s.progress) → IndirectAt w s c st type_index
+    s.progress ≢ Asked → IndirectAt w s c st type_index
 indirect_at w s c type_index st h u =
     let at = at_undue w s c (plain.CallIndirect type_index) st h u in
     let fits = at.fits in
@@ -94,9 +95,9 @@ place_differs : (p : Program) (c : Config) (t found : FuncType) (rest : Code) (o
     slice_get p.types index ≡ Some found → same_type found t ≡ false → calls_place p c t rest operands (Some (Some f)) ≡ Traps traps.SignatureMismatch
 place_differs p c t found rest operands f index h e g = rw (h, e, g) refl
 
-traps_now : (w : WithTables) (s n : State) (c : Config) (st : Stands w s c) (trap : Trap) → Undue (reached s.progress) →
+traps_now : (w : WithTables) (s n : State) (c : Config) (st : Stands w s c) (trap : Trap) → s.progress ≢ Asked →
     runs (program_of w.parts) c c.frame.code c.frame.operands ≡ Traps trap → Steps w c (next (program_of w.parts) c) (Trapped trap) n
-traps_now w s n c st trap u h = rw (next_undue (program_of w.parts) c (reached s.progress) st.progress u ∙ ap limited h) refl
+traps_now w s n c st trap u h = rw (next_limited (program_of w.parts) c (Traps trap) (undue w s c st u) h) refl
 
 -- a function's type, as the state's program has it
 pub has_type : (w : WithTables) (p : Prog) (f : ℕ) → IsProgram w p → (t : Typed w.parts f) → FunctionHasType p f t.func_type
@@ -198,7 +199,7 @@ pub stated_there : (s : State) (type_index : ℕ) → ComesNext s (Plain (plain.
     → (t : FuncType) × (slice_get s.program.parts.now.types type_index ≡ Some t)
 stated_there s type_index b =
     let w = b.sound.0 in let c = b.sound.1 in let st = b.sound.3 in
-    let x = indirect_at w s c type_index st b.here (rw b.fresh tt) in
+    let x = indirect_at w s c type_index st b.here (fresh_not_asked s b.fresh) in
     (x.stated, ap (λ (m : Parts). slice_get m.types type_index) st.program.parts ∙ x.typed)
 
 pub found_by : (s : State) (type_index place f : ℕ) (below : List Value) (answer : Bool) → ComesNext s (Plain (plain.CallIndirect type_index)) →
@@ -221,7 +222,7 @@ found_by s type_index place f below answer b top element answers holds =
     }
 
 pub found_tested : (w : WithTables) (s : State) (c : Config) (st : Stands w s c) (type_index place f : ℕ) → IsAt s (Plain (plain.CallIndirect type_index)) →
-    Undue (reached s.progress) → Found s type_index place f → Tested w s c st type_index place f
+    s.progress ≢ Asked → Found s type_index place f → Tested w s c st type_index place f
 found_tested w s c st type_index place f h u x =
     tested w s c st type_index place f x.below x.func_type x.stated (indirect_at w s c type_index st h u) x.top x.element x.has_type x.stated_is x.same
 
@@ -229,7 +230,7 @@ pub indirect_asks : (s : State) (type_index : ℕ) → ComesNext s (Plain (plain
     → HasOnTop (types.I32 ∷ []) (map type_of (reverse s.values.items))
 indirect_asks s type_index b =
     let w = b.sound.0 in let c = b.sound.1 in let st = b.sound.3 in
-    let x = indirect_at w s c type_index st b.here (rw b.fresh tt) in
+    let x = indirect_at w s c type_index st b.here (fresh_not_asked s b.fresh) in
     (map type_of (x.operands ++ (belows c.frame.labels ++ (reverse c.frame.locals ++ st.lower))), ap (map type_of) x.values)
 
 pub indirect_undefined : (w : WithTables) (s : State) (c : Config) (type_index place : ℕ) (below : List Value)
@@ -237,8 +238,8 @@ pub indirect_undefined : (w : WithTables) (s : State) (c : Config) (type_index p
     reverse s.values.items ≡ values.I32 place ∷ below → slice_get s.program.elements.items place ≡ None →
     Steps w c (next (program_of w.parts) c) (Trapped traps.UndefinedElement) s
 indirect_undefined w s c type_index place below st b h e =
-    let x = indirect_at w s c type_index st b.here (rw b.fresh tt) in
-    traps_now w s s c st traps.UndefinedElement (rw b.fresh tt)
+    let x = indirect_at w s c type_index st b.here (fresh_not_asked s b.fresh) in
+    traps_now w s s c st traps.UndefinedElement (fresh_not_asked s b.fresh)
     (placed_runs w s c st type_index place None x (same_place w s c st type_index place below x h) e)
 
 pub indirect_empty : (w : WithTables) (s : State) (c : Config) (type_index place : ℕ) (below : List Value)
@@ -246,8 +247,8 @@ pub indirect_empty : (w : WithTables) (s : State) (c : Config) (type_index place
     reverse s.values.items ≡ values.I32 place ∷ below → slice_get s.program.elements.items place ≡ Some None →
     Steps w c (next (program_of w.parts) c) (Trapped traps.UninitializedElement) s
 indirect_empty w s c type_index place below st b h e =
-    let x = indirect_at w s c type_index st b.here (rw b.fresh tt) in
-    traps_now w s s c st traps.UninitializedElement (rw b.fresh tt)
+    let x = indirect_at w s c type_index st b.here (fresh_not_asked s b.fresh) in
+    traps_now w s s c st traps.UninitializedElement (fresh_not_asked s b.fresh)
     (placed_runs w s c st type_index place (Some None) x (same_place w s c st type_index place below x h) e)
 
 pub indirect_differs : (w : WithTables) (s : State) (c : Config) (type_index place f : ℕ) (below : List Value) (found stated : FuncType) → Stands w s c →
@@ -256,12 +257,12 @@ pub indirect_differs : (w : WithTables) (s : State) (c : Config) (type_index pla
     FunctionHasType s.program f found → slice_get s.program.parts.now.types type_index ≡ Some stated → same_type found stated ≡ false →
     Steps w c (next (program_of w.parts) c) (Trapped traps.SignatureMismatch) s
 indirect_differs w s c type_index place f below found stated st b h e k i differs =
-    let x = indirect_at w s c type_index st b.here (rw b.fresh tt) in
+    let x = indirect_at w s c type_index st b.here (fresh_not_asked s b.fresh) in
     let function : slice_get (functions_of w.parts) f ≡ Some k.0 = ap (λ (fs : List ℕ). slice_get fs f) (sym st.program.functions) ∙ k.1 in
     let typed : slice_get w.parts.types k.0 ≡ Some found = ap (λ (m : Parts). slice_get m.types k.0) (sym st.program.parts) ∙ k.2 in
     let there : slice_get w.parts.types type_index ≡ Some stated = ap (λ (m : Parts). slice_get m.types type_index) (sym st.program.parts) ∙ i in
     let one : stated ≡ x.stated = let y = x.typed in cc in
-    traps_now w s s c st traps.SignatureMismatch (rw b.fresh tt)
+    traps_now w s s c st traps.SignatureMismatch (fresh_not_asked s b.fresh)
     (placed_runs w s c st type_index place (Some (Some f)) x (same_place w s c st type_index place below x h) e
     ∙ place_differs (program_of w.parts) c x.stated found x.at.rest x.operands f k.0 function typed (ap (same_type found) (sym one) ∙ differs))
 
@@ -271,7 +272,7 @@ pub argument_there : (s : State) (type_index place f : ℕ) → ComesNext s (Pla
     (arg : ℕ) × (below : List Value) × (reverse s.values.items ≡ values.I32 place ∷ (values.I32 arg ∷ below))
 argument_there s type_index place f b k x =
     let w = b.sound.0 in let c = b.sound.1 in let st = b.sound.3 in
-    let y = indirect_spawns w s c st type_index place f b.sound.2 k (found_tested w s c st type_index place f b.here (rw b.fresh tt) x) in
+    let y = indirect_spawns w s c st type_index place f b.sound.2 k (found_tested w s c st type_index place f b.here (fresh_not_asked s b.fresh) x) in
     (y.arg, values_on (waiting_frame c.frame y.rest y.below) st.lower, y.values)
 
 -- the values below the topmost one
@@ -291,7 +292,7 @@ pub indirect_wants : (w : WithTables) (s : State) (c : Config) (type_index place
     ComesNext s (Plain (plain.CallIndirect type_index)) → f < s.program.imported → Found s type_index place f →
     reverse s.values.items ≡ values.I32 place ∷ (values.I32 arg ∷ below) → Steps w c (next (program_of w.parts) c) (Wants (Ask (Spawn arg))) s
 indirect_wants w s c type_index place f arg below v st b k x h =
-    let y = indirect_spawns w s c st type_index place f v k (found_tested w s c st type_index place f b.here (rw b.fresh tt) x) in
+    let y = indirect_spawns w s c st type_index place f v k (found_tested w s c st type_index place f b.here (fresh_not_asked s b.fresh) x) in
     let same : values.I32 place ∷ (values.I32 arg ∷ below) ≡ values.I32 place ∷
     (values.I32 y.arg ∷ values_on (waiting_frame c.frame y.rest y.below) st.lower) = sym h ∙ y.values in
     spawn_wants w s c st (values.I32 place ∷ []) y arg b.fresh cc
@@ -318,7 +319,7 @@ pub indirect_ready : (s old : State) (type_index place f : ℕ) (v : Value)
     reverse s.values.items ≡ v ∷ reverse old.values.items → Found s type_index place f → CanEnter old (f - old.program.imported)
 indirect_ready s old type_index place f v b bodies k m h found =
     let w = b.sound.0 in let c = b.sound.1 in let st = b.sound.3 in
-    let x = found_tested w s c st type_index place f b.here (rw b.fresh tt) found in
+    let x = found_tested w s c st type_index place f b.here (fresh_not_asked s b.fresh) found in
     let room : length old.values.items ≤ most_values =
     (let a = ap length h in let d = length-reverse s.values.items in let e = length-reverse old.values.items in let r = st.room in omega arith) in
     can_enter w s old c st x.at.at.rest x.at.operands f x.index x.at.stated x.at.tail b.sound.2 bodies
@@ -330,7 +331,7 @@ pub indirect_enters : (w : WithTables) (s old n : State) (c : Config) (step : St
     → reverse s.values.items ≡ v ∷ reverse old.values.items →
     Found s type_index place f → IsEntered old (f - old.program.imported) step n → Steps w c (next (program_of w.parts) c) step n
 indirect_enters w s old n c step type_index place f v valid st b bodies k m h found e =
-    let x = found_tested w s c st type_index place f b.here (rw b.fresh tt) found in
+    let x = found_tested w s c st type_index place f b.here (fresh_not_asked s b.fresh) found in
     enters_own w s old n c st step x.at.at.rest x.at.operands f x.index x.at.stated x.at.tail valid bodies b.fresh
     (own_indirect w s old c st type_index place f v k m h x)
     (λ below t. waits_there w s c st (plain.CallIndirect type_index) x.at.at x.at.stated.results x.at.tail below refl x.at.middle t) e x.runs
@@ -379,8 +380,8 @@ asking_here w s c st type_index f x v e asks =
 pub asking : (s : State) (type_index : ℕ) → Wanting s (Plain (plain.CallIndirect type_index)) → Asking s type_index
 asking s type_index b =
     let w = b.tables in let c = b.config in let st = b.stands in let p = program_of w.parts in
-    let x = indirect_at w s c type_index st b.here (undue s _ b) in
-    let e = next_undue p c (reached s.progress) st.progress (undue s _ b) ∙ ap limited x.runs in
+    let x = indirect_at w s c type_index st b.here (not_asked s _ b) in
+    let e = next_limited p c _ (undue w s c st (not_asked s _ b)) x.runs in
     let go : (o : Option (Option ℕ)) → slice_get (opening_table w.parts) x.place ≡ o
     → IsAsking (limited (calls_place p c x.stated x.at.rest x.operands o)) → Asking s type_index =
     elim [
@@ -398,7 +399,7 @@ indirect_spawning : (w : WithTables) (s : State) (c : Config) (st : Stands w s c
     → (b : Wanting s (Plain (plain.CallIndirect type_index))) →
     (x : Asking s type_index) → Spawns w s c st (values.I32 x.place ∷ [])
 indirect_spawning w s c st type_index v b x =
-    indirect_spawns w s c st type_index x.place x.f v x.imported (found_tested w s c st type_index x.place x.f b.here (undue s _ b) x.found)
+    indirect_spawns w s c st type_index x.place x.f v x.imported (found_tested w s c st type_index x.place x.f b.here (not_asked s _ b) x.found)
 
 pub indirect_pops_again : (s : State) (type_index : ℕ) (v : Value) (left : List Value) → Wanting s (Plain (plain.CallIndirect type_index)) →
     reverse s.values.items ≡ v ∷ reverse left → 0 < length left
@@ -414,4 +415,4 @@ indirect_heard w s n c type_index number v u left valid st b e k p g h i =
     let x = indirect_spawning w s c st type_index valid b y in
     let both : v ∷ (u ∷ reverse n.values.items) ≡ values.I32 y.place ∷ (values.I32 x.arg ∷ values_on (waiting_frame c.frame x.rest x.below) st.lower) =
     ap (λ (q : List Value). v ∷ q) (sym i) ∙ sym h ∙ x.values in
-    spawn_replied w s n c st (values.I32 y.place ∷ []) x number (undue s _ b) e k p g cc
+    spawn_replied w s n c st (values.I32 y.place ∷ []) x number (not_asked s _ b) e k p g cc

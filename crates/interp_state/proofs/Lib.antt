@@ -1,4 +1,5 @@
 pub mod Views
+pub mod Events
 pub mod Places
 pub mod Cuts
 pub mod Blocks

@@ -13,8 +13,8 @@ use Rattle.interp_machine.specs.Program.{Program}
 use Rattle.interp_machine.specs.Config as configs
 use Rattle.interp_machine.specs.Step.{next}
 use Rattle.interp_machine.specs.State as states
-use Rattle.schedule_threads.specs.Threads.{machine_of, wish_of}
-use Rattle.schedule_threads.proofs.Asking.{IsOfThreads, wishes_of_threads}
+use Rattle.schedule_threads.specs.Threads.{machine_of, wish_of, IsOfThread}
+use Rattle.schedule_threads.proofs.Asking.{wishes_of_threads}
 use Rattle.interp_trait.specs.Turns.{Running, left_of, outcome_of, wants_of, IsHere}
 use Rattle.interp_trait.specs.declared.turn.Turn.{Turn}
 use Rattle.interp_trait.specs.declared.turn.Turn.TheVariants as turns
@@ -41,7 +41,7 @@ asks_wish p zero e (configs.Asks x go) h = absurd (cc h)
 asks_wish p (suc n) e (configs.Asks x go) h = let same : x ≡ e = cc h in (ap (λ y. Asks y) same, ap (λ y. not (is_exempt y)) same)
 
 -- no such event is a leave or an answer taken
-of_threads : (e : Event) → IsOfThreads e → is_exempt e ≡ false
+of_threads : (e : Event) → IsOfThread e → is_exempt e ≡ false
 of_threads (events.Ask Leave) h = absurd h
 of_threads (events.Told a) h = absurd h
 of_threads (events.Ask (Wait addr width expected timeout)) h = refl

@@ -1,4 +1,5 @@
--- What a step of a program asks: after a question the thread waits for the answer.
+-- What a step of a program asks: a thread neither leaves nor takes an answer by an instruction; after a question it waits for the
+-- answer, whatever the reply.
 use Rattle.std.proofs.Common.{◌≡◌, ℕ, suc, zero, ◌+◌, ◌-◌, ◌%◌, ◌<◌, ◌⊎◌, inl, inr, Bool, true, List, [], ◌∷◌, ◌++◌}
 use Rattle.std.proofs.Common.{length, Option, Some, None, refl, ap, subst, arith, take, drop}
 use Rattle.std.specs.Prelude.{nat_eq, nat_lt, nat_le, reverse, map, if◌then◌else◌, slice_get}
@@ -39,14 +40,18 @@ use Rattle.interp_machine.specs.Step.{with_rest, calls_place, on_address, loads,
 use Rattle.interp_machine.specs.Step.{atomics, computes, does, runs, limited, next_by, next}
 use Rattle.interp_machine.specs.State.{State, At, Over, replied, replied_by}
 use Rattle.schedule_threads.specs.Shared.{is_question}
-use Rattle.schedule_threads.specs.Threads.{wish_of, wishes, machine_of}
+use Rattle.schedule_threads.specs.Threads.{wish_of, wishes, machine_of, IsOfThread}
+
+-- What a question makes doesn't depend on its reply: the thread waits.
+abbrev pub WaitsBy : (ℕ → Config) → Type 0
+WaitsBy go = (n : ℕ) → (go n ≡ go 0) × ((go n).progress ≡ Asked)
 
 -- A question leaves its thread waiting, and no instruction asks to leave, or to be told an answer. Only a program with an imported
 -- function spawns.
-abbrev LeavesWaiting : Program → Next → Type 0
+abbrev pub LeavesWaiting : Program → Next → Type 0
 LeavesWaiting p (Asks (events.Ask Leave) go) = ⊥
-LeavesWaiting p (Asks (events.Ask (Spawn arg)) go) = (0 < p.imported) × ((n : ℕ) → (go n).progress ≡ Asked)
-LeavesWaiting p (Asks (events.Ask question) go) = (n : ℕ) → (go n).progress ≡ Asked
+LeavesWaiting p (Asks (events.Ask (Spawn arg)) go) = (0 < p.imported) × WaitsBy go
+LeavesWaiting p (Asks (events.Ask question) go) = WaitsBy go
 LeavesWaiting p (Asks (events.Told answer) go) = ⊥
 LeavesWaiting p _ = Unit {0}
 
@@ -120,7 +125,7 @@ module _ (p : Program) where
       }))
 
   spawn_waits : 0 < p.imported → (c : Config) (rest : Code) (operands : List Value) → IsWell p (calls_spawn c rest operands)
-  spawn_waits some c rest operands = number_waits types.I32 operands _ (λ arg below. record { waits = (some, λ n. refl) })
+  spawn_waits some c rest operands = number_waits types.I32 operands _ (λ arg below. record { waits = (some, λ n. (refl, refl)) })
 
   imports_some : (f : ℕ) → nat_lt f p.imported ≡ true → 0 < p.imported
   imports_some f is = let below : f < p.imported = ltb-true f p.imported is in omega (arith, below)
@@ -173,12 +178,12 @@ module _ (p : Program) where
       (λ _. waits c rest below) else Traps traps.NotShared)
   wait_waits c rest below addr t expected timeout =
       if_waits p.shared (Asks (events.Ask (Wait addr (type_bytes t) expected (signed 64 timeout))) (λ _. waits c rest below)) (Traps traps.NotShared)
-      record { waits = λ n. refl } record { waits = tt }
+      record { waits = λ n. (refl, refl) } record { waits = tt }
 
   atomics_waits : (c : Config) (op : AtomicOp) (arg : MemArg) (rest : Code) (operands : List Value) → IsWell p (atomics p c op arg rest operands)
   atomics_waits c atomic.Notify arg rest operands =
       number_waits types.I32 operands _ (λ (count : ℕ) (more : List Value).
-      aligned_waits more arg 4 (λ addr below. Asks (events.Ask (Notify addr count)) (λ _. waits c rest below)) (λ addr below. record { waits = λ n. refl }))
+      aligned_waits more arg 4 (λ addr below. Asks (events.Ask (Notify addr count)) (λ _. waits c rest below)) (λ addr below. record { waits = λ n. (refl, refl) }))
   atomics_waits c (atomic.Wait t) arg rest operands =
       number_waits types.I64 operands _ (λ (timeout : ℕ) (more : List Value). number_waits t more _ (λ (expected : ℕ) (further : List Value).
       aligned_waits further arg (type_bytes t) _ (λ addr below. wait_waits c rest below addr t expected timeout)))
@@ -266,21 +271,24 @@ module _ (p : Program) where
   next_waits c Fresh = limited_waits _ (runs_waits c c.frame.code c.frame.operands)
   next_waits c (Halfway n) = limited_waits _ (runs_waits c c.frame.code c.frame.operands)
 
+pub leaves_waiting : (p : Program) (c : Config) → LeavesWaiting p (next p c)
+leaves_waiting p c = IsWell.waits (next_waits p c c.progress)
+
 -- so a configuration whose question is open waits
 
 waits_then : (p : Program) (c : Config) → c.progress ≡ Asked → wish_of (next p c) ≡ Wish.Waits
 waits_then p c is = ap (λ (progress : Progress). wish_of (next_by p c progress)) is
 
-asked_then : (p : Program) (question : Question) (go : ℕ → Config) → LeavesWaiting p (Asks (events.Ask question) go) → (n : ℕ) → (go n).progress ≡ Asked
-asked_then p (Wait addr width expected timeout) go well n = well n
-asked_then p (Notify addr count) go well n = well n
-asked_then p (Spawn arg) go well n = well.1 n
-asked_then p Leave go well n = absurd well
+pub waits_by : (p : Program) (question : Question) (go : ℕ → Config) → LeavesWaiting p (Asks (events.Ask question) go) → WaitsBy go
+waits_by p (Wait addr width expected timeout) go well = well
+waits_by p (Notify addr count) go well = well
+waits_by p (Spawn arg) go well = well.1
+waits_by p Leave go well = absurd well
 
 asked_opened : (p : Program) (c : Config) (event : Event) (go : ℕ → Config) (reply : Reply) → LeavesWaiting p (Asks event go) → is_question event reply ≡ true
     → wishes p (replied_by c (Asks event go) reply) ≡ Wish.Waits
-asked_opened p c (events.Ask question) go (replies.Value n) well opens = waits_then p (go n) (asked_then p question go well n)
-asked_opened p c (events.Ask question) go replies.Done well opens = waits_then p (go 0) (asked_then p question go well 0)
+asked_opened p c (events.Ask question) go (replies.Value n) well opens = waits_then p (go n) (waits_by p question go well n).1
+asked_opened p c (events.Ask question) go replies.Done well opens = waits_then p (go 0) (waits_by p question go well 0).1
 asked_opened p c event go reply well opens = absurd (cc opens)
 
 opened_by : (p : Program) (c : Config) (go : Next) → LeavesWaiting p go → (event : Event) (reply : Reply)
@@ -297,7 +305,7 @@ opened_by p c (Asks this go) well event reply asks opens =
 
 opened : (p : Program) (s : State) (event : Event) (reply : Reply) → wishes p s ≡ Wish.Asks event
     → is_question event reply ≡ true → wishes p (replied p s reply) ≡ Wish.Waits
-opened p (At c) event reply asks opens = opened_by p c (next p c) (IsWell.waits (next_waits p c c.progress)) event reply asks opens
+opened p (At c) event reply asks opens = opened_by p c (next p c) (leaves_waiting p c) event reply asks opens
 opened p (Over outcome) event reply asks opens = absurd (cc asks)
 
 pub machine_laws : (p : Program) → MachineLaws (machine_of p)
@@ -305,15 +313,13 @@ machine_laws p = record { opened = opened p; exempt = refl }
 
 -- no state wishes to be told an answer as an event, or to leave before it has ended
 
-abbrev pub IsOfThreads : Event → Type 0
-IsOfThreads (events.Ask Leave) = ⊥
-IsOfThreads (events.Told answer) = ⊥
-IsOfThreads _ = Unit {0}
-
-asks_by : (p : Program) (event : Event) (go : ℕ → Config) → LeavesWaiting p (Asks event go) → IsOfThreads event
-asks_by p (events.Ask Leave) go well = well
-asks_by p (events.Told answer) go well = well
-asks_by p event go well = tt
+pub asked_of_thread : (p : Program) (event : Event) (go : ℕ → Config) → LeavesWaiting p (Asks event go) → IsOfThread event
+asked_of_thread p (events.Ask (Wait addr width expected timeout)) go well = tt
+asked_of_thread p (events.Ask (Notify addr count)) go well = tt
+asked_of_thread p (events.Ask (Spawn arg)) go well = tt
+asked_of_thread p (events.Ask Leave) go well = well
+asked_of_thread p (events.Told answer) go well = well
+asked_of_thread p _ go well = tt
 
 -- what a wish for an event says of the step that comes next
 asked_by : (p : Program) (go : Next) → LeavesWaiting p go → (event : Event) → wish_of go ≡ Wish.Asks event
@@ -326,10 +332,10 @@ asked_by p (Hears go) well event asks = absurd (cc asks)
 asked_by p (Asks this go) well event asks = let same : this ≡ event = cc asks in (go, subst (λ (e : Event). LeavesWaiting p (Asks e go)) same well)
 
 asked_next : (p : Program) (c : Config) (event : Event) → wish_of (next p c) ≡ Wish.Asks event → (after : ℕ → Config) × LeavesWaiting p (Asks event after)
-asked_next p c event asks = asked_by p (next p c) (IsWell.waits (next_waits p c c.progress)) event asks
+asked_next p c event asks = asked_by p (next p c) (leaves_waiting p c) event asks
 
-pub wishes_of_threads : (p : Program) (s : State) (event : Event) → wishes p s ≡ Wish.Asks event → IsOfThreads event
-wishes_of_threads p (At c) event asks = let well = asked_next p c event asks in asks_by p event well.0 well.1
+pub wishes_of_threads : (p : Program) (s : State) (event : Event) → wishes p s ≡ Wish.Asks event → IsOfThread event
+wishes_of_threads p (At c) event asks = let well = asked_next p c event asks in asked_of_thread p event well.0 well.1
 wishes_of_threads p (Over outcome) event asks = absurd (cc asks)
 
 -- who wants an event has a state that wishes it, or has ended and leaves

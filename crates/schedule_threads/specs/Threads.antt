@@ -41,3 +41,12 @@ machine_of p = record {
   out_of_fuel = outcomes.Stop stops.OutOfFuel;
   record_full = outcomes.Stop stops.RecordFull;
 }
+
+-- The events that a thread makes by its instructions: it takes no answer by itself, and leaves only once it has ended.
+abbrev pub IsOfThread : Event → Type 0
+IsOfThread (events.Ask (questions.Wait addr width expected timeout)) = Unit {0}
+IsOfThread (events.Ask (questions.Notify addr count)) = Unit {0}
+IsOfThread (events.Ask (questions.Spawn arg)) = Unit {0}
+IsOfThread (events.Ask questions.Leave) = ⊥
+IsOfThread (events.Told answer) = ⊥
+IsOfThread _ = Unit {0}

@@ -2,7 +2,6 @@
 use Rattle.std.specs.Prelude.{ℕ, ◌≡◌, ◌<◌, ◌⊎◌, Bool, true, false, List, Option, Some}
 use Rattle.types.specs.declared.event.Event.{Event}
 use Rattle.types.specs.declared.event.Event.TheVariants as events
-use Rattle.types.specs.declared.event.Question.TheVariants.{Wait, Notify, Spawn, Leave}
 use Rattle.types.specs.declared.event.Reply.{Reply}
 use Rattle.types.specs.declared.event.Reply.TheVariants as replies
 use Rattle.types.specs.declared.event.Answer.{Answer}
@@ -21,15 +20,6 @@ use Rattle.interp_trait.specs.declared.turn.Turn.TheVariants as turns
 use Rattle.spawn_host_thread.specs.declared.serving.Served.{Served}
 use Rattle.spawn_host_thread.specs.declared.serving.Served.TheVariants as served
 use Rattle.spawn_host_thread.specs.Ends.{Comes}
-
--- The events that a thread makes by its instructions: it takes no answer by itself, and leaves only once it has ended.
-abbrev pub IsOfThread : Event → Type 0
-IsOfThread (events.Ask (Wait addr width expected timeout)) = Unit {0}
-IsOfThread (events.Ask (Notify addr count)) = Unit {0}
-IsOfThread (events.Ask (Spawn arg)) = Unit {0}
-IsOfThread (events.Ask Leave) = ⊥
-IsOfThread (events.Told answer) = ⊥
-IsOfThread _ = Unit {0}
 
 -- A try as a step of the thread, and when it may be one.
 abbrev pub try_of : Event → Reply → Step Event Reply Answer

@@ -4,7 +4,8 @@ ghost use Rattle.types.specs.declared.event.Event.TheVariants.{Ask};
 ghost use Rattle.shared_memory.specs.Events.{IsEvent, IsQuestion};
 ghost use Rattle.shared_memory.specs.WaitQueue.{IsFree};
 ghost use Rattle.shared_memory.specs.History.{queue_after};
-ghost use Rattle.spawn_host_thread.specs.Serving.{IsOfThread, Serves};
+ghost use Rattle.schedule_threads.specs.Threads.{IsOfThread};
+ghost use Rattle.spawn_host_thread.specs.Serving.{Serves};
 
 use shared_memory::SharedMemory;
 use std::sync::Wait;

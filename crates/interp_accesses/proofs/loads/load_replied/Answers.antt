@@ -2,7 +2,7 @@ use Rattle.std.proofs.Common.{reverse, refl, sym, ap₂, subst, ◌%◌, ◌^◌
 use Rattle.std.proofs.lemmas.Option.{slice_get_within}
 use Rattle.interp_machine.specs.Access.{in_one_word, joined}
 use Rattle.interp_accesses.specs.Done.{IsOnTop}
-use Rattle.interp_accesses.proofs.Replies.{continues}
+use Rattle.interp_state.proofs.Events.{continues}
 use Rattle.interp_accesses.proofs.Loading.{load_ready, load_done, load_halved, load_joined}
 use Rattle.interp_accesses.proofs.loads.load_replied.Goals as goal
 

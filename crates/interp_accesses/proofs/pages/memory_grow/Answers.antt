@@ -1,6 +1,6 @@
 use Rattle.std.proofs.Common.{reverse, subst}
 use Rattle.interp_accesses.specs.Done.{IsOnTop}
-use Rattle.interp_accesses.proofs.Replies.{comes_next}
+use Rattle.interp_state.proofs.Events.{comes_next}
 use Rattle.interp_accesses.proofs.Paging.{grow_ready, grow_wants}
 use Rattle.interp_accesses.proofs.pages.memory_grow.Goals as goal
 

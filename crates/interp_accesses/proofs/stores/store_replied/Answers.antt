@@ -3,7 +3,7 @@ use Rattle.std.proofs.lemmas.Option.{slice_get_within}
 use Rattle.types.specs.Widths.{access_type}
 use Rattle.interp_machine.specs.Access.{in_one_word}
 use Rattle.interp_accesses.specs.Done.{AreTop}
-use Rattle.interp_accesses.proofs.Replies.{continues}
+use Rattle.interp_state.proofs.Events.{continues}
 use Rattle.interp_accesses.proofs.Storing.{store_ready, store_done, store_halved, store_finished}
 use Rattle.interp_accesses.proofs.stores.store_replied.Goals as goal
 

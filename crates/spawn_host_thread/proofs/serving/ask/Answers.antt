@@ -8,7 +8,8 @@ use Rattle.types.specs.declared.event.Answer.TheVariants.{Number}
 use Rattle.shared_memory.specs.Memory.{Memory}
 use Rattle.waiters_desk.specs.Calls.{Puts}
 use Rattle.waiters_desk.specs.declared.answers.Asked.TheVariants as asked
-use Rattle.spawn_host_thread.specs.Serving.{IsOfThread, Serves}
+use Rattle.schedule_threads.specs.Threads.{IsOfThread}
+use Rattle.spawn_host_thread.specs.Serving.{Serves}
 use Rattle.spawn_host_thread.specs.declared.serving.Served.TheVariants as served
 use Rattle.spawn_host_thread.proofs.Entered.{sees_refused, served_miss, served_answer, served_sleep}
 use Rattle.spawn_host_thread.proofs.serving.ask.Goals as goal
