@@ -27,7 +27,7 @@ use Rattle.shared_memory.specs.Sound.{IsSound}
 use Rattle.shared_memory.proofs.Histories.{of_queue-quiet, of_queue-none, same_queue_legal, queue_after-entry, IsQueueLegal-entry}
 use Rattle.shared_memory_on_table.specs.Callers.{one_if}
 use Rattle.locked_recorder.specs.Room.{open_questions, still_due, HasSpare}
-use Rattle.shared_memory.proofs.Soundness.{IsSound-after}
+use Rattle.shared_memory.proofs.Soundness.{IsSound-after, few_spawned}
 use Rattle.locked_recorder.proofs.Queue.{among_rest, due_other, length-rest, due_taken, few_alive}
 
 abbrev L : Type 0
@@ -219,7 +219,7 @@ told_lowers q n answer s due =
 
 bound : (q : WaitQueue) → IsSound q → still_due q ≤ past_limit
 unfolding still_due
-bound q s = let a = few_alive q s in let b = s.few in let c = open_bound q most_threads in omega arith
+bound q s = let a = few_alive q s in let b = few_spawned q s in let c = open_bound q most_threads in omega arith
 
 -- the log, with one entry more
 

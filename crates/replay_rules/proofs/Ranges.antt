@@ -11,7 +11,7 @@ use Rattle.shared_memory.specs.WaitQueue.{WaitQueue, next_id}
 use Rattle.shared_memory.specs.History.{queue_after}
 use Rattle.shared_memory.specs.Legal.{IsQueueLegal}
 use Rattle.shared_memory.proofs.Histories.{IsQueueLegal-prefix}
-use Rattle.shared_memory.proofs.Soundness.{IsSound-after}
+use Rattle.shared_memory.proofs.Soundness.{IsSound-after, few_spawned}
 use Rattle.schedule_runs.specs.Runs.{Start, RanTogether}
 use Rattle.schedule_runs.proofs.Order.{entry_started}
 use Rattle.replay_text.specs.Conditions.{IsEntry, IsReport, is_reply_to}
@@ -31,7 +31,7 @@ module _ (b : Start) (r : RecordParts) (outcomes : ℕ → Outcome) (lefts : ℕ
   small_at xs ys e is =
       let known : e.thread < next_id (queue_after xs) = entry_started b false (Some r.limit) r.log outcomes lefts ran.threads ran.entries xs ys e is in
       let few : length (WaitQueue.args (queue_after xs)) ≤ most_spawned =
-      (IsSound-after xs (IsQueueLegal-prefix xs (e ∷ ys) (subst IsQueueLegal is ran.queue))).few in
+      few_spawned (queue_after xs) (IsSound-after xs (IsQueueLegal-prefix xs (e ∷ ys) (subst IsQueueLegal is ran.queue))) in
       omega (arith, known, few)
 
   small_from : (xs ys : List Entry) → r.log ≡ xs ++ ys → AllByRecursion IsSmall ys
@@ -68,7 +68,7 @@ module _ (b : Start) (r : RecordParts) (outcomes : ℕ → Outcome) (lefts : ℕ
     numbers : HasNumbers r
     numbers =
         let count : length r.ends ≡ length (WaitQueue.args (queue_after r.log)) + 1 = tells.count in
-        let few : length (WaitQueue.args (queue_after r.log)) ≤ most_spawned = (IsSound-after r.log ran.queue).few in record {
+        let few : length (WaitQueue.args (queue_after r.log)) ≤ most_spawned = few_spawned (queue_after r.log) (IsSound-after r.log ran.queue) in record {
           fuel = small;
           limit_low = limited.limit_low;
           limit = limited.limit;

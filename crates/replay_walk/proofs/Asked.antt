@@ -23,33 +23,34 @@ use Rattle.interp_machine.specs.Config.{Config}
 use Rattle.interp_trait.specs.Turns.{Running, outcome_of, wants_of, Meaning, spawn_types, spawned_in}
 use Rattle.replay_walk.specs.Standing.{Standing, IsStanding, IsSettledOn, IsStartedAt, system_at, made_by, is_spawn}
 use Rattle.replay_walk.proofs.Made.{HasTaken, made_plain}
-use Rattle.replay_walk.proofs.Spawned.{count_is, made_spawn}
+use Rattle.replay_walk.proofs.Spawned.{count_is, dues_are, made_spawn}
 
 -- a question that starts nobody
 pub asks_nobody : (s : Standing) (n : ℕ) (question : Question) → (is_spawn question ≡ false)
-    ⊎ (most_threads ≤ next_id s.state.shared.queue) → (m : ℕ) (x : Running)
+    ⊎ (length s.state.shared.queue.due ≤ next_id s.state.shared.queue) → (m : ℕ) (x : Running)
     → (system_at s).starts (s.state.shared) n (events.Ask question) m ≡ Some x → ⊥
 asks_nobody s n (Wait addr width expected timeout) h m x k = absurd (cc k)
 asks_nobody s n (Notify addr count) h m x k = absurd (cc k)
 asks_nobody s n Leave h m x k = absurd (cc k)
 asks_nobody s n (Spawn arg) (inl h) m x k = absurd (cc h)
 asks_nobody s n (Spawn arg) (inr h) m x k =
-    cond_both (nat_lt m most_threads && (m == next_id s.state.shared.queue)) (Some (Runs (spawned_in s.worker m arg) s.budget)) None (λ w. w ≡ Some x → ⊥)
-    (λ both e. let parts = and_parts (nat_lt m most_threads) (m == next_id s.state.shared.queue) both in
-    let below : m < most_threads = ltb-true m most_threads parts.0 in
+    cond_both (nat_lt m (length s.state.shared.queue.due) && (m == next_id s.state.shared.queue))
+    (Some (Runs (spawned_in s.worker m arg) s.budget)) None (λ w. w ≡ Some x → ⊥)
+    (λ both e. let parts = and_parts (nat_lt m (length s.state.shared.queue.due)) (m == next_id s.state.shared.queue) both in
+    let below : m < length s.state.shared.queue.due = ltb-true m (length s.state.shared.queue.due) parts.0 in
     let is : m ≡ next_id s.state.shared.queue = eqb-true m (next_id s.state.shared.queue) parts.1 in
     let no : ⊥ = omega arith in no)
     (λ isnt e. absurd (cc e)) k
 
-same_args : (q : WaitQueue) (question : Question) → (is_spawn question ≡ false) ⊎ (most_threads ≤ next_id q) → args_by q question ≡ q.args
+same_args : (q : WaitQueue) (question : Question) → (is_spawn question ≡ false) ⊎ (length q.due ≤ next_id q) → args_by q question ≡ q.args
 same_args q (Wait addr width expected timeout) h = refl
 same_args q (Notify addr count) h = refl
 same_args q Leave h = refl
 same_args q (Spawn arg) (inl h) = absurd (cc h)
-same_args q (Spawn arg) (inr h) = cond-false (nat_lt (next_id q) most_threads) (q.args ++ arg ∷ []) q.args (le-ltb (next_id q) most_threads h)
+same_args q (Spawn arg) (inr h) = cond-false (nat_lt (next_id q) (length q.due)) (q.args ++ arg ∷ []) q.args (le-ltb (next_id q) (length q.due) h)
 
 pub same_count : (q : WaitQueue) (n : ℕ) (question : Question) (v : Reply) → (is_spawn question ≡ false)
-    ⊎ (most_threads ≤ next_id q) → next_id q ≡ next_id (queue_step q n (events.Ask question) v)
+    ⊎ (length q.due ≤ next_id q) → next_id q ≡ next_id (queue_step q n (events.Ask question) v)
 same_count q n question (replies.Value k) h = ap (λ w. length w + 1) (sym (question_args q n question k ∙ same_args q question h))
 same_count q n question replies.Done h = ap (λ w. length w + 1) (sym (question_args q n question 0 ∙ same_args q question h))
 same_count q n question replies.OutOfBounds h = refl
@@ -71,15 +72,13 @@ module _ {S : Type 0} (meaning : S → Meaning) where
     -- nobody is started
     asked_plain : (question : Question) → e ≡ events.Ask question → (is_spawn question ≡ false) ⊎ (most_threads ≤ begun) → After after begun
     asked_plain question is h =
-        let few : (is_spawn question ≡ false)
-        ⊎ (most_threads ≤ next_id queue) = elim h [
+        let few : (is_spawn question ≡ false) ⊎ (length queue.due ≤ next_id queue) = elim h [
           | inl a ↦ inl a
-          | inr b ↦
-              inr (subst (λ k. most_threads ≤ k) (on.standing).started b)
+          | inr b ↦ inr (omega (arith, b, (on.standing).started, (on.standing).dues))
         ] in
-        let few_shared : (is_spawn question ≡ false) ⊎ (most_threads ≤ next_id s.state.shared.queue) = elim h [
+        let few_shared : (is_spawn question ≡ false) ⊎ (length s.state.shared.queue.due ≤ next_id s.state.shared.queue) = elim h [
           | inl a ↦ inl a
-          | inr b ↦ inr (subst (λ k. most_threads ≤ k) (sym (count_is meaning s on.before queue begun ends on.standing)) b)
+          | inr b ↦ inr (omega (arith, b, count_is meaning s on.before queue begun ends on.standing, dues_are meaning s on.before queue begun ends on.standing))
         ] in
         made_plain meaning s threads queue begun ends n t on e v kind reply none wants after taken
         (λ m x k. asks_nobody s n question few_shared m x (sym (ap (λ (y : Event). (system_at s).starts (s.state.shared) n y m) is) ∙ k))

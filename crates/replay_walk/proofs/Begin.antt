@@ -28,8 +28,8 @@ none_ends m = elim (cases_lt m most_threads) [
       get_or_past (replicate most_threads None) m None past
 ]
 
-first_alone : (first_queue.due ≡ replicate most_threads None) × (is_alive first_queue 0 ≡ true)
-    × (1 ≡ next_id first_queue) × (first_queue ≡ without_dues first_queue)
+first_alone : (length (first_queue most_threads).due ≡ most_threads) × (is_alive (first_queue most_threads) 0 ≡ true)
+    × (1 ≡ next_id (first_queue most_threads)) × (first_queue most_threads ≡ without_dues (first_queue most_threads))
 unfolding first_queue
 first_alone = (refl, refl, refl, refl)
 
@@ -44,7 +44,7 @@ some_thread p count (inr alone) = let one : count ≡ 1 = alone.1 in omega arith
 module _ {S : Type 0} (meaning : S → Meaning)
     (r : Run) (threads : List S) (memory : Memory) (ready : IsReady meaning r threads memory) where
   abbrev Stands : ℕ → Place Answer → Running → Option Outcome → Type 0
-  Stands m place t gone = StandsAt meaning r.program r.worker place t (slice_get threads m) gone (is_alive first_queue m)
+  Stands m place t gone = StandsAt meaning r.program r.worker place t (slice_get threads m) gone (is_alive (first_queue most_threads) m)
 
   abbrev threads_at : ℕ → Running
   threads_at m = (first_state (start r)).threads m
@@ -66,7 +66,7 @@ module _ {S : Type 0} (meaning : S → Meaning)
       (λ m h. subst (λ p. Stands m p (threads_at m) None) (sym (put-other (λ (k : ℕ). Unstarted) 0 Free m h))
       (subst (λ t. Stands m Unstarted t None) (sym (put-other (λ (k : ℕ). Absent) 0 (Runs (At r.main) r.budget) m h)) (there m h))) m)
 
-  pub begun : HasWalked meaning r [] threads memory first_queue 1 (replicate most_threads None)
+  pub begun : HasWalked meaning r [] threads memory (first_queue most_threads) 1 (replicate most_threads None)
   begun = record {
     count = ready.count;
     state = first_state (start r);
@@ -76,6 +76,7 @@ module _ {S : Type 0} (meaning : S → Meaning)
       shared = λ i. record { memory = sym ready.opening i; queue = first_alone.3 i };
       places = first_stand;
       sound = IsSound-first;
+      dues = first_alone.0;
       started = first_alone.2;
       slots = refl;
       alike = ready.alike;

@@ -1,5 +1,5 @@
 -- Who is alive after a question.
-use Rattle.std.proofs.Common.{◌≡◌, ℕ, ◌<◌, ◌==◌, Bool, true, false, not, cond, List, [], ◌∷◌, ◌++◌, refl, ◌∙◌, ap}
+use Rattle.std.proofs.Common.{◌≡◌, ℕ, ◌<◌, ◌==◌, Bool, true, false, not, cond, List, [], ◌∷◌, ◌++◌, length, refl, ◌∙◌, ap}
 use Rattle.std.specs.Prelude.{ℤ, nat_lt}
 use Rattle.std.specs.List.{list_any}
 use Rattle.std.proofs.lemmas.Bool.{cond_both, cond-true, lt-ltb, or_left, or_right, eq-eqb}
@@ -11,7 +11,6 @@ use Rattle.types.specs.declared.event.Question.TheVariants.{Wait, Notify, Spawn,
 use Rattle.types.specs.declared.event.Answer.TheVariants.{Number}
 use Rattle.types.specs.declared.event.Reply.{Reply}
 use Rattle.types.specs.declared.event.Reply.TheVariants as replies
-use Rattle.types.specs.Limits.{most_threads}
 use Rattle.shared_memory.specs.declared.sleeper.Sleeper.{Sleeper}
 use Rattle.shared_memory.specs.Events.{is_exempt}
 use Rattle.shared_memory.specs.WaitQueue.{WaitQueue, is_alive, next_id, tells, wakes, sleeps, starts, ends_at_once}
@@ -28,8 +27,8 @@ wait_alive q n addr width expected timeout v =
     (cond (ends_at_once timeout) (tells n (Number 2) q) (sleeps s q)) (λ w. w.alive ≡ q.alive) (λ e. refl)
     (λ e. cond_both (ends_at_once timeout) (tells n (Number 2) q) (sleeps s q) (λ w. w.alive ≡ q.alive) (λ d. refl) (λ d. refl))
 
-spawn_alive : (q : WaitQueue) (n arg v : ℕ) → (asked q n (Spawn arg) v).alive ≡ cond (nat_lt (next_id q) most_threads) (q.alive ++ next_id q ∷ []) q.alive
-spawn_alive q n arg v = go (nat_lt (next_id q) most_threads)
+spawn_alive : (q : WaitQueue) (n arg v : ℕ) → (asked q n (Spawn arg) v).alive ≡ cond (nat_lt (next_id q) (length q.due)) (q.alive ++ next_id q ∷ []) q.alive
+spawn_alive q n arg v = go (nat_lt (next_id q) (length q.due))
   where
     go : (b : Bool) → WaitQueue.alive (cond b (tells n (Number (next_id q)) (starts arg q))
         (tells n (Number 4294967295) q)) ≡ cond b (q.alive ++ next_id q ∷ []) q.alive
@@ -54,7 +53,7 @@ question_alive q n (Wait addr width expected timeout) v kind h =
     ap (λ a. list_any (λ k. k == n) a) (settled_alive (asked q n (Wait addr width expected timeout) v) ∙ wait_alive q n addr width expected timeout v) ∙ h
 question_alive q n (Notify addr count) v kind h = ap (λ a. list_any (λ k. k == n) a) (settled_alive (asked q n (Notify addr count) v)) ∙ h
 question_alive q n (Spawn arg) v kind h =
-    ap (λ a. list_any (λ k. k == n) a) (settled_alive (asked q n (Spawn arg) v) ∙ spawn_alive q n arg v) ∙ spawn_keeps n q (nat_lt (next_id q) most_threads) h
+    ap (λ a. list_any (λ k. k == n) a) (settled_alive (asked q n (Spawn arg) v) ∙ spawn_alive q n arg v) ∙ spawn_keeps n q (nat_lt (next_id q) (length q.due)) h
 question_alive q n Leave v kind h = absurd (cc kind)
 
 pub step_alive : (q : WaitQueue) (n : ℕ) (event : Event) (reply : Reply) → is_exempt event ≡ false
@@ -68,13 +67,13 @@ step_alive q n (events.Told a) reply kind h = absurd (cc kind)
 step_alive q n event reply kind h = h
 
 -- and whom it starts is alive
-pub spawned_alive : (q : WaitQueue) (n arg v : ℕ) → next_id q < most_threads → is_alive (after_question q n (Spawn arg) v) (next_id q) ≡ true
+pub spawned_alive : (q : WaitQueue) (n arg v : ℕ) → next_id q < length q.due → is_alive (after_question q n (Spawn arg) v) (next_id q) ≡ true
 unfolding after_question
 spawned_alive q n arg v room =
     ap (λ a. list_any (λ k. k == next_id q) a)
     (settled_alive (asked q n (Spawn arg) v)
-    ∙ (spawn_alive q n arg v ∙ cond-true (nat_lt (next_id q) most_threads)
-    (q.alive ++ next_id q ∷ []) q.alive (lt-ltb (next_id q) most_threads room)))
+    ∙ (spawn_alive q n arg v ∙ cond-true (nat_lt (next_id q) (length q.due))
+    (q.alive ++ next_id q ∷ []) q.alive (lt-ltb (next_id q) (length q.due) room)))
     ∙ (list_any-append (λ j. j == next_id q) q.alive (next_id q ∷ [])
     ∙ or_right (list_any (λ j. j == next_id q) q.alive) (list_any (λ j. j == next_id q) (next_id q ∷ []))
     (or_left (next_id q == next_id q) false (eq-eqb (next_id q) (next_id q) refl)))

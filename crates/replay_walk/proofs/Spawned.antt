@@ -4,11 +4,13 @@ use Rattle.std.proofs.Common.{◌≡◌, ◌≢◌, ℕ, ◌+◌, ◌<◌, ◌==
 use Rattle.std.proofs.Common.{length-append, length-set, Option, Some, None, sym, ◌∙◌, ap, subst, arith, get_or}
 use Rattle.std.proofs.Common.{slice_get}
 use Rattle.std.proofs.lemmas.Bool.{cond-true, cond_both, lt-ltb, eq-eqb, eqb-true, and_from, and_parts}
+use Rattle.std.proofs.lemmas.List.{length-replicate}
 use Rattle.std.proofs.lemmas.Option.{slice_get-get_or}
 use Rattle.types.specs.declared.value.Value.{Value}
 use Rattle.types.specs.declared.event.Event.{Event}
 use Rattle.types.specs.declared.event.Event.TheVariants as events
 use Rattle.types.specs.declared.event.Question.TheVariants.{Spawn}
+use Rattle.types.specs.declared.event.Answer.{Answer}
 use Rattle.types.specs.declared.event.Reply.{Reply}
 use Rattle.types.specs.declared.outcome.Outcome.{Outcome}
 use Rattle.types.specs.Limits.{most_threads}
@@ -36,6 +38,12 @@ module _ {S : Type 0} (meaning : S → Meaning) where
       → next_id s.state.shared.queue ≡ begun
   count_is s threads queue begun ends st = ap (λ (x : Shared). next_id x.queue) st.shared ∙ sym st.started
 
+  pub dues_are : (s : Standing) (threads : List S) (queue : WaitQueue) (begun : ℕ) (ends : List (Option Outcome))
+      → IsStanding meaning s threads queue begun ends
+      → length s.state.shared.queue.due ≡ most_threads
+  dues_are s threads queue begun ends st =
+      ap (λ (x : Shared). length x.queue.due) st.shared ∙ (length-replicate {A = Option Answer} (length queue.due) None ∙ st.dues)
+
   module _ (s : Standing) (threads : List S) (queue : WaitQueue) (begun : ℕ) (ends : List (Option Outcome)) (n : ℕ) (t : Running)
       (on : IsSettledOn meaning s threads queue begun ends n t) (arg : ℕ) (e : Event) (is : e ≡ events.Ask (Spawn arg))
       (v : Reply) (reply : v ≡ reply_of s.memory e) where
@@ -50,7 +58,10 @@ module _ {S : Type 0} (meaning : S → Meaning) where
 
     starts_is : (m : ℕ) → starts_in m ≡ cond (nat_lt m most_threads && (m == next_id s.state.shared.queue))
         (Some (Runs (spawned_in s.worker m arg) s.budget)) None
-    starts_is m = ap (λ (x : Event). (system_at s).starts (s.state.shared) n x m) is
+    starts_is m =
+        ap (λ (x : Event). (system_at s).starts (s.state.shared) n x m) is
+        ∙ ap (λ (k : ℕ). cond (nat_lt m k && (m == next_id s.state.shared.queue)) (Some (Runs (spawned_in s.worker m arg) s.budget)) None)
+        (dues_are s on.before queue begun ends on.standing)
 
     starts_here : begun < most_threads → starts_in begun ≡ Some started
     starts_here room =
@@ -74,21 +85,21 @@ module _ {S : Type 0} (meaning : S → Meaning) where
 
     next_is : begun < most_threads → begun + 1 ≡ next_id (queue_step queue n e v)
     next_is room =
-        let few : next_id queue < most_threads = subst (λ k. k < most_threads) (on.standing).started room in
+        let few : next_id queue < length queue.due = omega (arith, (on.standing).started, (on.standing).dues, room) in
         let more : length (queue.args ++ arg ∷ []) ≡ length queue.args + 1 = length-append queue.args (arg ∷ []) in
         ap (λ k. k + 1) (on.standing).started
         ∙ (ap (λ k. k + 1) (sym more)
         ∙ sym (ap next_id queue_is ∙ ap (λ w. length w + 1)
         (question_args queue n (Spawn arg) 0
-        ∙ cond-true (nat_lt (next_id queue) most_threads) (queue.args ++ arg ∷ []) queue.args
-        (lt-ltb (next_id queue) most_threads few))))
+        ∙ cond-true (nat_lt (next_id queue) (length queue.due)) (queue.args ++ arg ∷ []) queue.args
+        (lt-ltb (next_id queue) (length queue.due) few))))
 
     born : begun < most_threads → (m : ℕ) (x : Running) → starts_in m ≡ Some x → is_alive (queue_step queue n e v) m ≡ true
     born room =
         at_each begun (λ m. (x : Running) → starts_in m ≡ Some x → is_alive (queue_step queue n e v) m ≡ true)
         (λ x k. ap (λ (q : WaitQueue). is_alive q begun) queue_is
         ∙ subst (λ (k : ℕ). is_alive (after_question queue n (Spawn arg) 0) k ≡ true) (sym (on.standing).started)
-        (spawned_alive queue n arg 0 (subst (λ k. k < most_threads) (on.standing).started room)))
+        (spawned_alive queue n arg 0 (omega (arith, (on.standing).started, (on.standing).dues, room))))
         (λ m h x k. absurd (starts_other m h x k))
 
     module _ (kind : is_exempt e ≡ false) (none : outcome_of t ≡ None) (wants : wants_of s.program t ≡ Calls e)

@@ -20,6 +20,7 @@ use Rattle.interp_machine.specs.Program.{Program}
 use Rattle.schedule_threads.specs.Threads.{machine_of}
 use Rattle.schedule_runs.specs.Runs.{Start}
 use Rattle.schedule_runs.specs.Places.{place_of, place_due}
+use Rattle.schedule_runs.proofs.Dues.{without_answer}
 use Rattle.schedule_runs.proofs.Places.{place_told}
 use Rattle.schedule_runs.proofs.Entries.{EntryStep, entry_step}
 use Rattle.interp_trait.specs.Turns.{Running, outcome_of, wants_of, Meaning, IsHere, spawned_in}
@@ -82,9 +83,10 @@ module _ {S : Type 0} (meaning : S → Meaning) where
       told_on threads' same alike here = record {
         due = is_due;
         standing = record {
-          shared = st.shared;
+          shared = st.shared ∙ ap (λ (w : WaitQueue). record { memory = s.memory; queue = w }) (sym (without_answer queue n));
           places = step.stand;
           sound = IsSound-step queue n (events.Told answer) replies.Done due st.sound;
+          dues = length-set queue.due n None ∙ st.dues;
           started = st.started;
           slots = st.slots;
           alike = alike;

@@ -36,7 +36,7 @@ pub struct Stage {
 impl Stage {
     /// Thread 0 alone is there.
     pub fn new() -> Stage
-        ensures queue { result.queue ≡ first_queue }
+        ensures queue { result.queue ≡ first_queue most_threads }
         ensures started { result.started ≡ 1 }
         ensures ends { result.ends ≡ replicate most_threads None }
     {

@@ -7,7 +7,7 @@ use Rattle.types.specs.declared.outcome.ThreadReport.{ThreadReport}
 use Rattle.types.specs.declared.parts.Parts.{Parts}
 use Rattle.types.specs.Limits.{most_pages, most_threads, seat_count, past_limit, most_limit}
 use Rattle.shared_memory.specs.Memory.{pages}
-use Rattle.shared_memory.specs.History.{entries_of, AreEntries, memory_after}
+use Rattle.shared_memory.specs.History.{entries_of, AreEntries, memory_after, queue_after}
 use Rattle.shared_memory_on_table.specs.declared.view.Caller.{Caller}
 use Rattle.spawn_host.specs.Runs.{opening_memory, IsRun}
 use Rattle.locked_recorder.specs.Promises.{IsBounded}
@@ -16,7 +16,7 @@ use Rattle.replay_rules.specs.Ranges.{IsLimited}
 use Rattle.replay.specs.declared.end.EndState.{EndState}
 use Rattle.report_runs.specs.Ends.{EndsRun}
 use Rattle.report_runs.proofs.Whole.{Knows, is_history}
-use Rattle.shared_memory.proofs.Soundness.{IsSound-after}
+use Rattle.shared_memory.proofs.Soundness.{IsSound-after, few_spawned}
 
 module _ {S : Type 0} (caller : S → Caller) (P : S → Type 0) (m : Parts) (entry : List ℕ) (args : List Value) (fuel : ℕ)
     (loses : Bool) (limit : Option ℕ) (seats : List S) (log : List Entry) (end : EndState) where
@@ -38,7 +38,7 @@ pub few_reports : {S : Type 0} (m : Parts) (entry : List ℕ) (args : List Value
     (limit : Option ℕ) (name : S → ℕ) (seen : S → List Entry) (threads : List ThreadReport) (seats : List S)
     → IsRun m entry args fuel loses limit name seen threads seats → length threads ≤ most_threads
 few_reports m entry args fuel loses limit name seen threads seats run = let few =
-    (IsSound-after run.history run.is_history.together.queue).few in let count = run.is_history.count in omega arith
+    few_spawned (queue_after run.history) (IsSound-after run.history run.is_history.together.queue) in let count = run.is_history.count in omega arith
 
 -- a record of such a log is limited
 pub limited_by : (r : RecordParts) (log : List Entry) (limit : ℕ) → r.log ≡ log → limit ≡ r.limit → (1 ≤ r.limit)

@@ -11,6 +11,7 @@ use Rattle.types.specs.Limits.{most_threads}
 use Rattle.shared_memory.specs.Memory.{Memory, reply_of, state_after}
 use Rattle.shared_memory.specs.WaitQueue.{WaitQueue, answer_due, next_id, after_question, IsFree}
 use Rattle.shared_memory.specs.History.{queue_step}
+use Rattle.shared_memory.proofs.Lengths.{due_length_question}
 use Rattle.schedule.specs.System.{State, Want.Calls, Want.Awaits, put}
 use Rattle.schedule.specs.Scheduled.{after_event, hears_any, or_started}
 use Rattle.schedule.specs.Machine.{Wish, Thread.Absent, Thread.Runs, Thread.Over, Thread.Leaves, Thread.Left, wanted, takes_by, thread_takes}
@@ -29,7 +30,6 @@ use Rattle.schedule_machine.specs.declared.stepping.Machine.{Machine}
 use Rattle.schedule_machine.proofs.Orderly.{free_asker, orderly_same}
 use Rattle.schedule_machine.proofs.Slots.{are_put, are_same}
 use Rattle.schedule_machine.proofs.Starting.{starts_is}
-use Rattle.schedule_machine.proofs.Asked.{sound_after}
 use Rattle.schedule_machine.proofs.Questions.{may_hear, orderly_question}
 
 -- by its reply
@@ -110,7 +110,7 @@ module _ {S : Type 0} (meaning : S → Meaning)
 
   pub due_long : length (WaitQueue.due (after_question old.queue n question v)) ≡ most_threads
   due_long = subst (λ z. length (WaitQueue.due (after_question z n question v)) ≡ most_threads) (sym same_queue)
-      (sound_after q n question v at.orderly.sound (free_asker s.program q w.threads n (events.Ask question) at.orderly calls)).due_length
+      (due_length_question q n question v ∙ at.orderly.dues)
 
   pub may : MayHear s asking (after_question old.queue n question v)
   may = subst (λ z. MayHear s asking (after_question z n question v)) (sym same_queue) (may_hear s q w.threads n question v asker at.orderly calls awaits)
@@ -146,7 +146,7 @@ module _ {S : Type 0} (meaning : S → Meaning)
 
   threads_are : (m : ℕ) → after.threads m ≡ started_by s asking q n question v m
   threads_are m =
-      ap (λ o. or_started o (hears_any (system_by s) (asking m) (answer_due (queue_step q n (events.Ask question) reply) m))) (starts_is s w.shared question m)
+      ap (λ o. or_started o (hears_any (system_by s) (asking m) (answer_due (queue_step q n (events.Ask question) reply) m))) (starts_is s w.shared at.orderly.dues question m)
       ∙ ap (λ z. or_started (started_at s (next_id q) question m) (hears_any (system_by s) (asking m) (answer_due z m))) step_is
 
   pub at_question : (new : Machine S) → IsAsked new → IsAt meaning s new after

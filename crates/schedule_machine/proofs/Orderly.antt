@@ -13,7 +13,7 @@ use Rattle.schedule_machine.specs.Runs.{IsOrderly}
 
 -- no answer is due
 pub nothing_due : (p : Program) (q : WaitQueue) (f : ℕ → Running) → IsOrderly p q f → (m : ℕ) → answer_due q m ≡ None
-nothing_due p q f orderly m = subst (λ z. answer_due z m ≡ None) orderly.heard (none_due m)
+nothing_due p q f orderly m = subst (λ z. answer_due z m ≡ None) orderly.heard (none_due q m)
 
 -- who isn't there wants nothing, and who asks or goes on is there
 pub calls_here : (p : Program) (t : Running) (e : Event) → wants_of p t ≡ Calls e → IsHere t
@@ -46,6 +46,7 @@ pub orderly_put : (p : Program) (q : WaitQueue) (f : ℕ → Running) (n : ℕ) 
     → IsHere (f n) → (wants_of p (f n) ≡ Awaits → ⊥) → IsOrderly p q (put f n t)
 orderly_put p q f n t orderly here awake = record {
   sound = orderly.sound;
+  dues = orderly.dues;
   heard = orderly.heard;
   unstarted = at_each n (λ m. next_id q ≤ m → put f n t m ≡ Absent)
       (λ past. absurd (not_absent (f n) here (orderly.unstarted n past)))
@@ -62,6 +63,7 @@ orderly_put p q f n t orderly here awake = record {
 pub orderly_same : (p : Program) (q : WaitQueue) (f g : ℕ → Running) → ((m : ℕ) → g m ≡ f m) → IsOrderly p q f → IsOrderly p q g
 orderly_same p q f g same orderly = record {
   sound = orderly.sound;
+  dues = orderly.dues;
   heard = orderly.heard;
   unstarted = λ m past. same m ∙ orderly.unstarted m past;
   living = λ m h. orderly.living m (subst IsHere (same m) h);

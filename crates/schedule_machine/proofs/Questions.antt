@@ -1,19 +1,22 @@
 -- A question within bounds: what every state keeps to still holds after it.
-use Rattle.std.proofs.Common.{◌≡◌, ◌≢◌, ℕ, ◌+◌, ◌<◌, ◌≤◌, ◌⊎◌, inl, inr, true, false, Option, Some, None, refl, sym, ◌∙◌, ap, subst, arith}
+use Rattle.std.proofs.Common.{◌≡◌, ◌≢◌, ℕ, ◌+◌, ◌<◌, ◌≤◌, ◌⊎◌, inl, inr, true, false, length, Option, Some, None, refl, sym, ◌∙◌, ap, subst, arith}
 use Rattle.std.specs.Prelude.{nat_lt}
 use Rattle.std.proofs.lemmas.Bool.{cases_Bool, cases_lt, both_ways, cond_both, cond-true, lt-ltb, false_from_ne_true}
+use Rattle.std.proofs.lemmas.List.{length-replicate}
 use Rattle.types.specs.declared.event.Event.TheVariants as events
 use Rattle.types.specs.declared.event.Question.{Question}
 use Rattle.types.specs.declared.event.Question.TheVariants.{Wait, Notify, Spawn, Leave}
 use Rattle.types.specs.declared.event.Answer.{Answer}
 use Rattle.types.specs.Limits.{most_threads}
 use Rattle.shared_memory.specs.WaitQueue.{WaitQueue, is_alive, is_asleep, answer_due, next_id, after_question, IsFree}
+use Rattle.shared_memory.proofs.Lengths.{due_length_question}
 use Rattle.shared_memory.proofs.Others.{IsQuiet}
 use Rattle.schedule.specs.System.{Want.Calls, Want.Awaits, put}
 use Rattle.schedule.specs.Scheduled.{hears_any, or_started}
 use Rattle.schedule.specs.Machine.{Thread.Absent, Thread.Runs, Thread.Over, Thread.Leaves, Thread.Left}
 use Rattle.schedule.proofs.Basics.{put-same, put-other, at_each, same_or_not}
 use Rattle.schedule_threads.specs.Shared.{without_dues}
+use Rattle.schedule_runs.proofs.Dues.{without_twice}
 use Rattle.schedule_runs.proofs.Places.{IsSound-without}
 use Rattle.interp_trait.specs.Turns.{Running, wants_of, IsHere}
 use Rattle.schedule_machine.specs.Threads.{Setting}
@@ -99,11 +102,12 @@ after_grows next (Notify addr count) = omega arith
 after_grows next (Spawn arg) = cond_both (nat_lt next most_threads) (next + 1) next (λ k. next ≤ k) (λ e. omega arith) (λ e. omega arith)
 after_grows next Leave = omega arith
 
-pub next_grows : (q : WaitQueue) (n : ℕ) (question : Question) (v : ℕ) → next_id q ≤ next_id (after_question q n question v)
-next_grows q n question v = omega (arith, next_question q n question v, after_grows (next_id q) question)
+pub next_grows : (q : WaitQueue) → length q.due ≡ most_threads → (n : ℕ) (question : Question) (v : ℕ) → next_id q ≤ next_id (after_question q n question v)
+next_grows q dues n question v = omega (arith, next_question q dues n question v, after_grows (next_id q) question)
 
-pub next_spawned : (q : WaitQueue) (n arg v : ℕ) → next_id q < most_threads → next_id (after_question q n (Spawn arg) v) ≡ next_id q + 1
-next_spawned q n arg v room = next_question q n (Spawn arg) v
+pub next_spawned : (q : WaitQueue) → length q.due ≡ most_threads → (n arg v : ℕ) → next_id q < most_threads
+    → next_id (after_question q n (Spawn arg) v) ≡ next_id q + 1
+next_spawned q dues n arg v room = next_question q dues n (Spawn arg) v
     ∙ cond-true (nat_lt (next_id q) most_threads) (next_id q + 1) (next_id q) (lt-ltb (next_id q) most_threads room)
 
 module _ (s : Setting) (q : WaitQueue) (f : ℕ → Running) (n : ℕ) (question : Question) (v : ℕ) (t : Running)
@@ -122,9 +126,9 @@ module _ (s : Setting) (q : WaitQueue) (f : ℕ → Running) (n : ℕ) (question
   unstarted_after m past =
       elim (start_cases s q question m) [
         | inl none ↦ ap (λ o. or_started o (all_hear s (put f n t) later m)) none
-            ∙ away s q f n question v t orderly calls awaits m (omega (arith, past, next_grows q n question v))
+            ∙ away s q f n question v t orderly calls awaits m (omega (arith, past, next_grows q orderly.dues n question v))
         | inr start ↦ (let grown : next_id later ≡ next_id q + 1 = subst (λ z. next_id (after_question q n z v) ≡ next_id q + 1) (sym start.spawn)
-            (next_spawned q n start.arg v (subst (λ k. k < most_threads) start.number start.room)) in
+            (next_spawned q orderly.dues n start.arg v (subst (λ k. k < most_threads) start.number start.room)) in
             absurd (omega (arith, past, grown, start.number)))
       ]
 
@@ -146,7 +150,7 @@ module _ (s : Setting) (q : WaitQueue) (f : ℕ → Running) (n : ℕ) (question
         | inl none ↦ lives m (here_before s (put f n t m) (answer_due later m) (subst IsHere (ap (λ o. or_started o (all_hear s (put f n t) later m)) none) h))
         | inr start ↦ subst (λ k. is_alive later k ≡ true) (sym start.number)
             (subst (λ z. is_alive (after_question q n z v) (next_id q) ≡ true) (sym start.spawn)
-            (newborn_alive q n start.arg v orderly.sound asker (subst (λ k. k < most_threads) start.number start.room)))
+            (newborn_alive q n start.arg v orderly.sound asker (omega (arith, start.number, start.room, orderly.dues))))
       ]
 
   slept : (m : ℕ) → is_asleep later m ≡ true → (wants_of s.program (put f n t m) ≡ Awaits) × (m < next_id q)
@@ -169,7 +173,8 @@ module _ (s : Setting) (q : WaitQueue) (f : ℕ → Running) (n : ℕ) (question
   pub orderly_question : IsOrderly s.program (without_dues later) threads
   orderly_question = record {
     sound = IsSound-without later (sound_after q n question v orderly.sound asker);
-    heard = refl;
+    dues = length-replicate {A = Option Answer} (length later.due) None ∙ (due_length_question q n question v ∙ orderly.dues);
+    heard = without_twice later;
     unstarted = unstarted_after;
     living = living_after;
     awaiting = awaiting_after;

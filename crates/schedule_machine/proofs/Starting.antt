@@ -21,12 +21,13 @@ use Rattle.schedule_machine.specs.Threads.{Setting}
 use Rattle.schedule_machine.specs.Runs.{spawned_at, started_at, system_by, with_spawned, next_after}
 
 -- as the definition has it
-pub starts_is : (s : Setting) (x : Shared) (question : Question) (m : ℕ)
+pub starts_is : (s : Setting) (x : Shared) → length x.queue.due ≡ most_threads → (question : Question) (m : ℕ)
     → starts_by (machine_of s.program) (spawned_in s.worker) s.fuel x (events.Ask question) m ≡ started_at s (next_id x.queue) question m
-starts_is s x (Wait addr width expected timeout) m = refl
-starts_is s x (Notify addr count) m = refl
-starts_is s x (Spawn arg) m = refl
-starts_is s x Leave m = refl
+starts_is s x dues (Wait addr width expected timeout) m = refl
+starts_is s x dues (Notify addr count) m = refl
+starts_is s x dues (Spawn arg) m =
+    ap (λ (k : ℕ). cond (nat_lt m k && (m == next_id x.queue)) (Some (Runs (spawned_in s.worker m arg) s.fuel)) None) dues
+starts_is s x dues Leave m = refl
 
 -- a question that is no spawn starts nobody, and gives no number out
 pub started_none : (s : Setting) (next : ℕ) (question : Question) → ((arg : ℕ) → question ≡ Spawn arg → ⊥) → (m : ℕ) → started_at s next question m ≡ None
@@ -41,18 +42,20 @@ next_stays next (Notify addr count) none = refl
 next_stays next (Spawn arg) none = absurd (none arg refl)
 next_stays next Leave none = refl
 
-next_args : (q : WaitQueue) (question : Question) → length (args_by q question) + 1 ≡ next_after (next_id q) question
-next_args q (Wait addr width expected timeout) = refl
-next_args q (Notify addr count) = refl
-next_args q (Spawn arg) = go (nat_lt (next_id q) most_threads)
+next_args : (q : WaitQueue) → length q.due ≡ most_threads → (question : Question) → length (args_by q question) + 1 ≡ next_after (next_id q) question
+next_args q dues (Wait addr width expected timeout) = refl
+next_args q dues (Notify addr count) = refl
+next_args q dues (Spawn arg) =
+    ap (λ (k : ℕ). length (cond (nat_lt (next_id q) k) (q.args ++ arg ∷ []) q.args) + 1) dues ∙ go (nat_lt (next_id q) most_threads)
   where
     go : (b : Bool) → length (cond b (q.args ++ arg ∷ []) q.args) + 1 ≡ cond b (next_id q + 1) (next_id q)
     go true = ap (λ k. k + 1) (length-append q.args (arg ∷ []))
     go false = refl
-next_args q Leave = refl
+next_args q dues Leave = refl
 
-pub next_question : (q : WaitQueue) (n : ℕ) (question : Question) (v : ℕ) → next_id (after_question q n question v) ≡ next_after (next_id q) question
-next_question q n question v = ap (λ args. length args + 1) (question_args q n question v) ∙ next_args q question
+pub next_question : (q : WaitQueue) → length q.due ≡ most_threads → (n : ℕ) (question : Question) (v : ℕ)
+    → next_id (after_question q n question v) ≡ next_after (next_id q) question
+next_question q dues n question v = ap (λ args. length args + 1) (question_args q n question v) ∙ next_args q dues question
 
 -- who isn't there hears nothing
 pub absent_hears : (s : Setting) (t : Running) (o : Option Answer) → t ≡ Absent → hears_any (system_by s) t o ≡ Absent

@@ -12,6 +12,7 @@ use Rattle.schedule.specs.System.{put}
 use Rattle.schedule.proofs.Basics.{put-same, put-other}
 use Rattle.schedule.specs.Scheduled.{hears_any}
 use Rattle.schedule_threads.specs.Shared.{without_dues}
+use Rattle.schedule_runs.proofs.Dues.{without_answer}
 use Rattle.interp_trait.specs.Turns.{Running, wants_of}
 use Rattle.schedule_machine.specs.Threads.{Setting}
 use Rattle.schedule_machine.specs.Runs.{MayHear, all_hear, system_by}
@@ -26,7 +27,7 @@ pub record IsToldUntil (k : ℕ) (q now : WaitQueue) : Type 0 where
 told_taken : (k : ℕ) (q now : WaitQueue) → IsToldUntil k q now → IsToldUntil (k + 1) q (after_answer now k)
 unfolding after_answer
 told_taken k q now is = record {
-  same = is.same;
+  same = without_answer now k ∙ is.same;
   long = length-set now.due k None ∙ is.long;
   done = λ m h. elim (cases_eq m k) [
     | inl e ↦ subst (λ (j : ℕ). get_or (set now.due k None) j None ≡ None) (sym e) (set_none now.due)
@@ -67,7 +68,8 @@ all_none (o ∷ due) (suc n) long h =
     ap (λ x. x ∷ due) first ∙ ap (λ xs. None ∷ xs) rest
 
 pub told_every : (q now : WaitQueue) → length q.due ≡ most_threads → IsToldUntil most_threads q now → now ≡ without_dues q
-told_every q now long is = ap (λ due. record now { due = due }) (all_none now.due most_threads (is.long ∙ long) is.done) ∙ is.same
+told_every q now long is =
+    ap (λ due. record now { due = due }) (all_none now.due (length now.due) refl (λ m h. is.done m (omega (arith, h, is.long, long)))) ∙ is.same
 
 -- the threads meanwhile
 abbrev pub told_until : Setting → (ℕ → Running) → WaitQueue → ℕ → ℕ → Running

@@ -59,10 +59,11 @@ system_by s = over_memory_and_queue (machine_of s.program) (spawned_in s.worker)
 abbrev pub first_thread : Running → ℕ → Running
 first_thread t = put (λ (m : ℕ). Absent) 0 t
 
--- What every state of the scheduled machine keeps to: no answer is due, who was started and hasn't left is alive, and who
--- sleeps awaits the answer to its question.
+-- What every state of the scheduled machine keeps to: there may be 16 threads, no answer is due, who was started and
+-- hasn't left is alive, and who sleeps awaits the answer to its question.
 pub record IsOrderly (p : Program) (q : WaitQueue) (threads : ℕ → Running) : Type 0 where
   pub sound : IsSound q
+  pub dues : length q.due ≡ most_threads
   pub heard : without_dues q ≡ q
   pub unstarted : (m : ℕ) → next_id q ≤ m → threads m ≡ Absent
   pub living : (m : ℕ) → IsHere (threads m) → is_alive q m ≡ true

@@ -36,12 +36,12 @@ wait_alive q n addr width expected timeout v =
     (λ e. cond_both (ends_at_once timeout) (tells n (Number 2) q) (sleeps s q) (λ w. w.alive ≡ q.alive) (λ d. refl) (λ d. refl))
 
 abbrev alive_by : WaitQueue → ℕ → Question → List ℕ
-alive_by q n (Spawn arg) = cond (nat_lt (next_id q) most_threads) (q.alive ++ next_id q ∷ []) q.alive
+alive_by q n (Spawn arg) = cond (nat_lt (next_id q) (length q.due)) (q.alive ++ next_id q ∷ []) q.alive
 alive_by q n Leave = filter (λ m. not (m == n)) q.alive
 alive_by q n question = q.alive
 
-spawn_alive : (q : WaitQueue) (n arg v : ℕ) → (asked q n (Spawn arg) v).alive ≡ cond (nat_lt (next_id q) most_threads) (q.alive ++ next_id q ∷ []) q.alive
-spawn_alive q n arg v = go (nat_lt (next_id q) most_threads)
+spawn_alive : (q : WaitQueue) (n arg v : ℕ) → (asked q n (Spawn arg) v).alive ≡ cond (nat_lt (next_id q) (length q.due)) (q.alive ++ next_id q ∷ []) q.alive
+spawn_alive q n arg v = go (nat_lt (next_id q) (length q.due))
   where
     go : (b : Bool) → WaitQueue.alive (cond b (tells n (Number (next_id q)) (starts arg q))
         (tells n (Number 4294967295) q)) ≡ cond b (q.alive ++ next_id q ∷ []) q.alive
@@ -78,12 +78,12 @@ there_by : (q : WaitQueue) (n : ℕ) (question : Question) (m : ℕ) → (questi
 there_by q n (Wait addr width expected timeout) m apart there = there
 there_by q n (Notify addr count) m apart there = there
 there_by q n (Spawn arg) m apart there =
-    elim (cases_lt (next_id q) most_threads) [
+    elim (cases_lt (next_id q) (length q.due)) [
       | inl room ↦ subst (λ (b : Bool). IsThereIn m (cond b (q.alive ++ next_id q ∷ []) q.alive)
-          (cond b (q.args ++ arg ∷ []) q.args)) (sym (lt-ltb (next_id q) most_threads room))
+          (cond b (q.args ++ arg ∷ []) q.args)) (sym (lt-ltb (next_id q) (length q.due) room))
           (there_spawn q arg m there)
       | inr none ↦ subst (λ (b : Bool). IsThereIn m (cond b (q.alive ++ next_id q ∷ []) q.alive)
-          (cond b (q.args ++ arg ∷ []) q.args)) (sym (le-ltb (next_id q) most_threads none)) there
+          (cond b (q.args ++ arg ∷ []) q.args)) (sym (le-ltb (next_id q) (length q.due) none)) there
     ]
 there_by q n Leave m apart there = λ known. alive_but n m q.alive (apart refl) (there known)
 
@@ -139,13 +139,13 @@ alive_from q (e ∷ H) m there =
       ]
     ]
 
-there_first : (m : ℕ) → IsThere m first_queue
+there_first : (most m : ℕ) → IsThere m (first_queue most)
 unfolding first_queue
-there_first m known = let is : 0 ≡ m = omega arith in or_left (0 == m) false (eq-eqb 0 m is)
+there_first most m known = let is : 0 ≡ m = omega arith in or_left (0 == m) false (eq-eqb 0 m is)
 
 pub alive_until : (H : List entries.Entry) (m : ℕ) → m < next_id (queue_after H) → (is_alive (queue_after H) m ≡ true) ⊎ HasLeave m H
 alive_until H m known =
-    elim (alive_from first_queue H m (there_first m)) [
+    elim (alive_from (first_queue most_threads) H m (there_first most_threads m)) [
       | inl there ↦ inl (subst (λ (q : WaitQueue). IsThere m q) (sym (queue_after-all H)) there known)
       | inr has ↦ inr has
     ]

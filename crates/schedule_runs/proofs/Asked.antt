@@ -1,16 +1,16 @@
 -- A question in a system of threads over the memory and the wait queue: whom it starts, whom it gives an answer, and where
 -- all threads are after it.
-use Rattle.std.proofs.Common.{◌≡◌, ◌≢◌, ℕ, ◌+◌, ◌<◌, ◌≤◌, ◌==◌, ◌&&◌, true, false, [], ◌∷◌, ◌++◌, length, Option}
+use Rattle.std.proofs.Common.{◌≡◌, ◌≢◌, ℕ, ◌+◌, ◌<◌, ◌≤◌, ◌==◌, ◌&&◌, true, false, cond, [], ◌∷◌, ◌++◌, length, Option}
 use Rattle.std.proofs.Common.{Some, None, refl, sym, ◌∙◌, ap, inl, inr, arith, length-append}
 use Rattle.std.specs.Prelude.{nat_lt}
 use Rattle.std.proofs.lemmas.Bool.{cases_eq, cases_lt, cond-true, cond-false, cond_both, lt-ltb, le-ltb, and_from, and_left, and_right, eq-eqb, ne_eqb}
+use Rattle.std.proofs.lemmas.List.{length-replicate}
 use Rattle.types.specs.declared.event.Event.{Event}
 use Rattle.types.specs.declared.event.Event.TheVariants as events
 use Rattle.types.specs.declared.event.Question.{Question}
 use Rattle.types.specs.declared.event.Question.TheVariants.{Wait, Notify, Spawn, Leave}
 use Rattle.types.specs.declared.event.Answer.{Answer}
 use Rattle.types.specs.declared.outcome.Outcome.{Outcome}
-use Rattle.types.specs.Limits.{most_threads}
 use Rattle.shared_memory.specs.Memory.{Memory}
 use Rattle.shared_memory.specs.WaitQueue.{WaitQueue, answer_due, next_id, after_question, IsFree}
 use Rattle.shared_memory.specs.Sound.{IsSound}
@@ -40,12 +40,19 @@ Begun = Thread State Outcome
 abbrev pub started : Start → Memory → WaitQueue → Event → ℕ → Option Begun
 started b mem q event m = starts_by (machine_of b.program) b.spawned b.fuel (shared_of mem q) event m
 
+-- a spawn starts whom the queue has room for
+pub started_is : (b : Start) (mem : Memory) (q : WaitQueue) (arg m : ℕ) → started b mem q (events.Ask (Spawn arg)) m
+    ≡ cond (nat_lt m (length q.due) && (m == next_id q)) (Some (Runs (b.spawned m arg) b.fuel)) None
+started_is b mem q arg m =
+    ap (λ (k : ℕ). cond (nat_lt m k && (m == next_id q)) (Some (Runs (b.spawned m arg) b.fuel)) None)
+    (length-replicate {A = Option Answer} (length q.due) None)
+
 -- who is given nothing, and asks nothing, stays
 pub placed_same : (B : Type 0) (q : WaitQueue) (n m : ℕ) (p : Place Answer)
     → placed {B = B} None (answer_due (without_dues q) m) (put (λ (k : ℕ). false) n false m) p ≡ p
 unfolding put
 placed_same B q n m p =
-    ap (λ o. placed {B = B} None o (put (λ (k : ℕ). false) n false m) p) (none_due m)
+    ap (λ o. placed {B = B} None o (put (λ (k : ℕ). false) n false m) p) (none_due q m)
     ∙ ap (λ b. placed {B = B} None None b p) (cond_both (m == n) false false (λ b. b ≡ false) (λ e. refl) (λ e. refl))
 
 -- a question with a value
@@ -102,53 +109,54 @@ module _ (b : Start) (mem : Memory) (q : WaitQueue) (n arg v : ℕ) (sound : IsS
   abbrev spawned : WaitQueue
   spawned = after_question q n (Spawn arg) v
 
-  next_room : next_id q < most_threads → next_id spawned ≡ next_id q + 1
+  next_room : next_id q < length q.due → next_id spawned ≡ next_id q + 1
   next_room room =
       next_after b mem q n (Spawn arg) v sound free
-      ∙ ap (λ w. length w + 1) (cond-true (nat_lt (next_id q) most_threads) (q.args ++ arg ∷ []) q.args (lt-ltb (next_id q) most_threads room))
+      ∙ ap (λ w. length w + 1) (cond-true (nat_lt (next_id q) (length q.due)) (q.args ++ arg ∷ []) q.args (lt-ltb (next_id q) (length q.due) room))
       ∙ omega (arith, length-append q.args (arg ∷ []))
 
-  next_none : most_threads ≤ next_id q → next_id spawned ≡ next_id q
+  next_none : length q.due ≤ next_id q → next_id spawned ≡ next_id q
   next_none none =
       next_after b mem q n (Spawn arg) v sound free
-      ∙ ap (λ w. length w + 1) (cond-false (nat_lt (next_id q) most_threads) (q.args ++ arg ∷ []) q.args (le-ltb (next_id q) most_threads none))
+      ∙ ap (λ w. length w + 1) (cond-false (nat_lt (next_id q) (length q.due)) (q.args ++ arg ∷ []) q.args (le-ltb (next_id q) (length q.due) none))
 
   abbrev new : Begun
   new = Runs (b.spawned (next_id q) arg) b.fuel
 
-  starts_none : (m : ℕ) → (nat_lt m most_threads && (m == next_id q)) ≡ false → started b mem q (events.Ask (Spawn arg)) m ≡ None
-  starts_none m isnt = cond-false (nat_lt m most_threads && (m == next_id q)) (Some (Runs (b.spawned m arg) b.fuel)) None isnt
+  starts_none : (m : ℕ) → (nat_lt m (length q.due) && (m == next_id q)) ≡ false → started b mem q (events.Ask (Spawn arg)) m ≡ None
+  starts_none m isnt = started_is b mem q arg m ∙ cond-false (nat_lt m (length q.due) && (m == next_id q)) (Some (Runs (b.spawned m arg) b.fuel)) None isnt
 
-  starts_new : (m : ℕ) → m ≡ next_id q → m < most_threads → started b mem q (events.Ask (Spawn arg)) m ≡ Some (Runs (b.spawned m arg) b.fuel)
+  starts_new : (m : ℕ) → m ≡ next_id q → m < length q.due → started b mem q (events.Ask (Spawn arg)) m ≡ Some (Runs (b.spawned m arg) b.fuel)
   starts_new m is room =
-      cond-true (nat_lt m most_threads && (m == next_id q))
-      (Some (Runs (b.spawned m arg) b.fuel)) None (and_from (nat_lt m most_threads) (m == next_id q)
-      (lt-ltb m most_threads room) (eq-eqb m (next_id q) is))
+      started_is b mem q arg m
+      ∙ cond-true (nat_lt m (length q.due) && (m == next_id q))
+      (Some (Runs (b.spawned m arg) b.fuel)) None (and_from (nat_lt m (length q.due)) (m == next_id q)
+      (lt-ltb m (length q.due) room) (eq-eqb m (next_id q) is))
 
   spawn_after : (m : ℕ) → place_after b mem q n (Spawn arg) v sound free (started b mem q (events.Ask (Spawn arg)) m) m ≡ place_of spawned m
   spawn_after m =
       elim (cases_lt m (next_id q)) [
-        | inl known ↦ with_none m (and_right (nat_lt m most_threads) (m == next_id q) (ne_eqb m (next_id q) (λ e. omega arith)))
+        | inl known ↦ with_none m (and_right (nat_lt m (length q.due)) (m == next_id q) (ne_eqb m (next_id q) (λ e. omega arith)))
             (known_after b mem q n (Spawn arg) v sound free m known more)
         | inr past ↦ elim (cases_eq m (next_id q)) [
-          | inl is ↦ elim (cases_lt (next_id q) most_threads) [
+          | inl is ↦ elim (cases_lt (next_id q) (length q.due)) [
             | inl room ↦ ap (λ o. place_after b mem q n (Spawn arg) v sound free o m) (starts_new m is (omega arith))
                 ∙ new_after b mem q n (Spawn arg) v sound free m past (omega (arith, next_room room))
-            | inr none ↦ with_none m (and_left (nat_lt m most_threads) (m == next_id q) (le-ltb m most_threads (omega arith)))
+            | inr none ↦ with_none m (and_left (nat_lt m (length q.due)) (m == next_id q) (le-ltb m (length q.due) (omega arith)))
                 (past_after b mem q n (Spawn arg) v sound free m past (omega (arith, next_none none)))
           ]
-          | inr isnt ↦ with_none m (and_right (nat_lt m most_threads) (m == next_id q) (ne_eqb m (next_id q) isnt))
+          | inr isnt ↦ with_none m (and_right (nat_lt m (length q.due)) (m == next_id q) (ne_eqb m (next_id q) isnt))
               (past_after b mem q n (Spawn arg) v sound free m past (omega (arith, below)))
         ]
       ]
     where
       more : next_id q ≤ next_id spawned
-      more = elim (cases_lt (next_id q) most_threads) [ inl room ↦ omega (arith, next_room room) | inr none ↦ omega (arith, next_none none) ]
+      more = elim (cases_lt (next_id q) (length q.due)) [ inl room ↦ omega (arith, next_room room) | inr none ↦ omega (arith, next_none none) ]
 
       below : next_id spawned ≤ next_id q + 1
-      below = elim (cases_lt (next_id q) most_threads) [ inl room ↦ omega (arith, next_room room) | inr none ↦ omega (arith, next_none none) ]
+      below = elim (cases_lt (next_id q) (length q.due)) [ inl room ↦ omega (arith, next_room room) | inr none ↦ omega (arith, next_none none) ]
 
-      with_none : (m : ℕ) → (nat_lt m most_threads && (m == next_id q)) ≡ false → place_after b mem q n (Spawn arg) v sound free None m ≡ place_of spawned m
+      with_none : (m : ℕ) → (nat_lt m (length q.due) && (m == next_id q)) ≡ false → place_after b mem q n (Spawn arg) v sound free None m ≡ place_of spawned m
           → place_after b mem q n (Spawn arg) v sound free (started b mem q (events.Ask (Spawn arg)) m) m ≡ place_of spawned m
       with_none m isnt is = ap (λ o. place_after b mem q n (Spawn arg) v sound free o m) (starts_none m isnt) ∙ is
 
@@ -171,5 +179,5 @@ pub record IsSpawn (b : Start) (q : WaitQueue) (event : Event) (m : ℕ) (t : Be
   pub arg : ℕ
   pub event_is : event ≡ events.Ask (Spawn arg)
   pub number : m ≡ next_id q
-  pub room : m < most_threads
+  pub room : m < length q.due
   pub thread : t ≡ Runs (b.spawned m arg) b.fuel

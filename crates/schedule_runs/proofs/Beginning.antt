@@ -52,7 +52,7 @@ grows_same xs ys e = ([], e ∙ sym (append-nil xs))
 grows_by : (q : WaitQueue) (question : Question) → Grows q.args (args_by q question)
 grows_by q (Wait addr width expected timeout) = grows_same q.args q.args refl
 grows_by q (Notify addr count) = grows_same q.args q.args refl
-grows_by q (Spawn arg) = cond_both (nat_lt (next_id q) most_threads) (q.args ++ arg ∷ []) q.args (λ w. Grows q.args w)
+grows_by q (Spawn arg) = cond_both (nat_lt (next_id q) (length q.due)) (q.args ++ arg ∷ []) q.args (λ w. Grows q.args w)
     (λ e. (arg ∷ [], refl)) (λ e. grows_same q.args q.args refl)
 grows_by q Leave = grows_same q.args q.args refl
 
@@ -82,11 +82,11 @@ arg_from q [] m arg is = is
 arg_from q (e ∷ H) m arg is = arg_from (queue_step q e.thread e.event e.reply) H m arg (arg_step q e.thread e.event e.reply m arg is)
 
 -- a spawn with room has its argument
-arg_spawned : (q : WaitQueue) (n arg : ℕ) → next_id q < most_threads → arg_of (after_question q n (Spawn arg) 0) (suc (length q.args)) ≡ Some arg
+arg_spawned : (q : WaitQueue) (n arg : ℕ) → next_id q < length q.due → arg_of (after_question q n (Spawn arg) 0) (suc (length q.args)) ≡ Some arg
 arg_spawned q n arg room =
     ap (λ w. slice_get w (length q.args)) (question_args q n (Spawn arg) 0
-    ∙ cond-true (nat_lt (next_id q) most_threads)
-    (q.args ++ arg ∷ []) q.args (lt-ltb (next_id q) most_threads room))
+    ∙ cond-true (nat_lt (next_id q) (length q.due))
+    (q.args ++ arg ∷ []) q.args (lt-ltb (next_id q) (length q.due) room))
     ∙ slice_get-last q.args arg
 
 -- Who begins, and that it has a number that was given out.
@@ -123,7 +123,7 @@ module _ (b : Start) (last : WaitQueue) (steps : ℕ → List (Step Event Reply 
       let step : queue_step q n event reply ≡ after_question q n (Spawn spawn.arg) 0 =
       ap (λ e. queue_step q n e reply) spawn.event_is ∙ ap (λ r. queue_step q n (events.Ask (Spawn spawn.arg)) r) done in
       let number : suc (length q.args) ≡ m = omega (arith, spawn.number) in
-      let room : next_id q < most_threads = omega (arith, spawn.number, spawn.room) in
+      let room : next_id q < length q.due = omega (arith, spawn.number, spawn.room) in
       let here : arg_of (queue_step q n event reply) m ≡ Some spawn.arg =
       ap (λ w. arg_of w m) step ∙ subst (λ (k : ℕ). arg_of (after_question q n (Spawn spawn.arg) 0) k ≡ Some spawn.arg)
       number (arg_spawned q n spawn.arg room) in
@@ -154,5 +154,5 @@ pub started_run : (b : Start) (H : List entries.Entry) (steps : ℕ → List (St
     (ends : ℕ → Begun) → IsStarted b.opening H → RunBy b (queue_after H) steps ends
     → StartedRun (system_of b) steps ends (first_shared b) (as_acts H)
 started_run b H steps ends legal runs =
-    started_from b (queue_after H) steps ends runs b.opening first_queue first_places (first_shared b) H
+    started_from b (queue_after H) steps ends runs b.opening (first_queue most_threads) first_places (first_shared b) H
     (legal_from b.opening H legal) IsSound-first first_stand (first_is b) (queue_after-all H)

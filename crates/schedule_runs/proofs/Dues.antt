@@ -5,15 +5,15 @@ use Rattle.std.proofs.Common.{None, refl, sym, ◌∙◌, ap, subst, inl, inr, a
 use Rattle.std.proofs.Common.{get_or-set_other, get_or-set_same, length-set}
 use Rattle.std.specs.Prelude.{nat_lt}
 use Rattle.std.proofs.lemmas.Bool.{cases_eq, cases_lt}
-use Rattle.std.proofs.lemmas.List.{get_or-replicate, get_or_past}
+use Rattle.std.proofs.lemmas.List.{get_or_past, length-replicate}
 use Rattle.types.specs.declared.event.Question.{Question}
 use Rattle.types.specs.declared.event.Question.TheVariants.{Wait, Notify, Spawn, Leave}
 use Rattle.types.specs.declared.event.Answer.{Answer}
 use Rattle.types.specs.declared.event.Answer.TheVariants.{Number}
-use Rattle.types.specs.Limits.{most_threads}
 use Rattle.shared_memory.specs.declared.sleeper.Sleeper.{Sleeper}
-use Rattle.shared_memory.specs.WaitQueue.{WaitQueue, answer_due, next_id, woken_at, ends_at_once, ended, end_answer}
-use Rattle.shared_memory.specs.WaitQueue.{is_stuck, settled, asked, due_after, after_question}
+use Rattle.shared_memory.specs.WaitQueue.{WaitQueue, answer_due, next_id, tells, starts, woken_at, ends_at_once, ended, end_answer}
+use Rattle.shared_memory.specs.WaitQueue.{is_stuck, settled, asked, due_after, after_question, after_answer}
+use Rattle.shared_memory.proofs.Soundness.{no_answers}
 use Rattle.schedule_threads.specs.Shared.{without_dues}
 
 -- one answer over another
@@ -60,13 +60,25 @@ woken_over base [] a due over is = is
 woken_over base (s ∷ woken) a due over is = woken_over base woken a (set due s.thread (Some a))
     (set over s.thread (Some a)) (set_over base due over s.thread a is)
 
--- two queues that differ in the answers due alone, which are laid over so
-pub record AreAlike (base : ℕ → Option Answer) (q r : WaitQueue) : Type 0 where
-  pub same : without_dues q ≡ without_dues r
-  pub over : IsOver base q.due r.due
-
 abbrev with_due : WaitQueue → List (Option Answer) → WaitQueue
 with_due q due = record q { due = due }
+
+-- two queues that differ in the answers due alone, which are laid over so
+pub record AreAlike (base : ℕ → Option Answer) (q r : WaitQueue) : Type 0 where
+  pub same : with_due q [] ≡ with_due r []
+  pub over : IsOver base q.due r.due
+
+-- without answers they are the same
+alike_without : (base : ℕ → Option Answer) (q r : WaitQueue) → AreAlike base q r → without_dues q ≡ without_dues r
+alike_without base q r alike =
+    ap (λ (w : WaitQueue). with_due w (replicate (length q.due) None)) alike.same ∙ ap (λ (k : ℕ). with_due r (replicate k None)) (alike.over).long
+
+pub without_twice : (q : WaitQueue) → without_dues (without_dues q) ≡ without_dues q
+without_twice q = ap (λ (k : ℕ). with_due q (replicate k None)) (length-replicate {A = Option Answer} (length q.due) None)
+
+pub without_answer : (q : WaitQueue) (n : ℕ) → without_dues (after_answer q n) ≡ without_dues q
+unfolding after_answer
+without_answer q n = ap (λ (k : ℕ). with_due q (replicate k None)) (length-set q.due n None)
 
 both_ways_alike : (base : ℕ → Option Answer) (b : Bool) (q q' r r' : WaitQueue) → AreAlike base q r
     → AreAlike base q' r' → AreAlike base (cond b q q') (cond b r r')
@@ -87,8 +99,10 @@ asked_alike base q due over n (Notify addr count) v is =
           (due_after woken (Number 0) over) n (Number (length woken)) (woken_over base woken (Number 0) due over is);
     }
 asked_alike base q due over n (Spawn arg) v is =
-    both_ways_alike base (nat_lt (next_id q) most_threads) _ _ _ _ (record { same = refl; over = set_over base due over n (Number (next_id q)) is })
-    (record { same = refl; over = set_over base due over n (Number 4294967295) is })
+    subst (λ (k : ℕ). AreAlike base (asked (with_due q due) n (Spawn arg) v) (cond (nat_lt (next_id q) k)
+    (tells n (Number (next_id q)) (starts arg (with_due q over))) (tells n (Number 4294967295) (with_due q over)))) is.long
+    (both_ways_alike base (nat_lt (next_id q) (length due)) _ _ _ _ (record { same = refl; over = set_over base due over n (Number (next_id q)) is })
+    (record { same = refl; over = set_over base due over n (Number 4294967295) is }))
 asked_alike base q due over n Leave v is = record { same = refl; over = set_over base due over n (Number 0) is }
 
 -- settling
@@ -101,32 +115,30 @@ settled_alike base q due over is =
 
 settled_both : (base : ℕ → Option Answer) (q r : WaitQueue) → AreAlike base q r → AreAlike base (settled q) (settled r)
 settled_both base q r alike =
-    subst (λ (w : WaitQueue). AreAlike base (settled q) (settled (with_due w r.due))) alike.same (settled_alike base (without_dues q) q.due r.due alike.over)
+    subst (λ (w : WaitQueue). AreAlike base (settled q) (settled (with_due w r.due))) alike.same (settled_alike base (with_due q []) q.due r.due alike.over)
 
 -- what is due where nothing was
-pub none_due : (m : ℕ) → get_or (replicate {A = Option Answer} most_threads None) m None ≡ None
-none_due m = elim (cases_lt m most_threads) [
-  | inl within ↦
-      get_or-replicate most_threads m None None within
-  | inr past ↦
-      get_or_past (replicate most_threads None) m None past
-]
+pub none_due : (q : WaitQueue) (m : ℕ) → answer_due (without_dues q) m ≡ None
+none_due q m = no_answers (length q.due) m
 
-pub question_alike : (q : WaitQueue) (n : ℕ) (question : Question) (v : ℕ) → length q.due ≡ most_threads
+pub question_alike : (q : WaitQueue) (n : ℕ) (question : Question) (v : ℕ)
     → AreAlike (answer_due q) (after_question q n question v) (after_question (without_dues q) n question v)
 unfolding after_question
-question_alike q n question v long =
-    let is : IsOver (answer_due q) q.due (replicate most_threads None) =
-    record { long = long; at = λ m. sym (ap (λ o. or_due o (answer_due q m)) (none_due m)) } in
+question_alike q n question v =
+    let is : IsOver (answer_due q) q.due (replicate (length q.due) None) = record {
+      long = sym (length-replicate {A = Option Answer} (length q.due) None);
+      at = λ m. sym (ap (λ o. or_due o (answer_due q m)) (none_due q m));
+    } in
     settled_both (answer_due q) (asked q n question v) (asked (without_dues q) n question v)
-    (asked_alike (answer_due q) q q.due (replicate most_threads None) n question v is)
+    (asked_alike (answer_due q) q q.due (replicate (length q.due) None) n question v is)
 
 -- so it is the same queue but for these
-pub question_same : (q : WaitQueue) (n : ℕ) (question : Question) (v : ℕ) → length q.due ≡ most_threads
+pub question_same : (q : WaitQueue) (n : ℕ) (question : Question) (v : ℕ)
     → without_dues (after_question q n question v) ≡ without_dues (after_question (without_dues q) n question v)
-question_same q n question v long = AreAlike.same (question_alike q n question v long)
+question_same q n question v =
+    alike_without (answer_due q) (after_question q n question v) (after_question (without_dues q) n question v) (question_alike q n question v)
 
 -- and what is due after it is what it makes due, over what was due
-pub question_due : (q : WaitQueue) (n : ℕ) (question : Question) (v m : ℕ) → length q.due ≡ most_threads
+pub question_due : (q : WaitQueue) (n : ℕ) (question : Question) (v m : ℕ)
     → answer_due (after_question q n question v) m ≡ or_due (answer_due (after_question (without_dues q) n question v) m) (answer_due q m)
-question_due q n question v m long = IsOver.at (AreAlike.over (question_alike q n question v long)) m
+question_due q n question v m = IsOver.at (AreAlike.over (question_alike q n question v)) m

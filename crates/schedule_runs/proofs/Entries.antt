@@ -10,7 +10,6 @@ use Rattle.types.specs.declared.event.Question.TheVariants.{Wait, Notify, Spawn,
 use Rattle.types.specs.declared.event.Answer.{Answer}
 use Rattle.types.specs.declared.event.Reply.{Reply}
 use Rattle.types.specs.declared.event.Reply.TheVariants as replies
-use Rattle.types.specs.Limits.{most_threads}
 use Rattle.shared_memory.specs.Memory.{Memory, loaded, reply_of, reply_to_question, state_after}
 use Rattle.shared_memory.specs.WaitQueue.{WaitQueue, is_asleep, answer_due, next_id, after_answer, IsFree}
 use Rattle.shared_memory.specs.History.{queue_step}
@@ -25,10 +24,10 @@ use Rattle.schedule.specs.Machine.{Thread.Runs}
 use Rattle.schedule.proofs.Basics.{put-same, put-other}
 use Rattle.schedule_threads.specs.Shared.{is_question, without_dues, act_by}
 use Rattle.schedule_runs.specs.Runs.{Start, system_of}
-use Rattle.schedule_runs.proofs.Dues.{none_due, question_same}
+use Rattle.schedule_runs.proofs.Dues.{none_due, without_twice, without_answer, question_same}
 use Rattle.schedule_runs.specs.Places.{place_of, place_due}
 use Rattle.schedule_runs.proofs.Places.{place_unstarted, place_told, place_free, started_place, given_open}
-use Rattle.schedule_runs.proofs.Asked.{Begun, IsSpawn, started, shared_of, placed_same, question_after}
+use Rattle.schedule_runs.proofs.Asked.{Begun, IsSpawn, started, started_is, shared_of, placed_same, question_after}
 
 -- threads stand where the queue has them
 abbrev pub StandAt : WaitQueue → (ℕ → Place Answer) → Type 0
@@ -37,11 +36,11 @@ StandAt q places = (m : ℕ) → places m ≡ place_of q m
 -- who is started
 pub is_spawn : (b : Start) (mem : Memory) (q : WaitQueue) (event : Event) (m : ℕ) (t : Begun) → started b mem q event m ≡ Some t → IsSpawn b q event m t
 is_spawn b mem q (events.Ask (Spawn arg)) m t is =
-    cond_both (nat_lt m most_threads && (m == next_id q))
+    cond_both (nat_lt m (length q.due) && (m == next_id q))
     (Some (Runs (b.spawned m arg) b.fuel)) None (λ w. w ≡ Some t → IsSpawn b q (events.Ask (Spawn arg)) m t)
-    (λ both e. let parts : (nat_lt m most_threads ≡ true) × ((m == next_id q) ≡ true) = and_parts (nat_lt m most_threads) (m == next_id q) both in
-    record { arg = arg; event_is = refl; number = eqb-true m (next_id q) parts.1; room = ltb-true m most_threads parts.0; thread = cc e })
-    (λ isnt e. absurd (cc e)) is
+    (λ both e. let parts : (nat_lt m (length q.due) ≡ true) × ((m == next_id q) ≡ true) = and_parts (nat_lt m (length q.due)) (m == next_id q) both in
+    record { arg = arg; event_is = refl; number = eqb-true m (next_id q) parts.1; room = ltb-true m (length q.due) parts.0; thread = cc e })
+    (λ isnt e. absurd (cc e)) (sym (started_is b mem q arg m) ∙ is)
 is_spawn b mem q event m t is = absurd (cc is)
 
 starts_unstarted : (b : Start) (mem : Memory) (q : WaitQueue) (event : Event) (m : ℕ) (t : Begun) → started b mem q event m ≡ Some t → place_of q m ≡ Unstarted
@@ -98,14 +97,14 @@ module _ (b : Start) (mem : Memory) (q : WaitQueue) (places : ℕ → Place Answ
   within_value : (question : Question) (v : ℕ) → AskStep b mem q places n question (replies.Value v) (replies.Value v)
   within_value question v = record {
     gives = λ m a is. ((λ apart. stand m ∙ given_open q n question v sound free m a is apart), (λ e. refl));
-    shared = sym (question_same q n question v sound.due_length);
+    shared = sym (question_same q n question v);
     stand = λ m. at_places q places stand Begun _ _ _ m _ (question_after b mem q n question v sound free m);
   }
 
   within_done : (question : Question) → AskStep b mem q places n question replies.Done replies.Done
   within_done question = record {
     gives = λ m a is. ((λ apart. stand m ∙ given_open q n question 0 sound free m a is apart), (λ e. refl));
-    shared = sym (question_same q n question 0 sound.due_length);
+    shared = sym (question_same q n question 0);
     stand = λ m. at_places q places stand Begun _ _ _ m _ (question_after b mem q n question 0 sound free m);
   }
 
@@ -113,8 +112,8 @@ module _ (b : Start) (mem : Memory) (q : WaitQueue) (places : ℕ → Place Answ
   outside : (question : Question) → ((m : ℕ) → started b mem q (events.Ask question) m ≡ None)
       → AskStep b mem q places n question replies.OutOfBounds replies.OutOfBounds
   outside question none = record {
-    gives = λ m a is. absurd (cc (is, none_due m));
-    shared = refl;
+    gives = λ m a is. absurd (cc (is, none_due q m));
+    shared = without_twice q;
     stand = λ m. at_places q places stand Begun _ _ _ m _
         (ap (λ o. placed o (answer_due (without_dues q) m) (put (λ (k : ℕ). false) n false m) (place_of q m))
         (none m) ∙ placed_same Begun q n m (place_of q m));
@@ -162,7 +161,7 @@ heard_step : (b : Start) (mem : Memory) (q : WaitQueue) (places : ℕ → Place 
 unfolding after_answer
 heard_step b mem q places n a reply sound due stand = record {
   legal = stand n ∙ place_told q n a (sound.owed n a due) (awake_if_due q sound n a due) due;
-  shared = refl;
+  shared = ap (λ (w : WaitQueue). record { memory = mem; queue = w }) (sym (without_answer q n));
   stand = heard_stand q places n a sound due stand;
 }
 
@@ -172,7 +171,7 @@ pub entry_step : (b : Start) (mem : Memory) (q : WaitQueue) (places : ℕ → Pl
 entry_step b mem q places n (events.Ask question) reply sound stand is allowed known = question_step b mem q places n sound allowed stand question reply is
 entry_step b mem q places n (events.Told a) reply sound stand is allowed known = heard_step b mem q places n a reply sound allowed stand
 entry_step b mem q places n event reply sound stand is allowed known = record {
-  legal = (there q places stand n known, is, (λ m t e. absurd (cc e)), (λ m a e. absurd (cc (e, none_due m))));
-  shared = refl;
+  legal = (there q places stand n known, is, (λ m t e. absurd (cc e)), (λ m a e. absurd (cc (e, none_due q m))));
+  shared = ap (λ (w : WaitQueue). record { memory = state_after mem event; queue = w }) (without_twice q);
   stand = λ m. at_places q places stand Begun None _ _ m _ (placed_same Begun q n m (place_of q m));
 }

@@ -6,6 +6,7 @@ use Rattle.types.specs.declared.event.Event.TheVariants as events
 use Rattle.types.specs.declared.event.Answer.{Answer}
 use Rattle.types.specs.declared.event.Reply.{Reply}
 use Rattle.types.specs.declared.event.Entry as entries
+use Rattle.types.specs.Limits.{most_threads}
 use Rattle.shared_memory.specs.Memory.{Memory, state_after}
 use Rattle.shared_memory.specs.WaitQueue.{WaitQueue, first_queue, next_id}
 use Rattle.shared_memory.specs.History.{entry, of_queue, memory_after, queue_step, queue_from, queue_after}
@@ -40,9 +41,9 @@ all_from : (q : WaitQueue) (H : List entries.Entry) → queue_from q (of_queue H
 all_from q [] = refl
 all_from q (e ∷ H) = rest_queue q e.thread e.event e.reply H ∙ all_from (queue_step q e.thread e.event e.reply) H
 
-pub queue_after-all : (H : List entries.Entry) → queue_after H ≡ queue_from first_queue H
+pub queue_after-all : (H : List entries.Entry) → queue_after H ≡ queue_from (first_queue most_threads) H
 unfolding queue_after
-queue_after-all H = all_from first_queue H
+queue_after-all H = all_from (first_queue most_threads) H
 
 -- Each entry is of a thread that was started.
 abbrev pub AreStartedFrom : WaitQueue → List entries.Entry → Type 0
@@ -57,7 +58,7 @@ started_prefix q (x ∷ xs) ys started = (started.0, started_prefix (queue_step 
 pub record IsStarted (mem : Memory) (H : List entries.Entry) : Type 0 where
   pub memory : IsMemoryLegal mem H
   pub queue : IsQueueLegal H
-  pub started : AreStartedFrom first_queue H
+  pub started : AreStartedFrom (first_queue most_threads) H
 
 -- such a one from a memory and a queue on
 pub record IsLegalFrom (mem : Memory) (q : WaitQueue) (H : List entries.Entry) : Type 0 where
@@ -65,7 +66,7 @@ pub record IsLegalFrom (mem : Memory) (q : WaitQueue) (H : List entries.Entry) :
   pub queue : IsQueueLegalFrom q (of_queue H)
   pub started : AreStartedFrom q H
 
-pub legal_from : (mem : Memory) (H : List entries.Entry) → IsStarted mem H → IsLegalFrom mem first_queue H
+pub legal_from : (mem : Memory) (H : List entries.Entry) → IsStarted mem H → IsLegalFrom mem (first_queue most_threads) H
 unfolding IsQueueLegal
 legal_from mem H legal = record { memory = legal.memory; queue = legal.queue; started = legal.started }
 
@@ -73,7 +74,7 @@ pub prefix_legal : (mem : Memory) (xs ys : List entries.Entry) → IsStarted mem
 prefix_legal mem xs ys legal = record {
   memory = IsMemoryLegal-prefix mem xs ys legal.memory;
   queue = IsQueueLegal-prefix xs ys legal.queue;
-  started = started_prefix first_queue xs ys legal.started;
+  started = started_prefix (first_queue most_threads) xs ys legal.started;
 }
 
 module _ (mem : Memory) (q : WaitQueue) (e : entries.Entry) (H : List entries.Entry) (legal : IsLegalFrom mem q (e ∷ H)) where
@@ -112,21 +113,21 @@ linked_from b mem q places x (e ∷ H) legal sound stand is =
 
 -- at first
 
-pub first_is : (b : Start) → first_shared b ≡ shared_of b.opening first_queue
+pub first_is : (b : Start) → first_shared b ≡ shared_of b.opening (first_queue most_threads)
 unfolding first_queue
 first_is b = refl
 
-pub first_stand : StandAt first_queue first_places
+pub first_stand : StandAt (first_queue most_threads) first_places
 unfolding first_queue place_of
 first_stand m =
     elim (cases_eq m 0) [
-      | inl e ↦ subst (λ (k : ℕ). first_places k ≡ place_of first_queue k) (sym e) (put-same (λ (k : ℕ). Unstarted) 0 Free)
-      | inr apart ↦ put-other (λ (k : ℕ). Unstarted) 0 Free m apart ∙ sym (place_unstarted first_queue m (omega arith))
+      | inl e ↦ subst (λ (k : ℕ). first_places k ≡ place_of (first_queue most_threads) k) (sym e) (put-same (λ (k : ℕ). Unstarted) 0 Free)
+      | inr apart ↦ put-other (λ (k : ℕ). Unstarted) 0 Free m apart ∙ sym (place_unstarted (first_queue most_threads) m (omega arith))
     ]
 
 -- so a legal history is one
-pub linked : (b : Start) (H : List entries.Entry) → IsStarted b.opening H → Linked b b.opening first_queue first_places (first_shared b) H
-linked b H legal = linked_from b b.opening first_queue first_places (first_shared b) H (legal_from b.opening H legal) IsSound-first first_stand (first_is b)
+pub linked : (b : Start) (H : List entries.Entry) → IsStarted b.opening H → Linked b b.opening (first_queue most_threads) first_places (first_shared b) H
+linked b H legal = linked_from b b.opening (first_queue most_threads) first_places (first_shared b) H (legal_from b.opening H legal) IsSound-first first_stand (first_is b)
 
 -- after it threads stand where its queue has them
 pub stand_after : (b : Start) (H : List entries.Entry) → IsStarted b.opening H

@@ -1,8 +1,9 @@
 -- The place of a thread, as the wait queue has it, and what a question makes of it.
-use Rattle.std.proofs.Common.{◌≡◌, ◌≢◌, ℕ, ◌<◌, ◌≤◌, ◌==◌, Bool, true, false, not, cond, List, [], ◌∷◌, ◌++◌, Option}
+use Rattle.std.proofs.Common.{◌≡◌, ◌≢◌, ℕ, ◌<◌, ◌≤◌, ◌==◌, Bool, true, false, not, cond, List, [], ◌∷◌, ◌++◌, length, Option}
 use Rattle.std.proofs.Common.{Some, None, refl, sym, ◌∙◌, ap, subst, inl, inr}
 use Rattle.std.specs.Prelude.{nat_lt, is_some}
 use Rattle.std.proofs.lemmas.Bool.{cases_eq, cases_Bool, both_ways, cond-true, cond-false, cond_both, lt-ltb, le-ltb, or_cases, or_left}
+use Rattle.std.proofs.lemmas.List.{length-replicate}
 use Rattle.types.specs.declared.event.Event.TheVariants as events
 use Rattle.types.specs.declared.event.Question.{Question}
 use Rattle.types.specs.declared.event.Question.TheVariants.{Wait, Notify, Spawn, Leave}
@@ -65,14 +66,14 @@ IsSound-without q sound = record {
   distinct = sound.distinct;
   living = sound.living;
   once = sound.once;
-  unanswered = λ n is. none_due n;
-  owed = λ n a due. absurd (cc (due, none_due n));
-  due_length = refl;
-  few = sound.few;
+  unanswered = λ n is. none_due q n;
+  owed = λ n a due. absurd (cc (due, none_due q n));
+  due_length = subst (λ (k : ℕ). k ≤ most_threads) (sym (length-replicate {A = Option Answer} (length q.due) None)) sound.due_length;
+  few = subst (λ (k : ℕ). length q.args < k) (sym (length-replicate {A = Option Answer} (length q.due) None)) sound.few;
 }
 
 pub IsFree-without : (q : WaitQueue) (n : ℕ) → IsFree q n → IsFree (without_dues q) n
-IsFree-without q n free = record { alive = free.alive; awake = free.awake; told = none_due n }
+IsFree-without q n free = record { alive = free.alive; awake = free.awake; told = none_due q n }
 
 -- how many are spawned
 
@@ -86,11 +87,11 @@ wait_args q n addr width expected timeout v =
     (λ e. cond_both (ends_at_once timeout) (tells n (Number 2) q) (sleeps s q) (λ w. w.args ≡ q.args) (λ d. refl) (λ d. refl))
 
 abbrev pub args_by : WaitQueue → Question → List ℕ
-args_by q (Spawn arg) = cond (nat_lt (next_id q) most_threads) (q.args ++ arg ∷ []) q.args
+args_by q (Spawn arg) = cond (nat_lt (next_id q) (length q.due)) (q.args ++ arg ∷ []) q.args
 args_by q question = q.args
 
-spawn_args : (q : WaitQueue) (n arg v : ℕ) → (asked q n (Spawn arg) v).args ≡ cond (nat_lt (next_id q) most_threads) (q.args ++ arg ∷ []) q.args
-spawn_args q n arg v = go (nat_lt (next_id q) most_threads)
+spawn_args : (q : WaitQueue) (n arg v : ℕ) → (asked q n (Spawn arg) v).args ≡ cond (nat_lt (next_id q) (length q.due)) (q.args ++ arg ∷ []) q.args
+spawn_args q n arg v = go (nat_lt (next_id q) (length q.due))
   where
     go : (b : Bool) → WaitQueue.args (cond b (tells n (Number (next_id q)) (starts arg q)) (tells n (Number 4294967295) q)) ≡ cond b (q.args ++ arg ∷ []) q.args
     go true = refl
@@ -128,7 +129,7 @@ module _ (q : WaitQueue) (n : ℕ) (question : Question) (v : ℕ) (sound : IsSo
   given_none m apart awake =
       let left : Keeps m (without_dues q) (after_question (without_dues q) n question v) =
       Keeps-step m n (without_dues q) (events.Ask question) (replies.Value v) (λ e. apart (sym e)) (IsFree-without q n free) (IsSound-without q sound) in
-      IsQuiet.told (left.quiet (record { awake = awake; told = none_due m }))
+      IsQuiet.told (left.quiet (record { awake = awake; told = none_due q m }))
 
   pub given_open : (m : ℕ) (a : Answer) → given m ≡ Some a → m ≢ n → place_of q m ≡ Open
   given_open m a is apart =
@@ -138,7 +139,7 @@ module _ (q : WaitQueue) (n : ℕ) (question : Question) (v : ℕ) (sound : IsSo
       ]
 
   due_after_given : (m : ℕ) (o : Option Answer) → given m ≡ o → answer_due after m ≡ or_due o (answer_due q m)
-  due_after_given m o is = question_due q n question v m sound.due_length ∙ ap (λ w. or_due w (answer_due q m)) is
+  due_after_given m o is = question_due q n question v m ∙ ap (λ w. or_due w (answer_due q m)) is
 
   -- who isn't given one, and isn't the asker, stays where it is
   place_stays : (m : ℕ) → m ≢ n → m < next_id q → m < next_id after → given m ≡ None → place_of q m ≡ place_of after m

@@ -5,6 +5,7 @@ use Rattle.types.specs.declared.event.Reply.{Reply}
 use Rattle.types.specs.declared.event.Answer.{Answer}
 use Rattle.types.specs.declared.event.Entry as entries
 use Rattle.types.specs.declared.outcome.Outcome.{Outcome}
+use Rattle.types.specs.Limits.{most_threads}
 use Rattle.shared_memory.specs.Memory.{Memory}
 use Rattle.shared_memory.specs.WaitQueue.{first_queue}
 use Rattle.shared_memory.specs.History.{entries_of, queue_after}
@@ -42,7 +43,7 @@ system_of b = over_memory_and_queue (machine_of b.program) b.spawned b.fuel
 
 -- At first the opening memory is there, nobody sleeps, and thread 0 alone is there.
 abbrev pub first_shared : Start → Shared
-first_shared b = record { memory = b.opening; queue = first_queue }
+first_shared b = record { memory = b.opening; queue = first_queue most_threads }
 
 abbrev pub first_state : Start → systems.State Shared (Thread State Outcome)
 first_state b = record { shared = first_shared b; threads = put (λ (m : ℕ). Absent) 0 (Runs b.main b.fuel) }

@@ -1,6 +1,6 @@
 -- What threads share in the scheduled machine: the sequential memory, and the wait queue without the answers that are due. Those
 -- belong to the threads' places in a history.
-use Rattle.std.specs.Prelude.{ℕ, ◌==◌, ◌&&◌, Bool, true, false, cond, nat_lt, replicate, Option, Some, None, List}
+use Rattle.std.specs.Prelude.{ℕ, ◌==◌, ◌&&◌, Bool, true, false, cond, nat_lt, length, replicate, Option, Some, None, List}
 use Rattle.types.specs.declared.event.Event.{Event}
 use Rattle.types.specs.declared.event.Event.TheVariants as events
 use Rattle.types.specs.declared.event.Question.TheVariants as questions
@@ -9,7 +9,6 @@ use Rattle.types.specs.declared.event.Reply.TheVariants as replies
 use Rattle.types.specs.declared.event.Answer.{Answer}
 use Rattle.types.specs.declared.event.Entry as entries
 use Rattle.types.specs.declared.outcome.Outcome.{Outcome}
-use Rattle.types.specs.Limits.{most_threads}
 use Rattle.shared_memory.specs.Memory.{Memory, reply_of, state_after, touched}
 use Rattle.shared_memory.specs.WaitQueue.{WaitQueue, answer_due, next_id}
 use Rattle.shared_memory.specs.History.{queue_step}
@@ -24,7 +23,7 @@ pub record Shared : Type 0 where
   pub queue : WaitQueue
 
 abbrev pub without_dues : WaitQueue → WaitQueue
-without_dues q = record q { due = replicate most_threads None }
+without_dues q = record q { due = replicate (length q.due) None }
 
 -- The wait queue after an event of a thread, with the answers that it makes due.
 abbrev pub queue_by : Shared → ℕ → Event → WaitQueue
@@ -40,7 +39,7 @@ is_question _ reply = false
 module _ {C : Type 0} (k : Machine C Event Reply Answer Outcome) (start : ℕ → ℕ → C) (fuel : ℕ) where
   -- A spawn that gives out a number starts the thread of that number, with its argument and the same budget.
   abbrev pub starts_by : Shared → Event → ℕ → Option (Thread C Outcome)
-  starts_by x (events.Ask (questions.Spawn arg)) m = cond (nat_lt m most_threads && (m == next_id x.queue))
+  starts_by x (events.Ask (questions.Spawn arg)) m = cond (nat_lt m (length x.queue.due) && (m == next_id x.queue))
       (Some (Runs (start m arg) fuel)) None
   starts_by x _ m = None
 

@@ -1,5 +1,6 @@
 pub mod Histories
 pub mod Sleepers
+pub mod Lengths
 pub mod Woken
 pub mod Soundness
 pub mod Settling

@@ -124,7 +124,7 @@ Keeps-asked n t q (Notify addr count) v apart sound =
     (Keeps-wakes n q woken (Number 0) sound (λ among. woken_sleeps n addr count q.sleepers among))
     (Keeps-tells n t (wakes woken (Number 0) q) (Number (length woken)) apart)
 Keeps-asked n t q (Spawn arg) v apart sound =
-    cond_both (nat_lt (next_id q) most_threads) (tells t (Number (next_id q)) (starts arg q)) (tells t (Number 4294967295) q) (λ w. Keeps n q w)
+    cond_both (nat_lt (next_id q) (length q.due)) (tells t (Number (next_id q)) (starts arg q)) (tells t (Number 4294967295) q) (λ w. Keeps n q w)
     (λ e. Keeps-trans n q (starts arg q) (tells t (Number (next_id q)) (starts arg q)) (Keeps-starts n q arg)
     (Keeps-tells n t (starts arg q) (Number (next_id q)) apart))
     (λ e. Keeps-tells n t q (Number 4294967295) apart)
@@ -179,10 +179,10 @@ others_of_queue n (e ∷ xs) none =
 pub Keeps-after : (n : ℕ) (xs ys : List Entry) → entries_of n ys ≡ [] → IsQueueLegal (xs ++ ys) → Keeps n (queue_after xs) (queue_after (xs ++ ys))
 unfolding queue_after IsQueueLegal
 Keeps-after n xs ys none legal =
-    let split : IsQueueLegalFrom first_queue (of_queue xs ++ of_queue ys) = subst (IsQueueLegalFrom first_queue) (of_queue-append xs ys) legal in
+    let split : IsQueueLegalFrom (first_queue most_threads) (of_queue xs ++ of_queue ys) = subst (IsQueueLegalFrom (first_queue most_threads)) (of_queue-append xs ys) legal in
     let kept : Keeps n (queue_after xs) (queue_from (queue_after xs) (of_queue ys)) =
-    Keeps-from n (queue_after xs) (of_queue ys) (others_of_queue n ys none) (IsQueueLegalFrom-rest first_queue (of_queue xs) (of_queue ys) split)
+    Keeps-from n (queue_after xs) (of_queue ys) (others_of_queue n ys none) (IsQueueLegalFrom-rest (first_queue most_threads) (of_queue xs) (of_queue ys) split)
     (IsSound-after xs (IsQueueLegal-prefix xs ys legal)) in
     subst (λ w. Keeps n (queue_after xs) w)
-    (sym (ap (queue_from first_queue) (of_queue-append xs ys)
-    ∙ queue_from-append first_queue (of_queue xs) (of_queue ys))) kept
+    (sym (ap (queue_from (first_queue most_threads)) (of_queue-append xs ys)
+    ∙ queue_from-append (first_queue most_threads) (of_queue xs) (of_queue ys))) kept

@@ -10,6 +10,7 @@ use Rattle.types.specs.declared.event.Event.TheVariants.{Ask, Told}
 use Rattle.types.specs.declared.event.Question.{Question}
 use Rattle.types.specs.declared.event.Reply.{Reply}
 use Rattle.types.specs.declared.event.Reply.TheVariants.{Value, Done, OutOfBounds, Again, Full}
+use Rattle.types.specs.Limits.{most_threads}
 use Rattle.shared_memory.specs.declared.sleeper.Sleeper.{Sleeper}
 use Rattle.shared_memory.specs.WaitQueue.{WaitQueue, first_queue, is_alive, is_among, is_asleep, wakes, first_to_end}
 use Rattle.shared_memory.specs.WaitQueue.{ended, end_answer, is_stuck, settled, asked, after_question, after_answer}
@@ -102,14 +103,14 @@ unstuck_from q (e ∷ xs) legal sound unstuck =
     unstuck_from (queue_step q e.thread e.event e.reply) xs legal.1 (IsSound-step q e.thread e.event e.reply legal.0 sound)
     (unstuck_step q e.thread e.event e.reply legal.0 sound unstuck)
 
-unstuck_first : is_stuck first_queue ≡ false
+unstuck_first : (most : ℕ) → is_stuck (first_queue most) ≡ false
 unfolding first_queue
-unstuck_first = refl
+unstuck_first most = refl
 
 -- after a legal history some live thread is awake, or none is alive
 pub unstuck_after : (history : List Entry) → IsQueueLegal history → is_stuck (queue_after history) ≡ false
 unfolding IsQueueLegal queue_after
-unstuck_after history legal = unstuck_from first_queue (of_queue history) legal IsSound-first unstuck_first
+unstuck_after history legal = unstuck_from (first_queue most_threads) (of_queue history) legal IsSound-first (unstuck_first most_threads)
 
 -- so settling after an answer taken would change nothing
 pub settled_after : (history : List Entry) → IsQueueLegal history → settled (queue_after history) ≡ queue_after history

@@ -16,7 +16,7 @@ use Rattle.types.specs.declared.event.Answer.{Answer}
 use Rattle.types.specs.declared.event.Answer.TheVariants.{Number}
 use Rattle.types.specs.declared.event.Reply.{Reply}
 use Rattle.types.specs.declared.event.Reply.TheVariants.{Value, Done, OutOfBounds, Again, Full}
-use Rattle.types.specs.Limits.{most_threads}
+use Rattle.types.specs.Limits.{most_threads, most_spawned}
 use Rattle.shared_memory.specs.declared.sleeper.Sleeper.{Sleeper}
 use Rattle.shared_memory.specs.WaitQueue.{WaitQueue, first_queue, is_alive, is_among, is_asleep, answer_due, next_id, tells, wakes, sleeps, starts}
 use Rattle.shared_memory.specs.WaitQueue.{leaves, woken_at, ends_at_once, ended, end_answer, is_stuck, settled, asked, after_question, after_answer, IsFree}
@@ -34,14 +34,17 @@ awake_if_due q sound n a due =
 
 -- there are at most 16 threads, numbered from 0
 pub alive_below : (q : WaitQueue) → IsSound q → (n : ℕ) → is_alive q n ≡ true → n < most_threads
-alive_below q sound n is = let known : n < next_id q = sound.named n is in omega (arith, sound.few)
+alive_below q sound n is = let known : n < next_id q = sound.named n is in omega (arith, sound.few, sound.due_length)
 
 pub owed_below : (q : WaitQueue) → IsSound q → (n : ℕ) (a : Answer) → answer_due q n ≡ Some a → n < most_threads
-owed_below q sound n a due = let known : n < next_id q = sound.owed n a due in omega (arith, sound.few)
+owed_below q sound n a due = let known : n < next_id q = sound.owed n a due in omega (arith, sound.few, sound.due_length)
+
+pub few_spawned : (q : WaitQueue) → IsSound q → length q.args ≤ most_spawned
+few_spawned q sound = omega (arith, sound.few, sound.due_length)
 
 -- each sleeper has a place for its answer
 pub has_place : (q : WaitQueue) → IsSound q → (n : ℕ) → is_asleep q n ≡ true → n < length q.due
-has_place q sound n is = let known : n < next_id q = sound.named n (sound.living n is) in omega (arith, sound.due_length, sound.few)
+has_place q sound n is = let known : n < next_id q = sound.named n (sound.living n is) in omega (arith, sound.few)
 
 -- the changes
 
@@ -59,8 +62,8 @@ IsSound-tells q n a awake known sound = record {
         (sym e) known
     | inr apart ↦ sound.owed m b (sym (get_or-set_other q.due n m (Some a) None apart) ∙ due)
   ];
-  due_length = length-set q.due n (Some a) ∙ sound.due_length;
-  few = sound.few;
+  due_length = subst (λ (k : ℕ). k ≤ most_threads) (sym (length-set q.due n (Some a))) sound.due_length;
+  few = subst (λ (k : ℕ). length q.args < k) (sym (length-set q.due n (Some a))) sound.few;
 }
 
 pub IsSound-wakes : (q : WaitQueue) (woken : List Sleeper) (a : Answer)
@@ -75,8 +78,8 @@ IsSound-wakes q woken a slept sound = record {
     | inl among ↦ sound.named m (sound.living m (slept m among))
     | inr isnt ↦ sound.owed m b (sym (due_after-other m woken a q.due isnt) ∙ due)
   ];
-  due_length = length-due_after woken a q.due ∙ sound.due_length;
-  few = sound.few;
+  due_length = subst (λ (k : ℕ). k ≤ most_threads) (sym (length-due_after woken a q.due)) sound.due_length;
+  few = subst (λ (k : ℕ). length q.args < k) (sym (length-due_after woken a q.due)) sound.few;
 }
   where
     before : (n : ℕ) → is_among n (others_than woken q.sleepers) ≡ true → is_asleep q n ≡ true
@@ -114,7 +117,7 @@ alive_cases q arg n is =
       | inr e ↦ elim (or_cases (next_id q == n) false e) [ inl same ↦ inr (eqb-true (next_id q) n same) | inr bad ↦ absurd (cc bad) ]
     ]
 
-pub IsSound-starts : (q : WaitQueue) (arg : ℕ) → next_id q < most_threads → IsSound q → IsSound (starts arg q)
+pub IsSound-starts : (q : WaitQueue) (arg : ℕ) → next_id q < length q.due → IsSound q → IsSound (starts arg q)
 IsSound-starts q arg room sound = record {
   named = λ n is. below n is;
   distinct = AreDistinct-push q.alive (next_id q) sound.distinct fresh;
@@ -189,8 +192,8 @@ IsSound-asked q n (Notify addr count) v free sound =
 IsSound-asked q n (Spawn arg) v free sound =
     let known : n < next_id q = sound.named n free.alive in
     let still : n < length (q.args ++ arg ∷ []) + 1 = omega (arith, length-append q.args (arg ∷ []), known) in
-    cond_both (nat_lt (next_id q) most_threads) (tells n (Number (next_id q)) (starts arg q)) (tells n (Number 4294967295) q) (λ w. IsSound w)
-    (λ e. IsSound-tells (starts arg q) n (Number (next_id q)) free.awake still (IsSound-starts q arg (ltb-true (next_id q) most_threads e) sound))
+    cond_both (nat_lt (next_id q) (length q.due)) (tells n (Number (next_id q)) (starts arg q)) (tells n (Number 4294967295) q) (λ w. IsSound w)
+    (λ e. IsSound-tells (starts arg q) n (Number (next_id q)) free.awake still (IsSound-starts q arg (ltb-true (next_id q) (length q.due) e) sound))
     (λ e. IsSound-tells q n (Number 4294967295) free.awake known sound)
 IsSound-asked q n Leave v free sound =
     IsSound-tells (leaves n q) n (Number 0) free.awake (sound.named n free.alive) (IsSound-leaves q n free.awake sound)
@@ -213,8 +216,8 @@ IsSound-answer q n awake known sound = record {
         (sym e) known
     | inr apart ↦ sound.owed m b (sym (get_or-set_other q.due n m None None apart) ∙ due)
   ];
-  due_length = length-set q.due n None ∙ sound.due_length;
-  few = sound.few;
+  due_length = subst (λ (k : ℕ). k ≤ most_threads) (sym (length-set q.due n None)) sound.due_length;
+  few = subst (λ (k : ℕ). length q.args < k) (sym (length-set q.due n None)) sound.few;
 }
 
 IsSound-ask : (q : WaitQueue) (n : ℕ) (question : Question) (reply : Reply) → IsFree q n → IsSound q → IsSound (queue_step q n (Ask question) reply)
@@ -236,30 +239,34 @@ pub IsSound-from : (q : WaitQueue) (xs : List Entry) → IsQueueLegalFrom q xs �
 IsSound-from q [] legal sound = sound
 IsSound-from q (e ∷ xs) legal sound = IsSound-from (queue_step q e.thread e.event e.reply) xs legal.1 (IsSound-step q e.thread e.event e.reply legal.0 sound)
 
-pub IsSound-first : IsSound first_queue
+-- at first no answer is due
+pub no_answers : (most n : ℕ) → get_or (replicate {A = Option Answer} most None) n None ≡ None
+no_answers most n = elim (cases_lt n most) [
+  | inl within ↦ get_or-replicate most n None None within
+  | inr past ↦ get_or_past (replicate most None) n None (omega (arith, length-replicate {A = Option Answer} most None))
+]
+
+-- the first queue is sound for up to 16 threads
+pub IsSound-opening : (most : ℕ) → 0 < most → most ≤ most_threads → IsSound (first_queue most)
 unfolding first_queue
-IsSound-first = record {
+IsSound-opening most some bound = record {
   named = λ n is. below n is;
   distinct = (refl, tt);
   living = λ n is. absurd (cc is);
   once = tt;
   unanswered = λ n is. absurd (cc is);
-  owed = λ n a due. absurd (cc (none n, due));
-  due_length = length-replicate {A = Option Answer} most_threads None;
-  few = omega arith;
+  owed = λ n a due. absurd (cc (no_answers most n, due));
+  due_length = subst (λ (k : ℕ). k ≤ most_threads) (sym (length-replicate {A = Option Answer} most None)) bound;
+  few = subst (λ (k : ℕ). 0 < k) (sym (length-replicate {A = Option Answer} most None)) some;
 }
   where
-    none : (n : ℕ) → get_or (replicate {A = Option Answer} most_threads None) n None ≡ None
-    none n = elim (cases_lt n most_threads) [
-      | inl within ↦ get_or-replicate most_threads n None None within
-      | inr past ↦
-          get_or_past (replicate most_threads None) n None past
-    ]
-
     below : (n : ℕ) → ((0 == n) || false) ≡ true → n < 1
     below n is = elim (or_cases (0 == n) false is) [ inl e ↦ (let same : 0 ≡ n = eqb-true 0 n e in omega arith) | inr bad ↦ absurd (cc bad) ]
+
+pub IsSound-first : IsSound (first_queue most_threads)
+IsSound-first = IsSound-opening most_threads (omega arith) (omega arith)
 
 -- after each history that is legal for the wait queue
 pub IsSound-after : (history : List Entry) → IsQueueLegal history → IsSound (queue_after history)
 unfolding IsQueueLegal queue_after
-IsSound-after history legal = IsSound-from first_queue (of_queue history) legal IsSound-first
+IsSound-after history legal = IsSound-from (first_queue most_threads) (of_queue history) legal IsSound-first

@@ -17,6 +17,7 @@ use Rattle.shared_memory.specs.History.{entry, queue_step, queue_after}
 use Rattle.shared_memory.specs.Legal.{IsQueueLegal}
 use Rattle.shared_memory.specs.Sound.{IsSound}
 use Rattle.shared_memory.proofs.Histories.{IsQueueLegal-prefix}
+use Rattle.shared_memory.proofs.Lengths.{due_length_after}
 use Rattle.shared_memory.proofs.Soundness.{IsSound-after}
 use Rattle.shared_memory.proofs.Settling.{awake_unstuck, settled_same}
 use Rattle.shared_memory.proofs.Standing.{IsAbsent}
@@ -40,14 +41,14 @@ pub record Spawns (t arg : ℕ) (before after : WaitQueue) : Type 0 where
   pub args : after.args ≡ before.args ++ arg ∷ []
   pub free : IsFree after (next_id before)
 
-module _ (t arg : ℕ) (q : WaitQueue) (sound : IsSound q) (free : IsFree q t) (room : next_id q < most_threads) where
+module _ (t arg : ℕ) (q : WaitQueue) (sound : IsSound q) (free : IsFree q t) (room : next_id q < length q.due) where
   -- who spawns is awake, so there is nothing to settle
   unsettled_spawn : (v : ℕ) → after_question q t (Spawn arg) v ≡ tells t (Number (next_id q)) (starts arg q)
   unfolding after_question
   unsettled_spawn v =
       let step : asked q t (Spawn arg) v ≡ tells t (Number (next_id q)) (starts arg q) =
-      cond-true (nat_lt (next_id q) most_threads) (tells t (Number (next_id q)) (starts arg q))
-      (tells t (Number 4294967295) q) (lt-ltb (next_id q) most_threads room) in
+      cond-true (nat_lt (next_id q) (length q.due)) (tells t (Number (next_id q)) (starts arg q))
+      (tells t (Number 4294967295) q) (lt-ltb (next_id q) (length q.due) room) in
       ap settled step
       ∙ settled_same (tells t (Number (next_id q)) (starts arg q))
       (awake_unstuck (tells t (Number (next_id q)) (starts arg q)) t
@@ -58,7 +59,7 @@ module _ (t arg : ℕ) (q : WaitQueue) (sound : IsSound q) (free : IsFree q t) (
       let absent : IsAbsent q (next_id q) = unborn q sound (next_id q) (omega arith) in
       let known : t < next_id q = sound.named t free.alive in
       let apart : next_id q ≢ t = omega arith in
-      let within : t < length q.due = omega (arith, sound.due_length, room) in
+      let within : t < length q.due = omega (arith, room) in
       record {
         answer = get_or-set_same q.due t (Some (Number (next_id q))) None within;
         args = refl;
@@ -88,4 +89,5 @@ pub spawned : (history : List Entry) (t arg : ℕ) (reply : Reply) → reply ≢
 spawned history t arg reply inside room legal =
     subst (λ w. Spawns t arg (queue_after history) w) (sym (queue_after-one history t (Ask (Spawn arg)) reply))
     (spawns_step t arg (queue_after history) (IsSound-after history (IsQueueLegal-prefix history (entry t (Ask (Spawn arg)) reply ∷ []) legal))
-    (last_allowed history t (Ask (Spawn arg)) reply legal) room reply inside)
+    (last_allowed history t (Ask (Spawn arg)) reply legal)
+    (subst (λ (k : ℕ). next_id (queue_after history) < k) (sym (due_length_after history)) room) reply inside)

@@ -1,8 +1,8 @@
 -- Where a thread stands after a history, and that the entries of others leave it there.
-use Rattle.std.proofs.Common.{◌≡◌, ℕ, true, false, List, [], ◌++◌, Option, Some, None, refl, sym, ◌∙◌, ap, subst, ◌⊎◌, inl, inr, replicate}
+use Rattle.std.proofs.Common.{◌≡◌, ℕ, true, false, List, [], ◌++◌, Option, Some, None, refl, sym, ◌∙◌, ap, subst, ◌⊎◌, inl, inr}
 use Rattle.std.specs.Prelude.{is_some}
-use Rattle.std.proofs.lemmas.Bool.{or_parts, or_from, cases_Bool, cases_lt}
-use Rattle.std.proofs.lemmas.List.{get_or-replicate, get_or_past, append_cancel_left, append-nil}
+use Rattle.std.proofs.lemmas.Bool.{or_parts, or_from, cases_Bool}
+use Rattle.std.proofs.lemmas.List.{append_cancel_left, append-nil}
 use mathlib.Core.List.{IsPrefix}
 use Rattle.types.specs.declared.event.Entry.{Entry}
 use Rattle.types.specs.declared.event.Answer.{Answer}
@@ -12,7 +12,7 @@ use Rattle.shared_memory.specs.History.{entries_of, queue_after}
 use Rattle.shared_memory.specs.Legal.{IsQueueLegal}
 use Rattle.shared_memory.specs.Sound.{IsSound}
 use Rattle.shared_memory.proofs.Histories.{entries_of-append}
-use Rattle.shared_memory.proofs.Soundness.{IsSound-after}
+use Rattle.shared_memory.proofs.Soundness.{IsSound-after, no_answers}
 use Rattle.shared_memory.proofs.Others.{IsQuiet, Keeps, Keeps-after}
 
 -- A thread that no spawn has started, or that is gone: not alive, not asleep, and owed nothing.
@@ -107,10 +107,7 @@ pub quiet_first : (n : ℕ) → IsQuiet (queue_after []) n
 unfolding queue_after first_queue
 quiet_first n = record {
   awake = refl;
-  told = elim (cases_lt n most_threads) [
-    | inl within ↦ get_or-replicate most_threads n None None within
-    | inr past ↦ get_or_past (replicate most_threads None) n None past
-  ];
+  told = no_answers most_threads n;
 }
 
 pub newcomer_quiet : (n : ℕ) (history : List Entry) → entries_of n history ≡ [] → IsQueueLegal history → IsQuiet (queue_after history) n

@@ -43,7 +43,7 @@ unfolding IsQueueLegal queue_after
 last_of_queue xs n event reply is legal =
     let split : of_queue (xs ++ entry n event reply ∷ []) ≡ of_queue xs ++ entry n event reply ∷ [] =
     of_queue-append xs (entry n event reply ∷ []) ∙ ap (λ w. of_queue xs ++ w) (of_queue-one (entry n event reply) is) in
-    (IsQueueLegalFrom-rest first_queue (of_queue xs) (entry n event reply ∷ []) (subst (IsQueueLegalFrom first_queue) split legal)).0
+    (IsQueueLegalFrom-rest (first_queue most_threads) (of_queue xs) (entry n event reply ∷ []) (subst (IsQueueLegalFrom (first_queue most_threads)) split legal)).0
 
 -- and was allowed
 pub last_allowed : (xs : List Entry) (n : ℕ) (event : Event) (reply : Reply)
@@ -73,7 +73,7 @@ pub open_asked : (q : WaitQueue) (n : ℕ) (question : Question) (v : ℕ) → I
 open_asked q n question v free sound = go question
   where
     within : n < length q.due
-    within = let known : n < next_id q = sound.named n free.alive in omega (arith, sound.due_length, sound.few)
+    within = let known : n < next_id q = sound.named n free.alive in omega (arith, sound.few)
 
     go : (k : Question) → has_open_question (asked q n k v) n ≡ true
     go (Wait addr width expected timeout) =
@@ -87,7 +87,7 @@ open_asked q n question v free sound = go question
         let woken : List Sleeper = woken_at addr count q.sleepers in
         open_tells (wakes woken (Number 0) q) n (Number (length woken)) (omega (arith, length-due_after woken (Number 0) q.due, within))
     go (Spawn arg) =
-        cond_both (nat_lt (next_id q) most_threads) (tells n (Number (next_id q)) (starts arg q))
+        cond_both (nat_lt (next_id q) (length q.due)) (tells n (Number (next_id q)) (starts arg q))
         (tells n (Number 4294967295) q) (λ w. has_open_question w n ≡ true)
         (λ e. open_tells (starts arg q) n (Number (next_id q)) within) (λ e. open_tells q n (Number 4294967295) within)
     go Leave = open_tells (leaves n q) n (Number 0) within

@@ -3,6 +3,7 @@ use Rattle.std.specs.Prelude.{ℕ, ◌≡◌, List, [], ◌∷◌, Some}
 use Rattle.types.specs.declared.event.Entry.{Entry}
 use Rattle.types.specs.declared.event.Event.{Event}
 use Rattle.types.specs.declared.event.Event.TheVariants.{Ask, Told}
+use Rattle.types.specs.Limits.{most_threads}
 use Rattle.shared_memory.specs.Memory.{Memory, reply_of, state_after}
 use Rattle.shared_memory.specs.WaitQueue.{WaitQueue, first_queue, IsFree, answer_due}
 use Rattle.shared_memory.specs.History.{of_queue, queue_step, queue_after}
@@ -24,7 +25,7 @@ IsQueueLegalFrom q (e ∷ history) = IsAllowed q e.thread e.event × IsQueueLega
 
 -- Legal for the wait queue: its questions and answers are allowed, each after those before it.
 unfoldable pub IsQueueLegal : List Entry → Type 0
-IsQueueLegal history = IsQueueLegalFrom first_queue (of_queue history)
+IsQueueLegal history = IsQueueLegalFrom (first_queue most_threads) (of_queue history)
 
 -- After this history the thread may hand the event in.
 unfoldable pub MayEnter : ℕ → Event → List Entry → Type 0
@@ -41,7 +42,7 @@ IsWellFormedFrom q (e ∷ history) = IsInTurn q e.thread e.event × IsWellFormed
 
 -- Well formed: each entry comes in its thread's turn.
 unfoldable pub IsWellFormed : List Entry → Type 0
-IsWellFormed history = IsWellFormedFrom first_queue history
+IsWellFormed history = IsWellFormedFrom (first_queue most_threads) history
 
 -- A legal history from an opening memory.
 pub record IsLegal (opening : Memory) (history : List Entry) : Type 0 where

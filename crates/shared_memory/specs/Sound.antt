@@ -1,8 +1,8 @@
 -- What holds of the wait queue after each history that is legal for it.
-use Rattle.std.specs.Prelude.{ℕ, ◌≡◌, ◌+◌, ◌<◌, ◌≤◌, ◌==◌, true, false, List, [], ◌∷◌, length, Some, None}
+use Rattle.std.specs.Prelude.{ℕ, ◌≡◌, ◌<◌, ◌≤◌, ◌==◌, true, false, List, [], ◌∷◌, length, Some, None}
 use Rattle.std.specs.List.{list_any}
 use Rattle.types.specs.declared.event.Answer.{Answer}
-use Rattle.types.specs.Limits.{most_threads, most_spawned}
+use Rattle.types.specs.Limits.{most_threads}
 use Rattle.shared_memory.specs.declared.sleeper.Sleeper.{Sleeper}
 use Rattle.shared_memory.specs.WaitQueue.{WaitQueue, is_alive, is_among, is_asleep, answer_due, next_id}
 
@@ -17,7 +17,8 @@ SleepOnce [] = Unit {0}
 SleepOnce (s ∷ sleepers) = (is_among s.thread sleepers ≡ false) × SleepOnce sleepers
 
 -- The live threads are distinct and their numbers given out, as are those of whom an answer is due to; who sleeps is
--- alive, sleeps once, and is owed no answer.
+-- alive, sleeps once, and is owed no answer. For each number that is given out there is a place in the answers due, and
+-- there are at most 16 places.
 pub record IsSound (q : WaitQueue) : Type 0 where
   pub named : (n : ℕ) → is_alive q n ≡ true → n < next_id q
   pub distinct : AreDistinct q.alive
@@ -25,5 +26,5 @@ pub record IsSound (q : WaitQueue) : Type 0 where
   pub once : SleepOnce q.sleepers
   pub unanswered : (n : ℕ) → is_asleep q n ≡ true → answer_due q n ≡ None
   pub owed : (n : ℕ) (a : Answer) → answer_due q n ≡ Some a → n < next_id q
-  pub due_length : length q.due ≡ most_threads
-  pub few : length q.args ≤ most_spawned
+  pub due_length : length q.due ≤ most_threads
+  pub few : length q.args < length q.due

@@ -8,20 +8,19 @@ use Rattle.types.specs.declared.event.Question.{Question}
 use Rattle.types.specs.declared.event.Question.TheVariants.{Wait, Notify, Spawn, Leave}
 use Rattle.types.specs.declared.event.Answer.{Answer}
 use Rattle.types.specs.declared.event.Answer.TheVariants.{Number, ForGood}
-use Rattle.types.specs.Limits.{most_threads}
 use Rattle.shared_memory.specs.declared.sleeper.Sleeper.{Sleeper}
 
--- The live threads; the sleepers, who has slept longest first; the answer due to each thread, by number; and the
--- arguments of the spawned threads, of which thread n's stands at n - 1.
+-- The live threads; the sleepers, who has slept longest first; the answer due to each thread that there may be, by
+-- number; and the arguments of the spawned threads, of which thread n's stands at n - 1.
 pub record WaitQueue : Type 0 where
   pub alive : List ℕ
   pub sleepers : List Sleeper
   pub due : List (Option Answer)
   pub args : List ℕ
 
--- At first thread 0 alone is alive.
-unfoldable pub first_queue : WaitQueue
-first_queue = record { alive = 0 ∷ []; sleepers = []; due = replicate most_threads None; args = [] }
+-- At first thread 0 alone is alive, of so many threads as there may be.
+unfoldable pub first_queue : ℕ → WaitQueue
+first_queue most = record { alive = 0 ∷ []; sleepers = []; due = replicate most None; args = [] }
 
 abbrev pub is_alive : WaitQueue → ℕ → Bool
 is_alive q n = list_any (λ m. m == n) q.alive
@@ -120,7 +119,7 @@ asked q n (Wait addr width expected timeout) loaded =
 asked q n (Notify addr count) loaded =
     let woken = woken_at addr count q.sleepers in tells n (Number (length woken)) (wakes woken (Number 0) q)
 asked q n (Spawn arg) loaded =
-    if nat_lt (next_id q) most_threads then tells n (Number (next_id q)) (starts arg q) else tells n (Number 4294967295) q
+    if nat_lt (next_id q) (length q.due) then tells n (Number (next_id q)) (starts arg q) else tells n (Number 4294967295) q
 asked q n Leave loaded = tells n (Number 0) (leaves n q)
 
 -- The step at a question.

@@ -77,7 +77,7 @@ module _ (n addr count : ℕ) (q : WaitQueue) (sound : IsSound q) (free : IsFree
   within : n < length (due_after (woken_at addr count q.sleepers) (Number 0) q.due)
   within =
       let known : n < next_id q = sound.named n free.alive in
-      omega (arith, sound.due_length, sound.few, length-due_after (woken_at addr count q.sleepers) (Number 0) q.due)
+      omega (arith, sound.few, length-due_after (woken_at addr count q.sleepers) (Number 0) q.due)
 
   told_woken : (m : ℕ) → is_among m (woken_at addr count q.sleepers) ≡ true
       → get_or (set (due_after (woken_at addr count q.sleepers)

@@ -1,5 +1,5 @@
 -- Who was spawned: arguments stay, and none comes once nobody is alive.
-use Rattle.std.proofs.Common.{◌≡◌, ℕ, zero, suc, ◌==◌, false, not, cond, List, [], ◌∷◌, ◌++◌, Some, None, refl, sym, ◌∙◌, ap, subst, slice_get}
+use Rattle.std.proofs.Common.{◌≡◌, ℕ, zero, suc, ◌==◌, false, not, cond, List, [], ◌∷◌, ◌++◌, length, Some, None, refl, sym, ◌∙◌, ap, subst, slice_get}
 use Rattle.std.specs.Prelude.{nat_lt}
 use Rattle.std.specs.List.{list_any}
 use Rattle.std.proofs.lemmas.Bool.{cond_both, both_ways}
@@ -40,7 +40,7 @@ asked_grow q t (Wait addr width expected timeout) v =
     (λ e. cond_both (ends_at_once timeout) (tells t (Number 2) q) (sleeps s q) (λ w. ArgsGrow q w) (λ d. stay q) (λ d. stay q))
 asked_grow q t (Notify addr count) v = stay q
 asked_grow q t (Spawn arg) v =
-    cond_both (nat_lt (next_id q) most_threads) (tells t (Number (next_id q)) (starts arg q))
+    cond_both (nat_lt (next_id q) (length q.due)) (tells t (Number (next_id q)) (starts arg q))
     (tells t (Number 4294967295) q) (λ w. ArgsGrow q w) (λ e. (arg ∷ [], refl)) (λ e. stay q)
 asked_grow q t Leave v = stay q
 
@@ -72,7 +72,7 @@ from_grow q (e ∷ xs) =
 
 later : (xs ys : List Entry) → queue_after (xs ++ ys) ≡ queue_from (queue_after xs) (of_queue ys)
 unfolding queue_after
-later xs ys = ap (queue_from first_queue) (of_queue-append xs ys) ∙ queue_from-append first_queue (of_queue xs) (of_queue ys)
+later xs ys = ap (queue_from (first_queue most_threads)) (of_queue-append xs ys) ∙ queue_from-append (first_queue most_threads) (of_queue xs) (of_queue ys)
 
 got : (xs ys : List ℕ) (k arg : ℕ) → slice_get xs k ≡ Some arg → slice_get (xs ++ ys) k ≡ Some arg
 got [] ys k arg h = absurd (cc h)
@@ -107,7 +107,7 @@ over_from q (e ∷ xs) over legal =
 legal_rest : (xs ys : List Entry) → IsQueueLegal (xs ++ ys) → IsQueueLegalFrom (queue_after xs) (of_queue ys)
 unfolding queue_after IsQueueLegal
 legal_rest xs ys legal =
-    IsQueueLegalFrom-rest first_queue (of_queue xs) (of_queue ys) (subst (λ w. IsQueueLegalFrom first_queue w) (of_queue-append xs ys) legal)
+    IsQueueLegalFrom-rest (first_queue most_threads) (of_queue xs) (of_queue ys) (subst (λ w. IsQueueLegalFrom (first_queue most_threads) w) (of_queue-append xs ys) legal)
 
 pub none_comes : (xs zs : List Entry) (n : ℕ) → IsPrefix xs zs → IsQueueLegal zs
     → WaitQueue.alive (queue_after xs) ≡ [] → arg_of (queue_after xs) n ≡ None → arg_of (queue_after zs) n ≡ None

@@ -14,7 +14,7 @@ use Rattle.shared_memory.specs.WaitQueue.{WaitQueue, IsFree}
 use Rattle.shared_memory.specs.History.{entries_of, queue_after}
 use Rattle.shared_memory.specs.Legal.{IsQueueLegal}
 use Rattle.shared_memory.proofs.Histories.{entries_of-append}
-use Rattle.shared_memory.proofs.Soundness.{IsSound-after}
+use Rattle.shared_memory.proofs.Soundness.{IsSound-after, few_spawned}
 use Rattle.shared_memory.proofs.Standing.{first_free}
 use Rattle.waiters.specs.Queue.{arg_of}
 use Rattle.waiters_desk.proofs.Prefixes.{prefix_trans}
@@ -333,7 +333,7 @@ module _
   spawns = length (WaitQueue.args (queue_after history))
 
   few : spawns ≤ most_spawned
-  few = (IsSound-after history queue).few
+  few = few_spawned (queue_after history) (IsSound-after history queue)
 
   counted : Counts crew.others spawns
   counted =

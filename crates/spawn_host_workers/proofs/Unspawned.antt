@@ -147,7 +147,7 @@ args_from q (e ∷ xs) sound unspawned legal none =
 
 none_spawned : (history : List Entry) → IsQueueLegal history → SpawnsNone 0 history → WaitQueue.args (queue_after history) ≡ []
 unfolding queue_after IsQueueLegal first_queue
-none_spawned history legal none = args_from first_queue (of_queue history) IsSound-first refl legal (none_of_queue 0 history none)
+none_spawned history legal none = args_from (first_queue most_threads) (of_queue history) IsSound-first refl legal (none_of_queue 0 history none)
 
 -- from a run of the first thread to one history
 

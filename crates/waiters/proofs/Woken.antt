@@ -8,7 +8,6 @@ use Rattle.std.proofs.lemmas.List.Elements.{All-head, All-tail}
 use Rattle.std.proofs.lemmas.List.Folds.{list_any_at}
 use Rattle.shared_memory.specs.declared.sleeper.Sleeper.{Sleeper}
 use Rattle.shared_memory.specs.WaitQueue.{WaitQueue, is_among, next_id, starts}
-use Rattle.types.specs.Limits.{most_threads}
 use Rattle.shared_memory.specs.Sound.{IsSound}
 use Rattle.shared_memory.proofs.Soundness.{alive_below}
 use Rattle.waiters.specs.Queue.{AreNumbered, AreAsleep}
@@ -38,7 +37,7 @@ none_left sleepers =
     filter_none (λ (s : Sleeper). not (is_among s.thread sleepers)) sleepers (λ k d within. ap not (is_in sleepers k d within))
 
 -- a number that was given out stays given out where a thread is started
-pub known_spawn : (q : WaitQueue) (n arg : ℕ) → n < next_id q → n < next_id (if nat_lt (next_id q) most_threads then starts arg q else q)
+pub known_spawn : (q : WaitQueue) (n arg : ℕ) → n < next_id q → n < next_id (if nat_lt (next_id q) (length q.due) then starts arg q else q)
 known_spawn q n arg known =
-    cond_both (nat_lt (next_id q) most_threads) (starts arg q) q (λ w. n < next_id w)
+    cond_both (nat_lt (next_id q) (length q.due)) (starts arg q) q (λ w. n < next_id w)
     (λ room. omega (arith, known, length-append q.args (arg ∷ []))) (λ none. known)

@@ -45,7 +45,7 @@ impl Queue {
     /// The first state: thread 0 alone is alive.
     #[tactic(auto, unfolding(shared_memory::specs::WaitQueue::first_queue))]
     pub fn new() -> Queue
-        ensures { result ≡ first_queue }
+        ensures { result ≡ first_queue most_threads }
     {
         let mut alive = ArrayVec::new();
         alive.push(0);
@@ -200,8 +200,8 @@ impl Queue {
 
     /// A thread with the next number comes alive, unless 15 were spawned already.
     fn spawn(&mut self, arg: u32) -> u32
-        ensures after { self.new ≡ (if nat_lt (next_id self.old) most_threads then starts arg self.old else self.old) }
-        ensures id { result ≡ (if nat_lt (next_id self.old) most_threads then next_id self.old else NO_THREAD) }
+        ensures after { self.new ≡ (if nat_lt (next_id self.old) (length self.old.due) then starts arg self.old else self.old) }
+        ensures id { result ≡ (if nat_lt (next_id self.old) (length self.old.due) then next_id self.old else NO_THREAD) }
     {
         let id = self.args.len() as u32 + 1;
         if id >= MOST_THREADS as u32 {

@@ -9,7 +9,6 @@ use Rattle.types.specs.declared.event.Question.{Question}
 use Rattle.types.specs.declared.event.Question.TheVariants.{Wait, Notify, Spawn, Leave}
 use Rattle.types.specs.declared.event.Answer.{Answer}
 use Rattle.types.specs.declared.event.Answer.TheVariants.{Number}
-use Rattle.types.specs.Limits.{most_threads}
 use Rattle.shared_memory.specs.declared.sleeper.Sleeper.{Sleeper}
 use Rattle.shared_memory.specs.WaitQueue.{WaitQueue, is_alive, is_asleep, answer_due, next_id, tells, wakes, sleeps, starts, woken_at}
 use Rattle.shared_memory.specs.WaitQueue.{ends_at_once, ended, end_answer, is_stuck, settled, asked, after_question, after_answer, IsFree, has_open_question}
@@ -38,7 +37,7 @@ pub record TellsNumber (q : WaitQueue) (n : ℕ) (question : Question) (v : ℕ)
 -- who isn't asleep is answered at once
 module _ (q : WaitQueue) (n : ℕ) (free : IsFree q n) (sound : IsSound q) where
   within : n < length q.due
-  within = let known : n < next_id q = sound.named n free.alive in omega (arith, sound.due_length, sound.few)
+  within = let known : n < next_id q = sound.named n free.alive in omega (arith, sound.few)
 
   wait_asked : (addr width expected : ℕ) (timeout : _) (v : ℕ) → falls_asleep (Wait addr width expected timeout) v ≡ false
       → TellsNumber (asked q n (Wait addr width expected timeout) v) n (Wait addr width expected timeout) v
@@ -72,7 +71,7 @@ module _ (q : WaitQueue) (n : ℕ) (free : IsFree q n) (sound : IsSound q) where
         fits = tt;
       }
   number_asked (Spawn arg) v awake =
-      cond_both (nat_lt (next_id q) most_threads) (tells n (Number (next_id q)) (starts arg q))
+      cond_both (nat_lt (next_id q) (length q.due)) (tells n (Number (next_id q)) (starts arg q))
       (tells n (Number 4294967295) q) (λ w. TellsNumber w n (Spawn arg) v)
       (λ room. record { number = next_id q; due = get_or-set_same q.due n (Some (Number (next_id q))) None within; fits = tt })
       (λ none. record { number = 4294967295; due = get_or-set_same q.due n (Some (Number 4294967295)) None within; fits = tt })
@@ -125,7 +124,7 @@ alive_asked q n (Wait addr width expected timeout) v stays alive =
     (λ e. cond_both (ends_at_once timeout) (tells n (Number 2) q) (sleeps s q) (λ w. is_alive w n ≡ true) (λ d. alive) (λ d. alive))
 alive_asked q n (Notify addr count) v stays alive = alive
 alive_asked q n (Spawn arg) v stays alive =
-    cond_both (nat_lt (next_id q) most_threads) (tells n (Number (next_id q)) (starts arg q)) (tells n (Number 4294967295) q) (λ w. is_alive w n ≡ true)
+    cond_both (nat_lt (next_id q) (length q.due)) (tells n (Number (next_id q)) (starts arg q)) (tells n (Number 4294967295) q) (λ w. is_alive w n ≡ true)
     (λ e. list_any-append (λ m. m == n) q.alive (next_id q ∷ []) ∙ or_left (is_alive q n) ((next_id q == n) || false) alive) (λ e. alive)
 alive_asked q n Leave v stays alive = absurd stays
 

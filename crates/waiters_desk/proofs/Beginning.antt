@@ -53,7 +53,7 @@ starts_asked q t (Wait addr width expected timeout) v =
     (λ e. cond_both (ends_at_once timeout) (tells t (Number 2) q) (sleeps s q) (λ w. StartsOne q w) (λ d. inl refl) (λ d. inl refl))
 starts_asked q t (Notify addr count) v = inl refl
 starts_asked q t (Spawn arg) v =
-    cond_both (nat_lt (next_id q) most_threads) (tells t (Number (next_id q)) (starts arg q)) (tells t (Number 4294967295) q) (λ w. StartsOne q w)
+    cond_both (nat_lt (next_id q) (length q.due)) (tells t (Number (next_id q)) (starts arg q)) (tells t (Number 4294967295) q) (λ w. StartsOne q w)
     (λ e. starts_spawn q t arg (Number (next_id q))) (λ e. inl refl)
 starts_asked q t Leave v = inl refl
 
@@ -113,16 +113,16 @@ none_of_queue n (e ∷ xs) none =
     cond_both (is_of_queue e.event) (e ∷ of_queue xs) (of_queue xs) (λ w. entries_of n w ≡ [])
     (λ is. cond-false (e.thread == n) (e ∷ entries_of n (of_queue xs)) (entries_of n (of_queue xs)) (ne_eqb e.thread n parts.0) ∙ rest) (λ isnt. rest)
 
-there_first : (n : ℕ) → IsThere n first_queue
+there_first : (most n : ℕ) → IsThere n (first_queue most)
 unfolding first_queue
-there_first zero known = refl
-there_first (suc n) known = absurd (omega arith)
+there_first most zero known = refl
+there_first most (suc n) known = absurd (omega arith)
 
 -- who was spawned and has entered nothing is alive
 spawned_alive : (n : ℕ) (history : List Entry) → entries_of n history ≡ [] → IsQueueLegal history
     → n < next_id (queue_after history) → is_alive (queue_after history) n ≡ true
 unfolding queue_after IsQueueLegal
-spawned_alive n history none legal known = there_from n first_queue (of_queue history) (none_of_queue n history none) legal IsSound-first (there_first n) known
+spawned_alive n history none legal known = there_from n (first_queue most_threads) (of_queue history) (none_of_queue n history none) legal IsSound-first (there_first most_threads n) known
 
 has_number : (q : WaitQueue) (n arg : ℕ) → arg_of q n ≡ Some arg → n < next_id q
 has_number q zero arg is = absurd (cc is)

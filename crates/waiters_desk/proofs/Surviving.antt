@@ -81,7 +81,7 @@ module _ (n t : ℕ) (apart : t ≢ n) where
       (free_wakes n q free woken (Number 0)
       (λ among. woken_sleeps n addr count q.sleepers among)) t (Number (length woken)) apart
   free_asked q (Spawn arg) v free =
-      cond_both (nat_lt (next_id q) most_threads) (tells t (Number (next_id q)) (starts arg q)) (tells t (Number 4294967295) q) (λ w. IsFree w n)
+      cond_both (nat_lt (next_id q) (length q.due)) (tells t (Number (next_id q)) (starts arg q)) (tells t (Number 4294967295) q) (λ w. IsFree w n)
       (λ e. free_tells n (starts arg q) (free_starts n q free arg) t (Number (next_id q)) apart) (λ e. free_tells n q free t (Number 4294967295) apart)
   free_asked q Leave v free = free_tells n (leaves t q) (free_leaves n q free t apart) t (Number 0) apart
 
@@ -111,9 +111,9 @@ free_from n q (e ∷ xs) none free =
 pub free_beside_others : (n : ℕ) (xs ys : List Entry) → entries_of n ys ≡ [] → IsFree (queue_after xs) n → IsFree (queue_after (xs ++ ys)) n
 unfolding queue_after
 free_beside_others n xs ys none free =
-    subst (λ (w : WaitQueue). IsFree w n) (sym (ap (queue_from first_queue) (of_queue-append xs ys)
-    ∙ queue_from-append first_queue (of_queue xs) (of_queue ys)))
-    (free_from n (queue_from first_queue (of_queue xs)) (of_queue ys) (none_of_queue n ys none) free)
+    subst (λ (w : WaitQueue). IsFree w n) (sym (ap (queue_from (first_queue most_threads)) (of_queue-append xs ys)
+    ∙ queue_from-append (first_queue most_threads) (of_queue xs) (of_queue ys)))
+    (free_from n (queue_from (first_queue most_threads) (of_queue xs)) (of_queue ys) (none_of_queue n ys none) free)
 
 -- an access that isn't of the queue
 module _ (loses : Bool) (opening : Memory) (limit : Option ℕ) (n : ℕ) (right : Bool) (event : Event)

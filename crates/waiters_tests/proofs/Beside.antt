@@ -2,6 +2,7 @@
 use Rattle.std.proofs.Common.{◌≡◌, ℕ, List, [], Some, refl, sym, subst}
 use Rattle.types.specs.declared.event.Entry.{Entry}
 use Rattle.types.specs.declared.event.Answer.{Answer}
+use Rattle.types.specs.Limits.{most_threads}
 use Rattle.shared_memory.specs.WaitQueue.{WaitQueue, first_queue, answer_due, after_answer}
 use Rattle.shared_memory.proofs.Others.{IsQuiet}
 use Rattle.shared_memory.proofs.Standing.{quiet_first}
@@ -20,10 +21,10 @@ told_quiet q n answer seen beside due =
 
 -- before any entry
 
-pub first_beside : IsBeside first_queue []
+pub first_beside : IsBeside (first_queue most_threads) []
 first_beside = quiet_beside [] refl
 
-pub first_quiet : (n : ℕ) → HasNoneOpen first_queue n
+pub first_quiet : (n : ℕ) → HasNoneOpen (first_queue most_threads) n
 first_quiet n =
-    let quiet : IsQuiet first_queue n = subst (λ (w : WaitQueue). IsQuiet w n) (sym first_beside.tied) (quiet_first n) in
+    let quiet : IsQuiet (first_queue most_threads) n = subst (λ (w : WaitQueue). IsQuiet w n) (sym first_beside.tied) (quiet_first n) in
     record { awake = quiet.awake; told = quiet.told }

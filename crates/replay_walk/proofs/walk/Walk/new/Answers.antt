@@ -1,5 +1,6 @@
 use Rattle.std.proofs.Common.{ℕ, List, [], Option, sym, subst}
 use Rattle.types.specs.declared.outcome.Outcome.{Outcome}
+use Rattle.types.specs.Limits.{most_threads}
 use Rattle.shared_memory.specs.WaitQueue.{WaitQueue, first_queue}
 use Rattle.replay_walk.specs.Walked.{HasWalked}
 use Rattle.replay_walk.proofs.Begin.{begun}
@@ -9,6 +10,6 @@ pub returns : goal.returns
 returns g c = λ r ready.
     subst (λ (q : WaitQueue). HasWalked g.T.TakesTurns.meaning r [] c.args.threads.items c.args.memory q
     c.new.result.started c.new.result.ends) (sym c.new.ensures.queue)
-    (subst (λ (k : ℕ). HasWalked g.T.TakesTurns.meaning r [] c.args.threads.items c.args.memory first_queue k c.new.result.ends) (sym c.new.ensures.started)
-    (subst (λ (l : List (Option Outcome)). HasWalked g.T.TakesTurns.meaning r [] c.args.threads.items c.args.memory first_queue 1 l) (sym c.new.ensures.ends)
+    (subst (λ (k : ℕ). HasWalked g.T.TakesTurns.meaning r [] c.args.threads.items c.args.memory (first_queue most_threads) k c.new.result.ends) (sym c.new.ensures.started)
+    (subst (λ (l : List (Option Outcome)). HasWalked g.T.TakesTurns.meaning r [] c.args.threads.items c.args.memory (first_queue most_threads) 1 l) (sym c.new.ensures.ends)
     (begun g.T.TakesTurns.meaning r c.args.threads.items c.args.memory ready)))

@@ -2,6 +2,7 @@ use Rattle.std.proofs.Common.{◌+◌, refl, sym, ◌∙◌, ap, subst}
 use Rattle.std.specs.Prelude.{cond, nat_lt}
 use Rattle.types.specs.Limits.{most_threads}
 use Rattle.shared_memory.specs.WaitQueue.{next_id, answer_due, after_question}
+use Rattle.shared_memory.proofs.Lengths.{due_length_question}
 use Rattle.schedule.specs.Scheduled.{or_started}
 use Rattle.schedule_threads.specs.Shared.{without_dues}
 use Rattle.schedule_machine.specs.Runs.{AreThreads, MayHear, all_hear, next_after, started_at, started_by, with_spawned}
@@ -27,10 +28,11 @@ start_next-requires-clause-threads g c =
 pub returns-in-Spawn-clause-next : goal.returns-in-Spawn-clause-next
 returns-in-Spawn-clause-next g c =
     let q = c.args.self.now.queue in
+    let dues = sym (due_length_question q c.args.n c.args.question c.args.loaded) ∙ c.requires.due in
     let after = c.start_next.ensures.queue ∙ (c.tell_all.ensures.queue ∙ ap without_dues c.ask.ensures.after) in
     c.start_next.ensures.next
     ∙ (ap (λ k. cond (nat_lt k most_threads) (k + 1) k) c.requires.next
-    ∙ sym (ap next_id after ∙ (next_question q c.args.n c.args.question c.args.loaded ∙ ap (λ z. next_after (next_id q) z) c.in-Spawn.is)))
+    ∙ sym (ap next_id after ∙ (next_question q dues c.args.n c.args.question c.args.loaded ∙ ap (λ z. next_after (next_id q) z) c.in-Spawn.is)))
 
 pub returns-in-Spawn-clause-threads : goal.returns-in-Spawn-clause-threads
 returns-in-Spawn-clause-threads g c s f are may absent =
@@ -53,12 +55,13 @@ returns-in_default g c =
     let m = g.T.TakesTurns in
     let q = c.args.self.now.queue in
     let later = after_question q c.args.n c.args.question c.args.loaded in
+    let dues = sym (due_length_question q c.args.n c.args.question c.args.loaded) ∙ c.requires.due in
     let queue = c.tell_all.ensures.queue ∙ ap without_dues c.ask.ensures.after in record {
       memory = refl;
       queue = queue;
       slots = c.tell_all.ensures.slots;
       next = c.requires.next ∙ sym (ap next_id queue
-          ∙ (next_question q c.args.n c.args.question c.args.loaded
+          ∙ (next_question q dues c.args.n c.args.question c.args.loaded
           ∙ next_stays (next_id q) c.args.question c.in_default.not-Spawn));
       threads = λ s f are may absent.
           are_same m.meaning s c.tell_all.new.threads.items (all_hear s f later) (started_by s f q c.args.n c.args.question c.args.loaded)

@@ -1,4 +1,5 @@
 use Rattle.std.proofs.Common.{sym, ◌∙◌, ap}
+use Rattle.types.specs.Limits.{most_threads}
 use Rattle.schedule.specs.Machine.{Thread.Runs}
 use Rattle.interp_machine.specs.State.{At}
 use Rattle.shared_memory.specs.WaitQueue.{WaitQueue, next_id}
@@ -10,6 +11,6 @@ returns g c s main are slots = record {
   shared = ap (λ (q : WaitQueue). record { memory = c.args.memory; queue = q }) (sym c.new.ensures);
   threads = are;
   slots = slots;
-  next = sym (ap next_id c.new.ensures ∙ next_first);
+  next = sym (ap next_id c.new.ensures ∙ next_first most_threads);
   orderly = orderly_first s.program (Runs (At main) s.fuel);
 }
