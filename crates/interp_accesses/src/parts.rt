@@ -4,6 +4,7 @@
 ghost use Rattle.std.specs.Prelude.{◌≡◌, ◌+◌, ◌*◌, ◌%◌, ◌^◌, ◌<◌, ◌≤◌, true, false};
 ghost use Rattle.interp_machine.specs.Access as access;
 
+use shared_memory_lanes::low_bytes;
 use types::Event;
 
 /// How many bytes of an access lie in its first word.
@@ -21,16 +22,6 @@ pub(crate) fn is_in_one_word(addr: u64, bytes: u8) -> bool
     ensures { result ≡ access.in_one_word addr bytes }
 {
     bytes_in_first(addr, bytes) == bytes
-}
-
-/// The low bytes of a number, so many.
-#[inline]
-pub(crate) fn low_bytes(bytes: u8, number: u64) -> u64
-    requires some { 1 ≤ bytes }
-    requires at_most_a_word { bytes ≤ 8 }
-    ensures { result ≡ access.cut bytes number }
-{
-    number & (u64::MAX >> (64 - 8 * u64::from(bytes)))
 }
 
 /// The load of the bytes in the first word.
@@ -73,7 +64,7 @@ pub(crate) fn low_store(addr: u64, bytes: u8, number: u64) -> Event
         addr,
         width: first,
         reach: addr + u64::from(bytes),
-        value: low_bytes(first, number),
+        value: low_bytes(number, first),
     }
 }
 
@@ -90,7 +81,7 @@ pub(crate) fn high_store(addr: u64, bytes: u8, number: u64) -> Event
         addr: addr + u64::from(first),
         width: bytes - first,
         reach: addr + u64::from(bytes),
-        value: low_bytes(bytes, number) >> (8 * u64::from(first)),
+        value: low_bytes(number, bytes) >> (8 * u64::from(first)),
     }
 }
 

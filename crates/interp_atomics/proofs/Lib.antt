@@ -1,3 +1,3 @@
-pub mod Masks
+pub mod Rest
 pub mod Taken
 pub mod Turns

@@ -7,9 +7,10 @@ ghost use Rattle.types.specs.declared.value.Value.{Value};
 ghost use Rattle.types.specs.Values.{type_of};
 ghost use Rattle.types.specs.Widths.{type_bytes};
 ghost use Rattle.shared_memory.specs.Events.{FitsWidth};
-ghost use Rattle.interp_machine.specs.Access.{cut as cut_to, answered_value};
+ghost use Rattle.interp_machine.specs.Access.{answered_value};
 ghost use Rattle.interp_atomics.specs.Requests.{IsWidth, IsAddress, number_of};
 
+use shared_memory_lanes::low_bytes;
 use types::{AccessWidth, MemArg, Trap, ValType, Value};
 
 /// The number of 32 bits at a place, counted from the top.
@@ -68,21 +69,12 @@ pub(crate) fn address_at(
     }
 }
 
-/// What lies in so many bytes of a number.
-#[inline]
-pub(crate) fn cut(number: u64, width: u8) -> u64
-    requires { IsWidth width }
-    ensures { result ≡ cut_to width number }
-{
-    number & (u64::MAX >> (64 - 8 * u64::from(width)))
-}
-
 /// The value of a number that an access answers.
 #[inline]
 pub(crate) fn answered(width: AccessWidth, number: u64) -> Value
     ensures { result ≡ answered_value width number }
 {
-    let number = cut(number, width.bytes());
+    let number = low_bytes(number, width.bytes());
     match width.val_type() {
         ValType::I32 => Value::I32(number as u32),
         ValType::I64 => Value::I64(number),

@@ -7,7 +7,8 @@ ghost use Rattle.validate_typing.specs.Typing.{HasOnTop, atomic_takes};
 ghost use Rattle.interp_machine.specs.Program.{Program};
 ghost use Rattle.interp_atomics.specs.Requests.{Wants};
 
-use crate::operands::{address_at, cut, i32_at, number_at};
+use crate::operands::{address_at, i32_at, number_at};
+use shared_memory_lanes::low_bytes;
 use types::{AccessWidth, Event, MemArg, Question, RmwOp, Trap, ValType, Value};
 
 /// `memory.atomic.notify`
@@ -74,7 +75,7 @@ pub(crate) fn store(values: &[Value], width: AccessWidth, arg: MemArg) -> Result
         addr,
         width: bytes,
         reach: addr + u64::from(bytes),
-        value: cut(number_at(values, 0), bytes),
+        value: low_bytes(number_at(values, 0), bytes),
     })
 }
 
@@ -96,7 +97,7 @@ pub(crate) fn rmw(
         op,
         addr,
         width: bytes,
-        value: cut(operand, bytes),
+        value: low_bytes(operand, bytes),
     })
 }
 
@@ -113,6 +114,6 @@ pub(crate) fn cmpxchg(values: &[Value], width: AccessWidth, arg: MemArg) -> Resu
         addr,
         width: bytes,
         expected,
-        replacement: cut(replacement, bytes),
+        replacement: low_bytes(replacement, bytes),
     })
 }

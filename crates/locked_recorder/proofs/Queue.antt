@@ -1,16 +1,13 @@
 -- What every queue keeps to that questions and answers lead to, as the room of the log needs it.
-use Rattle.std.proofs.Common.{cond, ◌≡◌, ℕ, suc, ◌+◌, ◌≤◌, Bool, true, false, true≢false, not, ◌==◌, ◌||◌, List, [], ◌∷◌}
+use Rattle.std.proofs.Common.{cond, ◌≡◌, ℕ, suc, ◌≤◌, Bool, true, false, true≢false, not, ◌||◌, List, [], ◌∷◌}
 use Rattle.std.proofs.Common.{length, set, get_or, refl, sym, ap, ◌∙◌, subst, arith, eqb, eqb-true, ltb, ltb-true, ltb-false, eq-eqb}
 use Rattle.std.specs.Prelude.{Option, Some, None}
-use Rattle.std.specs.List.{filter, list_any, IsDistinct, AllByRecursion}
+use Rattle.std.specs.List.{filter}
 use Rattle.std.proofs.Math.Bool.{or-true}
-use Rattle.std.proofs.lemmas.Bool.Decides.{nat_tests}
 use Rattle.std.proofs.lemmas.List.{length-set, get_or-set_same, get_or-set_other, get_or_past}
-use Rattle.std.proofs.lemmas.Map.Steps.{length-le_from_distinct_below}
 use Rattle.types.specs.declared.event.Answer.{Answer}
 use Rattle.shared_memory.specs.declared.sleeper.Sleeper.{Sleeper}
 use Rattle.shared_memory.specs.WaitQueue.{WaitQueue, is_among, answer_due, due_after, after_answer}
-use Rattle.shared_memory.specs.Sound.{AreDistinct, IsSound}
 
 -- who is among those that a filter leaves
 pub among_rest : (m : ℕ) (woken xs : List Sleeper)
@@ -67,37 +64,3 @@ due_taken q n = by_test (ltb n (length q.due)) refl
     by_test : (b : Bool) → ltb n (length q.due) ≡ b → get_or (set q.due n None) n None ≡ None
     by_test true t = get_or-set_same q.due n None None (ltb-true n (length q.due) t)
     by_test false t = get_or_past (set q.due n None) n None (let k = ltb-false n (length q.due) t in let l = length-set q.due n None in omega arith)
-
-different : (m n : ℕ) → (m == n) ≡ false → eqb n m ≡ false
-different m n h = grind (arith, nat_tests, h)
-
-apart_by : (n m : ℕ) (ns : List ℕ) (b : Bool) → (m == n) ≡ b → (b || list_any (λ k. k == n) ns) ≡ false
-    → (list_any (λ k. k == n) ns ≡ false → AllByRecursion (λ k. eqb n k ≡ false) ns) → AllByRecursion (λ k. eqb n k ≡ false) (m ∷ ns)
-apart_by n m ns true e k rest = absurd (true≢false k)
-apart_by n m ns false e k rest = (different m n e, rest k)
-
-apart_from : (n : ℕ) (ns : List ℕ) → list_any (λ m. m == n) ns ≡ false → AllByRecursion (λ m. eqb n m ≡ false) ns
-apart_from n [] h = tt
-apart_from n (m ∷ ns) h = apart_by n m ns (m == n) refl h (apart_from n ns)
-
-distinct_from : (ns : List ℕ) → AreDistinct ns → IsDistinct eqb ns
-unfolding IsDistinct
-distinct_from [] h = tt
-distinct_from (n ∷ ns) h = (apart_from n ns h.0, distinct_from ns h.1)
-
-same_test : (n m : ℕ) (b : Bool) → eqb n m ≡ b → (m == n) ≡ b
-same_test n m true e = grind (arith, nat_tests, e)
-same_test n m false e = grind (arith, nat_tests, e)
-
-found_by : (n m : ℕ) (ns : List ℕ) (b : Bool) → eqb n m ≡ b → (b || list_any (eqb n) ns) ≡ true
-    → (list_any (eqb n) ns ≡ true → list_any (λ k. k == n) ns ≡ true) → ((m == n) || list_any (λ k. k == n) ns) ≡ true
-found_by n m ns true e k rest = ap (λ b. b || list_any (λ k. k == n) ns) (same_test n m true e)
-found_by n m ns false e k rest = ap (λ b. b || list_any (λ k. k == n) ns) (same_test n m false e) ∙ rest k
-
-turned : (ns : List ℕ) (n : ℕ) → list_any (eqb n) ns ≡ true → list_any (λ m. m == n) ns ≡ true
-turned [] n h = h
-turned (m ∷ ns) n h = found_by n m ns (eqb n m) refl h (turned ns n)
-
--- no more are alive than were given a number
-pub few_alive : (q : WaitQueue) → IsSound q → length q.alive ≤ length q.args + 1
-few_alive q s = length-le_from_distinct_below q.alive (length q.args + 1) (distinct_from q.alive s.distinct) (λ n found. s.named n (turned q.alive n found))

@@ -28,7 +28,8 @@ use Rattle.shared_memory.proofs.Histories.{of_queue-quiet, of_queue-none, same_q
 use Rattle.shared_memory_on_table.specs.Callers.{one_if}
 use Rattle.locked_recorder.specs.Room.{open_questions, still_due, HasSpare}
 use Rattle.shared_memory.proofs.Soundness.{IsSound-after, few_spawned}
-use Rattle.locked_recorder.proofs.Queue.{among_rest, due_other, length-rest, due_taken, few_alive}
+use Rattle.shared_memory.proofs.Few.{few_alive}
+use Rattle.locked_recorder.proofs.Queue.{among_rest, due_other, length-rest, due_taken}
 
 abbrev L : Type 0
 L = List Entry

@@ -1,10 +1,11 @@
 -- What reading gives is the text of what fits, and each text of what fits is read again.
 use Rattle.std.proofs.Common.{◌≡◌, ℕ, zero, suc, ◌+◌, ◌-◌, ◌*◌, ◌/◌, ◌%◌, ◌^◌, ◌<◌, ◌≤◌, Bool, true, false, cond, not}
 use Rattle.std.proofs.Common.{List, [], ◌∷◌, ◌++◌, Option, Some, None, refl, sym, ap, subst, ◌∙◌, append_assoc, arith}
-use Rattle.std.proofs.Common.{inl, inr, ◌⊎◌, ◌&&◌}
+use Rattle.std.proofs.Common.{inl, inr, ◌⊎◌}
 use Rattle.std.specs.Prelude.{nat_lt, nat_le, ◌==◌, pos, negsuc, ℤ}
 use Rattle.std.specs.Fmt.{decimal, signed_decimal}
 use Rattle.std.proofs.lemmas.Fmt.{decimal_step, decimal_digit, decimal_by_steps}
+use Rattle.std.proofs.lemmas.Bool.{and_parts}
 use Rattle.std.proofs.lemmas.Bool.Decides.{nat_tests}
 use Rattle.replay_forms.specs.Reading.{◌>>=◌, Reader, after, is_digit, digits_after, number_at, number_within}
 use Rattle.replay_forms.specs.Reading.{number_then, behind, both, made, word_for, first, or_else, positive, negative}
@@ -37,10 +38,6 @@ some x = Some x
 
 pub some_is : {A : Type 0} (x y : A) → some x ≡ some y → x ≡ y
 some_is x y e = cc
-
-pub and_parts : (a b : Bool) → (a && b) ≡ true → (a ≡ true) × (b ≡ true)
-and_parts true b e = (refl, e)
-and_parts false b e = absurd cc
 
 abbrev pub gives : {A : Type 0} → A → List ℕ → Option (A × List ℕ)
 gives x rest = Some (x, rest)

@@ -5,24 +5,34 @@ use std::test::Fail;
 use test_modules::{ADDING, SPINNING, Small, TWO_WORDS, WAITING, WAITING_FOR_GOOD};
 
 /// The record of the atomic add.
-pub(crate) const ADDED: &str =
-    "wathread-record 1\ninvoke 66\nargs\nfuel 1000000000\nlimit 100000\n0 rmw add 0 4 5 = 0\n0 leave = done\n0 told 0 = done\nend 0 ok i32:0 4\npages 1\nfinish\n";
+pub(crate) const ADDED: &str = "\
+wathread-record 1\ninvoke 66\nargs\nfuel 1000000000\nlimit 100000\n\
+0 rmw add 0 4 5 = 0\n0 leave = done\n0 told 0 = done\n\
+end 0 ok i32:0 4\npages 1\nfinish\n";
 
 /// The two parts of a store over two words.
-pub(crate) const STORED: &str =
-    "wathread-record 1\ninvoke 66\nargs\nfuel 1000000000\nlimit 100000\n0 store 4 4 12 1432778632 = done\n0 store 8 4 12 287454020 = done\n0 leave = done\n0 told 0 = done\nend 0 ok i32:0 6\npages 1\nfinish\n";
+pub(crate) const STORED: &str = "\
+wathread-record 1\ninvoke 66\nargs\nfuel 1000000000\nlimit 100000\n\
+0 store 4 4 12 1432778632 = done\n0 store 8 4 12 287454020 = done\n0 leave = done\n0 told 0 = done\n\
+end 0 ok i32:0 6\npages 1\nfinish\n";
 
 /// Between its two entries the thread spends all units that are left.
-pub(crate) const SPUN: &str =
-    "wathread-record 1\ninvoke 66\nargs\nfuel 1000000\nlimit 100000\n0 rmw add 0 4 5 = 0\n0 leave = done\n0 told 0 = done\nend 0 stop 1 1000000\npages 1\nfinish\n";
+pub(crate) const SPUN: &str = "\
+wathread-record 1\ninvoke 66\nargs\nfuel 1000000\nlimit 100000\n\
+0 rmw add 0 4 5 = 0\n0 leave = done\n0 told 0 = done\n\
+end 0 stop 1 1000000\npages 1\nfinish\n";
 
 /// A wait whose timeout comes due.
-pub(crate) const WAITED: &str =
-    "wathread-record 1\ninvoke 66\nargs\nfuel 1000000000\nlimit 100000\n0 wait 0 4 0 5 = 0\n0 told 2 = done\n0 leave = done\n0 told 0 = done\nend 0 ok i32:2 5\npages 1\nfinish\n";
+pub(crate) const WAITED: &str = "\
+wathread-record 1\ninvoke 66\nargs\nfuel 1000000000\nlimit 100000\n\
+0 wait 0 4 0 5 = 0\n0 told 2 = done\n0 leave = done\n0 told 0 = done\n\
+end 0 ok i32:2 5\npages 1\nfinish\n";
 
 /// A wait for good.
-pub(crate) const ASLEEP: &str =
-    "wathread-record 1\ninvoke 66\nargs\nfuel 1000000000\nlimit 100000\n0 wait 0 4 0 -1 = 0\n0 told stop = done\n0 leave = done\n0 told 0 = done\nend 0 stop 2 4\npages 1\nfinish\n";
+pub(crate) const ASLEEP: &str = "\
+wathread-record 1\ninvoke 66\nargs\nfuel 1000000000\nlimit 100000\n\
+0 wait 0 4 0 -1 = 0\n0 told stop = done\n0 leave = done\n0 told 0 = done\n\
+end 0 stop 2 4\npages 1\nfinish\n";
 
 /// A record, of which module, what its replay prints, and its status.
 struct Example {

@@ -2,6 +2,7 @@
 use Rattle.std.proofs.Common.{◌≡◌, ℕ, ◌-◌, ◌^◌, ◌≤◌, List, [], ◌∷◌, ◌++◌, Some, refl, sym, ap, subst, ◌∙◌, arith, ◌&&◌}
 use Rattle.std.specs.Prelude.{codes}
 use Rattle.std.specs.Fmt.{decimal}
+use Rattle.std.proofs.lemmas.Bool.{and_parts}
 use Rattle.types.specs.declared.event.RmwOp.{RmwOp}
 use Rattle.types.specs.declared.event.RmwOp.TheVariants as ops
 use Rattle.types.specs.declared.event.Event.{Event}
@@ -16,14 +17,15 @@ use Rattle.replay_forms.specs.Reading.{Reader, FitsSigned64, after, number_at, n
 use Rattle.replay_forms.specs.Texts.{line, spaced}
 use Rattle.replay_forms.proofs.Laws.{Law, Takes, number_text, number_law, signed_text, signed_law, behind_text}
 use Rattle.replay_forms.proofs.Laws.{behind_law, both_text, both_law, made_takes, made_again, word_takes, first_takes}
-use Rattle.replay_forms.proofs.Laws.{first_again, law_from, only_some, some_is, and_parts}
+use Rattle.replay_forms.proofs.Laws.{first_again, law_from, only_some, some_is}
 use Rattle.replay_forms.proofs.Lines.{words_line_spaced}
 use Rattle.replay_text.specs.Words.{op_word, event_words, reply_word, entry_words}
-use Rattle.replay_text.specs.Conditions.{Fits8, Fits32, Fits64, EventFits, ReplyFits, IsEntry, is_event, is_reply_to}
+use Rattle.shared_memory.specs.Conditions.{is_event}
+use Rattle.replay_text.specs.Conditions.{Fits8, Fits32, Fits64, EventFits, ReplyFits, IsEntry, is_reply_to}
 use Rattle.replay_text.specs.Reading.{u8_at, u32_at, u64_at, op_at, load_at, store_at, rmw_at, cmpxchg_at, wait_at}
 use Rattle.replay_text.specs.Reading.{notify_at, spawn_at, grow_at, told_at, access_at, plain_at, event_at, reply_at}
 use Rattle.replay_text.specs.Reading.{entry_of, entry_at}
-use Rattle.replay_text.proofs.Decided.{event_found, event_made}
+use Rattle.shared_memory.proofs.Decided.{event_found, event_made}
 
 -- a reader whose values a constructor takes
 by_takes : {A B : Type 0} (f : A → B) (text : A → List ℕ → List ℕ) (Fits : A → Type 0) (at : Reader A)

@@ -1,5 +1,4 @@
 pub mod Faults
-pub mod Decided
 pub mod Events
 pub mod Written
 pub mod Records

@@ -1,5 +1,5 @@
 -- What the entries and the ends of a record may hold.
-use Rattle.std.specs.Prelude.{◌≡◌, ℕ, ◌≤◌, ◌^◌, ◌-◌, ◌*◌, ◌+◌, ◌%◌, ◌==◌, ◌&&◌, ◌||◌, Bool, true, false, not, nat_lt, nat_le, Some, None}
+use Rattle.std.specs.Prelude.{◌≡◌, ℕ, ◌≤◌, ◌^◌, ◌-◌, Bool, true, false, not, Some, None}
 use Rattle.types.specs.declared.value.Value.{Value}
 use Rattle.types.specs.declared.value.Value.TheVariants as values
 use Rattle.types.specs.declared.event.Event.{Event}
@@ -114,29 +114,3 @@ IsOutcome (outcomes.Stop s) = Unit {0}
 pub record IsReport (r : ThreadReport) : Type 0 where
   pub outcome : IsOutcome r.outcome
   pub spent : r.spent ≤ most_fuel
-
--- The conditions on events, as tests.
-abbrev pub fits_width : ℕ → ℕ → Bool
-fits_width width value = nat_lt value (2 ^ (8 * width))
-
-abbrev pub is_part : ℕ → ℕ → ℕ → Bool
-is_part addr width reach = nat_le 1 width && (nat_le (addr % 8 + width) 8 && (nat_le (addr + width) reach && nat_le reach (addr + 8)))
-
-abbrev pub is_atomic : ℕ → ℕ → Bool
-is_atomic addr width = (width == 1 || width == 2 || width == 4 || width == 8) && addr % width == 0
-
-abbrev pub is_question : Question → Bool
-is_question (Wait addr width expected timeout) = (width == 4 || width == 8) && (is_atomic addr width && fits_width width expected)
-is_question (Notify addr count) = addr % 4 == 0
-is_question (Spawn arg) = true
-is_question Leave = true
-
-abbrev pub is_event : Event → Bool
-is_event Size = true
-is_event (Grow more) = true
-is_event (Load addr width reach) = is_part addr width reach
-is_event (Store addr width reach value) = is_part addr width reach && fits_width width value
-is_event (Rmw op addr width value) = is_atomic addr width && fits_width width value
-is_event (Cmpxchg addr width expected replacement) = is_atomic addr width && fits_width width replacement
-is_event (Ask question) = is_question question
-is_event (Told answer) = true

@@ -22,7 +22,8 @@ use Rattle.types.specs.declared.outcome.ThreadReport.{ThreadReport}
 use Rattle.types.specs.Limits.{most_pages, most_threads, most_spawned, past_limit, most_limit, most_fuel}
 use Rattle.replay_forms.specs.Reading.{◌>>=◌, Reader, after, number_within, number_then, signed_then, behind, both}
 use Rattle.replay_forms.specs.Reading.{made, word_for, first, several, listed, hex_byte_at}
-use Rattle.replay_text.specs.Conditions.{is_event, is_reply_to}
+use Rattle.shared_memory.specs.Conditions.{is_event}
+use Rattle.replay_text.specs.Conditions.{is_reply_to}
 use Rattle.replay_text.specs.declared.parts.RecordParts.{RecordParts}
 
 -- Numbers of 8, 32 and 64 bits, and the space behind them.

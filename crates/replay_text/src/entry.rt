@@ -3,9 +3,10 @@
 ghost use Rattle.replay_forms.specs.Reading.{Reads};
 ghost use Rattle.replay_text.specs.Reading.{reply_at, entry_at};
 
-use crate::conditions::{is_event, is_reply_to};
+use crate::conditions::is_reply_to;
 use crate::event::event_at;
 use replay_forms::{Item, after, number_then};
+use shared_memory::is_event;
 use types::{Entry, MOST_SPAWNED, Reply};
 
 /// What an entry's event got, and the line feed behind it.

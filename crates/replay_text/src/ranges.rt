@@ -6,8 +6,9 @@ ghost use Rattle.std.specs.Str.{is_utf8};
 ghost use Rattle.replay_text.specs.Conditions.{IsValue, IsEntry, IsReport};
 ghost use Rattle.replay_text.specs.Text.{HasNumbers, IsRecord};
 
-use crate::conditions::{is_event, is_reply_to};
+use crate::conditions::is_reply_to;
 use crate::parts::RecordParts;
+use shared_memory::is_event;
 use types::{
     Entry, MOST_FUEL, MOST_LIMIT, MOST_PAGES, MOST_SPAWNED, MOST_THREADS, PAST_LIMIT, ThreadReport,
     Value,

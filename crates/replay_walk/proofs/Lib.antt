@@ -1,3 +1,4 @@
+pub mod Replaced
 pub mod Turning
 pub mod Places
 pub mod Living

@@ -476,7 +476,9 @@ static EXAMPLES: [Example; 44] = [
             ..GIVING_I32
         },
         out: "thread 0: ok i32:287454020\npages 1\n",
-        end: "0 store 6 2 10 13124 = done\n0 store 8 2 10 4386 = done\n0 load 6 2 10 = 13124\n0 load 8 2 10 = 4386\n0 leave = done\n0 told 0 = done\nend 0 ok i32:287454020 8\n",
+        end: "0 store 6 2 10 13124 = done\n0 store 8 2 10 4386 = done\n\
+            0 load 6 2 10 = 13124\n0 load 8 2 10 = 4386\n\
+            0 leave = done\n0 told 0 = done\nend 0 ok i32:287454020 8\n",
         ..USUALLY
     },
     Example {

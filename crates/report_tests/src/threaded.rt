@@ -70,7 +70,9 @@ bytes 00 00 00 00 96 00 00 00 00 00 00 00\n",
         name: "sums the ids",
         module: SUMMING,
         dump: 0,
-        out: "thread 0: ok i32:119\nthread 1: ok\nthread 2: ok\nthread 3: ok\nthread 4: ok\nthread 5: ok\nthread 6: ok\nthread 7: ok\nthread 8: ok\nthread 9: ok\nthread 10: ok\nthread 11: ok\nthread 12: ok\nthread 13: ok\nthread 14: ok\nthread 15: ok\npages 1\n",
+        out: "thread 0: ok i32:119\nthread 1: ok\nthread 2: ok\nthread 3: ok\nthread 4: ok\n\
+            thread 5: ok\nthread 6: ok\nthread 7: ok\nthread 8: ok\nthread 9: ok\nthread 10: ok\n\
+            thread 11: ok\nthread 12: ok\nthread 13: ok\nthread 14: ok\nthread 15: ok\npages 1\n",
         status: 0,
     },
     Threaded {

@@ -11,3 +11,5 @@ pub mod Spawning
 pub mod Prefixes
 pub mod Props
 pub mod Numbers
+pub mod Few
+pub mod Decided

@@ -1,5 +1,6 @@
 pub mod Numbers
 pub mod Events
+pub mod Conditions
 pub mod Memory
 pub mod WaitQueue
 pub mod Sound

@@ -2,8 +2,10 @@
 //! memory shared by threads meets.
 #![tactic(auto)]
 
+mod conditions;
 mod memory;
 mod sleeper;
 
+pub use conditions::is_event;
 pub use memory::SharedMemory;
 pub use sleeper::Sleeper;

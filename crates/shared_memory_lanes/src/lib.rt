@@ -11,4 +11,4 @@ mod word;
 
 pub use laws::{lane_elsewhere, lane_of_with_lane};
 pub use range::{Part, parts};
-pub use word::{lane, with_lane};
+pub use word::{lane, low_bytes, with_lane};

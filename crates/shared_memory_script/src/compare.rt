@@ -4,8 +4,8 @@ ghost use Rattle.shared_memory.specs.Events.{IsEvent, is_of_queue};
 ghost use Rattle.shared_memory.specs.History.{memory_after};
 ghost use Rattle.shared_memory.specs.Legal.{IsMemoryLegal};
 
-use crate::conditions::{is_event, is_of_memory};
-use shared_memory::SharedMemory;
+use crate::conditions::is_of_memory;
+use shared_memory::{SharedMemory, is_event};
 use shared_memory_sequential::OneMemory;
 use types::{Entry, Event, Reply};
 
@@ -37,7 +37,7 @@ pub fn agree<M: SharedMemory>(
     script: &[Event],
 ) -> Option<usize> {
     for (i, event) in script.iter().enumerate() {
-        if is_event(event) && is_of_memory(event) {
+        if is_event(*event) && is_of_memory(event) {
             let reply = make(memory, seat, *event);
             if reply != one.step(event) {
                 return Some(i);
@@ -54,7 +54,7 @@ pub fn replay(log: &[Entry], one: &mut OneMemory) -> Option<usize>
     ensures after { result ≡ None → one.new ≡ memory_after one.old log.now }
 {
     for (i, entry) in log.iter().enumerate() {
-        if !is_event(&entry.event) || one.step(&entry.event) != entry.reply {
+        if !is_event(entry.event) || one.step(&entry.event) != entry.reply {
             return Some(i);
         }
     }

@@ -9,5 +9,5 @@ mod events;
 mod tests;
 
 pub use compare::{agree, make, replay};
-pub use conditions::{is_event, is_of_memory};
+pub use conditions::is_of_memory;
 pub use events::script;

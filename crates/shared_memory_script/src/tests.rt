@@ -1,5 +1,6 @@
 //! The script, and what is told apart.
-use crate::{is_event, is_of_memory, replay, script};
+use crate::{is_of_memory, replay, script};
+use shared_memory::is_event;
 use shared_memory_sequential::OneMemory;
 use std::test::Fail;
 use types::{Answer, Entry, Event, PAGE_SIZE, Question, Reply};
@@ -14,7 +15,7 @@ fn the_script_is_of_the_memory(rt: HostRuntime) -> Result<(), Fail> {
     let events = script(rt.alloc())?;
     assert_eq!(rt; events.len(), 717);
     for event in &events {
-        assert!(rt; is_event(event) && is_of_memory(event), "{event:?}");
+        assert!(rt; is_event(*event) && is_of_memory(event), "{event:?}");
     }
     Ok(())
 }
@@ -23,12 +24,12 @@ fn the_script_is_of_the_memory(rt: HostRuntime) -> Result<(), Fail> {
 fn what_is_no_event(rt: HostRuntime) -> Result<(), Fail> {
     let part = |addr, width, reach| Event::Load { addr, width, reach };
     for event in [part(7, 2, 9), part(0, 0, 0), part(0, 4, 3), part(0, 4, 9)] {
-        assert!(rt; !is_event(&event), "{event:?}");
+        assert!(rt; !is_event(event), "{event:?}");
     }
     let asked = Event::Ask(Question::Notify { addr: 2, count: 1 });
-    assert!(rt; !is_event(&asked));
+    assert!(rt; !is_event(asked));
     let told = Event::Told(Answer::ForGood);
-    assert!(rt; is_event(&told) && !is_of_memory(&told));
+    assert!(rt; is_event(told) && !is_of_memory(&told));
     Ok(())
 }
 

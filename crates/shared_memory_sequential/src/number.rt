@@ -4,6 +4,7 @@ ghost use Rattle.std.specs.List.{splice};
 ghost use Rattle.shared_memory.specs.Numbers.{le_number, le_bytes};
 ghost use Rattle.shared_memory.specs.Memory.{combined};
 
+use shared_memory_lanes::low_bytes;
 use types::RmwOp;
 
 /// The number in `width` bytes from `at` on.
@@ -61,20 +62,6 @@ fn write_each(bytes: &mut [u8], at: usize, width: usize, number: u64)
     for i in 0..width {
         bytes[at + i] = (rest % 256) as u8;
         rest /= 256;
-    }
-}
-
-/// A number modulo the width.
-#[inline]
-fn low_bytes(number: u64, width: u8) -> u64
-    requires { (width ≡ 1) ⊎ (width ≡ 2) ⊎ (width ≡ 4) ⊎ (width ≡ 8) }
-    ensures { result ≡ number % 2 ^ (8 * width) }
-{
-    match width {
-        1 => number % (1 << 8),
-        2 => number % (1 << 16),
-        4 => number % (1 << 32),
-        _ => number,
     }
 }
 

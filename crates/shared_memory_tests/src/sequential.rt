@@ -1,6 +1,6 @@
 //! What the sequential memory answers, with the expected values written out by hand.
 
-use shared_memory_script::is_event;
+use shared_memory::is_event;
 use shared_memory_sequential::{OneMemory, OpenFault};
 use std::alloc::Global;
 use std::process::Abort;
@@ -30,7 +30,7 @@ fn open_filled(alloc: Global, pages: u8, max: u32) -> Result<OneMemory, Fail> {
 /// Makes events, each of which has its reply.
 fn follow(rt: &impl Abort, memory: &mut OneMemory, steps: &[(Event, Reply)]) {
     for (place, (event, reply)) in steps.iter().enumerate() {
-        assert!(rt; is_event(event), "{place}: {event:?}");
+        assert!(rt; is_event(*event), "{place}: {event:?}");
         assert_eq!(rt; memory.step(event), *reply, "{place}: {event:?}");
     }
 }

@@ -1,7 +1,7 @@
 -- From what each part of a run gives to one history.
 use Rattle.std.proofs.Common.{◌≡◌, ◌≢◌, ℕ, zero, suc, ◌<◌, ◌≤◌, All, Bool, List, [], ◌∷◌, ◌++◌, length, Option, Some}
 use Rattle.std.proofs.Common.{None, refl, sym, ◌∙◌, ap, subst, arith, ◌⊎◌, inl, inr, append-nil, get_or}
-use Rattle.std.proofs.Common.{slice_get, take, drop}
+use Rattle.std.proofs.Common.{slice_get, take, drop, true}
 use Rattle.std.proofs.lemmas.Bool.{cases_lt}
 use Rattle.std.proofs.lemmas.List.{append_cancel_left}
 use mathlib.Core.List.{IsPrefix}
@@ -205,6 +205,12 @@ unpacked seats0 popped work seat desk popped_off len first others =
     let count : length popped ≡ suc (length work) = ap length off in
     record { parts = popped_off ∙ ap (λ w. w ++ desk ∷ []) off; len = omega (arith, len, count) }
 
+-- a seat of the desk that has seen nothing
+pub record IsDeskSeat {S : Type 0} (name : S → ℕ) (right : S → Bool) (seen : S → List Entry) (desk : S) : Type 0 where
+  pub named : name desk ≡ desk_name
+  pub may_ask : right desk ≡ true
+  pub fresh : seen desk ≡ []
+
 module _ {S : Type 0} (name : S → ℕ) (seen : S → List Entry) (seats0 : List S) (seat : S) (work : List S) (desk : S) (u : Unpacked seats0 seat work desk)
     (names : (k : ℕ) (d : S) → k < seat_count → name (get_or seats0 k d) ≡ k) (fresh : (k : ℕ) (d : S) → k < seat_count → seen (get_or seats0 k d) ≡ []) where
   pub first_name : name seat ≡ 0
@@ -233,6 +239,13 @@ module _ {S : Type 0} (name : S → ℕ) (seen : S → List Entry) (seats0 : Lis
       ap (λ l. get_or l desk_name d) u.parts
       ∙ subst (λ (k : ℕ). get_or ((seat ∷ work) ++ desk ∷ []) k d ≡ desk) (ap suc u.len)
       (get_or-last (seat ∷ work) desk d)
+
+  pub desk_new : (right : S → Bool) → ((d : S) → right (get_or seats0 desk_name d) ≡ true) → IsDeskSeat name right seen desk
+  desk_new right may_ask = record {
+    named = ap name (sym (desk_is desk)) ∙ names desk_name desk (omega arith);
+    may_ask = ap right (sym (desk_is desk)) ∙ may_ask desk;
+    fresh = ap seen (sym (desk_is desk)) ∙ fresh desk_name desk (omega arith);
+  }
 
 -- what the first thread's report says
 abbrev LeadsTo : {T : Type 0} → Bool → Memory → Option ℕ → (T → Meaning) → T → List ThreadReport → List Entry → Type 0

@@ -1,4 +1,4 @@
-use Rattle.interp_atomics.proofs.Masks.{left_below}
+use Rattle.interp_atomics.proofs.Rest.{left_below}
 use Rattle.interp_atomics.proofs.operands.drop_top.Goals as goal
 
 pub returns-clause-left : goal.returns-clause-left

@@ -1,22 +1,14 @@
-use Rattle.std.proofs.Common.{◌≡◌, refl, ◌∙◌, ap, subst, slice_index_or, length-set}
-use Rattle.std.proofs.lemmas.Option.{get_or_from_slice_get}
-use Rattle.replay_walk.specs.Standing.{SettlesInto}
+use Rattle.std.proofs.Common.{length-set}
+use Rattle.std.specs.Prelude.{slice_set}
+use Rattle.replay_walk.specs.Standing.{SettlesAt}
+use Rattle.replay_walk.proofs.Replaced.{at_place, stayed}
 use Rattle.replay_walk.proofs.turns.settle_at.Goals as goal
 
 pub returns : goal.returns
-returns g c = record {
-  count = length-set c.args.threads.now c.args.n c.settle.new.thread;
-  settled = λ x at.
-      let is : slice_index_or c.args.threads.now c.args.n c.index-threads-n.result ≡ x =
-      get_or_from_slice_get c.args.threads.now c.args.n x c.index-threads-n.result at in
-      record {
-        replaced = record {
-          now = c.settle.new.thread;
-          list = refl;
-          same_program = c.settle.ensures.stays.program ∙ ap (λ z. (g.T.TakesTurns.meaning z).program) is;
-          same_fuel = c.settle.ensures.stays.fuel ∙ ap (λ z. (g.T.TakesTurns.meaning z).fuel) is;
-        };
-        settled =
-            subst (λ z. SettlesInto (g.T.TakesTurns.meaning z) c.settle.result (g.T.TakesTurns.meaning c.settle.new.thread)) is c.settle.ensures.settled;
-      };
-}
+returns g c =
+    let m = g.T.TakesTurns.meaning in let threads = c.args.threads.now in let now = c.settle.new.thread in record {
+      count = length-set threads c.args.n now;
+      settled = at_place threads c.args.n c.index-threads-n.result
+          (λ x. SettlesAt m x c.settle.result threads c.args.n (slice_set threads c.args.n now))
+          (record { replaced = stayed m threads c.args.n _ now c.settle.ensures.stays; settled = c.settle.ensures.settled });
+    }

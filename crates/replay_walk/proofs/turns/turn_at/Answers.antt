@@ -1,22 +1,14 @@
-use Rattle.std.proofs.Common.{◌≡◌, refl, ◌∙◌, ap, subst, slice_index_or, length-set}
-use Rattle.std.proofs.lemmas.Option.{get_or_from_slice_get}
-use Rattle.interp_trait.specs.Turns.{MakesTurn}
+use Rattle.std.proofs.Common.{length-set}
+use Rattle.std.specs.Prelude.{slice_set}
+use Rattle.replay_walk.specs.Standing.{IsTurnedAt}
+use Rattle.replay_walk.proofs.Replaced.{at_place, stayed}
 use Rattle.replay_walk.proofs.turns.turn_at.Goals as goal
 
 pub returns : goal.returns
-returns g c = record {
-  count = length-set c.args.threads.now c.args.n c.turn.new.self;
-  turned = λ x at.
-      let is : slice_index_or c.args.threads.now c.args.n c.index-threads-n.result ≡ x =
-      get_or_from_slice_get c.args.threads.now c.args.n x c.index-threads-n.result at in
-      record {
-        replaced = record {
-          now = c.turn.new.self;
-          list = refl;
-          same_program = c.turn.ensures.stays.program ∙ ap (λ z. (g.T.TakesTurns.meaning z).program) is;
-          same_fuel = c.turn.ensures.stays.fuel ∙ ap (λ z. (g.T.TakesTurns.meaning z).fuel) is;
-        };
-        turned =
-            subst (λ z. MakesTurn (g.T.TakesTurns.meaning z) c.args.given c.turn.result (g.T.TakesTurns.meaning c.turn.new.self)) is c.turn.ensures.turned;
-      };
-}
+returns g c =
+    let m = g.T.TakesTurns.meaning in let threads = c.args.threads.now in let now = c.turn.new.self in record {
+      count = length-set threads c.args.n now;
+      turned = at_place threads c.args.n c.index-threads-n.result
+          (λ x. IsTurnedAt m x c.args.given c.turn.result threads c.args.n (slice_set threads c.args.n now))
+          (record { replaced = stayed m threads c.args.n _ now c.turn.ensures.stays; turned = c.turn.ensures.turned });
+    }

@@ -1,67 +1,43 @@
-use Rattle.std.proofs.Common.{◌≡◌, ◌∷◌, ◌++◌, [], true, List, length, ◌∙◌, sym, ap, subst, arith}
+use Rattle.std.proofs.Common.{◌∷◌, ◌++◌, [], List, ◌∙◌, ap, arith}
 use Rattle.shared_memory.specs.History.{entries_of, of_queue}
 use Rattle.types.specs.declared.outcome.ThreadReport.{ThreadReport}
-use Rattle.types.specs.Limits.{most_threads, desk_name}
-use Rattle.spawn_host_workers.proofs.OneList.{unpacked, lead_may_ask, desk_is}
+use Rattle.types.specs.Limits.{desk_name}
+use Rattle.spawn_host_workers.proofs.OneList.{Unpacked, unpacked, IsDeskSeat, lead_may_ask, desk_new}
 use Rattle.spawn_host_workers.proofs.Unspawned.{composed_alone}
+use Rattle.spawn_host_workers.proofs.alone.run_alone.Given as given
 use Rattle.spawn_host_workers.proofs.alone.run_alone.Goals as goal
+use Rattle.spawn_host_workers.proofs.alone.run_alone.Goals.{After-remove-seat}
+
+-- the first seat and the last are taken off
+dealt : (g : given.Over) (c : After-remove-seat g)
+    → Unpacked c.args.seats.items c.remove-seat.result c.remove-seat.new.self.items c.in-Some.desk_seat
+dealt g c =
+    unpacked c.args.seats.items c.pop.new.self.items c.remove-seat.new.self.items c.remove-seat.result
+    c.in-Some.desk_seat c.in-Some.ensures.items (omega (arith, c.pop.new.self.ok.0, c.in-Some.ensures.cases, c.requires.len))
+    c.remove-seat.ensures.value c.remove-seat.ensures.by_index.2
+
+desk : (g : given.Over) (c : After-remove-seat g)
+    → IsDeskSeat g.M.SharedMemory.name g.M.SharedMemory.has_queue_right g.M.SharedMemory.seen c.in-Some.desk_seat
+desk g c =
+    desk_new g.M.SharedMemory.name g.M.SharedMemory.seen c.args.seats.items c.remove-seat.result c.remove-seat.new.self.items
+    c.in-Some.desk_seat (dealt g c) c.requires.names c.requires.new g.M.SharedMemory.has_queue_right c.requires.right
 
 pub open-desk-requires-clause-right : goal.open-desk-requires-clause-right
-open-desk-requires-clause-right g c κs within =
-    let m = g.M.SharedMemory in
-    let desk = c.in-Some.desk_seat in
-    let len : length c.pop.new.self.items ≡ most_threads = omega (arith, c.pop.new.self.ok.0, c.in-Some.ensures.cases, c.requires.len) in
-    let u = unpacked c.args.seats.items c.pop.new.self.items c.remove-seat.new.self.items c.remove-seat.result
-    c.in-Some.desk_seat c.in-Some.ensures.items len c.remove-seat.ensures.value
-    c.remove-seat.ensures.by_index.2 in
-    let is = desk_is m.name m.seen c.args.seats.items c.remove-seat.result c.remove-seat.new.self.items
-    c.in-Some.desk_seat u c.requires.names c.requires.new desk in
-    subst (λ s. m.has_queue_right s ≡ true) is (c.requires.right desk)
+open-desk-requires-clause-right g c κs within = (desk g (goal.at.open-desk-requires-clause-right g c).After-remove-seat).may_ask
 
 pub open-desk-requires-clause-name : goal.open-desk-requires-clause-name
-open-desk-requires-clause-name g c κs within =
-    let m = g.M.SharedMemory in
-    let desk = c.in-Some.desk_seat in
-    let len : length c.pop.new.self.items ≡ most_threads = omega (arith, c.pop.new.self.ok.0, c.in-Some.ensures.cases, c.requires.len) in
-    let u = unpacked c.args.seats.items c.pop.new.self.items c.remove-seat.new.self.items c.remove-seat.result
-    c.in-Some.desk_seat c.in-Some.ensures.items len c.remove-seat.ensures.value
-    c.remove-seat.ensures.by_index.2 in
-    let is = desk_is m.name m.seen c.args.seats.items c.remove-seat.result c.remove-seat.new.self.items
-    c.in-Some.desk_seat u c.requires.names c.requires.new desk in
-    ap m.name (sym is) ∙ c.requires.names desk_name desk (omega arith)
+open-desk-requires-clause-name g c κs within = (desk g (goal.at.open-desk-requires-clause-name g c).After-remove-seat).named
 
 pub open-desk-requires-clause-quiet : goal.open-desk-requires-clause-quiet
-open-desk-requires-clause-quiet g c κs within =
-    let m = g.M.SharedMemory in
-    let desk = c.in-Some.desk_seat in
-    let len : length c.pop.new.self.items ≡ most_threads = omega (arith, c.pop.new.self.ok.0, c.in-Some.ensures.cases, c.requires.len) in
-    let u = unpacked c.args.seats.items c.pop.new.self.items c.remove-seat.new.self.items c.remove-seat.result
-    c.in-Some.desk_seat c.in-Some.ensures.items len c.remove-seat.ensures.value
-    c.remove-seat.ensures.by_index.2 in
-    let is = desk_is m.name m.seen c.args.seats.items c.remove-seat.result c.remove-seat.new.self.items
-    c.in-Some.desk_seat u c.requires.names c.requires.new desk in
-    ap of_queue (ap m.seen (sym is) ∙ c.requires.new desk_name desk (omega arith))
+open-desk-requires-clause-quiet g c κs within = ap of_queue (desk g (goal.at.open-desk-requires-clause-quiet g c).After-remove-seat).fresh
 
 pub open-desk-requires-clause-silent : goal.open-desk-requires-clause-silent
-open-desk-requires-clause-silent g c κs within =
-    let m = g.M.SharedMemory in
-    let desk = c.in-Some.desk_seat in
-    let len : length c.pop.new.self.items ≡ most_threads = omega (arith, c.pop.new.self.ok.0, c.in-Some.ensures.cases, c.requires.len) in
-    let u = unpacked c.args.seats.items c.pop.new.self.items c.remove-seat.new.self.items c.remove-seat.result
-    c.in-Some.desk_seat c.in-Some.ensures.items len c.remove-seat.ensures.value
-    c.remove-seat.ensures.by_index.2 in
-    let is = desk_is m.name m.seen c.args.seats.items c.remove-seat.result c.remove-seat.new.self.items
-    c.in-Some.desk_seat u c.requires.names c.requires.new desk in
-    ap (entries_of desk_name) (ap m.seen (sym is) ∙ c.requires.new desk_name desk (omega arith))
+open-desk-requires-clause-silent g c κs within = ap (entries_of desk_name) (desk g (goal.at.open-desk-requires-clause-silent g c).After-remove-seat).fresh
 
 pub run_thread-outcome-requires-clause-free : goal.run_thread-outcome-requires-clause-free
 run_thread-outcome-requires-clause-free g c κs within =
-    let m = g.M.SharedMemory in
-    let len : length c.pop.new.self.items ≡ most_threads = omega (arith, c.pop.new.self.ok.0, c.in-Some.ensures.cases, c.requires.len) in
-    let u = unpacked c.args.seats.items c.pop.new.self.items c.remove-seat.new.self.items c.remove-seat.result
-    c.in-Some.desk_seat c.in-Some.ensures.items len c.remove-seat.ensures.value
-    c.remove-seat.ensures.by_index.2 in
-    lead_may_ask m.name m.seen c.args.seats.items c.remove-seat.result c.remove-seat.new.self.items c.in-Some.desk_seat u c.requires.names c.requires.new
+    lead_may_ask g.M.SharedMemory.name g.M.SharedMemory.seen c.args.seats.items c.remove-seat.result c.remove-seat.new.self.items
+    c.in-Some.desk_seat (dealt g (goal.at.run_thread-outcome-requires-clause-free g c).After-remove-seat) c.requires.names c.requires.new
 
 pub returns-clause-composed : goal.returns-clause-composed
 returns-clause-composed g c =
@@ -69,10 +45,7 @@ returns-clause-composed g c =
     let t = g.T.TakesTurns in
     let end = c.run_thread-outcome in
     let report : ThreadReport = record { outcome = end.result.outcome; spent = end.result.spent } in
-    let len : length c.pop.new.self.items ≡ most_threads = omega (arith, c.pop.new.self.ok.0, c.in-Some.ensures.cases, c.requires.len) in
-    let u = unpacked c.args.seats.items c.pop.new.self.items c.remove-seat.new.self.items c.remove-seat.result
-    c.in-Some.desk_seat c.in-Some.ensures.items len c.remove-seat.ensures.value
-    c.remove-seat.ensures.by_index.2 in
+    let u = dealt g (goal.at.returns-clause-composed g c).After-remove-seat in
     composed_alone m.LOSES m.opening (m.limit c.args.memory.now) m.name m.has_queue_right m.seen t.meaning c.args.first c.requires.here c.requires.alone
     c.args.seats.items c.remove-seat.result c.in-Some.desk_seat c.remove-seat.new.self.items u c.requires.names
     c.requires.new report end.result.seat end.ensures.seat.name_is end.ensures.ran

@@ -1,24 +1,28 @@
-use Rattle.std.proofs.Common.{arith, ◌≡◌, length, vec_len}
+use Rattle.std.proofs.Common.{arith, ◌≡◌, vec_len}
 use Rattle.types.specs.Limits.{most_threads}
-use Rattle.spawn_host_workers.proofs.OneList.{unpacked, lead_may_ask, workers_new, crew_length, composed}
+use Rattle.spawn_host_workers.proofs.OneList.{Unpacked, unpacked, lead_may_ask, workers_new, crew_length, composed}
+use Rattle.spawn_host_workers.proofs.host.run_all.Given as given
 use Rattle.spawn_host_workers.proofs.host.run_all.Goals as goal
+use Rattle.spawn_host_workers.proofs.host.run_all.Goals.{After-remove-seat}
+
+-- the first seat and the last are taken off
+dealt : (g : given.Over) (c : After-remove-seat g)
+    → Unpacked c.args.seats.items c.remove-seat.result c.remove-seat.new.self.items c.in-Some.desk_seat
+dealt g c =
+    unpacked c.args.seats.items c.pop.new.self.items c.remove-seat.new.self.items c.remove-seat.result
+    c.in-Some.desk_seat c.in-Some.ensures.items (omega (arith, c.pop.new.self.ok.0, c.in-Some.ensures.cases, c.requires.len))
+    c.remove-seat.ensures.value c.remove-seat.ensures.by_index.2
 
 pub run_threads-requires-clause-free : goal.run_threads-requires-clause-free
 run_threads-requires-clause-free g c κs within =
     let m = g.M.SharedMemory in
-    let len : length c.pop.new.self.items ≡ most_threads = omega (arith, c.pop.new.self.ok.0, c.in-Some.ensures.cases, c.requires.len) in
-    let u = unpacked c.args.seats.items c.pop.new.self.items c.remove-seat.new.self.items c.remove-seat.result
-    c.in-Some.desk_seat c.in-Some.ensures.items len c.remove-seat.ensures.value
-    c.remove-seat.ensures.by_index.2 in
+    let u = dealt g (goal.at.run_threads-requires-clause-free g c).After-remove-seat in
     lead_may_ask m.name m.seen c.args.seats.items c.remove-seat.result c.remove-seat.new.self.items c.in-Some.desk_seat u c.requires.names c.requires.new
 
 pub run_threads-requires-clause-new : goal.run_threads-requires-clause-new
 run_threads-requires-clause-new g c κs within =
     let m = g.M.SharedMemory in
-    let len : length c.pop.new.self.items ≡ most_threads = omega (arith, c.pop.new.self.ok.0, c.in-Some.ensures.cases, c.requires.len) in
-    let u = unpacked c.args.seats.items c.pop.new.self.items c.remove-seat.new.self.items c.remove-seat.result
-    c.in-Some.desk_seat c.in-Some.ensures.items len c.remove-seat.ensures.value
-    c.remove-seat.ensures.by_index.2 in
+    let u = dealt g (goal.at.run_threads-requires-clause-new g c).After-remove-seat in
     workers_new m.name m.seen c.args.seats.items c.remove-seat.result c.remove-seat.new.self.items c.in-Some.desk_seat u c.requires.names c.requires.new
 
 pub split-requires-clause-room : goal.split-requires-clause-room
@@ -58,10 +62,7 @@ returns-clause-composed g c =
     let m = g.M.SharedMemory in
     let t = g.T.TakesTurns in
     let ends = c.in_ok-ends.ends in
-    let len : length c.pop.new.self.items ≡ most_threads = omega (arith, c.pop.new.self.ok.0, c.in-Some.ensures.cases, c.requires.len) in
-    let u = unpacked c.args.seats.items c.pop.new.self.items c.remove-seat.new.self.items c.remove-seat.result
-    c.in-Some.desk_seat c.in-Some.ensures.items len c.remove-seat.ensures.value
-    c.remove-seat.ensures.by_index.2 in
+    let u = dealt g (goal.at.returns-clause-composed g c).After-remove-seat in
     composed m.LOSES m.opening (m.limit c.args.memory.now) m.name m.has_queue_right m.seen t.meaning c.args.first c.args.spawned.items
     c.args.seats.items c.remove-seat.result c.in-Some.desk_seat c.remove-seat.new.self.items c.close-hub.result
     ends.items c.split.new.threads.items c.push_reserved.new.self.items

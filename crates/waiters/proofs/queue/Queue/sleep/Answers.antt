@@ -1,6 +1,6 @@
 use Rattle.std.proofs.Common.{arith, ◌∷◌, [], length-append}
 use Rattle.shared_memory.proofs.Soundness.{IsSound-sleeps}
-use Rattle.waiters.proofs.Few.{few_asleep}
+use Rattle.shared_memory.proofs.Few.{few_asleep}
 use Rattle.waiters.proofs.queue.Queue.sleep.Goals as goal
 
 pub push-requires : goal.push-requires

@@ -1,14 +1,14 @@
 -- The tests of the conditions on events.
 use Rattle.std.proofs.Common.{◌≡◌, ℕ, ◌+◌, ◌%◌, ◌≤◌, Bool, true, false, refl, arith, inl, inr, ◌⊎◌, ◌&&◌}
 use Rattle.std.specs.Prelude.{nat_le, ◌==◌, ◌||◌}
+use Rattle.std.proofs.lemmas.Bool.{and_parts}
 use Rattle.std.proofs.lemmas.Bool.Decides.{nat_tests}
 use Rattle.types.specs.declared.event.Event.{Event}
 use Rattle.types.specs.declared.event.Event.TheVariants.{Size, Grow, Load, Store, Rmw, Cmpxchg, Ask, Told}
 use Rattle.types.specs.declared.event.Question.{Question}
 use Rattle.types.specs.declared.event.Question.TheVariants.{Wait, Notify, Spawn, Leave}
 use Rattle.shared_memory.specs.Events.{FitsWidth, IsPart, IsAtomic, IsQuestion, IsEvent}
-use Rattle.replay_forms.proofs.Laws.{and_parts}
-use Rattle.replay_text.specs.Conditions.{fits_width, is_part, is_atomic, is_question, is_event}
+use Rattle.shared_memory.specs.Conditions.{fits_width, is_part, is_atomic, is_question, is_event}
 
 width_found : (width value : ℕ) → fits_width width value ≡ true → FitsWidth width value
 width_found width value e = grind (arith, nat_tests, e)
