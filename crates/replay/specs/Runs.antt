@@ -1,10 +1,9 @@
 -- Of which runs of a module a record is, and which of its lines is the first that doesn't fit.
-use Rattle.std.specs.Prelude.{ℕ, ◌≡◌, ◌+◌, ◌⊎◌, List, length}
+use Rattle.std.specs.Prelude.{ℕ, ◌≡◌, ◌+◌, ◌⊎◌, length}
 use Rattle.types.specs.declared.parts.Parts.{Parts}
 use Rattle.shared_memory.specs.Memory.{Memory}
-use Rattle.validate_module_rules.specs.Exported.{IsExported}
 use Rattle.schedule_runs.specs.Runs.{Start}
-use Rattle.spawn_host.specs.Entries.{Refuses}
+use Rattle.spawn_host.specs.Entries.{IsUnknown, Refuses}
 use Rattle.spawn_host.specs.Runs.{Beginning, start_by}
 use Rattle.replay_text.specs.declared.parts.RecordParts.{RecordParts}
 use Rattle.replay_rules.specs.Recorded.{IsRecordedRun, IsFirstMisfit, IsFirstWrongEnd}
@@ -27,10 +26,6 @@ pub record IsRunOf (m : Parts) (r : RecordParts) (end : EndState) : Type 0 where
   pub threads : end.threads.items ≡ r.ends
   pub pages : end.pages ≡ r.pages
   pub bytes : end.bytes.items ≡ last.bytes
-
--- No function of the module itself is exported by the name.
-abbrev pub IsUnknown : Parts → List ℕ → Type 0
-IsUnknown m name = (own : ℕ) → IsExported m name own → ⊥
 
 -- The entry at k is the first that doesn't fit; or all do, and of the end lines and the pages line that at k is the first that
 -- doesn't.

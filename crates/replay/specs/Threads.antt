@@ -3,12 +3,11 @@ use Rattle.std.specs.Prelude.{ℕ, ◌≡◌, ◌⊎◌, List, [], ◌∷◌}
 use Rattle.types.specs.declared.value.Value.{Value}
 use Rattle.types.specs.declared.parts.Parts.{Parts}
 use Rattle.interp_trait.specs.Turns.{Meaning}
-use Rattle.spawn_host.specs.Entries.{Refuses, StartsThreads}
+use Rattle.spawn_host.specs.Entries.{IsUnknown, Refuses, StartsThreads}
 use Rattle.spawn_host.specs.Threads.{IsFirst, AreSpawnable}
 use Rattle.replay_text.specs.declared.parts.RecordParts.{RecordParts}
 use Rattle.replay.specs.declared.fault.ReplayFault.{ReplayFault}
 use Rattle.replay.specs.declared.fault.ReplayFault.TheVariants.{Line, EndLine, NoMemory}
-use Rattle.replay.specs.Runs.{IsUnknown}
 
 -- Those that can be spawned, where the module can start threads; and none where it can't.
 abbrev pub AreOthers : {T : Type 0} → (T → Meaning) → Parts → ℕ → List T → Type 0

@@ -7,7 +7,7 @@ ghost use Rattle.interp.specs.Threads.{meaning_in};
 use crate::fault::ReplayFault;
 use interp::Thread;
 use replay_text::RecordParts;
-use spawn_host::{first_thread, spawnable_threads};
+use spawn_host::{Call, first_thread, spawnable_threads};
 use spawn_host_workers::RunFault;
 use std::alloc::Global;
 use validate::ValidModule;
@@ -45,8 +45,12 @@ fn first_of<'m>(
     ensures first { IfOk result (λ thread. IsFirst meaning_in «module».now.parts parts.now.invoke parts.now.args parts.now.fuel thread) }
     ensures fault { IfErr result (λ fault. IsCallFault «module».now.parts parts.now fault) }
 {
-    let (entry, args) = (parts.invoke.as_str(), parts.args.as_slice());
-    match first_thread(alloc, module, entry, args, parts.fuel) {
+    let call = Call {
+        name: parts.invoke.as_str(),
+        args: parts.args.as_slice(),
+        fuel: parts.fuel,
+    };
+    match first_thread(alloc, module, call) {
         Ok(thread) => Ok(thread),
         Err(RunFault::UnknownExport) => Err(ReplayFault::Line(INVOKE_LINE)),
         Err(RunFault::WrongArguments) => Err(ReplayFault::Line(ARGS_LINE)),

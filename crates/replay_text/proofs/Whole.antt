@@ -210,7 +210,7 @@ abbrev pages_text : ℕ → List ℕ → List ℕ
 pages_text = behind_text (codes "pages ") ended
 
 pages_law : Law pages_text (λ n. n ≤ most_pages) pages_at
-pages_law = behind_law (codes "pages ") _ _ _ (number_law 64 10 [] (omega arith) refl)
+pages_law = behind_law (codes "pages ") _ _ _ (number_law most_pages 10 [] (omega arith) refl)
 
 abbrev Ends : Type 0
 Ends = List ThreadReport × ℕ

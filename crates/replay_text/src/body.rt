@@ -11,7 +11,7 @@ use crate::entry::EntryLine;
 use crate::fault::RecordFault;
 use replay_forms::{after, number_then, several};
 use std::alloc::Global;
-use types::{Entry, MOST_THREADS, PAST_LIMIT, Sequence, ThreadReport};
+use types::{Entry, MOST_PAGES, MOST_THREADS, PAST_LIMIT, Sequence, ThreadReport};
 
 /// The ends of the threads, and the pages after the run.
 #[derive(Drop)]
@@ -43,7 +43,7 @@ fn pages_at(bytes: &[u8]) -> Option<(u32, &[u8])>
     ensures { Reads (λ r. (r.0, r.1.now)) result (pages_at bytes.now) }
 {
     let rest = after(b"pages ", bytes)?;
-    let (pages, rest) = number_then(64, b"\n", rest)?;
+    let (pages, rest) = number_then(MOST_PAGES as u64, b"\n", rest)?;
     Some((pages as u32, rest))
 }
 

@@ -6,7 +6,7 @@ ghost use Rattle.replay_text.specs.Reading.{trap_of, stop_of, result_at, trap_at
 
 use crate::value::value_at;
 use replay_forms::{Item, after, number_then};
-use types::{MOST_SPAWNED, Outcome, Stop, ThreadReport, Trap};
+use types::{MOST_FUEL, MOST_SPAWNED, Outcome, Stop, ThreadReport, Trap};
 
 fn trap_of(number: u64) -> Option<Trap>
     ensures { result ≡ trap_of number }
@@ -87,7 +87,7 @@ fn end_at(thread: usize, bytes: &[u8]) -> Option<(ThreadReport, &[u8])>
     let rest = after(b"end ", bytes)?;
     let (number, rest) = number_then(MOST_SPAWNED as u64, b" ", rest)?;
     let (outcome, rest) = outcome_at(rest)?;
-    let (spent, rest) = number_then(1_000_000_000_000, b"\n", rest)?;
+    let (spent, rest) = number_then(MOST_FUEL, b"\n", rest)?;
     if number as usize == thread {
         Some((ThreadReport { outcome, spent }, rest))
     } else {

@@ -10,7 +10,7 @@ use crate::fault::RecordFault;
 use crate::value::Argument;
 use replay_forms::{HexByte, after, number_then, several};
 use std::alloc::Global;
-use types::{MOST_LIMIT, Name, Sequence, Value};
+use types::{MOST_FUEL, MOST_LIMIT, Name, Sequence, Value};
 
 /// What the first five lines say.
 #[derive(Drop)]
@@ -73,7 +73,7 @@ fn fuel_at(bytes: &[u8]) -> Option<(u64, &[u8])>
     ensures { Reads (λ r. (r.0, r.1.now)) result (fuel_at bytes.now) }
 {
     let rest = after(b"fuel ", bytes)?;
-    number_then(1_000_000_000_000, b"\n", rest)
+    number_then(MOST_FUEL, b"\n", rest)
 }
 
 fn limit_at(bytes: &[u8]) -> Option<(u32, &[u8])>

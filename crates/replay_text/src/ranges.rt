@@ -34,7 +34,7 @@ fn is_entry(entry: Entry) -> bool
 fn is_report(report: ThreadReport) -> bool
     ensures { IsTrue result ↔ IsReport report }
 {
-    report.spent <= 1_000_000_000_000
+    report.spent <= MOST_FUEL
 }
 
 fn are_values(values: &[Value]) -> bool

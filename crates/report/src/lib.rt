@@ -12,4 +12,4 @@ mod tests;
 pub use job::{check, perform, replay_saved};
 pub use loading::{Refusal, load};
 pub use report_command::{Job, Usage, command};
-pub use report_runs::{EndState, RecordRunFault, record_run, run_on_words};
+pub use report_runs::{Call, EndState, RecordRunFault, record_run, run_on_words};

@@ -7,7 +7,8 @@ use crate::args::read_args;
 use interp_trait::OpenGate;
 use replay_text::{Record, write_record};
 use report_lines::write_end;
-use report_runs::{EndState, RecordRunFault, record_run, run_on_words};
+use report_runs::{Call, EndState, RecordRunFault, record_run, run_on_words};
+use spawn_host::own_function;
 use spawn_host_workers::RunFault;
 use std::alloc::{AllocError, Global};
 use std::io::{self, Write};
@@ -72,13 +73,10 @@ impl From<RecordRunFault> for Trouble {
 
 /// The values of the arguments of an exported function.
 fn args_of(alloc: Global, module: &ValidModule, wanted: &Wanted) -> Result<Vec<Value>, Trouble> {
-    let Some(own) = module.exported(wanted.invoke) else {
+    let Some(function) = own_function(module, wanted.invoke) else {
         return Err(Trouble::UnknownExport);
     };
-    let Some(func_type) = module.func_type(own) else {
-        return Err(Trouble::UnknownExport);
-    };
-    match read_args(alloc, func_type.params.as_slice(), wanted.args)? {
+    match read_args(alloc, function.func_type.params.as_slice(), wanted.args)? {
         Some(args) => Ok(args),
         None => Err(Trouble::WrongArguments),
     }
@@ -101,12 +99,16 @@ where
     ensures { IfOk result (λ status. status ≤ 1) }
 {
     let args = args_of(alloc, module, wanted)?;
-    let (invoke, fuel, limit) = (wanted.invoke, wanted.fuel, wanted.limit);
+    let call = Call {
+        name: wanted.invoke,
+        args: &args,
+        fuel: wanted.fuel,
+    };
     if wanted.on_words {
-        let end = run_on_words(rt, alloc, module, invoke, &args, fuel, &OpenGate)?;
+        let end = run_on_words(rt, alloc, module, call, &OpenGate)?;
         return print(out, &end, wanted.dump);
     }
-    let (record, end) = record_run(rt, alloc, module, invoke, &args, fuel, limit, &OpenGate)?;
+    let (record, end) = record_run(rt, alloc, module, call, wanted.limit, &OpenGate)?;
     let status = print(out, &end, wanted.dump)?;
     if wanted.save.is_some() {
         keep(&record, save)?;

@@ -47,7 +47,7 @@ abbrev pub Knows : Caller → List Entry → Type 0
 Knows c log = IsPrefix c.seen log × (entries_of c.name log ≡ entries_of c.name c.seen)
 
 small_or_large : (n : ℕ) → (n < seat_count) ⊎ (seat_count ≤ n)
-small_or_large n = elim (cases_Bool (nat_lt n 17)) [
+small_or_large n = elim (cases_Bool (nat_lt n seat_count)) [
   | inl h ↦ inl (search arith)
   | inr h ↦ inr (search arith)
 ]

@@ -3,11 +3,10 @@ use Rattle.std.specs.Prelude.{ℕ, ◌≡◌, Bool, true, false, List, Option, S
 use Rattle.types.specs.declared.value.Value.{Value}
 use Rattle.types.specs.declared.event.Entry.{Entry}
 use Rattle.types.specs.declared.parts.Parts.{Parts}
-use Rattle.shared_memory.specs.Memory.{Memory, pages}
+use Rattle.shared_memory.specs.Memory.{pages}
 use Rattle.shared_memory.specs.History.{memory_after}
-use Rattle.spawn_host.specs.Runs.{opening_memory, Beginning, start_by, IsRunHistory}
+use Rattle.spawn_host.specs.Runs.{opening_memory, IsRunHistory}
 use Rattle.replay_text.specs.declared.parts.RecordParts.{RecordParts}
-use Rattle.replay_rules.specs.Recorded.{IsRecordedRun}
 use Rattle.replay_rules.specs.Ranges.{IsLimited}
 use Rattle.replay.specs.declared.end.EndState.{EndState}
 

@@ -7,4 +7,5 @@ mod words;
 
 pub use recording::{RecordRunFault, record_run};
 pub use replay::EndState;
+pub use spawn_host::Call;
 pub use words::run_on_words;

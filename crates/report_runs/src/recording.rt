@@ -11,7 +11,7 @@ use locked_recorder::{LockedRecorder, Naming, Prepared};
 use replay::EndState;
 use replay_text::{Record, RecordParts};
 use shared_memory_sequential::OpenFault;
-use spawn_host::run;
+use spawn_host::{Call, run};
 use spawn_host_workers::RunFault;
 use std::alloc::{AllocError, Global};
 use std::marker::Brand;
@@ -61,11 +61,12 @@ impl From<RunFault> for RecordRunFault {
 struct Header {
     invoke: Name,
     args: Sequence<Value>,
+    fuel: u64,
     ends: Vec<ThreadReport>,
 }
 
 /// Runs an exported function over a new memory that records, and gives the record of the run, and what the run leaves. The
-/// limit is 1 to 1,000,000 entries, and the fuel 0 to 1,000,000,000,000 units.
+/// limit is 1 to 1,000,000 entries, and the fuel of the call 0 to 1,000,000,000,000 units.
 ///
 /// There is one history that all threads saw: the record's log. It is legal for the memory and for the wait queue; each
 /// thread's report follows from its own entries in it; and one thread that steps all threads along it comes to the same
@@ -78,22 +79,21 @@ pub fn record_run<G, R>(
     rt: &R,
     alloc: Global,
     module: &ValidModule,
-    entry: &str,
-    args: &[Value],
-    fuel: u64,
+    call: Call,
     limit: u32,
     gate: &G,
 ) -> Result<(Record, EndState), RecordRunFault>
 where
     G: Gate + Sync,
     R: Threads + Wait + Sync,
-    ensures record { IfOk result (λ r. RecordsRun «module».now.parts entry.now args.now fuel limit r.0 r.1) }
+    ensures record { IfOk result (λ r. RecordsRun «module».now.parts call.entry.name.now call.entry.args.now call.entry.fuel
+        limit r.0 r.1) }
     ensures run { IfOk result (λ r. IsRunOf «module».now.parts r.0 r.1) }
 {
-    if fuel > MOST_FUEL {
+    if call.fuel > MOST_FUEL {
         return Err(RecordRunFault::Fuel);
     }
-    let (parts, end) = run_recorded(rt, alloc, module, entry, args, fuel, limit, gate)?;
+    let (parts, end) = run_recorded(rt, alloc, module, call, limit, gate)?;
     match Record::new(parts) {
         Ok(record) => Ok((record, end)),
         Err(parts) => {
@@ -109,25 +109,24 @@ fn run_recorded<G, R>(
     rt: &R,
     alloc: Global,
     module: &ValidModule,
-    entry: &str,
-    args: &[Value],
-    fuel: u64,
+    call: Call,
     limit: u32,
     gate: &G,
 ) -> Result<(RecordParts, EndState), RecordRunFault>
 where
     G: Gate + Sync,
     R: Threads + Wait + Sync,
-    ensures { IfOk result (λ r. RecordsRun «module».now.parts entry.now args.now fuel limit r.0 r.1) }
+    ensures { IfOk result (λ r. RecordsRun «module».now.parts call.entry.name.now call.entry.args.now call.entry.fuel limit r.0 r.1) }
 {
     let header = Header {
-        invoke: Name::from_string(String::from_str(alloc, entry)?),
-        args: Sequence::from_vec(Vec::from_slice(alloc, args)?),
+        invoke: Name::from_string(String::from_str(alloc, call.name)?),
+        args: Sequence::from_vec(Vec::from_slice(alloc, call.args)?),
+        fuel: call.fuel,
         ends: Vec::with_capacity(alloc, MOST_THREADS)?,
     };
     let image = module.image(alloc)?;
     let prepared = Prepared::new(alloc, &image, module.pages_max(), limit)?;
-    record_named::<Brand, _, _>(rt, alloc, module, prepared, header, fuel, limit, gate)
+    record_named::<Brand, _, _>(rt, alloc, module, prepared, header, limit, gate)
 }
 
 /// The same, over a recorder whose type has been named.
@@ -137,7 +136,6 @@ fn record_named<B, G, R>(
     module: &ValidModule,
     prepared: Prepared,
     header: Header,
-    fuel: u64,
     limit: u32,
     gate: &G,
 ) -> Result<(RecordParts, EndState), RecordRunFault>
@@ -153,16 +151,21 @@ where
     requires range { (1 ≤ limit) × (limit ≤ most_limit) }
     requires ends { header.ends.items ≡ [] }
     requires room { most_threads ≤ vec_capacity header.ends }
-    ensures { IfOk result (λ r. RecordsRun «module».now.parts header.invoke header.args fuel limit r.0 r.1) }
+    ensures { IfOk result (λ r. RecordsRun «module».now.parts header.invoke header.args header.fuel limit r.0 r.1) }
 {
     let Header {
         invoke,
         args,
+        fuel,
         mut ends,
     } = header;
     let (memory, seats) = LockedRecorder::<B, &R>::open(alloc, rt, prepared)?;
-    let (entry, given) = (invoke.as_str(), args.as_slice());
-    let end = run(rt, alloc, module, entry, given, fuel, &memory, seats, gate)?;
+    let call = Call {
+        name: invoke.as_str(),
+        args: args.as_slice(),
+        fuel,
+    };
+    let end = run(rt, alloc, module, call, &memory, seats, gate)?;
     let finished = memory.finish(end.seats);
     copy_reports(&end.threads, &mut ends);
     let parts = RecordParts {

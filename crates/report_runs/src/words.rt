@@ -6,16 +6,16 @@ ghost use Rattle.report_runs.specs.Ends.{EndsRunOnWords};
 use crate::recording::RecordRunFault;
 use interp_trait::Gate;
 use replay::EndState;
-use spawn_host::run;
+use spawn_host::{Call, run};
 use std::alloc::{AllocError, Global};
 use std::marker::Brand;
 use std::sync::Wait;
 use std::thread::Threads;
-use types::{PAGE_SIZE, Value};
+use types::PAGE_SIZE;
 use validate::ValidModule;
 use word_row::{ClosedRow, Naming, Prepared, WordRow};
 
-/// Runs an exported function over a new row of words, and gives what the run leaves. The fuel is 0 to 1,000,000,000,000 units.
+/// Runs an exported function over a new row of words, and gives what the run leaves. The call may have any fuel.
 ///
 /// There is one history that all threads saw, though no memory keeps it: it is legal for the memory and for the wait queue;
 /// each thread's report follows from its own entries in it; and one thread that steps all threads along it comes to the same
@@ -28,32 +28,17 @@ pub fn run_on_words<G, R>(
     rt: &R,
     alloc: Global,
     module: &ValidModule,
-    entry: &str,
-    args: &[Value],
-    fuel: u64,
+    call: Call,
     gate: &G,
 ) -> Result<EndState, RecordRunFault>
 where
     G: Gate + Sync,
     R: Threads + Wait + Sync,
-    ensures { IfOk result (λ end. EndsRunOnWords «module».now.parts entry.now args.now fuel end) }
+    ensures { IfOk result (λ end. EndsRunOnWords «module».now.parts call.entry.name.now call.entry.args.now call.entry.fuel end) }
 {
     let image = module.image(alloc)?;
     let prepared = Prepared::new(alloc, &image, module.pages_max())?;
-    let call = Call {
-        name: entry,
-        args,
-        fuel,
-    };
     run_named::<Brand, _, _>(rt, alloc, module, prepared, call, gate)
-}
-
-/// What is called, with which budget.
-#[derive(Clone, Copy)]
-struct Call<'a> {
-    name: &'a str,
-    args: &'a [Value],
-    fuel: u64,
 }
 
 /// The same, over a row whose type has been named.
@@ -75,8 +60,7 @@ where
     ensures { IfOk result (λ end. EndsRunOnWords «module».now.parts call.entry.name.now call.entry.args.now call.entry.fuel end) }
 {
     let (memory, seats) = WordRow::<B>::open(alloc, prepared)?;
-    let Call { name, args, fuel } = call;
-    let end = run(rt, alloc, module, name, args, fuel, &memory, seats, gate)?;
+    let end = run(rt, alloc, module, call, &memory, seats, gate)?;
     let closed = memory.close(end.seats);
     let pages = closed.pages();
     let bytes = bytes_of(alloc, &closed)?;

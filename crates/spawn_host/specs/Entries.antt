@@ -18,6 +18,10 @@ pub record Exports (m : Parts) (name : List ℕ) (own : ℕ) (t : FuncType) (b :
   pub exported : IsExported m name own
   pub function : IsFunction m own t b
 
+-- It exports none of its own by this name.
+abbrev pub IsUnknown : Parts → List ℕ → Type 0
+IsUnknown m name = (own : ℕ) → IsExported m name own → ⊥
+
 -- The arguments are of the types of the exported function's parameters, in number and order;
 pub record Takes (m : Parts) (name : List ℕ) (args : List Value) : Type 0 where
   pub own : ℕ

@@ -4,6 +4,7 @@ ghost use Rattle.types.specs.Limits.{desk_name, seat_count};
 ghost use Rattle.spawn_host.specs.Faults.{IsFaultOf};
 ghost use Rattle.spawn_host.specs.Runs.{opening_memory, IsRun};
 
+use crate::call::Call;
 use crate::threads::{first_thread, spawnable_threads};
 use interp_trait::Gate;
 use shared_memory::SharedMemory;
@@ -11,11 +12,10 @@ use spawn_host_workers::{RunEnd, RunFault, run_all, run_alone};
 use std::alloc::Global;
 use std::sync::Wait;
 use std::thread::Threads;
-use types::Value;
 use validate::ValidModule;
 
 /// Runs an exported function of a module with arguments, and the threads that are spawned meanwhile, each as a real thread over
-/// the memory. Each has the budget `fuel`, in units.
+/// the memory. Each has the budget of the call.
 ///
 /// The memory begins as the module's does. The 17 seats are those of a new memory, in order of their names, and the last has
 /// the queue right.
@@ -28,9 +28,7 @@ pub fn run<M, G, R>(
     rt: &R,
     alloc: Global,
     module: &ValidModule,
-    entry: &str,
-    args: &[Value],
-    fuel: u64,
+    call: Call,
     memory: &M,
     seats: Vec<M::Seat>,
     gate: &G,
@@ -44,15 +42,15 @@ where
     requires names { (k : ℕ) (d : M.Seat) → k < seat_count → M.name (slice_index_or seats.items k d) ≡ k }
     requires new { (k : ℕ) (d : M.Seat) → k < seat_count → M.seen (slice_index_or seats.items k d) ≡ [] }
     requires right { (d : M.Seat) → M.has_queue_right (slice_index_or seats.items desk_name d) ≡ true }
-    ensures run { IfOk result (λ end. IsRun «module».now.parts entry.now args.now fuel M.LOSES (M.limit memory.now) M.name M.seen
-        end.threads.items end.seats.items) }
-    ensures fault { IfErr result (λ fault. IsFaultOf «module».now.parts entry.now args.now fault) }
+    ensures run { IfOk result (λ end. IsRun «module».now.parts call.entry.name.now call.entry.args.now call.entry.fuel
+        M.LOSES (M.limit memory.now) M.name M.seen end.threads.items end.seats.items) }
+    ensures fault { IfErr result (λ fault. IsFaultOf «module».now.parts call.entry.name.now call.entry.args.now fault) }
 {
-    let first = first_thread(alloc, module, entry, args, fuel)?;
+    let first = first_thread(alloc, module, call)?;
     if !module.starts_threads() {
         return run_alone(rt, alloc, first, memory, seats, gate);
     }
-    let Ok(spawned) = spawnable_threads(alloc, module, fuel) else {
+    let Ok(spawned) = spawnable_threads(alloc, module, call.fuel) else {
         return Err(RunFault::NoMemory);
     };
     run_all(rt, alloc, first, spawned, memory, seats, gate)

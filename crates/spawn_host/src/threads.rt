@@ -10,11 +10,13 @@ ghost use Rattle.spawn_host.specs.Faults.{IsFaultOf};
 ghost use Rattle.spawn_host.specs.Threads.{IsCall, IsFirst, AreSpawnable};
 ghost use Rattle.interp.specs.Threads.{meaning_in};
 
+use crate::call::Call;
+use crate::exports::own_function;
 use crate::fit::fit;
 use interp::Thread;
 use spawn_host_workers::RunFault;
 use std::alloc::{AllocError, Global};
-use types::{FuncType, MOST_SPAWNED, Value};
+use types::{MOST_FUNCTIONS, MOST_ITEMS, MOST_SPAWNED, Value};
 use validate::ValidModule;
 
 /// What stands in place of a spawned thread's number and argument.
@@ -27,7 +29,7 @@ fn index_of(valid: &ValidModule, own: usize) -> u32
     ensures { result ≡ length (imported_functions valid.now.parts) + own }
 {
     let parts = valid.parts();
-    prove!(parts.imports.len() <= 1_000 && parts.functions.len() <= 10_000);
+    prove!(parts.imports.len() <= MOST_ITEMS && parts.functions.len() <= MOST_FUNCTIONS);
     (valid.imported_functions() + own) as u32
 }
 
@@ -47,37 +49,23 @@ fn calling<'m>(
     Thread::new(alloc, valid, index_of(valid, own), args, fuel)
 }
 
-/// The type of a function of the module itself.
-fn func_type(valid: &ValidModule, own: usize) -> &FuncType
-    requires { own < length valid.now.parts.functions }
-    ensures { (body : Body) × IsFunction valid.now.parts own result.now body }
-{
-    let parts = valid.parts();
-    prove!(parts.functions.len() == parts.bodies.len());
-    let Some(func_type) = valid.func_type(own) else {
-        unreachable!()
-    };
-    func_type
-}
-
 /// Thread 0: it is about to call the exported function with the arguments.
 pub fn first_thread<'m>(
     alloc: Global,
     valid: &'m ValidModule,
-    entry: &str,
-    args: &[Value],
-    fuel: u64,
+    call: Call,
 ) -> Result<Thread<'m>, RunFault>
-    ensures first { IfOk result (λ thread. IsFirst meaning_in valid.now.parts entry.now args.now fuel thread) }
-    ensures fault { IfErr result (λ fault. IsFaultOf valid.now.parts entry.now args.now fault) }
+    ensures first { IfOk result (λ thread. IsFirst meaning_in valid.now.parts call.entry.name.now call.entry.args.now
+        call.entry.fuel thread) }
+    ensures fault { IfErr result (λ fault. IsFaultOf valid.now.parts call.entry.name.now call.entry.args.now fault) }
 {
-    let Some(own) = valid.exported(entry) else {
+    let Some(function) = own_function(valid, call.name) else {
         return Err(RunFault::UnknownExport);
     };
-    if !fit(args, func_type(valid, own).params.as_slice()) {
+    if !fit(call.args, function.func_type.params.as_slice()) {
         return Err(RunFault::WrongArguments);
     }
-    let Ok(thread) = calling(alloc, valid, own, args, fuel) else {
+    let Ok(thread) = calling(alloc, valid, function.own, call.args, call.fuel) else {
         return Err(RunFault::NoMemory);
     };
     Ok(thread)

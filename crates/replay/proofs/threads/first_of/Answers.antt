@@ -5,4 +5,4 @@ use Rattle.replay.proofs.threads.first_of.Goals as goal
 pub returns-in-Err-UnknownExport-clause-fault : goal.returns-in-Err-UnknownExport-clause-fault
 returns-in-Err-UnknownExport-clause-fault c =
     let none = rw c.in-Err-UnknownExport.field-0-is at c.in-Err-UnknownExport.ensures.fault in
-    inl (refl, λ own x. none own (subst (λ (name : List ℕ). IsExported c.args.module.now.parts name own) (sym c.as_str-entry.ensures) x))
+    inl (refl, λ own x. none own (subst (λ (name : List ℕ). IsExported c.args.module.now.parts name own) (sym c.as_str.ensures) x))

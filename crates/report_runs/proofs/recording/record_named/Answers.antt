@@ -39,8 +39,8 @@ returns g c =
       limited = limited_by _ log _ c.from_vec.ensures c.requires.bound c.requires.range c.finish-finished.ensures.bounds
           c.finish-finished.ensures.record.seen.entries;
       ends_run =
-          the_same c.args.module.now.parts c.args.fuel false _ _ _ _ _ _ _ log c.from_vec.result c.as_str-entry.ensures
-          c.as_slice-given.ensures (ap Some c.requires.bound) (sym c.from_vec.ensures)
+          the_same c.args.module.now.parts c.args.header.fuel false _ _ _ _ _ _ _ log c.from_vec.result c.as_str.ensures
+          c.as_slice.ensures (ap Some c.requires.bound) (sym c.from_vec.ensures)
           (leaves (λ s. s.caller) (λ s. Begins s.caller log) _ _ _ _ _ _ c.in_ok-end.end.seats.items log _
           c.in_ok-end.ensures.run c.finish-finished.ensures.record.others
           (λ s b. (b.begins, b.own)) c.finish-finished.ensures.seats

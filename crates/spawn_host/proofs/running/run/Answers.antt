@@ -10,12 +10,12 @@ use Rattle.spawn_host.proofs.running.run.Goals as goal
 pub run_alone-requires-clause-here : goal.run_alone-requires-clause-here
 run_alone-requires-clause-here g c κs within =
     let f = c.in_ok-first.ensures.first in
-    (Runs (At (start_of c.args.module.now.parts f.takes.func_type f.takes.body c.args.args.now)) c.args.fuel, f.call.stands_so, tt)
+    (Runs (At (start_of c.args.module.now.parts f.takes.func_type f.takes.body c.args.call.args.now)) c.args.call.fuel, f.call.stands_so, tt)
 
 pub run_all-requires-clause-here : goal.run_all-requires-clause-here
 run_all-requires-clause-here g c κs within =
     let f = c.in_ok-first.ensures.first in
-    (Runs (At (start_of c.args.module.now.parts f.takes.func_type f.takes.body c.args.args.now)) c.args.fuel, f.call.stands_so, tt)
+    (Runs (At (start_of c.args.module.now.parts f.takes.func_type f.takes.body c.args.call.args.now)) c.args.call.fuel, f.call.stands_so, tt)
 
 pub run_all-requires-clause-begins : goal.run_all-requires-clause-begins
 run_all-requires-clause-begins g c κs within = λ k d lt.
@@ -26,14 +26,14 @@ run_all-requires-clause-begins g c κs within = λ k d lt.
 pub returns-then-not-starts_threads-clause-run : goal.returns-then-not-starts_threads-clause-run
 returns-then-not-starts_threads-clause-run g c =
     let m = g.M.SharedMemory in
-    lone_result m.LOSES m.opening (m.limit c.args.memory.now) m.name m.seen meaning_in c.in_ok-first.first c.args.module.now.parts c.args.entry.now
-    c.args.args.now c.args.fuel c.requires.opening (λ starts. absurd (cc (c.if-not-starts_threads.ensures.1 starts)))
+    lone_result m.LOSES m.opening (m.limit c.args.memory.now) m.name m.seen meaning_in c.in_ok-first.first c.args.module.now.parts c.args.call.name.now
+    c.args.call.args.now c.args.call.fuel c.requires.opening (λ starts. absurd (cc (c.if-not-starts_threads.ensures.1 starts)))
     c.in_ok-first.ensures.first c.run_alone.result c.run_alone.ensures.composed
 
 pub returns-clause-run : goal.returns-clause-run
 returns-clause-run g c =
     let m = g.M.SharedMemory in
     threaded_result m.LOSES m.opening (m.limit c.args.memory.now) m.name m.seen meaning_in c.in_ok-first.first c.in-Ok.spawned.items
-    c.args.module.now.parts c.args.entry.now c.args.args.now _ c.args.fuel c.requires.opening
+    c.args.module.now.parts c.args.call.name.now c.args.call.args.now _ c.args.call.fuel c.requires.opening
     (c.if-not-starts_threads.ensures.0 refl) c.in_ok-first.ensures.first c.in-Ok.ensures c.run_all.result
     c.run_all.ensures.composed

@@ -1,6 +1,6 @@
 use Rattle.std.proofs.Common.{arith}
 use Rattle.spawn_host.proofs.Calling.{is_there}
-use Rattle.spawn_host.proofs.threads.func_type.Goals as goal
+use Rattle.spawn_host.proofs.exports.func_type.Goals as goal
 
 pub returns : goal.returns
 returns c =
