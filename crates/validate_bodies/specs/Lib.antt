@@ -1,3 +1,5 @@
 pub mod Scope
+pub mod Kinds
 pub mod Blocks
 pub mod Passes
+pub mod Refused
