@@ -6,3 +6,5 @@ pub mod Fitting
 pub mod Labels
 pub mod Passes
 pub mod Whole
+pub mod Onward
+pub mod Stuck
