@@ -5,6 +5,7 @@ pub mod Moves
 pub mod Fitting
 pub mod Labels
 pub mod Passes
+pub mod Endings
 pub mod Whole
 pub mod Onward
 pub mod Stuck
