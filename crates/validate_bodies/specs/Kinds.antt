@@ -1,6 +1,6 @@
 -- Which fault is answered of an instruction that is refused: of what it names, in order, then of its alignment, and else of its
 -- operands.
-use Rattle.std.specs.Prelude.{ℕ, ◌≡◌, ◌^◌, if◌then◌else◌, List, [], ◌∷◌, ◌++◌, Bool, nat_le, nat_eq, Option, Some, None, is_some}
+use Rattle.std.specs.Prelude.{ℕ, ◌^◌, if◌then◌else◌, List, ◌∷◌, Bool, nat_le, nat_eq, Option, Some, None, is_some}
 use Rattle.std.specs.List.{slice_get, list_all}
 use Rattle.types.specs.declared.value.ValType.{ValType}
 use Rattle.types.specs.declared.instr.PlainInstr.{PlainInstr}

@@ -37,7 +37,11 @@ fn check_alignment(arg: MemArg, bytes: u8) -> Result<(), Problem>
     let Some(alignment) = alignment_of(arg) else {
         return Err(MISALIGNED);
     };
-    if alignment <= bytes { Ok(()) } else { Err(MISALIGNED) }
+    if alignment <= bytes {
+        Ok(())
+    } else {
+        Err(MISALIGNED)
+    }
 }
 
 /// An atomic access is aligned to its width exactly.
@@ -49,7 +53,11 @@ fn check_exact_alignment(arg: MemArg, bytes: u8) -> Result<(), Problem>
     let Some(alignment) = alignment_of(arg) else {
         return Err(MISALIGNED);
     };
-    if alignment == bytes { Ok(()) } else { Err(MISALIGNED) }
+    if alignment == bytes {
+        Ok(())
+    } else {
+        Err(MISALIGNED)
+    }
 }
 
 /// A plain load.

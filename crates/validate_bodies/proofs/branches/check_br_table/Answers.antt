@@ -34,8 +34,8 @@ returns-in_err-need_labels c =
     (refused_missing (context_of c.args.scope.now) labels (plain.BrTable c.args.indices.now c.args.default_index) c.args.block.now _ UnknownLabel c.in_err-need_labels.ensures.0
     (no_label_kind (types_of labels) ks c.args.default_index carried found lost)
     (λ ts us x.
-        let never : true ≡ false = sym (all_there (types_of labels) x.0 ks (all_front (Carry labels x.0) ks c.args.default_index x.1)) ∙ lost in
-        cc))
+    let never : true ≡ false = sym (all_there (types_of labels) x.0 ks (all_front (Carry labels x.0) ks c.args.default_index x.1)) ∙ lost in
+    cc))
 
 pub returns-in_err-table_row : goal.returns-in_err-table_row
 returns-in_err-table_row c =

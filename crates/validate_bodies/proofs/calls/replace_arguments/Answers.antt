@@ -1,5 +1,4 @@
-use Rattle.std.proofs.lemmas.Result.{on_ok_weaker}
-use Rattle.validate_bodies.proofs.Moves.{moved, lacks_cant, moving, at_exit}
+use Rattle.validate_bodies.proofs.Moves.{lacks_cant, moving, at_exit}
 use Rattle.std.proofs.Common.{reverse}
 use Rattle.validate_bodies.proofs.calls.replace_arguments.Goals as goal
 

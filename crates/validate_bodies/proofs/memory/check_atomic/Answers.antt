@@ -2,7 +2,6 @@ use Rattle.std.proofs.Common.{refl}
 use Rattle.types.specs.declared.instr.PlainInstr.TheVariants as plain
 use Rattle.validate_bodies.specs.Scope.{context_of}
 use Rattle.validate_bodies.proofs.Fitting.{inside, missing_inside, never_found, exact_kind, inexact_kind}
-use Rattle.std.proofs.Common.{rules}
 use Rattle.types.specs.Widths.{atomic_bytes}
 use Rattle.validate_typing.specs.declared.fault.Fault.TheVariants.{UnknownMemory, Alignment}
 use Rattle.validate_typing.specs.Typing.{IsExactlyAligned}
