@@ -1,6 +1,7 @@
--- What is known of an open block and its operands.
-use Rattle.std.specs.Prelude.{◌≡◌, List, [], ◌∷◌, ◌++◌, map, reverse, Option, Some, None, Bool, true, false}
+-- What is known of an open block and its operands, and what an instruction does to it or why it is refused.
+use Rattle.std.specs.Prelude.{◌≡◌, ℕ, List, [], ◌∷◌, ◌++◌, map, reverse, Option, Some, None, Bool, true, false, Result, MatchResult}
 use Rattle.std.specs.Bool.{⊤}
+use Rattle.std.specs.List.{slice_get, All}
 use Rattle.types.specs.declared.value.ValType.{ValType}
 use Rattle.types.specs.declared.instr.PlainInstr.{PlainInstr}
 use Rattle.validate_typing.specs.declared.target.Target.{Target}
@@ -11,6 +12,10 @@ use Rattle.validate_bodies.specs.declared.block.Flow.{Flow}
 use Rattle.validate_bodies.specs.declared.block.Flow.TheVariants.{Live, Idle, Free}
 use Rattle.validate_bodies.specs.declared.block.BlockLabel.{BlockLabel}
 use Rattle.validate_bodies.specs.declared.block.OpenBlock.{OpenBlock}
+use Rattle.validate_bodies.specs.declared.problem.Problem.{Problem}
+use Rattle.validate_bodies.specs.declared.problem.Problem.TheVariants as problems
+use Rattle.validate_typing.specs.declared.fault.Fault.TheVariants as faults
+use Rattle.validate_bodies.specs.Kinds.{kind_of, are_labels}
 
 abbrev pub is_live : Flow → Bool
 is_live Live = true
@@ -44,23 +49,26 @@ label_of block = as_label block.shape.label
 abbrev pub labels_at : OpenBlock → List OpenBlock → List FlatLabel
 labels_at block outer = map label_of (block ∷ reverse outer)
 
--- Operands of these types were taken from the block.
+-- Operands of these types were taken from the block: `known` leads from what is left back to what was there, `kept` onward.
 pub record Takes (ts : List ValType) (old new : OpenBlock) : Type 0 where
   pub shape : new.shape ≡ old.shape
   pub flow : new.flow ≡ old.flow
   pub known : (us : List ValType) → Known new us → Known old (ts ++ us)
+  pub kept : (us : List ValType) → Known old (ts ++ us) → Known new us
 
 -- Operands of these types were put into the block.
 pub record Puts (ts : List ValType) (old new : OpenBlock) : Type 0 where
   pub shape : new.shape ≡ old.shape
   pub flow : new.flow ≡ old.flow
   pub known : (us : List ValType) → Known new us → (below : List ValType) × (us ≡ ts ++ below) × Known old below
+  pub kept : (us : List ValType) → Known old us → Known new (ts ++ us)
 
 -- An operand of which this is known was taken from the block.
 pub record TakesAny (kind : Option ValType) (old new : OpenBlock) : Type 0 where
   pub shape : new.shape ≡ old.shape
   pub flow : new.flow ≡ old.flow
   pub known : (t : ValType) (us : List ValType) → Matches kind t → Known new us → Known old (t ∷ us)
+  pub kept : (t : ValType) (us : List ValType) → Known old (t ∷ us) → Matches kind t × Known new us
 
 -- An operand of which this is known was put into the block.
 pub record PutsAny (kind : Option ValType) (old new : OpenBlock) : Type 0 where
@@ -68,19 +76,36 @@ pub record PutsAny (kind : Option ValType) (old new : OpenBlock) : Type 0 where
   pub flow : new.flow ≡ old.flow
   pub known : (us : List ValType) → Known new us → (t : ValType) × (below : List ValType) × (us ≡ t ∷ below)
       × Matches kind t × Known old below
+  pub kept : (t : ValType) (us : List ValType) → Matches kind t → Known old us → Known new (t ∷ us)
 
 -- Operands of some types were taken, and of others put.
 pub record Moved (takes gives : List ValType) (old new : OpenBlock) : Type 0 where
   pub shape : new.shape ≡ old.shape
   pub flow : new.flow ≡ old.flow
   pub known : (us : List ValType) → Known new us → (ts : List ValType) × Known old ts × Moves takes gives ts us
+  pub kept : (ts us : List ValType) → Known old ts → Moves takes gives ts us → Known new us
 
--- An instruction fits between what is known before it and after it, and these are its targets.
+-- Operands of these types can't be taken, whatever is known of the block's.
+abbrev pub Lacks : List ValType → OpenBlock → Problem → Type 0
+Lacks ts old e = (e ≡ problems.Wrong faults.TypeMismatch) × ((us : List ValType) → Known old (ts ++ us) → ⊥)
+
+-- No operand can be taken.
+abbrev pub LacksAny : OpenBlock → Problem → Type 0
+LacksAny old e = (e ≡ problems.Wrong faults.TypeMismatch) × ((t : ValType) (us : List ValType) → Known old (t ∷ us) → ⊥)
+
+-- The same where others are put afterwards, for which memory may run out.
+abbrev pub CantMove : List ValType → OpenBlock → Problem → Type 0
+CantMove ts old problems.OutOfMemory = ⊤
+CantMove ts old (problems.Wrong kind) = (kind ≡ faults.TypeMismatch) × ((us : List ValType) → Known old (ts ++ us) → ⊥)
+
+-- An instruction fits between what is known before it and after it, and these are its targets. From what is known before it leads
+-- `kept` onward.
 pub record Checked (c : Context) (labels : List FlatLabel) (op : PlainInstr) (old new : OpenBlock) (targets : List Target) : Type 0 where
   pub shape : new.shape ≡ old.shape
   pub live : is_live new.flow ≡ goes_on op (is_live old.flow)
   pub fits : (us : List ValType) → Known new us → (ts : List ValType) × Known old ts × Fits c (types_of labels) op ts us
   pub row : IsRow labels (labels_of op) targets
+  pub kept : (ts us : List ValType) → Known old ts → Fits c (types_of labels) op ts us → Known new us
 
 -- An instruction without targets fits, whatever the labels are.
 abbrev pub CheckedInside : Context → PlainInstr → OpenBlock → OpenBlock → Type 0
@@ -89,3 +114,39 @@ CheckedInside c op old new = (labels : List FlatLabel) → Checked c labels op o
 -- An instruction that names nothing fits anywhere.
 abbrev pub CheckedAnywhere : PlainInstr → OpenBlock → OpenBlock → Type 0
 CheckedAnywhere op old new = (c : Context) → CheckedInside c op old new
+
+-- Why an instruction is refused: memory ran out, or it fits nothing of which all this is known before it.
+abbrev pub Refused : Context → List FlatLabel → PlainInstr → OpenBlock → Problem → Type 0
+Refused c labels op old problems.OutOfMemory = ⊤
+Refused c labels op old (problems.Wrong kind) =
+    (kind ≡ kind_of c (types_of labels) op) × ((ts us : List ValType) → Known old ts → Fits c (types_of labels) op ts us → ⊥)
+
+abbrev pub RefusedInside : Context → PlainInstr → OpenBlock → Problem → Type 0
+RefusedInside c op old e = (labels : List FlatLabel) → Refused c labels op old e
+
+abbrev pub RefusedAnywhere : PlainInstr → OpenBlock → Problem → Type 0
+RefusedAnywhere op old e = (c : Context) → RefusedInside c op old e
+
+-- The same of one that asks for no memory.
+abbrev pub CantStandInside : Context → PlainInstr → OpenBlock → Problem → Type 0
+CantStandInside c op old e = (e ≡ problems.Wrong faults.TypeMismatch) × RefusedInside c op old e
+
+abbrev pub CantStand : PlainInstr → OpenBlock → Problem → Type 0
+CantStand op old e = (e ≡ problems.Wrong faults.TypeMismatch) × RefusedAnywhere op old e
+
+-- Of these labels one isn't there, or carries something else.
+abbrev pub Differs : List FlatLabel → List ℕ → List ValType → Problem → Type 0
+Differs labels ks carried problems.OutOfMemory = ⊤
+Differs labels ks carried (problems.Wrong kind) =
+    (are_labels (types_of labels) ks ≡ true → kind ≡ faults.TypeMismatch)
+    × (All (λ k. slice_get (types_of labels) k ≡ Some carried) ks → ⊥)
+
+-- What a check answers.
+abbrev pub Checks : Context → List FlatLabel → PlainInstr → OpenBlock → OpenBlock → List Target → Result (Unit {0}) Problem → Type 0
+Checks c labels op old new targets r = MatchResult r (λ _. Checked c labels op old new targets) (Refused c labels op old)
+
+abbrev pub ChecksInside : Context → PlainInstr → OpenBlock → OpenBlock → Result (Unit {0}) Problem → Type 0
+ChecksInside c op old new r = MatchResult r (λ _. CheckedInside c op old new) (RefusedInside c op old)
+
+abbrev pub ChecksAnywhere : PlainInstr → OpenBlock → OpenBlock → Result (Unit {0}) Problem → Type 0
+ChecksAnywhere op old new r = MatchResult r (λ _. CheckedAnywhere op old new) (RefusedAnywhere op old)

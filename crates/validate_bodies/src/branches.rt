@@ -1,12 +1,14 @@
 //! Instructions that never go on, and branches (Core specification 1.0, section 3.3.5).
 
-ghost use Rattle.std.specs.Prelude.{◌≡◌, [], ◌∷◌, ◌++◌, map, Some, OnOk, IfOk};
+ghost use Rattle.std.specs.Prelude.{◌≡◌, [], Some, OnOk, IfErr, MatchResult, true, false};
 ghost use Rattle.std.specs.List.{slice_get, All};
 ghost use Rattle.types.specs.declared.instr.PlainInstr.TheVariants as plain;
 ghost use Rattle.validate_typing.specs.Typing.{results_of};
 ghost use Rattle.validate_typing.specs.Placed.{types_of, IsRow};
-ghost use Rattle.validate_bodies.specs.Blocks.{Checked, CheckedInside, CheckedAnywhere, as_label, labels_at};
-ghost use Rattle.validate_bodies.specs.Scope.{context_of};
+ghost use Rattle.validate_bodies.specs.Blocks.{Checks, CheckedInside, CheckedAnywhere, CantStandInside, Differs, as_label, labels_at};
+ghost use Rattle.validate_bodies.specs.Kinds.{are_labels};
+ghost use Rattle.validate_typing.specs.declared.fault.Fault.TheVariants as faults;
+ghost use Rattle.validate_bodies.specs.Scope.{context_of, Misses};
 
 use crate::block::{BlockLabel, Flow, OpenBlock};
 use crate::operands::{put_result, take_one, take_result};
@@ -17,7 +19,8 @@ use validate_typing::{Fault, Target};
 
 /// The label with this index: of the innermost block, or of one around it.
 fn find_label(block: &OpenBlock, outer: &[OpenBlock], index: u32) -> Result<BlockLabel, Problem>
-    ensures { IfOk result (λ l. slice_get (labels_at block.now outer.now) index ≡ Some (as_label l)) }
+    ensures { MatchResult result (λ l. slice_get (labels_at block.now outer.now) index ≡ Some (as_label l))
+        (Misses (slice_get (labels_at block.now outer.now) index) faults.UnknownLabel) }
 {
     let index = index as usize;
     if index == 0 {
@@ -41,7 +44,7 @@ fn stop(block: &mut OpenBlock)
 
 /// `unreachable`
 pub fn check_unreachable(block: &mut OpenBlock) -> Result<(), Problem>
-    ensures { OnOk result (CheckedAnywhere plain.Unreachable block.old block.new) }
+    ensures { MatchResult result (λ _. CheckedAnywhere plain.Unreachable block.old block.new) (λ _. ⊥) }
 {
     stop(block);
     Ok(())
@@ -49,7 +52,8 @@ pub fn check_unreachable(block: &mut OpenBlock) -> Result<(), Problem>
 
 /// `return`
 pub fn check_return(scope: &Scope, block: &mut OpenBlock) -> Result<(), Problem>
-    ensures { OnOk result (CheckedInside (context_of scope.now) plain.Return block.old block.new) }
+    ensures { MatchResult result (λ _. CheckedInside (context_of scope.now) plain.Return block.old block.new)
+        (CantStandInside (context_of scope.now) plain.Return block.old) }
 {
     take_result(block, scope.result)?;
     stop(block);
@@ -65,8 +69,7 @@ pub fn check_br(
     row: &mut Vec<Target>,
 ) -> Result<(), Problem>
     requires { row.old.items ≡ [] }
-    ensures { OnOk result (Checked (context_of scope.now) (labels_at block.old outer.now)
-        (plain.Br index) block.old block.new row.new.items) }
+    ensures { Checks (context_of scope.now) (labels_at block.old outer.now) (plain.Br index) block.old block.new row.new.items result }
 {
     let label = find_label(block, outer, index)?;
     take_result(block, label.carries)?;
@@ -84,8 +87,7 @@ pub fn check_br_if(
     row: &mut Vec<Target>,
 ) -> Result<(), Problem>
     requires { row.old.items ≡ [] }
-    ensures { OnOk result (Checked (context_of scope.now) (labels_at block.old outer.now)
-        (plain.BrIf index) block.old block.new row.new.items) }
+    ensures { Checks (context_of scope.now) (labels_at block.old outer.now) (plain.BrIf index) block.old block.new row.new.items result }
 {
     let label = find_label(block, outer, index)?;
     take_one(block, ValType::I32)?;
@@ -108,6 +110,7 @@ fn table_row(
     ensures row { OnOk result (IsRow (labels_at block.now outer.now) indices.now row.new.items) }
     ensures carried { OnOk result (All (λ k. slice_get (types_of (labels_at block.now outer.now)) k ≡ Some
         (results_of default.carries)) indices.now) }
+    ensures differs { IfErr result (Differs (labels_at block.now outer.now) indices.now (results_of default.carries)) }
 {
     for index in indices {
         let label = find_label(block, outer, *index)?;
@@ -115,6 +118,17 @@ fn table_row(
             return Err(Problem::Wrong(Fault::TypeMismatch));
         }
         row.push(label.target())?;
+    }
+    Ok(())
+}
+
+/// That there are such labels.
+fn need_labels(block: &OpenBlock, outer: &[OpenBlock], indices: &[u32]) -> Result<(), Problem>
+    ensures { MatchResult result (λ _. are_labels (types_of (labels_at block.now outer.now)) indices.now ≡ true)
+        (λ e. (e ≡ Problem.Wrong Fault.UnknownLabel) × (are_labels (types_of (labels_at block.now outer.now)) indices.now ≡ false)) }
+{
+    for index in indices {
+        find_label(block, outer, *index)?;
     }
     Ok(())
 }
@@ -129,14 +143,12 @@ pub fn check_br_table(
     row: &mut Vec<Target>,
 ) -> Result<(), Problem>
     requires { row.old.items ≡ [] }
-    ensures { OnOk result (Checked (context_of scope.now) (labels_at block.old outer.now)
-        (plain.BrTable indices.now default_index) block.old block.new row.new.items) }
+    ensures { Checks (context_of scope.now) (labels_at block.old outer.now) (plain.BrTable indices.now default_index)
+        block.old block.new row.new.items result }
 {
     let default = find_label(block, outer, default_index)?;
     let indices = indices.as_slice();
-    for index in indices {
-        find_label(block, outer, *index)?;
-    }
+    need_labels(block, outer, indices)?;
     table_row(block, outer, indices, default, row)?;
     row.push(default.target())?;
     take_one(block, ValType::I32)?;

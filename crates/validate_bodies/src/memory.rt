@@ -1,9 +1,9 @@
 //! Memory instructions, plain and atomic (Core specification 1.0, section 3.3.4; threads proposal).
 
-ghost use Rattle.std.specs.Prelude.{◌≡◌, ◌^◌, OnOk, IfSome};
+ghost use Rattle.std.specs.Prelude.{◌≡◌, ◌<◌, ◌≤◌, ◌^◌, MatchOption, MatchResult};
 ghost use Rattle.types.specs.declared.instr.PlainInstr.TheVariants as plain;
 ghost use Rattle.validate_typing.specs.Typing.{atomic_takes, atomic_gives, results_of, HasMemory, IsAligned, IsExactlyAligned};
-ghost use Rattle.validate_bodies.specs.Blocks.{Moved, CheckedInside};
+ghost use Rattle.validate_bodies.specs.Blocks.{Moved, CantMove, ChecksInside};
 ghost use Rattle.validate_bodies.specs.Scope.{context_of};
 
 use crate::block::OpenBlock;
@@ -13,9 +13,11 @@ use crate::scope::Scope;
 use types::{AccessWidth, AtomicOp, LoadOp, MemArg, ValType};
 use validate_typing::Fault;
 
+const MISALIGNED: Problem = Problem::Wrong(Fault::Alignment);
+
 /// The bytes of an alignment, where they are 8 at most.
 fn alignment_of(arg: MemArg) -> Option<u8>
-    ensures { IfSome result (λ bytes. 2 ^ arg.align ≡ bytes) }
+    ensures { MatchOption result (3 < arg.align) (λ bytes. 2 ^ arg.align ≡ bytes) }
 {
     match arg.align {
         0 => Some(1),
@@ -27,22 +29,34 @@ fn alignment_of(arg: MemArg) -> Option<u8>
 }
 
 /// A plain access is aligned to its width at most.
+#[tactic(auto, using(crate::proofs::Fitting::wide))]
 fn check_alignment(arg: MemArg, bytes: u8) -> Result<(), Problem>
-    ensures { OnOk result (IsAligned arg bytes) }
+    requires { bytes ≤ 8 }
+    ensures { MatchResult result (λ _. IsAligned arg bytes) (λ e. (e ≡ (Problem.Wrong Fault.Alignment)) × (IsAligned arg bytes → ⊥)) }
 {
-    match alignment_of(arg) {
-        Some(alignment) if alignment <= bytes => Ok(()),
-        _ => Err(Problem::Wrong(Fault::Alignment)),
+    let Some(alignment) = alignment_of(arg) else {
+        return Err(MISALIGNED);
+    };
+    if alignment <= bytes {
+        Ok(())
+    } else {
+        Err(MISALIGNED)
     }
 }
 
 /// An atomic access is aligned to its width exactly.
+#[tactic(auto, using(crate::proofs::Fitting::wide))]
 fn check_exact_alignment(arg: MemArg, bytes: u8) -> Result<(), Problem>
-    ensures { OnOk result (IsExactlyAligned arg bytes) }
+    requires { bytes ≤ 8 }
+    ensures { MatchResult result (λ _. IsExactlyAligned arg bytes) (λ e. (e ≡ (Problem.Wrong Fault.Alignment)) × (IsExactlyAligned arg bytes → ⊥)) }
 {
-    match alignment_of(arg) {
-        Some(alignment) if alignment == bytes => Ok(()),
-        _ => Err(Problem::Wrong(Fault::Alignment)),
+    let Some(alignment) = alignment_of(arg) else {
+        return Err(MISALIGNED);
+    };
+    if alignment == bytes {
+        Ok(())
+    } else {
+        Err(MISALIGNED)
     }
 }
 
@@ -53,7 +67,7 @@ pub fn check_load(
     op: LoadOp,
     arg: MemArg,
 ) -> Result<(), Problem>
-    ensures { OnOk result (CheckedInside (context_of scope.now) (plain.Load op arg) block.old block.new) }
+    ensures { ChecksInside (context_of scope.now) (plain.Load op arg) block.old block.new result }
 {
     scope.need_memory()?;
     check_alignment(arg, op.bytes())?;
@@ -67,7 +81,7 @@ pub fn check_store(
     width: AccessWidth,
     arg: MemArg,
 ) -> Result<(), Problem>
-    ensures { OnOk result (CheckedInside (context_of scope.now) (plain.Store width arg) block.old block.new) }
+    ensures { ChecksInside (context_of scope.now) (plain.Store width arg) block.old block.new result }
 {
     scope.need_memory()?;
     check_alignment(arg, width.bytes())?;
@@ -76,7 +90,7 @@ pub fn check_store(
 
 /// `memory.size`
 pub fn check_memory_size(scope: &Scope, block: &mut OpenBlock) -> Result<(), Problem>
-    ensures { OnOk result (CheckedInside (context_of scope.now) plain.MemorySize block.old block.new) }
+    ensures { ChecksInside (context_of scope.now) plain.MemorySize block.old block.new result }
 {
     scope.need_memory()?;
     replace(block, &[], Some(ValType::I32))
@@ -84,7 +98,7 @@ pub fn check_memory_size(scope: &Scope, block: &mut OpenBlock) -> Result<(), Pro
 
 /// `memory.grow`
 pub fn check_memory_grow(scope: &Scope, block: &mut OpenBlock) -> Result<(), Problem>
-    ensures { OnOk result (CheckedInside (context_of scope.now) plain.MemoryGrow block.old block.new) }
+    ensures { ChecksInside (context_of scope.now) plain.MemoryGrow block.old block.new result }
 {
     scope.need_memory()?;
     replace(block, &[ValType::I32], Some(ValType::I32))
@@ -92,7 +106,8 @@ pub fn check_memory_grow(scope: &Scope, block: &mut OpenBlock) -> Result<(), Pro
 
 /// The operands of an atomic instruction and its result.
 fn replace_atomic(block: &mut OpenBlock, op: AtomicOp) -> Result<(), Problem>
-    ensures { OnOk result (Moved (atomic_takes op) (results_of (atomic_gives op)) block.old block.new) }
+    ensures { MatchResult result (λ _. Moved (atomic_takes op) (results_of (atomic_gives op)) block.old block.new)
+        (CantMove (atomic_takes op) block.old) }
 {
     const ADDRESS: ValType = ValType::I32;
     match op {
@@ -118,7 +133,7 @@ pub fn check_atomic(
     op: AtomicOp,
     arg: MemArg,
 ) -> Result<(), Problem>
-    ensures { OnOk result (CheckedInside (context_of scope.now) (plain.Atomic op arg) block.old block.new) }
+    ensures { ChecksInside (context_of scope.now) (plain.Atomic op arg) block.old block.new result }
 {
     scope.need_memory()?;
     check_exact_alignment(arg, op.bytes())?;

@@ -1,9 +1,9 @@
 //! Numeric instructions (Core specification 1.0, section 3.3.1).
 
-ghost use Rattle.std.specs.Prelude.{◌≡◌, [], ◌∷◌, OnOk};
+ghost use Rattle.std.specs.Prelude.{[], ◌∷◌, MatchResult};
 ghost use Rattle.validate_typing.specs.Typing.{numeric_takes, numeric_gives};
 ghost use Rattle.types.specs.declared.instr.PlainInstr.TheVariants as plain;
-ghost use Rattle.validate_bodies.specs.Blocks.{Moved, CheckedAnywhere};
+ghost use Rattle.validate_bodies.specs.Blocks.{Moved, CantMove, ChecksAnywhere};
 
 use crate::block::OpenBlock;
 use crate::operands::replace;
@@ -12,7 +12,8 @@ use types::{ConvertOp, NumericInstr, ValType};
 
 /// The operands of a numeric instruction and its result.
 fn replace_numbers(block: &mut OpenBlock, instr: NumericInstr) -> Result<(), Problem>
-    ensures { OnOk result (Moved (numeric_takes instr) (numeric_gives instr ∷ []) block.old block.new) }
+    ensures { MatchResult result (λ _. Moved (numeric_takes instr) (numeric_gives instr ∷ []) block.old block.new)
+        (CantMove (numeric_takes instr) block.old) }
 {
     match instr {
         NumericInstr::Const(value) => replace(block, &[], Some(value.val_type())),
@@ -35,7 +36,7 @@ fn replace_numbers(block: &mut OpenBlock, instr: NumericInstr) -> Result<(), Pro
 
 /// A numeric instruction.
 pub fn check_numeric(block: &mut OpenBlock, instr: NumericInstr) -> Result<(), Problem>
-    ensures { OnOk result (CheckedAnywhere (plain.Numeric instr) block.old block.new) }
+    ensures { ChecksAnywhere (plain.Numeric instr) block.old block.new result }
 {
     replace_numbers(block, instr)
 }

@@ -1,8 +1,9 @@
 //! Operands that are taken from a block and put there.
 
-ghost use Rattle.std.specs.Prelude.{◌≡◌, [], ◌∷◌, reverse, OnOk, IfOk};
+ghost use Rattle.std.specs.Prelude.{◌≡◌, [], ◌∷◌, reverse, MatchResult};
 ghost use Rattle.validate_typing.specs.Typing.{results_of};
-ghost use Rattle.validate_bodies.specs.Blocks.{Takes, TakesAny, Puts, PutsAny, Moved};
+ghost use Rattle.validate_bodies.specs.Blocks.{Takes, TakesAny, Puts, PutsAny, Moved, Lacks, LacksAny, CantMove};
+ghost use Rattle.validate_bodies.specs.declared.problem.Problem.TheVariants as problems;
 
 use crate::block::{Flow, OpenBlock};
 use crate::problem::Problem;
@@ -11,7 +12,7 @@ use validate_typing::Fault;
 
 /// Takes an operand of any type, and says which, where that is known.
 pub fn take_any(block: &mut OpenBlock) -> Result<Option<ValType>, Problem>
-    ensures { IfOk result (λ kind. TakesAny kind block.old block.new) }
+    ensures { MatchResult result (λ kind. TakesAny kind block.old block.new) (LacksAny block.old) }
 {
     match block.operands.pop() {
         Some(kind) => Ok(kind),
@@ -27,7 +28,7 @@ pub fn take_any(block: &mut OpenBlock) -> Result<Option<ValType>, Problem>
 
 /// Takes an operand of a type.
 pub fn take_one(block: &mut OpenBlock, wanted: ValType) -> Result<(), Problem>
-    ensures { OnOk result (Takes (wanted ∷ []) block.old block.new) }
+    ensures { MatchResult result (λ _. Takes (wanted ∷ []) block.old block.new) (Lacks (wanted ∷ []) block.old) }
 {
     match take_any(block)? {
         Some(found) if found != wanted => Err(Problem::Wrong(Fault::TypeMismatch)),
@@ -37,7 +38,7 @@ pub fn take_one(block: &mut OpenBlock, wanted: ValType) -> Result<(), Problem>
 
 /// Takes an operand, if there is a type.
 pub fn take_result(block: &mut OpenBlock, wanted: Option<ValType>) -> Result<(), Problem>
-    ensures { OnOk result (Takes (results_of wanted) block.old block.new) }
+    ensures { MatchResult result (λ _. Takes (results_of wanted) block.old block.new) (Lacks (results_of wanted) block.old) }
 {
     match wanted {
         None => Ok(()),
@@ -47,7 +48,7 @@ pub fn take_result(block: &mut OpenBlock, wanted: Option<ValType>) -> Result<(),
 
 /// Takes operands of these types, the topmost first.
 pub fn take_all(block: &mut OpenBlock, wanted: &[ValType]) -> Result<(), Problem>
-    ensures { OnOk result (Takes wanted.now block.old block.new) }
+    ensures { MatchResult result (λ _. Takes wanted.now block.old block.new) (Lacks wanted.now block.old) }
 {
     for val_type in wanted {
         take_one(block, *val_type)?;
@@ -57,7 +58,7 @@ pub fn take_all(block: &mut OpenBlock, wanted: &[ValType]) -> Result<(), Problem
 
 /// Takes arguments of these types, the topmost last.
 pub fn take_params(block: &mut OpenBlock, params: &[ValType]) -> Result<(), Problem>
-    ensures { OnOk result (Takes (reverse params.now) block.old block.new) }
+    ensures { MatchResult result (λ _. Takes (reverse params.now) block.old block.new) (Lacks (reverse params.now) block.old) }
 {
     for val_type in params.iter().rev() {
         take_one(block, *val_type)?;
@@ -67,7 +68,7 @@ pub fn take_params(block: &mut OpenBlock, params: &[ValType]) -> Result<(), Prob
 
 /// Puts an operand, of which this is known.
 pub fn put_any(block: &mut OpenBlock, kind: Option<ValType>) -> Result<(), Problem>
-    ensures { OnOk result (PutsAny kind block.old block.new) }
+    ensures { MatchResult result (λ _. PutsAny kind block.old block.new) (λ e. e ≡ problems.OutOfMemory) }
 {
     block.operands.push(kind)?;
     Ok(())
@@ -75,14 +76,14 @@ pub fn put_any(block: &mut OpenBlock, kind: Option<ValType>) -> Result<(), Probl
 
 /// Puts an operand of a type.
 pub fn put_one(block: &mut OpenBlock, given: ValType) -> Result<(), Problem>
-    ensures { OnOk result (Puts (given ∷ []) block.old block.new) }
+    ensures { MatchResult result (λ _. Puts (given ∷ []) block.old block.new) (λ e. e ≡ problems.OutOfMemory) }
 {
     put_any(block, Some(given))
 }
 
 /// Puts an operand, if there is a type.
 pub fn put_result(block: &mut OpenBlock, given: Option<ValType>) -> Result<(), Problem>
-    ensures { OnOk result (Puts (results_of given) block.old block.new) }
+    ensures { MatchResult result (λ _. Puts (results_of given) block.old block.new) (λ e. e ≡ problems.OutOfMemory) }
 {
     match given {
         None => Ok(()),
@@ -92,7 +93,7 @@ pub fn put_result(block: &mut OpenBlock, given: Option<ValType>) -> Result<(), P
 
 /// Puts operands of these types, the topmost first.
 pub fn put_all(block: &mut OpenBlock, given: &[ValType]) -> Result<(), Problem>
-    ensures { OnOk result (Puts given.now block.old block.new) }
+    ensures { MatchResult result (λ _. Puts given.now block.old block.new) (λ e. e ≡ problems.OutOfMemory) }
 {
     for val_type in given.iter().rev() {
         put_one(block, *val_type)?;
@@ -106,7 +107,7 @@ pub fn replace(
     wanted: &[ValType],
     given: Option<ValType>,
 ) -> Result<(), Problem>
-    ensures { OnOk result (Moved wanted.now (results_of given) block.old block.new) }
+    ensures { MatchResult result (λ _. Moved wanted.now (results_of given) block.old block.new) (CantMove wanted.now block.old) }
 {
     take_all(block, wanted)?;
     put_result(block, given)

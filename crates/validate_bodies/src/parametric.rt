@@ -1,8 +1,8 @@
 //! Instructions that touch no operand, `drop` and `select` (Core specification 1.0, sections 3.3.2 and 3.3.5.1).
 
-ghost use Rattle.std.specs.Prelude.{OnOk};
+ghost use Rattle.std.specs.Prelude.{MatchResult};
 ghost use Rattle.types.specs.declared.instr.PlainInstr.TheVariants as plain;
-ghost use Rattle.validate_bodies.specs.Blocks.{CheckedAnywhere};
+ghost use Rattle.validate_bodies.specs.Blocks.{CheckedAnywhere, ChecksAnywhere, CantStand};
 
 use crate::block::OpenBlock;
 use crate::operands::{put_any, put_one, take_any, take_one};
@@ -11,21 +11,21 @@ use types::ValType;
 
 /// `nop`
 pub fn check_nop(block: &mut OpenBlock) -> Result<(), Problem>
-    ensures { OnOk result (CheckedAnywhere plain.Nop block.old block.new) }
+    ensures { MatchResult result (λ _. CheckedAnywhere plain.Nop block.old block.new) (λ _. ⊥) }
 {
     Ok(())
 }
 
 /// `atomic.fence`
 pub fn check_fence(block: &mut OpenBlock) -> Result<(), Problem>
-    ensures { OnOk result (CheckedAnywhere plain.Fence block.old block.new) }
+    ensures { MatchResult result (λ _. CheckedAnywhere plain.Fence block.old block.new) (λ _. ⊥) }
 {
     Ok(())
 }
 
 /// `drop`
 pub fn check_drop(block: &mut OpenBlock) -> Result<(), Problem>
-    ensures { OnOk result (CheckedAnywhere plain.Drop block.old block.new) }
+    ensures { MatchResult result (λ _. CheckedAnywhere plain.Drop block.old block.new) (CantStand plain.Drop block.old) }
 {
     take_any(block)?;
     Ok(())
@@ -33,7 +33,7 @@ pub fn check_drop(block: &mut OpenBlock) -> Result<(), Problem>
 
 /// `select`: of two operands of one type.
 pub fn check_select(block: &mut OpenBlock) -> Result<(), Problem>
-    ensures { OnOk result (CheckedAnywhere plain.Select block.old block.new) }
+    ensures { ChecksAnywhere plain.Select block.old block.new result }
 {
     take_one(block, ValType::I32)?;
     let first = take_any(block)?;

@@ -1,7 +1,7 @@
 //! Instructions that neither begin, divide nor end a block.
 
-ghost use Rattle.std.specs.Prelude.{◌≡◌, [], OnOk};
-ghost use Rattle.validate_bodies.specs.Blocks.{Checked, CheckedInside, labels_at};
+ghost use Rattle.std.specs.Prelude.{◌≡◌, []};
+ghost use Rattle.validate_bodies.specs.Blocks.{Checks, labels_at};
 ghost use Rattle.validate_bodies.specs.Scope.{context_of};
 
 use crate::block::OpenBlock;
@@ -27,7 +27,7 @@ pub fn check_plain(
     row: &mut Vec<Target>,
 ) -> Result<(), Problem>
     requires { row.old.items ≡ [] }
-    ensures { OnOk result (Checked (context_of scope.now) (labels_at block.old outer.now) instr.now block.old block.new row.new.items) }
+    ensures { Checks (context_of scope.now) (labels_at block.old outer.now) instr.now block.old block.new row.new.items result }
 {
     match instr {
         PlainInstr::Unreachable => check_unreachable(block),

@@ -1,5 +1,9 @@
 //! Why an instruction is refused.
 
+ghost use Rattle.std.specs.Prelude.{◌≡◌};
+ghost use Rattle.validate_bodies.specs.Refused.{fault_at};
+ghost use Rattle.validate_bodies.specs.declared.problem.Problem.TheVariants.{OutOfMemory, Wrong};
+
 use std::alloc::{AllocError, AllocFailed};
 use validate_typing::{Fault, ValidFault};
 
@@ -14,7 +18,9 @@ pub enum Problem {
 
 impl Problem {
     /// The same with its place.
-    pub fn at(self, function: usize, instruction: usize) -> ValidFault {
+    pub fn at(self, function: usize, instruction: usize) -> ValidFault
+        ensures { result ≡ fault_at self function instruction }
+    {
         match self {
             Problem::OutOfMemory => ValidFault::OutOfMemory,
             Problem::Wrong(kind) => ValidFault::InBody {
@@ -27,18 +33,24 @@ impl Problem {
 }
 
 impl From<Fault> for Problem {
+    ghost from_gives = { λ kind e. e ≡ Wrong kind };
+
     fn from(kind: Fault) -> Problem {
         Problem::Wrong(kind)
     }
 }
 
 impl From<AllocError> for Problem {
+    ghost from_gives = { λ _ e. e ≡ OutOfMemory };
+
     fn from(_e: AllocError) -> Problem {
         Problem::OutOfMemory
     }
 }
 
 impl<T: Drop> From<AllocFailed<T>> for Problem {
+    ghost from_gives = { λ _ e. e ≡ OutOfMemory };
+
     fn from(_e: AllocFailed<T>) -> Problem {
         Problem::OutOfMemory
     }

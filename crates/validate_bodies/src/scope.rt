@@ -1,10 +1,11 @@
 //! What the code of a body may name.
 
-ghost use Rattle.std.specs.Prelude.{◌≡◌, Some, IfOk, OnOk};
+ghost use Rattle.std.specs.Prelude.{◌≡◌, Some, MatchResult};
 ghost use Rattle.std.specs.List.{slice_get};
 ghost use Rattle.types.specs.declared.parts.Limits.{Limits};
 ghost use Rattle.validate_typing.specs.Typing.{HasMemory};
-ghost use Rattle.validate_bodies.specs.Scope.{context_of};
+ghost use Rattle.validate_typing.specs.declared.fault.Fault.TheVariants as faults;
+ghost use Rattle.validate_bodies.specs.Scope.{context_of, Misses};
 
 use crate::problem::Problem;
 use types::{FuncType, Global, GlobalType, Limits, ValType};
@@ -35,7 +36,8 @@ pub struct Scope<'m> {
 impl<'m> Scope<'m> {
     /// The type of a local; parameters come first.
     pub fn local(&self, index: u32) -> Result<ValType, Problem>
-        ensures { IfOk result (λ t. slice_get (context_of self.now).locals index ≡ Some t) }
+        ensures { MatchResult result (λ t. slice_get (context_of self.now).locals index ≡ Some t)
+            (Misses (slice_get (context_of self.now).locals index) faults.UnknownLocal) }
     {
         let index = index as usize;
         if index < self.params.len() {
@@ -49,7 +51,8 @@ impl<'m> Scope<'m> {
 
     /// The type of a global.
     pub fn global(&self, index: u32) -> Result<GlobalType, Problem>
-        ensures { IfOk result (λ g. slice_get (context_of self.now).globals index ≡ Some g) }
+        ensures { MatchResult result (λ g. slice_get (context_of self.now).globals index ≡ Some g)
+            (Misses (slice_get (context_of self.now).globals index) faults.UnknownGlobal) }
     {
         match self.declared.globals.get(index as usize) {
             Some(global) => Ok(global.global_type),
@@ -59,7 +62,8 @@ impl<'m> Scope<'m> {
 
     /// A type.
     pub fn func_type(&self, index: u32) -> Result<&'m FuncType, Problem>
-        ensures { IfOk result (λ t. slice_get (context_of self.now).types index ≡ Some t.now) }
+        ensures { MatchResult result (λ t. slice_get (context_of self.now).types index ≡ Some t.now)
+            (Misses (slice_get (context_of self.now).types index) faults.UnknownType) }
     {
         match self.declared.types.get(index as usize) {
             Some(func_type) => Ok(func_type),
@@ -69,7 +73,8 @@ impl<'m> Scope<'m> {
 
     /// The index of a function's type.
     pub fn function(&self, index: u32) -> Result<u32, Problem>
-        ensures { IfOk result (λ t. slice_get (context_of self.now).functions index ≡ Some t) }
+        ensures { MatchResult result (λ t. slice_get (context_of self.now).functions index ≡ Some t)
+            (Misses (slice_get (context_of self.now).functions index) faults.UnknownFunction) }
     {
         match self.declared.functions.get(index as usize) {
             Some(type_index) => Ok(*type_index),
@@ -79,7 +84,8 @@ impl<'m> Scope<'m> {
 
     /// That there is a table.
     pub fn need_table(&self) -> Result<(), Problem>
-        ensures { OnOk result ((l : Limits) × (slice_get (context_of self.now).tables 0 ≡ Some l)) }
+        ensures { MatchResult result (λ _. (l : Limits) × (slice_get (context_of self.now).tables 0 ≡ Some l))
+            (Misses (slice_get (context_of self.now).tables 0) faults.UnknownTable) }
     {
         match self.declared.tables.first() {
             Some(_) => Ok(()),
@@ -89,7 +95,8 @@ impl<'m> Scope<'m> {
 
     /// That there is a memory.
     pub fn need_memory(&self) -> Result<(), Problem>
-        ensures { OnOk result (HasMemory (context_of self.now)) }
+        ensures { MatchResult result (λ _. HasMemory (context_of self.now))
+            (Misses (slice_get (context_of self.now).memories 0) faults.UnknownMemory) }
     {
         match self.declared.memories.first() {
             Some(_) => Ok(()),

@@ -1,8 +1,7 @@
 //! Locals and globals (Core specification 1.0, section 3.3.3).
 
-ghost use Rattle.std.specs.Prelude.{OnOk};
 ghost use Rattle.types.specs.declared.instr.PlainInstr.TheVariants as plain;
-ghost use Rattle.validate_bodies.specs.Blocks.{CheckedInside};
+ghost use Rattle.validate_bodies.specs.Blocks.{ChecksInside};
 ghost use Rattle.validate_bodies.specs.Scope.{context_of};
 
 use crate::block::OpenBlock;
@@ -13,7 +12,7 @@ use validate_typing::Fault;
 
 /// `local.get`
 pub fn check_local_get(scope: &Scope, block: &mut OpenBlock, index: u32) -> Result<(), Problem>
-    ensures { OnOk result (CheckedInside (context_of scope.now) (plain.LocalGet index) block.old block.new) }
+    ensures { ChecksInside (context_of scope.now) (plain.LocalGet index) block.old block.new result }
 {
     let local = scope.local(index)?;
     replace(block, &[], Some(local))
@@ -21,7 +20,7 @@ pub fn check_local_get(scope: &Scope, block: &mut OpenBlock, index: u32) -> Resu
 
 /// `local.set`
 pub fn check_local_set(scope: &Scope, block: &mut OpenBlock, index: u32) -> Result<(), Problem>
-    ensures { OnOk result (CheckedInside (context_of scope.now) (plain.LocalSet index) block.old block.new) }
+    ensures { ChecksInside (context_of scope.now) (plain.LocalSet index) block.old block.new result }
 {
     let local = scope.local(index)?;
     replace(block, &[local], None)
@@ -29,7 +28,7 @@ pub fn check_local_set(scope: &Scope, block: &mut OpenBlock, index: u32) -> Resu
 
 /// `local.tee`
 pub fn check_local_tee(scope: &Scope, block: &mut OpenBlock, index: u32) -> Result<(), Problem>
-    ensures { OnOk result (CheckedInside (context_of scope.now) (plain.LocalTee index) block.old block.new) }
+    ensures { ChecksInside (context_of scope.now) (plain.LocalTee index) block.old block.new result }
 {
     let local = scope.local(index)?;
     replace(block, &[local], Some(local))
@@ -37,7 +36,7 @@ pub fn check_local_tee(scope: &Scope, block: &mut OpenBlock, index: u32) -> Resu
 
 /// `global.get`
 pub fn check_global_get(scope: &Scope, block: &mut OpenBlock, index: u32) -> Result<(), Problem>
-    ensures { OnOk result (CheckedInside (context_of scope.now) (plain.GlobalGet index) block.old block.new) }
+    ensures { ChecksInside (context_of scope.now) (plain.GlobalGet index) block.old block.new result }
 {
     let global = scope.global(index)?;
     replace(block, &[], Some(global.val_type))
@@ -45,7 +44,7 @@ pub fn check_global_get(scope: &Scope, block: &mut OpenBlock, index: u32) -> Res
 
 /// `global.set`, of a global that isn't constant.
 pub fn check_global_set(scope: &Scope, block: &mut OpenBlock, index: u32) -> Result<(), Problem>
-    ensures { OnOk result (CheckedInside (context_of scope.now) (plain.GlobalSet index) block.old block.new) }
+    ensures { ChecksInside (context_of scope.now) (plain.GlobalSet index) block.old block.new result }
 {
     let global = scope.global(index)?;
     if !global.mutable {

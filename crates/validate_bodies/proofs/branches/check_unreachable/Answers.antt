@@ -6,4 +6,4 @@ use Rattle.validate_bodies.proofs.branches.check_unreachable.Goals as goal
 
 pub returns : goal.returns
 returns c = λ con labels. checked_stop con labels plain.Unreachable [] _ _ _ [] (takes_none c.args.block.now)
-    c.stop.ensures.shape c.stop.ensures.flow (λ below us. tt) (λ live. refl) refl
+    c.stop.ensures.shape c.stop.ensures.flow c.stop.ensures.bare (λ below us. tt) (λ live. refl) refl

@@ -3,7 +3,8 @@ use Rattle.std.proofs.lemmas.List.{take_all}
 use Rattle.std.proofs.lemmas.List.Elements.{All-nil, All-more}
 use Rattle.validate_typing.specs.Typing.{results_of}
 use Rattle.validate_bodies.specs.Blocks.{labels_at, as_label}
-use Rattle.validate_bodies.proofs.Labels.{Carry, types_at, row_none, row_step}
+use Rattle.validate_bodies.proofs.Labels.{Carry, types_at, row_none, row_step, differs_missing, differs_here}
+use Rattle.validate_bodies.proofs.Moves.{at_exit}
 use Rattle.validate_bodies.proofs.branches.table_row.Goals as goal
 
 pub loop-index-init : goal.loop-index-init
@@ -25,8 +26,25 @@ loop-index-preserved c =
           (types_at labels _ (as_label l) c.in_ok-label.ensures ∙ ap (λ k. Some (results_of k)) same);
     }
 
-pub returns : goal.returns
-returns c =
+pub returns-in_err-label-clause-differs : goal.returns-in_err-label-clause-differs
+returns-in_err-label-clause-differs c =
+    at_exit _ _ _ _ c.from_residual.ensures.1
+    (differs_missing (labels_at c.args.block.now c.args.outer.now) c.args.indices.now c.loop-index.index-index 0 _ _ (omega arith)
+    c.in_err-label.ensures.0 c.in_err-label.ensures.1)
+
+pub returns-then-ne-clause-differs : goal.returns-then-ne-clause-differs
+returns-then-ne-clause-differs c =
+    differs_here (labels_at c.args.block.now c.args.outer.now) c.args.indices.now c.loop-index.index-index 0 c.args.default.carries c.in_ok-label.label
+    (omega arith) c.in_ok-label.ensures (search rules)
+
+pub returns-clause-row : goal.returns-clause-row
+returns-clause-row c =
     let all : take c.loop-index.index-index c.args.indices.now ≡ c.args.indices.now = take_all _ _ (omega arith) in
     let t = rw all at c.loop-index.invariant in
-    record { row = t.row; carried = t.carried }
+    t.row
+
+pub returns-clause-carried : goal.returns-clause-carried
+returns-clause-carried c =
+    let all : take c.loop-index.index-index c.args.indices.now ≡ c.args.indices.now = take_all _ _ (omega arith) in
+    let t = rw all at c.loop-index.invariant in
+    t.carried
