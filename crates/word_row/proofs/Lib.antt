@@ -2,3 +2,4 @@ pub mod Access
 pub mod Combined
 pub mod Closing
 pub mod Opening
+pub mod Fetching

@@ -1,22 +1,24 @@
 //! The row.
-ghost use Rattle.std.specs.Prelude.{◌≡◌, ◌<◌, ◌≤◌, ◌∷◌, true, None, IfOk, IsOkUnless, All, List, map, length, slice_index};
+ghost use Rattle.std.specs.Prelude.{◌≡◌, ◌≢◌, ◌<◌, ◌≤◌, ◌∷◌, true, None, IfOk, IsOkUnless, All, List, map, length, slice_index};
 ghost use Rattle.types.specs.declared.event.Entry.{Entry};
+ghost use Rattle.types.specs.declared.event.Reply.TheVariants.{Again};
 ghost use Rattle.types.specs.Limits.{seat_count};
 ghost use Rattle.shared_memory.specs.Events.{IsEvent, is_of_queue};
 ghost use Rattle.shared_memory.specs.History.{memory_after};
 ghost use Rattle.shared_memory_on_table.specs.Callers.{GoesOn, AllGoOn, fresh_from};
 ghost use Rattle.shared_memory_on_table.specs.Rule.{AccessesIn, MeetsIn};
 ghost use Rattle.word_row_rules.specs.Words.{words_of};
-ghost use Rattle.word_row_rules.specs.Answers.{end_of, is_access, place_of};
+ghost use Rattle.word_row_rules.specs.Answers.{end_of, is_access, place_of, is_single};
 ghost use Rattle.word_row_rules.specs.Rule.{IsRow};
 ghost use Rattle.word_row.specs.Changes.{IsChange};
 ghost use Rattle.word_row.specs.Rows.{EndsAfter};
 
-use crate::changes::{Change, Next, by_size, by_word};
+use crate::changes::{Change, Next, by_size, by_word, single_of};
 use crate::closed::ClosedRow;
 use crate::prepared::Prepared;
 use crate::{WordSeat, tries};
 use shared_memory::SharedMemory;
+use shared_memory_lanes::lane;
 use shared_memory_on_table::{Naming, Place, Standing, hand, meet, take_seats};
 use shared_memory_sequential::{OneMemory, OpenFault};
 use std::alloc::Global;
@@ -95,13 +97,15 @@ impl<B: Naming> WordRow<B> {
     }
 
     /// Makes one try of an event, and waits for nobody. A try that another thread's change of the word overtook is
-    /// answered `Again`, and may be made again. An event of the queue takes the queue right.
+    /// answered `Again`, and may be made again; no try of an event is that a single step on its word makes. An event
+    /// of the queue takes the queue right.
     pub fn access(&self, seat: &mut WordSeat<B>, event: Event) -> Reply
         requires event { IsEvent event }
         requires right { is_of_queue event ≡ true → seat.old.caller.has_queue_right ≡ true }
         ensures name { seat.new.caller.name ≡ seat.old.caller.name }
         ensures right { seat.new.caller.has_queue_right ≡ seat.old.caller.has_queue_right }
         ensures outcome { AccessesIn true B.opening None seat.old.caller event seat.new.caller.seen result }
+        ensures single { is_single event ≡ true → result ≢ Again }
     {
         self.make(&mut seat.caller, event)
     }
@@ -142,6 +146,7 @@ impl<B: Naming> WordRow<B> {
         ensures name { caller.new.name ≡ caller.old.name }
         ensures right { caller.new.has_queue_right ≡ caller.old.has_queue_right }
         ensures outcome { AccessesIn true B.opening None caller.old event caller.new.seen result }
+        ensures single { is_single event ≡ true → result ≢ Again }
     {
         let pages = tries::note(&self.board.shared, caller, event);
         if let Some(reply) = by_size(self.pages_max, event, pages) {
@@ -157,8 +162,41 @@ impl<B: Naming> WordRow<B> {
         self.touch(caller, event)
     }
 
-    // An access that lies within the memory seen.
+    // An access that lies within the memory seen: by a single step on its word where that makes the event, whatever
+    // the word is.
     fn touch(&self, caller: &mut Standing<B>, event: Event) -> Reply
+        requires event { IsEvent event }
+        requires right { is_of_queue event ≡ true → caller.old.has_queue_right ≡ true }
+        requires access { is_access event ≡ true }
+        requires within { end_of event ≤ length (memory_after B.opening caller.old.seen).bytes }
+        ensures name { caller.new.name ≡ caller.old.name }
+        ensures right { caller.new.has_queue_right ≡ caller.old.has_queue_right }
+        ensures outcome { AccessesIn true B.opening None caller.old event caller.new.seen result }
+        ensures single { is_single event ≡ true → result ≢ Again }
+    {
+        match event {
+            Event::Store { width, value, .. } if width == 8 => {
+                tries::store(&self.board.shared, caller, event, value);
+                Reply::Done
+            }
+            Event::Rmw {
+                op,
+                addr,
+                width,
+                value,
+            } => match single_of(op, addr, width, value) {
+                Some(single) => {
+                    let word = tries::fetch(&self.board.shared, caller, event, single);
+                    Reply::Value(lane(word, addr, width))
+                }
+                None => self.replace(caller, event),
+            },
+            _ => self.replace(caller, event),
+        }
+    }
+
+    // An access that lies within the memory seen, by a load of its word and, where it changes that, an exchange.
+    fn replace(&self, caller: &mut Standing<B>, event: Event) -> Reply
         requires event { IsEvent event }
         requires right { is_of_queue event ≡ true → caller.old.has_queue_right ≡ true }
         requires access { is_access event ≡ true }

@@ -40,4 +40,5 @@ returns g c =
       right = c.touch.ensures.right ∙ ap (λ (x : Caller). x.has_queue_right) sh.same;
       outcome = accesses-after opening event 0 count c.args.caller.now c.note-pages.new.caller c.touch.new.caller.seen
           c.touch.result sh c.touch.ensures.outcome;
+      single = c.touch.ensures.single;
     }
