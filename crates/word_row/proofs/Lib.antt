@@ -3,3 +3,4 @@ pub mod Combined
 pub mod Closing
 pub mod Opening
 pub mod Fetching
+pub mod Counts

@@ -1,10 +1,10 @@
 //! What the page count and the word of an access settle of an event.
-ghost use Rattle.std.specs.Prelude.{◌≡◌, ◌+◌, ◌*◌, ◌%◌, ◌^◌, ◌<◌, ◌≤◌, ◌⊎◌, ◌↔◌, ℕ, true, IsSome, IfSome};
+ghost use Rattle.std.specs.Prelude.{◌≡◌, ◌+◌, ◌*◌, ◌%◌, ◌^◌, ◌<◌, ◌≤◌, ◌⊎◌, ◌↔◌, ℕ, true, IsTrue, IsSome, IfSome};
 ghost use Rattle.types.specs.declared.event.Event.TheVariants.{Rmw};
-ghost use Rattle.types.specs.Limits.{most_pages};
+ghost use Rattle.types.specs.Limits.{page_size, most_pages};
 ghost use Rattle.shared_memory.specs.Events.{IsEvent};
 ghost use Rattle.shared_memory_lanes.specs.Words.{lane_of, IsWithLane};
-ghost use Rattle.word_row_rules.specs.Answers.{refusal, size_answer, is_access, place_of, after_single, IsMadeBy, is_single_rmw};
+ghost use Rattle.word_row_rules.specs.Answers.{refusal, size_answer, is_access, end_of, place_of, after_single, IsMadeBy, is_single_rmw};
 ghost use Rattle.word_row.specs.Changes.{IsNext};
 
 use shared_memory_lanes::{lane, with_lane};
@@ -31,17 +31,38 @@ pub enum Next {
     Exchange(Change),
 }
 
-/// The refusal of an access of `width` bytes at an address, where it ends past so many pages, at most 64. The end may
-/// pass the last address.
+/// Whether `width` bytes at an address end within so many pages, at most 64. The end may pass the last address.
+fn ends_within(addr: u64, width: u8, pages: u64) -> bool
+    requires { pages ≤ most_pages }
+    ensures { IsTrue result ↔ (addr + width ≤ page_size * pages) }
+{
+    let length = PAGE * pages;
+    addr <= length && u64::from(width) <= length - addr
+}
+
+/// The refusal of an access of `width` bytes at an address, where it ends past so many pages, at most 64.
 fn refuse(addr: u64, width: u8, pages: u64) -> Option<Reply>
     requires { pages ≤ most_pages }
     ensures { result ≡ refusal (addr + width) pages }
 {
-    let length = PAGE * pages;
-    if addr <= length && u64::from(width) <= length - addr {
+    if ends_within(addr, width, pages) {
         None
     } else {
         Some(Reply::OutOfBounds)
+    }
+}
+
+/// Whether an event is an access that lies within so many pages, at most 64.
+pub fn is_within(event: Event, pages: u64) -> bool
+    requires { pages ≤ most_pages }
+    ensures { IsTrue result ↔ ((is_access event ≡ true) × (end_of event ≤ page_size * pages)) }
+{
+    match event {
+        Event::Load { reach, .. } | Event::Store { reach, .. } => ends_within(reach, 0, pages),
+        Event::Rmw { addr, width, .. }
+        | Event::Cmpxchg { addr, width, .. }
+        | Event::Ask(Question::Wait { addr, width, .. }) => ends_within(addr, width, pages),
+        _ => false,
     }
 }
 
