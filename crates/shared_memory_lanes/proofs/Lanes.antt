@@ -42,7 +42,7 @@ taken_out word low wide =
     omega (arith, outer, inner)
 
 -- a word with a lane replaced is a word
-replaced-fits : (word shift bits more value : ℕ) → word < 2 ^ (more + bits + shift) → value < 2 ^ bits
+pub replaced-fits : (word shift bits more value : ℕ) → word < 2 ^ (more + bits + shift) → value < 2 ^ bits
     → word % 2 ^ shift + 2 ^ shift * (value + 2 ^ bits * (word / 2 ^ shift / 2 ^ bits)) < 2 ^ (more + bits + shift)
 replaced-fits word shift bits more value word_fits value_fits =
     let high : word / 2 ^ shift / 2 ^ bits < 2 ^ more = shr_below _ more bits (shr_below word (more + bits) shift word_fits) in

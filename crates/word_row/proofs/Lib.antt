@@ -2,3 +2,5 @@ pub mod Access
 pub mod Combined
 pub mod Closing
 pub mod Opening
+pub mod Fetching
+pub mod Counts

@@ -1,9 +1,9 @@
--- What a row is before it has a name, and after its threads.
-use Rattle.std.specs.Prelude.{ℕ, ◌≡◌, false, List, []}
+-- What a row is before it has a name, and after its threads; and what a seat remembers of its page count.
+use Rattle.std.specs.Prelude.{ℕ, ◌≡◌, ◌≤◌, false, List, []}
 use Rattle.atomic_table.specs.Table.{Me}
 use Rattle.atomic_table.specs.Seated.{TableId}
 use Rattle.types.specs.declared.event.Entry.{Entry}
-use Rattle.shared_memory.specs.Memory.{Memory}
+use Rattle.shared_memory.specs.Memory.{Memory, pages}
 use Rattle.shared_memory.specs.History.{memory_after}
 use Rattle.shared_memory.specs.Access.{IsSeen}
 use Rattle.shared_memory_on_table.specs.declared.view.View.{View}
@@ -24,3 +24,7 @@ StandFor max words = (words ≡ words_of (memory_of max words)) × IsStored (mem
 -- leaves this memory.
 abbrev pub EndsAfter : Memory → (List Entry → Type 0) → Memory → Type 0
 EndsAfter opening Fits memory = (log : List Entry) × Fits log × IsSeen opening log × (memory ≡ memory_after opening log)
+
+-- A history leaves a memory of so many pages at least.
+abbrev pub HasPages : Memory → List Entry → ℕ → Type 0
+HasPages opening log count = count ≤ pages (memory_after opening log)

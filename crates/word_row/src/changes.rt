@@ -1,14 +1,16 @@
 //! What the page count and the word of an access settle of an event.
-ghost use Rattle.std.specs.Prelude.{◌≡◌, ◌+◌, ◌*◌, ◌%◌, ◌^◌, ◌<◌, ◌≤◌, ◌⊎◌, ℕ, true};
-ghost use Rattle.types.specs.Limits.{most_pages};
+ghost use Rattle.std.specs.Prelude.{◌≡◌, ◌+◌, ◌*◌, ◌%◌, ◌^◌, ◌<◌, ◌≤◌, ◌⊎◌, ◌↔◌, ℕ, true, IsTrue, IsSome, IfSome};
+ghost use Rattle.types.specs.declared.event.Event.TheVariants.{Rmw};
+ghost use Rattle.types.specs.Limits.{page_size, most_pages};
 ghost use Rattle.shared_memory.specs.Events.{IsEvent};
 ghost use Rattle.shared_memory_lanes.specs.Words.{lane_of, IsWithLane};
-ghost use Rattle.word_row_rules.specs.Answers.{refusal, size_answer, is_access, place_of};
+ghost use Rattle.word_row_rules.specs.Answers.{refusal, size_answer, is_access, end_of, place_of, after_single, IsMadeBy, is_single_rmw};
 ghost use Rattle.word_row.specs.Changes.{IsNext};
 
 use shared_memory_lanes::{lane, with_lane};
 use shared_memory_sequential::combine;
-use types::{Event, PAGE_SIZE, Question, Reply};
+use types::{Event, PAGE_SIZE, Question, Reply, RmwOp};
+use word_row_rules::Single;
 
 /// The bytes of a page.
 const PAGE: u64 = PAGE_SIZE as u64;
@@ -29,17 +31,38 @@ pub enum Next {
     Exchange(Change),
 }
 
-/// The refusal of an access of `width` bytes at an address, where it ends past so many pages, at most 64. The end may
-/// pass the last address.
+/// Whether `width` bytes at an address end within so many pages, at most 64. The end may pass the last address.
+fn ends_within(addr: u64, width: u8, pages: u64) -> bool
+    requires { pages ≤ most_pages }
+    ensures { IsTrue result ↔ (addr + width ≤ page_size * pages) }
+{
+    let length = PAGE * pages;
+    addr <= length && u64::from(width) <= length - addr
+}
+
+/// The refusal of an access of `width` bytes at an address, where it ends past so many pages, at most 64.
 fn refuse(addr: u64, width: u8, pages: u64) -> Option<Reply>
     requires { pages ≤ most_pages }
     ensures { result ≡ refusal (addr + width) pages }
 {
-    let length = PAGE * pages;
-    if addr <= length && u64::from(width) <= length - addr {
+    if ends_within(addr, width, pages) {
         None
     } else {
         Some(Reply::OutOfBounds)
+    }
+}
+
+/// Whether an event is an access that lies within so many pages, at most 64.
+pub fn is_within(event: Event, pages: u64) -> bool
+    requires { pages ≤ most_pages }
+    ensures { IsTrue result ↔ ((is_access event ≡ true) × (end_of event ≤ page_size * pages)) }
+{
+    match event {
+        Event::Load { reach, .. } | Event::Store { reach, .. } => ends_within(reach, 0, pages),
+        Event::Rmw { addr, width, .. }
+        | Event::Cmpxchg { addr, width, .. }
+        | Event::Ask(Question::Wait { addr, width, .. }) => ends_within(addr, width, pages),
+        _ => false,
     }
 }
 
@@ -89,6 +112,24 @@ fn replace(word: u64, addr: u64, width: u8, value: u64, reply: Reply) -> Next
         new: with_lane(word, addr, width, value),
         reply,
     })
+}
+
+/// The single exchange that makes a read-modify-write, whatever the word is: of a whole word, or a bitwise one, whose
+/// operand leaves the bits outside the lane as they are.
+pub fn single_of(op: RmwOp, addr: u64, width: u8, value: u64) -> Option<Single>
+    requires event { IsEvent (Rmw op addr width value) }
+    ensures made { IfSome result (λ single. IsMadeBy (Rmw op addr width value) (after_single single)) }
+    ensures exactly { IsSome result ↔ (is_single_rmw op width ≡ true) }
+{
+    match op {
+        RmwOp::And => Some(Single::And(with_lane(u64::MAX, addr, width, value))),
+        RmwOp::Or => Some(Single::Or(with_lane(0, addr, width, value))),
+        RmwOp::Xor => Some(Single::Xor(with_lane(0, addr, width, value))),
+        RmwOp::Xchg if width == 8 => Some(Single::Swap(value)),
+        RmwOp::Add if width == 8 => Some(Single::Add(value)),
+        RmwOp::Sub if width == 8 => Some(Single::Add(value.wrapping_neg())),
+        RmwOp::Xchg | RmwOp::Add | RmwOp::Sub => None,
+    }
 }
 
 /// What the word of an access settles.

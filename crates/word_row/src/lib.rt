@@ -1,14 +1,17 @@
 //! A shared memory as a row of 64-bit words, which threads change by single atomic steps. No call waits.
 //!
 //! Word 0 of a table is the page count, and each further word has eight bytes of the memory, the lowest first. An
-//! access notes the page count, loads its word, and where it changes that word exchanges it whole, if it is still the
-//! one that was loaded. Where another thread has changed the word meanwhile, the try is lost, and may be made again.
+//! access notes the page count, unless it lies within the one that its seat remembers. A store or a read-modify-write
+//! of a whole word, and a bitwise one of any width, is then a single step on its word, and never lost. Any other access
+//! loads its word, and where it changes that word exchanges it whole, if it is still the one that was loaded. Where
+//! another thread has changed the word meanwhile, the try is lost, and may be made again.
 #![tactic(auto)]
 
 mod changes;
 mod closed;
 mod prepared;
 mod row;
+mod seat;
 mod steps;
 #[cfg(test)]
 mod tests;
@@ -17,8 +20,6 @@ mod tries;
 pub use closed::ClosedRow;
 pub use prepared::Prepared;
 pub use row::WordRow;
+pub use seat::WordSeat;
 pub use shared_memory_on_table::Naming;
 pub use shared_memory_sequential::OpenFault;
-
-/// A caller's place at a row.
-pub type WordSeat<B> = shared_memory_on_table::CallerSeat<B>;

@@ -1,28 +1,31 @@
 //! The row.
-ghost use Rattle.std.specs.Prelude.{◌≡◌, ◌<◌, ◌≤◌, ◌∷◌, true, None, IfOk, IsOkUnless, All, List, map, length, slice_index};
+ghost use Rattle.std.specs.Prelude.{◌≡◌, ◌≢◌, ◌<◌, ◌≤◌, ◌∷◌, true, None, IfOk, IsOkUnless, All, List, map, length, slice_index};
 ghost use Rattle.types.specs.declared.event.Entry.{Entry};
-ghost use Rattle.types.specs.Limits.{seat_count};
+ghost use Rattle.types.specs.declared.event.Reply.TheVariants.{Again};
+ghost use Rattle.types.specs.Limits.{most_pages, seat_count};
 ghost use Rattle.shared_memory.specs.Events.{IsEvent, is_of_queue};
 ghost use Rattle.shared_memory.specs.History.{memory_after};
 ghost use Rattle.shared_memory_on_table.specs.Callers.{GoesOn, AllGoOn, fresh_from};
 ghost use Rattle.shared_memory_on_table.specs.Rule.{AccessesIn, MeetsIn};
 ghost use Rattle.word_row_rules.specs.Words.{words_of};
-ghost use Rattle.word_row_rules.specs.Answers.{end_of, is_access, place_of};
+ghost use Rattle.word_row_rules.specs.Answers.{end_of, is_access, place_of, is_single};
 ghost use Rattle.word_row_rules.specs.Rule.{IsRow};
 ghost use Rattle.word_row.specs.Changes.{IsChange};
-ghost use Rattle.word_row.specs.Rows.{EndsAfter};
+ghost use Rattle.word_row.specs.Rows.{EndsAfter, HasPages};
 
-use crate::changes::{Change, Next, by_size, by_word};
+use crate::changes::{Change, Next, by_size, by_word, is_within, single_of};
 use crate::closed::ClosedRow;
 use crate::prepared::Prepared;
-use crate::{WordSeat, tries};
+use crate::seat::{WordSeat, take_seats};
+use crate::tries;
 use shared_memory::SharedMemory;
-use shared_memory_on_table::{Naming, Place, Standing, hand, meet, take_seats};
-use shared_memory_sequential::{OneMemory, OpenFault};
+use shared_memory_lanes::lane;
+use shared_memory_on_table::{Naming, Place, Standing, hand, meet};
+use shared_memory_sequential::OpenFault;
 use std::alloc::Global;
 use std::marker::PhantomData;
 use types::{Event, Reply};
-use word_row_rules::{Arrive, Board, MemoryWords, Row};
+use word_row_rules::{Arrive, Board, Row};
 
 // The caller of a seat goes to another, for good.
 fn give_up<B: Naming>(row: &Row, host: &mut Place, seat: Standing<B>)
@@ -80,8 +83,7 @@ impl<B: Naming> WordRow<B> {
             mut all,
             pages_max,
         } = prepared;
-        let Ok(seats) = take_seats::<B, OneMemory, MemoryWords>(alloc, &board.shared, &mut all)
-        else {
+        let Ok(seats) = take_seats(alloc, &board.shared, &mut all) else {
             return Err(OpenFault::NoMemory);
         };
         Ok((
@@ -95,15 +97,17 @@ impl<B: Naming> WordRow<B> {
     }
 
     /// Makes one try of an event, and waits for nobody. A try that another thread's change of the word overtook is
-    /// answered `Again`, and may be made again. An event of the queue takes the queue right.
+    /// answered `Again`, and may be made again; no try of an event is that a single step on its word makes. An event
+    /// of the queue takes the queue right.
     pub fn access(&self, seat: &mut WordSeat<B>, event: Event) -> Reply
         requires event { IsEvent event }
         requires right { is_of_queue event ≡ true → seat.old.caller.has_queue_right ≡ true }
         ensures name { seat.new.caller.name ≡ seat.old.caller.name }
         ensures right { seat.new.caller.has_queue_right ≡ seat.old.caller.has_queue_right }
         ensures outcome { AccessesIn true B.opening None seat.old.caller event seat.new.caller.seen result }
+        ensures single { is_single event ≡ true → result ≢ Again }
     {
-        self.make(&mut seat.caller, event)
+        self.make(seat, event)
     }
 
     /// Two seats learn from each other, and exchange the queue right. It waits for nobody.
@@ -135,30 +139,83 @@ impl<B: Naming> WordRow<B> {
         }
     }
 
-    // One try of an event.
-    fn make(&self, caller: &mut Standing<B>, event: Event) -> Reply
+    // One try of an event. An access that lies within the page count remembered needs no load of it.
+    fn make(&self, seat: &mut WordSeat<B>, event: Event) -> Reply
+        requires event { IsEvent event }
+        requires right { is_of_queue event ≡ true → seat.old.caller.has_queue_right ≡ true }
+        ensures name { seat.new.caller.name ≡ seat.old.caller.name }
+        ensures right { seat.new.caller.has_queue_right ≡ seat.old.caller.has_queue_right }
+        ensures outcome { AccessesIn true B.opening None seat.old.caller event seat.new.caller.seen result }
+        ensures single { is_single event ≡ true → result ≢ Again }
+    {
+        if is_within(event, seat.pages) {
+            return self.touch(&mut seat.caller, event);
+        }
+        let (pages, reply) = self.note(&mut seat.caller, event);
+        seat.pages = pages;
+        reply
+    }
+
+    // One try of an event that loads the page count first, which it answers with the reply.
+    fn note(&self, caller: &mut Standing<B>, event: Event) -> (u64, Reply)
         requires event { IsEvent event }
         requires right { is_of_queue event ≡ true → caller.old.has_queue_right ≡ true }
         ensures name { caller.new.name ≡ caller.old.name }
         ensures right { caller.new.has_queue_right ≡ caller.old.has_queue_right }
-        ensures outcome { AccessesIn true B.opening None caller.old event caller.new.seen result }
+        ensures outcome { AccessesIn true B.opening None caller.old event caller.new.seen result.1 }
+        ensures single { is_single event ≡ true → result.1 ≢ Again }
+        ensures few { result.0 ≤ most_pages }
+        ensures counted { HasPages B.opening caller.new.seen result.0 }
     {
         let pages = tries::note(&self.board.shared, caller, event);
         if let Some(reply) = by_size(self.pages_max, event, pages) {
-            return reply;
+            return (pages, reply);
         }
         if let Event::Grow(more) = event {
             let change = Change {
                 new: pages + u64::from(more),
                 reply: Reply::Value(pages),
             };
-            return self.exchange(caller, event, pages, change);
+            return (pages, self.exchange(caller, event, pages, change));
         }
-        self.touch(caller, event)
+        (pages, self.touch(caller, event))
     }
 
-    // An access that lies within the memory seen.
+    // An access that lies within the memory seen: by a single step on its word where that makes the event, whatever
+    // the word is.
     fn touch(&self, caller: &mut Standing<B>, event: Event) -> Reply
+        requires event { IsEvent event }
+        requires right { is_of_queue event ≡ true → caller.old.has_queue_right ≡ true }
+        requires access { is_access event ≡ true }
+        requires within { end_of event ≤ length (memory_after B.opening caller.old.seen).bytes }
+        ensures name { caller.new.name ≡ caller.old.name }
+        ensures right { caller.new.has_queue_right ≡ caller.old.has_queue_right }
+        ensures outcome { AccessesIn true B.opening None caller.old event caller.new.seen result }
+        ensures single { is_single event ≡ true → result ≢ Again }
+    {
+        match event {
+            Event::Store { width, value, .. } if width == 8 => {
+                tries::store(&self.board.shared, caller, event, value);
+                Reply::Done
+            }
+            Event::Rmw {
+                op,
+                addr,
+                width,
+                value,
+            } => match single_of(op, addr, width, value) {
+                Some(single) => {
+                    let word = tries::fetch(&self.board.shared, caller, event, single);
+                    Reply::Value(lane(word, addr, width))
+                }
+                None => self.replace(caller, event),
+            },
+            _ => self.replace(caller, event),
+        }
+    }
+
+    // An access that lies within the memory seen, by a load of its word and, where it changes that, an exchange.
+    fn replace(&self, caller: &mut Standing<B>, event: Event) -> Reply
         requires event { IsEvent event }
         requires right { is_of_queue event ≡ true → caller.old.has_queue_right ≡ true }
         requires access { is_access event ≡ true }

@@ -2,12 +2,12 @@
 ghost use Rattle.std.specs.Prelude.{◌≡◌, ◌<◌, ◌≤◌, true, length};
 ghost use Rattle.shared_memory.specs.History.{memory_after};
 ghost use Rattle.shared_memory_on_table.specs.Moves.{IsOne, caller_in};
-ghost use Rattle.word_row_rules.specs.Answers.{end_of, is_access, place_of, Makes};
-ghost use Rattle.word_row_rules.specs.Rule.{MayTry, NotesAs, ReadsAs, ExchangesAs};
+ghost use Rattle.word_row_rules.specs.Answers.{end_of, is_access, place_of, Makes, after_single, IsMadeBy};
+ghost use Rattle.word_row_rules.specs.Rule.{MayTry, NotesAs, ReadsAs, ExchangesAs, FetchesAs, StoresAs};
 
 use shared_memory_on_table::{Naming, Place};
 use types::Event;
-use word_row_rules::{Exchange, Making, Note, Read, Row};
+use word_row_rules::{Exchange, Fetch, Making, Note, Read, Row, Single, Store};
 
 /// The size word is loaded: the caller's event is entered where the page count settles its reply.
 pub fn note<B: Naming, M: Making>(row: &Row, place: &mut Place, event: Event) -> u64
@@ -56,4 +56,52 @@ pub fn exchange<B: Naming, M: Making>(
     ensures steps { ExchangesAs B.opening event old (place_of event) place.old.me result place.new.me }
 {
     row.compare_exchange::<Exchange<B, M>>(place, word, old, new)
+}
+
+/// The word of an access within bounds is stored: the caller's event is entered.
+pub fn store<B: Naming, M: Making>(
+    row: &Row,
+    place: &mut Place,
+    word: usize,
+    new: u64,
+    event: Event,
+)
+    requires row { (place.old.table_id ≡ row.now.table_id) × (word < row.now.table_id.words) × (row.now.key ≡ B.opening) }
+    requires one { IsOne place.old.me }
+    requires making { M.event ≡ event }
+    requires may { MayTry (caller_in place.old.me.0) event }
+    requires word { place_of event ≡ word }
+    requires makes { IsMadeBy event (λ _. new) }
+    requires within { end_of event ≤ length (memory_after B.opening (caller_in place.old.me.0).seen).bytes }
+    ensures place { place.new.table_id ≡ place.old.table_id }
+    ensures steps { StoresAs B.opening event (place_of event) place.old.me place.new.me }
+{
+    row.store::<Store<B, M>>(place, word, new);
+}
+
+/// The word of an access within bounds is changed by a single exchange: the caller's event is entered.
+pub fn fetch<B: Naming, M: Making>(
+    row: &Row,
+    place: &mut Place,
+    word: usize,
+    single: Single,
+    event: Event,
+) -> u64
+    requires row { (place.old.table_id ≡ row.now.table_id) × (word < row.now.table_id.words) × (row.now.key ≡ B.opening) }
+    requires one { IsOne place.old.me }
+    requires making { M.event ≡ event }
+    requires may { MayTry (caller_in place.old.me.0) event }
+    requires word { place_of event ≡ word }
+    requires makes { IsMadeBy event (after_single single) }
+    requires within { end_of event ≤ length (memory_after B.opening (caller_in place.old.me.0).seen).bytes }
+    ensures place { place.new.table_id ≡ place.old.table_id }
+    ensures steps { FetchesAs B.opening event (place_of event) place.old.me result place.new.me }
+{
+    match single {
+        Single::Swap(new) => row.swap::<Fetch<B, M>>(place, word, new),
+        Single::Add(more) => row.fetch_add::<Fetch<B, M>>(place, word, more),
+        Single::And(bits) => row.fetch_and::<Fetch<B, M>>(place, word, bits),
+        Single::Or(bits) => row.fetch_or::<Fetch<B, M>>(place, word, bits),
+        Single::Xor(bits) => row.fetch_xor::<Fetch<B, M>>(place, word, bits),
+    }
 }

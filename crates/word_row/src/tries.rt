@@ -1,15 +1,16 @@
 //! The steps that the caller of a seat makes for an event.
-ghost use Rattle.std.specs.Prelude.{◌≡◌, ◌≤◌, true, length};
+ghost use Rattle.std.specs.Prelude.{◌≡◌, ◌≤◌, ℕ, true, length, Some};
 ghost use Rattle.shared_memory.specs.Events.{IsEvent, is_of_queue};
 ghost use Rattle.shared_memory.specs.History.{memory_after};
-ghost use Rattle.word_row_rules.specs.Answers.{end_of, is_access, place_of, size_answer, word_answer, Makes, exchange_answer};
+ghost use Rattle.word_row_rules.specs.Answers.{end_of, is_access, place_of, size_answer, word_answer, Makes, made_reply, exchange_answer};
+ghost use Rattle.word_row_rules.specs.Answers.{after_single, IsMadeBy};
 ghost use Rattle.word_row_rules.specs.Rule.{IsRow, Steps};
 
 use crate::{changes, steps};
 use shared_memory_on_table::{Naming, Standing};
 use std::marker::Brand;
 use types::Event;
-use word_row_rules::Row;
+use word_row_rules::{Row, Single};
 
 /// Loads the page count.
 pub fn note<B: Naming>(row: &Row, caller: &mut Standing<B>, event: Event) -> u64
@@ -54,6 +55,42 @@ pub fn exchange<B: Naming>(
         changes::word_place(event),
         old,
         new,
+        event,
+    )
+}
+
+/// Stores the word of an event, whatever it was.
+pub fn store<B: Naming>(row: &Row, caller: &mut Standing<B>, event: Event, new: u64)
+    requires row { IsRow B.table B.opening row.now.table_id row.now.key }
+    requires event { IsEvent event }
+    requires right { is_of_queue event ≡ true → caller.old.has_queue_right ≡ true }
+    requires within { end_of event ≤ length (memory_after B.opening caller.old.seen).bytes }
+    requires makes { IsMadeBy event (λ _. new) }
+    ensures { (found : ℕ) × Steps B.opening event (Some (made_reply event found)) (place_of event) caller.old found caller.new }
+{
+    steps::store::<B, Brand>(
+        row,
+        &mut caller.place,
+        changes::word_place(event),
+        new,
+        event,
+    );
+}
+
+/// Changes the word of an event by a single exchange, whatever it was, and answers the word found.
+pub fn fetch<B: Naming>(row: &Row, caller: &mut Standing<B>, event: Event, single: Single) -> u64
+    requires row { IsRow B.table B.opening row.now.table_id row.now.key }
+    requires event { IsEvent event }
+    requires right { is_of_queue event ≡ true → caller.old.has_queue_right ≡ true }
+    requires within { end_of event ≤ length (memory_after B.opening caller.old.seen).bytes }
+    requires makes { IsMadeBy event (after_single single) }
+    ensures { Steps B.opening event (Some (made_reply event result)) (place_of event) caller.old result caller.new }
+{
+    steps::fetch::<B, Brand>(
+        row,
+        &mut caller.place,
+        changes::word_place(event),
+        single,
         event,
     )
 }

@@ -24,10 +24,10 @@ use Rattle.shared_memory_on_table.proofs.GoingOn.{goes_on-self}
 use Rattle.shared_memory_on_table.proofs.Totals.{total-push}
 use Rattle.shared_memory_on_table.proofs.Seating.{seated-change, seated-push, seated-open}
 use Rattle.word_row_rules.specs.Words.{words_of, IsStored}
-use Rattle.word_row_rules.specs.Answers.{end_of, is_access, place_of, size_answer, word_answer, Makes, exchange_answer}
-use Rattle.word_row_rules.specs.Rule.{KeptRow, MayTry, StepsAs, IsEmpty}
+use Rattle.word_row_rules.specs.Answers.{end_of, is_access, place_of, size_answer, word_answer, Makes, made_reply, exchange_answer, IsMadeBy}
+use Rattle.word_row_rules.specs.Rule.{KeptRow, MayTry, StepsAs, FetchesAs, StoresAs, IsEmpty}
 use Rattle.word_row_rules.proofs.Memories.{Outlasts, outlasts}
-use Rattle.word_row_rules.proofs.Settling.{Settles, size_settles, word_settles, exchange_settles}
+use Rattle.word_row_rules.proofs.Settling.{Settles, size_settles, word_settles, made, exchange_settles}
 
 abbrev L : Type 0
 L = List Entry
@@ -51,7 +51,7 @@ seen-entry m log c event reply may seen is = record {
 abbrev pub SettlesAll : Memory → Caller → Event → (ℕ → Option Reply) → ℕ → (ℕ → ℕ) → Type 0
 SettlesAll opening c event answer place makes =
     (later : Memory) → Outlasts opening later → length (memory_after opening c.seen).bytes ≤ length later.bytes
-    → let found = get_or (words_of later) place 0 in Settles later event (answer found) place (makes found)
+    → let found = get_or (words_of later) place 0 in found < 2 ^ 64 → Settles later event (answer found) place (makes found)
 
 -- what the caller has seen of the memory is no longer than what there is
 pub later_than : (m : Memory) (c : Caller) (log : L) → IsStored m → AreEntries log → GoesOn c log
@@ -125,13 +125,13 @@ module _ (m : Memory) (slots id place : ℕ) (c : Caller) (event : Event) (answe
       )
 
   steps_at : Allows (KeptRow m) slots id (alone c, []) place makes (λ n x. StepsAs m event (answer n) place (alone c, []) n x)
-  steps_at s r _ at _ =
+  steps_at s r _ at small =
       let found : ℕ = get_or s.words place 0 in
       let now : ℕ = get_or (words_of (memory_after m r.log)) place 0 in
       let same : now ≡ found = ap (λ (ws : List ℕ). get_or ws place 0) (sym r.words.are) in
       let goes = (r.seated.each id (alone c) at).begins in
       let settled = settles (memory_after m r.log) (outlasts m r.log r.words.stored r.words.seen.entries)
-      (later_than m c r.log r.words.stored r.words.seen.entries goes.0) in
+      (later_than m c r.log r.words.stored r.words.seen.entries goes.0) (subst (λ (n : ℕ). n < 2 ^ 64) (sym same) small) in
       steps_from s r at found refl (answer found) (subst (λ (n : ℕ). Settles (memory_after m r.log) event (answer n) place (makes n)) same settled)
 
 steps : (m : Memory) (slots id place : ℕ) (me : M) (event : Event) (answer : ℕ → Option Reply) (makes : ℕ → ℕ) → IsOne me → MayTry (caller_in me.0) event
@@ -145,7 +145,7 @@ pub notes : (m : Memory) (slots id : ℕ) (me : M) (event : Event) → IsOne me 
     → Allows (KeptRow m) slots id me 0 (λ n. n) (λ n x. StepsAs m event (size_answer m.max event n) 0 me n x)
 notes m slots id me event one may =
     steps m slots id 0 me event (λ n. size_answer m.max event n) (λ n. n) one may
-    (λ later o _. subst (λ (most : ℕ). Settles later event (size_answer most event (get_or (words_of later) 0 0)) 0
+    (λ later o _ _. subst (λ (most : ℕ). Settles later event (size_answer most event (get_or (words_of later) 0 0)) 0
     (get_or (words_of later) 0 0)) o.max (size_settles later event o.stored))
 
 -- A load of a data word, by a caller that has seen that the access lies within the memory.
@@ -154,7 +154,7 @@ pub reads : (m : Memory) (slots id : ℕ) (me : M) (event : Event) → IsOne me 
     → Allows (KeptRow m) slots id me (place_of event) (λ n. n) (λ n x. StepsAs m event (word_answer event n) (place_of event) me n x)
 reads m slots id me event one may access within =
     steps m slots id (place_of event) me event (λ n. word_answer event n)
-    (λ n. n) one may (λ later o more. word_settles later event o.stored may.is access (omega arith))
+    (λ n. n) one may (λ later o more _. word_settles later event o.stored may.is access (omega arith))
 
 -- A compare-exchange of a word.
 pub exchanges : (m : Memory) (slots id old new : ℕ) (me : M) (event : Event) → IsOne me → MayTry (caller_in me.0) event
@@ -163,7 +163,27 @@ pub exchanges : (m : Memory) (slots id old new : ℕ) (me : M) (event : Event) �
     (λ n x. StepsAs m event (exchange_answer event old n) (place_of event) me n x)
 exchanges m slots id old new me event one may within fits makes =
     steps m slots id (place_of event) me event (λ n. exchange_answer event old n) (λ n. either (eqb n old) new n) one may
-    (λ later o more. exchange_settles later event old new o.stored may.is (omega arith) fits (subst (λ (most : ℕ). Makes most event old new) (sym o.max) makes))
+    (λ later o more _. exchange_settles later event old new o.stored may.is (omega arith) fits (subst (λ (most : ℕ). Makes most event old new) (sym o.max) makes))
+
+-- A single exchange of a word, by a caller that has seen that the access lies within the memory.
+pub fetches : (m : Memory) (slots id : ℕ) (me : M) (event : Event) (makes : ℕ → ℕ) → IsOne me → MayTry (caller_in me.0) event
+    → end_of event ≤ length (memory_after m (caller_in me.0).seen).bytes
+    → ((word : ℕ) → word < 2 ^ 64 → makes word < 2 ^ 64) → IsMadeBy event makes
+    → Allows (KeptRow m) slots id me (place_of event) makes (λ n x. FetchesAs m event (place_of event) me n x)
+fetches m slots id me event makes one may within fits made_by =
+    steps m slots id (place_of event) me event (λ n. Some (made_reply event n)) makes one may
+    (λ later o more small.
+    let found : ℕ = get_or (words_of later) (place_of event) 0 in
+    let d = made later event found (makes found) o.stored may.is (omega arith) (fits found small) (made_by later.max found small) refl in
+    (d.reply, d.words))
+
+-- A store of a word, which tells no word.
+pub stores : (m : Memory) (slots id new : ℕ) (me : M) (event : Event) → IsOne me → MayTry (caller_in me.0) event
+    → end_of event ≤ length (memory_after m (caller_in me.0).seen).bytes → new < 2 ^ 64 → IsMadeBy event (λ _. new)
+    → Allows (KeptRow m) slots id me (place_of event) (λ _. new) (λ _ x. StoresAs m event (place_of event) me x)
+stores m slots id new me event one may within fits made_by s r long at small =
+    let a = fetches m slots id me event (λ _. new) one may within (λ _ _. fits) made_by s r long at small in
+    (a.0, a.1, a.2, a.3, (get_or s.words (place_of event) 0, a.4))
 
 -- A new seat on which nobody stands.
 pub arrives : (m : Memory) (slots : ℕ) → Enters (KeptRow m) slots 0 (λ n w. IsEmpty (w, []))

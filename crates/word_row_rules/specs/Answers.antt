@@ -1,13 +1,18 @@
 -- What one word settles of an event: an answer without a change, or what an exchange makes of the word.
-use Rattle.std.specs.Prelude.{ℕ, ◌≡◌, ◌+◌, ◌*◌, ◌/◌, ◌≤◌, ◌==◌, Bool, true, false, nat_le, if◌then◌else◌, Option, Some, None}
+use Rattle.std.specs.Prelude.{ℕ, ◌≡◌, ◌+◌, ◌*◌, ◌/◌, ◌%◌, ◌^◌, ◌<◌, ◌≤◌, ◌==◌, Bool, true, false, nat_le, if◌then◌else◌}
+use Rattle.std.specs.Prelude.{Option, Some, None, bit_and, bit_or, bit_xor}
 use Rattle.types.specs.declared.event.Event.{Event}
 use Rattle.types.specs.declared.event.Event.TheVariants.{Size, Grow, Load, Store, Rmw, Cmpxchg, Ask, Told}
 use Rattle.types.specs.declared.event.Question.TheVariants.{Wait, Notify, Spawn, Leave}
 use Rattle.types.specs.declared.event.Reply.{Reply}
 use Rattle.types.specs.declared.event.Reply.TheVariants.{Value, Done, OutOfBounds}
+use Rattle.types.specs.declared.event.RmwOp.{RmwOp}
+use Rattle.types.specs.declared.event.RmwOp.TheVariants as ops
 use Rattle.types.specs.Limits.{page_size}
 use Rattle.shared_memory.specs.Memory.{combined}
 use Rattle.shared_memory_lanes.specs.Words.{lane_of, IsWithLane}
+use Rattle.word_row_rules.specs.declared.single.Single.{Single}
+use Rattle.word_row_rules.specs.declared.single.Single.TheVariants.{Swap, Add, And, Or, Xor}
 
 -- The address at which an access ends.
 abbrev pub end_of : Event → ℕ
@@ -87,3 +92,28 @@ made_reply _ word = Done
 -- The reply that an exchange settles: it was made where the word found is the one expected.
 abbrev pub exchange_answer : Event → ℕ → ℕ → Option Reply
 exchange_answer event old found = if found == old then Some (made_reply event old) else None
+
+-- What a single exchange makes of a word.
+abbrev pub after_single : Single → ℕ → ℕ
+after_single (Swap new) word = new
+after_single (Add more) word = (word + more) % 2 ^ 64
+after_single (And bits) word = bit_and word bits
+after_single (Or bits) word = bit_or word bits
+after_single (Xor bits) word = bit_xor word bits
+
+-- One exchange makes the event, whatever the word is.
+abbrev pub IsMadeBy : Event → (ℕ → ℕ) → Type 0
+IsMadeBy event makes = (max word : ℕ) → word < 2 ^ 64 → Makes max event word (makes word)
+
+-- The read-modify-writes that a single exchange makes: those of a whole word, and the bitwise ones of any width.
+abbrev pub is_single_rmw : RmwOp → ℕ → Bool
+is_single_rmw ops.And width = true
+is_single_rmw ops.Or width = true
+is_single_rmw ops.Xor width = true
+is_single_rmw _ width = width == 8
+
+-- The events that are made in a single step on the word, whatever the word is. No try of them can be lost.
+abbrev pub is_single : Event → Bool
+is_single (Store addr width reach value) = width == 8
+is_single (Rmw op addr width value) = is_single_rmw op width
+is_single _ = false

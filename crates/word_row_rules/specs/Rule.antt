@@ -17,7 +17,7 @@ use Rattle.shared_memory_on_table.specs.Callers.{GoesOn, seeing}
 use Rattle.shared_memory_on_table.specs.Moves.{IsOne, caller_in, nobody}
 use Rattle.shared_memory_on_table.specs.Rule.{Kept}
 use Rattle.word_row_rules.specs.Words.{words_of, IsStored}
-use Rattle.word_row_rules.specs.Answers.{size_answer, word_answer, exchange_answer}
+use Rattle.word_row_rules.specs.Answers.{size_answer, word_answer, made_reply, exchange_answer}
 
 -- The words are those of the memory after the history, which is legal for it from its opening on.
 pub record Stores (opening : Memory) (log : List Entry) (words : List ℕ) : Type 0 where
@@ -75,6 +75,15 @@ ReadsAs opening event place before found after = StepsAs opening event (word_ans
 abbrev pub ExchangesAs : Memory → Event → ℕ → ℕ → Me ℕ View → ℕ → Me ℕ View → Type 0
 ExchangesAs opening event old place before found after =
     StepsAs opening event (exchange_answer event old found) place before found after
+
+-- A single exchange of a data word, which is made whatever the word is; and a store of it, which does not tell the word
+-- that was there.
+abbrev pub FetchesAs : Memory → Event → ℕ → Me ℕ View → ℕ → Me ℕ View → Type 0
+FetchesAs opening event place before found after =
+    StepsAs opening event (Some (made_reply event found)) place before found after
+
+abbrev pub StoresAs : Memory → Event → ℕ → Me ℕ View → Me ℕ View → Type 0
+StoresAs opening event place before after = (found : ℕ) × FetchesAs opening event place before found after
 
 -- A seat on which nobody stands.
 abbrev pub IsEmpty : Me ℕ View → Type 0

@@ -7,5 +7,7 @@
 #![tactic(auto)]
 
 mod rule;
+mod single;
 
-pub use rule::{Arrive, Board, Exchange, Making, MemoryWords, Note, Read, Row};
+pub use rule::{Arrive, Board, Exchange, Fetch, Making, MemoryWords, Note, Read, Row, Store};
+pub use single::Single;

@@ -59,6 +59,25 @@ impl<B: Naming, M: Making> Play<u8, View> for Exchange<B, M> {
     ghost then = { λ step before found after. ExchangesAs B.opening M.event step.first step.word before found after };
 }
 
+/// A store of a data word: the caller enters its event, whatever the word was.
+pub struct Store<B: Naming, M: Making>(PhantomData<(B, M)>);
+
+impl<B: Naming, M: Making> Play<u8, View> for Store<B, M> {
+    ghost use Rattle.word_row_rules.specs.Rule.{StoresAs};
+
+    ghost then = { λ step before stored after. StoresAs B.opening M.event step.word before after };
+}
+
+/// A swap of a data word, or another single exchange that answers the word found: the caller enters its event,
+/// whatever the word was.
+pub struct Fetch<B: Naming, M: Making>(PhantomData<(B, M)>);
+
+impl<B: Naming, M: Making> Play<u8, View> for Fetch<B, M> {
+    ghost use Rattle.word_row_rules.specs.Rule.{FetchesAs};
+
+    ghost then = { λ step before found after. FetchesAs B.opening M.event step.word before found after };
+}
+
 /// A new seat on which nobody stands.
 pub struct Arrive;
 

@@ -1,43 +1,16 @@
-use Rattle.std.proofs.Common.{ℕ, ◌≡◌, true, None, ap, sym, subst, ◌∙◌}
-use Rattle.types.specs.declared.event.Event.{Event}
-use Rattle.shared_memory.specs.Memory.{Memory}
-use Rattle.shared_memory.specs.Access.{Accesses}
+use Rattle.std.proofs.Common.{ℕ, ◌≤◌, sym, subst}
+use Rattle.types.specs.Limits.{desk_name}
 use Rattle.shared_memory_on_table.specs.declared.view.Caller.{Caller}
-use Rattle.word_row_rules.specs.Answers.{size_answer}
-use Rattle.word_row.proofs.Access.{few_pages, shows, accesses-after}
+use Rattle.word_row.proofs.Counts.{accesses-HasPages}
 use Rattle.word_row.proofs.row.WordRow.make.Goals as goal
 
-pub by_size-requires : goal.by_size-requires
-by_size-requires g c =
-    let opening : Memory = g.B.Naming.opening in
-    let row = c.args.self.now.row in
-    few_pages opening c.args.event (size_answer opening.max c.args.event c.note-pages.result) c.note-pages.result
-    c.args.caller.now c.note-pages.new.caller row.stored c.note-pages.ensures
-
-pub returns-in-Grow-clause-outcome : goal.returns-in-Grow-clause-outcome
-returns-in-Grow-clause-outcome g c =
-    let opening : Memory = g.B.Naming.opening in
-    let event : Event = c.args.event in
-    let count : ℕ = c.note-pages.result in
-    let none : size_answer opening.max event count ≡ None = ap (λ k. size_answer k event count)
-    (sym c.args.self.now.sized) ∙ sym c.by_size.ensures ∙ c.in_default.is in
-    let sh = shows opening event (size_answer opening.max event count) 0 count c.args.caller.now c.note-pages.new.caller c.note-pages.ensures none in
-    let w : Caller = c.note-pages.new.caller in
-    let outcome = subst (λ (e : Event). Accesses true opening None w.name w.has_queue_right e w.seen
-    c.exchange.new.caller.seen c.exchange.result) (sym c.in-Grow.is) c.exchange.ensures.outcome in
-    accesses-after opening event 0 count c.args.caller.now w c.exchange.new.caller.seen c.exchange.result sh outcome
-
-pub returns : goal.returns
-returns g c =
-    let opening : Memory = g.B.Naming.opening in
-    let event : Event = c.args.event in
-    let count : ℕ = c.note-pages.result in
-    let none : size_answer opening.max event count ≡ None = ap (λ k. size_answer k event count)
-    (sym c.args.self.now.sized) ∙ sym c.by_size.ensures ∙ c.in_default.is in
-    let sh = shows opening event (size_answer opening.max event count) 0 count c.args.caller.now c.note-pages.new.caller c.note-pages.ensures none in
+pub invariant_of-seat : goal.invariant_of-seat
+invariant_of-seat g c =
+    let seat = c.args.seat.now in
+    let who : Caller = seat.caller in
     record {
-      name = c.touch.ensures.name ∙ ap (λ (x : Caller). x.name) sh.same;
-      right = c.touch.ensures.right ∙ ap (λ (x : Caller). x.has_queue_right) sh.same;
-      outcome = accesses-after opening event 0 count c.args.caller.now c.note-pages.new.caller c.touch.new.caller.seen
-          c.touch.result sh c.touch.ensures.outcome;
+      known = subst (λ (n : ℕ). n ≤ desk_name) (sym c.touch.ensures.name) seat.known;
+      few = seat.few;
+      counted = accesses-HasPages g.B.Naming.opening who.name who.has_queue_right c.args.event who.seen c.touch.new.caller.seen c.touch.result seat.pages
+          c.args.self.now.row.stored c.touch.ensures.outcome seat.counted;
     }

@@ -1,0 +1,78 @@
+use Rattle.std.proofs.Common.{ℕ, ◌≡◌, true, None, ap, sym, subst, ◌∙◌}
+use Rattle.types.specs.declared.event.Event.{Event}
+use Rattle.shared_memory.specs.Memory.{Memory}
+use Rattle.shared_memory.specs.Access.{Accesses}
+use Rattle.shared_memory_on_table.specs.declared.view.Caller.{Caller}
+use Rattle.types.specs.declared.event.Event.TheVariants.{Grow}
+use Rattle.word_row_rules.specs.Words.{IsStored}
+use Rattle.word_row_rules.specs.Answers.{size_answer}
+use Rattle.word_row_rules.specs.Rule.{Steps}
+use Rattle.word_row.specs.Rows.{HasPages}
+use Rattle.word_row.proofs.Counts.{found-HasPages, accesses-HasPages}
+use Rattle.word_row.proofs.Access.{few_pages, shows, accesses-after}
+use Rattle.word_row.proofs.row.WordRow.note.Goals as goal
+
+pub by_size-requires : goal.by_size-requires
+by_size-requires g c =
+    let opening : Memory = g.B.Naming.opening in
+    let row = c.args.self.now.row in
+    few_pages opening c.args.event (size_answer opening.max c.args.event c.note-pages.result) c.note-pages.result
+    c.args.caller.now c.note-pages.new.caller row.stored c.note-pages.ensures
+
+pub returns-in-Grow-clause-outcome : goal.returns-in-Grow-clause-outcome
+returns-in-Grow-clause-outcome g c =
+    let opening : Memory = g.B.Naming.opening in
+    let event : Event = c.args.event in
+    let count : ℕ = c.note-pages.result in
+    let none : size_answer opening.max event count ≡ None = ap (λ k. size_answer k event count)
+    (sym c.args.self.now.sized) ∙ sym c.by_size.ensures ∙ c.in_default.is in
+    let sh = shows opening event (size_answer opening.max event count) 0 count c.args.caller.now c.note-pages.new.caller c.note-pages.ensures none in
+    let w : Caller = c.note-pages.new.caller in
+    let outcome = subst (λ (e : Event). Accesses true opening None w.name w.has_queue_right e w.seen
+    c.exchange.new.caller.seen c.exchange.result) (sym c.in-Grow.is) c.exchange.ensures.outcome in
+    accesses-after opening event 0 count c.args.caller.now w c.exchange.new.caller.seen c.exchange.result sh outcome
+
+-- the page count that the note found
+counted_by : (opening : Memory) (event : Event) (count : ℕ) (c w : Caller) → IsStored opening
+    → Steps opening event (size_answer opening.max event count) 0 c count w → HasPages opening w.seen count
+counted_by opening event count c w stored s = found-HasPages opening event (size_answer opening.max event count) count c w stored s
+
+pub returns-in-Some-clause-few : goal.returns-in-Some-clause-few
+returns-in-Some-clause-few g c =
+    let opening : Memory = g.B.Naming.opening in
+    let count : ℕ = c.note-pages.result in
+    few_pages opening c.args.event (size_answer opening.max c.args.event count) count
+    c.args.caller.now c.note-pages.new.caller c.args.self.now.row.stored c.note-pages.ensures
+
+pub returns-in-Some-clause-counted : goal.returns-in-Some-clause-counted
+returns-in-Some-clause-counted g c =
+    counted_by g.B.Naming.opening c.args.event c.note-pages.result c.args.caller.now c.note-pages.new.caller c.args.self.now.row.stored c.note-pages.ensures
+
+pub returns-in-Grow-clause-counted : goal.returns-in-Grow-clause-counted
+returns-in-Grow-clause-counted g c =
+    let opening : Memory = g.B.Naming.opening in
+    let count : ℕ = c.note-pages.result in
+    let w : Caller = c.note-pages.new.caller in
+    let stored = c.args.self.now.row.stored in
+    accesses-HasPages opening w.name w.has_queue_right (Grow c.in-Grow.more) w.seen c.exchange.new.caller.seen c.exchange.result count stored
+    c.exchange.ensures.outcome (counted_by opening c.args.event count c.args.caller.now w stored c.note-pages.ensures)
+
+pub returns : goal.returns
+returns g c =
+    let opening : Memory = g.B.Naming.opening in
+    let event : Event = c.args.event in
+    let count : ℕ = c.note-pages.result in
+    let w : Caller = c.note-pages.new.caller in
+    let none : size_answer opening.max event count ≡ None = ap (λ k. size_answer k event count)
+    (sym c.args.self.now.sized) ∙ sym c.by_size.ensures ∙ c.in_default.is in
+    let sh = shows opening event (size_answer opening.max event count) 0 count c.args.caller.now c.note-pages.new.caller c.note-pages.ensures none in
+    record {
+      name = c.touch.ensures.name ∙ ap (λ (x : Caller). x.name) sh.same;
+      right = c.touch.ensures.right ∙ ap (λ (x : Caller). x.has_queue_right) sh.same;
+      outcome = accesses-after opening event 0 count c.args.caller.now c.note-pages.new.caller c.touch.new.caller.seen
+          c.touch.result sh c.touch.ensures.outcome;
+      single = c.touch.ensures.single;
+      few = few_pages opening event (size_answer opening.max event count) count c.args.caller.now w c.args.self.now.row.stored c.note-pages.ensures;
+      counted = accesses-HasPages opening w.name w.has_queue_right event w.seen c.touch.new.caller.seen c.touch.result count c.args.self.now.row.stored
+          c.touch.ensures.outcome (counted_by opening event count c.args.caller.now w c.args.self.now.row.stored c.note-pages.ensures);
+    }

@@ -1,0 +1,49 @@
+//! The seats of a row.
+ghost use Rattle.std.specs.Prelude.{◌≡◌, ◌<◌, ◌≤◌, false, [], IfOk, map};
+ghost use Rattle.types.specs.Limits.{desk_name, most_pages, seat_count};
+ghost use Rattle.shared_memory_on_table.specs.Callers.{fresh_from};
+ghost use Rattle.shared_memory_on_table.specs.Rule.{opened};
+ghost use Rattle.word_row.specs.Rows.{HasPages};
+
+use shared_memory_on_table::{Naming, Place, Standing};
+use shared_memory_sequential::OneMemory;
+use std::alloc::{AllocError, Global};
+use word_row_rules::{MemoryWords, Row};
+
+/// A caller's place at a row. It is made with the row, and never twice.
+#[derive(Drop)]
+pub struct WordSeat<B: Naming> {
+    /// Who stands there, and what it has seen.
+    pub caller: Standing<B>,
+    /// The greatest page count that the caller has loaded; 0 before it has loaded one. An access that lies within so
+    /// many pages needs no load of the page count: the count never falls, so the access lies within the memory at
+    /// every later point, also where its word is reached. Nothing but such an access goes by it.
+    pub(crate) pages: u64,
+    pub ghost known: { caller.name ≤ desk_name },
+    pub ghost few: { pages ≤ most_pages },
+    pub ghost counted: { HasPages B.opening caller.seen pages },
+}
+
+/// The 17 seats of a row, in order of name, which have loaded no page count.
+///
+/// # Errors
+/// Where the room for them can't be had.
+pub(crate) fn take_seats<B: Naming>(
+    alloc: Global,
+    row: &Row,
+    all: &mut Place,
+) -> Result<Vec<WordSeat<B>>, AllocError>
+    requires row { (row.now.table_id ≡ B.table) × (0 < row.now.table_id.words) }
+    requires all { (all.old.table_id ≡ B.table) × (all.old.me ≡ (opened false, [])) }
+    ensures { IfOk result (λ v. map (λ s. s.caller) v.items ≡ fresh_from seat_count 0) }
+{
+    let given = shared_memory_on_table::take_seats::<B, OneMemory, MemoryWords>(alloc, row, all)?;
+    let mut seats = Vec::with_capacity(alloc, given.len())?;
+    for seat in given {
+        seats.push(WordSeat {
+            caller: seat.caller,
+            pages: 0,
+        })?;
+    }
+    Ok(seats)
+}
