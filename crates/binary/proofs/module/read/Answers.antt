@@ -7,3 +7,6 @@ returns-in-Ok-clause-only c = λ m h. c.in-Ok.ensures.ok.0 ∙ c.in_ok-parts.ens
 
 pub returns-clause-only : goal.returns-clause-only
 returns-clause-only c = λ m h r. c.in-Err.ensures.err.1 (is_whole c.args.bytes.now c.in_ok-parts.parts c.in_ok-parts.ensures.found)
+
+pub returns-clause-first : goal.returns-clause-first
+returns-clause-first c = absurd (c.in-Err.ensures.err.1 (is_whole c.args.bytes.now c.in_ok-parts.parts c.in_ok-parts.ensures.found))
