@@ -104,7 +104,8 @@ fn read_bodies(
     types: &[FuncType],
     functions: &[u32],
 ) -> Result<Sequence<Body>, ReadFault>
-    ensures gives { GivesInMemory (λ v. (v, reader.new.rest.now)) result (bodies_at types.now functions.now reader.old.bounds reader.old.rest.now) }
+    ensures gives { GivesInMemory (λ v. (v, reader.new.rest.now)) result
+        (bodies_at types.now functions.now reader.old.bounds reader.old.rest.now) }
     ensures keeps { reader.new.bounds ≡ reader.old.bounds }
 {
     let mut bodies = Vec::new(alloc);
@@ -123,7 +124,8 @@ pub fn read_code_section(
     types: &[FuncType],
     functions: &[u32],
 ) -> Result<Sequence<Body>, ReadFault>
-    ensures gives { GivesInMemory (λ v. (v, reader.new.rest.now)) result (code_section_at types.now functions.now reader.old.bounds reader.old.rest.now) }
+    ensures gives { GivesInMemory (λ v. (v, reader.new.rest.now)) result
+        (code_section_at types.now functions.now reader.old.bounds reader.old.rest.now) }
     ensures keeps { reader.new.bounds ≡ reader.old.bounds }
 {
     let offset = reader.offset();

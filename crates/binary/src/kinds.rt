@@ -71,62 +71,42 @@ fn table_flag(byte: u8) -> Option<LimitsFlag>
 
 #[tactic(auto, unfolding(crate::specs::Reading::coded_at))]
 pub fn read_external_kind(reader: &mut Reader) -> Result<ExternalKind, Refusal>
-    ensures gives { Gives (λ k. (k, reader.new.rest.now)) result (coded_at faults.UnknownByte external_kind_of reader.old.bounds reader.old.rest.now) }
+    ensures gives { Gives (λ k. (k, reader.new.rest.now)) result
+        (coded_at faults.UnknownByte external_kind_of reader.old.bounds reader.old.rest.now) }
     ensures keeps { reader.new.bounds ≡ reader.old.bounds }
 {
-    let offset = reader.offset();
-    let Some(kind) = external_kind(reader.read_byte()?) else {
-        return Err(Refusal {
-            kind: Fault::UnknownByte,
-            offset,
-        });
-    };
-    Ok(kind)
+    let wrong = reader.fault(Fault::UnknownByte);
+    external_kind(reader.read_byte()?).ok_or(wrong)
 }
 
 #[tactic(auto, unfolding(crate::specs::Reading::coded_at))]
 pub fn read_mutability(reader: &mut Reader) -> Result<bool, Refusal>
-    ensures gives { Gives (λ m. (m, reader.new.rest.now)) result (coded_at faults.UnknownByte mutability_of reader.old.bounds reader.old.rest.now) }
+    ensures gives { Gives (λ m. (m, reader.new.rest.now)) result
+        (coded_at faults.UnknownByte mutability_of reader.old.bounds reader.old.rest.now) }
     ensures keeps { reader.new.bounds ≡ reader.old.bounds }
 {
-    let offset = reader.offset();
-    let Some(mutable) = mutability(reader.read_byte()?) else {
-        return Err(Refusal {
-            kind: Fault::UnknownByte,
-            offset,
-        });
-    };
-    Ok(mutable)
+    let wrong = reader.fault(Fault::UnknownByte);
+    mutability(reader.read_byte()?).ok_or(wrong)
 }
 
 #[tactic(auto, unfolding(crate::specs::Reading::coded_at))]
 pub fn read_memory_flag(reader: &mut Reader) -> Result<LimitsFlag, Refusal>
-    ensures gives { Gives (λ f. (f, reader.new.rest.now)) result (coded_at faults.LimitsFlag memory_flag_of reader.old.bounds reader.old.rest.now) }
+    ensures gives { Gives (λ f. (f, reader.new.rest.now)) result
+        (coded_at faults.LimitsFlag memory_flag_of reader.old.bounds reader.old.rest.now) }
     ensures keeps { reader.new.bounds ≡ reader.old.bounds }
 {
-    let offset = reader.offset();
-    let Some(flag) = memory_flag(reader.read_byte()?) else {
-        return Err(Refusal {
-            kind: Fault::LimitsFlag,
-            offset,
-        });
-    };
-    Ok(flag)
+    let wrong = reader.fault(Fault::LimitsFlag);
+    memory_flag(reader.read_byte()?).ok_or(wrong)
 }
 
 #[tactic(auto, unfolding(crate::specs::Reading::coded_at))]
 pub fn read_table_flag(reader: &mut Reader) -> Result<LimitsFlag, Refusal>
-    ensures gives { Gives (λ f. (f, reader.new.rest.now)) result (coded_at faults.LimitsFlag table_flag_of reader.old.bounds reader.old.rest.now) }
+    ensures gives { Gives (λ f. (f, reader.new.rest.now)) result
+        (coded_at faults.LimitsFlag table_flag_of reader.old.bounds reader.old.rest.now) }
     ensures keeps { reader.new.bounds ≡ reader.old.bounds }
 {
-    let offset = reader.offset();
-    let Some(flag) = table_flag(reader.read_byte()?) else {
-        return Err(Refusal {
-            kind: Fault::LimitsFlag,
-            offset,
-        });
-    };
-    Ok(flag)
+    let wrong = reader.fault(Fault::LimitsFlag);
+    table_flag(reader.read_byte()?).ok_or(wrong)
 }
 
 /// A byte that has to stand there.
@@ -134,12 +114,9 @@ pub fn read_tag(reader: &mut Reader, tag: u8) -> Result<(), Refusal>
     ensures gives { Gives (λ _. reader.new.rest.now) result (tag_at faults.UnknownByte tag reader.old.bounds reader.old.rest.now) }
     ensures keeps { reader.new.bounds ≡ reader.old.bounds }
 {
-    let offset = reader.offset();
+    let wrong = reader.fault(Fault::UnknownByte);
     if reader.read_byte()? != tag {
-        return Err(Refusal {
-            kind: Fault::UnknownByte,
-            offset,
-        });
+        return Err(wrong);
     }
     Ok(())
 }

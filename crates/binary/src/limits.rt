@@ -20,7 +20,8 @@ fn read_limits_after(
     most_min: u32,
     most_max: u32,
 ) -> Result<Limits, Refusal>
-    ensures gives { Gives (λ l. (l, reader.new.rest.now)) result (limits_after_at most_min most_max flag reader.old.bounds reader.old.rest.now) }
+    ensures gives { Gives (λ l. (l, reader.new.rest.now)) result
+        (limits_after_at most_min most_max flag reader.old.bounds reader.old.rest.now) }
     ensures keeps { reader.new.bounds ≡ reader.old.bounds }
 {
     let min = reader.read_u32_within(most_min)?;

@@ -176,7 +176,7 @@ pub fn read_parts(alloc: Global, bytes: &[u8]) -> Result<Parts, ReadFault>
     ensures found { IfOk result (λ m. IsModuleText bytes.now m) }
     // Where the bytes spell a module, it is that one, or memory ran out.
     ensures only { (m : Parts) → IsModuleText bytes.now m → MatchResult result (λ found. found ≡ m) (λ e. Refuses e → ⊥) }
-    // Where memory doesn't run out, a fault is the first one from front to back, at its offset.
+    // It is what the reading gives, or memory ran out: a fault is the first one from front to back, at its offset.
     ensures first { GivesInMemory (λ m. m) result (module_at bytes.now) }
     // The bytes spell one module at most.
     ensures unique { (a b : Parts) → IsModuleText bytes.now a → IsModuleText bytes.now b → a ≡ b }

@@ -26,7 +26,8 @@ fn read_custom(reader: &mut Reader) -> Result<(), Refusal>
 
 /// Passes over custom sections.
 pub fn read_customs(reader: &mut Reader) -> Result<(), Refusal>
-    ensures gives { Gives (λ _. reader.new.rest.now) result (customs_at (length reader.old.rest.now) reader.old.bounds reader.old.rest.now) }
+    ensures gives { Gives (λ _. reader.new.rest.now) result
+        (customs_at (length reader.old.rest.now) reader.old.bounds reader.old.rest.now) }
     ensures keeps { reader.new.bounds ≡ reader.old.bounds }
 {
     // Each takes a byte at least.
@@ -87,7 +88,8 @@ pub fn read_code(
     types: &[FuncType],
     functions: &[u32],
 ) -> Result<Sequence<Body>, ReadFault>
-    ensures gives { GivesInMemory (λ v. (v, reader.new.rest.now)) result (code_at types.now functions.now reader.old.bounds reader.old.rest.now) }
+    ensures gives { GivesInMemory (λ v. (v, reader.new.rest.now)) result
+        (code_at types.now functions.now reader.old.bounds reader.old.rest.now) }
     ensures keeps { reader.new.bounds ≡ reader.old.bounds }
 {
     read_customs(reader)?;

@@ -229,8 +229,11 @@ instr_takes o opens s (code ∷ bytes) i inside rest e =
     let p = shape_is s code bytes shape mid (sym e1) in
     let spelled : IsShaped shape bytes j after = (shaped_law shape).takes s bytes j after (rw p.1 at (sym e4)) in
     take_is (IsNext (o ∷ opens) (code ∷ bytes)) (j, now)
-    (i, inside) after rest e5 ((shape, p.0, spelled), opens_same offset shape o opens bytes j after spelled
-    ∙ ap (λ (x : Result (List Bool) Refusal). found x) (sym n1)))))
+    (i, inside) after rest e5 (
+      (shape, p.0, spelled),
+      opens_same offset shape o opens bytes j after spelled
+          ∙ ap (λ (x : Result (List Bool) Refusal). found x) (sym n1),
+    ))))
 
 instr_again : (o : Bool) (opens : List Bool) (s : Bounds) (bytes : List ℕ) (i : Instr) (inside : List Bool) (rest : List ℕ)
     → IsInstr bytes i rest → opens_behind (o ∷ opens) i ≡ Some inside → instr_at (o ∷ opens) s bytes ≡ Ok ((i, inside), rest)

@@ -12,7 +12,4 @@ mod opcodes;
 mod shaped;
 
 pub use expression::read_expression;
-pub use immediates::{read_block_type, read_memarg, read_val_type};
-pub use opcodes::{
-    AtomicShape, BareInstr, IndexInstr, Opener, Shape, shape_of_atomic, shape_of_opcode,
-};
+pub use immediates::read_val_type;

@@ -14,4 +14,4 @@ mod vectors;
 pub use bounds::Bounds;
 pub use fault::{Fault, ReadFault, Refusal};
 pub use reader::Reader;
-pub use vectors::{IndexItem, Item, read_items, read_vector};
+pub use vectors::{IndexItem, Item, read_vector};

@@ -100,7 +100,7 @@ impl<'a> Reader<'a> {
     }
 
     /// The next bytes, so many.
-    pub fn read_slice(&mut self, len: usize) -> Result<&'a [u8], Refusal>
+    fn read_slice(&mut self, len: usize) -> Result<&'a [u8], Refusal>
         ensures gives { Gives (λ s. (s.now, self.new.rest.now)) result (slice_at len self.old.bounds self.old.rest.now) }
         ensures keeps { self.new.bounds ≡ self.old.bounds }
     {

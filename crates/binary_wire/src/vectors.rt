@@ -36,7 +36,7 @@ impl Item for IndexItem {
 }
 
 /// So many items, one after the other. Memory is taken as they come, whatever their number is said to be.
-pub fn read_items<T: Item>(
+fn read_items<T: Item>(
     reader: &mut Reader,
     alloc: Global,
     count: u32,
