@@ -1,26 +1,29 @@
 -- The law of modules, and what a reader answers by it.
-use Rattle.std.proofs.Common.{◌≡◌, ℕ, ◌≤◌, cond, eqb, ltb, true, List, [], length, Option, Some, None, Result, Ok, Err, refl, sym, subst, ◌∙◌, arith}
+use Rattle.std.proofs.Common.{◌≡◌, ℕ, ◌≤◌, cond, eqb, ltb, true, List, [], ◌∷◌, length, None, Result, Ok, Err, refl, sym, subst, ◌∙◌, arith}
 use Rattle.std.specs.Prelude.{IfOk, MatchResult}
 use Rattle.std.proofs.lemmas.Bool.{eqb-true, eq-eqb, ltb-false, le-ltb}
+use Rattle.binary_wire.specs.declared.bounds.Bounds.{Bounds}
+use Rattle.binary_wire.specs.declared.fault.Fault.TheVariants as faults
+use Rattle.binary_wire.specs.declared.fault.Refusal.{Refusal}
 use Rattle.binary_wire.specs.declared.fault.ReadFault.{ReadFault}
 use Rattle.binary_wire.specs.declared.fault.ReadFault.TheVariants.{OutOfMemory, Malformed}
-use Rattle.binary_wire.specs.Reading.{Gives, Fails, Refuses, u32_at, end_at}
-use Rattle.binary_wire.specs.Grammar.{IsU32}
-use Rattle.binary_wire.proofs.Laws.{Law, gives, bind_case, opt_case, one, some_is, end_case, when_ok, unless_ok, u32_law}
+use Rattle.binary_wire.specs.Faults.{refusal, refused, input}
+use Rattle.binary_wire.specs.Reading.{◌>>=◌, GivesInMemory, Fails, Refuses, u32_at}
+use Rattle.binary_wire.specs.Grammar.{Spelling, IsU32}
+use Rattle.binary_wire.proofs.Laws.{Law, good, bad, gives, bind_case, one_case, take_is, good_is, when_ok, unless_ok, u32_law}
 use Rattle.types.specs.declared.parts.Parts.{Parts}
-use Rattle.types.specs.declared.parts.Limits.{Limits}
-use Rattle.types.specs.declared.parts.FuncType.{FuncType}
 use Rattle.types.specs.declared.parts.Import.{Import}
-use Rattle.types.specs.declared.parts.Global.{Global}
-use Rattle.types.specs.declared.parts.Export.{Export}
-use Rattle.types.specs.declared.parts.ElementSegment.{ElementSegment}
-use Rattle.types.specs.declared.parts.DataSegment.{DataSegment}
-use Rattle.types.specs.declared.parts.Body.{Body}
+use Rattle.types.specs.declared.parts.FuncType.{FuncType}
 use Rattle.types.specs.Limits.{most_module_bytes, most_items}
+use Rattle.binary.specs.declared.parts.Signatures.{Signatures}
+use Rattle.binary.specs.declared.parts.Stores.{Stores}
+use Rattle.binary.specs.declared.parts.Contents.{Contents}
 use Rattle.binary.specs.Counts.{function_room}
-use Rattle.binary.specs.Grammar.{IsFuncType, IsImport, IsTable, IsMemory, IsGlobal, IsExport, IsElement, IsData, IsSection, IsModuleText}
+use Rattle.binary.specs.Grammar.{IsFuncType, IsImport, IsTable, IsMemory, IsGlobal, IsExport, IsStartFunction, IsElement}
+use Rattle.binary.specs.Grammar.{IsData, IsCodeSection, IsSection, IsSectionPart, IsModuleText}
 use Rattle.binary.specs.Reading.{func_type_at, import_at, table_at, memory_at, global_at, export_at, element_at}
-use Rattle.binary.specs.Reading.{data_at, section_at, start_at, code_at, customs_at, opening_at, module_at}
+use Rattle.binary.specs.Reading.{data_at, section_at, start_at, code_at, customs_at, finish_at, opening_at, signatures_at}
+use Rattle.binary.specs.Reading.{stores_at, contents_at, sections_at, parts_of, module_at}
 use Rattle.binary.proofs.Laws.{func_type_law, import_law, table_law, memory_law, global_law, export_law, element_law, data_law}
 use Rattle.binary.proofs.SectionLaws.{section_law, start_law, code_law, customs_take, customs_again, opening_takes, opening_again}
 
@@ -51,169 +54,204 @@ elements_law = section_law 9 most_items IsElement element_at element_law
 data_segments_law : Law (IsSection 11 most_items IsData) (section_at 11 most_items data_at)
 data_segments_law = section_law 11 most_items IsData data_at data_law
 
-pub module_takes : (bytes : List ℕ) (m : Parts) → module_at bytes ≡ Some m → IsModuleText bytes m
-unfolding module_at
+-- ---- the sections, one after the other
+
+abbrev IsSignatures : Spelling Signatures
+IsSignatures bytes x rest = (a : List ℕ) × (b : List ℕ)
+    × IsSection 1 most_items IsFuncType bytes x.types a × IsSection 2 most_items IsImport a x.imports b
+    × IsSection 3 (function_room x.imports) IsU32 b x.functions rest
+
+signatures_take : (s : Bounds) (bytes : List ℕ) (x : Signatures) (rest : List ℕ) → signatures_at s bytes ≡ Ok (x, rest) → IsSignatures bytes x rest
+unfolding signatures_at
+signatures_take s bytes x rest e0 =
+    bind_case (section_at 1 most_items func_type_at s bytes) _ _ e0 (λ types a a1 a2.
+    bind_case (section_at 2 most_items import_at s a) _ _ a2 (λ imports b b1 b2.
+    bind_case (section_at 3 (function_room imports) u32_at s b) _ _ b2 (λ functions c c1 c2.
+    take_is (IsSignatures bytes) (record { types = types; imports = imports; functions = functions }) x c rest c2 (
+      a,
+      b,
+      types_law.takes s bytes types a (sym a1),
+      imports_law.takes s a imports b (sym b1),
+      (functions_law imports).takes s b functions c (sym c1),
+    ))))
+
+signatures_again : (s : Bounds) (bytes : List ℕ) (x : Signatures) (rest : List ℕ) → IsSignatures bytes x rest → signatures_at s bytes ≡ Ok (x, rest)
+unfolding signatures_at
+signatures_again s bytes x rest h =
+    rw (
+      types_law.again s bytes x.types h.0 h.2,
+      imports_law.again s h.0 x.imports h.1 h.3,
+      (functions_law x.imports).again s h.1 x.functions rest h.4,
+    ) refl
+
+abbrev AreStores : Spelling Stores
+AreStores bytes x rest = (a : List ℕ) × (b : List ℕ) × (c : List ℕ) × (d : List ℕ)
+    × IsSection 4 most_items IsTable bytes x.tables a × IsSection 5 most_items IsMemory a x.memories b
+    × IsSection 6 most_items IsGlobal b x.globals c × IsSection 7 most_items IsExport c x.exports d
+    × IsSectionPart 8 None IsStartFunction d x.start rest
+
+stores_take : (s : Bounds) (bytes : List ℕ) (x : Stores) (rest : List ℕ) → stores_at s bytes ≡ Ok (x, rest) → AreStores bytes x rest
+unfolding stores_at
+stores_take s bytes x rest e0 =
+    bind_case (section_at 4 most_items table_at s bytes) _ _ e0 (λ tables a a1 a2.
+    bind_case (section_at 5 most_items memory_at s a) _ _ a2 (λ memories b b1 b2.
+    bind_case (section_at 6 most_items global_at s b) _ _ b2 (λ globals c c1 c2.
+    bind_case (section_at 7 most_items export_at s c) _ _ c2 (λ exports d d1 d2.
+    bind_case (start_at s d) _ _ d2 (λ start e e1 e2.
+    take_is (AreStores bytes) (record { tables = tables; memories = memories; globals = globals; exports = exports; start = start }) x e rest e2 (
+      a,
+      b,
+      c,
+      d,
+      tables_law.takes s bytes tables a (sym a1),
+      memories_law.takes s a memories b (sym b1),
+      globals_law.takes s b globals c (sym c1),
+      exports_law.takes s c exports d (sym d1),
+      start_law.takes s d start e (sym e1),
+    ))))))
+
+stores_again : (s : Bounds) (bytes : List ℕ) (x : Stores) (rest : List ℕ) → AreStores bytes x rest → stores_at s bytes ≡ Ok (x, rest)
+unfolding stores_at
+stores_again s bytes x rest h =
+    rw (
+      tables_law.again s bytes x.tables h.0 h.4,
+      memories_law.again s h.0 x.memories h.1 h.5,
+      globals_law.again s h.1 x.globals h.2 h.6,
+      exports_law.again s h.2 x.exports h.3 h.7,
+      start_law.again s h.3 x.start rest h.8,
+    ) refl
+
+abbrev AreContents : List FuncType → List ℕ → Spelling Contents
+AreContents types functions bytes x rest = (a : List ℕ) × (b : List ℕ)
+    × IsSection 9 most_items IsElement bytes x.elements a × IsSectionPart 10 [] (IsCodeSection types functions) a x.bodies b
+    × IsSection 11 most_items IsData b x.«data» rest
+
+contents_take : (types : List FuncType) (functions : List ℕ) (s : Bounds) (bytes : List ℕ) (x : Contents) (rest : List ℕ)
+    → contents_at types functions s bytes ≡ Ok (x, rest) → AreContents types functions bytes x rest
+unfolding contents_at
+contents_take types functions s bytes x rest e0 =
+    bind_case (section_at 9 most_items element_at s bytes) _ _ e0 (λ elements a a1 a2.
+    bind_case (code_at types functions s a) _ _ a2 (λ bodies b b1 b2.
+    bind_case (section_at 11 most_items data_at s b) _ _ b2 (λ segments c c1 c2.
+    take_is (AreContents types functions bytes) (record { elements = elements; bodies = bodies; «data» = segments }) x c rest c2 (
+      a,
+      b,
+      elements_law.takes s bytes elements a (sym a1),
+      (code_law types functions).takes s a bodies b (sym b1),
+      data_segments_law.takes s b segments c (sym c1),
+    ))))
+
+contents_again : (types : List FuncType) (functions : List ℕ) (s : Bounds) (bytes : List ℕ) (x : Contents) (rest : List ℕ)
+    → AreContents types functions bytes x rest → contents_at types functions s bytes ≡ Ok (x, rest)
+unfolding contents_at
+contents_again types functions s bytes x rest h =
+    rw (
+      elements_law.again s bytes x.elements h.0 h.2,
+      (code_law types functions).again s h.0 x.bodies h.1 h.3,
+      data_segments_law.again s h.1 x.«data» rest h.4,
+    ) refl
+
+-- ---- the module
+
+finish_case : {A : Type 0} (s : Bounds) (left : List ℕ) (r : Result A Refusal) (y : A)
+    → (finish_at s left >>= λ whole. r) ≡ Ok y → (left ≡ []) × (r ≡ Ok y)
+finish_case s [] r y e = (refl, e)
+finish_case s (b ∷ left) r y e = absurd cc
+
+pub module_takes : (bytes : List ℕ) (m : Parts) → module_at bytes ≡ Ok m → IsModuleText bytes m
+unfolding module_at sections_at
 module_takes bytes m e0 =
-    let fits = unless_ok (ltb most_module_bytes (length bytes)) _ m e0 in
-    opt_case (opening_at bytes) _ _ fits.1 (λ opened o1 o2.
-    bind_case (section_at 1 most_items func_type_at opened) _ _ o2 (λ types a a1 a2.
-    bind_case (section_at 2 most_items import_at a) _ _ a2 (λ imports b b1 b2.
-    bind_case (section_at 3 (function_room imports) u32_at b) _ _ b2 (λ functions c c1 c2.
-    bind_case (section_at 4 most_items table_at c) _ _ c2 (λ tables d d1 d2.
-    bind_case (section_at 5 most_items memory_at d) _ _ d2 (λ memories e e1 e2.
-    bind_case (section_at 6 most_items global_at e) _ _ e2 (λ globals f f1 f2.
-    bind_case (section_at 7 most_items export_at f) _ _ f2 (λ exports g g1 g2.
-    bind_case (start_at g) _ _ g2 (λ start h h1 h2.
-    bind_case (section_at 9 most_items element_at h) _ _ h2 (λ elements i i1 i2.
-    bind_case (code_at types functions i) _ _ i2 (λ bodies j j1 j2.
-    bind_case (section_at 11 most_items data_at j) _ _ j2 (λ segments k k1 k2.
-    opt_case (customs_at (length k) k) _ _ k2 (λ rest r1 r2.
-    let made : Parts = record {
-      types = types;
-      imports = imports;
-      functions = functions;
-      tables = tables;
-      memories = memories;
-      globals = globals;
-      exports = exports;
-      start = start;
-      elements = elements;
-      bodies = bodies;
-      «data» = segments;
-    } in
-    let t = end_case rest (cond (eqb (length functions) (length bodies)) (Some made) None) m r2 in
-    let w = when_ok (eqb (length functions) (length bodies)) (Some made) m t.1 in
-    let customs = customs_take (length k) k [] (omega arith) (rw t.0 at (sym r1)) in
+    let s = input bytes in
+    let fits = unless_ok (ltb most_module_bytes (length bytes)) (refusal faults.Limit most_module_bytes) _ m e0 in
+    one_case (opening_at s bytes) _ _ fits.1 (λ opened o1 o2.
+    bind_case (signatures_at s opened) _ _ o2 (λ x c x1 x2.
+    bind_case (stores_at s c) _ _ x2 (λ y h y1 y2.
+    bind_case (contents_at x.types x.functions s h) _ _ y2 (λ z k z1 z2.
+    one_case (customs_at (length k) s k) _ _ z2 (λ rest r1 r2.
+    let made = parts_of x y z in
+    let wrong = refused faults.CountsDiffer s rest in
+    let t = finish_case s rest (cond (eqb (length x.functions) (length z.bodies)) (good made) (bad wrong)) m r2 in
+    let w = when_ok (eqb (length x.functions) (length z.bodies)) (good made) wrong m t.1 in
+    let customs = customs_take (length k) s k [] (omega arith) (rw t.0 at (sym r1)) in
+    let signatures = signatures_take s opened x c (sym x1) in
+    let stores = stores_take s c y h (sym y1) in
+    let contents = contents_take x.types x.functions s h z k (sym z1) in
     let size : length bytes ≤ most_module_bytes = ltb-false _ _ fits.0 in
-    subst (IsModuleText bytes) (some_is made m w.1) (record {
+    subst (IsModuleText bytes) (good_is made m w.1) (record {
       size = size;
       before_types = opened;
-      before_imports = a;
-      before_functions = b;
+      before_imports = signatures.0;
+      before_functions = signatures.1;
       before_tables = c;
-      before_memories = d;
-      before_globals = e;
-      before_exports = f;
-      before_start = g;
+      before_memories = stores.0;
+      before_globals = stores.1;
+      before_exports = stores.2;
+      before_start = stores.3;
       before_elements = h;
-      before_bodies = i;
-      before_data = j;
+      before_bodies = contents.0;
+      before_data = contents.1;
       before_end = k;
-      opening = opening_takes bytes opened (sym o1);
-      types = types_law.takes opened types a (sym a1);
-      imports = imports_law.takes a imports b (sym b1);
-      functions = (functions_law imports).takes b functions c (sym c1);
-      tables = tables_law.takes c tables d (sym d1);
-      memories = memories_law.takes d memories e (sym e1);
-      globals = globals_law.takes e globals f (sym f1);
-      exports = exports_law.takes f exports g (sym g1);
-      start = start_law.takes g start h (sym h1);
-      elements = elements_law.takes h elements i (sym i1);
-      bodies = (code_law types functions).takes i bodies j (sym j1);
-      data_segments = data_segments_law.takes j segments k (sym k1);
+      opening = opening_takes s bytes opened (sym o1);
+      types = signatures.2;
+      imports = signatures.3;
+      functions = signatures.4;
+      tables = stores.4;
+      memories = stores.5;
+      globals = stores.6;
+      exports = stores.7;
+      start = stores.8;
+      elements = contents.2;
+      bodies = contents.3;
+      data_segments = contents.4;
       customs_at_end = customs.0;
       end = customs.1;
       counts = eqb-true _ _ w.0;
-    }))))))))))))))
+    }))))))
 
-pub module_again : (bytes : List ℕ) (m : Parts) → IsModuleText bytes m → module_at bytes ≡ Some m
-unfolding module_at
+pub module_again : (bytes : List ℕ) (m : Parts) → IsModuleText bytes m → module_at bytes ≡ Ok m
+unfolding module_at sections_at
 module_again bytes m h =
+    let s = input bytes in
+    let x : Signatures = record { types = m.types; imports = m.imports; functions = m.functions } in
+    let y : Stores = record { tables = m.tables; memories = m.memories; globals = m.globals; exports = m.exports; start = m.start } in
+    let z : Contents = record { elements = m.elements; bodies = m.bodies; «data» = m.«data» } in
     rw (
       le-ltb most_module_bytes (length bytes) h.size,
-      opening_again bytes h.before_types h.opening,
-      types_law.again h.before_types m.types h.before_imports h.types,
-      imports_law.again h.before_imports m.imports h.before_functions h.imports,
-      (functions_law m.imports).again h.before_functions m.functions h.before_tables h.functions,
-      tables_law.again h.before_tables m.tables h.before_memories h.tables,
-      memories_law.again h.before_memories m.memories h.before_globals h.memories,
-      globals_law.again h.before_globals m.globals h.before_exports h.globals,
-      exports_law.again h.before_exports m.exports h.before_start h.exports,
-      start_law.again h.before_start m.start h.before_elements h.start,
-      elements_law.again h.before_elements m.elements h.before_bodies h.elements,
-      (code_law m.types m.functions).again h.before_bodies m.bodies h.before_data h.bodies,
-      data_segments_law.again h.before_data m.«data» h.before_end h.data_segments,
-      customs_again (length h.before_end) h.before_end h.customs_at_end [] (omega arith) h.end,
+      opening_again s bytes h.before_types h.opening,
+      signatures_again s h.before_types x h.before_tables (h.before_imports, h.before_functions, h.types, h.imports, h.functions),
+      stores_again s h.before_tables y h.before_elements (
+        h.before_memories,
+        h.before_globals,
+        h.before_exports,
+        h.before_start,
+        h.tables,
+        h.memories,
+        h.globals,
+        h.exports,
+        h.start,
+      ),
+      contents_again m.types m.functions s h.before_elements z h.before_end (h.before_bodies, h.before_data, h.elements, h.bodies, h.data_segments),
+      customs_again (length h.before_end) s h.before_end h.customs_at_end [] (omega arith) h.end,
       eq-eqb (length m.functions) (length m.bodies) h.counts,
-    ) refl
-
--- What the parts of a module read one after the other give, where the room for functions and the lists of types and of
--- functions are those that the code has.
-pub module_reads : (bytes input opened a b c d e f g h i j k rest : List ℕ) (types ts : List FuncType)
-    (imports : List Import) (room : ℕ) (functions fs : List ℕ) (tables memories : List Limits)
-    (globals : List Global) (exports : List Export) (start : Option ℕ) (elements : List ElementSegment) (bodies : List Body) (segments : List DataSegment)
-    → length bytes ≤ most_module_bytes → input ≡ bytes → opening_at input ≡ Some opened
-    → section_at 1 most_items func_type_at opened ≡ gives types a
-    → section_at 2 most_items import_at a ≡ gives imports b
-    → room ≡ function_room imports → section_at 3 room u32_at b ≡ gives functions c
-    → section_at 4 most_items table_at c ≡ gives tables d
-    → section_at 5 most_items memory_at d ≡ gives memories e
-    → section_at 6 most_items global_at e ≡ gives globals f
-    → section_at 7 most_items export_at f ≡ gives exports g
-    → start_at g ≡ gives start h
-    → section_at 9 most_items element_at h ≡ gives elements i
-    → ts ≡ types → fs ≡ functions → code_at ts fs i ≡ gives bodies j
-    → section_at 11 most_items data_at j ≡ gives segments k
-    → customs_at (length k) k ≡ Some rest → end_at rest ≡ Some true
-    → length functions ≡ length bodies
-    → module_at bytes ≡ Some (record {
-      types = types;
-      imports = imports;
-      functions = functions;
-      tables = tables;
-      memories = memories;
-      globals = globals;
-      exports = exports;
-      start = start;
-      elements = elements;
-      bodies = bodies;
-      «data» = segments;
-    })
-unfolding module_at
-module_reads bytes input opened a b c d e f g h i j k rest types ts imports room functions fs tables memories globals
-    exports start elements bodies segments size is o r1 r2 is_room r3 r4 r5 r6 r7 r8 r9 are_types are_functions r10 r11
-    r12 whole counts =
-    let o' : opening_at bytes ≡ Some opened = subst (λ (l : List ℕ). opening_at l ≡ Some opened) is o in
-    let r3' : section_at 3 (function_room imports) u32_at b ≡ gives functions c = subst (λ (n : ℕ). section_at 3 n u32_at b ≡ gives functions c) is_room r3 in
-    let r10' : code_at types functions i ≡ gives bodies j =
-    subst (λ (l : List FuncType). code_at l functions i ≡ gives bodies j) are_types
-    (subst (λ (l : List ℕ). code_at ts l i ≡ gives bodies j) are_functions r10) in
-    rw (
-      le-ltb most_module_bytes (length bytes) size,
-      o',
-      r1,
-      r2,
-      r3',
-      r4,
-      r5,
-      r6,
-      r7,
-      r8,
-      r9,
-      r10',
-      r11,
-      r12,
-      whole,
-      eq-eqb (length functions) (length bodies) counts,
     ) refl
 
 -- ---- what a reader answers
 
 pub is_found : {X : Type 0} (view : X → Parts) (r : Result X ReadFault) (bytes : List ℕ)
-    → Gives view r (module_at bytes) → IfOk r (λ m. IsModuleText bytes (view m))
+    → GivesInMemory view r (module_at bytes) → IfOk r (λ m. IsModuleText bytes (view m))
 is_found view (Ok m) bytes given = module_takes bytes (view m) given
 is_found view (Err e) bytes given = tt
 
-no_fault : {X : Type 0} (e : ReadFault) (m : X) → Fails e (one m) → Refuses e → ⊥
+no_fault : {X : Type 0} (e : ReadFault) (m : X) → Fails e (good m) → Refuses e → ⊥
 no_fault OutOfMemory m f r = r
 no_fault (Malformed kind offset) m f r = absurd cc
 
 pub is_only : {X : Type 0} (view : X → Parts) (r : Result X ReadFault) (bytes : List ℕ)
-    → Gives view r (module_at bytes) → (m : Parts) → IsModuleText bytes m
+    → GivesInMemory view r (module_at bytes) → (m : Parts) → IsModuleText bytes m
     → MatchResult r (λ x. view x ≡ m) (λ e. Refuses e → ⊥)
-is_only view (Ok x) bytes given m h = some_is (view x) m (sym given ∙ module_again bytes m h)
-is_only view (Err e) bytes given m h = no_fault e m (subst (λ (o : Option Parts). Fails e o) (module_again bytes m h) given)
+is_only view (Ok x) bytes given m h = good_is (view x) m (sym given ∙ module_again bytes m h)
+is_only view (Err e) bytes given m h = no_fault e m (subst (λ (o : Result Parts Refusal). Fails e o) (module_again bytes m h) given)
 
 -- The bytes spell one module at most.
 pub is_one : (bytes : List ℕ) (a b : Parts) → IsModuleText bytes a → IsModuleText bytes b → a ≡ b
-is_one bytes a b ha hb = some_is a b (sym (module_again bytes a ha) ∙ module_again bytes b hb)
+is_one bytes a b ha hb = good_is a b (sym (module_again bytes a ha) ∙ module_again bytes b hb)

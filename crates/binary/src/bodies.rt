@@ -1,7 +1,7 @@
 //! Bodies of functions: their locals and their code.
 
 ghost use Rattle.std.specs.Prelude.{◌≡◌, ◌<◌, ◌++◌, length, replicate, slice_index_or, IfOk};
-ghost use Rattle.binary_wire.specs.Reading.{Gives};
+ghost use Rattle.binary_wire.specs.Reading.{GivesInMemory};
 ghost use Rattle.types.specs.Within.{param_count};
 ghost use Rattle.binary.specs.Reading.{groups_at, locals_at, body_at, bodies_at, code_section_at};
 
@@ -37,7 +37,8 @@ fn read_groups(
     count: u32,
     room: u32,
 ) -> Result<Sequence<ValType>, ReadFault>
-    ensures { Gives (λ v. (v, reader.new.rest.now)) result (groups_at count room reader.old.rest.now) }
+    ensures gives { GivesInMemory (λ v. (v, reader.new.rest.now)) result (groups_at count room reader.old.bounds reader.old.rest.now) }
+    ensures keeps { reader.new.bounds ≡ reader.old.bounds }
 {
     let mut locals = Vec::new(alloc);
     let mut left = room;
@@ -57,7 +58,8 @@ fn read_locals(
     alloc: Global,
     room: u32,
 ) -> Result<Sequence<ValType>, ReadFault>
-    ensures { Gives (λ v. (v, reader.new.rest.now)) result (locals_at room reader.old.rest.now) }
+    ensures gives { GivesInMemory (λ v. (v, reader.new.rest.now)) result (locals_at room reader.old.bounds reader.old.rest.now) }
+    ensures keeps { reader.new.bounds ≡ reader.old.bounds }
 {
     let count = reader.read_u32()?;
     read_groups(reader, alloc, count, room)
@@ -66,7 +68,8 @@ fn read_locals(
 /// The body of a function with so many parameters (Core specification 1.0, section 5.5.13).
 #[tactic(auto, unfolding(crate::specs::Reading::body_at, crate::specs::Reading::body_contents_at, crate::specs::Reading::block_within_at))]
 fn read_body(reader: &mut Reader, alloc: Global, params: usize) -> Result<Body, ReadFault>
-    ensures { Gives (λ b. (b, reader.new.rest.now)) result (body_at params reader.old.rest.now) }
+    ensures gives { GivesInMemory (λ b. (b, reader.new.rest.now)) result (body_at params reader.old.bounds reader.old.rest.now) }
+    ensures keeps { reader.new.bounds ≡ reader.old.bounds }
 {
     let size = reader.read_u32_within(MOST_BODY_BYTES)?;
     let mut contents = reader.read_part(size as usize)?;
@@ -86,8 +89,9 @@ fn read_body_of(
     place: usize,
 ) -> Result<Body, ReadFault>
     requires { place < length functions.now }
-    ensures { Gives (λ b. (b, reader.new.rest.now)) result
-        (body_at (param_count types.now (slice_index_or functions.now place 0)) reader.old.rest.now) }
+    ensures gives { GivesInMemory (λ b. (b, reader.new.rest.now)) result
+        (body_at (param_count types.now (slice_index_or functions.now place 0)) reader.old.bounds reader.old.rest.now) }
+    ensures keeps { reader.new.bounds ≡ reader.old.bounds }
 {
     let params = param_count(types, functions[place]);
     read_body(reader, alloc, params)
@@ -100,7 +104,9 @@ fn read_bodies(
     types: &[FuncType],
     functions: &[u32],
 ) -> Result<Sequence<Body>, ReadFault>
-    ensures { Gives (λ v. (v, reader.new.rest.now)) result (bodies_at types.now functions.now reader.old.rest.now) }
+    ensures gives { GivesInMemory (λ v. (v, reader.new.rest.now)) result
+        (bodies_at types.now functions.now reader.old.bounds reader.old.rest.now) }
+    ensures keeps { reader.new.bounds ≡ reader.old.bounds }
 {
     let mut bodies = Vec::new(alloc);
     for i in 0..functions.len() {
@@ -118,7 +124,9 @@ pub fn read_code_section(
     types: &[FuncType],
     functions: &[u32],
 ) -> Result<Sequence<Body>, ReadFault>
-    ensures { Gives (λ v. (v, reader.new.rest.now)) result (code_section_at types.now functions.now reader.old.rest.now) }
+    ensures gives { GivesInMemory (λ v. (v, reader.new.rest.now)) result
+        (code_section_at types.now functions.now reader.old.bounds reader.old.rest.now) }
+    ensures keeps { reader.new.bounds ≡ reader.old.bounds }
 {
     let offset = reader.offset();
     let count = reader.read_u32()?;

@@ -1,16 +1,18 @@
 //! Imports and exports.
 
-ghost use Rattle.binary_wire.specs.Reading.{Gives, name_at};
+ghost use Rattle.std.specs.Prelude.{◌≡◌};
+ghost use Rattle.binary_wire.specs.Reading.{Gives, GivesInMemory, name_at};
 ghost use Rattle.binary.specs.Reading.{described_at, import_desc_at, import_at, export_desc_at, export_at};
 
 use crate::kinds::{ExternalKind, read_external_kind};
 use crate::limits::{read_global_type, read_memory, read_table};
-use binary_wire::{Item, ReadFault, Reader};
+use binary_wire::{Item, ReadFault, Reader, Refusal};
 use std::alloc::Global;
 use types::{Export, ExportDesc, Import, ImportDesc, Name};
 
 fn read_name(reader: &mut Reader, alloc: Global) -> Result<Name, ReadFault>
-    ensures { Gives (λ n. (n, reader.new.rest.now)) result (name_at reader.old.rest.now) }
+    ensures gives { GivesInMemory (λ n. (n, reader.new.rest.now)) result (name_at reader.old.bounds reader.old.rest.now) }
+    ensures keeps { reader.new.bounds ≡ reader.old.bounds }
 {
     let text = reader.read_name()?;
     Ok(Name::from_string(String::from_str(alloc, text)?))
@@ -18,8 +20,9 @@ fn read_name(reader: &mut Reader, alloc: Global) -> Result<Name, ReadFault>
 
 /// What stands behind the kind of an import.
 #[tactic(auto, unfolding(crate::specs::Reading::described_at))]
-fn read_described(reader: &mut Reader, kind: ExternalKind) -> Result<ImportDesc, ReadFault>
-    ensures { Gives (λ d. (d, reader.new.rest.now)) result (described_at kind reader.old.rest.now) }
+fn read_described(reader: &mut Reader, kind: ExternalKind) -> Result<ImportDesc, Refusal>
+    ensures gives { Gives (λ d. (d, reader.new.rest.now)) result (described_at kind reader.old.bounds reader.old.rest.now) }
+    ensures keeps { reader.new.bounds ≡ reader.old.bounds }
 {
     match kind {
         ExternalKind::Func => Ok(ImportDesc::Func(reader.read_u32()?)),
@@ -30,8 +33,9 @@ fn read_described(reader: &mut Reader, kind: ExternalKind) -> Result<ImportDesc,
 }
 
 #[tactic(auto, unfolding(crate::specs::Reading::import_desc_at))]
-fn read_import_desc(reader: &mut Reader) -> Result<ImportDesc, ReadFault>
-    ensures { Gives (λ d. (d, reader.new.rest.now)) result (import_desc_at reader.old.rest.now) }
+fn read_import_desc(reader: &mut Reader) -> Result<ImportDesc, Refusal>
+    ensures gives { Gives (λ d. (d, reader.new.rest.now)) result (import_desc_at reader.old.bounds reader.old.rest.now) }
+    ensures keeps { reader.new.bounds ≡ reader.old.bounds }
 {
     let kind = read_external_kind(reader)?;
     read_described(reader, kind)
@@ -55,8 +59,9 @@ impl Item for ImportItem {
 }
 
 #[tactic(auto, unfolding(crate::specs::Reading::export_desc_at))]
-fn read_export_desc(reader: &mut Reader) -> Result<ExportDesc, ReadFault>
-    ensures { Gives (λ d. (d, reader.new.rest.now)) result (export_desc_at reader.old.rest.now) }
+fn read_export_desc(reader: &mut Reader) -> Result<ExportDesc, Refusal>
+    ensures gives { Gives (λ d. (d, reader.new.rest.now)) result (export_desc_at reader.old.bounds reader.old.rest.now) }
+    ensures keeps { reader.new.bounds ≡ reader.old.bounds }
 {
     let kind = read_external_kind(reader)?;
     let index = reader.read_u32()?;

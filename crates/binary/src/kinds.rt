@@ -2,10 +2,11 @@
 
 ghost use Rattle.std.specs.Prelude.{◌≡◌};
 ghost use Rattle.binary_wire.specs.Reading.{Gives, tag_at};
+ghost use Rattle.binary_wire.specs.declared.fault.Fault.TheVariants as faults;
 ghost use Rattle.binary.specs.Kinds.{external_kind_of, mutability_of, memory_flag_of, table_flag_of};
 ghost use Rattle.binary.specs.Reading.{coded_at};
 
-use binary_wire::{Fault, ReadFault, Reader};
+use binary_wire::{Fault, Reader, Refusal};
 
 /// What an import or an export is (Core specification 1.0, sections 5.5.5 and 5.5.10).
 #[derive(Clone, Copy)]
@@ -69,71 +70,53 @@ fn table_flag(byte: u8) -> Option<LimitsFlag>
 }
 
 #[tactic(auto, unfolding(crate::specs::Reading::coded_at))]
-pub fn read_external_kind(reader: &mut Reader) -> Result<ExternalKind, ReadFault>
-    ensures { Gives (λ k. (k, reader.new.rest.now)) result (coded_at external_kind_of reader.old.rest.now) }
+pub fn read_external_kind(reader: &mut Reader) -> Result<ExternalKind, Refusal>
+    ensures gives { Gives (λ k. (k, reader.new.rest.now)) result
+        (coded_at faults.UnknownByte external_kind_of reader.old.bounds reader.old.rest.now) }
+    ensures keeps { reader.new.bounds ≡ reader.old.bounds }
 {
-    let offset = reader.offset();
-    let Some(kind) = external_kind(reader.read_byte()?) else {
-        return Err(ReadFault::Malformed {
-            kind: Fault::UnknownByte,
-            offset,
-        });
-    };
-    Ok(kind)
+    let wrong = reader.fault(Fault::UnknownByte);
+    external_kind(reader.read_byte()?).ok_or(wrong)
 }
 
 #[tactic(auto, unfolding(crate::specs::Reading::coded_at))]
-pub fn read_mutability(reader: &mut Reader) -> Result<bool, ReadFault>
-    ensures { Gives (λ m. (m, reader.new.rest.now)) result (coded_at mutability_of reader.old.rest.now) }
+pub fn read_mutability(reader: &mut Reader) -> Result<bool, Refusal>
+    ensures gives { Gives (λ m. (m, reader.new.rest.now)) result
+        (coded_at faults.UnknownByte mutability_of reader.old.bounds reader.old.rest.now) }
+    ensures keeps { reader.new.bounds ≡ reader.old.bounds }
 {
-    let offset = reader.offset();
-    let Some(mutable) = mutability(reader.read_byte()?) else {
-        return Err(ReadFault::Malformed {
-            kind: Fault::UnknownByte,
-            offset,
-        });
-    };
-    Ok(mutable)
+    let wrong = reader.fault(Fault::UnknownByte);
+    mutability(reader.read_byte()?).ok_or(wrong)
 }
 
 #[tactic(auto, unfolding(crate::specs::Reading::coded_at))]
-pub fn read_memory_flag(reader: &mut Reader) -> Result<LimitsFlag, ReadFault>
-    ensures { Gives (λ f. (f, reader.new.rest.now)) result (coded_at memory_flag_of reader.old.rest.now) }
+pub fn read_memory_flag(reader: &mut Reader) -> Result<LimitsFlag, Refusal>
+    ensures gives { Gives (λ f. (f, reader.new.rest.now)) result
+        (coded_at faults.LimitsFlag memory_flag_of reader.old.bounds reader.old.rest.now) }
+    ensures keeps { reader.new.bounds ≡ reader.old.bounds }
 {
-    let offset = reader.offset();
-    let Some(flag) = memory_flag(reader.read_byte()?) else {
-        return Err(ReadFault::Malformed {
-            kind: Fault::LimitsFlag,
-            offset,
-        });
-    };
-    Ok(flag)
+    let wrong = reader.fault(Fault::LimitsFlag);
+    memory_flag(reader.read_byte()?).ok_or(wrong)
 }
 
 #[tactic(auto, unfolding(crate::specs::Reading::coded_at))]
-pub fn read_table_flag(reader: &mut Reader) -> Result<LimitsFlag, ReadFault>
-    ensures { Gives (λ f. (f, reader.new.rest.now)) result (coded_at table_flag_of reader.old.rest.now) }
+pub fn read_table_flag(reader: &mut Reader) -> Result<LimitsFlag, Refusal>
+    ensures gives { Gives (λ f. (f, reader.new.rest.now)) result
+        (coded_at faults.LimitsFlag table_flag_of reader.old.bounds reader.old.rest.now) }
+    ensures keeps { reader.new.bounds ≡ reader.old.bounds }
 {
-    let offset = reader.offset();
-    let Some(flag) = table_flag(reader.read_byte()?) else {
-        return Err(ReadFault::Malformed {
-            kind: Fault::LimitsFlag,
-            offset,
-        });
-    };
-    Ok(flag)
+    let wrong = reader.fault(Fault::LimitsFlag);
+    table_flag(reader.read_byte()?).ok_or(wrong)
 }
 
 /// A byte that has to stand there.
-pub fn read_tag(reader: &mut Reader, tag: u8) -> Result<(), ReadFault>
-    ensures { Gives (λ _. reader.new.rest.now) result (tag_at tag reader.old.rest.now) }
+pub fn read_tag(reader: &mut Reader, tag: u8) -> Result<(), Refusal>
+    ensures gives { Gives (λ _. reader.new.rest.now) result (tag_at faults.UnknownByte tag reader.old.bounds reader.old.rest.now) }
+    ensures keeps { reader.new.bounds ≡ reader.old.bounds }
 {
-    let offset = reader.offset();
+    let wrong = reader.fault(Fault::UnknownByte);
     if reader.read_byte()? != tag {
-        return Err(ReadFault::Malformed {
-            kind: Fault::UnknownByte,
-            offset,
-        });
+        return Err(wrong);
     }
     Ok(())
 }

@@ -1,7 +1,7 @@
 //! Modules in the binary format (Core specification 1.0, chapter 5; threads proposal, section "Binary format").
 //!
 //! `specs/Grammar.antt` says which bytes spell which module. `read` answers that module, or a fault: the first one from
-//! front to back.
+//! front to back, as `specs/Reading.antt` computes it.
 #![tactic(auto)]
 
 mod bodies;
@@ -13,7 +13,5 @@ mod opening;
 mod parts;
 mod sections;
 mod segments;
-#[cfg(test)]
-mod tests;
 
 pub use module::read;

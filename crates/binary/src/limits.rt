@@ -1,11 +1,12 @@
 //! Tables, memories, globals and function types.
 
+ghost use Rattle.std.specs.Prelude.{◌≡◌};
 ghost use Rattle.binary_wire.specs.Reading.{Gives};
 ghost use Rattle.binary.specs.Reading.{limits_after_at, table_at, memory_at, global_type_at, global_at, func_type_at};
 
 use crate::kinds::{LimitsFlag, read_memory_flag, read_mutability, read_table_flag, read_tag};
 use binary_instructions::{read_expression, read_val_type};
-use binary_wire::{Item, ReadFault, Reader, read_vector};
+use binary_wire::{Item, ReadFault, Reader, Refusal, read_vector};
 use types::{FuncType, GlobalType, Limits, MOST_ELEMENTS, MOST_PAGES, MOST_PARAMS, ValType};
 
 /// The most parameters or results of a function type.
@@ -18,8 +19,10 @@ fn read_limits_after(
     flag: LimitsFlag,
     most_min: u32,
     most_max: u32,
-) -> Result<Limits, ReadFault>
-    ensures { Gives (λ l. (l, reader.new.rest.now)) result (limits_after_at most_min most_max flag reader.old.rest.now) }
+) -> Result<Limits, Refusal>
+    ensures gives { Gives (λ l. (l, reader.new.rest.now)) result
+        (limits_after_at most_min most_max flag reader.old.bounds reader.old.rest.now) }
+    ensures keeps { reader.new.bounds ≡ reader.old.bounds }
 {
     let min = reader.read_u32_within(most_min)?;
     match flag {
@@ -43,8 +46,9 @@ fn read_limits_after(
 
 /// A table type (Core specification 1.0, section 5.3.6).
 #[tactic(auto, unfolding(crate::specs::Reading::table_at))]
-pub fn read_table(reader: &mut Reader) -> Result<Limits, ReadFault>
-    ensures { Gives (λ l. (l, reader.new.rest.now)) result (table_at reader.old.rest.now) }
+pub fn read_table(reader: &mut Reader) -> Result<Limits, Refusal>
+    ensures gives { Gives (λ l. (l, reader.new.rest.now)) result (table_at reader.old.bounds reader.old.rest.now) }
+    ensures keeps { reader.new.bounds ≡ reader.old.bounds }
 {
     read_tag(reader, 0x70)?;
     let flag = read_table_flag(reader)?;
@@ -53,8 +57,9 @@ pub fn read_table(reader: &mut Reader) -> Result<Limits, ReadFault>
 
 /// A memory type (Core specification 1.0, section 5.3.5).
 #[tactic(auto, unfolding(crate::specs::Reading::memory_at))]
-pub fn read_memory(reader: &mut Reader) -> Result<Limits, ReadFault>
-    ensures { Gives (λ l. (l, reader.new.rest.now)) result (memory_at reader.old.rest.now) }
+pub fn read_memory(reader: &mut Reader) -> Result<Limits, Refusal>
+    ensures gives { Gives (λ l. (l, reader.new.rest.now)) result (memory_at reader.old.bounds reader.old.rest.now) }
+    ensures keeps { reader.new.bounds ≡ reader.old.bounds }
 {
     let flag = read_memory_flag(reader)?;
     read_limits_after(reader, flag, MOST_PAGES, MOST_PAGES)
@@ -62,8 +67,9 @@ pub fn read_memory(reader: &mut Reader) -> Result<Limits, ReadFault>
 
 /// A global type (Core specification 1.0, section 5.3.7).
 #[tactic(auto, unfolding(crate::specs::Reading::global_type_at))]
-pub fn read_global_type(reader: &mut Reader) -> Result<GlobalType, ReadFault>
-    ensures { Gives (λ g. (g, reader.new.rest.now)) result (global_type_at reader.old.rest.now) }
+pub fn read_global_type(reader: &mut Reader) -> Result<GlobalType, Refusal>
+    ensures gives { Gives (λ g. (g, reader.new.rest.now)) result (global_type_at reader.old.bounds reader.old.rest.now) }
+    ensures keeps { reader.new.bounds ≡ reader.old.bounds }
 {
     let val_type = read_val_type(reader)?;
     let mutable = read_mutability(reader)?;
@@ -79,7 +85,7 @@ impl Item for TableItem {
     ghost at = { table_at };
 
     fn read(reader: &mut Reader, _alloc: std::alloc::Global) -> Result<Limits, ReadFault> {
-        read_table(reader)
+        Ok(read_table(reader)?)
     }
 }
 
@@ -92,7 +98,7 @@ impl Item for MemoryItem {
     ghost at = { memory_at };
 
     fn read(reader: &mut Reader, _alloc: std::alloc::Global) -> Result<Limits, ReadFault> {
-        read_memory(reader)
+        Ok(read_memory(reader)?)
     }
 }
 
@@ -123,7 +129,7 @@ impl Item for ValTypeItem {
     ghost at = { val_type_at };
 
     fn read(reader: &mut Reader, _alloc: std::alloc::Global) -> Result<ValType, ReadFault> {
-        read_val_type(reader)
+        Ok(read_val_type(reader)?)
     }
 }
 

@@ -1,13 +1,14 @@
 //! The module that bytes spell.
 
 ghost use Rattle.std.specs.Prelude.{◌≡◌, IfOk, MatchResult};
-ghost use Rattle.binary_wire.specs.Reading.{Refuses};
+ghost use Rattle.binary_wire.specs.Reading.{GivesInMemory, Refuses};
 ghost use Rattle.types.specs.Modules.{IsModule};
 ghost use Rattle.types.specs.declared.parts.Parts.{Parts};
 ghost use Rattle.binary.specs.Grammar.{IsModuleText};
+ghost use Rattle.binary.specs.Reading.{module_at};
 
 use crate::parts::read_parts;
-use binary_wire::{Fault, ReadFault};
+use binary_wire::ReadFault;
 use std::alloc::Global;
 use types::Module;
 
@@ -17,16 +18,15 @@ pub fn read(alloc: Global, bytes: &[u8]) -> Result<Module, ReadFault>
     ensures found { IfOk result (λ m. IsModuleText bytes.now m × IsModule m) }
     // Where the bytes spell a module, it is that one, or memory ran out.
     ensures only { (m : Parts) → IsModuleText bytes.now m → MatchResult result (λ found. found ≡ m) (λ e. Refuses e → ⊥) }
+    // It is what the reading gives, or memory ran out: a fault is the first one from front to back, at its offset.
+    ensures first { GivesInMemory (λ m. m) result (module_at bytes.now) }
     // The bytes spell one module at most.
     ensures unique { (a b : Parts) → IsModuleText bytes.now a → IsModuleText bytes.now b → a ≡ b }
 {
     let parts = read_parts(alloc, bytes)?;
     match Module::from_parts(parts) {
         Ok(module) => Ok(module),
-        // What bytes spell keeps the limits, so that this fault isn't answered of any bytes that spell a module.
-        Err(_) => Err(ReadFault::Malformed {
-            kind: Fault::Limit,
-            offset: bytes.len(),
-        }),
+        // What bytes spell keeps the limits, and its expressions are nested blocks with a final `end`.
+        Err(_) => unreachable!(),
     }
 }

@@ -1,10 +1,11 @@
 //! The bytes that open a module.
 
+ghost use Rattle.std.specs.Prelude.{◌≡◌};
 ghost use Rattle.binary_wire.specs.Reading.{Gives};
 ghost use Rattle.binary.specs.Grammar.{opening_bytes};
 ghost use Rattle.binary.specs.Reading.{fixed_at, opening_at};
 
-use binary_wire::{Fault, ReadFault, Reader};
+use binary_wire::{Fault, Reader, Refusal};
 
 const MAGIC: [u8; 4] = [0x00, 0x61, 0x73, 0x6d];
 
@@ -12,15 +13,16 @@ const VERSION: [u8; 4] = [0x01, 0x00, 0x00, 0x00];
 
 /// Bytes that have to stand there. The fault is at the first that is another one.
 #[tactic(auto, unfolding(crate::specs::Reading::fixed_at))]
-fn read_fixed(reader: &mut Reader, expected: &[u8], kind: Fault) -> Result<(), ReadFault>
-    ensures { Gives (λ _. reader.new.rest.now) result (fixed_at expected.now reader.old.rest.now) }
+fn read_fixed(reader: &mut Reader, expected: &[u8], kind: Fault) -> Result<(), Refusal>
+    ensures gives { Gives (λ _. reader.new.rest.now) result (fixed_at kind expected.now reader.old.bounds reader.old.rest.now) }
+    ensures keeps { reader.new.bounds ≡ reader.old.bounds }
 {
     match expected {
         [] => Ok(()),
         [byte, more @ ..] => {
             let offset = reader.offset();
             if reader.read_byte()? != *byte {
-                return Err(ReadFault::Malformed { kind, offset });
+                return Err(Refusal { kind, offset });
             }
             read_fixed(reader, more, kind)
         }
@@ -29,8 +31,9 @@ fn read_fixed(reader: &mut Reader, expected: &[u8], kind: Fault) -> Result<(), R
 
 /// The magic and the version (Core specification 1.0, section 5.5.15).
 #[tactic(auto, unfolding(crate::specs::Reading::opening_at))]
-pub fn read_opening(reader: &mut Reader) -> Result<(), ReadFault>
-    ensures { Gives (λ _. reader.new.rest.now) result (opening_at reader.old.rest.now) }
+pub fn read_opening(reader: &mut Reader) -> Result<(), Refusal>
+    ensures gives { Gives (λ _. reader.new.rest.now) result (opening_at reader.old.bounds reader.old.rest.now) }
+    ensures keeps { reader.new.bounds ≡ reader.old.bounds }
 {
     read_fixed(reader, &MAGIC, Fault::Magic)?;
     read_fixed(reader, &VERSION, Fault::Version)

@@ -1,11 +1,11 @@
 //! A whole module.
 
 ghost use Rattle.std.specs.Prelude.{◌≡◌, ◌-◌, IfOk, MatchResult, count_by};
-ghost use Rattle.binary_wire.specs.Reading.{Gives, Refuses};
+ghost use Rattle.binary_wire.specs.Reading.{GivesInMemory, Refuses};
 ghost use Rattle.binary.specs.Counts.{function_room};
 ghost use Rattle.types.specs.Within.{is_func};
 ghost use Rattle.binary.specs.Grammar.{IsModuleText};
-ghost use Rattle.binary.specs.Reading.{module_at};
+ghost use Rattle.binary.specs.Reading.{signatures_at, stores_at, contents_at, sections_at, module_at};
 ghost use Rattle.types.specs.declared.parts.Parts.{Parts};
 
 use crate::externals::{ExportItem, ImportItem};
@@ -15,10 +15,39 @@ use crate::sections::{read_code, read_customs, read_end, read_section, read_star
 use crate::segments::{DataItem, ElementItem};
 use binary_wire::{Fault, IndexItem, ReadFault, Reader};
 use std::alloc::Global;
-use types::{Import, ImportDesc, MOST_FUNCTIONS, MOST_ITEMS, MOST_MODULE_BYTES, Parts};
+use types::{
+    Body, DataSegment, ElementSegment, Export, FuncType, Import, ImportDesc, Limits,
+    MOST_FUNCTIONS, MOST_ITEMS, MOST_MODULE_BYTES, Parts, Sequence,
+};
 
 /// The most items of most sections.
 const ITEMS_MAX: u32 = MOST_ITEMS as u32;
+
+/// The sections that say which functions there are.
+#[derive(Drop)]
+struct Signatures {
+    types: Sequence<FuncType>,
+    imports: Sequence<Import>,
+    functions: Sequence<u32>,
+}
+
+/// The sections that say what else there is.
+#[derive(Drop)]
+struct Stores {
+    tables: Sequence<Limits>,
+    memories: Sequence<Limits>,
+    globals: Sequence<types::Global>,
+    exports: Sequence<Export>,
+    start: Option<u32>,
+}
+
+/// The sections with elements, bodies and bytes.
+#[derive(Drop)]
+struct Contents {
+    elements: Sequence<ElementSegment>,
+    bodies: Sequence<Body>,
+    data: Sequence<DataSegment>,
+}
 
 fn is_func(import: &Import) -> bool
     ensures { result ≡ is_func import.now.desc }
@@ -37,9 +66,98 @@ fn function_room(imports: &[Import]) -> u32
     MOST_FUNCTIONS.saturating_sub(imported) as u32
 }
 
+#[tactic(auto, unfolding(crate::specs::Reading::signatures_at))]
+fn read_signatures(reader: &mut Reader, alloc: Global) -> Result<Signatures, ReadFault>
+    ensures gives { GivesInMemory (λ x. (x, reader.new.rest.now)) result (signatures_at reader.old.bounds reader.old.rest.now) }
+    ensures keeps { reader.new.bounds ≡ reader.old.bounds }
+{
+    let types = read_section::<FuncTypeItem>(reader, alloc, 1, ITEMS_MAX)?;
+    let imports = read_section::<ImportItem>(reader, alloc, 2, ITEMS_MAX)?;
+    let room = function_room(imports.as_slice());
+    let functions = read_section::<IndexItem>(reader, alloc, 3, room)?;
+    Ok(Signatures {
+        types,
+        imports,
+        functions,
+    })
+}
+
+#[tactic(auto, unfolding(crate::specs::Reading::stores_at))]
+fn read_stores(reader: &mut Reader, alloc: Global) -> Result<Stores, ReadFault>
+    ensures gives { GivesInMemory (λ x. (x, reader.new.rest.now)) result (stores_at reader.old.bounds reader.old.rest.now) }
+    ensures keeps { reader.new.bounds ≡ reader.old.bounds }
+{
+    let tables = read_section::<TableItem>(reader, alloc, 4, ITEMS_MAX)?;
+    let memories = read_section::<MemoryItem>(reader, alloc, 5, ITEMS_MAX)?;
+    let globals = read_section::<GlobalItem>(reader, alloc, 6, ITEMS_MAX)?;
+    let exports = read_section::<ExportItem>(reader, alloc, 7, ITEMS_MAX)?;
+    let start = read_start(reader)?;
+    Ok(Stores {
+        tables,
+        memories,
+        globals,
+        exports,
+        start,
+    })
+}
+
+/// The contents of a module with these types and functions.
+#[tactic(auto, unfolding(crate::specs::Reading::contents_at))]
+fn read_contents(
+    reader: &mut Reader,
+    alloc: Global,
+    types: &[FuncType],
+    functions: &[u32],
+) -> Result<Contents, ReadFault>
+    ensures gives { GivesInMemory (λ x. (x, reader.new.rest.now)) result
+        (contents_at types.now functions.now reader.old.bounds reader.old.rest.now) }
+    ensures keeps { reader.new.bounds ≡ reader.old.bounds }
+{
+    let elements = read_section::<ElementItem>(reader, alloc, 9, ITEMS_MAX)?;
+    let bodies = read_code(reader, alloc, types, functions)?;
+    let data = read_section::<DataItem>(reader, alloc, 11, ITEMS_MAX)?;
+    Ok(Contents {
+        elements,
+        bodies,
+        data,
+    })
+}
+
+/// The sections of a module, behind the opening bytes: nothing is left behind them.
+#[tactic(auto, unfolding(crate::specs::Reading::sections_at))]
+fn read_sections(reader: &mut Reader, alloc: Global) -> Result<Parts, ReadFault>
+    ensures { GivesInMemory (λ m. m) result (sections_at reader.old.bounds reader.old.rest.now) }
+{
+    let Signatures {
+        types,
+        imports,
+        functions,
+    } = read_signatures(reader, alloc)?;
+    let stores = read_stores(reader, alloc)?;
+    let contents = read_contents(reader, alloc, types.as_slice(), functions.as_slice())?;
+    read_customs(reader)?;
+    read_end(reader)?;
+    if functions.len() != contents.bodies.len() {
+        return Err(reader.fault(Fault::CountsDiffer).into());
+    }
+    Ok(Parts {
+        types,
+        imports,
+        functions,
+        tables: stores.tables,
+        memories: stores.memories,
+        globals: stores.globals,
+        exports: stores.exports,
+        start: stores.start,
+        elements: contents.elements,
+        bodies: contents.bodies,
+        data: contents.data,
+    })
+}
+
 #[tactic(auto, unfolding(crate::specs::Reading::module_at))]
 fn read_whole(alloc: Global, bytes: &[u8]) -> Result<Parts, ReadFault>
-    ensures { Gives (λ m. m) result (module_at bytes.now) }
+    ensures { GivesInMemory (λ m. m) result (module_at bytes.now) }
 {
     if bytes.len() > MOST_MODULE_BYTES {
         return Err(ReadFault::Malformed {
@@ -49,36 +167,7 @@ fn read_whole(alloc: Global, bytes: &[u8]) -> Result<Parts, ReadFault>
     }
     let mut reader = Reader::new(bytes);
     read_opening(&mut reader)?;
-    let types = read_section::<FuncTypeItem>(&mut reader, alloc, 1, ITEMS_MAX)?;
-    let imports = read_section::<ImportItem>(&mut reader, alloc, 2, ITEMS_MAX)?;
-    let room = function_room(imports.as_slice());
-    let functions = read_section::<IndexItem>(&mut reader, alloc, 3, room)?;
-    let tables = read_section::<TableItem>(&mut reader, alloc, 4, ITEMS_MAX)?;
-    let memories = read_section::<MemoryItem>(&mut reader, alloc, 5, ITEMS_MAX)?;
-    let globals = read_section::<GlobalItem>(&mut reader, alloc, 6, ITEMS_MAX)?;
-    let exports = read_section::<ExportItem>(&mut reader, alloc, 7, ITEMS_MAX)?;
-    let start = read_start(&mut reader)?;
-    let elements = read_section::<ElementItem>(&mut reader, alloc, 9, ITEMS_MAX)?;
-    let bodies = read_code(&mut reader, alloc, types.as_slice(), functions.as_slice())?;
-    let data = read_section::<DataItem>(&mut reader, alloc, 11, ITEMS_MAX)?;
-    read_customs(&mut reader)?;
-    read_end(&reader)?;
-    if functions.len() != bodies.len() {
-        return Err(reader.fault(Fault::CountsDiffer));
-    }
-    Ok(Parts {
-        types,
-        imports,
-        functions,
-        tables,
-        memories,
-        globals,
-        exports,
-        start,
-        elements,
-        bodies,
-        data,
-    })
+    read_sections(&mut reader, alloc)
 }
 
 /// The parts of the module that the bytes spell (Core specification 1.0, section 5.5.15).
@@ -87,6 +176,8 @@ pub fn read_parts(alloc: Global, bytes: &[u8]) -> Result<Parts, ReadFault>
     ensures found { IfOk result (λ m. IsModuleText bytes.now m) }
     // Where the bytes spell a module, it is that one, or memory ran out.
     ensures only { (m : Parts) → IsModuleText bytes.now m → MatchResult result (λ found. found ≡ m) (λ e. Refuses e → ⊥) }
+    // It is what the reading gives, or memory ran out: a fault is the first one from front to back, at its offset.
+    ensures first { GivesInMemory (λ m. m) result (module_at bytes.now) }
     // The bytes spell one module at most.
     ensures unique { (a b : Parts) → IsModuleText bytes.now a → IsModuleText bytes.now b → a ≡ b }
 {

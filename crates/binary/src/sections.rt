@@ -1,11 +1,11 @@
 //! Sections, with custom sections before them.
 
-ghost use Rattle.std.specs.Prelude.{length, true};
-ghost use Rattle.binary_wire.specs.Reading.{Gives, end_at, vector_at};
-ghost use Rattle.binary.specs.Reading.{custom_at, customs_at, part_at, section_at, start_at, code_at};
+ghost use Rattle.std.specs.Prelude.{◌≡◌, length, true};
+ghost use Rattle.binary_wire.specs.Reading.{Gives, GivesInMemory, vector_at};
+ghost use Rattle.binary.specs.Reading.{custom_at, customs_at, part_at, section_at, start_at, code_at, finish_at};
 
 use crate::bodies::read_code_section;
-use binary_wire::{Fault, Item, ReadFault, Reader, read_vector};
+use binary_wire::{Fault, Item, ReadFault, Reader, Refusal, read_vector};
 use std::alloc::Global;
 use types::{Body, FuncType, Sequence};
 
@@ -14,8 +14,9 @@ const DATA_ID: u8 = 11;
 
 /// A custom section (Core specification 1.0, section 5.5.3): a name, and anything.
 #[tactic(auto, unfolding(crate::specs::Reading::custom_at))]
-fn read_custom(reader: &mut Reader) -> Result<(), ReadFault>
-    ensures { Gives (λ _. (true, reader.new.rest.now)) result (custom_at reader.old.rest.now) }
+fn read_custom(reader: &mut Reader) -> Result<(), Refusal>
+    ensures gives { Gives (λ _. (true, reader.new.rest.now)) result (custom_at reader.old.bounds reader.old.rest.now) }
+    ensures keeps { reader.new.bounds ≡ reader.old.bounds }
 {
     reader.read_byte()?;
     let mut contents = reader.read_block()?;
@@ -24,8 +25,10 @@ fn read_custom(reader: &mut Reader) -> Result<(), ReadFault>
 }
 
 /// Passes over custom sections.
-pub fn read_customs(reader: &mut Reader) -> Result<(), ReadFault>
-    ensures { Gives (λ _. reader.new.rest.now) result (customs_at (length reader.old.rest.now) reader.old.rest.now) }
+pub fn read_customs(reader: &mut Reader) -> Result<(), Refusal>
+    ensures gives { Gives (λ _. reader.new.rest.now) result
+        (customs_at (length reader.old.rest.now) reader.old.bounds reader.old.rest.now) }
+    ensures keeps { reader.new.bounds ≡ reader.old.bounds }
 {
     // Each takes a byte at least.
     for _ in 0..reader.len() {
@@ -46,7 +49,8 @@ pub fn read_section<T: Item>(
     id: u8,
     limit: u32,
 ) -> Result<Sequence<T::Value>, ReadFault>
-    ensures { Gives (λ v. (v, reader.new.rest.now)) result (section_at id limit T.at reader.old.rest.now) }
+    ensures gives { GivesInMemory (λ v. (v, reader.new.rest.now)) result (section_at id limit T.at reader.old.bounds reader.old.rest.now) }
+    ensures keeps { reader.new.bounds ≡ reader.old.bounds }
 {
     read_customs(reader)?;
     if !reader.front_is(id) {
@@ -61,8 +65,9 @@ pub fn read_section<T: Item>(
 
 /// The start section (Core specification 1.0, section 5.5.11), behind custom ones, if it is there.
 #[tactic(auto, unfolding(crate::specs::Reading::part_at, crate::specs::Reading::start_at, crate::specs::Reading::start_function_at, binary_wire::specs::Reading::sized_at))]
-pub fn read_start(reader: &mut Reader) -> Result<Option<u32>, ReadFault>
-    ensures { Gives (λ s. (s, reader.new.rest.now)) result (start_at reader.old.rest.now) }
+pub fn read_start(reader: &mut Reader) -> Result<Option<u32>, Refusal>
+    ensures gives { Gives (λ s. (s, reader.new.rest.now)) result (start_at reader.old.bounds reader.old.rest.now) }
+    ensures keeps { reader.new.bounds ≡ reader.old.bounds }
 {
     read_customs(reader)?;
     if !reader.front_is(8) {
@@ -83,7 +88,9 @@ pub fn read_code(
     types: &[FuncType],
     functions: &[u32],
 ) -> Result<Sequence<Body>, ReadFault>
-    ensures { Gives (λ v. (v, reader.new.rest.now)) result (code_at types.now functions.now reader.old.rest.now) }
+    ensures gives { GivesInMemory (λ v. (v, reader.new.rest.now)) result
+        (code_at types.now functions.now reader.old.bounds reader.old.rest.now) }
+    ensures keeps { reader.new.bounds ≡ reader.old.bounds }
 {
     read_customs(reader)?;
     if !reader.front_is(10) {
@@ -97,8 +104,8 @@ pub fn read_code(
 }
 
 /// That nothing is left of the input. A section that is left is unknown, or out of order.
-pub fn read_end(reader: &Reader) -> Result<(), ReadFault>
-    ensures { Gives (λ _. true) result (end_at reader.now.rest.now) }
+pub fn read_end(reader: &Reader) -> Result<(), Refusal>
+    ensures { Gives (λ _. true) result (finish_at reader.now.bounds reader.now.rest.now) }
 {
     match reader.peek() {
         None => Ok(()),

@@ -1,61 +1,62 @@
 -- Reading instructions one after the other, as a loop does.
 use Rattle.std.proofs.Common.{◌≡◌, ℕ, suc, ◌-◌, ◌+◌, ◌≤◌, ◌<◌, Bool, true, false, eqb, List, [], ◌∷◌, ◌++◌, length}
-use Rattle.std.proofs.Common.{reverse, Option, Some, None, refl, sym, ap, ◌∙◌, append_assoc, arith}
+use Rattle.std.proofs.Common.{reverse, Result, Ok, Err, refl, sym, ap, ◌∙◌, arith}
 use Rattle.std.proofs.lemmas.List.{append-nil, length-reverse, nil_from_length}
 use Rattle.std.proofs.lemmas.Bool.{eqb-true, eqb-false}
 use Rattle.types.specs.declared.instr.Instr.{Instr}
+use Rattle.binary_wire.specs.declared.bounds.Bounds.{Bounds}
+use Rattle.binary_wire.specs.declared.fault.Refusal.{Refusal}
 use Rattle.binary_wire.specs.declared.fault.ReadFault.{ReadFault}
 use Rattle.binary_wire.specs.declared.fault.ReadFault.TheVariants.{OutOfMemory, Malformed}
-use Rattle.binary_wire.specs.Reading.{◌>>=◌, Fails, Refuses}
-use Rattle.binary_wire.proofs.Loop.{with_front, fails_none}
+use Rattle.binary_wire.specs.Faults.{refusal, missing}
+use Rattle.binary_wire.specs.Reading.{Fails}
+use Rattle.binary_wire.proofs.Laws.{gives, bad}
+use Rattle.binary_wire.proofs.Loop.{with_front, regroup_one}
 use Rattle.binary_instructions.specs.Reading.{instr_at, code_at}
 
 abbrev pub Code : Type 0
-Code = Option (List Instr × List ℕ)
+Code = Result (List Instr × List ℕ) Refusal
 
-regroup : (front : List Instr) (n : Instr) (read : Code) → with_front front (read >>= λ x. Some (n ∷ x.0, x.1)) ≡ with_front (front ++ n ∷ []) read
-regroup front n (Some x) = ap (λ (ns : List Instr). Some (ns, x.1)) (simp append_assoc)
-regroup front n None = refl
-
-pub code_goes_on : (front : List Instr) (count i : ℕ) (opens : List Bool) (bytes : List ℕ) (n : Instr)
+pub code_goes_on : (front : List Instr) (count i : ℕ) (opens : List Bool) (s : Bounds) (bytes : List ℕ) (n : Instr)
     (inside : List Bool) (after : List ℕ) (total : Code) → i < count → 0 < length opens
-    → instr_at opens bytes ≡ Some ((n, inside), after)
-    → with_front front (code_at (count - i) opens bytes) ≡ total → with_front (front ++ n ∷ []) (code_at (count - (i + 1)) inside after) ≡ total
+    → instr_at opens s bytes ≡ Ok ((n, inside), after)
+    → with_front front (code_at (count - i) opens s bytes) ≡ total → with_front (front ++ n ∷ []) (code_at (count - (i + 1)) inside s after) ≡ total
 unfolding code_at
-code_goes_on front count i [] bytes n inside after total lt pos h so_far = absurd (omega arith)
-code_goes_on front count i (b ∷ opens) bytes n inside after total lt pos h so_far =
+code_goes_on front count i [] s bytes n inside after total lt pos h so_far = absurd (omega arith)
+code_goes_on front count i (b ∷ opens) s bytes n inside after total lt pos h so_far =
     let k : count - i ≡ suc (count - (i + 1)) = omega arith in
-    let one : with_front front (code_at (count - i) (b ∷ opens) bytes) ≡ with_front (front ++ n ∷ [])
-    (code_at (count - (i + 1)) inside after) = rw (k, h)
-    (regroup front n (code_at (count - (i + 1)) inside after)) in
+    let one : with_front front (code_at (count - i) (b ∷ opens) s bytes) ≡ with_front (front ++ n ∷ [])
+    (code_at (count - (i + 1)) inside s after) = rw (k, h)
+    (regroup_one front n (code_at (count - (i + 1)) inside s after)) in
     sym one ∙ so_far
 
-pub code_ends : (e : ReadFault) (front : List Instr) (count i : ℕ) (opens : List Bool) (bytes : List ℕ)
-    (total : Code) → i < count → 0 < length opens → Fails e (instr_at opens bytes)
-    → with_front front (code_at (count - i) opens bytes) ≡ total → Fails e total
+pub code_ends : (e : ReadFault) (front : List Instr) (count i : ℕ) (opens : List Bool) (s : Bounds) (bytes : List ℕ)
+    (total : Code) → i < count → 0 < length opens → Fails e (instr_at opens s bytes)
+    → with_front front (code_at (count - i) opens s bytes) ≡ total → Fails e total
 unfolding code_at
-code_ends OutOfMemory front count i opens bytes total lt pos h so_far = tt
-code_ends (Malformed kind offset) front count i [] bytes total lt pos h so_far = absurd (omega arith)
-code_ends (Malformed kind offset) front count i (b ∷ opens) bytes total lt pos h so_far =
+code_ends OutOfMemory front count i opens s bytes total lt pos h so_far = tt
+code_ends (Malformed kind offset) front count i [] s bytes total lt pos h so_far = absurd (omega arith)
+code_ends (Malformed kind offset) front count i (b ∷ opens) s bytes total lt pos h so_far =
     let k : count - i ≡ suc (count - (i + 1)) = omega arith in
-    let one : with_front front (code_at (count - i) (b ∷ opens) bytes) ≡ None = rw (k, h) refl in
+    let one : with_front front (code_at (count - i) (b ∷ opens) s bytes) ≡ bad (refusal kind offset) = rw (k, h) refl in
     sym so_far ∙ one
 
-pub code_short : (e : ReadFault) (front : List Instr) (count i : ℕ) (opens : List Bool) (bytes : List ℕ)
-    (total : Code) → Refuses e → count ≤ i → 0 < length opens
-    → with_front front (code_at (count - i) opens bytes) ≡ total → Fails e total
+pub code_short : (front : List Instr) (count i : ℕ) (opens : List Bool) (s : Bounds) (bytes : List ℕ)
+    (total : Code) → count ≤ i → 0 < length opens
+    → with_front front (code_at (count - i) opens s bytes) ≡ total → total ≡ bad (missing s)
 unfolding code_at
-code_short e front count i [] bytes total r le pos so_far = absurd (omega arith)
-code_short e front count i (b ∷ opens) bytes total r le pos so_far =
+code_short front count i [] s bytes total le pos so_far = absurd (omega arith)
+code_short front count i (b ∷ opens) s bytes total le pos so_far =
     let k : count - i ≡ 0 = omega arith in
-    let one : with_front front (code_at (count - i) (b ∷ opens) bytes) ≡ None = rw k refl in
-    fails_none e total r (sym so_far ∙ one)
+    let one : with_front front (code_at (count - i) (b ∷ opens) s bytes) ≡ bad (missing s) = rw k refl in
+    sym so_far ∙ one
 
-pub code_done : (front : List Instr) (most : ℕ) (bytes : List ℕ) (inside : List Bool) (total : Code) → inside ≡ []
-    → with_front front (code_at most inside bytes) ≡ total → total ≡ Some (front, bytes)
+pub code_done : (front : List Instr) (most : ℕ) (s : Bounds) (bytes : List ℕ) (inside : List Bool) (total : Code) → inside ≡ []
+    → with_front front (code_at most inside s bytes) ≡ total → total ≡ Ok (front, bytes)
 unfolding code_at
-code_done front most bytes inside total z so_far =
-    let one : with_front front (code_at most inside bytes) ≡ Some (front, bytes) = rw z (ap (λ (ns : List Instr). Some (ns, bytes)) (append-nil front)) in
+code_done front most s bytes inside total z so_far =
+    let one : with_front front (code_at most inside s bytes) ≡ gives front bytes =
+    rw z (ap (λ (ns : List Instr). gives ns bytes) (append-nil front)) in
     sym so_far ∙ one
 
 -- ---- the open blocks, as the code keeps them

@@ -1,6 +1,6 @@
 -- The open blocks along an expression: the reader keeps them one instruction after the other, and where none is left open the
 -- instructions are nested blocks with a final end.
-use Rattle.std.proofs.Common.{◌≡◌, ℕ, ◌+◌, ◌<◌, ◌≤◌, inl, inr, Bool, true, false, List, [], ◌∷◌, length, Option, Some, None, refl, sym}
+use Rattle.std.proofs.Common.{◌≡◌, ℕ, ◌+◌, ◌<◌, ◌≤◌, inl, inr, Bool, true, false, List, [], ◌∷◌, length, Option, Some, None, Result, Ok, Err, refl, sym}
 use Rattle.std.proofs.Common.{ap, subst, ◌∙◌, arith}
 use Rattle.std.proofs.lemmas.Bool.{cases_lt, eqb-true, le-ltb, lt-ltb}
 use Rattle.types.specs.declared.instr.Instr.{Instr}
@@ -8,13 +8,23 @@ use Rattle.types.specs.Nesting.{IsExpression}
 use Rattle.types.specs.Tests.{opened, opens_behind, closes}
 use Rattle.types.specs.Limits.{most_nested}
 use Rattle.types.proofs.Nested.{Decides-expression, none_behind}
+use Rattle.binary_wire.specs.declared.fault.Refusal.{Refusal}
 use Rattle.binary_wire.specs.Grammar.{Spelling}
 use Rattle.binary_instructions.specs.Grammar.{IsInstr, AreInstrs}
 use Rattle.binary_instructions.specs.Reading.{entered}
 
+-- what is found, whatever the refusal is
+abbrev pub found : {A : Type 0} → Result A Refusal → Option A
+found (Ok x) = Some x
+found (Err e) = None
+
+pub found_is : {A : Type 0} (r : Result A Refusal) (x : A) → found r ≡ Some x → r ≡ Ok x
+found_is (Ok y) x e = cc
+found_is (Err y) x e = absurd cc
+
 -- the reader has room for a further block where the expression has
-pub enters : (o out : Bool) (opens : List Bool) → entered o (out ∷ opens) ≡ opened o (out ∷ opens)
-enters o out opens =
+pub enters : (offset : ℕ) (o out : Bool) (opens : List Bool) → found (entered offset o (out ∷ opens)) ≡ opened o (out ∷ opens)
+enters offset o out opens =
     elim (cases_lt (length opens) most_nested) [
       | inl lt ↦
           let more : length (out ∷ opens) < most_nested + 1 = omega (arith, lt) in

@@ -1,7 +1,7 @@
 //! Expressions: instructions and a final `end`.
 
-ghost use Rattle.std.specs.Prelude.{reverse};
-ghost use Rattle.binary_wire.specs.Reading.{Gives};
+ghost use Rattle.std.specs.Prelude.{◌≡◌, reverse};
+ghost use Rattle.binary_wire.specs.Reading.{GivesInMemory};
 ghost use Rattle.binary_instructions.specs.Reading.{stacked, instr_at, expression_at};
 
 use crate::opcodes::{Opener, Shape};
@@ -16,7 +16,8 @@ const OPEN_BLOCKS_MAX: usize = MOST_NESTED + 1;
 /// An expression (Core specification 1.0, section 5.4.6): instructions up to the `end` that closes it.
 #[tactic(auto, unfolding(crate::specs::Reading::expression_at))]
 pub fn read_expression(reader: &mut Reader, alloc: Global) -> Result<Sequence<Instr>, ReadFault>
-    ensures { Gives (λ code. (code, reader.new.rest.now)) result (expression_at reader.old.rest.now) }
+    ensures gives { GivesInMemory (λ code. (code, reader.new.rest.now)) result (expression_at reader.old.bounds reader.old.rest.now) }
+    ensures keeps { reader.new.bounds ≡ reader.old.bounds }
 {
     let mut code = Vec::new(alloc);
     let mut open_blocks = Vec::new(alloc);
@@ -29,7 +30,7 @@ pub fn read_expression(reader: &mut Reader, alloc: Global) -> Result<Sequence<In
             return Ok(Sequence::from_vec(code));
         }
     }
-    Err(reader.missing())
+    Err(reader.missing().into())
 }
 
 /// The next instruction. The open blocks are then those behind it.
@@ -39,8 +40,9 @@ fn read_instr(
     alloc: Global,
     open_blocks: &mut Vec<bool>,
 ) -> Result<Instr, ReadFault>
-    ensures { Gives (λ i. ((i, reverse open_blocks.new.items), reader.new.rest.now)) result
-        (instr_at (reverse open_blocks.old.items) reader.old.rest.now) }
+    ensures gives { GivesInMemory (λ i. ((i, reverse open_blocks.new.items), reader.new.rest.now)) result
+        (instr_at (reverse open_blocks.old.items) reader.old.bounds reader.old.rest.now) }
+    ensures keeps { reader.new.bounds ≡ reader.old.bounds }
 {
     let offset = reader.offset();
     let shape = read_shape(reader)?;
@@ -51,7 +53,7 @@ fn read_instr(
 /// Enters, divides or leaves a block, by the shape of the opcode at an offset. Of each open block is kept whether it is
 /// an `if` that may still have an `else`.
 fn step(open_blocks: &mut Vec<bool>, shape: Shape, offset: usize) -> Result<(), ReadFault>
-    ensures { Gives (λ _. reverse open_blocks.new.items) result (stacked (reverse open_blocks.old.items) shape) }
+    ensures { GivesInMemory (λ _. reverse open_blocks.new.items) result (stacked offset (reverse open_blocks.old.items) shape) }
 {
     match shape {
         Shape::Open(op) => {

@@ -2,9 +2,10 @@
 
 ghost use Rattle.std.specs.Prelude.{◌≡◌};
 ghost use Rattle.binary_wire.specs.Reading.{Gives, tag_at};
+ghost use Rattle.binary_wire.specs.declared.fault.Fault.TheVariants as kinds;
 ghost use Rattle.binary_instructions.specs.Reading.{val_type_of, val_type_at, block_type_at, memarg_at};
 
-use binary_wire::{Fault, ReadFault, Reader};
+use binary_wire::{Fault, Reader, Refusal};
 use types::{BlockType, MemArg, ValType};
 
 fn val_type_of_byte(byte: u8) -> Result<ValType, Fault>
@@ -20,21 +21,21 @@ fn val_type_of_byte(byte: u8) -> Result<ValType, Fault>
 
 /// A type of values (Core specification 1.0, section 5.3.1).
 #[tactic(auto, unfolding(crate::specs::Reading::val_type_at))]
-pub fn read_val_type(reader: &mut Reader) -> Result<ValType, ReadFault>
-    ensures gives { Gives (λ t. (t, reader.new.rest.now)) result (val_type_at reader.old.rest.now) }
+pub fn read_val_type(reader: &mut Reader) -> Result<ValType, Refusal>
+    ensures gives { Gives (λ t. (t, reader.new.rest.now)) result (val_type_at reader.old.bounds reader.old.rest.now) }
     ensures keeps { reader.new.bounds ≡ reader.old.bounds }
 {
     let offset = reader.offset();
     match val_type_of_byte(reader.read_byte()?) {
         Ok(val_type) => Ok(val_type),
-        Err(kind) => Err(ReadFault::Malformed { kind, offset }),
+        Err(kind) => Err(Refusal { kind, offset }),
     }
 }
 
 /// The type of a block (Core specification 1.0, section 5.3.2).
 #[tactic(auto, unfolding(crate::specs::Reading::block_type_at))]
-pub fn read_block_type(reader: &mut Reader) -> Result<BlockType, ReadFault>
-    ensures gives { Gives (λ t. (t, reader.new.rest.now)) result (block_type_at reader.old.rest.now) }
+pub fn read_block_type(reader: &mut Reader) -> Result<BlockType, Refusal>
+    ensures gives { Gives (λ t. (t, reader.new.rest.now)) result (block_type_at reader.old.bounds reader.old.rest.now) }
     ensures keeps { reader.new.bounds ≡ reader.old.bounds }
 {
     if reader.front_is(0x40) {
@@ -46,8 +47,8 @@ pub fn read_block_type(reader: &mut Reader) -> Result<BlockType, ReadFault>
 
 /// The immediates of a memory instruction (Core specification 1.0, section 5.4.4).
 #[tactic(auto, unfolding(crate::specs::Reading::memarg_at))]
-pub fn read_memarg(reader: &mut Reader) -> Result<MemArg, ReadFault>
-    ensures gives { Gives (λ m. (m, reader.new.rest.now)) result (memarg_at reader.old.rest.now) }
+pub fn read_memarg(reader: &mut Reader) -> Result<MemArg, Refusal>
+    ensures gives { Gives (λ m. (m, reader.new.rest.now)) result (memarg_at reader.old.bounds reader.old.rest.now) }
     ensures keeps { reader.new.bounds ≡ reader.old.bounds }
 {
     let align = reader.read_u32()?;
@@ -56,13 +57,13 @@ pub fn read_memarg(reader: &mut Reader) -> Result<MemArg, ReadFault>
 }
 
 /// A reserved byte, which has to be `00`.
-pub fn read_reserved(reader: &mut Reader) -> Result<(), ReadFault>
-    ensures gives { Gives (λ _. reader.new.rest.now) result (tag_at 0x00 reader.old.rest.now) }
+pub fn read_reserved(reader: &mut Reader) -> Result<(), Refusal>
+    ensures gives { Gives (λ _. reader.new.rest.now) result (tag_at kinds.UnknownByte 0x00 reader.old.bounds reader.old.rest.now) }
     ensures keeps { reader.new.bounds ≡ reader.old.bounds }
 {
     let offset = reader.offset();
     if reader.read_byte()? != 0x00 {
-        return Err(ReadFault::Malformed {
+        return Err(Refusal {
             kind: Fault::UnknownByte,
             offset,
         });

@@ -2,19 +2,14 @@
 //! "Binary format").
 //!
 //! `specs/Opcodes.antt` says which instruction each opcode begins, `specs/Grammar.antt` which bytes spell an
-//! instruction, and `specs/Reading.antt` computes the instructions from the bytes. `proofs/Laws.antt` has that the
-//! grammar and the reading agree.
+//! instruction, and `specs/Reading.antt` computes the instructions from the bytes, or the first fault.
+//! `proofs/Laws.antt` has that the grammar and the reading agree.
 #![tactic(auto)]
 
 mod expression;
 mod immediates;
 mod opcodes;
 mod shaped;
-#[cfg(test)]
-mod tests;
 
 pub use expression::read_expression;
-pub use immediates::{read_block_type, read_memarg, read_val_type};
-pub use opcodes::{
-    AtomicShape, BareInstr, IndexInstr, Opener, Shape, shape_of_atomic, shape_of_opcode,
-};
+pub use immediates::read_val_type;

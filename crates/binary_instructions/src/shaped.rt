@@ -1,7 +1,7 @@
 //! Instructions, each by the shape of its opcode.
 
 ghost use Rattle.std.specs.Prelude.{◌≡◌};
-ghost use Rattle.binary_wire.specs.Reading.{Gives};
+ghost use Rattle.binary_wire.specs.Reading.{Gives, GivesInMemory};
 ghost use Rattle.binary_instructions.specs.Instructions.{opening, bare_instr, index_instr};
 ghost use Rattle.binary_instructions.specs.Reading.{shape_at, atomic_at, const_at, br_table_at, call_indirect_at, shaped_at};
 
@@ -9,7 +9,7 @@ use crate::immediates::{read_block_type, read_memarg, read_reserved};
 use crate::opcodes::{
     AtomicShape, BareInstr, IndexInstr, Opener, Shape, shape_of_atomic, shape_of_opcode,
 };
-use binary_wire::{Fault, IndexItem, ReadFault, Reader, read_vector};
+use binary_wire::{Fault, IndexItem, ReadFault, Reader, Refusal, read_vector};
 use std::alloc::Global;
 use types::{BlockType, Instr, NumericInstr, PlainInstr, ValType, Value};
 
@@ -52,21 +52,21 @@ fn index_instr_of(op: IndexInstr, index: u32) -> PlainInstr
 
 /// An opcode.
 #[tactic(auto, unfolding(crate::specs::Reading::shape_at))]
-pub fn read_shape(reader: &mut Reader) -> Result<Shape, ReadFault>
-    ensures gives { Gives (λ s. (s, reader.new.rest.now)) result (shape_at reader.old.rest.now) }
+pub fn read_shape(reader: &mut Reader) -> Result<Shape, Refusal>
+    ensures gives { Gives (λ s. (s, reader.new.rest.now)) result (shape_at reader.old.bounds reader.old.rest.now) }
     ensures keeps { reader.new.bounds ≡ reader.old.bounds }
 {
     let offset = reader.offset();
     match shape_of_opcode(reader.read_byte()?) {
         Ok(shape) => Ok(shape),
-        Err(kind) => Err(ReadFault::Malformed { kind, offset }),
+        Err(kind) => Err(Refusal { kind, offset }),
     }
 }
 
 /// The instruction of a number behind the prefix of atomic instructions (threads proposal, section "Binary format").
 #[tactic(auto, unfolding(crate::specs::Reading::atomic_at, crate::specs::Reading::atomic_shaped_at, crate::specs::Reading::reserved_at))]
-fn read_atomic(reader: &mut Reader) -> Result<Instr, ReadFault>
-    ensures gives { Gives (λ i. (i, reader.new.rest.now)) result (atomic_at reader.old.rest.now) }
+fn read_atomic(reader: &mut Reader) -> Result<Instr, Refusal>
+    ensures gives { Gives (λ i. (i, reader.new.rest.now)) result (atomic_at reader.old.bounds reader.old.rest.now) }
     ensures keeps { reader.new.bounds ≡ reader.old.bounds }
 {
     let offset = reader.offset();
@@ -80,7 +80,7 @@ fn read_atomic(reader: &mut Reader) -> Result<Instr, ReadFault>
             read_reserved(reader)?;
             Ok(Instr::Plain(PlainInstr::Fence))
         }
-        None => Err(ReadFault::Malformed {
+        None => Err(Refusal {
             kind: Fault::UnknownByte,
             offset,
         }),
@@ -89,8 +89,8 @@ fn read_atomic(reader: &mut Reader) -> Result<Instr, ReadFault>
 
 /// A constant (Core specification 1.0, section 5.4.5).
 #[tactic(auto, unfolding(crate::specs::Reading::const_at))]
-fn read_const(reader: &mut Reader, val_type: ValType) -> Result<Instr, ReadFault>
-    ensures gives { Gives (λ i. (i, reader.new.rest.now)) result (const_at val_type reader.old.rest.now) }
+fn read_const(reader: &mut Reader, val_type: ValType) -> Result<Instr, Refusal>
+    ensures gives { Gives (λ i. (i, reader.new.rest.now)) result (const_at val_type reader.old.bounds reader.old.rest.now) }
     ensures keeps { reader.new.bounds ≡ reader.old.bounds }
 {
     let value = match val_type {
@@ -103,7 +103,8 @@ fn read_const(reader: &mut Reader, val_type: ValType) -> Result<Instr, ReadFault
 /// The labels of `br_table`, and its default label (Core specification 1.0, section 5.4.1).
 #[tactic(auto, unfolding(crate::specs::Reading::br_table_at))]
 fn read_br_table(reader: &mut Reader, alloc: Global) -> Result<Instr, ReadFault>
-    ensures { Gives (λ i. (i, reader.new.rest.now)) result (br_table_at reader.old.rest.now) }
+    ensures gives { GivesInMemory (λ i. (i, reader.new.rest.now)) result (br_table_at reader.old.bounds reader.old.rest.now) }
+    ensures keeps { reader.new.bounds ≡ reader.old.bounds }
 {
     let labels = read_vector::<IndexItem>(reader, alloc, u32::MAX)?;
     let default = reader.read_u32()?;
@@ -112,8 +113,8 @@ fn read_br_table(reader: &mut Reader, alloc: Global) -> Result<Instr, ReadFault>
 
 /// The type of `call_indirect` and its reserved byte (Core specification 1.0, section 5.4.1).
 #[tactic(auto, unfolding(crate::specs::Reading::call_indirect_at, crate::specs::Reading::reserved_at))]
-fn read_call_indirect(reader: &mut Reader) -> Result<Instr, ReadFault>
-    ensures gives { Gives (λ i. (i, reader.new.rest.now)) result (call_indirect_at reader.old.rest.now) }
+fn read_call_indirect(reader: &mut Reader) -> Result<Instr, Refusal>
+    ensures gives { Gives (λ i. (i, reader.new.rest.now)) result (call_indirect_at reader.old.bounds reader.old.rest.now) }
     ensures keeps { reader.new.bounds ≡ reader.old.bounds }
 {
     let type_index = reader.read_u32()?;
@@ -124,16 +125,17 @@ fn read_call_indirect(reader: &mut Reader) -> Result<Instr, ReadFault>
 /// The immediates of an instruction, behind its opcode.
 #[tactic(auto, unfolding(crate::specs::Reading::shaped_at, crate::specs::Reading::reserved_at))]
 pub fn read_shaped(reader: &mut Reader, alloc: Global, shape: Shape) -> Result<Instr, ReadFault>
-    ensures { Gives (λ i. (i, reader.new.rest.now)) result (shaped_at shape reader.old.rest.now) }
+    ensures gives { GivesInMemory (λ i. (i, reader.new.rest.now)) result (shaped_at shape reader.old.bounds reader.old.rest.now) }
+    ensures keeps { reader.new.bounds ≡ reader.old.bounds }
 {
     let instr = match shape {
         Shape::Open(op) => return Ok(opening_of(op, read_block_type(reader)?)),
         Shape::Else => return Ok(Instr::Else),
         Shape::End => return Ok(Instr::End),
-        Shape::Const(val_type) => return read_const(reader, val_type),
+        Shape::Const(val_type) => return Ok(read_const(reader, val_type)?),
         Shape::BrTable => return read_br_table(reader, alloc),
-        Shape::CallIndirect => return read_call_indirect(reader),
-        Shape::Atomic => return read_atomic(reader),
+        Shape::CallIndirect => return Ok(read_call_indirect(reader)?),
+        Shape::Atomic => return Ok(read_atomic(reader)?),
         Shape::Bare(op) => bare_instr_of(op),
         Shape::Numeric(op) => PlainInstr::Numeric(op),
         Shape::Index(op) => index_instr_of(op, reader.read_u32()?),

@@ -1,13 +1,13 @@
 //! Why bytes could not be read as a module.
 
 ghost use Rattle.std.specs.Prelude.{◌≡◌};
-ghost use Rattle.binary_wire.specs.Faults.{fault_number, fault_kind, fault_offset};
-ghost use Rattle.binary_wire.specs.declared.fault.ReadFault.TheVariants.{OutOfMemory};
+ghost use Rattle.binary_wire.specs.Faults.{kind_number, fault_number, fault_offset};
+ghost use Rattle.binary_wire.specs.declared.fault.ReadFault.TheVariants.{OutOfMemory, Malformed};
 
 use std::alloc::{AllocError, AllocFailed};
 use thiserror::Error;
 
-/// The kinds of faults.
+/// The kinds of faults of bytes.
 #[derive(Clone, Copy, Debug, PartialEq, Eq, Error)]
 pub enum Fault {
     /// A byte is missing, or a section's size passes the input.
@@ -46,15 +46,12 @@ pub enum Fault {
     /// The byte before the limits of a table or a memory is none of those that may stand there.
     #[error("limits flag")]
     LimitsFlag,
-    /// Memory ran out.
-    #[error("no memory")]
-    OutOfMemory,
 }
 
 impl Fault {
-    /// The number by which the kind is reported, from 1 to 13.
+    /// The number by which the kind is reported, from 1 to 12.
     pub fn number(self) -> u8
-        ensures { result ≡ fault_number self }
+        ensures { result ≡ kind_number self }
     {
         match self {
             Fault::EndOfInput => 1,
@@ -69,9 +66,16 @@ impl Fault {
             Fault::CountsDiffer => 10,
             Fault::Limit => 11,
             Fault::LimitsFlag => 12,
-            Fault::OutOfMemory => 13,
         }
     }
+}
+
+/// Why bytes are refused: how they are malformed, and the offset in the input. What takes no memory fails by this alone.
+#[derive(Clone, Copy, Debug, PartialEq, Eq, Error)]
+#[error("{kind} at {offset}")]
+pub struct Refusal {
+    pub kind: Fault,
+    pub offset: usize,
 }
 
 /// Why reading ended without a value.
@@ -86,13 +90,13 @@ pub enum ReadFault {
 }
 
 impl ReadFault {
-    /// The kind of the fault.
-    pub fn kind(self) -> Fault
-        ensures { result ≡ fault_kind self }
+    /// The number by which the fault is reported: that of its kind, or 13 where memory ran out.
+    pub fn number(self) -> u8
+        ensures { result ≡ fault_number self }
     {
         match self {
-            ReadFault::OutOfMemory => Fault::OutOfMemory,
-            ReadFault::Malformed { kind, .. } => kind,
+            ReadFault::OutOfMemory => 13,
+            ReadFault::Malformed { kind, .. } => kind.number(),
         }
     }
 
@@ -103,6 +107,17 @@ impl ReadFault {
         match self {
             ReadFault::OutOfMemory => None,
             ReadFault::Malformed { offset, .. } => Some(offset),
+        }
+    }
+}
+
+impl From<Refusal> for ReadFault {
+    ghost from_gives = { λ r e. e ≡ Malformed r.kind r.offset };
+
+    fn from(refusal: Refusal) -> ReadFault {
+        ReadFault::Malformed {
+            kind: refusal.kind,
+            offset: refusal.offset,
         }
     }
 }

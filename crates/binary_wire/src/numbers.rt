@@ -1,19 +1,18 @@
 //! Numbers in LEB128 (Core specification 1.0, section 5.2.2).
 
-ghost use Rattle.std.specs.Prelude.{◌≡◌, ◌-◌, ◌*◌, ◌^◌, ◌<◌, ◌≤◌, length, IfOk, IfErr};
+ghost use Rattle.std.specs.Prelude.{◌≡◌, ◌*◌, ◌^◌, ◌<◌, ◌≤◌, IfOk};
 ghost use Rattle.binary_wire.specs.Grammar.{IsPower, IsTop};
 ghost use Rattle.binary_wire.specs.Reading.{Gives, unsigned_at, signed_at, s32_at, s64_at, u32_at, u32_within_at};
-ghost use Rattle.binary_wire.specs.Faults.{IsMissingOr};
+ghost use Rattle.binary_wire.specs.Faults.{refusal};
 ghost use Rattle.binary_wire.specs.declared.fault.Fault.TheVariants as kinds;
-ghost use Rattle.binary_wire.specs.declared.fault.ReadFault.TheVariants.{Malformed};
 
-use crate::fault::{Fault, ReadFault};
+use crate::fault::{Fault, Refusal};
 use crate::reader::Reader;
 
-fn number_fault(first: usize) -> ReadFault
-    ensures { result ≡ Malformed kinds.Number first }
+fn number_fault(first: usize) -> Refusal
+    ensures { result ≡ refusal kinds.Number first }
 {
-    ReadFault::Malformed {
+    Refusal {
         kind: Fault::Number,
         offset: first,
     }
@@ -22,11 +21,10 @@ fn number_fault(first: usize) -> ReadFault
 impl<'a> Reader<'a> {
     /// What is left of an unsigned number up to `top` whose first byte is at `first`.
     #[tactic(auto, unfolding(crate::specs::Reading::unsigned_at))]
-    fn read_unsigned(&mut self, top: u64, first: usize) -> Result<u64, ReadFault>
+    fn read_unsigned(&mut self, top: u64, first: usize) -> Result<u64, Refusal>
         requires { IsTop top }
-        ensures gives { Gives (λ n. (n, self.new.rest.now)) result (unsigned_at top self.old.rest.now) }
+        ensures gives { Gives (λ n. (n, self.new.rest.now)) result (unsigned_at top first self.old.bounds self.old.rest.now) }
         ensures keeps { self.new.bounds ≡ self.old.bounds }
-        ensures faults { IfErr result (IsMissingOr self.old.bounds (Malformed kinds.Number first)) }
         ensures fits { IfOk result (λ n. n ≤ top) }
     {
         let low = u64::from(self.read_byte()?);
@@ -45,12 +43,11 @@ impl<'a> Reader<'a> {
 
     /// What is left of a signed number in two's complement, below twice `half`, whose first byte is at `first`.
     #[tactic(auto, unfolding(crate::specs::Reading::signed_at))]
-    fn read_signed(&mut self, half: u64, first: usize) -> Result<u64, ReadFault>
+    fn read_signed(&mut self, half: u64, first: usize) -> Result<u64, Refusal>
         requires power { IsPower half }
         requires most { half ≤ 2 ^ 63 }
-        ensures gives { Gives (λ n. (n, self.new.rest.now)) result (signed_at half self.old.rest.now) }
+        ensures gives { Gives (λ n. (n, self.new.rest.now)) result (signed_at half first self.old.bounds self.old.rest.now) }
         ensures keeps { self.new.bounds ≡ self.old.bounds }
-        ensures faults { IfErr result (IsMissingOr self.old.bounds (Malformed kinds.Number first)) }
         ensures fits { IfOk result (λ n. n < 2 * half) }
     {
         let low = u64::from(self.read_byte()?);
@@ -74,11 +71,9 @@ impl<'a> Reader<'a> {
     }
 
     /// An unsigned number of 32 bits.
-    pub fn read_u32(&mut self) -> Result<u32, ReadFault>
-        ensures gives { Gives (λ n. (n, self.new.rest.now)) result (u32_at self.old.rest.now) }
+    pub fn read_u32(&mut self) -> Result<u32, Refusal>
+        ensures gives { Gives (λ n. (n, self.new.rest.now)) result (u32_at self.old.bounds self.old.rest.now) }
         ensures keeps { self.new.bounds ≡ self.old.bounds }
-        ensures faults { IfErr result (IsMissingOr self.old.bounds
-            (Malformed kinds.Number (self.old.bounds.end - length self.old.rest.now))) }
     {
         let first = self.offset();
         let n = self.read_unsigned(0xffff_ffff, first)?;
@@ -87,15 +82,15 @@ impl<'a> Reader<'a> {
 
     /// An unsigned number of 32 bits that is no more than a limit.
     #[tactic(auto, unfolding(crate::specs::Reading::u32_within_at))]
-    pub fn read_u32_within(&mut self, limit: u32) -> Result<u32, ReadFault>
-        ensures gives { Gives (λ n. (n, self.new.rest.now)) result (u32_within_at limit self.old.rest.now) }
+    pub fn read_u32_within(&mut self, limit: u32) -> Result<u32, Refusal>
+        ensures gives { Gives (λ n. (n, self.new.rest.now)) result (u32_within_at limit self.old.bounds self.old.rest.now) }
         ensures keeps { self.new.bounds ≡ self.old.bounds }
         ensures fits { IfOk result (λ n. n ≤ limit) }
     {
         let first = self.offset();
         let n = self.read_u32()?;
         if n > limit {
-            return Err(ReadFault::Malformed {
+            return Err(Refusal {
                 kind: Fault::Limit,
                 offset: first,
             });
@@ -104,11 +99,9 @@ impl<'a> Reader<'a> {
     }
 
     /// A signed number of 32 bits, in two's complement.
-    pub fn read_s32(&mut self) -> Result<u32, ReadFault>
-        ensures gives { Gives (λ n. (n, self.new.rest.now)) result (s32_at self.old.rest.now) }
+    pub fn read_s32(&mut self) -> Result<u32, Refusal>
+        ensures gives { Gives (λ n. (n, self.new.rest.now)) result (s32_at self.old.bounds self.old.rest.now) }
         ensures keeps { self.new.bounds ≡ self.old.bounds }
-        ensures faults { IfErr result (IsMissingOr self.old.bounds
-            (Malformed kinds.Number (self.old.bounds.end - length self.old.rest.now))) }
     {
         let first = self.offset();
         let n = self.read_signed(0x8000_0000, first)?;
@@ -116,11 +109,9 @@ impl<'a> Reader<'a> {
     }
 
     /// A signed number of 64 bits, in two's complement.
-    pub fn read_s64(&mut self) -> Result<u64, ReadFault>
-        ensures gives { Gives (λ n. (n, self.new.rest.now)) result (s64_at self.old.rest.now) }
+    pub fn read_s64(&mut self) -> Result<u64, Refusal>
+        ensures gives { Gives (λ n. (n, self.new.rest.now)) result (s64_at self.old.bounds self.old.rest.now) }
         ensures keeps { self.new.bounds ≡ self.old.bounds }
-        ensures faults { IfErr result (IsMissingOr self.old.bounds
-            (Malformed kinds.Number (self.old.bounds.end - length self.old.rest.now))) }
     {
         let first = self.offset();
         self.read_signed(0x8000_0000_0000_0000, first)

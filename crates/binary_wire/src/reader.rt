@@ -1,14 +1,12 @@
 //! What is left of the input, and what stands at its front.
 
-ghost use Rattle.std.specs.Prelude.{◌≡◌, ◌+◌, ◌-◌, ◌≤◌, length, IfOk, IfErr, Option, true};
+ghost use Rattle.std.specs.Prelude.{◌≡◌, ◌-◌, ◌≤◌, length, IfOk, true};
 ghost use Rattle.std.specs.Str.{is_utf8};
-ghost use Rattle.binary_wire.specs.Reading.{Gives, Refuses, byte_at, slice_at, block_at, name_at, end_at, front_is, front};
-ghost use Rattle.binary_wire.specs.Faults.{IsMissing, IsMissingOr};
-ghost use Rattle.binary_wire.specs.declared.fault.Fault.TheVariants as kinds;
-ghost use Rattle.binary_wire.specs.declared.fault.ReadFault.TheVariants.{Malformed};
+ghost use Rattle.binary_wire.specs.Reading.{Gives, byte_at, slice_at, block_at, name_at, end_at, front_is, front};
+ghost use Rattle.binary_wire.specs.Faults.{refused, missing, input, inside};
 
 use crate::bounds::Bounds;
-use crate::fault::{Fault, ReadFault};
+use crate::fault::{Fault, Refusal};
 
 /// What is left to read: of the whole input, or of contents of stated size.
 #[derive(Drop)]
@@ -22,7 +20,7 @@ impl<'a> Reader<'a> {
     /// A reader of the whole input.
     pub fn new(bytes: &'a [u8]) -> Reader<'a>
         ensures rest { result.rest.now ≡ bytes.now }
-        ensures bounds { result.bounds ≡ record { end = length bytes.now; missing = kinds.EndOfInput } }
+        ensures bounds { result.bounds ≡ input bytes.now }
     {
         Reader {
             rest: bytes,
@@ -48,22 +46,20 @@ impl<'a> Reader<'a> {
     }
 
     /// A fault at the next byte.
-    pub fn fault(&self, kind: Fault) -> ReadFault
-        ensures refuses { Refuses result }
-        ensures exact { result ≡ Malformed kind (self.now.bounds.end - length self.now.rest.now) }
+    pub fn fault(&self, kind: Fault) -> Refusal
+        ensures { result ≡ refused kind self.now.bounds self.now.rest.now }
     {
-        ReadFault::Malformed {
+        Refusal {
             kind,
             offset: self.offset(),
         }
     }
 
     /// The fault that more bytes are needed than there are.
-    pub fn missing(&self) -> ReadFault
-        ensures refuses { Refuses result }
-        ensures exact { IsMissing self.now.bounds result }
+    pub fn missing(&self) -> Refusal
+        ensures { result ≡ missing self.now.bounds }
     {
-        ReadFault::Malformed {
+        Refusal {
             kind: self.bounds.missing,
             offset: self.bounds.end,
         }
@@ -90,10 +86,9 @@ impl<'a> Reader<'a> {
     }
 
     /// The next byte.
-    pub fn read_byte(&mut self) -> Result<u8, ReadFault>
-        ensures gives { Gives (λ b. (b, self.new.rest.now)) result (byte_at self.old.rest.now) }
+    pub fn read_byte(&mut self) -> Result<u8, Refusal>
+        ensures gives { Gives (λ b. (b, self.new.rest.now)) result (byte_at self.old.bounds self.old.rest.now) }
         ensures keeps { self.new.bounds ≡ self.old.bounds }
-        ensures faults { IfErr result (IsMissing self.old.bounds) }
     {
         match self.rest {
             [] => Err(self.missing()),
@@ -105,10 +100,9 @@ impl<'a> Reader<'a> {
     }
 
     /// The next bytes, so many.
-    pub fn read_slice(&mut self, len: usize) -> Result<&'a [u8], ReadFault>
-        ensures gives { Gives (λ s. (s.now, self.new.rest.now)) result (slice_at len self.old.rest.now) }
+    fn read_slice(&mut self, len: usize) -> Result<&'a [u8], Refusal>
+        ensures gives { Gives (λ s. (s.now, self.new.rest.now)) result (slice_at len self.old.bounds self.old.rest.now) }
         ensures keeps { self.new.bounds ≡ self.old.bounds }
-        ensures faults { IfErr result (IsMissing self.old.bounds) }
     {
         if self.rest.len() < len {
             return Err(self.missing());
@@ -119,14 +113,10 @@ impl<'a> Reader<'a> {
     }
 
     /// A reader of the next bytes, so many, as contents of stated size.
-    pub fn read_part(&mut self, len: usize) -> Result<Reader<'a>, ReadFault>
-        ensures gives { Gives (λ r. (r.rest.now, self.new.rest.now)) result (slice_at len self.old.rest.now) }
+    pub fn read_part(&mut self, len: usize) -> Result<Reader<'a>, Refusal>
+        ensures gives { Gives (λ r. (r.rest.now, self.new.rest.now)) result (slice_at len self.old.bounds self.old.rest.now) }
         ensures keeps { self.new.bounds ≡ self.old.bounds }
-        ensures faults { IfErr result (IsMissing self.old.bounds) }
-        ensures bounds { IfOk result (λ r. r.bounds ≡ record {
-          end = self.new.bounds.end - length self.new.rest.now;
-          missing = kinds.Size;
-        }) }
+        ensures bounds { IfOk result (λ r. r.bounds ≡ inside self.new.bounds self.new.rest.now) }
     {
         let contents = self.read_slice(len)?;
         Ok(Reader {
@@ -139,9 +129,8 @@ impl<'a> Reader<'a> {
     }
 
     /// That nothing is left of contents of stated size.
-    pub fn finish(&self) -> Result<(), ReadFault>
-        ensures gives { Gives (λ _. true) result (end_at self.now.rest.now) }
-        ensures faults { IfErr result (λ e. e ≡ Malformed kinds.Size (self.now.bounds.end - length self.now.rest.now)) }
+    pub fn finish(&self) -> Result<(), Refusal>
+        ensures gives { Gives (λ _. true) result (end_at self.now.bounds self.now.rest.now) }
     {
         match self.rest {
             [] => Ok(()),
@@ -151,15 +140,10 @@ impl<'a> Reader<'a> {
 
     /// A size, and a reader of so many bytes.
     #[tactic(auto, unfolding(crate::specs::Reading::block_at))]
-    pub fn read_block(&mut self) -> Result<Reader<'a>, ReadFault>
-        ensures gives { Gives (λ r. (r.rest.now, self.new.rest.now)) result (block_at self.old.rest.now) }
+    pub fn read_block(&mut self) -> Result<Reader<'a>, Refusal>
+        ensures gives { Gives (λ r. (r.rest.now, self.new.rest.now)) result (block_at self.old.bounds self.old.rest.now) }
         ensures keeps { self.new.bounds ≡ self.old.bounds }
-        ensures faults { IfErr result (IsMissingOr self.old.bounds
-            (Malformed kinds.Number (self.old.bounds.end - length self.old.rest.now))) }
-        ensures bounds { IfOk result (λ r. r.bounds ≡ record {
-          end = self.new.bounds.end - length self.new.rest.now;
-          missing = kinds.Size;
-        }) }
+        ensures bounds { IfOk result (λ r. r.bounds ≡ inside self.new.bounds self.new.rest.now) }
     {
         let size = self.read_u32()?;
         self.read_part(size as usize)
@@ -167,11 +151,9 @@ impl<'a> Reader<'a> {
 
     /// A size, and so many bytes.
     #[tactic(auto, unfolding(crate::specs::Reading::block_at))]
-    pub fn read_bytes(&mut self) -> Result<&'a [u8], ReadFault>
-        ensures gives { Gives (λ s. (s.now, self.new.rest.now)) result (block_at self.old.rest.now) }
+    pub fn read_bytes(&mut self) -> Result<&'a [u8], Refusal>
+        ensures gives { Gives (λ s. (s.now, self.new.rest.now)) result (block_at self.old.bounds self.old.rest.now) }
         ensures keeps { self.new.bounds ≡ self.old.bounds }
-        ensures faults { IfErr result (IsMissingOr self.old.bounds
-            (Malformed kinds.Number (self.old.bounds.end - length self.old.rest.now))) }
     {
         let len = self.read_u32()?;
         self.read_slice(len as usize)
@@ -179,8 +161,8 @@ impl<'a> Reader<'a> {
 
     /// A name (Core specification 1.0, section 5.2.4).
     #[tactic(auto, unfolding(crate::specs::Reading::name_at, crate::specs::Reading::block_at))]
-    pub fn read_name(&mut self) -> Result<&'a str, ReadFault>
-        ensures gives { Gives (λ s. (s.now, self.new.rest.now)) result (name_at self.old.rest.now) }
+    pub fn read_name(&mut self) -> Result<&'a str, Refusal>
+        ensures gives { Gives (λ s. (s.now, self.new.rest.now)) result (name_at self.old.bounds self.old.rest.now) }
         ensures keeps { self.new.bounds ≡ self.old.bounds }
     {
         let size = self.read_u32()?;
@@ -188,7 +170,7 @@ impl<'a> Reader<'a> {
         let bytes = self.read_slice(size as usize)?;
         match std::str::from_utf8(bytes) {
             Ok(text) => Ok(text),
-            Err(_) => Err(ReadFault::Malformed {
+            Err(_) => Err(Refusal {
                 kind: Fault::Name,
                 offset,
             }),

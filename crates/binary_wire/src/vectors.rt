@@ -1,7 +1,7 @@
 //! Vectors: a count, and so many items (Core specification 1.0, section 5.1.3).
 
-ghost use Rattle.std.specs.Prelude.{◌≡◌, ℕ, List, Option};
-ghost use Rattle.binary_wire.specs.Reading.{Gives, vector_at, items_at, u32_at};
+ghost use Rattle.std.specs.Prelude.{◌≡◌};
+ghost use Rattle.binary_wire.specs.Reading.{Reading, GivesInMemory, vector_at, items_at, u32_at};
 
 use crate::fault::ReadFault;
 use crate::reader::Reader;
@@ -14,11 +14,12 @@ pub trait Item {
     type Value: Drop;
 
     /// The item at the front of the bytes, and the bytes behind it.
-    ghost at: { List ℕ → Option (Self.Value × List ℕ) };
+    ghost at: { Reading Self.Value };
 
     /// Reads one item.
     fn read(reader: &mut Reader, alloc: Global) -> Result<Self::Value, ReadFault>
-        ensures { Gives (λ x. (x, reader.new.rest.now)) result (at reader.old.rest.now) };
+        ensures gives { GivesInMemory (λ x. (x, reader.new.rest.now)) result (at reader.old.bounds reader.old.rest.now) }
+        ensures keeps { reader.new.bounds ≡ reader.old.bounds };
 }
 
 /// An index: an unsigned number of 32 bits (Core specification 1.0, section 5.5.1).
@@ -30,17 +31,18 @@ impl Item for IndexItem {
     ghost at = { u32_at };
 
     fn read(reader: &mut Reader, _alloc: Global) -> Result<u32, ReadFault> {
-        reader.read_u32()
+        Ok(reader.read_u32()?)
     }
 }
 
 /// So many items, one after the other. Memory is taken as they come, whatever their number is said to be.
-pub fn read_items<T: Item>(
+fn read_items<T: Item>(
     reader: &mut Reader,
     alloc: Global,
     count: u32,
 ) -> Result<Sequence<T::Value>, ReadFault>
-    ensures { Gives (λ v. (v, reader.new.rest.now)) result (items_at T.at count reader.old.rest.now) }
+    ensures gives { GivesInMemory (λ v. (v, reader.new.rest.now)) result (items_at T.at count reader.old.bounds reader.old.rest.now) }
+    ensures keeps { reader.new.bounds ≡ reader.old.bounds }
 {
     let mut items = Vec::new(alloc);
     for _ in 0..count {
@@ -57,7 +59,8 @@ pub fn read_vector<T: Item>(
     alloc: Global,
     limit: u32,
 ) -> Result<Sequence<T::Value>, ReadFault>
-    ensures { Gives (λ v. (v, reader.new.rest.now)) result (vector_at limit T.at reader.old.rest.now) }
+    ensures gives { GivesInMemory (λ v. (v, reader.new.rest.now)) result (vector_at limit T.at reader.old.bounds reader.old.rest.now) }
+    ensures keeps { reader.new.bounds ≡ reader.old.bounds }
 {
     let count = reader.read_u32_within(limit)?;
     read_items::<T>(reader, alloc, count)

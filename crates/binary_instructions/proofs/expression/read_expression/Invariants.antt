@@ -5,8 +5,9 @@ use Rattle.binary_instructions.proofs.expression.read_expression.Given as goal
 
 abbrev pub invariant-loop : goal.invariant-loop
 invariant-loop l = record {
+  keeps : l.reader.bounds ≡ l.fn.reader.bounds;
   some : 0 < length (reverse l.open_blocks.items);
   top : l.end ≡ length l.fn.reader.rest.now;
-  so_far : with_front l.code.items (code_at (l.end - l.counter)
-      (reverse l.open_blocks.items) l.reader.rest.now) ≡ code_at l.end (false ∷ []) l.fn.reader.rest.now;
+  so_far : with_front l.code.items (code_at (l.end - l.counter) (reverse l.open_blocks.items) l.fn.reader.bounds l.reader.rest.now)
+      ≡ code_at l.end (false ∷ []) l.fn.reader.bounds l.fn.reader.rest.now;
 }

@@ -4,4 +4,8 @@ use Rattle.binary_wire.proofs.Loop.{with_front}
 use Rattle.binary_wire.proofs.vectors.read_items.Given as goal
 
 abbrev pub invariant-loop : goal.invariant-loop
-invariant-loop g l = with_front l.items.items (items_at g.T.Item.at (l.count - l.counter) l.reader.rest.now) ≡ items_at g.T.Item.at l.count l.fn.reader.rest.now
+invariant-loop g l = record {
+  keeps : l.reader.bounds ≡ l.fn.reader.bounds;
+  so_far : with_front l.items.items (items_at g.T.Item.at (l.count - l.counter) l.fn.reader.bounds l.reader.rest.now)
+      ≡ items_at g.T.Item.at l.count l.fn.reader.bounds l.fn.reader.rest.now;
+}

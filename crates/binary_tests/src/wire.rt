@@ -1,4 +1,6 @@
-use crate::{Fault, IndexItem, ReadFault, Reader, read_vector};
+//! Numbers, names, blocks and vectors, and where they are refused.
+
+use binary_wire::{Fault, IndexItem, ReadFault, Reader, Refusal, read_vector};
 use std::test::Fail;
 
 #[test]
@@ -26,15 +28,15 @@ fn numbers_in_every_spelling(rt: HostRuntime) -> Result<(), Fail> {
     Ok(())
 }
 
-fn number_at(offset: usize) -> ReadFault {
-    ReadFault::Malformed {
+fn number_at(offset: usize) -> Refusal {
+    Refusal {
         kind: Fault::Number,
         offset,
     }
 }
 
-fn end_at(offset: usize) -> ReadFault {
-    ReadFault::Malformed {
+fn end_at(offset: usize) -> Refusal {
+    Refusal {
         kind: Fault::EndOfInput,
         offset,
     }
@@ -74,7 +76,7 @@ fn parts_of_stated_size(rt: HostRuntime) -> Result<(), Fail> {
     // more is needed than the size, which ends at 3
     assert_eq!(rt;
         part.read_byte(),
-        Err(ReadFault::Malformed {
+        Err(Refusal {
             kind: Fault::Size,
             offset: 3
         })
@@ -83,7 +85,7 @@ fn parts_of_stated_size(rt: HostRuntime) -> Result<(), Fail> {
     assert!(rt; reader.read_block().is_err());
     assert_eq!(rt;
         Reader::new(b"\x01\xff").read_name(),
-        Err(ReadFault::Malformed {
+        Err(Refusal {
             kind: Fault::Name,
             offset: 1
         })
@@ -98,7 +100,7 @@ fn vectors_within_a_limit(rt: HostRuntime) -> Result<(), Fail> {
     match read_vector::<IndexItem>(&mut Reader::new(b"\x03\x07\x08\x09"), rt.alloc(), 2) {
         Ok(_) => assert!(rt; false),
         Err(fault) => {
-            assert_eq!(rt; fault.kind().number(), 11);
+            assert_eq!(rt; fault.number(), 11);
             assert_eq!(rt; fault.offset(), Some(0));
         }
     }
@@ -108,15 +110,43 @@ fn vectors_within_a_limit(rt: HostRuntime) -> Result<(), Fail> {
 #[test]
 fn printed_faults(rt: HostRuntime) -> Result<(), Fail> {
     let alloc = rt.alloc();
+    let text = "number too long, or wrong unused bits at 7";
+    assert_eq!(rt; format!(in alloc; "{}", number_at(7))?.as_str(), text);
     assert_eq!(rt;
-        format!(in alloc; "{}", number_at(7))?.as_str(),
-        "number too long, or wrong unused bits at 7"
+        format!(in alloc; "{}", ReadFault::from(number_at(7)))?.as_str(),
+        text
     );
     assert_eq!(rt;
         format!(in alloc; "{}", ReadFault::OutOfMemory)?.as_str(),
         "no memory"
     );
-    assert_eq!(rt; ReadFault::OutOfMemory.kind().number(), 13);
+    assert_eq!(rt; Fault::Number.number(), 6);
+    assert_eq!(rt; ReadFault::from(number_at(7)).number(), 6);
+    assert_eq!(rt; ReadFault::from(number_at(7)).offset(), Some(7));
+    assert_eq!(rt; ReadFault::OutOfMemory.number(), 13);
     assert_eq!(rt; ReadFault::OutOfMemory.offset(), None);
+    Ok(())
+}
+
+#[test]
+fn what_stands_in_front(rt: HostRuntime) -> Result<(), Fail> {
+    let mut reader = Reader::new(b"\x05\x02ab\x03");
+    assert_eq!(rt; reader.peek(), Some(5));
+    assert!(rt; reader.front_is(5));
+    assert!(rt; !reader.front_is(6));
+    assert_eq!(rt; (reader.len(), reader.offset()), (5, 0));
+    let past = Refusal {
+        kind: Fault::Limit,
+        offset: 0,
+    };
+    assert_eq!(rt; reader.read_u32_within(4), Err(past));
+    assert_eq!(rt; reader.read_bytes()?, b"ab".as_slice());
+    assert_eq!(rt; (reader.len(), reader.offset()), (1, 4));
+    assert_eq!(rt; reader.fault(Fault::Magic).offset, 4);
+    assert_eq!(rt; reader.missing(), end_at(5));
+    let mut part = reader.read_part(1)?;
+    assert_eq!(rt; part.read_u32_within(3), Ok(3));
+    assert_eq!(rt; part.peek(), None);
+    assert_eq!(rt; reader.finish(), Ok(()));
     Ok(())
 }

@@ -1,5 +1,5 @@
 //! Faults with their offsets, worked out by hand, and what is read of each section.
-use crate::read;
+use binary::read;
 use std::alloc::{AllocError, Global};
 use std::test::Fail;
 use types::{ExportDesc, Module};
@@ -14,7 +14,7 @@ const MODULE: &[u8] =
 fn outcome(alloc: Global, bytes: &[u8]) -> (u8, usize) {
     match read(alloc, bytes) {
         Ok(_) => (0, 0),
-        Err(fault) => (fault.kind().number(), fault.offset().unwrap_or(0)),
+        Err(fault) => (fault.number(), fault.offset().unwrap_or(0)),
     }
 }
 

@@ -1,7 +1,7 @@
 //! Each opcode once, as the standard's tables have them, and faults at their offsets.
 
-use crate::read_expression;
-use binary_wire::{Fault, ReadFault, Reader};
+use binary_instructions::{read_expression, read_val_type};
+use binary_wire::{Fault, ReadFault, Reader, Refusal};
 use std::alloc::Global;
 use std::test::Fail;
 use types::{
@@ -584,5 +584,18 @@ fn nests_255_blocks_at_most(rt: HostRuntime) -> Result<(), Fail> {
     assert_eq!(rt; code.len(), 511);
     let too_deep = nested(rt.alloc(), 256)?;
     assert!(rt; is_refused(rt.alloc(), &too_deep, Fault::Limit, 510));
+    Ok(())
+}
+
+#[test]
+fn reads_types_of_values(rt: HostRuntime) -> Result<(), Fail> {
+    let mut reader = Reader::new(b"\x7f\x7e\x7d");
+    assert_eq!(rt; reader.read_byte(), Ok(0x7f));
+    assert_eq!(rt; read_val_type(&mut reader), Ok(ValType::I64));
+    let float = Refusal {
+        kind: Fault::Float,
+        offset: 2,
+    };
+    assert_eq!(rt; read_val_type(&mut reader), Err(float));
     Ok(())
 }
