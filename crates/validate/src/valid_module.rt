@@ -1,6 +1,6 @@
 //! Valid modules.
 
-ghost use Rattle.std.specs.Prelude.{◌≡◌, ◌↔◌, ℕ, ◌+◌, ◌<◌, ◌≤◌, length, Some, None, IsTrue, IfOk, IfSome, IsErrAnd};
+ghost use Rattle.std.specs.Prelude.{◌≡◌, ◌↔◌, ℕ, ◌+◌, ◌<◌, ◌≤◌, length, Some, None, IsTrue, IfOk, IfErr, IfSome, IsErrAnd, IsOkUnless};
 ghost use Rattle.std.specs.Option.{MatchOption};
 ghost use Rattle.std.specs.List.{slice_get};
 ghost use Rattle.types.specs.Modules.{IsModule};
@@ -10,7 +10,10 @@ ghost use Rattle.validate_typing.specs.Image.{opening_image, opening_pages, page
 ghost use Rattle.validate_typing.specs.Tabled.{IsValidated, target_at};
 ghost use Rattle.validate_module_rules.specs.Exported.{IsExported};
 ghost use Rattle.validate_module_rules.specs.Faults.{fault_outside};
-ghost use Rattle.validate.specs.Refusals.{IsRefusal};
+ghost use Rattle.validate.specs.Refusals.{IsRefusal, IsRefused};
+ghost use Rattle.validate_typing.specs.Validity.{IsValid};
+ghost use Rattle.validate_typing.specs.Faults.{fault_kind};
+ghost use Rattle.validate_typing.specs.declared.fault.Fault.TheVariants as faults;
 
 use crate::check::check_parts;
 use crate::image::opening_image;
@@ -157,9 +160,13 @@ impl ValidModule {
 /// # Errors
 /// `ValidFault::OutOfMemory` where memory is refused. Otherwise the first fault: of the rules outside bodies in the
 /// order types, imports, types of functions, tables, memories, globals, exports, start, element segments, data segments
-/// and the entry of threads, then of the bodies in order. A fault in a body has its place.
+/// and the entry of threads, then of the bodies in order. A fault in a body has its place: no typed body begins with
+/// the instructions up to there. A valid module is refused only where memory is.
 pub fn validate(alloc: Global, module: Module) -> Result<ValidModule, ValidFault>
     ensures valid { IfOk result (λ v. (v.parts ≡ «module») × IsValidated v) }
+    ensures refused { IfErr result (IsRefused «module») }
+    ensures complete { IsValid «module» → IsOkUnless result ValidFault.OutOfMemory }
+    ensures memory { IfErr result (λ fault. fault_kind fault ≡ faults.OutOfMemory → fault ≡ ValidFault.OutOfMemory) }
     ensures outside { IfSome (fault_outside «module») (λ kind. IsErrAnd result (λ fault. IsRefusal kind fault)) }
 {
     match check_parts(alloc, module.parts()) {

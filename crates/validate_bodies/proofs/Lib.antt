@@ -6,3 +6,4 @@ pub mod Onward
 pub mod Stuck
 pub mod Endings
 pub mod Whole
+pub mod Spared

@@ -189,6 +189,6 @@ pub moved_on : (ts us gs : List ValType) (a b c : OpenBlock) (r : Result (Unit {
 moved_on ts us gs a b c r x h = MatchResult-weaker r h (λ _ y. moved_after ts us gs a b c x y) (λ e y. cant_after ts us a b e x y)
 
 -- what the exit of a `?` answers
-pub at_exit : {X : Type 0} (r : Result X Problem) (e : Problem) (P : X → Type 0) (Q : Problem → Type 0) → IsErrAnd r (λ y. y ≡ e) → Q e → MatchResult r P Q
+pub at_exit : {X E : Type 0} (r : Result X E) (e : E) (P : X → Type 0) (Q : E → Type 0) → IsErrAnd r (λ y. y ≡ e) → Q e → MatchResult r P Q
 at_exit (Ok x) e P Q h q = absurd h
 at_exit (Err y) e P Q h q = subst Q (sym h) q

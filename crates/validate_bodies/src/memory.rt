@@ -32,7 +32,7 @@ fn alignment_of(arg: MemArg) -> Option<u8>
 #[tactic(auto, using(crate::proofs::Fitting::wide))]
 fn check_alignment(arg: MemArg, bytes: u8) -> Result<(), Problem>
     requires { bytes ≤ 8 }
-    ensures { MatchResult result (λ _. IsAligned arg bytes) (λ e. (e ≡ (Problem.Wrong Fault.Alignment)) × (IsAligned arg bytes → ⊥)) }
+    ensures { MatchResult result (λ _. IsAligned arg bytes) (λ e. (e ≡ Problem.Wrong Fault.Alignment) × (IsAligned arg bytes → ⊥)) }
 {
     let Some(alignment) = alignment_of(arg) else {
         return Err(MISALIGNED);
@@ -48,7 +48,8 @@ fn check_alignment(arg: MemArg, bytes: u8) -> Result<(), Problem>
 #[tactic(auto, using(crate::proofs::Fitting::wide))]
 fn check_exact_alignment(arg: MemArg, bytes: u8) -> Result<(), Problem>
     requires { bytes ≤ 8 }
-    ensures { MatchResult result (λ _. IsExactlyAligned arg bytes) (λ e. (e ≡ (Problem.Wrong Fault.Alignment)) × (IsExactlyAligned arg bytes → ⊥)) }
+    ensures { MatchResult result (λ _. IsExactlyAligned arg bytes)
+        (λ e. (e ≡ Problem.Wrong Fault.Alignment) × (IsExactlyAligned arg bytes → ⊥)) }
 {
     let Some(alignment) = alignment_of(arg) else {
         return Err(MISALIGNED);

@@ -2,3 +2,4 @@ pub mod Types
 pub mod Rules
 pub mod ExportLaws
 pub mod WholeLaws
+pub mod Spared

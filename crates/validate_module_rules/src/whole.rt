@@ -50,7 +50,7 @@ fn first_fault(parts: &Parts, spaces: &IndexSpaces) -> Option<Fault>
 
 /// The first fault of a module outside the bodies of its functions. There is none exactly where the module is valid but
 /// for its bodies.
-#[tactic(auto, using(crate::proofs::WholeLaws::valid_with_bodies, crate::proofs::WholeLaws::no_fault, crate::proofs::WholeLaws::types_kept))]
+#[tactic(auto, using(crate::proofs::WholeLaws::valid_with_bodies, crate::proofs::WholeLaws::no_fault, crate::proofs::WholeLaws::types_kept, crate::proofs::Spared::outside_spared))]
 pub fn fault_outside_bodies(parts: &Parts, spaces: &IndexSpaces) -> Option<Fault>
     requires { IsSpacesOf parts.now spaces.now }
     ensures first { result ≡ fault_outside parts.now }
@@ -58,6 +58,7 @@ pub fn fault_outside_bodies(parts: &Parts, spaces: &IndexSpaces) -> Option<Fault
     ensures functions { result ≡ None → All (λ index. index < length parts.now.types) parts.now.functions }
     ensures sound { result ≡ None → HasValidBodies parts.now → IsValid parts.now }
     ensures complete { IsValid parts.now → result ≡ None }
+    ensures memory { result ≡ Some Fault.OutOfMemory → ⊥ }
 {
     first_fault(parts, spaces)
 }

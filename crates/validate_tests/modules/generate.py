@@ -56,7 +56,7 @@ NAMED = ["data_over_data", "data_to_the_end", "globals", "table_of_labels", "spa
 head = """//! Modules in the binary format, with what the validator answers of them. Written by modules/generate.py from
 //! modules/modules.txt.
 
-use typing::Fault;
+use validate_typing::Fault;
 
 /// What the reader and the validator answer.
 #[derive(Clone, Copy, PartialEq, Eq, Debug)]

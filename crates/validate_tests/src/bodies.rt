@@ -45,6 +45,10 @@ fn indexed(name: &str, index: u32) -> PlainInstr {
         offset: 0,
     };
     let whole = AccessWidth::Whole(I32);
+    let far = MemArg {
+        align: index,
+        offset: u32::MAX,
+    };
     match name {
         "br" => PlainInstr::Br(index),
         "br_if" => PlainInstr::BrIf(index),
@@ -62,6 +66,7 @@ fn indexed(name: &str, index: u32) -> PlainInstr {
         "notify" => PlainInstr::Atomic(AtomicOp::Notify, arg),
         "wait64" => PlainInstr::Atomic(AtomicOp::Wait(I64), arg),
         "atomic.load" => PlainInstr::Atomic(AtomicOp::Load(whole), arg),
+        "atomic.load.far" => PlainInstr::Atomic(AtomicOp::Load(whole), far),
         "atomic.store" => PlainInstr::Atomic(AtomicOp::Store(whole), arg),
         "rmw.add" => PlainInstr::Atomic(AtomicOp::Rmw(RmwOp::Add, whole), arg),
         "cmpxchg" => PlainInstr::Atomic(AtomicOp::Cmpxchg(whole), arg),
@@ -294,7 +299,7 @@ fn tells_what_is_not_there(rt: HostRuntime) -> Result<(), Fail> {
 }
 
 /// Each shape of instruction, and each control shape where nothing runs.
-static ACCEPTED: [&str; 29] = [
+static ACCEPTED: [&str; 36] = [
     "local.get:0",
     "nop i32 return",
     "i32 return i64 drop",
@@ -324,6 +329,13 @@ static ACCEPTED: [&str; 29] = [
     "i32 i64 i64 wait64:3",
     "fence i32 i32 atomic.store:2 i32 atomic.load:2 i32 rmw.add:2",
     "i32 i32 i32 cmpxchg:2",
+    "unreachable drop",
+    "unreachable local.tee:0",
+    "i32 i32 br_table:0", // no labels beside the default
+    "i32 block i64 block i32 br_table:0,1,0 end drop end",
+    "i32 block i64 block i32 br_table:1,0,1 end drop end",
+    "i32 if br:0 end i32",
+    "i32 atomic.load.far:2",
 ];
 
 #[test]

@@ -6,6 +6,10 @@ mod bodies;
 #[cfg(test)]
 mod bytes;
 #[cfg(test)]
+mod calls;
+#[cfg(test)]
+mod large;
+#[cfg(test)]
 mod parts;
 #[cfg(test)]
 mod sections;

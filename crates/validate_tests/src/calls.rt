@@ -1,0 +1,137 @@
+//! Each public function that the other tests don't call, with answers worked out by hand.
+
+use crate::sections::with_exports;
+use std::alloc::Global as Alloc;
+use std::test::Fail;
+use types::{Instr, Module, NumericInstr, PlainInstr, Value};
+use validate::validate;
+use validate_module_rules::{IndexSpaces, exported_function, fault_outside_bodies, offset};
+use validate_typing::{
+    Fault, Place, Table, Target, ValidFault, expression_stands_for_one_nesting,
+};
+
+/// The kinds by their numbers.
+static NUMBERS: [(Fault, u8); 20] = [
+    (Fault::TypeMismatch, 1),
+    (Fault::UnknownLabel, 2),
+    (Fault::UnknownLocal, 3),
+    (Fault::UnknownGlobal, 4),
+    (Fault::UnknownFunction, 5),
+    (Fault::UnknownType, 6),
+    (Fault::UnknownTable, 7),
+    (Fault::UnknownMemory, 8),
+    (Fault::ConstantGlobal, 9),
+    (Fault::Alignment, 10),
+    (Fault::Limits, 11),
+    (Fault::DuplicateExport, 12),
+    (Fault::MoreThanOne, 13),
+    (Fault::NotConstant, 14),
+    (Fault::UnknownImport, 15),
+    (Fault::SharedWithoutMaximum, 16),
+    (Fault::StartSection, 17),
+    (Fault::ThreadEntry, 18),
+    (Fault::SegmentOutside, 19),
+    (Fault::OutOfMemory, 20),
+];
+
+#[test]
+fn numbers_the_kinds(rt: HostRuntime) -> Result<(), Fail> {
+    for (kind, number) in NUMBERS {
+        assert_eq!(rt; kind.number(), number);
+    }
+    Ok(())
+}
+
+const IN_BODY: ValidFault = ValidFault::InBody {
+    kind: Fault::Alignment,
+    function: 3,
+    instruction: 9,
+};
+
+const PLACE: Place = Place {
+    function: 3,
+    instruction: 9,
+};
+
+/// Faults with their kinds and places.
+static PLACES: [(ValidFault, Fault, Option<Place>); 3] = [
+    (ValidFault::OutOfMemory, Fault::OutOfMemory, None),
+    (ValidFault::Outside(Fault::Limits), Fault::Limits, None),
+    (IN_BODY, Fault::Alignment, Some(PLACE)),
+];
+
+#[test]
+fn tells_kinds_and_places(rt: HostRuntime) -> Result<(), Fail> {
+    for (fault, kind, place) in PLACES {
+        assert_eq!(rt; fault.kind(), kind);
+        assert_eq!(rt; fault.place(), place);
+    }
+    Ok(())
+}
+
+fn target(to: usize) -> Target {
+    Target {
+        to,
+        height: 2,
+        carried: 1,
+    }
+}
+
+/// A table of two targets of the first instruction, and none of the second.
+fn two_rows(alloc: Alloc) -> Result<Table, Fail> {
+    let mut table = Table::new(alloc);
+    table.push(&[target(7), target(8)])?;
+    table.push(&[])?;
+    Ok(table)
+}
+
+#[test]
+fn keeps_rows(rt: HostRuntime) -> Result<(), Fail> {
+    let table = two_rows(rt.alloc())?;
+    assert_eq!(rt; table.row(0).map(|row| row.len()), Some(2));
+    assert_eq!(rt; table.row(1).map(|row| row.len()), Some(0));
+    assert_eq!(rt; table.row(2).map(|row| row.len()), None);
+    assert_eq!(rt; table.target(0, 1), Some(target(8)));
+    expression_stands_for_one_nesting();
+    Ok(())
+}
+
+fn constant(value: Value) -> [Instr; 2] {
+    let number = Instr::Plain(PlainInstr::Numeric(NumericInstr::Const(value)));
+    [number, Instr::End]
+}
+
+#[test]
+fn reads_offsets(rt: HostRuntime) -> Result<(), Fail> {
+    assert_eq!(rt; offset(&constant(Value::I32(70_000))), 70_000);
+    assert_eq!(rt; offset(&constant(Value::I64(70_000))), 0);
+    assert_eq!(rt; offset(&[]), 0);
+    Ok(())
+}
+
+/// What the rules outside bodies say of a module with exports.
+fn outside(alloc: Alloc, names: u32) -> Result<Option<Fault>, Fail> {
+    let names = names.max(1);
+    let parts = with_exports(alloc, 2, names)?;
+    let spaces = IndexSpaces::of(alloc, &parts)?;
+    Ok(fault_outside_bodies(&parts, &spaces))
+}
+
+#[test]
+fn tells_faults_outside_bodies(rt: HostRuntime) -> Result<(), Fail> {
+    assert_eq!(rt; outside(rt.alloc(), 2)?, None);
+    assert_eq!(rt; outside(rt.alloc(), 1)?, Some(Fault::DuplicateExport));
+    Ok(())
+}
+
+#[test]
+fn tells_of_a_memory(rt: HostRuntime) -> Result<(), Fail> {
+    let parts = with_exports(rt.alloc(), 1, 1)?;
+    let spaces = IndexSpaces::of(rt.alloc(), &parts)?;
+    assert_eq!(rt; exported_function(&parts, spaces.imported, "0"), None);
+    let module = Module::from_parts(parts).ok().ok_or("no module")?;
+    let module = validate(rt.alloc(), module)?;
+    assert_eq!(rt; module.opening_pages(), 1);
+    assert_eq!(rt; module.tables().len(), 0);
+    Ok(())
+}
