@@ -4,10 +4,12 @@
 # modules (beside node with worker threads on the same modules; they import their memory, so that node can share it).
 # Nanoseconds an access of one thread, by the clock. Of the program it is a run less one of eight accesses; of the others
 # their own time; node makes ten times as many, since it is done so soon. `two` is what two threads do in the time of one: 2 would be twice as much.
+# Then the six events that are one step on a word, each alone, by one thread over words and in plain Rust; and additions by four
+# threads to one word, as one step (8 bytes) and as an exchange that may be lost and is made again (4 bytes).
 # Needs wabt, node, rustc and python3. ROUNDS=N: how often each runs.
 set -eu
 source "$(dirname "$0")/common.sh"
-(cd "$top/crates/bench" && rt run -- memory words stores 1 1000 >/dev/null)
+(cd "$top/crates/bench" && rt run -- memory words stores turns 1 1000 >/dev/null)
 rustc -O -o "$work/plain" "$top/bench/plain.rs"
 bench=$top/crates/bench/out/bench
 
@@ -16,10 +18,10 @@ printf '%-34s %9s %9s %6s\n' 'memory alone' '1 thread' '2 threads' two
 few=500000
 many=10000000
 for change in stores adds; do
-    "$top/bench/least.py" "$rounds" locked1="$bench memory locked $change 1 $few time" \
-        locked2="$bench memory locked $change 2 $((2 * few)) time" words1="$bench memory words $change 1 $many time" \
-        words2="$bench memory words $change 2 $((2 * many)) time" plain1="$work/plain $change 1 $many" \
-        plain2="$work/plain $change 2 $((2 * many))" >"$work/times"
+    "$top/bench/least.py" "$rounds" locked1="$bench memory locked $change turns 1 $few time" \
+        locked2="$bench memory locked $change turns 2 $((2 * few)) time" words1="$bench memory words $change turns 1 $many time" \
+        words2="$bench memory words $change turns 2 $((2 * many)) time" plain1="$work/plain $change turns 1 $many" \
+        plain2="$work/plain $change turns 2 $((2 * many))" >"$work/times"
     awk -v change=$change -v few=$few -v many=$many '{ ns[$1] = $4 * 1e6 } END {
         split("locked words plain", sides)
         for (i = 1; i <= 3; i++) {
@@ -30,6 +32,30 @@ for change in stores adds; do
         printf "  recorder/words %.1f, words/plain %.1f\n", of["locked"] / of["words"], of["words"] / of["plain"]
     }' "$work/times"
 done
+
+echo
+printf '%-34s %9s %9s %6s\n' 'one step, 1 thread' words plain ratio
+sides=()
+for change in stores swaps adds ands ors xors; do
+    sides+=("words-$change=$bench memory words $change apart 1 $many time" "plain-$change=$work/plain $change apart 1 $many")
+done
+"$top/bench/least.py" "$rounds" "${sides[@]}" >"$work/times"
+awk -v many=$many '{ ns[$1] = $4 * 1e6 / many } END {
+    split("stores swaps adds ands ors xors", changes)
+    for (i = 1; i <= 6; i++) {
+        c = changes[i]
+        printf "%-34s %9.1f %9.1f %6.2f\n", c, ns["words-" c], ns["plain-" c], ns["words-" c] / ns["plain-" c]
+    }
+}' "$work/times"
+
+echo
+printf '%-34s %9s %9s %9s\n' 'additions, one word' '8 bytes' '4 bytes' plain
+"$top/bench/least.py" "$rounds" one="$bench memory words adds together 4 $many time" \
+    exchange="$bench memory words narrow-adds together 4 $many time" plain="$work/plain adds together 4 $many" >"$work/times"
+awk -v many=$many '{ ns[$1] = $4 * 1e6 / many } END {
+    printf "%-34s %9.1f %9.1f %9.1f\n", "4 threads", ns["one"], ns["exchange"], ns["plain"]
+    printf "  4 bytes/8 bytes %.2f, 8 bytes/plain %.2f\n", ns["exchange"] / ns["one"], ns["one"] / ns["plain"]
+}' "$work/times"
 
 echo
 printf '%-34s %9s %9s %6s\n' 'the program' '1 thread' '2 threads' two

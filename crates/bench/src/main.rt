@@ -1,8 +1,10 @@
 //! How long accesses of a shared memory and calls of its desk take.
 //!
 //! `memory`: threads make accesses over one shared memory. The further arguments are `locked` for the recorder or `words` for
-//! the row of words; `adds` or `stores`, in turn with loads; the number of threads, 1 to 16; and the number of accesses in
-//! all, 1 to 1,000,000, over words to 100,000,000.
+//! the row of words; the change, `stores`, `swaps`, `adds`, `ands`, `ors` or `xors` of eight bytes, or `narrow-adds` of
+//! four; where, `turns` (each thread on its own word, in turn with loads), `apart` (each on its own) or `together` (all on
+//! one, and a lost try is made again); the number of threads, 1 to 16; and the number of accesses in all, 1 to 1,000,000,
+//! over words to 100,000,000.
 //!
 //! `desk`: calls of a desk over one recorder. The further arguments are `alone` (one thread notifies where nobody is asleep)
 //! or `turns` (two threads hand a turn to one another, by a wait, a store and a notify), and the number of calls or of turns
@@ -26,7 +28,7 @@ use types::{MOST_LIMIT, PAGE_SIZE};
 const IMAGE: [u8; PAGE_SIZE] = [0; PAGE_SIZE];
 
 const USAGE: &str =
-    "bench memory locked|words adds|stores THREADS ACCESSES [time], bench desk alone|turns TIMES [time]";
+    "bench memory locked|words CHANGE turns|apart|together THREADS ACCESSES [time], bench desk alone|turns TIMES [time]";
 
 fn main(rt: HostRuntime) -> Result<()> {
     let alloc = rt.alloc();

@@ -28,8 +28,12 @@ fn deal<S: Drop>(alloc: Global, seats: &mut Vec<S>, plan: &MemoryPlan) -> Result
         };
         let left = u32::from(i < plan.accesses % plan.threads);
         let times = (plan.accesses / plan.threads).saturating_add(left);
-        let change = plan.change;
-        jobs.push((seat, Task { change, times }))?;
+        let task = Task {
+            change: plan.change,
+            rounds: plan.rounds,
+            times,
+        };
+        jobs.push((seat, task))?;
     }
     Ok(jobs)
 }

@@ -18,13 +18,34 @@ pub enum Shared {
     Words,
 }
 
-/// What a thread does with its own word of eight bytes, in turn with a load of it.
+/// What a thread does with a word of eight bytes, by the number of the round where it has a value.
 #[derive(Clone, Copy)]
 pub enum Change {
     /// It adds 1.
     Add,
-    /// It stores the number of the round.
+    /// It adds 1 to the lower four bytes.
+    AddNarrow,
+    /// It stores.
     Store,
+    /// It stores, and gets the value before.
+    Swap,
+    /// It makes the bitwise and.
+    And,
+    /// It makes the bitwise or.
+    Or,
+    /// It makes the bitwise exclusive or.
+    Xor,
+}
+
+/// On which words the threads make their changes.
+#[derive(Clone, Copy, PartialEq, Eq)]
+pub enum Rounds {
+    /// Each on its own, in turn with loads.
+    InTurn,
+    /// Each on its own.
+    Apart,
+    /// All on one.
+    Together,
 }
 
 /// So many threads make so many accesses in all.
@@ -32,6 +53,7 @@ pub enum Change {
 pub struct MemoryPlan {
     pub shared: Shared,
     pub change: Change,
+    pub rounds: Rounds,
     pub threads: u32,
     pub accesses: u32,
     /// Whether the time is printed.
@@ -91,7 +113,22 @@ fn shared_of(word: &str) -> Option<Shared> {
 fn change_of(word: &str) -> Option<Change> {
     match word {
         "adds" => Some(Change::Add),
+        "narrow-adds" => Some(Change::AddNarrow),
         "stores" => Some(Change::Store),
+        "swaps" => Some(Change::Swap),
+        "ands" => Some(Change::And),
+        "ors" => Some(Change::Or),
+        "xors" => Some(Change::Xor),
+        _ => None,
+    }
+}
+
+/// The rounds of a word.
+fn rounds_of(word: &str) -> Option<Rounds> {
+    match word {
+        "turns" => Some(Rounds::InTurn),
+        "apart" => Some(Rounds::Apart),
+        "together" => Some(Rounds::Together),
         _ => None,
     }
 }
@@ -111,13 +148,14 @@ fn is_time(word: &String) -> bool {
 }
 
 impl MemoryPlan {
-    /// Reads what stands behind `memory`: `None` where it isn't `locked` or `words`, `adds` or `stores`, 1 to 16 threads, and
-    /// 1 to 1,000,000 accesses, or 100,000,000 over words.
+    /// Reads what stands behind `memory`: `None` where it isn't `locked` or `words`, a change, on which words, 1 to 16
+    /// threads, and 1 to 1,000,000 accesses, or 100,000,000 over words.
     fn read(words: &[String]) -> Option<MemoryPlan> {
         let shared = shared_of(words.first()?.as_str())?;
         let change = change_of(words.get(1)?.as_str())?;
-        let threads = words.get(2)?.parse::<u32>().ok()?;
-        let accesses = words.get(3)?.parse::<u32>().ok()?;
+        let rounds = rounds_of(words.get(2)?.as_str())?;
+        let threads = words.get(3)?.parse::<u32>().ok()?;
+        let accesses = words.get(4)?.parse::<u32>().ok()?;
         let most = match shared {
             Shared::Locked => MOST_LIMIT,
             Shared::Words => MOST_ON_WORDS,
@@ -128,9 +166,10 @@ impl MemoryPlan {
         Some(MemoryPlan {
             shared,
             change,
+            rounds,
             threads,
             accesses,
-            is_timed: words.get(4).is_some_and(is_time),
+            is_timed: words.get(5).is_some_and(is_time),
         })
     }
 }

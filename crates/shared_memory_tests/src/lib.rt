@@ -1,5 +1,5 @@
 //! Runs of the memories: what the sequential one answers; and told through their trait, the recorder's log replayed on it, and
-//! threads that change the same word of a row.
+//! threads that change the same word of a row, by exchanges and by single steps.
 #![tactic(auto)]
 
 #[cfg(test)]
@@ -10,3 +10,5 @@ mod recorder;
 mod row;
 #[cfg(test)]
 mod sequential;
+#[cfg(test)]
+mod singles;

@@ -191,12 +191,12 @@ fn add_at_once<B: Naming + Send + Sync, R: Threads + Sync>(
 }
 
 #[test]
-fn each_try_that_is_answered_adds_once(rt: HostRuntime) -> Result<(), Fail> {
+fn each_addition_to_a_whole_word_is_made(rt: HostRuntime) -> Result<(), Fail> {
     let alloc = rt.alloc();
     let prepared = Prepared::new(alloc, &IMAGE, THREE_PAGES)?;
     let (added, last) = add_at_once::<Brand, HostRuntime>(&rt, alloc, prepared)?;
     assert_eq!(rt; last, Reply::Value(added));
-    assert!(rt; added >= u64::from(TIMES) && added <= 80_000);
+    assert_eq!(rt; added, 80_000);
     Ok(())
 }
 

@@ -1,4 +1,4 @@
-use Rattle.shared_memory_tests.proofs.row.each_try_that_is_answered_adds_once.Given as goal
+use Rattle.shared_memory_tests.proofs.row.each_addition_to_a_whole_word_is_made.Given as goal
 
 -- the row that was just prepared
 abbrev pub ghosts-add_at_once : goal.ghosts-add_at_once
