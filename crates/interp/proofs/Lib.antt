@@ -1,5 +1,6 @@
 pub mod Defined
 pub mod Turned
+pub mod Going
 pub mod Here
 pub mod Begun
 pub mod Starting

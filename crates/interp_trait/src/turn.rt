@@ -1,7 +1,9 @@
 //! A thread, turn by turn.
 
 ghost use Rattle.interp_trait.specs.Turns.{Meaning, BeginsAlike, HasSpent, MayBeGiven, MayBeginWith, StartsWith, StaysAs, MakesTurn};
+ghost use Rattle.interp_trait.specs.Turns.{MayRun, MakesOwnTurns};
 
+use crate::gate::Gate;
 use types::{Answer, Event, Outcome, Reply, Value};
 
 /// What a turn is given.
@@ -39,6 +41,13 @@ pub trait TakesTurns {
         requires given { MayBeGiven (meaning self.old) given }
         ensures stays { StaysAs (meaning self.old) (meaning self.new) }
         ensures turned { MakesTurn (meaning self.old) given result (meaning self.new) };
+
+    /// Makes turns of its own, one after the other, until it wants an event, awaits an answer or has ended, and says which.
+    /// The gate comes before each of them, and before the event that is wanted.
+    fn own_turns<G: Gate>(&mut self, name: u32, gate: &G) -> Turn
+        requires { MayRun (meaning self.old) }
+        ensures stays { StaysAs (meaning self.old) (meaning self.new) }
+        ensures turned { MakesOwnTurns (meaning self.old) result (meaning self.new) };
 
     /// Replaces the arguments before the first turn.
     fn set_args(&mut self, args: &[Value])

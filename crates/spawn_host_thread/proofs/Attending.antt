@@ -1,28 +1,27 @@
 -- A thread is given what its event came to.
-use Rattle.std.proofs.Common.{◌≡◌, ℕ, zero, suc, Bool, List, Option, Some, None, refl, sym, ◌∙◌, ap, subst}
+use Rattle.std.proofs.Common.{◌≡◌, ◌<◌, ℕ, zero, suc, arith, Bool, List, Option, None, refl, sym, subst}
 use Rattle.types.specs.declared.event.Event.{Event}
 use Rattle.types.specs.declared.event.Reply.{Reply}
 use Rattle.types.specs.declared.event.Reply.TheVariants as replies
 use Rattle.types.specs.declared.event.Answer.{Answer}
 use Rattle.types.specs.declared.event.Entry.{Entry}
-use Rattle.types.specs.declared.outcome.Outcome.{Outcome}
 use Rattle.shared_memory.specs.Memory.{Memory}
-use Rattle.schedule.specs.System.{Act.Made, Act.Heard, Step.Own, Step.Acts, Want, Want.Turns, Want.Calls, Want.Awaits, Want.Gone}
-use Rattle.schedule.specs.Machine.{Thread.Absent, Thread.Runs, Thread.Over, Thread.Leaves, Thread.Left, thread_goes}
+use Rattle.schedule.specs.System.{Act.Made, Act.Heard, Step.Own, Step.Acts, Want.Turns, Want.Calls}
+use Rattle.schedule.specs.Machine.{Thread.Runs, thread_goes}
 use Rattle.interp_machine.specs.Program.{Program}
 use Rattle.interp_machine.specs.State.{At, heard}
 use Rattle.schedule_threads.specs.Threads.{machine_of}
 use Rattle.schedule_threads.specs.Seeing.{Sees, SeesAct}
-use Rattle.interp_trait.specs.Turns.{Running, outcome_of, wants_of, after_reply, after_turn, own_turn_if, answer_by}
-use Rattle.interp_trait.specs.Turns.{answer_of, wanted_before, IsGiven, IsTurned, IsHere}
+use Rattle.interp_trait.specs.Turns.{Running, outcome_of, wants_of, after_reply, after_own, IsGiven, IsTurned, IsPaused, SaysWhy, IsHere}
+use Rattle.interp_trait.proofs.Pausing.{own_here}
 use Rattle.interp_trait.specs.declared.turn.Given.TheVariants as given
 use Rattle.interp_trait.specs.declared.turn.Turn.{Turn}
 use Rattle.interp_trait.specs.declared.turn.Turn.TheVariants as turns
 use Rattle.spawn_host_thread.specs.Ends.{Comes}
-use Rattle.spawn_host_thread.specs.Serving.{IsOpen, MayTry, try_of, Attends, Steps}
+use Rattle.spawn_host_thread.specs.Serving.{IsOpen, IsEndOf, MayTry, try_of, Attends, Steps}
 use Rattle.spawn_host_thread.proofs.Coming.{comes_none, comes_by, comes_then}
 use Rattle.spawn_host_thread.proofs.Turning.{Opening, opening, open_done, fits_try, after_try, here_try, less_after, ended_by}
-use Rattle.spawn_host_thread.proofs.Paying.{paid_reply, paid_answer, paid_own}
+use Rattle.spawn_host_thread.proofs.Paying.{paid_reply, paid_answer, paid_own, paid_then, own_less}
 
 module _ (p : Program) (loses : Bool) (opening_memory : Memory) (limit : Option ℕ) (n : ℕ) (t : Running) (e : Event)
     (none : outcome_of t ≡ None) (want : wants_of p t ≡ Calls e) (before after : List Entry) where
@@ -88,80 +87,57 @@ module _ (p : Program) (loses : Bool) (opening_memory : Memory) (limit : Option 
       paid = paid_answer p t awaiting answer turn turned.answer open_now.less;
     }
 
--- a turn for which it was given nothing
+-- turns of its own
 
-own_said : (o : Option Outcome) (w : Want Event) (e : Event) → turns.Wants e ≡ answer_by o w turns.Moved → ⊥
-own_said (Some outcome) w e said = cc
-own_said None Turns e said = cc
-own_said None (Calls x) e said = cc
-own_said None Awaits e said = cc
-own_said None Gone e said = cc
+ended_why : (p : Program) (x : Running) (turn : Turn) → SaysWhy p x turn → IsEndOf turn x
+ended_why p x turns.Moved h = absurd h
+ended_why p x (turns.Wants event) h = tt
+ended_why p x turns.Awaits h = tt
+ended_why p x (turns.Ended outcome) h = h
 
-call_said : (o : Option Outcome) (w : Want Event) (e x : Event) → turns.Wants e ≡ answer_by o w (turns.Wants x) → (o ≡ None) × (x ≡ e)
-call_said (Some outcome) w e x said = absurd (cc said)
-call_said None Turns e x said = (refl, cc said)
-call_said None (Calls y) e x said = (refl, cc said)
-call_said None Awaits e x said = absurd (cc said)
-call_said None Gone e x said = (refl, cc said)
+module _ (p : Program) (t : Running) (loses : Bool) (opening_memory : Memory) (limit : Option ℕ) (n : ℕ) (before : List Entry) where
+  comes_own : (k : ℕ) → ((j : ℕ) → j < k → wants_of p (after_own p j t) ≡ Turns)
+      → Comes p loses opening_memory limit n t (after_own p k t) before before
+  comes_own zero each = comes_none loses opening_memory limit n p t before
+  comes_own (suc k) each =
+      let x = after_own p k t in
+      comes_then loses opening_memory limit n p t x (thread_goes (machine_of p) x) before before before (comes_own k (λ j h. each j (omega arith)))
+      (comes_by loses opening_memory limit n p x (thread_goes (machine_of p) x) Own before before (λ start fuel. (each k (omega arith), refl)) refl)
 
-module _ (p : Program) (t : Running) where
-  said_by : (w : Want Event) (e : Event) → wants_of p t ≡ w
-      → turns.Wants e ≡ answer_by (outcome_of (own_turn_if p t w)) (wants_of p (own_turn_if p t w)) (wanted_before given.Nothing w)
-      → (outcome_of t ≡ None) × (wants_of p t ≡ Calls e)
-  said_by Turns e is said = absurd (own_said (outcome_of (thread_goes (machine_of p) t)) (wants_of p (thread_goes (machine_of p) t)) e said)
-  said_by (Calls x) e is said = let both = call_said (outcome_of t) (wants_of p t) e x said in (both.0, is ∙ ap (λ z. Calls z) both.1)
-  said_by Awaits e is said = absurd (own_said (outcome_of t) (wants_of p t) e said)
-  said_by Gone e is said = absurd (own_said (outcome_of t) (wants_of p t) e said)
+  abbrev attends_own : (turn : Turn) (Stands : Running → Type 0) → IsHere t → IsPaused p t turn Stands
+      → Attends p loses opening_memory limit n t turn Stands before before
+  attends_own turn Stands here g = record {
+    now = after_own p g.turns t;
+    stands = g.after;
+    here = own_here p g.turns t here;
+    comes = comes_own g.turns g.each;
+    ended = ended_why p (after_own p g.turns t) turn g.answer;
+  }
 
-  -- who says that it wants an event wants it, and hasn't ended
-  pub wants_said : (e : Event) → turns.Wants e ≡ answer_of p t given.Nothing → (outcome_of t ≡ None) × (wants_of p t ≡ Calls e)
-  wants_said e said = said_by (wants_of p t) e refl said
+  pub steps_own : (turn : Turn) (Stands : Running → Type 0) → IsHere t
+      → ((event : Event) → turn ≡ turns.Wants event → ⊥) → IsPaused p t turn Stands
+      → Steps p loses opening_memory limit n t turn Stands before before
+  steps_own turn Stands here other g = record {
+    attends = attends_own turn Stands here g;
+    paid = paid_own p t here turn other g.turns g.answer;
+  }
 
-  -- and stays as it is
-  pub still_stands : (e : Event) (turn : Turn) (Stands : Running → Type 0) → wants_of p t ≡ Calls e → IsTurned p t given.Nothing turn Stands → Stands t
-  still_stands e turn Stands want turned = subst (λ w. Stands (own_turn_if p t w)) want turned.after
-
-  here_goes : IsHere t → IsHere (thread_goes (machine_of p) t)
-  here_goes here = gone t here
-    where
-      gone : (x : Running) → IsHere x → IsHere (thread_goes (machine_of p) x)
-      gone Absent h = h
-      gone (Runs c zero) h = tt
-      gone (Runs c (suc left)) h = tt
-      gone (Over outcome left) h = h
-      gone (Leaves outcome left) h = h
-      gone (Left outcome left) h = h
-
-  here_own : (w : Want Event) → IsHere t → IsHere (own_turn_if p t w)
-  here_own Turns here = here_goes here
-  here_own (Calls e) here = here
-  here_own Awaits here = here
-  here_own Gone here = here
-
-  module _ (loses : Bool) (opening_memory : Memory) (limit : Option ℕ) (n : ℕ) (before : List Entry) where
-    comes_own : (w : Want Event) → wants_of p t ≡ w → Comes p loses opening_memory limit n t (own_turn_if p t w) before before
-    comes_own Turns is = comes_by loses opening_memory limit n p t (thread_goes (machine_of p) t) Own before before (λ start fuel. (is, refl)) refl
-    comes_own (Calls e) is = comes_none loses opening_memory limit n p t before
-    comes_own Awaits is = comes_none loses opening_memory limit n p t before
-    comes_own Gone is = comes_none loses opening_memory limit n p t before
-
-    abbrev attends_own : (turn : Turn) (Stands : Running → Type 0) → IsHere t → IsTurned p t given.Nothing turn Stands
-        → Attends p loses opening_memory limit n t turn Stands before before
-    attends_own turn Stands here turned = record {
-      now = after_turn p t given.Nothing;
-      stands = turned.after;
-      here = here_own (wants_of p t) here;
-      comes = comes_own (wants_of p t) refl;
-      ended = ended_by p t given.Nothing turn turned.answer;
-    }
-
-    pub steps_own : (turn : Turn) (Stands : Running → Type 0) → IsHere t
-        → ((event : Event) → turn ≡ turns.Wants event → ⊥) → IsTurned p t given.Nothing turn Stands
-        → Steps p loses opening_memory limit n t turn Stands before before
-    steps_own turn Stands here other turned = record {
-      attends = attends_own turn Stands here turned;
-      paid = paid_own p t here turn other turned.answer;
-    }
+  -- and then an event
+  pub steps_then : (event : Event) (turn : Turn) (Stands Stands' : Running → Type 0) (after : List Entry) → IsHere t
+      → (g : IsPaused p t (turns.Wants event) Stands)
+      → Steps p loses opening_memory limit n (after_own p g.turns t) turn Stands' before after
+      → Steps p loses opening_memory limit n t turn Stands' before after
+  steps_then event turn Stands Stands' after here g h =
+      let x = after_own p g.turns t in record {
+        attends = record {
+          now = h.attends.now;
+          stands = h.attends.stands;
+          here = h.attends.here;
+          comes = comes_then loses opening_memory limit n p t x h.attends.now before before after (comes_own g.turns g.each) h.attends.comes;
+          ended = h.attends.ended;
+        };
+        paid = paid_then p t x event (own_less p t g.turns) g.answer.1 turn h.attends.now h.paid;
+      }
 
 -- one after the other
 module _ (p : Program) (loses : Bool) (opening_memory : Memory) (limit : Option ℕ) (n : ℕ) (t : Running) where

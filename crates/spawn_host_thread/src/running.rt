@@ -66,7 +66,7 @@ fn attend<T: TakesTurns, M: SharedMemory, W: Wait + Drop, G: Gate>(
     }
 }
 
-/// Makes a turn of the thread's own, or one try of the event that it wants.
+/// Makes turns of the thread's own, and then one try of the event that it wants.
 fn step<T: TakesTurns, M: SharedMemory, W: Wait + Drop, G: Gate>(
     thread: &mut T,
     memory: &M,
@@ -84,7 +84,7 @@ fn step<T: TakesTurns, M: SharedMemory, W: Wait + Drop, G: Gate>(
         (T.meaning thread.new).stands (M.seen seat.old) (M.seen seat.new) }
 {
     let name = memory.name(seat);
-    match advance(thread, name, gate, Given::Nothing) {
+    match thread.own_turns(name, gate) {
         Turn::Wants(event) => attend(thread, memory, seat, desk, gate, event),
         turn => turn,
     }
