@@ -2,6 +2,7 @@ use Rattle.std.proofs.Common.{◌≡◌, ◌∷◌, ◌++◌, [], true, List, le
 use Rattle.shared_memory.specs.History.{entries_of, of_queue}
 use Rattle.types.specs.declared.outcome.ThreadReport.{ThreadReport}
 use Rattle.types.specs.Limits.{most_threads, desk_name}
+use Rattle.spawn_host_workers.specs.OverMemory.{over}
 use Rattle.spawn_host_workers.proofs.OneList.{unpacked, lead_may_ask, desk_is}
 use Rattle.spawn_host_workers.proofs.Unspawned.{composed_alone}
 use Rattle.spawn_host_workers.proofs.alone.run_alone.Goals as goal
@@ -73,7 +74,7 @@ returns-clause-composed g c =
     let u = unpacked c.args.seats.items c.pop.new.self.items c.remove-seat.new.self.items c.remove-seat.result
     c.in-Some.desk_seat c.in-Some.ensures.items len c.remove-seat.ensures.value
     c.remove-seat.ensures.by_index.2 in
-    composed_alone m.LOSES m.opening (m.limit c.args.memory.now) m.name m.has_queue_right m.seen t.meaning c.args.first c.requires.here c.requires.alone
+    composed_alone (over m c.args.memory.now) m.has_queue_right t.meaning c.args.first c.requires.here c.requires.alone
     c.args.seats.items c.remove-seat.result c.in-Some.desk_seat c.remove-seat.new.self.items u c.requires.names
     c.requires.new report end.result.seat end.ensures.seat.name_is end.ensures.ran
     c.close-hub.result c.level_all.new.hub c.insert.new.self.items c.level_all.new.seats.items c.push_reserved-2.new.self.items c.in-Ok-insert.ensures.items
