@@ -6,9 +6,10 @@ use Rattle.types.specs.declared.event.Entry.{Entry}
 use Rattle.types.specs.declared.outcome.ThreadReport.{ThreadReport}
 use Rattle.types.specs.declared.parts.Parts.{Parts}
 use Rattle.types.specs.Limits.{most_pages, most_threads, seat_count, past_limit, most_limit}
-use Rattle.shared_memory.specs.Memory.{pages}
+use Rattle.shared_memory.specs.Memory.{Memory, pages}
 use Rattle.shared_memory.specs.History.{entries_of, AreEntries, memory_after, queue_after}
 use Rattle.shared_memory_on_table.specs.declared.view.Caller.{Caller}
+use Rattle.spawn_host_workers.specs.OverMemory.{OverMemory}
 use Rattle.spawn_host.specs.Runs.{opening_memory, IsRun}
 use Rattle.locked_recorder.specs.Promises.{IsBounded}
 use Rattle.replay_text.specs.declared.parts.RecordParts.{RecordParts}
@@ -18,9 +19,19 @@ use Rattle.report_runs.specs.Ends.{EndsRun}
 use Rattle.report_runs.proofs.Whole.{Knows, is_history}
 use Rattle.shared_memory.proofs.Soundness.{IsSound-after, few_spawned}
 
+-- a memory whose seats have their callers' names, and have seen what their callers have
+abbrev pub of_callers : {S : Type 0} → (S → Caller) → Bool → Memory → Option ℕ → OverMemory S
+of_callers caller loses opening limit = record {
+  loses = loses;
+  opening = opening;
+  limit = limit;
+  name = λ s. (caller s).name;
+  seen = λ s. (caller s).seen;
+}
+
 module _ {S : Type 0} (caller : S → Caller) (P : S → Type 0) (m : Parts) (entry : List ℕ) (args : List Value) (fuel : ℕ)
-    (loses : Bool) (limit : Option ℕ) (seats : List S) (log : List Entry) (end : EndState) where
-  pub leaves : IsRun m entry args fuel loses limit (λ s. (caller s).name) (λ s. (caller s).seen) end.threads.items seats
+    (loses : Bool) (opening : Memory) (limit : Option ℕ) (seats : List S) (log : List Entry) (end : EndState) where
+  pub leaves : IsRun m entry args fuel (of_callers caller loses opening limit) end.threads.items seats
       → ((n : ℕ) → seat_count ≤ n → entries_of n log ≡ []) → ((s : S) → P s → Knows (caller s) log) → All P seats
       → end.pages ≡ pages (memory_after (opening_memory m) log) → end.bytes.items ≡ (memory_after (opening_memory m) log).bytes
       → EndsRun m entry args fuel loses limit log end
@@ -34,11 +45,12 @@ module _ {S : Type 0} (caller : S → Caller) (P : S → Type 0) (m : Parts) (en
       })
 
 -- there are at most 16 reports
-pub few_reports : {S : Type 0} (m : Parts) (entry : List ℕ) (args : List Value) (fuel : ℕ) (loses : Bool)
-    (limit : Option ℕ) (name : S → ℕ) (seen : S → List Entry) (threads : List ThreadReport) (seats : List S)
-    → IsRun m entry args fuel loses limit name seen threads seats → length threads ≤ most_threads
-few_reports m entry args fuel loses limit name seen threads seats run = let few =
-    few_spawned (queue_after run.history) (IsSound-after run.history run.is_history.together.queue) in let count = run.is_history.count in omega arith
+pub few_reports : {S : Type 0} (m : Parts) (entry : List ℕ) (args : List Value) (fuel : ℕ) (mem : OverMemory S)
+    (threads : List ThreadReport) (seats : List S) → IsRun m entry args fuel mem threads seats → length threads ≤ most_threads
+few_reports m entry args fuel mem threads seats run =
+    let few = few_spawned (queue_after run.history) (IsSound-after run.history run.is_history.together.queue) in
+    let count = run.is_history.count in
+    omega arith
 
 -- a record of such a log is limited
 pub limited_by : (r : RecordParts) (log : List Entry) (limit : ℕ) → r.log ≡ log → limit ≡ r.limit → (1 ≤ r.limit)

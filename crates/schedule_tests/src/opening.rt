@@ -11,14 +11,12 @@ use interp::Thread;
 use interp_trait::TakesTurns;
 use schedule_machine::{Machine, Stepped};
 use shared_memory_sequential::{OneMemory, OpenFault};
-use spawn_host::{first_thread, spawnable_threads};
+use spawn_host::{Call, first_thread, spawnable_threads};
 use spawn_host_workers::RunFault;
 use std::alloc::{AllocError, Global};
 use thiserror::Error;
-use types::{MOST_THREADS, Value};
+use types::MOST_THREADS;
 use validate::ValidModule;
-
-/// The most threads of a machine.
 
 /// Why there is no machine.
 #[derive(Clone, Copy, PartialEq, Eq, Debug, Error)]
@@ -67,7 +65,7 @@ fn add_absent<T: TakesTurns + Drop>(threads: &mut Vec<Stepped<T>>, mut spawned: 
 }
 
 /// The scheduled machine of a run of an exported function of a module with arguments, before its first mark. Each thread has
-/// the budget `fuel`, in units.
+/// the budget of the call.
 ///
 /// # Errors
 /// `Run` where a run couldn't begin: no function is exported under the name, or the arguments don't fit it. `Open` where the
@@ -75,13 +73,12 @@ fn add_absent<T: TakesTurns + Drop>(threads: &mut Vec<Stepped<T>>, mut spawned: 
 pub fn machine_of<'m>(
     alloc: Global,
     module: &'m ValidModule,
-    entry: &str,
-    args: &[Value],
-    fuel: u64,
+    call: Call,
 ) -> Result<Machine<Thread<'m>>, MachineFault>
-    ensures { IfOk result (λ machine. IsMachineOf meaning_in «module».now.parts entry.now args.now fuel machine) }
+    ensures { IfOk result (λ machine. IsMachineOf meaning_in «module».now.parts call.entry.name.now call.entry.args.now
+        call.entry.fuel machine) }
 {
-    let first = first_thread(alloc, module, entry, args, fuel)?;
+    let first = first_thread(alloc, module, call)?;
     let image = module.image(alloc)?;
     let memory = OneMemory::open(alloc, &image, module.pages_max())?;
     let mut threads = Vec::with_capacity(alloc, MOST_THREADS)?;
@@ -89,7 +86,7 @@ pub fn machine_of<'m>(
     if !module.starts_threads() {
         return Ok(Machine::new(threads, memory));
     }
-    let spawned = spawnable_threads(alloc, module, fuel)?;
+    let spawned = spawnable_threads(alloc, module, call.fuel)?;
     add_absent(&mut threads, spawned);
     Ok(Machine::new(threads, memory))
 }

@@ -4,6 +4,7 @@ use crate::{MachineFault, machine_of, schedule_of};
 use interp_trait::OpenGate;
 use report::{EndState, load, record_run};
 use schedule_machine::{Kind, Mark};
+use spawn_host::Call;
 use std::alloc::{AllocError, Global};
 use std::process::Abort;
 use std::sync::Wait;
@@ -23,6 +24,15 @@ const FUEL: u64 = 1_000_000_000;
 
 const LIMIT: u32 = 100_000;
 
+/// A call of `f` without arguments.
+fn call_with(fuel: u64) -> Call<'static> {
+    Call {
+        name: "f",
+        args: &[],
+        fuel,
+    }
+}
+
 /// A run over the memory that records: its log, and what it left.
 #[derive(Drop)]
 struct Recorded {
@@ -37,7 +47,7 @@ fn record<R: Threads + Wait + Sync>(
     fuel: u64,
     limit: u32,
 ) -> Result<Recorded, Fail> {
-    let (record, end) = record_run(rt, alloc, module, "f", &[], fuel, limit, &OpenGate)?;
+    let (record, end) = record_run(rt, alloc, module, call_with(fuel), limit, &OpenGate)?;
     Ok(Recorded {
         log: Vec::from_slice(alloc, record.parts().log.as_slice())?,
         end,
@@ -62,9 +72,9 @@ fn agrees(
     fuel: u64,
     recorded: &Recorded,
 ) -> Result<bool, MachineFault> {
-    let mut scout = machine_of(alloc, module, "f", &[], fuel)?;
+    let mut scout = machine_of(alloc, module, call_with(fuel))?;
     let marks = schedule_of(alloc, &mut scout, &recorded.log, MOST)?;
-    let mut machine = machine_of(alloc, module, "f", &[], fuel)?;
+    let mut machine = machine_of(alloc, module, call_with(fuel))?;
     let mut entries = Vec::new(alloc);
     machine.step_along(&marks, &mut entries)?;
     Ok(
@@ -207,7 +217,7 @@ const SOME_IDLE: [Mark; 10] = [
 fn some_marks_are_idle(rt: HostRuntime) -> Result<(), Fail> {
     let bytes = ADDING.bytes(rt.alloc())?;
     let module = load(rt.alloc(), &bytes)?;
-    let mut machine = machine_of(rt.alloc(), &module, "f", &[], 10)?;
+    let mut machine = machine_of(rt.alloc(), &module, call_with(10))?;
     let mut entries = Vec::new(rt.alloc());
     machine.step_along(&SOME_IDLE, &mut entries)?;
     assert_eq!(rt; entries.len(), 2);
@@ -224,9 +234,14 @@ fn some_marks_are_idle(rt: HostRuntime) -> Result<(), Fail> {
 fn refused_as_a_run(rt: HostRuntime) -> Result<(), Fail> {
     let bytes = ADDING.bytes(rt.alloc())?;
     let module = load(rt.alloc(), &bytes)?;
+    let unknown = Call {
+        name: "g",
+        args: &[],
+        fuel: 10,
+    };
     assert!(rt;
         matches!(
-            machine_of(rt.alloc(), &module, "g", &[], 10),
+            machine_of(rt.alloc(), &module, unknown),
             Err(MachineFault::Run(_))
         )
     );

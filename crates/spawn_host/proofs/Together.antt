@@ -26,6 +26,7 @@ use Rattle.schedule_threads.specs.Seeing.{RunsToEnd}
 use Rattle.interp_trait.specs.Turns.{Meaning}
 use Rattle.interp.specs.Starts.{start_of}
 use Rattle.spawn_host_workers.specs.declared.report.RunEnd.{RunEnd}
+use Rattle.spawn_host_workers.specs.OverMemory.{OverMemory}
 use Rattle.spawn_host_workers.specs.Composed.{IsReport, IsComposed}
 use Rattle.schedule_runs.specs.Runs.{Start, if_spawned, begins_in, HasRun, AreOfThreads, RanTogether}
 use Rattle.schedule_runs.proofs.Running.{threads_make_one_run}
@@ -104,12 +105,16 @@ same_report loses opening limit n p q c f g report begun H is_program is_fuel r 
 none_reported : ThreadReport
 none_reported = record { outcome = outcomes.Stop stops.OutOfFuel; spent = 0 }
 
+-- a memory that opens so
+abbrev opened : {S : Type 0} → OverMemory S → Memory → OverMemory S
+opened mem opening = record { loses = mem.loses; opening = opening; limit = mem.limit; name = mem.name; seen = mem.seen }
+
 module _
-    {S T : Type 0} (loses : Bool) (limit : Option ℕ) (name : S → ℕ) (seen : S → List Entry) (meaning : T → Meaning) (first : T) (spawned : List T)
+    {S T : Type 0} (mem : OverMemory S) (meaning : T → Meaning) (first : T) (spawned : List T)
     (threads : List ThreadReport) (seats : List S) (m : Parts) (entry : List ℕ) (args : List Value) (budget : ℕ)
     (f : IsFirst meaning m entry args budget first) (t : FuncType) (body : Body) (others : List Value) (e : T)
     (calls : (k : ℕ) → IsCall meaning m t body others budget (get_or spawned k e))
-    (r : IsComposed loses (opening_memory m) limit name seen meaning first spawned threads seats) where
+    (r : IsComposed (opened mem (opening_memory m)) meaning first spawned threads seats) where
   abbrev begins_spawned : ℕ → ℕ → State
   begins_spawned n arg = At (start_of m t body (values.I32 n ∷ values.I32 arg ∷ []))
 
@@ -119,38 +124,38 @@ module _
   abbrev report_at : ℕ → ThreadReport
   report_at n = get_or threads n none_reported
 
-  first_started : Started start loses limit r.history 0 (report_at 0) start.main
+  first_started : Started start mem.loses mem.limit r.history 0 (report_at 0) start.main
   first_started = record {
     begun = [];
     begins = refl;
-    report_is = same_report loses (opening_memory m) limit 0 (meaning first).program (program_of m) start.main
+    report_is = same_report mem.loses (opening_memory m) mem.limit 0 (meaning first).program (program_of m) start.main
         (meaning first).fuel budget (report_at 0) [] r.history f.call.program_is f.call.fuel_is
-        (subst (λ (k : ℕ). IsReport loses (opening_memory m) limit 0 (meaning first).program (Runs start.main k)
+        (subst (λ (k : ℕ). IsReport mem.loses (opening_memory m) mem.limit 0 (meaning first).program (Runs start.main k)
         (meaning first).fuel (report_at 0) [] r.history) (sym f.call.fuel_is)
         (r.leads none_reported (Runs start.main budget) f.call.stands_so tt));
   }
 
   spawned_started : (k arg : ℕ) → arg_of (queue_after r.history) (suc k) ≡ Some arg
-      → Started start loses limit r.history (suc k) (report_at (suc k)) (begins_spawned (suc k) arg)
+      → Started start mem.loses mem.limit r.history (suc k) (report_at (suc k)) (begins_spawned (suc k) arg)
   spawned_started k arg is =
       let w = get_or spawned k e in
       let s = r.works k arg none_reported e is in record {
         begun = s.begun;
         begins = ap (if_spawned (begins_spawned (suc k))) s.spawned;
-        report_is = same_report loses (opening_memory m) limit (suc k) (meaning w).program (program_of m)
+        report_is = same_report mem.loses (opening_memory m) mem.limit (suc k) (meaning w).program (program_of m)
             (begins_spawned (suc k) arg) (meaning w).fuel budget (report_at (suc k)) s.begun r.history
             (calls k).program_is (calls k).fuel_is (s.ran t.params (start_of m t body) (calls k).begins_so);
       }
 
   started_by : (k : ℕ) (c : State) (o : Option ℕ) → arg_of (queue_after r.history) (suc k) ≡ o → if_spawned (begins_spawned (suc k)) o ≡ Some c
-      → Started start loses limit r.history (suc k) (report_at (suc k)) c
+      → Started start mem.loses mem.limit r.history (suc k) (report_at (suc k)) c
   started_by k c None is h = absurd (cc h)
   started_by k c (Some arg) is h =
       let same : begins_spawned (suc k) arg ≡ c = cc h in
-      subst (λ (x : State). Started start loses limit r.history (suc k) (report_at (suc k)) x) same (spawned_started k arg is)
+      subst (λ (x : State). Started start mem.loses mem.limit r.history (suc k) (report_at (suc k)) x) same (spawned_started k arg is)
 
-  started : (n : ℕ) (c : State) → begins_in start r.history n ≡ Some c → Started start loses limit r.history n (report_at n) c
-  started zero c h = let same : start.main ≡ c = cc h in subst (λ (x : State). Started start loses limit r.history 0 (report_at 0) x) same first_started
+  started : (n : ℕ) (c : State) → begins_in start r.history n ≡ Some c → Started start mem.loses mem.limit r.history n (report_at n) c
+  started zero c h = let same : start.main ≡ c = cc h in subst (λ (x : State). Started start mem.loses mem.limit r.history 0 (report_at 0) x) same first_started
   started (suc k) c h = started_by k c (arg_of (queue_after r.history) (suc k)) refl h
 
   none_spawned : (k : ℕ) (o : Option ℕ) → arg_of (queue_after r.history) (suc k) ≡ o
@@ -166,15 +171,15 @@ module _
         | inr within ↦ r.silent (suc k) within (λ is. absurd (omega (arith, is))) (none_spawned k (arg_of (queue_after r.history) (suc k)) refl h)
       ]
 
-  together : RanTogether start loses limit r.history (λ n. ThreadReport.outcome (report_at n)) (λ n. budget - ThreadReport.spent (report_at n))
+  together : RanTogether start mem.loses mem.limit r.history (λ n. ThreadReport.outcome (report_at n)) (λ n. budget - ThreadReport.spent (report_at n))
   together = record {
     memory = r.legal.legal;
     queue = r.queue;
-    threads = λ n c h. has_run start loses limit r.history n (report_at n) c (started n c h);
+    threads = λ n c h. has_run start mem.loses mem.limit r.history n (report_at n) c (started n c h);
     entries = silent;
   }
 
-  within_budget : (n : ℕ) (c : State) → Started start loses limit r.history n (report_at n) c
+  within_budget : (n : ℕ) (c : State) → Started start mem.loses mem.limit r.history n (report_at n) c
       → ThreadReport.spent (report_at n) + (budget - ThreadReport.spent (report_at n)) ≡ budget
   within_budget n c s = let run = s.report_is.run.budget in omega (arith, run)
 
@@ -197,7 +202,7 @@ module _
   abbrev pub IsIdle : Type 0
   IsIdle = (StartsThreads m → ⊥) → (n arg : ℕ) → begins_spawned n arg ≡ At (start_of m f.takes.func_type f.takes.body (values.I32 n ∷ values.I32 arg ∷ []))
 
-  pub run_of : (StartsThreads m → CallsThreadStart m begins_spawned) → IsIdle → IsRun m entry args budget loses limit name seen threads seats
+  pub run_of : (StartsThreads m → CallsThreadStart m begins_spawned) → IsIdle → IsRun m entry args budget mem threads seats
   run_of thread_starts idle = record {
     history = r.history;
     is_history = record {
@@ -216,7 +221,7 @@ module _
       lefts = λ n. budget - ThreadReport.spent (report_at n);
       reports = told;
       together = together;
-      one = threads_make_one_run start loses limit r.history (λ n. ThreadReport.outcome (report_at n))
+      one = threads_make_one_run start mem.loses mem.limit r.history (λ n. ThreadReport.outcome (report_at n))
           (λ n. budget - ThreadReport.spent (report_at n)) together;
     };
     len = r.len;
@@ -225,49 +230,46 @@ module _
   }
 
 -- The run of a module that can start threads.
-pub threaded_run : {S T : Type 0} (loses : Bool) (opening : Memory) (limit : Option ℕ) (name : S → ℕ)
-    (seen : S → List Entry) (meaning : T → Meaning) (first : T) (spawned : List T)
+pub threaded_run : {S T : Type 0} (mem : OverMemory S) (meaning : T → Meaning) (first : T) (spawned : List T)
     (threads : List ThreadReport) (seats : List S) (m : Parts) (entry : List ℕ) (args others : List Value) (budget : ℕ)
-    → opening ≡ opening_memory m → StartsThreads m
+    → mem.opening ≡ opening_memory m → StartsThreads m
     → IsFirst meaning m entry args budget first → AreSpawnable meaning m others budget spawned
-    → IsComposed loses opening limit name seen meaning first spawned threads seats → IsRun m entry args budget loses limit name seen threads seats
-threaded_run loses opening limit name seen meaning first spawned threads seats m entry args others budget is starts f w r =
+    → IsComposed mem meaning first spawned threads seats → IsRun m entry args budget mem threads seats
+threaded_run mem meaning first spawned threads seats m entry args others budget is starts f w r =
     let some : 0 < length spawned = (let count = w.count in omega (arith, count)) in
-    run_of loses limit name seen meaning first spawned threads seats m entry args budget f w.func_type w.body others (get_or spawned 0 first)
+    run_of mem meaning first spawned threads seats m entry args budget f w.func_type w.body others (get_or spawned 0 first)
     (every_place (IsCall meaning m w.func_type w.body others budget) spawned first some w.calls)
-    (subst (λ (o : Memory). IsComposed loses o limit name seen meaning first spawned threads seats) is r)
+    (subst (λ (o : Memory). IsComposed (opened mem o) meaning first spawned threads seats) is r)
     (λ s. record { own = w.own; func_type = w.func_type; body = w.body; is_start = w.is_start; begins = λ n arg. refl }) (λ none. absurd (none starts))
 
 -- The run of a module that can start none: nobody is spawned.
-pub lone_run : {S T : Type 0} (loses : Bool) (opening : Memory) (limit : Option ℕ) (name : S → ℕ) (seen : S → List Entry) (meaning : T → Meaning) (first : T)
+pub lone_run : {S T : Type 0} (mem : OverMemory S) (meaning : T → Meaning) (first : T)
     (threads : List ThreadReport) (seats : List S) (m : Parts) (entry : List ℕ) (args : List Value) (budget : ℕ)
-    → opening ≡ opening_memory m → (StartsThreads m → ⊥)
+    → mem.opening ≡ opening_memory m → (StartsThreads m → ⊥)
     → IsFirst meaning m entry args budget first
-    → IsComposed loses opening limit name seen meaning first [] threads seats → IsRun m entry args budget loses limit name seen threads seats
-lone_run loses opening limit name seen meaning first threads seats m entry args budget is none f r =
-    run_of loses limit name seen meaning first [] threads seats m entry args budget f f.takes.func_type f.takes.body args first
+    → IsComposed mem meaning first [] threads seats → IsRun m entry args budget mem threads seats
+lone_run mem meaning first threads seats m entry args budget is none f r =
+    run_of mem meaning first [] threads seats m entry args budget f f.takes.func_type f.takes.body args first
     (λ k. f.call)
-    (subst (λ (o : Memory). IsComposed loses o limit name seen meaning first [] threads seats) is r)
+    (subst (λ (o : Memory). IsComposed (opened mem o) meaning first [] threads seats) is r)
     (λ starts. absurd (none starts)) (λ n n' arg. refl)
 
 -- what the calls give
 
-pub threaded_result : {S T F : Type 0} (loses : Bool) (opening : Memory) (limit : Option ℕ) (name : S → ℕ)
-    (seen : S → List Entry) (meaning : T → Meaning) (first : T) (spawned : List T)
-    (m : Parts) (entry : List ℕ) (args others : List Value) (budget : ℕ) → opening ≡ opening_memory m → StartsThreads m
+pub threaded_result : {S T F : Type 0} (mem : OverMemory S) (meaning : T → Meaning) (first : T) (spawned : List T)
+    (m : Parts) (entry : List ℕ) (args others : List Value) (budget : ℕ) → mem.opening ≡ opening_memory m → StartsThreads m
     → IsFirst meaning m entry args budget first → AreSpawnable meaning m others budget spawned → (result : Result (RunEnd S) F)
-    → IfOk result (λ (end : RunEnd S). IsComposed loses opening limit name seen meaning first spawned end.threads.items end.seats.items)
-    → IfOk result (λ (end : RunEnd S). IsRun m entry args budget loses limit name seen end.threads.items end.seats.items)
-threaded_result loses opening limit name seen meaning first spawned m entry args others budget is starts f w (Ok end) r =
-    threaded_run loses opening limit name seen meaning first spawned end.threads.items end.seats.items m entry args others budget is starts f w r
-threaded_result loses opening limit name seen meaning first spawned m entry args others budget is starts f w (Err fault) r = tt
+    → IfOk result (λ (end : RunEnd S). IsComposed mem meaning first spawned end.threads.items end.seats.items)
+    → IfOk result (λ (end : RunEnd S). IsRun m entry args budget mem end.threads.items end.seats.items)
+threaded_result mem meaning first spawned m entry args others budget is starts f w (Ok end) r =
+    threaded_run mem meaning first spawned end.threads.items end.seats.items m entry args others budget is starts f w r
+threaded_result mem meaning first spawned m entry args others budget is starts f w (Err fault) r = tt
 
-pub lone_result : {S T F : Type 0} (loses : Bool) (opening : Memory) (limit : Option ℕ) (name : S → ℕ)
-    (seen : S → List Entry) (meaning : T → Meaning) (first : T)
-    (m : Parts) (entry : List ℕ) (args : List Value) (budget : ℕ) → opening ≡ opening_memory m → (StartsThreads m → ⊥)
+pub lone_result : {S T F : Type 0} (mem : OverMemory S) (meaning : T → Meaning) (first : T)
+    (m : Parts) (entry : List ℕ) (args : List Value) (budget : ℕ) → mem.opening ≡ opening_memory m → (StartsThreads m → ⊥)
     → IsFirst meaning m entry args budget first → (result : Result (RunEnd S) F)
-    → IfOk result (λ (end : RunEnd S). IsComposed loses opening limit name seen meaning first [] end.threads.items end.seats.items)
-    → IfOk result (λ (end : RunEnd S). IsRun m entry args budget loses limit name seen end.threads.items end.seats.items)
-lone_result loses opening limit name seen meaning first m entry args budget is none f (Ok end) r =
-    lone_run loses opening limit name seen meaning first end.threads.items end.seats.items m entry args budget is none f r
-lone_result loses opening limit name seen meaning first m entry args budget is none f (Err fault) r = tt
+    → IfOk result (λ (end : RunEnd S). IsComposed mem meaning first [] end.threads.items end.seats.items)
+    → IfOk result (λ (end : RunEnd S). IsRun m entry args budget mem end.threads.items end.seats.items)
+lone_result mem meaning first m entry args budget is none f (Ok end) r =
+    lone_run mem meaning first end.threads.items end.seats.items m entry args budget is none f r
+lone_result mem meaning first m entry args budget is none f (Err fault) r = tt

@@ -19,6 +19,7 @@ use Rattle.interp_machine.specs.State.{State, At}
 use Rattle.interp.specs.Starts.{start_of}
 use Rattle.schedule_runs.specs.Runs.{Start, RanTogether}
 use Rattle.schedule_runs.specs.Theorem.{IsOneRun}
+use Rattle.spawn_host_workers.specs.OverMemory.{OverMemory}
 use Rattle.spawn_host.specs.Entries.{Exports, StartsThreads, CallsThreadStart}
 
 -- The memory of a module before the first instruction.
@@ -68,10 +69,10 @@ pub record IsRunHistory (m : Parts) (entry : List ℕ) (args : List Value) (fuel
   pub one : IsOneRun (start_by m entry args fuel beginning) loses limit history outcomes lefts
 
 -- All 17 seats have seen one history, which is that of the run.
-pub record IsRun {S : Type 0} (m : Parts) (entry : List ℕ) (args : List Value) (fuel : ℕ) (loses : Bool) (limit : Option ℕ)
-    (name : S → ℕ) (seen : S → List Entry) (threads : List ThreadReport) (seats : List S) : Type 0 where
+pub record IsRun {S : Type 0} (m : Parts) (entry : List ℕ) (args : List Value) (fuel : ℕ) (mem : OverMemory S)
+    (threads : List ThreadReport) (seats : List S) : Type 0 where
   pub history : List Entry
-  pub is_history : IsRunHistory m entry args fuel loses limit threads history
+  pub is_history : IsRunHistory m entry args fuel mem.loses mem.limit threads history
   pub len : length seats ≡ seat_count
-  pub names : (k : ℕ) (d : S) → k < seat_count → name (slice_index_or seats k d) ≡ k
-  pub seen_by : (k : ℕ) (d : S) → k < seat_count → seen (slice_index_or seats k d) ≡ history
+  pub names : (k : ℕ) (d : S) → k < seat_count → mem.name (slice_index_or seats k d) ≡ k
+  pub seen_by : (k : ℕ) (d : S) → k < seat_count → mem.seen (slice_index_or seats k d) ≡ history

@@ -1,6 +1,7 @@
 //! The run of a module.
 ghost use Rattle.std.specs.Prelude.{◌≡◌, ◌<◌, ℕ, true, [], IfOk, IfErr, slice_index_or, vec_len};
 ghost use Rattle.types.specs.Limits.{desk_name, seat_count};
+ghost use Rattle.spawn_host_workers.specs.OverMemory.{over};
 ghost use Rattle.spawn_host.specs.Faults.{IsFaultOf};
 ghost use Rattle.spawn_host.specs.Runs.{opening_memory, IsRun};
 
@@ -43,7 +44,7 @@ where
     requires new { (k : ℕ) (d : M.Seat) → k < seat_count → M.seen (slice_index_or seats.items k d) ≡ [] }
     requires right { (d : M.Seat) → M.has_queue_right (slice_index_or seats.items desk_name d) ≡ true }
     ensures run { IfOk result (λ end. IsRun «module».now.parts call.entry.name.now call.entry.args.now call.entry.fuel
-        M.LOSES (M.limit memory.now) M.name M.seen end.threads.items end.seats.items) }
+        (over M.SharedMemory memory.now) end.threads.items end.seats.items) }
     ensures fault { IfErr result (λ fault. IsFaultOf «module».now.parts call.entry.name.now call.entry.args.now fault) }
 {
     let first = first_thread(alloc, module, call)?;

@@ -25,6 +25,7 @@ use Rattle.interp_machine.specs.Program.{Program}
 use Rattle.interp_trait.specs.Turns.{Running, Meaning, IsHere}
 use Rattle.spawn_host_thread.specs.Ends.{RunsOut}
 use Rattle.spawn_host_workers.specs.declared.worker.WorkerEnd.{WorkerEnd}
+use Rattle.spawn_host_workers.specs.OverMemory.{OverMemory}
 use Rattle.spawn_host_workers.specs.Level.{Level}
 use Rattle.spawn_host_workers.specs.Pairs.{AllThree}
 use Rattle.spawn_host_workers.specs.Works.{Works, EndsWork}
@@ -269,20 +270,19 @@ first_case loses opening limit meaning first (Some report) others before last hi
 )
 
 module _
-    {S T : Type 0} (loses : Bool) (opening : Memory) (limit : Option ℕ) (name : S → ℕ) (right : S → Bool)
-    (seen : S → List Entry) (meaning : T → Meaning) (first : T) (spawned : List T)
+    {S T : Type 0} (mem : OverMemory S) (right : S → Bool) (meaning : T → Meaning) (first : T) (spawned : List T)
     (seats0 : List S) (seat desk : S) (work : List S) (hub : S) (ends : List (WorkerEnd S)) (threads : List ThreadReport) (all : List S)
     (parts : seats0 ≡ (seat ∷ work) ++ desk ∷ []) (len : length work ≡ most_spawned)
-    (names : (k : ℕ) (d : S) → k < seat_count → name (get_or seats0 k d) ≡ k) (fresh : (k : ℕ) (d : S) → k < seat_count → seen (get_or seats0 k d) ≡ [])
-    (crew : IsCrew loses opening limit name seen meaning first seat spawned work ends)
+    (names : (k : ℕ) (d : S) → k < seat_count → mem.name (get_or seats0 k d) ≡ k) (fresh : (k : ℕ) (d : S) → k < seat_count → mem.seen (get_or seats0 k d) ≡ [])
+    (crew : IsCrew mem meaning first seat spawned work ends)
     (threads_are : threads ≡ reported ends) (hub' : S) (home home' : List S) (home_is : home ≡ seats_of ends)
-    (all_are : all ≡ home' ++ hub' ∷ []) (level : Level opening name right seen hub hub' home home')
-    (legal : IsQueueLegal (seen hub)) (hub_name : name hub ≡ desk_name) (hub_silent : entries_of desk_name (seen hub) ≡ []) where
+    (all_are : all ≡ home' ++ hub' ∷ []) (level : Level mem.opening mem.name right mem.seen hub hub' home home')
+    (legal : IsQueueLegal (mem.seen hub)) (hub_name : mem.name hub ≡ desk_name) (hub_silent : entries_of desk_name (mem.seen hub) ≡ []) where
   abbrev history : List Entry
-  history = seen hub'
+  history = mem.seen hub'
 
   len_others : length crew.others ≡ most_spawned
-  len_others = three_lengths (EndsWork loses opening limit name seen meaning) spawned work crew.others crew.worked ∙ len
+  len_others = three_lengths (EndsWork mem meaning) spawned work crew.others crew.worked ∙ len
 
   home_parts : home ≡ WorkerEnd.seat crew.head ∷ seats_of crew.others
   home_parts = home_is ∙ ap (λ (l : List (WorkerEnd S)). seats_of l) crew.parts
@@ -293,54 +293,54 @@ module _
   places : Unpacked seats0 seat work desk
   places = record { parts = parts; len = len }
 
-  seat_name : name seat ≡ 0
-  seat_name = first_name name seen seats0 seat work desk places names fresh
+  seat_name : mem.name seat ≡ 0
+  seat_name = first_name mem.name mem.seen seats0 seat work desk places names fresh
 
-  seat_fresh : seen seat ≡ []
-  seat_fresh = first_new name seen seats0 seat work desk places names fresh
+  seat_fresh : mem.seen seat ≡ []
+  seat_fresh = first_new mem.name mem.seen seats0 seat work desk places names fresh
 
-  name_of_work : (k : ℕ) → k < most_spawned → name (get_or work k desk) ≡ suc k
-  name_of_work k lt = work_name name seen seats0 seat work desk places names fresh k desk (omega (arith, len, lt))
+  name_of_work : (k : ℕ) → k < most_spawned → mem.name (get_or work k desk) ≡ suc k
+  name_of_work k lt = work_name mem.name mem.seen seats0 seat work desk places names fresh k desk (omega (arith, len, lt))
 
-  work_fresh : (k : ℕ) → k < most_spawned → seen (get_or work k desk) ≡ []
-  work_fresh k lt = work_new name seen seats0 seat work desk places names fresh k desk (omega (arith, len, lt))
+  work_fresh : (k : ℕ) → k < most_spawned → mem.seen (get_or work k desk) ≡ []
+  work_fresh k lt = work_new mem.name mem.seen seats0 seat work desk places names fresh k desk (omega (arith, len, lt))
 
   worker : (k : ℕ) (e : T) → k < most_spawned
-      → EndsWork loses opening limit name seen meaning (get_or spawned k e) (get_or work k desk)
+      → EndsWork mem meaning (get_or spawned k e) (get_or work k desk)
       (get_or crew.others k crew.head)
-  worker k e lt = three_at (EndsWork loses opening limit name seen meaning) spawned work crew.others k e desk crew.head crew.worked (omega (arith, len, lt))
+  worker k e lt = three_at (EndsWork mem meaning) spawned work crew.others k e desk crew.head crew.worked (omega (arith, len, lt))
 
   end_seat : (k : ℕ) → k < most_spawned → get_or home (suc k) desk ≡ WorkerEnd.seat (get_or crew.others k crew.head)
   end_seat k lt = ap (λ l. get_or l (suc k) desk) home_parts ∙ seats_at crew.others k desk crew.head (omega (arith, len_others, lt))
 
-  home_name : (k : ℕ) → k < most_threads → name (get_or home k desk) ≡ k
-  home_name zero lt = ap (λ l. name (get_or l 0 desk)) home_parts ∙ (crew.ended.name_is ∙ seat_name)
+  home_name : (k : ℕ) → k < most_threads → mem.name (get_or home k desk) ≡ k
+  home_name zero lt = ap (λ l. mem.name (get_or l 0 desk)) home_parts ∙ (crew.ended.name_is ∙ seat_name)
   home_name (suc k) lt =
       let below : k < most_spawned = omega (arith, lt) in
-      ap name (end_seat k below) ∙ ((worker k first below).name_is ∙ name_of_work k below)
+      ap mem.name (end_seat k below) ∙ ((worker k first below).name_is ∙ name_of_work k below)
 
-  came : IsHome opening name seen desk home all history
-  came = come_home opening name right seen desk hub hub' home home' all len_home home_name all_are level legal hub_name hub_silent
+  came : IsHome mem.opening mem.name mem.seen desk home all history
+  came = come_home mem.opening mem.name right mem.seen desk hub hub' home home' all len_home home_name all_are level legal hub_name hub_silent
 
-  owned : (k : ℕ) → k < most_threads → entries_of k history ≡ entries_of k (seen (get_or home k desk))
+  owned : (k : ℕ) → k < most_threads → entries_of k history ≡ entries_of k (mem.seen (get_or home k desk))
   owned = came.owned
 
-  holds : (k : ℕ) → k < most_threads → IsPrefix (seen (get_or home k desk)) history
+  holds : (k : ℕ) → k < most_threads → IsPrefix (mem.seen (get_or home k desk)) history
   holds = came.holds
 
   queue : IsQueueLegal history
   queue = came.queue
 
   worker_case : (k : ℕ) (e : T) → k < most_spawned
-      → CaseOf loses opening limit (suc k) history (meaning (get_or spawned k e)) (WorkerEnd.report (get_or crew.others k crew.head))
+      → CaseOf mem.loses mem.opening mem.limit (suc k) history (meaning (get_or spawned k e)) (WorkerEnd.report (get_or crew.others k crew.head))
   worker_case k e lt =
       let w = worker k e lt in
       let up : suc k < most_threads = omega (arith, lt) in
       let works = rw (name_of_work k lt) at w.works in
-      case_of loses opening limit (suc k) history (meaning (get_or spawned k e)) (WorkerEnd.report (get_or crew.others k crew.head))
-      (seen (get_or work k desk)) (seen (WorkerEnd.seat (get_or crew.others k crew.head))) (work_fresh k lt)
-      (subst (λ s. IsPrefix (seen s) history) (end_seat k lt) (holds (suc k) up))
-      (owned (suc k) up ∙ ap (λ s. entries_of (suc k) (seen s)) (end_seat k lt)) queue works
+      case_of mem.loses mem.opening mem.limit (suc k) history (meaning (get_or spawned k e)) (WorkerEnd.report (get_or crew.others k crew.head))
+      (mem.seen (get_or work k desk)) (mem.seen (WorkerEnd.seat (get_or crew.others k crew.head))) (work_fresh k lt)
+      (subst (λ s. IsPrefix (mem.seen s) history) (end_seat k lt) (holds (suc k) up))
+      (owned (suc k) up ∙ ap (λ s. entries_of (suc k) (mem.seen s)) (end_seat k lt)) queue works
 
   abbrev spawns : ℕ
   spawns = length (WaitQueue.args (queue_after history))
@@ -352,26 +352,26 @@ module _
   counted =
       counts crew.others spawns crew.head
       (λ k lt. let below : k < most_spawned = omega (arith, len_others, lt) in
-      placed_of loses opening limit (suc k) history (meaning (get_or spawned k first)) k
+      placed_of mem.loses mem.opening mem.limit (suc k) history (meaning (get_or spawned k first)) k
       (WorkerEnd.report (get_or crew.others k crew.head)) refl (worker_case k first below))
       (omega (arith, few, len_others))
 
   threads_list : threads ≡ with_report (WorkerEnd.report crew.head) (reported crew.others)
   threads_list = threads_are ∙ ap (λ (l : List (WorkerEnd S)). reported l) crew.parts
 
-  head_case : LeadsTo loses opening limit meaning first (with_report (WorkerEnd.report crew.head) (reported crew.others)) history
+  head_case : LeadsTo mem.loses mem.opening mem.limit meaning first (with_report (WorkerEnd.report crew.head) (reported crew.others)) history
       × (length (with_report (WorkerEnd.report crew.head) (reported crew.others)) ≡ suc (length (reported crew.others)))
       × ((k : ℕ) (d : ThreadReport) → get_or (with_report (WorkerEnd.report crew.head) (reported crew.others)) (suc k) d ≡ get_or (reported crew.others) k d)
   head_case =
       let zeroth : 0 < most_threads = omega arith in
       let head_is : get_or home 0 desk ≡ WorkerEnd.seat crew.head = ap (λ l. get_or l 0 desk) home_parts in
       let works = rw seat_name at crew.ended.works in
-      first_case loses opening limit meaning first (WorkerEnd.report crew.head) (reported crew.others) (seen seat)
-      (seen (WorkerEnd.seat crew.head)) history seat_fresh
-      (subst (λ s. IsPrefix (seen s) history) head_is (holds 0 zeroth)) (owned 0 zeroth ∙ ap (λ s. entries_of 0 (seen s)) head_is) works
+      first_case mem.loses mem.opening mem.limit meaning first (WorkerEnd.report crew.head) (reported crew.others) (mem.seen seat)
+      (mem.seen (WorkerEnd.seat crew.head)) history seat_fresh
+      (subst (λ s. IsPrefix (mem.seen s) history) head_is (holds 0 zeroth)) (owned 0 zeroth ∙ ap (λ s. entries_of 0 (mem.seen s)) head_is) works
 
   silent_by : (k : ℕ) (o : Option ThreadReport) (e : T) → arg_of (queue_after history) (suc k) ≡ None
-      → CaseOf loses opening limit (suc k) history (meaning (get_or spawned k e)) o → entries_of (suc k) history ≡ []
+      → CaseOf mem.loses mem.opening mem.limit (suc k) history (meaning (get_or spawned k e)) o → entries_of (suc k) history ≡ []
   silent_by k None e none h = h.1
   silent_by k (Some report) e none h = absurd (cc (none, h.1))
 
@@ -386,26 +386,26 @@ module _
       below_or k le = elim (cases_lt k most_spawned) [ inl lt ↦ inl (omega (arith, lt)) | inr past ↦ inr (omega (arith, le, past)) ]
 
   works_by : (k arg : ℕ) (e : T) (o : Option ThreadReport) (report : ThreadReport) → o ≡ Some report → arg_of (queue_after history) (suc k) ≡ Some arg
-      → CaseOf loses opening limit (suc k) history (meaning (get_or spawned k e)) o
-      → IsSpawnReport loses opening limit (suc k) arg (meaning (get_or spawned k e)) report history
+      → CaseOf mem.loses mem.opening mem.limit (suc k) history (meaning (get_or spawned k e)) o
+      → IsSpawnReport mem.loses mem.opening mem.limit (suc k) arg (meaning (get_or spawned k e)) report history
   works_by k arg e None report is has h = absurd (cc is)
   works_by k arg e (Some r) report is has h =
       let same : h.0 ≡ arg = cc (h.1, has) in
       let same_report : r ≡ report = cc is in
-      subst (λ x. IsSpawnReport loses opening limit (suc k) arg (meaning (get_or spawned k e)) x history) same_report
-      (subst (λ a. IsSpawnReport loses opening limit (suc k) a (meaning (get_or spawned k e)) r history) same h.2)
+      subst (λ x. IsSpawnReport mem.loses mem.opening mem.limit (suc k) arg (meaning (get_or spawned k e)) x history) same_report
+      (subst (λ a. IsSpawnReport mem.loses mem.opening mem.limit (suc k) a (meaning (get_or spawned k e)) r history) same h.2)
 
   works : (k arg : ℕ) (d : ThreadReport) (e : T) → arg_of (queue_after history) (suc k) ≡ Some arg
-      → IsSpawnReport loses opening limit (suc k) arg (meaning (get_or spawned k e)) (get_or threads (suc k) d) history
+      → IsSpawnReport mem.loses mem.opening mem.limit (suc k) arg (meaning (get_or spawned k e)) (get_or threads (suc k) d) history
   works k arg d e has =
       let placed : k < spawns = got_within (WaitQueue.args (queue_after history)) k arg has in
       let below : k < most_spawned = omega (arith, placed, few) in
       let at : get_or threads (suc k) d ≡ get_or (reported crew.others) k d = ap (λ l. get_or l (suc k) d) threads_list ∙ head_case.2 k d in
-      subst (λ x. IsSpawnReport loses opening limit (suc k) arg (meaning (get_or spawned k e)) x history) (sym at)
+      subst (λ x. IsSpawnReport mem.loses mem.opening mem.limit (suc k) arg (meaning (get_or spawned k e)) x history) (sym at)
       (works_by k arg e (WorkerEnd.report (get_or crew.others k crew.head)) (get_or (reported crew.others) k d)
       (counted.each k d crew.head placed) has (worker_case k e below))
 
-  pub composed : IsComposed loses opening limit name seen meaning first spawned threads all
+  pub composed : IsComposed mem meaning first spawned threads all
   composed = record {
     history = history;
     len = came.len;
@@ -415,14 +415,13 @@ module _
     queue = queue;
     silent = silent;
     count = ap length threads_list ∙ (head_case.1 ∙ (let e = counted.count in omega (arith, e)));
-    leads = λ d t stands_so here. subst (λ l. IsReport loses opening limit 0 (meaning first).program t
+    leads = λ d t stands_so here. subst (λ l. IsReport mem.loses mem.opening mem.limit 0 (meaning first).program t
         (meaning first).fuel (get_or l 0 d) [] history) (sym threads_list)
         (head_case.0 d t stands_so here);
     works = works;
   }
 
-pub crew_length : {S T : Type 0} (loses : Bool) (opening : Memory) (limit : Option ℕ) (name : S → ℕ)
-    (seen : S → List Entry) (meaning : T → Meaning) (first : T) (seat : S) (spawned : List T)
-    (work : List S) (ends : List (WorkerEnd S)) → IsCrew loses opening limit name seen meaning first seat spawned work ends → length ends ≡ suc (length work)
-crew_length loses opening limit name seen meaning first seat spawned work ends crew =
-    ap length crew.parts ∙ ap suc (three_lengths (EndsWork loses opening limit name seen meaning) spawned work crew.others crew.worked)
+pub crew_length : {S T : Type 0} (mem : OverMemory S) (meaning : T → Meaning) (first : T) (seat : S) (spawned : List T)
+    (work : List S) (ends : List (WorkerEnd S)) → IsCrew mem meaning first seat spawned work ends → length ends ≡ suc (length work)
+crew_length mem meaning first seat spawned work ends crew =
+    ap length crew.parts ∙ ap suc (three_lengths (EndsWork mem meaning) spawned work crew.others crew.worked)

@@ -33,6 +33,7 @@ use Rattle.schedule_threads.specs.Seeing.{Sees, SeesAll, event_of, entered}
 use Rattle.schedule_threads.proofs.Asking.{wants_spawn}
 use Rattle.interp_trait.specs.Turns.{Running, Meaning, IsHere}
 use Rattle.spawn_host_thread.specs.Ends.{RunsOut}
+use Rattle.spawn_host_workers.specs.OverMemory.{OverMemory}
 use Rattle.spawn_host_workers.specs.Level.{Level}
 use Rattle.spawn_host_workers.specs.Composed.{IsReport, IsComposed}
 use Rattle.spawn_host_workers.proofs.Home.{IsHome, come_home}
@@ -152,63 +153,62 @@ none_spawned history legal none = args_from (first_queue most_threads) (of_queue
 -- from a run of the first thread to one history
 
 module _
-    {S T : Type 0} (loses : Bool) (opening : Memory) (limit : Option ℕ) (name : S → ℕ) (right : S → Bool)
-    (seen : S → List Entry) (meaning : T → Meaning) (first : T)
+    {S T : Type 0} (mem : OverMemory S) (right : S → Bool) (meaning : T → Meaning) (first : T)
     (here : (t : Running) × (meaning first).stands t × IsHere t)
     (alone : Program.imported (meaning first).program ≡ 0) (seats0 : List S) (seat desk : S) (work : List S) (places : Unpacked seats0 seat work desk)
-    (names : (k : ℕ) (d : S) → k < seat_count → name (get_or seats0 k d) ≡ k) (fresh : (k : ℕ) (d : S) → k < seat_count → seen (get_or seats0 k d) ≡ [])
-    (report : ThreadReport) (seat' : S) (name_is : name seat' ≡ name seat)
+    (names : (k : ℕ) (d : S) → k < seat_count → mem.name (get_or seats0 k d) ≡ k) (fresh : (k : ℕ) (d : S) → k < seat_count → mem.seen (get_or seats0 k d) ≡ [])
+    (report : ThreadReport) (seat' : S) (name_is : mem.name seat' ≡ mem.name seat)
     (ran : (t : Running) → (meaning first).stands t → IsHere t
-    → RunsOut (meaning first).program loses opening limit (name seat) t report.outcome report.spent
-    (meaning first).fuel (seen seat)
-    (seen seat'))
+    → RunsOut (meaning first).program mem.loses mem.opening mem.limit (mem.name seat) t report.outcome report.spent
+    (meaning first).fuel (mem.seen seat)
+    (mem.seen seat'))
     (hub hub' : S) (home home' all : List S) (home_is : home ≡ seat' ∷ work) (all_are : all ≡ home' ++ hub' ∷ [])
-    (level : Level opening name right seen hub hub' home home')
-    (legal : IsQueueLegal (seen hub)) (hub_name : name hub ≡ desk_name)
-    (hub_silent : entries_of desk_name (seen hub) ≡ []) (threads : List ThreadReport)
+    (level : Level mem.opening mem.name right mem.seen hub hub' home home')
+    (legal : IsQueueLegal (mem.seen hub)) (hub_name : mem.name hub ≡ desk_name)
+    (hub_silent : entries_of desk_name (mem.seen hub) ≡ []) (threads : List ThreadReport)
     (threads_are : threads ≡ report ∷ []) where
   abbrev history : List Entry
-  history = seen hub'
+  history = mem.seen hub'
 
-  seat_name : name seat ≡ 0
-  seat_name = first_name name seen seats0 seat work desk places names fresh
+  seat_name : mem.name seat ≡ 0
+  seat_name = first_name mem.name mem.seen seats0 seat work desk places names fresh
 
-  seat_new : seen seat ≡ []
-  seat_new = first_new name seen seats0 seat work desk places names fresh
+  seat_new : mem.seen seat ≡ []
+  seat_new = first_new mem.name mem.seen seats0 seat work desk places names fresh
 
-  home_name : (k : ℕ) → k < most_threads → name (get_or home k desk) ≡ k
-  home_name zero lt = ap (λ l. name (get_or l 0 desk)) home_is ∙ (name_is ∙ seat_name)
-  home_name (suc k) lt = ap (λ l. name (get_or l (suc k) desk)) home_is
-      ∙ work_name name seen seats0 seat work desk places names fresh k desk (omega (arith, lt, places.len))
+  home_name : (k : ℕ) → k < most_threads → mem.name (get_or home k desk) ≡ k
+  home_name zero lt = ap (λ l. mem.name (get_or l 0 desk)) home_is ∙ (name_is ∙ seat_name)
+  home_name (suc k) lt = ap (λ l. mem.name (get_or l (suc k) desk)) home_is
+      ∙ work_name mem.name mem.seen seats0 seat work desk places names fresh k desk (omega (arith, lt, places.len))
 
-  came : IsHome opening name seen desk home all history
-  came = come_home opening name right seen desk hub hub' home home' all (ap length home_is
+  came : IsHome mem.opening mem.name mem.seen desk home all history
+  came = come_home mem.opening mem.name right mem.seen desk hub hub' home home' all (ap length home_is
       ∙ ap suc places.len) home_name all_are level legal hub_name hub_silent
 
   head_is : get_or home 0 desk ≡ seat'
   head_is = ap (λ l. get_or l 0 desk) home_is
 
-  owned : entries_of 0 history ≡ entries_of 0 (seen seat')
-  owned = came.owned 0 (omega arith) ∙ ap (λ s. entries_of 0 (seen s)) head_is
+  owned : entries_of 0 history ≡ entries_of 0 (mem.seen seat')
+  owned = came.owned 0 (omega arith) ∙ ap (λ s. entries_of 0 (mem.seen s)) head_is
 
-  holds : IsPrefix (seen seat') history
-  holds = subst (λ s. IsPrefix (seen s) history) head_is (came.holds 0 (omega arith))
+  holds : IsPrefix (mem.seen seat') history
+  holds = subst (λ s. IsPrefix (mem.seen s) history) head_is (came.holds 0 (omega arith))
 
   runs : (t : Running) → (meaning first).stands t → IsHere t
-      → RunsOut (meaning first).program loses opening limit 0 t report.outcome report.spent (meaning first).fuel []
-      (seen seat')
+      → RunsOut (meaning first).program mem.loses mem.opening mem.limit 0 t report.outcome report.spent (meaning first).fuel []
+      (mem.seen seat')
   runs t stands_so here_so =
       let named = rw seat_name at ran t stands_so here_so in
-      subst (λ b. RunsOut (meaning first).program loses opening limit 0 t report.outcome report.spent (meaning first).fuel b (seen seat')) seat_new named
+      subst (λ b. RunsOut (meaning first).program mem.loses mem.opening mem.limit 0 t report.outcome report.spent (meaning first).fuel b (mem.seen seat')) seat_new named
 
   spawns_none : SpawnsNone 0 history
   spawns_none =
       let run = RunsOut.run (runs here.0 here.1 here.2) in
       let start : ℕ → ℕ → State = λ m arg. Over report.outcome in
       subst (λ w. SpawnsNone 0 w) holds.1
-      (none_in_both 0 (seen seat') holds.0 (run_spawns_none (meaning first).program alone loses opening limit 0 start 0
-      run.steps here.0 _ [] (seen seat') (run.run start 0) run.sees tt)
-      (none_of_others 0 holds.0 (silent_more loses opening limit 0 history (seen seat') holds owned)))
+      (none_in_both 0 (mem.seen seat') holds.0 (run_spawns_none (meaning first).program alone mem.loses mem.opening mem.limit 0 start 0
+      run.steps here.0 _ [] (mem.seen seat') (run.run start 0) run.sees tt)
+      (none_of_others 0 holds.0 (silent_more mem.loses mem.opening mem.limit 0 history (mem.seen seat') holds owned)))
 
   unspawned : WaitQueue.args (queue_after history) ≡ []
   unspawned = none_spawned history came.queue spawns_none
@@ -217,10 +217,10 @@ module _
   others zero lt apart = absurd (apart refl)
   others (suc k) lt apart =
       came.owned (suc k) lt
-      ∙ ap (entries_of (suc k)) (ap (λ l. seen (get_or l (suc k) desk)) home_is
-      ∙ work_new name seen seats0 seat work desk places names fresh k desk (omega (arith, lt, places.len)))
+      ∙ ap (entries_of (suc k)) (ap (λ l. mem.seen (get_or l (suc k) desk)) home_is
+      ∙ work_new mem.name mem.seen seats0 seat work desk places names fresh k desk (omega (arith, lt, places.len)))
 
-  pub composed_alone : IsComposed loses opening limit name seen meaning first [] threads all
+  pub composed_alone : IsComposed mem meaning first [] threads all
   composed_alone = record {
     history = history;
     len = came.len;
@@ -231,8 +231,8 @@ module _
     silent = λ n le some none. below_more (λ (j : ℕ). j ≢ 0 → entries_of j history ≡ []) most_threads others (λ apart. came.desk) n (omega (arith, le)) some;
     count = ap length threads_are ∙ (let e = ap length unspawned in omega (arith, e));
     leads = λ d t stands_so here_so.
-        subst (λ l. IsReport loses opening limit 0 (meaning first).program t (meaning first).fuel (get_or l 0 d) [] history) (sym threads_are)
-        (report_by loses opening limit 0 history (meaning first).program t (meaning first).fuel report [] (seen seat')
+        subst (λ l. IsReport mem.loses mem.opening mem.limit 0 (meaning first).program t (meaning first).fuel (get_or l 0 d) [] history) (sym threads_are)
+        (report_by mem.loses mem.opening mem.limit 0 history (meaning first).program t (meaning first).fuel report [] (mem.seen seat')
         refl holds owned (runs t stands_so here_so));
     works = λ k arg d e has. let none = ap (λ l. slice_get l k) unspawned in absurd (cc (none, has));
   }

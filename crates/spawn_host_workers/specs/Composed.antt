@@ -19,6 +19,7 @@ use Rattle.interp_machine.specs.State.{At}
 use Rattle.interp_trait.specs.Turns.{Running, Meaning, IsHere}
 use Rattle.spawn_host_thread.specs.Ends.{RunsOut}
 use Rattle.spawn_host_workers.specs.declared.worker.WorkerEnd.{WorkerEnd}
+use Rattle.spawn_host_workers.specs.OverMemory.{OverMemory}
 
 -- The reports of those that ran, in order, and the seats of all.
 abbrev pub with_report : Option ThreadReport → List ThreadReport → List ThreadReport
@@ -55,19 +56,18 @@ pub record IsSpawnReport (loses : Bool) (opening : Memory) (limit : Option ℕ) 
 
 -- All 17 seats have seen one list, which is legal for the memory and for the wait queue. Only thread 0 and those that were spawned
 -- have entries in it. These are reported, in order of their numbers, and each ran as it was reported.
-pub record IsComposed {S T : Type 0} (loses : Bool) (opening : Memory) (limit : Option ℕ) (name : S → ℕ) (seen : S → List Entry)
-    (meaning : T → Meaning) (first : T) (spawned : List T)
+pub record IsComposed {S T : Type 0} (mem : OverMemory S) (meaning : T → Meaning) (first : T) (spawned : List T)
     (threads : List ThreadReport) (seats : List S) : Type 0 where
   pub history : List Entry
   pub len : length seats ≡ seat_count
-  pub names : (k : ℕ) (d : S) → k < seat_count → name (slice_index_or seats k d) ≡ k
-  pub seen_by : (k : ℕ) (d : S) → k < seat_count → seen (slice_index_or seats k d) ≡ history
-  pub legal : IsSeen opening history
+  pub names : (k : ℕ) (d : S) → k < seat_count → mem.name (slice_index_or seats k d) ≡ k
+  pub seen_by : (k : ℕ) (d : S) → k < seat_count → mem.seen (slice_index_or seats k d) ≡ history
+  pub legal : IsSeen mem.opening history
   pub queue : IsQueueLegal history
   pub silent : (n : ℕ) → n ≤ desk_name → n ≢ 0 → arg_of (queue_after history) n ≡ None → entries_of n history ≡ []
   pub count : length threads ≡ length (WaitQueue.args (queue_after history)) + 1
   pub leads : (d : ThreadReport) (t : Running) → (meaning first).stands t → IsHere t
-      → IsReport loses opening limit 0 (meaning first).program t (meaning first).fuel (slice_index_or threads 0 d) [] history
+      → IsReport mem.loses mem.opening mem.limit 0 (meaning first).program t (meaning first).fuel (slice_index_or threads 0 d) [] history
   pub works : (k arg : ℕ) (d : ThreadReport) (e : T) → arg_of (queue_after history) (suc k) ≡ Some arg
-      → IsSpawnReport loses opening limit (suc k) arg (meaning (slice_index_or spawned k e))
+      → IsSpawnReport mem.loses mem.opening mem.limit (suc k) arg (meaning (slice_index_or spawned k e))
       (slice_index_or threads (suc k) d) history

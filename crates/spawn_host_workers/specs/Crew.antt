@@ -8,6 +8,7 @@ use Rattle.interp_trait.specs.Turns.{Running, Meaning, IsHere}
 use Rattle.spawn_host_thread.specs.Ends.{IsLast, RunsOut}
 use Rattle.spawn_host_workers.specs.declared.worker.WorkerEnd.{WorkerEnd}
 use Rattle.spawn_host_workers.specs.Pairs.{AllThree}
+use Rattle.spawn_host_workers.specs.OverMemory.{OverMemory}
 use Rattle.spawn_host_workers.specs.Works.{EndsWork}
 
 -- The first thread ran from its start to its end.
@@ -22,17 +23,15 @@ abbrev pub WorksFirst : Bool → Memory → Option ℕ → ℕ → Meaning → O
 WorksFirst loses opening limit n m None before after = ⊥
 WorksFirst loses opening limit n m (Some report) before after = RunsFirst loses opening limit n m report before after
 
-pub record EndsFirst {S T : Type 0} (loses : Bool) (opening : Memory) (limit : Option ℕ) (name : S → ℕ) (seen : S → List Entry)
-    (meaning : T → Meaning) (thread : T) (seat : S) (end : WorkerEnd S) : Type 0 where
-  pub name_is : name end.seat ≡ name seat
-  pub works : WorksFirst loses opening limit (name seat) (meaning thread) end.report (seen seat) (seen end.seat)
+pub record EndsFirst {S T : Type 0} (mem : OverMemory S) (meaning : T → Meaning) (thread : T) (seat : S) (end : WorkerEnd S) : Type 0 where
+  pub name_is : mem.name end.seat ≡ mem.name seat
+  pub works : WorksFirst mem.loses mem.opening mem.limit (mem.name seat) (meaning thread) end.report (mem.seen seat) (mem.seen end.seat)
 
 -- The ends of the first thread and of the workers, in order.
-pub record IsCrew {S T : Type 0} (loses : Bool) (opening : Memory) (limit : Option ℕ) (name : S → ℕ) (seen : S → List Entry)
-    (meaning : T → Meaning) (first : T) (seat : S) (threads : List T) (seats : List S)
+pub record IsCrew {S T : Type 0} (mem : OverMemory S) (meaning : T → Meaning) (first : T) (seat : S) (threads : List T) (seats : List S)
     (ends : List (WorkerEnd S)) : Type 0 where
   pub head : WorkerEnd S
   pub others : List (WorkerEnd S)
   pub parts : ends ≡ head ∷ others
-  pub ended : EndsFirst loses opening limit name seen meaning first seat head
-  pub worked : AllThree (EndsWork loses opening limit name seen meaning) threads seats others
+  pub ended : EndsFirst mem meaning first seat head
+  pub worked : AllThree (EndsWork mem meaning) threads seats others

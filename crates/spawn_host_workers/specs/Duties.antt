@@ -1,8 +1,8 @@
 -- What the workers promise.
-use Rattle.std.specs.Prelude.{ℕ, ◌≡◌, Bool, List, ◌++◌, Option}
-use Rattle.types.specs.declared.event.Entry.{Entry}
-use Rattle.shared_memory.specs.Memory.{Memory}
+use Rattle.std.specs.Prelude.{◌≡◌, List, ◌++◌}
+use Rattle.shared_memory.specs.declared.memory.SharedMemory.{Ghosts}
 use Rattle.interp_trait.specs.Turns.{Meaning}
+use Rattle.spawn_host_workers.specs.OverMemory.{over}
 use Rattle.spawn_host_workers.specs.Pairs.{Together}
 use Rattle.spawn_host_workers.specs.Works.{EndsWork}
 use Rattle.std.specs.declared.thread.PromisedHandle.{PromisedHandle}
@@ -16,10 +16,9 @@ pub record IsDuty {T M S : Type 0} (memory : M) (thread : T) (seat : S) (handle 
   pub seat_is : handle.promise.seat.value ≡ seat
 
 -- A worker did what its handle promises.
-abbrev pub IsDone : {T M S : Type 0} → Bool → Memory → (M → Option ℕ) → (S → ℕ) → (S → List Entry) → (T → Meaning)
-    → PromisedHandle (WorkerEnd S) (Duty T M S) → WorkerEnd S → Type 0
-IsDone loses opening limit name seen meaning handle end =
-    EndsWork loses opening (limit handle.promise.memory.value) name seen meaning handle.promise.thread.value handle.promise.seat.value end
+abbrev pub IsDone : {T M S : Type 0} → Ghosts M S → (T → Meaning) → PromisedHandle (WorkerEnd S) (Duty T M S) → WorkerEnd S → Type 0
+IsDone m meaning handle end =
+    EndsWork (over m handle.promise.memory.value) meaning handle.promise.thread.value handle.promise.seat.value end
 
 -- The workers' ends come behind those that are there already, in the order of the handles.
 pub record Joined {H E : Type 0} (Done : H → E → Type 0) (handles : List H) (before after : List E) : Type 0 where

@@ -1,3 +1,4 @@
+pub mod OverMemory
 pub mod Level
 pub mod Works
 pub mod Pairs

@@ -14,6 +14,7 @@ use Rattle.interp_machine.specs.State.{At}
 use Rattle.interp_trait.specs.Turns.{Meaning}
 use Rattle.spawn_host_thread.specs.Ends.{IsLast, RunsOut}
 use Rattle.spawn_host_workers.specs.declared.worker.WorkerEnd.{WorkerEnd}
+use Rattle.spawn_host_workers.specs.OverMemory.{OverMemory}
 
 -- Thread n was spawned, and ran from its start to its end: the arguments are its number and the one that it was spawned with.
 pub record RunsSpawned (loses : Bool) (opening : Memory) (limit : Option ℕ) (n : ℕ) (m : Meaning)
@@ -33,7 +34,6 @@ Works loses opening limit n m None before after = NeverBegins opening n before a
 Works loses opening limit n m (Some report) before after = RunsSpawned loses opening limit n m report before after
 
 -- A worker's end, over seats and threads of any type.
-pub record EndsWork {S T : Type 0} (loses : Bool) (opening : Memory) (limit : Option ℕ) (name : S → ℕ) (seen : S → List Entry)
-    (meaning : T → Meaning) (thread : T) (seat : S) (end : WorkerEnd S) : Type 0 where
-  pub name_is : name end.seat ≡ name seat
-  pub works : Works loses opening limit (name seat) (meaning thread) end.report (seen seat) (seen end.seat)
+pub record EndsWork {S T : Type 0} (mem : OverMemory S) (meaning : T → Meaning) (thread : T) (seat : S) (end : WorkerEnd S) : Type 0 where
+  pub name_is : mem.name end.seat ≡ mem.name seat
+  pub works : Works mem.loses mem.opening mem.limit (mem.name seat) (meaning thread) end.report (mem.seen seat) (mem.seen end.seat)

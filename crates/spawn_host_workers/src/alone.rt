@@ -3,6 +3,7 @@ ghost use Rattle.std.specs.Prelude.{◌≡◌, ◌<◌, ℕ, true, [], IfOk, IsO
 ghost use Rattle.types.specs.Limits.{desk_name, seat_count};
 ghost use Rattle.interp_trait.specs.Turns.{MayRun};
 ghost use Rattle.interp_machine.specs.Program.{Program};
+ghost use Rattle.spawn_host_workers.specs.OverMemory.{over};
 ghost use Rattle.spawn_host_workers.specs.declared.report.RunFault.{RunFault};
 ghost use Rattle.spawn_host_workers.specs.Composed.{IsComposed};
 
@@ -40,7 +41,7 @@ where
     requires new { (k : ℕ) (d : M.Seat) → k < seat_count → M.seen (slice_index_or seats.items k d) ≡ [] }
     requires right { (d : M.Seat) → M.has_queue_right (slice_index_or seats.items desk_name d) ≡ true }
     ensures fault { IsOkUnless result RunFault.NoMemory }
-    ensures composed { IfOk result (λ end. IsComposed M.LOSES M.opening (M.limit memory.now) M.name M.seen T.meaning first []
+    ensures composed { IfOk result (λ end. IsComposed (over M.SharedMemory memory.now) T.meaning first []
         end.threads.items end.seats.items) }
 {
     let Ok(mut threads) = Vec::with_capacity(alloc, 1) else {

@@ -4,6 +4,7 @@ ghost use Rattle.types.specs.Limits.{most_threads};
 ghost use Rattle.shared_memory.specs.History.{entries_of, queue_after};
 ghost use Rattle.shared_memory.specs.WaitQueue.{IsFree};
 ghost use Rattle.interp_trait.specs.Turns.{MayRun, MayBeSpawned};
+ghost use Rattle.spawn_host_workers.specs.OverMemory.{over};
 ghost use Rattle.spawn_host_workers.specs.Pairs.{AllThree};
 ghost use Rattle.spawn_host_workers.specs.Works.{EndsWork};
 ghost use Rattle.spawn_host_workers.specs.Crew.{EndsFirst, IsCrew};
@@ -31,7 +32,7 @@ pub(crate) struct Duty<T: TakesTurns, M: SharedMemory> {
 }
 
 impl<T: TakesTurns, M: SharedMemory> Promise<WorkerEnd<M::Seat>> for Duty<T, M> {
-    ghost kept_by = { λ p r. EndsWork M.LOSES M.opening (M.limit p.memory.value) M.name M.seen T.meaning p.thread.value p.seat.value r };
+    ghost kept_by = { λ p r. EndsWork (over M.SharedMemory p.memory.value) T.meaning p.thread.value p.seat.value r };
 }
 
 /// Starts a worker for each thread, with the seat at its place.
@@ -77,7 +78,7 @@ where
             move || -> WorkerEnd<M::Seat>
                 requires new { entries_of (M.name seat) (M.seen seat) ≡ [] }
                 requires begins { MayBeSpawned (T.meaning thread) }
-                ensures { EndsWork M.LOSES M.opening (M.limit memory.entry.now) M.name M.seen T.meaning thread seat result }
+                ensures { EndsWork (over M.SharedMemory memory.entry.now) T.meaning thread seat result }
             { work(rt, thread, memory, seat, desk, gate) },
         ) else {
             return Err(RunFault::NoThread);
@@ -94,7 +95,7 @@ fn join_all<T: TakesTurns, M: SharedMemory, R: Threads>(
     ends: &mut Vec<WorkerEnd<M::Seat>>,
 )
     requires room { vec_len ends.old + vec_len handles ≤ vec_capacity ends.old }
-    ensures { Joined (IsDone M.LOSES M.opening M.limit M.name M.seen T.meaning) handles.items ends.old.items ends.new.items }
+    ensures { Joined (IsDone M.SharedMemory T.meaning) handles.items ends.old.items ends.new.items }
 {
     for handle in handles {
         ends.push_reserved(handle.join(rt));
@@ -128,8 +129,7 @@ where
     requires new { All (λ (s : M.Seat). entries_of (M.name s) (M.seen s) ≡ []) seats.items }
     requires begins { All (λ (t : T). MayBeSpawned (T.meaning t)) threads.items }
     ensures fault { IfErr result (λ fault. IsOfSystem fault) }
-    ensures crew { IfOk result (λ ends. IsCrew M.LOSES M.opening (M.limit memory.now) M.name M.seen T.meaning first seat threads.items
-        seats.items ends.items) }
+    ensures crew { IfOk result (λ ends. IsCrew (over M.SharedMemory memory.now) T.meaning first seat threads.items seats.items ends.items) }
 {
     let mut seat = seat;
     let Ok(mut ends) = Vec::with_capacity(alloc, MOST_THREADS) else {
@@ -158,7 +158,7 @@ fn lead<T: TakesTurns + Drop, M: SharedMemory, W: Wait + Drop, G: Gate, R: Wait>
 ) -> WorkerEnd<M::Seat>
     requires here { MayRun (T.meaning first) }
     requires free { IsFree (queue_after (M.seen seat)) (M.name seat) }
-    ensures { EndsFirst M.LOSES M.opening (M.limit memory.now) M.name M.seen T.meaning first seat result }
+    ensures { EndsFirst (over M.SharedMemory memory.now) T.meaning first seat result }
 {
     let ThreadEnd {
         outcome,

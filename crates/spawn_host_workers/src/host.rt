@@ -4,6 +4,7 @@ ghost use Rattle.types.specs.Limits.{most_threads, most_spawned, desk_name, seat
 ghost use Rattle.shared_memory.specs.History.{entries_of, queue_after};
 ghost use Rattle.shared_memory.specs.WaitQueue.{IsFree};
 ghost use Rattle.interp_trait.specs.Turns.{MayRun, MayBeSpawned};
+ghost use Rattle.spawn_host_workers.specs.OverMemory.{over};
 ghost use Rattle.spawn_host_workers.specs.Level.{Level};
 ghost use Rattle.spawn_host_workers.specs.Crew.{IsCrew};
 ghost use Rattle.spawn_host_workers.specs.Faults.{IsOfSystem};
@@ -65,8 +66,7 @@ where
     requires new { All (λ (s : M.Seat). entries_of (M.name s) (M.seen s) ≡ []) seats.items }
     requires begins { All (λ (t : T). MayBeSpawned (T.meaning t)) threads.items }
     ensures fault { IfErr result (λ fault. IsOfSystem fault) }
-    ensures crew { IfOk result (λ ends. IsCrew M.LOSES M.opening (M.limit memory.now) M.name M.seen T.meaning first seat threads.items
-        seats.items ends.items) }
+    ensures crew { IfOk result (λ ends. IsCrew (over M.SharedMemory memory.now) T.meaning first seat threads.items seats.items ends.items) }
 {
     thread::scope(
         thread::scope_env(),
@@ -79,7 +79,7 @@ where
             requires new { All (λ (s : M.Seat). entries_of (M.name s) (M.seen s) ≡ []) seats.items }
             requires begins { All (λ (t : T). MayBeSpawned (T.meaning t)) threads.items }
             ensures fault { IfErr result (λ fault. IsOfSystem fault) }
-            ensures crew { IfOk result (λ ends. IsCrew M.LOSES M.opening (M.limit memory.entry.now) M.name M.seen T.meaning first seat
+            ensures crew { IfOk result (λ ends. IsCrew (over M.SharedMemory memory.entry.now) T.meaning first seat
                 threads.items seats.items ends.items) }
         {
             run_crew(
@@ -124,7 +124,7 @@ where
     requires new { (k : ℕ) (d : M.Seat) → k < seat_count → M.seen (slice_index_or seats.items k d) ≡ [] }
     requires right { (d : M.Seat) → M.has_queue_right (slice_index_or seats.items desk_name d) ≡ true }
     ensures fault { IfErr result (λ fault. IsOfSystem fault) }
-    ensures composed { IfOk result (λ end. IsComposed M.LOSES M.opening (M.limit memory.now) M.name M.seen T.meaning first spawned.items
+    ensures composed { IfOk result (λ end. IsComposed (over M.SharedMemory memory.now) T.meaning first spawned.items
         end.threads.items end.seats.items) }
 {
     let Ok(mut reports) = Vec::with_capacity(alloc, MOST_THREADS) else {

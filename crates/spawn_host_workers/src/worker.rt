@@ -1,6 +1,7 @@
 //! What a worker does: it waits until its thread is spawned, and runs it.
 ghost use Rattle.std.specs.Prelude.{◌≡◌, []};
 ghost use Rattle.shared_memory.specs.History.{entries_of};
+ghost use Rattle.spawn_host_workers.specs.OverMemory.{over};
 ghost use Rattle.spawn_host_workers.specs.Works.{EndsWork};
 ghost use Rattle.interp_trait.specs.Turns.{MayBeSpawned};
 
@@ -29,7 +30,7 @@ pub(crate) fn work<T: TakesTurns + Drop, M: SharedMemory, W: Wait + Drop, G: Gat
 ) -> WorkerEnd<M::Seat>
     requires new { entries_of (M.name seat) (M.seen seat) ≡ [] }
     requires begins { MayBeSpawned (T.meaning thread) }
-    ensures { EndsWork M.LOSES M.opening (M.limit memory.now) M.name M.seen T.meaning thread seat result }
+    ensures { EndsWork (over M.SharedMemory memory.now) T.meaning thread seat result }
 {
     let name = memory.name(&seat);
     let Some(arg) = desk.begin(memory, &mut seat) else {

@@ -18,7 +18,7 @@ run-requires-clause-right g c κs within = λ d. seat_right (λ s. s.caller) c.i
 
 pub copy_reports-requires : goal.copy_reports-requires
 copy_reports-requires g c =
-    let few = few_reports _ _ _ _ _ _ _ _ c.in_ok-end.end.threads.items c.in_ok-end.end.seats.items c.in_ok-end.ensures.run in
+    let few = few_reports _ _ _ _ _ c.in_ok-end.end.threads.items c.in_ok-end.end.seats.items c.in_ok-end.ensures.run in
     let same : length c.deref.result.now ≡ length c.in_ok-end.end.threads.items = ap length c.deref.ensures.value in
     let none : length c.args.header.ends.items ≡ 0 = ap length c.requires.ends in
     let long = c.args.header.ends.ok in
@@ -41,7 +41,7 @@ returns g c =
       ends_run =
           the_same c.args.module.now.parts c.args.header.fuel false _ _ _ _ _ _ _ log c.from_vec.result c.as_str.ensures
           c.as_slice.ensures (ap Some c.requires.bound) (sym c.from_vec.ensures)
-          (leaves (λ s. s.caller) (λ s. Begins s.caller log) _ _ _ _ _ _ c.in_ok-end.end.seats.items log _
+          (leaves (λ s. s.caller) (λ s. Begins s.caller log) _ _ _ _ _ _ _ c.in_ok-end.end.seats.items log _
           c.in_ok-end.ensures.run c.finish-finished.ensures.record.others
           (λ s b. (b.begins, b.own)) c.finish-finished.ensures.seats
           (c.finish-finished.ensures.record.pages_after ∙ ap (λ (o : Memory). pages (memory_after o log)) c.requires.image)

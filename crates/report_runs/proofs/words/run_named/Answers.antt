@@ -17,7 +17,7 @@ pub returns : goal.returns
 returns g c =
     let close = c.close-closed.ensures in (
       close.0,
-      leaves (λ s. s.caller) (λ s. GoesOn s.caller close.0) _ _ _ _ _ _ c.in_ok-end.end.seats.items close.0 _
+      leaves (λ s. s.caller) (λ s. GoesOn s.caller close.0) _ _ _ _ _ _ _ c.in_ok-end.end.seats.items close.0 _
           c.in_ok-end.ensures.run (λ n large. of_no_seat close.0 n close.2.entries large)
           (λ s x. went_on s.caller close.0 x) close.1
           (c.pages-pages.ensures.count ∙ ap pages close.3 ∙ ap (λ (o : Memory). pages (memory_after o close.0)) c.requires.image)

@@ -4,6 +4,7 @@ use Rattle.schedule.specs.Machine.{Thread.Runs}
 use Rattle.interp_machine.specs.State.{At}
 use Rattle.interp.specs.Starts.{start_of}
 use Rattle.interp.specs.Threads.{meaning_in}
+use Rattle.spawn_host_workers.specs.OverMemory.{over}
 use Rattle.spawn_host.proofs.Together.{threaded_result, lone_result}
 use Rattle.spawn_host.proofs.running.run.Goals as goal
 
@@ -26,14 +27,14 @@ run_all-requires-clause-begins g c κs within = λ k d lt.
 pub returns-then-not-starts_threads-clause-run : goal.returns-then-not-starts_threads-clause-run
 returns-then-not-starts_threads-clause-run g c =
     let m = g.M.SharedMemory in
-    lone_result m.LOSES m.opening (m.limit c.args.memory.now) m.name m.seen meaning_in c.in_ok-first.first c.args.module.now.parts c.args.call.name.now
+    lone_result (over m c.args.memory.now) meaning_in c.in_ok-first.first c.args.module.now.parts c.args.call.name.now
     c.args.call.args.now c.args.call.fuel c.requires.opening (λ starts. absurd (cc (c.if-not-starts_threads.ensures.1 starts)))
     c.in_ok-first.ensures.first c.run_alone.result c.run_alone.ensures.composed
 
 pub returns-clause-run : goal.returns-clause-run
 returns-clause-run g c =
     let m = g.M.SharedMemory in
-    threaded_result m.LOSES m.opening (m.limit c.args.memory.now) m.name m.seen meaning_in c.in_ok-first.first c.in-Ok.spawned.items
+    threaded_result (over m c.args.memory.now) meaning_in c.in_ok-first.first c.in-Ok.spawned.items
     c.args.module.now.parts c.args.call.name.now c.args.call.args.now _ c.args.call.fuel c.requires.opening
     (c.if-not-starts_threads.ensures.0 refl) c.in_ok-first.ensures.first c.in-Ok.ensures c.run_all.result
     c.run_all.ensures.composed

@@ -2,6 +2,7 @@ use Rattle.std.proofs.Common.{◌∷◌, ◌++◌, [], List, ◌∙◌, ap, arit
 use Rattle.shared_memory.specs.History.{entries_of, of_queue}
 use Rattle.types.specs.declared.outcome.ThreadReport.{ThreadReport}
 use Rattle.types.specs.Limits.{desk_name}
+use Rattle.spawn_host_workers.specs.OverMemory.{over}
 use Rattle.spawn_host_workers.proofs.OneList.{Unpacked, unpacked, IsDeskSeat, lead_may_ask, desk_new}
 use Rattle.spawn_host_workers.proofs.Unspawned.{composed_alone}
 use Rattle.spawn_host_workers.proofs.alone.run_alone.Given as given
@@ -46,7 +47,7 @@ returns-clause-composed g c =
     let end = c.run_thread-outcome in
     let report : ThreadReport = record { outcome = end.result.outcome; spent = end.result.spent } in
     let u = dealt g (goal.at.returns-clause-composed g c).After-remove-seat in
-    composed_alone m.LOSES m.opening (m.limit c.args.memory.now) m.name m.has_queue_right m.seen t.meaning c.args.first c.requires.here c.requires.alone
+    composed_alone (over m c.args.memory.now) m.has_queue_right t.meaning c.args.first c.requires.here c.requires.alone
     c.args.seats.items c.remove-seat.result c.in-Some.desk_seat c.remove-seat.new.self.items u c.requires.names
     c.requires.new report end.result.seat end.ensures.seat.name_is end.ensures.ran
     c.close-hub.result c.level_all.new.hub c.insert.new.self.items c.level_all.new.seats.items c.push_reserved-2.new.self.items c.in-Ok-insert.ensures.items

@@ -9,7 +9,7 @@ loop-handle-init g c =
     let t = g.T.TakesTurns in
     let gives = c.into_iter-handle-iterator.ensures.into_iter_gives in record {
       room = search rules;
-      joined = rw (gives.0) (joined_none (IsDone m.LOSES m.opening m.limit m.name m.seen t.meaning) (vec_items c.args.handles) (vec_items c.args.ends.now));
+      joined = rw (gives.0) (joined_none (IsDone m t.meaning) (vec_items c.args.handles) (vec_items c.args.ends.now));
     }
 
 pub loop-handle-preserved : goal.loop-handle-preserved
@@ -20,7 +20,7 @@ loop-handle-preserved g c =
     let step = c.in-Some.ensures.steps in record {
       room = search rules;
       joined = rw (c.push_reserved.ensures.items)
-          (joined_more (IsDone m.LOSES m.opening m.limit m.name m.seen t.meaning) (vec_items c.args.handles)
+          (joined_more (IsDone m t.meaning) (vec_items c.args.handles)
           (vec_items c.args.ends.now)
           (vec_items c.loop-handle.ends) _ _ c.in-Some.handle c.join.result i.joined step.0 c.join.ensures);
     }

@@ -6,7 +6,7 @@ pub returns-clause-crew : goal.returns-clause-crew
 returns-clause-crew g c =
     let m = g.M.SharedMemory in
     let t = g.T.TakesTurns in
-    crew_of m.LOSES m.opening m.limit m.name m.seen t.meaning c.args.memory.now c.args.first c.args.seat c.args.threads.items c.args.seats.items
+    crew_of m t.meaning c.args.memory.now c.args.first c.args.seat c.args.threads.items c.args.seats.items
     c.in-Ok-start_workers.handles.items c.lead.result _ _ c.lead.ensures (c.push_reserved.ensures.items
     ∙ ap (λ w. w ++ c.lead.result ∷ []) c.in-Ok.ensures.items)
     c.in-Ok-start_workers.ensures.duties c.join_all.ensures

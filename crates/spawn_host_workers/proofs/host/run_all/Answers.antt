@@ -1,5 +1,6 @@
 use Rattle.std.proofs.Common.{arith, ◌≡◌, vec_len}
 use Rattle.types.specs.Limits.{most_threads}
+use Rattle.spawn_host_workers.specs.OverMemory.{over}
 use Rattle.spawn_host_workers.proofs.OneList.{Unpacked, unpacked, lead_may_ask, workers_new, crew_length, composed}
 use Rattle.spawn_host_workers.proofs.host.run_all.Given as given
 use Rattle.spawn_host_workers.proofs.host.run_all.Goals as goal
@@ -30,7 +31,7 @@ split-requires-clause-room g c =
     let m = g.M.SharedMemory in
     let t = g.T.TakesTurns in
     let ends = c.in_ok-ends.ends in
-    let count = crew_length m.LOSES m.opening (m.limit c.args.memory.now) m.name m.seen t.meaning c.args.first c.remove-seat.result c.args.spawned.items
+    let count = crew_length (over m c.args.memory.now) t.meaning c.args.first c.remove-seat.result c.args.spawned.items
     c.remove-seat.new.self.items ends.items c.in_ok-ends.ensures.crew in
     let here : vec_len ends ≡ most_threads
     = omega (arith, count, ends.ok.0, c.remove-seat.new.self.ok.0, c.remove-seat.ensures.len, c.in-Some.ensures.cases, c.requires.len) in (
@@ -43,7 +44,7 @@ push_reserved-requires g c =
     let m = g.M.SharedMemory in
     let t = g.T.TakesTurns in
     let ends = c.in_ok-ends.ends in
-    let count = crew_length m.LOSES m.opening (m.limit c.args.memory.now) m.name m.seen t.meaning c.args.first c.remove-seat.result c.args.spawned.items
+    let count = crew_length (over m c.args.memory.now) t.meaning c.args.first c.remove-seat.result c.args.spawned.items
     c.remove-seat.new.self.items ends.items c.in_ok-ends.ensures.crew in
     let here : vec_len ends ≡ most_threads
     = omega (arith, count, ends.ok.0, c.remove-seat.new.self.ok.0, c.remove-seat.ensures.len, c.in-Some.ensures.cases, c.requires.len) in
@@ -63,7 +64,7 @@ returns-clause-composed g c =
     let t = g.T.TakesTurns in
     let ends = c.in_ok-ends.ends in
     let u = dealt g (goal.at.returns-clause-composed g c).After-remove-seat in
-    composed m.LOSES m.opening (m.limit c.args.memory.now) m.name m.has_queue_right m.seen t.meaning c.args.first c.args.spawned.items
+    composed (over m c.args.memory.now) m.has_queue_right t.meaning c.args.first c.args.spawned.items
     c.args.seats.items c.remove-seat.result c.in-Some.desk_seat c.remove-seat.new.self.items c.close-hub.result
     ends.items c.split.new.threads.items c.push_reserved.new.self.items
     u.parts u.len c.requires.names c.requires.new c.in_ok-ends.ensures.crew c.split.ensures.threads c.level_all.new.hub
