@@ -1,6 +1,6 @@
 -- The laws of types, of items of sections and of bodies.
 use Rattle.std.proofs.Common.{◌≡◌, ℕ, zero, suc, ◌-◌, ◌≤◌, true, false, cond, eqb, List, [], ◌∷◌, ◌++◌, length}
-use Rattle.std.proofs.Common.{replicate, Option, Some, None, Ok, refl, sym, ap, arith}
+use Rattle.std.proofs.Common.{replicate, Option, Some, Ok, refl, sym, ap, arith}
 use Rattle.types.specs.declared.parts.FuncType.{FuncType}
 use Rattle.types.specs.declared.parts.Body.{Body}
 use Rattle.types.specs.declared.parts.ImportDesc.TheVariants as imports
@@ -8,7 +8,7 @@ use Rattle.binary_wire.specs.declared.bounds.Bounds.{Bounds}
 use Rattle.binary_wire.specs.declared.fault.Fault.{Fault}
 use Rattle.binary_wire.specs.declared.fault.Fault.TheVariants as faults
 use Rattle.binary_wire.specs.Faults.{refused, inside}
-use Rattle.binary_wire.specs.Reading.{Reading, ◌>>=◌, some_or, tag_at, end_at, slice_at, u32_at, u32_within_at}
+use Rattle.binary_wire.specs.Reading.{Reading, ◌>>=◌, tag_at, end_at, slice_at, u32_at, u32_within_at}
 use Rattle.binary_wire.specs.Reading.{block_at, name_at, vector_at}
 use Rattle.binary_wire.specs.Grammar.{Spelling, IsU32, IsU32Within}
 use Rattle.binary_wire.proofs.Laws.{Law, bad, gives, bind_case, one_case, some_case, take_is, when_ok, end_case, tag_takes}

@@ -1,5 +1,5 @@
 -- The law of modules, and what a reader answers by it.
-use Rattle.std.proofs.Common.{◌≡◌, ℕ, ◌≤◌, cond, eqb, ltb, true, List, [], ◌∷◌, length, None, Result, Ok, Err, refl, sym, subst, ◌∙◌, arith}
+use Rattle.std.proofs.Common.{◌≡◌, ℕ, ◌≤◌, cond, eqb, ltb, List, [], ◌∷◌, length, None, Result, Ok, Err, refl, sym, subst, ◌∙◌, arith}
 use Rattle.std.specs.Prelude.{IfOk, MatchResult}
 use Rattle.std.proofs.lemmas.Bool.{eqb-true, eq-eqb, ltb-false, le-ltb}
 use Rattle.binary_wire.specs.declared.bounds.Bounds.{Bounds}
@@ -10,7 +10,7 @@ use Rattle.binary_wire.specs.declared.fault.ReadFault.TheVariants.{OutOfMemory, 
 use Rattle.binary_wire.specs.Faults.{refusal, refused, input}
 use Rattle.binary_wire.specs.Reading.{◌>>=◌, GivesInMemory, Fails, Refuses, u32_at}
 use Rattle.binary_wire.specs.Grammar.{Spelling, IsU32}
-use Rattle.binary_wire.proofs.Laws.{Law, good, bad, gives, bind_case, one_case, take_is, good_is, when_ok, unless_ok, u32_law}
+use Rattle.binary_wire.proofs.Laws.{Law, good, bad, bind_case, one_case, take_is, good_is, when_ok, unless_ok, u32_law}
 use Rattle.types.specs.declared.parts.Parts.{Parts}
 use Rattle.types.specs.declared.parts.Import.{Import}
 use Rattle.types.specs.declared.parts.FuncType.{FuncType}

@@ -1,11 +1,10 @@
 -- The laws of sections, with custom sections before them, and of the opening bytes.
 use Rattle.std.proofs.Common.{◌≡◌, ℕ, zero, suc, ◌<◌, ◌≤◌, Bool, true, false, cond, eqb, List, [], ◌∷◌, ◌++◌, length}
-use Rattle.std.proofs.Common.{Option, Some, None, Result, Ok, Err, refl, sym, ap, subst, ◌∙◌, arith, inl, inr}
+use Rattle.std.proofs.Common.{Option, Some, None, Ok, refl, sym, ap, subst, ◌∙◌, arith, inl, inr}
 use Rattle.std.proofs.lemmas.Bool.{eqb-true, eqb-false, eq-eqb, ne_eqb}
 use Rattle.binary_wire.specs.declared.bounds.Bounds.{Bounds}
 use Rattle.binary_wire.specs.declared.fault.Fault.{Fault}
 use Rattle.binary_wire.specs.declared.fault.Fault.TheVariants as faults
-use Rattle.binary_wire.specs.declared.fault.Refusal.{Refusal}
 use Rattle.binary_wire.specs.Faults.{inside}
 use Rattle.binary_wire.specs.Reading.{Reading, ◌>>=◌, byte_at, tag_at, u32_at, block_at, name_at, sized_at, vector_at, front_is}
 use Rattle.binary_wire.specs.Grammar.{Spelling, IsU32, IsBlock, IsName, IsVector}

@@ -12,7 +12,7 @@ use Rattle.binary_wire.specs.declared.fault.Fault.TheVariants as kinds
 use Rattle.binary_wire.specs.declared.bounds.Bounds.{Bounds}
 use Rattle.binary_wire.specs.declared.fault.Refusal.{Refusal}
 use Rattle.binary_wire.specs.Faults.{offset_of, refused}
-use Rattle.binary_wire.specs.Reading.{◌>>=◌, some_or, tag_at, u32_at, s32_at, s64_at, vector_at}
+use Rattle.binary_wire.specs.Reading.{◌>>=◌, tag_at, u32_at, s32_at, s64_at, vector_at}
 use Rattle.binary_wire.specs.Grammar.{IsU32, IsS32, IsS64, IsVector}
 use Rattle.binary_wire.proofs.Laws.{Law, good, gives, bind_case, take_is, either_ok, good_is, good_pair, u32_law, s32_law}
 use Rattle.binary_wire.proofs.Laws.{s64_law, vector_law, pure_law, map_law, then_law, one_case, some_case, tag_takes}
