@@ -2,7 +2,7 @@
 
 use interp_trait::Gate;
 use replay::{ReplayFault, replay};
-use report::{EndState, RecordRunFault, Refusal, load, record_run, run_on_words};
+use report::{Call, EndState, RecordRunFault, Refusal, load, record_run, run_on_words};
 use std::alloc::Global;
 use std::sync::Wait;
 use std::thread::Threads;
@@ -63,16 +63,21 @@ where
     R: Threads + Wait + Sync,
 {
     let valid = load(alloc, module)?;
+    let call = Call {
+        name: "f",
+        args,
+        fuel: FUEL,
+    };
     match memory {
         Memory::Locked { limit } => {
-            let (record, end) = record_run(rt, alloc, &valid, "f", args, FUEL, limit, gate)?;
+            let (record, end) = record_run(rt, alloc, &valid, call, limit, gate)?;
             if replay(alloc, &valid, &record)? == end {
                 Ok(end)
             } else {
                 Err(Trouble::AnotherEnd)
             }
         }
-        Memory::Words => Ok(run_on_words(rt, alloc, &valid, "f", args, FUEL, gate)?),
+        Memory::Words => Ok(run_on_words(rt, alloc, &valid, call, gate)?),
     }
 }
 
