@@ -6,9 +6,7 @@ use std::test::Fail;
 use types::{Instr, Module, NumericInstr, PlainInstr, Value};
 use validate::validate;
 use validate_module_rules::{IndexSpaces, exported_function, fault_outside_bodies, offset};
-use validate_typing::{
-    Fault, Place, Table, Target, ValidFault, expression_stands_for_one_nesting,
-};
+use validate_typing::{Fault, Place, Table, Target, ValidFault, expression_stands_for_one_nesting};
 
 /// The kinds by their numbers.
 static NUMBERS: [(Fault, u8); 20] = [

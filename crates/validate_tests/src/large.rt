@@ -4,8 +4,8 @@ use crate::sections::{empty, fault_of, func_type};
 use std::alloc::{AllocError, Global as Alloc};
 use std::test::Fail;
 use types::{
-    Body, ElementSegment, Export, ExportDesc, Global, GlobalType, Instr, Limits, Name, NumericInstr,
-    Parts, PlainInstr, Sequence, ValType, Value,
+    Body, ElementSegment, Export, ExportDesc, Global, GlobalType, Instr, Limits, Name,
+    NumericInstr, Parts, PlainInstr, Sequence, ValType, Value,
 };
 
 const I32: ValType = ValType::I32;
@@ -64,11 +64,7 @@ fn code(alloc: Alloc, sizes: Sizes) -> Result<Vec<Instr>, AllocError> {
     code.push(Instr::Plain(PlainInstr::GlobalGet(last)))?;
     code.push(Instr::Plain(PlainInstr::Drop))?;
     push_zeros(&mut code, sizes.operands, &[])?;
-    push_zeros(
-        &mut code,
-        sizes.below,
-        &[Instr::Block(None), Instr::End],
-    )?;
+    push_zeros(&mut code, sizes.below, &[Instr::Block(None), Instr::End])?;
     code.push(Instr::End)?;
     Ok(code)
 }
@@ -155,7 +151,13 @@ static LARGE: [(&str, Sizes); 9] = [
     ("100 bodies", Sizes { bodies: 100, ..ONE }),
     ("1,000 items", Sizes { items: 1000, ..ONE }),
     ("a name of 200 bytes", Sizes { name: 200, ..ONE }),
-    ("101 operands", Sizes { operands: 101, ..ONE }),
+    (
+        "101 operands",
+        Sizes {
+            operands: 101,
+            ..ONE
+        },
+    ),
     ("a block at height 65", Sizes { below: 65, ..ONE }),
 ];
 
