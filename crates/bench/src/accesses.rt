@@ -89,24 +89,14 @@ pub fn perform<M: SharedMemory>(memory: &M, mut seat: M::Seat, task: Task) -> (M
     (seat, answered)
 }
 
-/// Makes one try over a row of words, by the call that waits for nobody; none where the try is lost.
-fn tried<B: Naming>(row: &WordRow<B>, seat: &mut WordSeat<B>, event: Event) -> Option<Reply>
-    requires event { IsEvent event }
-    requires plain { is_of_queue event ≡ false }
-    ensures name { seat.new.caller.name ≡ seat.old.caller.name }
-{
-    let reply = row.access(seat, event);
-    (reply != Reply::Again).then_some(reply)
-}
-
-/// Makes an access over a row of words, again and again while its tries are lost.
+/// Makes an access over a row of words, by the call that waits for nobody, again and again while its tries are lost.
 fn make<B: Naming>(row: &WordRow<B>, seat: &mut WordSeat<B>, event: Event) -> Reply
     requires event { IsEvent event }
     requires plain { is_of_queue event ≡ false }
-    ensures name { seat.new.caller.name ≡ seat.old.caller.name }
 {
     for _ in 0..MOST_TRIES {
-        if let Some(reply) = tried(row, seat, event) {
+        let reply = row.access(seat, event);
+        if reply != Reply::Again {
             return reply;
         }
     }
