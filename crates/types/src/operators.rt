@@ -49,7 +49,8 @@ pub enum CompareOp {
     GeU,
 }
 
-/// A conversion between the integer types (Core specification 1.0, section 2.4.1, `cvtop`).
+/// A conversion between the integer types (Core specification 1.0, section 2.4.1, `cvtop`), or of the low bits of one
+/// (Core specification 2.0, section 2.4.1, `extendN_s`).
 #[derive(Clone, Copy, PartialEq, Eq, Debug)]
 pub enum ConvertOp {
     /// `i32.wrap_i64`
@@ -58,6 +59,8 @@ pub enum ConvertOp {
     ExtendI32S,
     /// `i64.extend_i32_u`
     ExtendI32U,
+    /// `extend8_s`, `extend16_s` and `extend32_s`: the operand and the result have the type of the width.
+    SignExtend(NarrowWidth),
 }
 
 /// A numeric instruction (Core specification 1.0, section 2.4.1): it takes operands from the stack and puts
@@ -73,8 +76,8 @@ pub enum NumericInstr {
     Convert(ConvertOp),
 }
 
-/// A storage size below that of the type (Core specification 1.0, section 2.4.4): the type of the operand on
-/// the stack, and the bits that lie in memory.
+/// A size below that of the type (Core specification 1.0, section 2.4.4; Core specification 2.0, section 2.4.1): the
+/// type of the value on the stack, and the bits that lie in memory, or of which a sign extension takes the sign.
 #[derive(Clone, Copy, PartialEq, Eq, Debug)]
 pub enum NarrowWidth {
     I32Bits8,
