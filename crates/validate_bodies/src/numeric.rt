@@ -31,6 +31,11 @@ fn replace_numbers(block: &mut OpenBlock, instr: NumericInstr) -> Result<(), Pro
             &[ValType::I32],
             Some(ValType::I64),
         ),
+        NumericInstr::Convert(ConvertOp::SignExtend(width)) => replace(
+            block,
+            &[width.val_type()],
+            Some(width.val_type()),
+        ),
     }
 }
 

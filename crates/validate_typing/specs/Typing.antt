@@ -21,7 +21,7 @@ use Rattle.types.specs.declared.parts.FuncType.{FuncType}
 use Rattle.types.specs.declared.parts.GlobalType.{GlobalType}
 use Rattle.types.specs.Nesting.{Code, Empty, Then, BlockThen, LoopThen, IfThen, IfElseThen, flat}
 use Rattle.types.specs.Values.{type_of}
-use Rattle.types.specs.Widths.{load_type, load_bytes, access_type, access_bytes, atomic_bytes}
+use Rattle.types.specs.Widths.{narrow_type, load_type, load_bytes, access_type, access_bytes, atomic_bytes}
 use Rattle.validate_typing.specs.Context.{Context}
 
 -- The result of a block, as a list (section 3.2.2).
@@ -39,6 +39,7 @@ numeric_takes (numeric.Compare t op) = t ∷ (t ∷ [])
 numeric_takes (numeric.Convert convert.WrapI64) = I64 ∷ []
 numeric_takes (numeric.Convert convert.ExtendI32S) = I32 ∷ []
 numeric_takes (numeric.Convert convert.ExtendI32U) = I32 ∷ []
+numeric_takes (numeric.Convert (convert.SignExtend w)) = narrow_type w ∷ []
 
 -- What a numeric instruction gives (section 3.3.1).
 abbrev pub numeric_gives : NumericInstr → ValType
@@ -50,6 +51,7 @@ numeric_gives (numeric.Compare t op) = I32
 numeric_gives (numeric.Convert convert.WrapI64) = I32
 numeric_gives (numeric.Convert convert.ExtendI32S) = I64
 numeric_gives (numeric.Convert convert.ExtendI32U) = I64
+numeric_gives (numeric.Convert (convert.SignExtend w)) = narrow_type w
 
 -- What an atomic instruction takes and gives (threads proposal).
 abbrev pub atomic_takes : AtomicOp → List ValType
