@@ -1,5 +1,5 @@
--- Which instruction an opcode begins (Core specification 1.0, section 5.4), and a number behind the prefix of atomic
--- instructions (threads proposal, section "Binary format").
+-- Which instruction an opcode begins (Core specification 1.0, section 5.4, with the sign extensions of 2.0), and a number
+-- behind the prefix of atomic instructions (threads proposal, section "Binary format").
 use Rattle.std.specs.Prelude.{ℕ, zero, suc, ◌-◌, List, [], ◌∷◌, ◌++◌, map, Option, Some, None, Result, Ok, Err}
 use Rattle.std.specs.Prelude.{nat_lt, if◌then◌else◌, slice_index_or}
 use Rattle.binary_wire.specs.declared.fault.Fault.{Fault}
@@ -126,6 +126,11 @@ conversions =
     instr (shapes.Numeric (numeric.Convert convert.WrapI64)) ∷ floats 4
     ++ instr (shapes.Numeric (numeric.Convert convert.ExtendI32S)) ∷ instr (shapes.Numeric (numeric.Convert convert.ExtendI32U)) ∷ floats 18
 
+-- The sign extensions (Core specification 2.0, section 5.4.7): those of i32, then those of i64, the narrower first.
+abbrev pub sign_extensions : List Opcode
+sign_extensions = map (λ w. instr (shapes.Numeric (numeric.Convert (convert.SignExtend w))))
+    (narrow.I32Bits8 ∷ narrow.I32Bits16 ∷ narrow.I64Bits8 ∷ narrow.I64Bits16 ∷ narrow.I64Bits32 ∷ [])
+
 abbrev pub opcode_groups : List (Group Opcode)
 opcode_groups =
     from 0x00 blocks
@@ -143,6 +148,7 @@ opcode_groups =
     ∷ from 0x79 (operators types.I64)
     ∷ from 0x8b (floats 28)
     ∷ from 0xa7 conversions
+    ∷ from 0xc0 sign_extensions
     ∷ from 0xfe (instr shapes.Atomic ∷ [])
     ∷ []
 

@@ -1,5 +1,5 @@
-//! The opcodes (Core specification 1.0, section 5.4) and the numbers of atomic instructions (threads proposal, section
-//! "Binary format"): which instruction each begins.
+//! The opcodes (Core specification 1.0, section 5.4, with the sign extensions of 2.0) and the numbers of atomic
+//! instructions (threads proposal, section "Binary format"): which instruction each begins.
 
 ghost use Rattle.std.specs.Prelude.{◌≡◌};
 ghost use Rattle.binary_instructions.specs.Opcodes.{opcode, atomic_number};
@@ -296,11 +296,11 @@ static OPCODES: [Result<Shape, Fault>; 256] = [
     Err(Fault::Float),
     Err(Fault::Float),
     Err(Fault::Float),
-    Err(Fault::UnknownByte),
-    Err(Fault::UnknownByte),
-    Err(Fault::UnknownByte),
-    Err(Fault::UnknownByte),
-    Err(Fault::UnknownByte),
+    Ok(Shape::Numeric(NumericInstr::Convert(ConvertOp::SignExtend(NarrowWidth::I32Bits8)))),
+    Ok(Shape::Numeric(NumericInstr::Convert(ConvertOp::SignExtend(NarrowWidth::I32Bits16)))),
+    Ok(Shape::Numeric(NumericInstr::Convert(ConvertOp::SignExtend(NarrowWidth::I64Bits8)))),
+    Ok(Shape::Numeric(NumericInstr::Convert(ConvertOp::SignExtend(NarrowWidth::I64Bits16)))),
+    Ok(Shape::Numeric(NumericInstr::Convert(ConvertOp::SignExtend(NarrowWidth::I64Bits32)))),
     Err(Fault::UnknownByte),
     Err(Fault::UnknownByte),
     Err(Fault::UnknownByte),
