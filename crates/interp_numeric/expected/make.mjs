@@ -92,6 +92,15 @@ const counts = (n) => {
   return [0n, 1n, 2n, top - 1n, top, mask, some, mask - 1n, some << 4n & mask, 1n << BigInt(n / 2)];
 };
 
+// the lowest m of n bits: both ends of the signed numbers, and bits above them that have to count for nothing
+const extensions = (m, n) => {
+  const { mask } = edge(n);
+  const [least, bits] = [1n << BigInt(m - 1), (1n << BigInt(m)) - 1n];
+  const junk = (n === 32 ? 0x5a3c_69a5n : 0x5a3c_69a5_c396_1e78n) & ~bits & mask;
+  return [0n, 1n, least - 1n, least, bits, mask, bits + 1n, mask - bits, junk, junk + 1n, junk + least - 1n, junk + least,
+    junk + bits, mask - junk];
+};
+
 // ---- the instructions
 
 const unary = ["Clz", "Ctz", "Popcnt"];
@@ -108,7 +117,7 @@ const table = (comment, name, row, rows) =>
 const value = (params, result, opcode, operands) => written(run(params, result, opcode, operands).value, bits(result));
 
 console.log("//! What the numeric instructions give on edge values, written by expected/make.mjs from another engine's answers.");
-console.log("\nuse types::{BinaryOp, CompareOp, Trap, UnaryOp};");
+console.log("\nuse types::{BinaryOp, CompareOp, NarrowWidth, Trap, UnaryOp};");
 
 for (const [type, name, rust, opcodes] of [
   [I32, "I32", "u32", { unary: 0x67, binary: 0x6a, test: 0x45, compare: 0x46 }],
@@ -132,3 +141,12 @@ const wide = counts(64).concat([0xffff_ffffn, 0x1_0000_0000n, 0x8000_0000n, 0xff
 table("An operand, and the low half of it.", "WRAP", "(u64, u32)", wide.map((v) => [written(v, 64), value([I64], I32, 0xa7, [v])]));
 table("An operand, and the same signed number.", "EXTEND_S", "(u32, u64)", counts(32).map((v) => [written(v, 32), value([I32], I64, 0xac, [v])]));
 table("An operand, and the same natural number.", "EXTEND_U", "(u32, u64)", counts(32).map((v) => [written(v, 32), value([I32], I64, 0xad, [v])]));
+
+for (const [type, name, rust, widths] of [
+  [I32, "I32", "u32", [[8, 0xc0], [16, 0xc1]]],
+  [I64, "I64", "u64", [[8, 0xc2], [16, 0xc3], [32, 0xc4]]],
+]) {
+  const n = bits(type);
+  table("A width, an operand, and its low bits as a signed number.", `${name}_SIGN_EXTEND`, `(NarrowWidth, ${rust}, ${rust})`,
+    widths.flatMap(([m, opcode]) => extensions(m, n).map((v) => [`NarrowWidth::${name}Bits${m}`, written(v, n), value([type], type, opcode, [v])])));
+}

@@ -1,17 +1,17 @@
 -- What the machine's operations on an unsigned type give, as the operators on integers of its width.
-use Rattle.std.proofs.Common.{◌≡◌, ℕ, suc, ◌+◌, ◌-◌, ◌*◌, ◌/◌, ◌%◌, ◌^◌, ◌<◌, ◌≤◌, Result, Ok, refl, sym, ap, ◌∙◌, subst, mod-eq_of_lt, arith}
+use Rattle.std.proofs.Common.{◌≡◌, ℕ, suc, ◌+◌, ◌-◌, ◌*◌, ◌/◌, ◌%◌, ◌^◌, ◌<◌, ◌≤◌, Result, Ok, refl, sym, ap, ◌∙◌, subst, mod-eq_of_lt, mod-lt, bit_and, arith}
 use Rattle.std.specs.Prelude.{Option, Some, None, SomeIff, ℤ}
 use Rattle.std.specs.Option.{ok_or}
 use Rattle.std.specs.Int.{Width, w8, w16, w32, w64, w128, cast_signed, cast_unsigned, rotate_left, rotate_right}
 use Rattle.std.specs.Int.Signed.{shr_z, mag_shr}
 use Rattle.std.proofs.lemmas.Int.{to_z-of_z}
-use Rattle.std.proofs.lemmas.Nat.{mod_below}
+use Rattle.std.proofs.lemmas.Nat.{mod_below, pow_pos, and_mask}
 use borrow.Author.Gap.{read_sfits}
 use mir.Val.{bits, hbits}
 use Rattle.types.specs.declared.outcome.Trap.{Trap}
 use Rattle.types.specs.declared.outcome.Trap.TheVariants as traps
 use Rattle.interp_numeric.specs.Bits.{ibits, first_bit}
-use Rattle.interp_numeric.specs.Integers.{signed, unsigned, iadd, isub, imul, idiv_u, irem_u, ishl, ishr_u, ishr_s, irotl, irotr, extend_s, shifted_right}
+use Rattle.interp_numeric.specs.Integers.{signed, unsigned, iadd, isub, imul, idiv_u, irem_u, ishl, ishr_u, ishr_s, irotl, irotr, wrap, extend_s, iextend_s, shifted_right}
 use Rattle.interp_numeric.proofs.Shifts.{shifted_left-is, shifted_right-zeros, rotated_left-is, rotated_right-is}
 use Rattle.interp_numeric.proofs.Signs.{signed-is, unsigned-is, passed, shifted_signed}
 use Rattle.interp_numeric.proofs.Division.{idiv_u-zero, idiv_u-some, irem_u-zero, irem_u-some}
@@ -96,3 +96,12 @@ extended u w i l z answer fits wider e f is =
     let value = ap (cast_unsigned w) (to_z-of_z w (cast_signed u i) (record { sfits = omega arith })) in
     is ∙ ap (λ n. cast_unsigned w (cast_signed w (cast_unsigned w n))) same ∙ value
     ∙ sym (unsigned-is w (signed (bits u) i) ∙ ap (cast_unsigned w) (signed-is u i fits))
+
+-- the low bits of a number, as a signed number of a narrow type u, in a wide type w
+pub extended_low : (u w : Width) (number : ℕ) (l z : ℤ) (answer : ℕ) → 2 ^ hbits u ≤ 2 ^ hbits w → l ≡ cast_signed u (bit_and number (2 ^ bits u - 1)) →
+    z ≡ cast_signed u (cast_unsigned u l) → answer ≡ cast_unsigned w (cast_signed w (cast_unsigned w z)) →
+    answer ≡ iextend_s (bits u) (bits w) number
+unfolding wrap
+extended_low u w number l z answer wider e f is =
+    let low = and_mask number (bits u) in
+    extended u w (bit_and number (2 ^ bits u - 1)) l z answer (rw low (mod-lt number (pow_pos (bits u)))) wider e f is ∙ ap (extend_s (bits u) (bits w)) low

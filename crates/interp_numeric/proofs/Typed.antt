@@ -1,6 +1,7 @@
 -- On operands of the types that it takes, a numeric instruction lacks nothing.
 use Rattle.std.proofs.Common.{◌≡◌, ℕ, List, [], ◌∷◌, ◌++◌, map, Result, Ok, Err, refl, sym, ap, ◌∙◌, subst}
 use Rattle.types.specs.Values.{type_of}
+use Rattle.types.specs.Widths.{narrow_type}
 use Rattle.types.specs.declared.outcome.Trap.{Trap}
 use Rattle.types.specs.declared.value.ValType.{ValType}
 use Rattle.types.specs.declared.value.ValType.TheVariants as types
@@ -11,7 +12,7 @@ use Rattle.types.specs.declared.operators.NumericInstr.{NumericInstr}
 use Rattle.types.specs.declared.operators.NumericInstr.TheVariants as instrs
 use Rattle.interp_numeric.specs.Integers.{ieqz, wrap, extend_u, extend_s}
 use Rattle.interp_numeric.specs.Results.{width, value_of, unary_result, binary_result, compare_result, NumericResult}
-use Rattle.interp_numeric.specs.Results.{Traps, Gives, with_integer, with_two, given, numeric_result}
+use Rattle.interp_numeric.specs.Results.{Traps, Gives, with_integer, with_two, given, sign_extension, numeric_result}
 use Rattle.validate_typing.specs.Typing.{numeric_takes, numeric_gives}
 use Rattle.interp_numeric.specs.Laws.{HasTypes, TypedResults, onto, BelowStays}
 
@@ -101,6 +102,9 @@ works (instrs.Convert convert.ExtendI32S) operands low below h =
 works (instrs.Convert convert.ExtendI32U) operands low below h =
     on_one (instrs.Convert convert.ExtendI32U) types.I32 (λ i. values.I64 (extend_u 32 64 i)) (λ operands. refl)
     (λ i. refl) operands low below h
+works (instrs.Convert (convert.SignExtend w)) operands low below h =
+    on_one (instrs.Convert (convert.SignExtend w)) (narrow_type w) (sign_extension w) (λ operands. refl)
+    (λ i. type_of-value_of (narrow_type w) _) operands low below h
 
 has_types : (n : NumericInstr) (operands : List Value) (below : List ValType) → Works n operands [] below → HasTypes n below (numeric_result n operands)
 has_types n operands below (Leaves v rest p q t h) = rw p (rw (t, h) refl)

@@ -1,6 +1,6 @@
 //! What the numeric instructions give on edge values, written by expected/make.mjs from another engine's answers.
 
-use types::{BinaryOp, CompareOp, Trap, UnaryOp};
+use types::{BinaryOp, CompareOp, NarrowWidth, Trap, UnaryOp};
 
 /// An operator, its operand, and what it gives.
 pub static I32_UNARY: [(UnaryOp, u32, u32); 30] = [
@@ -708,4 +708,90 @@ pub static EXTEND_U: [(u32, u64); 10] = [
     (!1, 0xffff_fffe),
     (0x2345_6780, 0x2345_6780),
     (1 << 16, 1 << 16),
+];
+
+/// A width, an operand, and its low bits as a signed number.
+pub static I32_SIGN_EXTEND: [(NarrowWidth, u32, u32); 28] = [
+    (NarrowWidth::I32Bits8, 0, 0),
+    (NarrowWidth::I32Bits8, 1, 1),
+    (NarrowWidth::I32Bits8, 127, 127),
+    (NarrowWidth::I32Bits8, 128, !127),
+    (NarrowWidth::I32Bits8, 255, !0),
+    (NarrowWidth::I32Bits8, !0, !0),
+    (NarrowWidth::I32Bits8, 256, 0),
+    (NarrowWidth::I32Bits8, !255, 0),
+    (NarrowWidth::I32Bits8, 0x5a3c_6900, 0),
+    (NarrowWidth::I32Bits8, 0x5a3c_6901, 1),
+    (NarrowWidth::I32Bits8, 0x5a3c_697f, 127),
+    (NarrowWidth::I32Bits8, 0x5a3c_6980, !127),
+    (NarrowWidth::I32Bits8, 0x5a3c_69ff, !0),
+    (NarrowWidth::I32Bits8, 0xa5c3_96ff, !0),
+    (NarrowWidth::I32Bits16, 0, 0),
+    (NarrowWidth::I32Bits16, 1, 1),
+    (NarrowWidth::I32Bits16, 0x0000_7fff, 0x0000_7fff),
+    (NarrowWidth::I32Bits16, 1 << 15, 0xffff_8000),
+    (NarrowWidth::I32Bits16, 0x0000_ffff, !0),
+    (NarrowWidth::I32Bits16, !0, !0),
+    (NarrowWidth::I32Bits16, 1 << 16, 0),
+    (NarrowWidth::I32Bits16, 0xffff_0000, 0),
+    (NarrowWidth::I32Bits16, 0x5a3c_0000, 0),
+    (NarrowWidth::I32Bits16, 0x5a3c_0001, 1),
+    (NarrowWidth::I32Bits16, 0x5a3c_7fff, 0x0000_7fff),
+    (NarrowWidth::I32Bits16, 0x5a3c_8000, 0xffff_8000),
+    (NarrowWidth::I32Bits16, 0x5a3c_ffff, !0),
+    (NarrowWidth::I32Bits16, 0xa5c3_ffff, !0),
+];
+
+/// A width, an operand, and its low bits as a signed number.
+pub static I64_SIGN_EXTEND: [(NarrowWidth, u64, u64); 42] = [
+    (NarrowWidth::I64Bits8, 0, 0),
+    (NarrowWidth::I64Bits8, 1, 1),
+    (NarrowWidth::I64Bits8, 127, 127),
+    (NarrowWidth::I64Bits8, 128, !127),
+    (NarrowWidth::I64Bits8, 255, !0),
+    (NarrowWidth::I64Bits8, !0, !0),
+    (NarrowWidth::I64Bits8, 256, 0),
+    (NarrowWidth::I64Bits8, !255, 0),
+    (NarrowWidth::I64Bits8, 0x5a3c_69a5_c396_1e00, 0),
+    (NarrowWidth::I64Bits8, 0x5a3c_69a5_c396_1e01, 1),
+    (NarrowWidth::I64Bits8, 0x5a3c_69a5_c396_1e7f, 127),
+    (NarrowWidth::I64Bits8, 0x5a3c_69a5_c396_1e80, !127),
+    (NarrowWidth::I64Bits8, 0x5a3c_69a5_c396_1eff, !0),
+    (NarrowWidth::I64Bits8, 0xa5c3_965a_3c69_e1ff, !0),
+    (NarrowWidth::I64Bits16, 0, 0),
+    (NarrowWidth::I64Bits16, 1, 1),
+    (NarrowWidth::I64Bits16, 0x0000_7fff, 0x0000_7fff),
+    (NarrowWidth::I64Bits16, 1 << 15, 0xffff_ffff_ffff_8000),
+    (NarrowWidth::I64Bits16, 0x0000_ffff, !0),
+    (NarrowWidth::I64Bits16, !0, !0),
+    (NarrowWidth::I64Bits16, 1 << 16, 0),
+    (NarrowWidth::I64Bits16, 0xffff_ffff_ffff_0000, 0),
+    (NarrowWidth::I64Bits16, 0x5a3c_69a5_c396_0000, 0),
+    (NarrowWidth::I64Bits16, 0x5a3c_69a5_c396_0001, 1),
+    (NarrowWidth::I64Bits16, 0x5a3c_69a5_c396_7fff, 0x0000_7fff),
+    (
+        NarrowWidth::I64Bits16,
+        0x5a3c_69a5_c396_8000,
+        0xffff_ffff_ffff_8000,
+    ),
+    (NarrowWidth::I64Bits16, 0x5a3c_69a5_c396_ffff, !0),
+    (NarrowWidth::I64Bits16, 0xa5c3_965a_3c69_ffff, !0),
+    (NarrowWidth::I64Bits32, 0, 0),
+    (NarrowWidth::I64Bits32, 1, 1),
+    (NarrowWidth::I64Bits32, 0x7fff_ffff, 0x7fff_ffff),
+    (NarrowWidth::I64Bits32, 1 << 31, 0xffff_ffff_8000_0000),
+    (NarrowWidth::I64Bits32, 0xffff_ffff, !0),
+    (NarrowWidth::I64Bits32, !0, !0),
+    (NarrowWidth::I64Bits32, 1 << 32, 0),
+    (NarrowWidth::I64Bits32, 0xffff_ffff_0000_0000, 0),
+    (NarrowWidth::I64Bits32, 0x5a3c_69a5_0000_0000, 0),
+    (NarrowWidth::I64Bits32, 0x5a3c_69a5_0000_0001, 1),
+    (NarrowWidth::I64Bits32, 0x5a3c_69a5_7fff_ffff, 0x7fff_ffff),
+    (
+        NarrowWidth::I64Bits32,
+        0x5a3c_69a5_8000_0000,
+        0xffff_ffff_8000_0000,
+    ),
+    (NarrowWidth::I64Bits32, 0x5a3c_69a5_ffff_ffff, !0),
+    (NarrowWidth::I64Bits32, 0xa5c3_965a_ffff_ffff, !0),
 ];

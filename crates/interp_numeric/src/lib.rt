@@ -10,7 +10,7 @@ mod narrow;
 mod tests;
 mod wide;
 
-pub use convert::{i32_wrap_i64, i64_extend_i32_s, i64_extend_i32_u};
+pub use convert::{i32_wrap_i64, i64_extend_i32_s, i64_extend_i32_u, sign_extended};
 pub use laws::{below_stays, typed_results, unsigned_of_signed};
 pub use narrow::{i32_binary, i32_compare, i32_eqz, i32_unary};
 pub use wide::{i64_binary, i64_compare, i64_eqz, i64_unary};

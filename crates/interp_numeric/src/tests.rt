@@ -1,14 +1,15 @@
 //! Each instruction on edge values, against another engine's answers.
 
 use crate::expected::{
-    EXTEND_S, EXTEND_U, I32_BINARY, I32_COMPARE, I32_EQZ, I32_UNARY, I64_BINARY, I64_COMPARE,
-    I64_EQZ, I64_UNARY, WRAP,
+    EXTEND_S, EXTEND_U, I32_BINARY, I32_COMPARE, I32_EQZ, I32_SIGN_EXTEND, I32_UNARY, I64_BINARY,
+    I64_COMPARE, I64_EQZ, I64_SIGN_EXTEND, I64_UNARY, WRAP,
 };
 use crate::{
     i32_binary, i32_compare, i32_eqz, i32_unary, i32_wrap_i64, i64_binary, i64_compare, i64_eqz,
-    i64_extend_i32_s, i64_extend_i32_u, i64_unary,
+    i64_extend_i32_s, i64_extend_i32_u, i64_unary, sign_extended,
 };
 use std::test::Fail;
+use types::Value;
 
 #[test]
 fn operators_on_32_bits(rt: HostRuntime) -> Result<(), Fail> {
@@ -59,6 +60,18 @@ fn conversions(rt: HostRuntime) -> Result<(), Fail> {
     }
     for (operand, answer) in &EXTEND_U {
         assert_eq!(rt; i64_extend_i32_u(*operand), *answer);
+    }
+    Ok(())
+}
+
+#[test]
+fn sign_extensions(rt: HostRuntime) -> Result<(), Fail> {
+    for (width, operand, answer) in &I32_SIGN_EXTEND {
+        let extended = sign_extended(*width, u64::from(*operand));
+        assert_eq!(rt; extended, Value::I32(*answer));
+    }
+    for (width, operand, answer) in &I64_SIGN_EXTEND {
+        assert_eq!(rt; sign_extended(*width, *operand), Value::I64(*answer));
     }
     Ok(())
 }
