@@ -4,7 +4,7 @@ ghost use Rattle.std.specs.Prelude.{◌≡◌};
 ghost use Rattle.interp_machine.specs.Access.{loaded_value};
 ghost use Rattle.types.specs.declared.operators.LoadOp.{LoadOp};
 
-use interp_numeric::{i32_wrap_i64, i64_extend_i32_s};
+use interp_numeric::{i32_wrap_i64, sign_extended};
 use types::{AccessWidth, LoadOp, NarrowWidth, ValType, Value};
 
 /// The low bits, and zeros above them.
@@ -20,32 +20,6 @@ fn zero_extended(width: AccessWidth, number: u64) -> Value
         AccessWidth::Narrow(NarrowWidth::I64Bits8) => Value::I64(number & 0xff),
         AccessWidth::Narrow(NarrowWidth::I64Bits16) => Value::I64(number & 0xffff),
         AccessWidth::Narrow(NarrowWidth::I64Bits32) => Value::I64(number & 0xffff_ffff),
-    }
-}
-
-/// The low bits, and copies of their sign above them.
-#[inline]
-fn sign_extended(width: NarrowWidth, number: u64) -> Value
-    ensures { result ≡ loaded_value (LoadOp.SignExtend width) number }
-{
-    match width {
-        NarrowWidth::I32Bits8 => {
-            let low = ((number & 0xff) as u8).cast_signed();
-            Value::I32(i32::from(low).cast_unsigned())
-        }
-        NarrowWidth::I32Bits16 => {
-            let low = ((number & 0xffff) as u16).cast_signed();
-            Value::I32(i32::from(low).cast_unsigned())
-        }
-        NarrowWidth::I64Bits8 => {
-            let low = ((number & 0xff) as u8).cast_signed();
-            Value::I64(i64::from(low).cast_unsigned())
-        }
-        NarrowWidth::I64Bits16 => {
-            let low = ((number & 0xffff) as u16).cast_signed();
-            Value::I64(i64::from(low).cast_unsigned())
-        }
-        NarrowWidth::I64Bits32 => Value::I64(i64_extend_i32_s(i32_wrap_i64(number))),
     }
 }
 
