@@ -10,8 +10,6 @@ mod prepared;
 mod recorder;
 mod rule;
 mod steps;
-#[cfg(test)]
-mod tests;
 
 pub use keeper::Finished;
 pub use prepared::Prepared;

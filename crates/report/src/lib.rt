@@ -6,8 +6,6 @@ mod job;
 mod loading;
 mod replaying;
 mod running;
-#[cfg(test)]
-mod tests;
 
 pub use job::{check, perform, replay_saved};
 pub use loading::{Refusal, load};

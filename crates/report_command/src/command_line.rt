@@ -1,7 +1,8 @@
 //! The command line.
-ghost use Rattle.std.specs.Prelude.{◌≤◌, IfOk, IfSome};
+ghost use Rattle.std.specs.Prelude.{◌≡◌, ◌≤◌, IfOk, IfSome};
 ghost use Rattle.types.specs.Limits.{most_limit, most_fuel};
 ghost use Rattle.report_command.specs.Jobs.{IsInRange};
+ghost use Rattle.report_command.specs.FaultNumbers.{usage_number};
 
 use clap::error::ErrorKind;
 use clap::{Arg, ArgMatches, Command, Error, value_parser};
@@ -61,6 +62,19 @@ pub enum Usage {
     Help(Error),
     /// 3: the system had too little memory left.
     NoMemory,
+}
+
+impl Usage {
+    /// The fault's number, 1 to 3.
+    pub fn number(&self) -> u8
+        ensures { result ≡ usage_number self.now }
+    {
+        match self {
+            Usage::Wrong(_) => 1,
+            Usage::Help(_) => 2,
+            Usage::NoMemory => 3,
+        }
+    }
 }
 
 impl From<Error> for Usage {

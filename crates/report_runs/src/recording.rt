@@ -4,6 +4,7 @@ ghost use Rattle.types.specs.Limits.{most_threads, most_limit};
 ghost use Rattle.spawn_host.specs.Runs.{opening_memory};
 ghost use Rattle.replay.specs.Runs.{IsRunOf};
 ghost use Rattle.report_runs.specs.Ends.{RecordsRun};
+ghost use Rattle.report_runs.specs.FaultNumbers.{record_run_fault_number};
 
 use crate::fitting::show_parts_fit;
 use interp_trait::Gate;
@@ -36,6 +37,20 @@ pub enum RecordRunFault {
     /// 4: the fuel passes 1,000,000,000,000 units.
     #[error("fuel")]
     Fuel,
+}
+
+impl RecordRunFault {
+    /// The fault's number, 1 to 4.
+    pub fn number(self) -> u8
+        ensures { result ≡ record_run_fault_number self }
+    {
+        match self {
+            RecordRunFault::Open(_) => 1,
+            RecordRunFault::Run(_) => 2,
+            RecordRunFault::NoMemory => 3,
+            RecordRunFault::Fuel => 4,
+        }
+    }
 }
 
 impl From<AllocError> for RecordRunFault {

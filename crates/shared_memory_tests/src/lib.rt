@@ -9,6 +9,10 @@ mod recorder;
 #[cfg(test)]
 mod row;
 #[cfg(test)]
+mod row_alone;
+#[cfg(test)]
 mod sequential;
 #[cfg(test)]
 mod singles;
+#[cfg(test)]
+mod two_callers;

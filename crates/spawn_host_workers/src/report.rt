@@ -1,4 +1,7 @@
 //! What a run gives, and why it can give nothing.
+ghost use Rattle.std.specs.Prelude.{◌≡◌};
+ghost use Rattle.spawn_host_workers.specs.Faults.{run_fault_number};
+
 use thiserror::Error;
 use types::ThreadReport;
 
@@ -14,16 +17,30 @@ pub struct RunEnd<S> {
 /// Why there's no run.
 #[derive(Clone, Copy, PartialEq, Eq, Debug, Error)]
 pub enum RunFault {
-    /// The system had too little memory left.
+    /// 1: the system had too little memory left.
     #[error("no memory")]
     NoMemory,
-    /// No function is exported under the name.
+    /// 2: no function is exported under the name.
     #[error("unknown export")]
     UnknownExport,
-    /// The arguments aren't of the function's types.
+    /// 3: the arguments aren't of the function's types.
     #[error("wrong arguments")]
     WrongArguments,
-    /// The system started no further thread.
+    /// 4: the system started no further thread.
     #[error("no thread")]
     NoThread,
+}
+
+impl RunFault {
+    /// The fault's number, 1 to 4.
+    pub fn number(self) -> u8
+        ensures { result ≡ run_fault_number self }
+    {
+        match self {
+            RunFault::NoMemory => 1,
+            RunFault::UnknownExport => 2,
+            RunFault::WrongArguments => 3,
+            RunFault::NoThread => 4,
+        }
+    }
 }

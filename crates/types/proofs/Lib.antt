@@ -1,2 +1,3 @@
+pub mod Equal
 pub mod Nested
 pub mod Found

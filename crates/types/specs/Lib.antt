@@ -1,6 +1,7 @@
 pub mod Values
 pub mod Outcomes
 pub mod Widths
+pub mod Equal
 pub mod Nesting
 pub mod Limits
 pub mod Within

@@ -1,4 +1,3 @@
-pub mod Types
 pub mod Rules
 pub mod ExportLaws
 pub mod WholeLaws

@@ -25,11 +25,11 @@ use Rattle.types.specs.Values.{type_of}
 use Rattle.validate_typing.specs.declared.fault.Fault.{Fault}
 use Rattle.validate_typing.specs.declared.fault.Fault.TheVariants as faults
 use Rattle.validate_typing.specs.Validity.{IsValidType, IsValidImport, IsValidImportOf, IsValidTable, IsValidMemory, IsConstant, IsValidGlobal}
-use Rattle.validate_module_rules.specs.Faults.{unless, first_of, has_type, types_fault, spawn_type_fault, is_import}
+use Rattle.validate_module_rules.specs.Faults.{unless, first_of, types_fault, spawn_type_fault, is_import}
 use Rattle.validate_module_rules.specs.Faults.{import_fault, import_fault_of, imports_fault, functions_fault}
 use Rattle.validate_module_rules.specs.Faults.{is_ordered, is_ordered_to, tables_fault, memory_fault, memories_fault}
 use Rattle.validate_module_rules.specs.Faults.{constant_in, value_fault, constant_fault, global_fault}
-use Rattle.validate_module_rules.proofs.Types.{Decides-type, Decides-types}
+use Rattle.types.proofs.Equal.{Decides-type, Decides-has_type}
 
 -- There is no fault exactly where a rule is kept.
 abbrev pub Tells : Option Fault → Type 0 → Type 0
@@ -70,9 +70,6 @@ pub Tells-types : (types : List FuncType) → Tells (types_fault types) (All IsV
 Tells-types types = Tells-unless _ faults.MoreThanOne (Decides-all (λ t. nat_le (length t.results) 1) IsValidType (λ t. Decides-leb (length t.results) 1) types)
 
 -- imports
-
-pub Decides-has_type : (t : FuncType) (params results : List ValType) → Decides (has_type t params results) ((t.params ≡ params) × (t.results ≡ results))
-Decides-has_type t params results = Decides-and _ _ (Decides-types t.params params) (Decides-types t.results results)
 
 -- the type of an index is this one
 abbrev IsTypedAs : Option FuncType → List ValType → List ValType → Type 0

@@ -29,8 +29,9 @@ use Rattle.validate_module_rules.specs.Faults.{data_fault_in, data_fault, export
 use Rattle.validate_module_rules.specs.Faults.{takes_two, threads_fault, start_fault, names_fault}
 use Rattle.validate_module_rules.specs.Faults.{uses_fault, fault_outside}
 use Rattle.validate_module_rules.specs.Exported.{IsExported, HasValidBodies}
+use Rattle.types.proofs.Equal.{Decides-has_type}
 use Rattle.validate_module_rules.proofs.Rules.{Tells, Tells-like, Tells-unless, Tells-never, Tells-both, Tells-each}
-use Rattle.validate_module_rules.proofs.Rules.{Decides-leb, Decides-lt, Decides-all, Decides-has_type, Tells-types}
+use Rattle.validate_module_rules.proofs.Rules.{Decides-leb, Decides-lt, Decides-all, Tells-types}
 use Rattle.validate_module_rules.proofs.Rules.{Tells-imports, Tells-functions, Tells-tables, Tells-memories}
 use Rattle.validate_module_rules.proofs.Rules.{Tells-constant, Tells-globals}
 use Rattle.validate_module_rules.proofs.ExportLaws.{Tells-exports, exported_from, exported_is}

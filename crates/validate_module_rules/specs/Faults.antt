@@ -6,7 +6,7 @@ use Rattle.std.specs.Option.{option_or}
 use Rattle.std.specs.List.{slice_get, list_all, list_any}
 use Rattle.std.specs.Str.{bytes_eq}
 use Rattle.types.specs.declared.value.ValType.{ValType}
-use Rattle.types.specs.declared.value.ValType.TheVariants.{I32, I64}
+use Rattle.types.specs.declared.value.ValType.TheVariants.{I32}
 use Rattle.types.specs.declared.value.Value.{Value}
 use Rattle.types.specs.declared.operators.NumericInstr.TheVariants as numeric
 use Rattle.types.specs.declared.instr.PlainInstr.TheVariants as plain
@@ -26,6 +26,7 @@ use Rattle.types.specs.declared.parts.DataSegment.{DataSegment}
 use Rattle.types.specs.declared.parts.Parts.{Parts}
 use Rattle.types.specs.Values.{type_of}
 use Rattle.types.specs.Limits.{page_size}
+use Rattle.types.specs.Equal.{is_type, has_type}
 use Rattle.validate_typing.specs.declared.fault.Fault.{Fault}
 use Rattle.validate_typing.specs.declared.fault.Fault.TheVariants as faults
 use Rattle.validate_typing.specs.Context.{imported_functions, functions_of, memories_of}
@@ -41,27 +42,12 @@ abbrev pub first_of : {X : Type 0} → (X → Option Fault) → List X → Optio
 first_of f [] = None
 first_of f (x ∷ xs) = option_or (f x) (first_of f xs)
 
-abbrev pub is_type : ValType → ValType → Bool
-is_type I32 I32 = true
-is_type I32 I64 = false
-is_type I64 I32 = false
-is_type I64 I64 = true
-
-abbrev pub are_types : List ValType → List ValType → Bool
-are_types [] [] = true
-are_types [] (u ∷ us) = false
-are_types (t ∷ ts) [] = false
-are_types (t ∷ ts) (u ∷ us) = is_type t u && are_types ts us
-
 -- Types.
 
 abbrev pub types_fault : List FuncType → Option Fault
 types_fault types = unless (list_all (λ t. nat_le (length t.results) 1) types) faults.MoreThanOne
 
 -- Imports.
-
-abbrev pub has_type : FuncType → List ValType → List ValType → Bool
-has_type t params results = are_types t.params params && are_types t.results results
 
 abbrev pub spawn_type_fault : Option FuncType → Option Fault
 spawn_type_fault None = Some faults.UnknownType

@@ -1,7 +1,8 @@
 //! The rules of imports, and of function types by index.
 
 ghost use Rattle.std.specs.Prelude.{◌≡◌};
-ghost use Rattle.validate_module_rules.specs.Faults.{are_types, has_type, is_import, import_fault};
+ghost use Rattle.validate_module_rules.specs.Faults.{is_import, import_fault};
+ghost use Rattle.types.specs.Equal.{are_types, has_type};
 ghost use Rattle.validate_module_rules.specs.Faults.{imports_fault, functions_fault, spawn_type_fault};
 ghost use Rattle.std.specs.List.{slice_get};
 

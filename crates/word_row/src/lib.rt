@@ -13,8 +13,6 @@ mod prepared;
 mod row;
 mod seat;
 mod steps;
-#[cfg(test)]
-mod tests;
 mod tries;
 
 pub use closed::ClosedRow;

@@ -1,4 +1,4 @@
-use Rattle.std.proofs.Common.{◌≡◌, List, [], ◌∷◌, get_or, Bool, true, false, ◌&&◌, if◌then◌else◌, refl, ◌∙◌, ap}
+use Rattle.std.proofs.Common.{◌≡◌, List, get_or, Bool, ◌&&◌, refl, ◌∙◌, ap}
 use Rattle.std.proofs.lemmas.Option.{get_or_from_slice_get}
 use Rattle.std.specs.Cmp.Lexicographic.{pointwise}
 use Rattle.types.specs.declared.value.ValType.{ValType}
@@ -6,35 +6,24 @@ use Rattle.types.specs.declared.value.ValType.TheVariants as types
 use Rattle.types.specs.declared.parts.FuncType.{FuncType}
 use denote.Enum.Bare.{sameb}
 use Rattle.types.specs.contracts.value.ValType.{the_type}
-use Rattle.interp_machine.specs.Step.{same_val_type, same_types, same_type}
+use Rattle.types.specs.Equal.{is_type, are_types}
+use Rattle.types.proofs.Equal.{pointwise_types}
+use Rattle.interp_machine.specs.Step.{same_type}
 use Rattle.interp_calls.proofs.indices.is_of_type.Goals as goal
 
-same_vals : (x y : ValType) → sameb the_type x y ≡ same_val_type x y
-same_vals types.I32 types.I32 = refl
-same_vals types.I32 types.I64 = refl
-same_vals types.I64 types.I32 = refl
-same_vals types.I64 types.I64 = refl
-
-and_if : (a b : Bool) → (a && b) ≡ (if a then b else false)
-and_if true b = refl
-and_if false b = refl
-
--- lists that are compared item by item
-same_lists : (e : ValType → ValType → Bool) → ((x y : ValType) → e x y ≡ same_val_type x y) → (xs ys : List ValType) → pointwise e xs ys ≡ same_types xs ys
-same_lists e h [] [] = refl
-same_lists e h [] (y ∷ ys) = refl
-same_lists e h (x ∷ xs) [] = refl
-same_lists e h (x ∷ xs) (y ∷ ys) = ap (λ (b : Bool). b && pointwise e xs ys) (h x y)
-    ∙ ap (λ (b : Bool). same_val_type x y && b) (same_lists e h xs ys) ∙ and_if (same_val_type x y) (same_types xs ys)
+same : (x y : ValType) → sameb the_type x y ≡ is_type x y
+same types.I32 types.I32 = refl
+same types.I32 types.I64 = refl
+same types.I64 types.I32 = refl
+same types.I64 types.I64 = refl
 
 compared : (r : Bool) (s t : FuncType) → r ≡
     (pointwise (λ x y. sameb the_type x y) s.params t.params && pointwise (λ x y. sameb the_type x y) s.results
     t.results) →
     r ≡ same_type s t
 compared r s t h =
-    h ∙ ap (λ (b : Bool). b && pointwise (λ x y. sameb the_type x y) s.results t.results) (same_lists (λ x y. sameb the_type x y) same_vals s.params t.params)
-    ∙ ap (λ (b : Bool). same_types s.params t.params && b) (same_lists (λ x y. sameb the_type x y) same_vals s.results t.results)
-    ∙ and_if (same_types s.params t.params) (same_types s.results t.results)
+    h ∙ ap (λ (b : Bool). b && pointwise (λ x y. sameb the_type x y) s.results t.results) (pointwise_types (λ x y. sameb the_type x y) same s.params t.params)
+    ∙ ap (λ (b : Bool). are_types s.params t.params && b) (pointwise_types (λ x y. sameb the_type x y) same s.results t.results)
 
 pub returns : goal.returns
 returns c = λ t stated k e.

@@ -2,8 +2,8 @@ use Rattle.std.proofs.Common.{◌≡◌, refl, ◌∙◌}
 use Rattle.types.specs.declared.value.ValType.{ValType}
 use Rattle.types.specs.declared.value.ValType.TheVariants.{I32, I64}
 use Rattle.types.specs.contracts.value.ValTypePartialEq.TheImpl.{eq-value}
-use Rattle.validate_module_rules.specs.Faults.{is_type}
-use Rattle.validate_module_rules.proofs.Types.{pointwise_types}
+use Rattle.types.specs.Equal.{is_type}
+use Rattle.types.proofs.Equal.{pointwise_types}
 use Rattle.validate_module_rules.proofs.imports.are_types.Goals as goal
 
 same : (t u : ValType) → eq-value.it t u ≡ is_type t u

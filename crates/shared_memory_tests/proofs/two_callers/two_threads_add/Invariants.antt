@@ -1,4 +1,4 @@
-use Rattle.locked_recorder.proofs.tests.two_threads_add.Given as goal
+use Rattle.shared_memory_tests.proofs.two_callers.two_threads_add.Given as goal
 
 -- the recorder that was just prepared
 abbrev pub ghosts-add_in_turn : goal.ghosts-add_in_turn

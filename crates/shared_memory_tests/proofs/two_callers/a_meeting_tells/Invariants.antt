@@ -1,4 +1,4 @@
-use Rattle.locked_recorder.proofs.tests.a_meeting_tells.Given as goal
+use Rattle.shared_memory_tests.proofs.two_callers.a_meeting_tells.Given as goal
 
 -- the recorder that was just prepared
 abbrev pub ghosts-tell : goal.ghosts-tell

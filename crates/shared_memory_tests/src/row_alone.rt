@@ -1,12 +1,12 @@
-//! What no clause says: faults of opening, and a row opened, used by one caller and closed.
+//! A row of words by one caller: the faults of opening, and a row opened, used and closed.
 ghost use Rattle.std.specs.Prelude.{◌≡◌};
 
-use crate::{Naming, OpenFault, Prepared, WordRow};
 use shared_memory::SharedMemory;
 use std::alloc::Global;
 use std::marker::Brand;
 use std::test::Fail;
 use types::{Event, Reply};
+use word_row::{Naming, OpenFault, Prepared, WordRow};
 
 /// A page of zeros.
 const PAGE: [u8; 65536] = [0; 65536];

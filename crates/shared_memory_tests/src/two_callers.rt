@@ -1,7 +1,7 @@
 //! Runs of two callers over one recorder, with the expected values written out by hand.
 ghost use Rattle.std.specs.Prelude.{◌≡◌};
 
-use crate::{Finished, LockedRecorder, LockedSeat, Naming, OpenFault, Prepared};
+use locked_recorder::{Finished, LockedRecorder, LockedSeat, Naming, OpenFault, Prepared};
 use shared_memory::SharedMemory;
 use std::alloc::{AllocError, Global};
 use std::marker::Brand;

@@ -1,5 +1,5 @@
 //! What no clause says: printed text, statuses, and each call once with ample memory.
-use crate::{Job, Usage, check, command};
+use report::{Job, Usage, check, command};
 use std::alloc::{AllocError, Global};
 use std::test::Fail;
 

@@ -1,4 +1,4 @@
-use Rattle.locked_recorder.proofs.tests.a_full_log_holds_back.Given as goal
+use Rattle.shared_memory_tests.proofs.two_callers.a_full_log_holds_back.Given as goal
 
 -- the recorder that was just prepared
 abbrev pub ghosts-load_four_times : goal.ghosts-load_four_times
