@@ -48,7 +48,7 @@ waiting_frame f rest below = record f { code = rest; operands = below }
 abbrev pub inner : Config → Code → List Value → List Value → FuncType → Function → Config
 inner c rest args below t own = record c { frame = opened_frame t own args; callers = waiting_frame c.frame rest below ∷ c.callers }
 
-zeros_typed : (ts : List ValType) → map type_of (map zero_of ts) ≡ ts
+pub zeros_typed : (ts : List ValType) → map type_of (map zero_of ts) ≡ ts
 zeros_typed [] = refl
 zeros_typed (types.I32 ∷ ts) = ap (λ (x : List ValType). types.I32 ∷ x) (zeros_typed ts)
 zeros_typed (types.I64 ∷ ts) = ap (λ (x : List ValType). types.I64 ∷ x) (zeros_typed ts)
@@ -59,7 +59,7 @@ types_reversed (v ∷ vs) =
     ap (map type_of) (reverse-append (v ∷ []) vs) ∙ map-append type_of (reverse vs) (v ∷ [])
     ∙ ap (λ (x : List ValType). x ++ (type_of v ∷ [])) (types_reversed vs) ∙ sym (reverse-append (type_of v ∷ []) (map type_of vs))
 
-locals_typed : (args : List Value) (params locals : List ValType) → map type_of args ≡ reverse params →
+pub locals_typed : (args : List Value) (params locals : List ValType) → map type_of args ≡ reverse params →
     map type_of (reverse args ++ map zero_of locals) ≡ params ++ locals
 locals_typed args params locals h =
     map-append type_of (reverse args) (map zero_of locals)

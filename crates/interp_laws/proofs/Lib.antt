@@ -1,0 +1,3 @@
+mod Typed
+mod Steps
+mod Threads
