@@ -19,7 +19,41 @@ pub struct Task {
     pub times: u32,
 }
 
+/// The first byte of the word that a seat of this name uses: the one word of all, or the seat's own.
+fn word_of(rounds: Rounds, name: u32) -> u64
+    requires { name ≤ desk_name }
+    ensures aligned { result % 8 ≡ 0 }
+    ensures near { result ≤ 1024 }
+{
+    match rounds {
+        Rounds::Together => 0,
+        Rounds::InTurn | Rounds::Apart => 64 * u64::from(name),
+    }
+}
+
+/// Whether a round has a load: where loads go in turn with changes, each odd one.
+#[inline(always)]
+fn is_load(rounds: Rounds, round: u32) -> bool {
+    rounds == Rounds::InTurn && round % 2 == 1
+}
+
+/// The load of the word at an address.
+#[inline(always)]
+fn load_at(addr: u64) -> Event
+    requires aligned { addr % 8 ≡ 0 }
+    requires near { addr ≤ 1024 }
+    ensures event { IsEvent result }
+    ensures plain { is_of_queue result ≡ false }
+{
+    Event::Load {
+        addr,
+        width: 8,
+        reach: addr + 8,
+    }
+}
+
 /// The change of the word at an address, in a round.
+#[inline(always)]
 fn change_at(change: Change, addr: u64, round: u32) -> Event
     requires aligned { addr % 8 ≡ 0 }
     requires near { addr ≤ 1024 }
@@ -51,45 +85,52 @@ fn change_at(change: Change, addr: u64, round: u32) -> Event
     }
 }
 
-/// The access of a round by a seat of this name: a change of the one word or of the seat's own; where it goes in turn with
-/// loads, those are the odd rounds.
-fn event_of(task: Task, round: u32, name: u32) -> Event
-    requires { name ≤ desk_name }
-    ensures event { IsEvent result }
-    ensures plain { is_of_queue result ≡ false }
-{
-    let addr = match task.rounds {
-        Rounds::Together => 0,
-        Rounds::InTurn | Rounds::Apart => 64 * u64::from(name),
-    };
-    if task.rounds == Rounds::InTurn && round % 2 == 1 {
-        return Event::Load {
-            addr,
-            width: 8,
-            reach: addr + 8,
-        };
+/// What the accesses of one thread came to.
+#[derive(Clone, Copy)]
+pub struct Tally {
+    /// How many were answered, and their tries neither lost nor refused by a full log.
+    pub answered: u32,
+    /// The sum of the values in the replies, modulo 2^64.
+    pub sum: u64,
+}
+
+impl Tally {
+    /// One more access.
+    #[inline(always)]
+    fn note(&mut self, reply: Reply) {
+        if matches!(reply, Reply::Again | Reply::Full) {
+            return;
+        }
+        self.answered = self.answered.saturating_add(1);
+        if let Reply::Value(value) = reply {
+            self.sum = self.sum.wrapping_add(value);
+        }
     }
-    change_at(task.change, addr, round)
 }
 
-/// Whether an event was answered, and its try neither lost nor refused by a full log.
-fn is_answered(reply: Reply) -> bool {
-    !matches!(reply, Reply::Again | Reply::Full)
-}
+/// No access.
+const NONE: Tally = Tally {
+    answered: 0,
+    sum: 0,
+};
 
-/// Makes the accesses over any shared memory; answers the seat, and how many were answered.
-pub fn perform<M: SharedMemory>(memory: &M, mut seat: M::Seat, task: Task) -> (M::Seat, u32) {
-    let name = memory.name(&seat);
-    let mut answered = 0u32;
+/// Makes the accesses over any shared memory; answers the seat, and what they came to.
+pub fn perform<M: SharedMemory>(memory: &M, mut seat: M::Seat, task: Task) -> (M::Seat, Tally) {
+    let addr = word_of(task.rounds, memory.name(&seat));
+    let mut tally = NONE;
     for round in 0..task.times {
-        let event = event_of(task, round, name);
-        let reply = memory.access(&mut seat, event);
-        answered = answered.saturating_add(u32::from(is_answered(reply)));
+        let event = if is_load(task.rounds, round) {
+            load_at(addr)
+        } else {
+            change_at(task.change, addr, round)
+        };
+        tally.note(memory.access(&mut seat, event));
     }
-    (seat, answered)
+    (seat, tally)
 }
 
 /// Makes an access over a row of words, by the call that waits for nobody, again and again while its tries are lost.
+#[inline(always)]
 fn make<B: Naming>(row: &WordRow<B>, seat: &mut WordSeat<B>, event: Event) -> Reply
     requires event { IsEvent event }
     requires plain { is_of_queue event ≡ false }
@@ -103,18 +144,41 @@ fn make<B: Naming>(row: &WordRow<B>, seat: &mut WordSeat<B>, event: Event) -> Re
     Reply::Again
 }
 
-/// Makes the accesses over a row of words; answers the seat, and how many were answered.
-pub fn perform_on_words<B: Naming>(
+/// The accesses of a task over a row of words, whose changes are all of this kind: written into each of its callers, so
+/// that each has a loop of its own.
+#[inline(always)]
+fn make_all<B: Naming>(
     row: &WordRow<B>,
     mut seat: WordSeat<B>,
     task: Task,
-) -> (WordSeat<B>, u32) {
-    let name = seat.caller.name();
-    let mut answered = 0u32;
+    change: Change,
+) -> (WordSeat<B>, Tally) {
+    let addr = word_of(task.rounds, seat.caller.name());
+    let mut tally = NONE;
     for round in 0..task.times {
-        let event = event_of(task, round, name);
-        let reply = make(row, &mut seat, event);
-        answered = answered.saturating_add(u32::from(is_answered(reply)));
+        let reply = if is_load(task.rounds, round) {
+            make(row, &mut seat, load_at(addr))
+        } else {
+            make(row, &mut seat, change_at(change, addr, round))
+        };
+        tally.note(reply);
     }
-    (seat, answered)
+    (seat, tally)
+}
+
+/// Makes the accesses over a row of words; answers the seat, and what they came to.
+pub fn perform_on_words<B: Naming>(
+    row: &WordRow<B>,
+    seat: WordSeat<B>,
+    task: Task,
+) -> (WordSeat<B>, Tally) {
+    match task.change {
+        Change::Add => make_all(row, seat, task, Change::Add),
+        Change::AddNarrow => make_all(row, seat, task, Change::AddNarrow),
+        Change::Store => make_all(row, seat, task, Change::Store),
+        Change::Swap => make_all(row, seat, task, Change::Swap),
+        Change::And => make_all(row, seat, task, Change::And),
+        Change::Or => make_all(row, seat, task, Change::Or),
+        Change::Xor => make_all(row, seat, task, Change::Xor),
+    }
 }
