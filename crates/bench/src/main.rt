@@ -46,7 +46,8 @@ fn main(rt: HostRuntime) -> Result<()> {
                     memory::over_words::<Brand, HostRuntime>(&rt, alloc, prepared, &plan)?
                 }
             };
-            println!(rt; "accesses {} by {} threads", spent.answered, plan.threads)?;
+            let answered = u64::from(plan.accesses).saturating_sub(spent.unanswered);
+            println!(rt; "accesses {answered} by {} threads", plan.threads)?;
             if plan.is_timed {
                 println!(rt; "nanoseconds {}", spent.nanos)?;
                 println!(rt; "sum {}", spent.sum)?;

@@ -12,10 +12,11 @@ use std::thread::Threads;
 use std::time::{Clock, Instant};
 use word_row::WordRow;
 
-/// What a run was: how many accesses were answered, the sum of the values in their replies, and the nanoseconds of all.
+/// What a run was: how many accesses were not answered, the sum of the values in the replies to the others, and the
+/// nanoseconds of all.
 #[derive(Drop)]
 pub struct Spent {
-    pub answered: u64,
+    pub unanswered: u64,
     pub sum: u64,
     pub nanos: u128,
 }
@@ -42,12 +43,12 @@ fn deal<S: Drop>(alloc: Global, seats: &mut Vec<S>, plan: &MemoryPlan) -> Result
 /// Puts the seats back; answers what all came to, with the nanoseconds spent.
 fn collect<S: Drop>(seats: &mut Vec<S>, done: Vec<(S, Tally)>, nanos: u128) -> Result<Spent> {
     let mut spent = Spent {
-        answered: 0,
+        unanswered: 0,
         sum: 0,
         nanos,
     };
     for (seat, tally) in done {
-        spent.answered = spent.answered.saturating_add(u64::from(tally.answered));
+        spent.unanswered = spent.unanswered.saturating_add(u64::from(tally.unanswered));
         spent.sum = spent.sum.wrapping_add(tally.sum);
         seats.push(seat)?;
     }

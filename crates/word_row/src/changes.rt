@@ -42,6 +42,7 @@ fn ends_within(addr: u64, width: u8, pages: u64) -> bool
 }
 
 /// The refusal of an access of `width` bytes at an address, where it ends past so many pages, at most 64.
+#[inline(always)]
 fn refuse(addr: u64, width: u8, pages: u64) -> Option<Reply>
     requires { pages ≤ most_pages }
     ensures { result ≡ refusal (addr + width) pages }
@@ -70,6 +71,7 @@ pub fn is_within(event: Event, pages: u64) -> bool
 
 /// The reply that the page count settles: a page count, a refusal, or that of an event that reads no byte. `None` for
 /// an access within bounds and a growth that can succeed. The count is at most 64.
+#[inline(always)]
 pub fn by_size(pages_max: u32, event: Event, pages: u64) -> Option<Reply>
     requires { pages ≤ most_pages }
     ensures { result ≡ size_answer pages_max event pages }

@@ -159,6 +159,7 @@ impl<B: Naming> WordRow<B> {
     }
 
     // One try of an event that loads the page count first, which it answers with the reply.
+    #[inline(always)]
     fn note(&self, caller: &mut Standing<B>, event: Event) -> (u64, Reply)
         requires event { IsEvent event }
         requires right { is_of_queue event ≡ true → caller.old.has_queue_right ≡ true }

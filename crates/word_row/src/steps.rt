@@ -10,6 +10,7 @@ use types::Event;
 use word_row_rules::{Exchange, Fetch, Making, Note, Read, Row, Single, Store};
 
 /// The size word is loaded: the caller's event is entered where the page count settles its reply.
+#[inline(always)]
 pub fn note<B: Naming, M: Making>(row: &Row, place: &mut Place, event: Event) -> u64
     requires row { (place.old.table_id ≡ row.now.table_id) × (0 < row.now.table_id.words) × (row.now.key ≡ B.opening) }
     requires one { IsOne place.old.me }

@@ -13,6 +13,7 @@ use types::Event;
 use word_row_rules::{Row, Single};
 
 /// Loads the page count.
+#[inline(always)]
 pub fn note<B: Naming>(row: &Row, caller: &mut Standing<B>, event: Event) -> u64
     requires row { IsRow B.table B.opening row.now.table_id row.now.key }
     requires event { IsEvent event }
