@@ -10,7 +10,8 @@
 //! or `turns` (two threads hand a turn to one another, by a wait, a store and a notify), and the number of calls or of turns
 //! of each thread, 1 to 90,000.
 //!
-//! With the word `time` behind them it is printed how long all accesses take, or one call.
+//! With the word `time` behind them it is printed how long all accesses take, or one call; of accesses also the sum of the
+//! values read, modulo 2^64, so that no compiler leaves a value out.
 #![tactic(auto)]
 
 mod accesses;
@@ -45,9 +46,11 @@ fn main(rt: HostRuntime) -> Result<()> {
                     memory::over_words::<Brand, HostRuntime>(&rt, alloc, prepared, &plan)?
                 }
             };
-            println!(rt; "accesses {} by {} threads", spent.answered, plan.threads)?;
+            let answered = u64::from(plan.accesses).saturating_sub(spent.unanswered);
+            println!(rt; "accesses {answered} by {} threads", plan.threads)?;
             if plan.is_timed {
                 println!(rt; "nanoseconds {}", spent.nanos)?;
+                println!(rt; "sum {}", spent.sum)?;
             }
         }
         Plan::Desk(plan) => {

@@ -1,7 +1,7 @@
 //! Threads that make accesses over one shared memory.
 ghost use Rattle.std.specs.Prelude.{◌≡◌};
 
-use crate::accesses::{Task, perform, perform_on_words};
+use crate::accesses::{Tally, Task, perform, perform_on_words};
 use crate::plan::MemoryPlan;
 use anyhow::{Result, anyhow};
 use locked_recorder::LockedRecorder;
@@ -12,10 +12,12 @@ use std::thread::Threads;
 use std::time::{Clock, Instant};
 use word_row::WordRow;
 
-/// What a run was: how many accesses were answered, and the nanoseconds of all.
+/// What a run was: how many accesses were not answered, the sum of the values in the replies to the others, and the
+/// nanoseconds of all.
 #[derive(Drop)]
 pub struct Spent {
-    pub answered: u64,
+    pub unanswered: u64,
+    pub sum: u64,
     pub nanos: u128,
 }
 
@@ -38,14 +40,19 @@ fn deal<S: Drop>(alloc: Global, seats: &mut Vec<S>, plan: &MemoryPlan) -> Result
     Ok(jobs)
 }
 
-/// Puts the seats back, and adds up how many accesses were answered.
-fn collect<S: Drop>(seats: &mut Vec<S>, done: Vec<(S, u32)>) -> Result<u64> {
-    let mut answered = 0u64;
-    for (seat, count) in done {
-        answered = answered.saturating_add(u64::from(count));
+/// Puts the seats back; answers what all came to, with the nanoseconds spent.
+fn collect<S: Drop>(seats: &mut Vec<S>, done: Vec<(S, Tally)>, nanos: u128) -> Result<Spent> {
+    let mut spent = Spent {
+        unanswered: 0,
+        sum: 0,
+        nanos,
+    };
+    for (seat, tally) in done {
+        spent.unanswered = spent.unanswered.saturating_add(u64::from(tally.unanswered));
+        spent.sum = spent.sum.wrapping_add(tally.sum);
         seats.push(seat)?;
     }
-    Ok(answered)
+    Ok(spent)
 }
 
 /// Opens the recorder, lets the threads make their accesses, and closes it.
@@ -65,9 +72,9 @@ pub fn over_recorder<B: locked_recorder::Naming + Send + Sync, R: Threads + Wait
     let start = Instant::now(rt)?;
     let done = thread::map_vec(rt, jobs, &|(seat, task)| perform(shared, seat, task))?;
     let nanos = start.elapsed(rt)?.as_nanos();
-    let answered = collect(&mut seats, done)?;
+    let spent = collect(&mut seats, done, nanos)?;
     let _ = memory.finish(seats);
-    Ok(Spent { answered, nanos })
+    Ok(spent)
 }
 
 /// Opens the row of words, lets the threads make their accesses, and closes it.
@@ -90,7 +97,7 @@ pub fn over_words<B: word_row::Naming + Send + Sync, R: Threads + Sync + Clock>(
         &|(seat, task)| perform_on_words(shared, seat, task),
     )?;
     let nanos = start.elapsed(rt)?.as_nanos();
-    let answered = collect(&mut seats, done)?;
+    let spent = collect(&mut seats, done, nanos)?;
     let _ = row.close(seats);
-    Ok(Spent { answered, nanos })
+    Ok(spent)
 }

@@ -32,6 +32,7 @@ pub enum Next {
 }
 
 /// Whether `width` bytes at an address end within so many pages, at most 64. The end may pass the last address.
+#[inline(always)]
 fn ends_within(addr: u64, width: u8, pages: u64) -> bool
     requires { pages ≤ most_pages }
     ensures { IsTrue result ↔ (addr + width ≤ page_size * pages) }
@@ -41,6 +42,7 @@ fn ends_within(addr: u64, width: u8, pages: u64) -> bool
 }
 
 /// The refusal of an access of `width` bytes at an address, where it ends past so many pages, at most 64.
+#[inline(always)]
 fn refuse(addr: u64, width: u8, pages: u64) -> Option<Reply>
     requires { pages ≤ most_pages }
     ensures { result ≡ refusal (addr + width) pages }
@@ -53,6 +55,7 @@ fn refuse(addr: u64, width: u8, pages: u64) -> Option<Reply>
 }
 
 /// Whether an event is an access that lies within so many pages, at most 64.
+#[inline(always)]
 pub fn is_within(event: Event, pages: u64) -> bool
     requires { pages ≤ most_pages }
     ensures { IsTrue result ↔ ((is_access event ≡ true) × (end_of event ≤ page_size * pages)) }
@@ -68,6 +71,7 @@ pub fn is_within(event: Event, pages: u64) -> bool
 
 /// The reply that the page count settles: a page count, a refusal, or that of an event that reads no byte. `None` for
 /// an access within bounds and a growth that can succeed. The count is at most 64.
+#[inline(always)]
 pub fn by_size(pages_max: u32, event: Event, pages: u64) -> Option<Reply>
     requires { pages ≤ most_pages }
     ensures { result ≡ size_answer pages_max event pages }
@@ -88,6 +92,7 @@ pub fn by_size(pages_max: u32, event: Event, pages: u64) -> Option<Reply>
 }
 
 /// The place of the word that an event reads or changes.
+#[inline(always)]
 pub fn word_place(event: Event) -> usize
     ensures { result ≡ place_of event }
 {
@@ -102,6 +107,7 @@ pub fn word_place(event: Event) -> usize
 }
 
 /// A lane replaced in a word, with the reply to that.
+#[inline(always)]
 fn replace(word: u64, addr: u64, width: u8, value: u64, reply: Reply) -> Next
     requires some { 1 ≤ width }
     requires one_word { addr % 8 + width ≤ 8 }
@@ -116,6 +122,7 @@ fn replace(word: u64, addr: u64, width: u8, value: u64, reply: Reply) -> Next
 
 /// The single exchange that makes a read-modify-write, whatever the word is: of a whole word, or a bitwise one, whose
 /// operand leaves the bits outside the lane as they are.
+#[inline(always)]
 pub fn single_of(op: RmwOp, addr: u64, width: u8, value: u64) -> Option<Single>
     requires event { IsEvent (Rmw op addr width value) }
     ensures made { IfSome result (λ single. IsMadeBy (Rmw op addr width value) (after_single single)) }
@@ -133,6 +140,7 @@ pub fn single_of(op: RmwOp, addr: u64, width: u8, value: u64) -> Option<Single>
 }
 
 /// What the word of an access settles.
+#[inline(always)]
 pub fn by_word(event: Event, word: u64) -> Next
     requires event { IsEvent event }
     requires access { is_access event ≡ true }

@@ -99,6 +99,7 @@ impl<B: Naming> WordRow<B> {
     /// Makes one try of an event, and waits for nobody. A try that another thread's change of the word overtook is
     /// answered `Again`, and may be made again; no try of an event is that a single step on its word makes. An event
     /// of the queue takes the queue right.
+    #[inline(always)]
     pub fn access(&self, seat: &mut WordSeat<B>, event: Event) -> Reply
         requires event { IsEvent event }
         requires right { is_of_queue event ≡ true → seat.old.caller.has_queue_right ≡ true }
@@ -140,6 +141,7 @@ impl<B: Naming> WordRow<B> {
     }
 
     // One try of an event. An access that lies within the page count remembered needs no load of it.
+    #[inline(always)]
     fn make(&self, seat: &mut WordSeat<B>, event: Event) -> Reply
         requires event { IsEvent event }
         requires right { is_of_queue event ≡ true → seat.old.caller.has_queue_right ≡ true }
@@ -157,6 +159,7 @@ impl<B: Naming> WordRow<B> {
     }
 
     // One try of an event that loads the page count first, which it answers with the reply.
+    #[inline(always)]
     fn note(&self, caller: &mut Standing<B>, event: Event) -> (u64, Reply)
         requires event { IsEvent event }
         requires right { is_of_queue event ≡ true → caller.old.has_queue_right ≡ true }
@@ -183,6 +186,7 @@ impl<B: Naming> WordRow<B> {
 
     // An access that lies within the memory seen: by a single step on its word where that makes the event, whatever
     // the word is.
+    #[inline(always)]
     fn touch(&self, caller: &mut Standing<B>, event: Event) -> Reply
         requires event { IsEvent event }
         requires right { is_of_queue event ≡ true → caller.old.has_queue_right ≡ true }
@@ -215,6 +219,7 @@ impl<B: Naming> WordRow<B> {
     }
 
     // An access that lies within the memory seen, by a load of its word and, where it changes that, an exchange.
+    #[inline(always)]
     fn replace(&self, caller: &mut Standing<B>, event: Event) -> Reply
         requires event { IsEvent event }
         requires right { is_of_queue event ≡ true → caller.old.has_queue_right ≡ true }
@@ -232,6 +237,7 @@ impl<B: Naming> WordRow<B> {
     }
 
     // A change of the word that is there after the list seen.
+    #[inline(always)]
     fn exchange(&self, caller: &mut Standing<B>, event: Event, old: u64, change: Change) -> Reply
         requires event { IsEvent event }
         requires within { end_of event ≤ length (memory_after B.opening caller.old.seen).bytes }

@@ -10,6 +10,7 @@ use types::Event;
 use word_row_rules::{Exchange, Fetch, Making, Note, Read, Row, Single, Store};
 
 /// The size word is loaded: the caller's event is entered where the page count settles its reply.
+#[inline(always)]
 pub fn note<B: Naming, M: Making>(row: &Row, place: &mut Place, event: Event) -> u64
     requires row { (place.old.table_id ≡ row.now.table_id) × (0 < row.now.table_id.words) × (row.now.key ≡ B.opening) }
     requires one { IsOne place.old.me }
@@ -22,6 +23,7 @@ pub fn note<B: Naming, M: Making>(row: &Row, place: &mut Place, event: Event) ->
 }
 
 /// The word of an access within bounds is loaded: the caller's event is entered where the word settles its reply.
+#[inline(always)]
 pub fn read<B: Naming, M: Making>(row: &Row, place: &mut Place, word: usize, event: Event) -> u64
     requires row { (place.old.table_id ≡ row.now.table_id) × (word < row.now.table_id.words) × (row.now.key ≡ B.opening) }
     requires one { IsOne place.old.me }
@@ -37,6 +39,7 @@ pub fn read<B: Naming, M: Making>(row: &Row, place: &mut Place, word: usize, eve
 }
 
 /// A word is exchanged if it is still `old`: the caller's event is entered where it was.
+#[inline(always)]
 pub fn exchange<B: Naming, M: Making>(
     row: &Row,
     place: &mut Place,
@@ -59,6 +62,7 @@ pub fn exchange<B: Naming, M: Making>(
 }
 
 /// The word of an access within bounds is stored: the caller's event is entered.
+#[inline(always)]
 pub fn store<B: Naming, M: Making>(
     row: &Row,
     place: &mut Place,
@@ -80,6 +84,7 @@ pub fn store<B: Naming, M: Making>(
 }
 
 /// The word of an access within bounds is changed by a single exchange: the caller's event is entered.
+#[inline(always)]
 pub fn fetch<B: Naming, M: Making>(
     row: &Row,
     place: &mut Place,

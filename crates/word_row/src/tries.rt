@@ -13,6 +13,7 @@ use types::Event;
 use word_row_rules::{Row, Single};
 
 /// Loads the page count.
+#[inline(always)]
 pub fn note<B: Naming>(row: &Row, caller: &mut Standing<B>, event: Event) -> u64
     requires row { IsRow B.table B.opening row.now.table_id row.now.key }
     requires event { IsEvent event }
@@ -23,6 +24,7 @@ pub fn note<B: Naming>(row: &Row, caller: &mut Standing<B>, event: Event) -> u64
 }
 
 /// Loads the word of an access that lies within the memory seen.
+#[inline(always)]
 pub fn read<B: Naming>(row: &Row, caller: &mut Standing<B>, event: Event) -> u64
     requires row { IsRow B.table B.opening row.now.table_id row.now.key }
     requires event { IsEvent event }
@@ -35,6 +37,7 @@ pub fn read<B: Naming>(row: &Row, caller: &mut Standing<B>, event: Event) -> u64
 }
 
 /// Exchanges the word of an event if it is still `old`, and answers the word found.
+#[inline(always)]
 pub fn exchange<B: Naming>(
     row: &Row,
     caller: &mut Standing<B>,
@@ -60,6 +63,7 @@ pub fn exchange<B: Naming>(
 }
 
 /// Stores the word of an event, whatever it was.
+#[inline(always)]
 pub fn store<B: Naming>(row: &Row, caller: &mut Standing<B>, event: Event, new: u64)
     requires row { IsRow B.table B.opening row.now.table_id row.now.key }
     requires event { IsEvent event }
@@ -78,6 +82,7 @@ pub fn store<B: Naming>(row: &Row, caller: &mut Standing<B>, event: Event, new: 
 }
 
 /// Changes the word of an event by a single exchange, whatever it was, and answers the word found.
+#[inline(always)]
 pub fn fetch<B: Naming>(row: &Row, caller: &mut Standing<B>, event: Event, single: Single) -> u64
     requires row { IsRow B.table B.opening row.now.table_id row.now.key }
     requires event { IsEvent event }
