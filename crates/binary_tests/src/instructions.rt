@@ -495,53 +495,112 @@ fn reads_atomic_instructions(rt: HostRuntime) -> Result<(), Fail> {
     Ok(())
 }
 
-/// Each other instruction, in the order of the opcodes.
-fn others(alloc: Global) -> Result<Vec<Instr>, ReadFault> {
-    let labels = Sequence::from_vec(vec![in alloc; 4, 5]?);
-    Ok(vec![in alloc;
-        Instr::Plain(PlainInstr::Unreachable),
-        Instr::Plain(PlainInstr::Nop),
-        Instr::Block(None),
-        Instr::Loop(Some(ValType::I32)),
-        Instr::End,
-        Instr::If(Some(ValType::I64)),
-        Instr::Else,
-        Instr::End,
-        Instr::End,
-        Instr::Plain(PlainInstr::Br(1)),
-        Instr::Plain(PlainInstr::BrIf(2)),
-        Instr::Plain(PlainInstr::BrTable(labels, 6)),
-        Instr::Plain(PlainInstr::Return),
-        Instr::Plain(PlainInstr::Call(300)),
-        Instr::Plain(PlainInstr::CallIndirect(3)),
-        Instr::Plain(PlainInstr::Drop),
-        Instr::Plain(PlainInstr::Select),
-        Instr::Plain(PlainInstr::LocalGet(4)),
-        Instr::Plain(PlainInstr::LocalSet(5)),
-        Instr::Plain(PlainInstr::LocalTee(6)),
-        Instr::Plain(PlainInstr::GlobalGet(7)),
-        Instr::Plain(PlainInstr::GlobalSet(8)),
-        Instr::Plain(PlainInstr::MemorySize),
-        Instr::Plain(PlainInstr::MemoryGrow),
-        Instr::Plain(PlainInstr::Numeric(NumericInstr::Const(Value::I32(0xffff_ffff)))),
-        Instr::Plain(PlainInstr::Numeric(NumericInstr::Const(Value::I32(5)))),
-        Instr::Plain(PlainInstr::Numeric(NumericInstr::Const(Value::I64(0xffff_ffff_ffff_ffff)))),
-        Instr::Plain(PlainInstr::Numeric(NumericInstr::Const(Value::I64(0x1_0000_0000)))),
-        Instr::Plain(PlainInstr::Fence),
-        Instr::End,
-    ]?)
+/// The other instructions that stand alone: their bytes, and their index.
+static OTHER_INSTRUCTIONS: [(&[u8], u32); 18] = [
+    (b"\x00\x0b", 0),
+    (b"\x01\x0b", 0),
+    (b"\x0c\x01\x0b", 1),
+    (b"\x0d\x02\x0b", 2),
+    (b"\x0f\x0b", 0),
+    (b"\x10\xac\x82\x00\x0b", 300),
+    (b"\x11\x03\x00\x0b", 3),
+    (b"\x1a\x0b", 0),
+    (b"\x1b\x0b", 0),
+    (b"\x20\x04\x0b", 4),
+    (b"\x21\x05\x0b", 5),
+    (b"\x22\x06\x0b", 6),
+    (b"\x23\x07\x0b", 7),
+    (b"\x24\x08\x0b", 8),
+    (b"\x3f\x00\x0b", 0),
+    (b"\x40\x00\x0b", 0),
+    (b"\xfe\x03\x00\x0b", 0),
+    (b"\xfe\x83\x00\x00\x0b", 0),
+];
+
+/// The instruction of such an opcode, with its index.
+fn other(opcode: u8, index: u32) -> PlainInstr {
+    match opcode {
+        0x00 => PlainInstr::Unreachable,
+        0x01 => PlainInstr::Nop,
+        0x0c => PlainInstr::Br(index),
+        0x0d => PlainInstr::BrIf(index),
+        0x0f => PlainInstr::Return,
+        0x10 => PlainInstr::Call(index),
+        0x11 => PlainInstr::CallIndirect(index),
+        0x1a => PlainInstr::Drop,
+        0x1b => PlainInstr::Select,
+        0x20 => PlainInstr::LocalGet(index),
+        0x21 => PlainInstr::LocalSet(index),
+        0x22 => PlainInstr::LocalTee(index),
+        0x23 => PlainInstr::GlobalGet(index),
+        0x24 => PlainInstr::GlobalSet(index),
+        0x3f => PlainInstr::MemorySize,
+        0x40 => PlainInstr::MemoryGrow,
+        _ => PlainInstr::Fence,
+    }
 }
 
 #[test]
 fn reads_other_instructions(rt: HostRuntime) -> Result<(), Fail> {
-    let bytes = &[
-        0x00, 0x01, 0x02, 0x40, 0x03, 0x7f, 0x0b, 0x04, 0x7e, 0x05, 0x0b, 0x0b, 0x0c, 1, 0x0d, 2,
-        0x0e, 2, 4, 5, 6, 0x0f, 0x10, 0xac, 0x82, 0x00, 0x11, 3, 0x00, 0x1a, 0x1b, 0x20, 4, 0x21,
-        5, 0x22, 6, 0x23, 7, 0x24, 8, 0x3f, 0x00, 0x40, 0x00, 0x41, 0x7f, 0x41, 0x85, 0x80, 0x80,
-        0x80, 0x00, 0x42, 0x7f, 0x42, 0x80, 0x80, 0x80, 0x80, 0x10, 0xfe, 0x03, 0x00, 0x0b,
-    ];
+    for (bytes, index) in OTHER_INSTRUCTIONS {
+        let opcode = bytes.first().copied().unwrap_or(0);
+        assert!(rt;
+            is_plain(rt.alloc(), bytes, other(opcode, index))?,
+            "{opcode}"
+        );
+    }
+    Ok(())
+}
+
+/// Constants, and their values.
+static CONSTANTS: [(&[u8], Value); 4] = [
+    (b"\x41\x7f\x0b", Value::I32(0xffff_ffff)),
+    (b"\x41\x85\x80\x80\x80\x00\x0b", Value::I32(5)),
+    (b"\x42\x7f\x0b", Value::I64(0xffff_ffff_ffff_ffff)),
+    (b"\x42\x80\x80\x80\x80\x10\x0b", Value::I64(0x1_0000_0000)),
+];
+
+#[test]
+fn reads_constants(rt: HostRuntime) -> Result<(), Fail> {
+    for (bytes, value) in CONSTANTS {
+        let constant = PlainInstr::Numeric(NumericInstr::Const(value));
+        assert!(rt; is_plain(rt.alloc(), bytes, constant)?, "{value}");
+    }
+    Ok(())
+}
+
+#[test]
+fn reads_blocks(rt: HostRuntime) -> Result<(), Fail> {
+    let bytes = b"\x02\x40\x03\x7f\x0b\x04\x7e\x05\x0b\x0b\x0b";
     let code = read_expression(&mut Reader::new(bytes), rt.alloc())?;
-    assert_eq!(rt; code.into_vec(), others(rt.alloc())?);
+    assert!(rt;
+        matches!(
+            code.as_slice(),
+            [
+                Instr::Block(None),
+                Instr::Loop(Some(ValType::I32)),
+                Instr::End,
+                Instr::If(Some(ValType::I64)),
+                Instr::Else,
+                Instr::End,
+                Instr::End,
+                Instr::End,
+            ]
+        )
+    );
+    Ok(())
+}
+
+#[test]
+fn reads_labels_of_a_table(rt: HostRuntime) -> Result<(), Fail> {
+    let labels = Sequence::from_vec(Vec::from_slice(rt.alloc(), &[4, 5])?);
+    assert!(rt;
+        is_plain(
+            rt.alloc(),
+            &[0x0e, 2, 4, 5, 6, 0x0b],
+            PlainInstr::BrTable(labels, 6)
+        )?
+    );
     Ok(())
 }
 

@@ -3,28 +3,38 @@
 use binary_wire::{Fault, IndexItem, ReadFault, Reader, Refusal, read_vector};
 use std::test::Fail;
 
+/// Numbers of each kind in short and long spellings.
+static U32: [(&[u8], u32); 3] = [
+    (b"\x05", 5),
+    (b"\x85\x80\x80\x80\x00", 5),
+    (b"\xff\xff\xff\xff\x0f", 0xffff_ffff),
+];
+
+static S32: [(&[u8], u32); 3] = [
+    (b"\x7f", 0xffff_ffff),
+    (b"\x80\x80\x80\x80\x78", 0x8000_0000),
+    (b"\xff\xff\xff\xff\x07", 0x7fff_ffff),
+];
+
+static S64: [(&[u8], u64); 2] = [
+    (b"\x7f", 0xffff_ffff_ffff_ffff),
+    (
+        b"\x80\x80\x80\x80\x80\x80\x80\x80\x80\x7f",
+        0x8000_0000_0000_0000,
+    ),
+];
+
 #[test]
 fn numbers_in_every_spelling(rt: HostRuntime) -> Result<(), Fail> {
-    assert_eq!(rt; Reader::new(b"\x05").read_u32(), Ok(5));
-    assert_eq!(rt; Reader::new(b"\x85\x80\x80\x80\x00").read_u32(), Ok(5));
-    assert_eq!(rt;
-        Reader::new(b"\xff\xff\xff\xff\x0f").read_u32(),
-        Ok(u32::MAX)
-    );
-    assert_eq!(rt; Reader::new(b"\x7f").read_s32(), Ok(u32::MAX));
-    assert_eq!(rt;
-        Reader::new(b"\x80\x80\x80\x80\x78").read_s32(),
-        Ok(0x8000_0000)
-    );
-    assert_eq!(rt;
-        Reader::new(b"\xff\xff\xff\xff\x07").read_s32(),
-        Ok(0x7fff_ffff)
-    );
-    assert_eq!(rt; Reader::new(b"\x7f").read_s64(), Ok(u64::MAX));
-    assert_eq!(rt;
-        Reader::new(b"\x80\x80\x80\x80\x80\x80\x80\x80\x80\x7f").read_s64(),
-        Ok(0x8000_0000_0000_0000)
-    );
+    for (bytes, value) in U32 {
+        assert_eq!(rt; Reader::new(bytes).read_u32(), Ok(value));
+    }
+    for (bytes, value) in S32 {
+        assert_eq!(rt; Reader::new(bytes).read_s32(), Ok(value));
+    }
+    for (bytes, value) in S64 {
+        assert_eq!(rt; Reader::new(bytes).read_s64(), Ok(value));
+    }
     Ok(())
 }
 
@@ -42,24 +52,24 @@ fn end_at(offset: usize) -> Refusal {
     }
 }
 
+/// Numbers that are too long, or whose unused bits are wrong.
+static WRONG_U32: [&[u8]; 2] = [b"\x80\x80\x80\x80\x80\x00", b"\x80\x80\x80\x80\x10"];
+
+static WRONG_S32: [&[u8]; 2] = [b"\x80\x80\x80\x80\x08", b"\x80\x80\x80\x80\x68"];
+
 #[test]
 fn numbers_that_are_refused(rt: HostRuntime) -> Result<(), Fail> {
-    assert_eq!(rt;
-        Reader::new(b"\x80\x80\x80\x80\x80\x00").read_u32(),
-        Err(number_at(0))
-    );
-    assert_eq!(rt;
-        Reader::new(b"\x80\x80\x80\x80\x10").read_u32(),
-        Err(number_at(0))
-    );
-    assert_eq!(rt;
-        Reader::new(b"\x80\x80\x80\x80\x08").read_s32(),
-        Err(number_at(0))
-    );
-    assert_eq!(rt;
-        Reader::new(b"\x80\x80\x80\x80\x68").read_s32(),
-        Err(number_at(0))
-    );
+    for bytes in WRONG_U32 {
+        assert_eq!(rt; Reader::new(bytes).read_u32(), Err(number_at(0)));
+    }
+    for bytes in WRONG_S32 {
+        assert_eq!(rt; Reader::new(bytes).read_s32(), Err(number_at(0)));
+    }
+    Ok(())
+}
+
+#[test]
+fn numbers_that_are_refused_behind_others(rt: HostRuntime) -> Result<(), Fail> {
     assert_eq!(rt; Reader::new(b"\x80\x80").read_u32(), Err(end_at(2)));
     let mut reader = Reader::new(b"\x00\xff\xff\xff\xff\x1f");
     assert_eq!(rt; reader.read_byte(), Ok(0));
