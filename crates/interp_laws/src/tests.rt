@@ -1,7 +1,25 @@
-//! The law can be called.
+//! The law of the machine, its worked runs and the laws of its numbers, each called once.
 use crate::no_thread_is_ever_stuck;
+use interp_machine::{
+    a_branch_costs_one_unit, a_store_over_two_words_has_two_parts, an_empty_arm_costs_its_end,
+    an_indirect_call_is_tested, either_arm_costs_the_same, the_thousandth_call_traps,
+};
+use interp_numeric::{below_stays, typed_results, unsigned_of_signed};
 
 #[test]
-fn a_law_asks_for_nothing() {
+fn laws_of_the_machine_ask_for_nothing() {
     no_thread_is_ever_stuck();
+    either_arm_costs_the_same();
+    an_empty_arm_costs_its_end();
+    a_branch_costs_one_unit();
+    the_thousandth_call_traps();
+    a_store_over_two_words_has_two_parts();
+    an_indirect_call_is_tested();
+}
+
+#[test]
+fn laws_of_numbers_ask_for_nothing() {
+    unsigned_of_signed();
+    typed_results();
+    below_stays();
 }

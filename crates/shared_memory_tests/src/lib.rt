@@ -1,9 +1,11 @@
 //! Runs of the memories: what the sequential one answers; and told through their trait, the recorder's log replayed on it, and
-//! threads that change the same word of a row, by exchanges and by single steps.
+//! threads that change the same word of a row, by exchanges and by single steps. The laws of histories are called here too.
 #![tactic(auto)]
 
 #[cfg(test)]
 mod adding;
+#[cfg(test)]
+mod laws;
 #[cfg(test)]
 mod recorder;
 #[cfg(test)]

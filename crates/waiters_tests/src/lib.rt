@@ -7,6 +7,8 @@
 mod calls;
 mod dealt;
 #[cfg(test)]
+mod laws;
+#[cfg(test)]
 mod questions;
 #[cfg(test)]
 mod queue;

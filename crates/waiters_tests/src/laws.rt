@@ -1,0 +1,8 @@
+//! The laws of the desk, each called once.
+use waiters_desk::{a_free_thread_stays_free, a_wait_after_a_notify_reads_what_the_notifier_saw};
+
+#[test]
+fn laws_of_the_desk_ask_for_nothing() {
+    a_free_thread_stays_free();
+    a_wait_after_a_notify_reads_what_the_notifier_saw();
+}
