@@ -126,6 +126,14 @@ fn a_memory_has_64_pages_at_most(rt: HostRuntime) -> Result<(), Fail> {
     Ok(())
 }
 
+#[test]
+fn a_module_without_functions_has_no_tables(rt: HostRuntime) -> Result<(), Fail> {
+    let module = valid(rt.alloc(), DATA_OVER_DATA)?;
+    assert_eq!(rt; module.opening_pages(), 1);
+    assert_eq!(rt; module.tables().len(), 0);
+    Ok(())
+}
+
 /// Of functions and instructions the targets, by their numbers, and where each leads.
 static TARGETS: [(usize, usize, usize, Option<usize>); 6] = [
     (0, 3, 0, Some(5)),
