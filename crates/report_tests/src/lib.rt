@@ -1,13 +1,40 @@
-//! Runs of small modules by the program's `perform`: printed lines, statuses, records and units.
+//! The program on command lines: what it prints of modules over both memories, its statuses, and the units of threads; what
+//! its records hold, what their replays print, and which records are refused at which line.
 #![tactic(auto)]
 
 #[cfg(test)]
+mod accesses;
+#[cfg(test)]
 mod checks;
+#[cfg(test)]
+mod control;
+#[cfg(test)]
+mod corners;
 #[cfg(test)]
 mod examples;
 #[cfg(test)]
-mod runs;
+mod large;
 #[cfg(test)]
-mod single;
+mod lines;
+#[cfg(test)]
+mod long;
+#[cfg(test)]
+mod program;
+#[cfg(test)]
+mod records;
+#[cfg(test)]
+mod refusals;
+#[cfg(test)]
+mod replays;
+#[cfg(test)]
+mod round_trips;
+#[cfg(test)]
+mod text;
 #[cfg(test)]
 mod threaded;
+#[cfg(test)]
+mod usage;
+#[cfg(test)]
+mod waits;
+#[cfg(test)]
+mod writers;

@@ -99,6 +99,17 @@ pub const OUTSIDE: Small<'static> = Small {
     ..GIVING_I32
 };
 
+/// Stores eight bytes at 65532, where the page has four more, and gives 0.
+///
+/// ```wat
+/// (i64.store (i32.const 65532) (i64.const -1))
+/// i32.const 0
+/// ```
+pub const OVER_THE_END: Small<'static> = Small {
+    body: b"\x41\xfc\xff\x03\x42\x7f\x37\x03\x00\x41\x00",
+    ..GIVING_I32
+};
+
 /// Grows the memory by a page, which is past its maximum, and gives its size.
 ///
 /// ```wat
@@ -153,6 +164,41 @@ pub const ENDLESS: Small<'static> = Small {
     body: b"\x03\x40\x41\x00\x41\x01\xfe\x1e\x02\x00\x1a\x0c\x00\x0b",
     ..GIVING_NOTHING
 };
+
+/// A function of 66 locals of type i64 that calls itself: 992 frames of it hold 65,472 values.
+///
+/// ```wat
+/// (module
+///   (memory 1 1 shared)
+///   (func $f (export "f")
+///     ;; 66 locals
+///     call $f))
+/// ```
+pub const FILLING: &[u8] = b"\
+\x00\x61\x73\x6d\x01\x00\x00\x00\
+\x01\x04\x01\x60\x00\x00\
+\x03\x02\x01\x00\
+\x05\x04\x01\x03\x01\x01\
+\x07\x05\x01\x01\x66\x00\x00\
+\x0a\x08\x01\x06\x01\x42\x7f\x10\x00\x0b";
+
+/// What stands before 255 empty blocks in one another.
+pub const DEEPEST: &[u8] = b"\
+\x00\x61\x73\x6d\x01\x00\x00\x00\
+\x01\x04\x01\x60\x00\x00\
+\x03\x02\x01\x00\
+\x05\x04\x01\x03\x01\x01\
+\x07\x05\x01\x01\x66\x00\x00\
+\x0a\x82\x06\x01\xff\x05\x00";
+
+/// What stands before 256 of them.
+pub const TOO_DEEP: &[u8] = b"\
+\x00\x61\x73\x6d\x01\x00\x00\x00\
+\x01\x04\x01\x60\x00\x00\
+\x03\x02\x01\x00\
+\x05\x04\x01\x03\x01\x01\
+\x07\x05\x01\x01\x66\x00\x00\
+\x0a\x85\x06\x01\x82\x06\x00";
 
 /// Counts an argument n above 0 down to 0, in 5 n + 5 units.
 ///

@@ -1,12 +1,13 @@
 //! Runs of several threads, kept and replayed.
 
-use crate::replays::{replay, run};
+use crate::program::{Over, Run, USUAL, make};
+use crate::replays::replay;
 use replay_text::{read_record, write_record};
-use std::alloc::Global;
+use std::alloc::{AllocError, Global};
 use std::sync::Wait;
 use std::test::Fail;
 use std::thread::Threads;
-use test_modules::{COUNTING, RACING, SUMMING, TIMEOUTS, TRAPPING};
+use test_modules::{COUNTING, Module, RACING, SUMMING, TIMEOUTS, TRAPPING};
 
 /// Whether the record is written as it was read.
 fn is_written_again(alloc: Global, record: &[u8]) -> bool {
@@ -17,22 +18,36 @@ fn is_written_again(alloc: Global, record: &[u8]) -> bool {
     write_record(&found, &mut again).is_ok() && again.as_slice() == record
 }
 
+/// A run of a module over the recorder.
+fn run_of(module: &'static [u8]) -> Run {
+    Run {
+        module: Module::Bytes(module),
+        dump: "--dump 64",
+        ..USUAL
+    }
+}
+
 /// Whether a run prints something, and its record's replay the same with the same status.
-fn comes_again<R: Threads + Wait + Sync>(rt: &R, alloc: Global, module: &[u8]) -> bool {
-    let ran = run(rt, alloc, module, 100_000, 64);
-    let replayed = replay(rt, alloc, module, &ran.record, 64);
-    !ran.out.is_empty()
-        && is_written_again(alloc, &ran.record)
-        && replayed.out == ran.out
-        && replayed.err.is_empty()
-        && replayed.status == ran.status
+fn comes_again<R: Threads + Wait + Sync>(
+    rt: &R,
+    alloc: Global,
+    module: &'static [u8],
+) -> Result<bool, AllocError> {
+    let ran = make(rt, alloc, &run_of(module), Over::Recorder)?;
+    let replayed = replay(rt, alloc, module, &ran.record, "64")?;
+    Ok(
+        !ran.out.is_empty()
+            && is_written_again(alloc, &ran.record)
+            && replayed.wrote(&ran.out, b"")
+            && replayed.status == ran.status,
+    )
 }
 
 #[test]
 fn replays_what_was_recorded(rt: HostRuntime) -> Result<(), Fail> {
     for module in [COUNTING, TRAPPING, TIMEOUTS, SUMMING] {
         for _ in 0..100 {
-            assert!(rt; comes_again(&rt, rt.alloc(), module));
+            assert!(rt; comes_again(&rt, rt.alloc(), module)?);
         }
     }
     Ok(())
@@ -43,7 +58,7 @@ fn replays_what_was_recorded(rt: HostRuntime) -> Result<(), Fail> {
 fn replays_the_examples(rt: HostRuntime) -> Result<(), Fail> {
     for module in RACING {
         for _ in 0..100 {
-            assert!(rt; comes_again(&rt, rt.alloc(), module));
+            assert!(rt; comes_again(&rt, rt.alloc(), module)?);
         }
     }
     Ok(())
@@ -53,8 +68,8 @@ fn replays_the_examples(rt: HostRuntime) -> Result<(), Fail> {
 #[test]
 fn replays_of_one_module_are_refused_for_another(rt: HostRuntime) -> Result<(), Fail> {
     let alloc = rt.alloc();
-    let ran = run(&rt, alloc, TIMEOUTS, 100_000, 0);
-    let replayed = replay(&rt, alloc, TRAPPING, &ran.record, 0);
+    let ran = make(&rt, alloc, &run_of(TIMEOUTS), Over::Recorder)?;
+    let replayed = replay(&rt, alloc, TRAPPING, &ran.record, "0")?;
     assert_eq!(rt; (replayed.status, replayed.out.len()), (4, 0));
     Ok(())
 }

@@ -92,7 +92,15 @@ fn replays_records(rt: HostRuntime) -> Result<(), Fail> {
             status,
         } = example;
         assert!(rt;
-            prints(&rt, rt.alloc(), *module, record.as_bytes(), 8, out, *status)?,
+            prints(
+                &rt,
+                rt.alloc(),
+                &module.bytes(rt.alloc())?,
+                record.as_bytes(),
+                "8",
+                out,
+                *status
+            )?,
             "{name}"
         );
     }

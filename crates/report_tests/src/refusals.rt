@@ -1,10 +1,13 @@
 //! Records that are refused, and at which line.
 
 use crate::records::{ADDED, SPUN, STORED};
-use crate::replays::{is_refused, prints};
+use crate::replays::{is_refused, prints, replay};
 use std::alloc::{AllocError, Global};
+use std::process::Abort;
+use std::sync::Wait;
 use std::test::Fail;
-use test_modules::{ADDING, SPINNING, Small, TAKING, TWO_WORDS};
+use std::thread::Threads;
+use test_modules::{ATOMIC_ADD, SPINNING, Small, TAKING, TWO_WORDS};
 use types::PAST_LIMIT;
 
 /// The record with the line of this number, from 1 on, replaced.
@@ -27,8 +30,26 @@ fn with_line(
     Ok(text)
 }
 
-/// Lines of the atomic add's record that are others, and why the record is refused then.
-static FORGED: [(usize, &str, &str); 41] = [
+/// A line of the atomic add's record that is another, by its number, and why the record is refused then.
+type Forged = (usize, &'static str, &'static str);
+
+/// Whether each of them is refused so.
+fn check_forged<R: Threads + Wait + Abort + Sync>(
+    rt: &R,
+    alloc: Global,
+    rows: &[Forged],
+) -> Result<(), AllocError> {
+    for (number, line, wanted) in rows {
+        let record = with_line(alloc, ADDED, *number, line)?;
+        assert!(rt;
+            is_refused(rt, alloc, ATOMIC_ADD, &record, wanted)?,
+            "{number}: {line}"
+        );
+    }
+    Ok(())
+}
+
+static HEADERS: [Forged; 13] = [
     (1, "wathread-record 2", "header line 1"),
     (2, "invoke 67", "line 2 does not fit"),
     (2, "invoke -", "line 2 does not fit"),
@@ -42,6 +63,15 @@ static FORGED: [(usize, &str, &str); 41] = [
     (4, "fuel 1000000000001", "header line 4"),
     (5, "limit 0", "header line 5"),
     (5, "limit 1000001", "header line 5"),
+];
+
+#[test]
+fn refuses_forged_headers(rt: HostRuntime) -> Result<(), Fail> {
+    check_forged(&rt, rt.alloc(), &HEADERS)?;
+    Ok(())
+}
+
+static ENTRIES: [Forged; 16] = [
     (6, "0 rmw add 4 4 5 = 0", "line 6 does not fit"),
     (6, "0 rmw sub 0 4 5 = 0", "line 6 does not fit"),
     (6, "0 rmw add 0 4 5 = 1", "line 6 does not fit"),
@@ -58,6 +88,15 @@ static FORGED: [(usize, &str, &str); 41] = [
     (6, "0 rmw add 0 4 5 = 0\r", "line 6 unreadable"),
     (6, "0 leave = done", "line 6 does not fit"),
     (6, "0 told 0 = done", "line 6 does not fit"),
+];
+
+#[test]
+fn refuses_forged_entries(rt: HostRuntime) -> Result<(), Fail> {
+    check_forged(&rt, rt.alloc(), &ENTRIES)?;
+    Ok(())
+}
+
+static ENDS: [Forged; 12] = [
     (7, "1 leave = done", "line 7 does not fit"),
     (7, "0 told 0 = done", "line 7 does not fit"),
     (8, "0 told 1 = done", "line 8 does not fit"),
@@ -77,22 +116,16 @@ static FORGED: [(usize, &str, &str); 41] = [
 ];
 
 #[test]
-fn refuses_forged_records(rt: HostRuntime) -> Result<(), Fail> {
-    for (number, line, wanted) in FORGED {
-        let record = with_line(rt.alloc(), ADDED, number, line)?;
-        assert!(rt;
-            is_refused(&rt, rt.alloc(), ADDING, &record, wanted)?,
-            "{number}: {line}"
-        );
-    }
+fn refuses_forged_ends(rt: HostRuntime) -> Result<(), Fail> {
+    check_forged(&rt, rt.alloc(), &ENDS)?;
     Ok(())
 }
 
 #[test]
 fn accepts_a_small_limit(rt: HostRuntime) -> Result<(), Fail> {
     let record = with_line(rt.alloc(), ADDED, 5, "limit 1")?;
-    let out = "thread 0: ok i32:0\npages 1\nbytes 05 00 00 00\n";
-    assert!(rt; prints(&rt, rt.alloc(), ADDING, &record, 4, out, 0)?);
+    let out = "thread 0: ok i32:0\npages 1\nbytes 05 00 00 00 00 00 00 00\n";
+    assert!(rt; prints(&rt, rt.alloc(), ATOMIC_ADD, &record, "8", out, 0)?);
     Ok(())
 }
 
@@ -137,7 +170,7 @@ fn refuses_records_of_others(rt: HostRuntime) -> Result<(), Fail> {
     for (module, record, number, line, wanted) in OTHERS {
         let record = with_line(rt.alloc(), record, number, line)?;
         assert!(rt;
-            is_refused(&rt, rt.alloc(), module, &record, wanted)?,
+            is_refused(&rt, rt.alloc(), &module.bytes(rt.alloc())?, &record, wanted)?,
             "{number}: {line}"
         );
     }
@@ -156,10 +189,9 @@ fn is_cut_right(alloc: Global, front: &[u8], err: &[u8]) -> Result<bool, AllocEr
 
 #[test]
 fn refuses_every_front(rt: HostRuntime) -> Result<(), Fail> {
-    let module = ADDING.bytes(rt.alloc())?;
     for count in 0..ADDED.len() {
         let front = &ADDED.as_bytes()[..count];
-        let gave = crate::replays::replay(&rt, rt.alloc(), &module, front, 8);
+        let gave = replay(&rt, rt.alloc(), ATOMIC_ADD, front, "8")?;
         assert!(rt; is_cut_right(rt.alloc(), front, &gave.err)?, "{count}");
         assert_eq!(rt; (gave.status, gave.out.len()), (4, 0));
     }
@@ -193,10 +225,10 @@ fn crowded(alloc: Global, count: usize) -> Result<Vec<u8>, AllocError> {
 fn refuses_other_line_ends_and_long_logs(rt: HostRuntime) -> Result<(), Fail> {
     let alloc = rt.alloc();
     let returns = with_returns(alloc, ADDED)?;
-    assert!(rt; is_refused(&rt, alloc, ADDING, &returns, "header line 1")?);
+    assert!(rt; is_refused(&rt, alloc, ATOMIC_ADD, &returns, "header line 1")?);
     let most = crowded(alloc, 1 + PAST_LIMIT)?;
-    assert!(rt; is_refused(&rt, alloc, ADDING, &most, "line 6 does not fit")?);
+    assert!(rt; is_refused(&rt, alloc, ATOMIC_ADD, &most, "line 6 does not fit")?);
     let more = crowded(alloc, 2 + PAST_LIMIT)?;
-    assert!(rt; is_refused(&rt, alloc, ADDING, &more, "line 55 unreadable")?);
+    assert!(rt; is_refused(&rt, alloc, ATOMIC_ADD, &more, "line 55 unreadable")?);
     Ok(())
 }

@@ -1,6 +1,6 @@
 //! Records, forged records and cut records.
 
-use replay_text::{Record, RecordFault, WriteFault, read_record, write_record};
+use replay_text::{Record, RecordFault, RecordParts, WriteFault, read_record, write_record};
 use std::alloc::{AllocError, Global};
 use std::io::{self, Write};
 use std::test::Fail;
@@ -70,30 +70,49 @@ static ACCEPTED: [(usize, &str); 36] = [
     (9, "pages 64\n"),
 ];
 
+/// Whether a record with this line is written as it was read.
+fn comes_back(alloc: Global, number: usize, line: &str) -> Result<bool, Fail> {
+    let text = with_line(alloc, number, line)?;
+    let found = read_record(alloc, text.as_slice())?;
+    let mut out = Vec::new(alloc);
+    write_record(&found, &mut out)?;
+    Ok(out == text)
+}
+
 #[test]
 fn is_written_as_it_was_read(rt: HostRuntime) -> Result<(), Fail> {
     for (number, line) in ACCEPTED.iter() {
-        let text = with_line(rt.alloc(), *number, line)?;
-        let found = read_record(rt.alloc(), text.as_slice())?;
-        let mut out = Vec::new(rt.alloc());
-        write_record(&found, &mut out)?;
-        assert_eq!(rt; out.as_slice(), text.as_slice(), "{line}");
+        assert!(rt; comes_back(rt.alloc(), *number, line)?, "{line}");
     }
     Ok(())
 }
 
+/// The parts of the atomic add's record.
+fn parts_of(alloc: Global) -> Result<RecordParts, Fail> {
+    let text = with_line(alloc, 11, "")?;
+    Ok(read_record(alloc, text.as_slice())?.into_parts())
+}
+
+/// Whether they hold what its lines say.
+fn is_added(parts: &RecordParts) -> bool {
+    parts.invoke.as_str() == "f"
+        && parts.fuel == 1_000_000_000
+        && parts.log.len() == 3
+        && parts.ends.len() == 1
+        && parts.pages == 1
+}
+
 #[test]
 fn says_what_a_record_holds(rt: HostRuntime) -> Result<(), Fail> {
-    let text = with_line(rt.alloc(), 11, "")?;
-    let found = read_record(rt.alloc(), text.as_slice())?;
-    let parts = found.into_parts();
-    assert_eq!(rt; parts.invoke.as_str(), "f");
-    assert_eq!(rt; parts.fuel, 1_000_000_000);
-    assert_eq!(rt; parts.log.len(), 3);
-    assert_eq!(rt; parts.ends.len(), 1);
-    assert_eq!(rt; parts.pages, 1);
-    let again = Record::new(parts).ok().ok_or("within its ranges")?;
-    let mut parts = again.into_parts();
+    let parts = parts_of(rt.alloc())?;
+    assert!(rt; is_added(&parts));
+    assert!(rt; Record::new(parts).is_ok());
+    Ok(())
+}
+
+#[test]
+fn a_record_has_64_pages_at_most(rt: HostRuntime) -> Result<(), Fail> {
+    let mut parts = parts_of(rt.alloc())?;
     parts.pages = 65;
     assert!(rt; Record::new(parts).is_err());
     Ok(())
@@ -231,17 +250,26 @@ impl Write for Failing {
     }
 }
 
+/// Whether writing the record fails where so many writes are taken.
+fn fails_behind(record: &Record, writes: u32) -> bool {
+    write_record(record, &mut Failing(writes)) == Err(WriteFault::Writer)
+}
+
+/// How many writes a record takes.
+fn writes_of(record: &Record) -> u32 {
+    let mut ample = Failing(1000);
+    let _ = write_record(record, &mut ample);
+    1000u32.saturating_sub(ample.0)
+}
+
 #[test]
-fn says_that_a_writer_failed(rt: HostRuntime) -> Result<(), Fail> {
+fn says_that_a_write_failed(rt: HostRuntime) -> Result<(), Fail> {
     let text = with_line(rt.alloc(), 11, "")?;
     let found = read_record(rt.alloc(), text.as_slice())?;
-    let mut ample = Failing(1000);
-    assert!(rt; write_record(&found, &mut ample).is_ok());
-    let needed = 1000u32.saturating_sub(ample.0);
-    assert!(rt; needed > 10);
+    let needed = writes_of(&found);
+    assert!(rt; needed > 10 && !fails_behind(&found, needed));
     for writes in 0..needed {
-        let fault = write_record(&found, &mut Failing(writes)).err();
-        assert_eq!(rt; fault, Some(WriteFault::Writer), "{writes}");
+        assert!(rt; fails_behind(&found, writes), "{writes}");
     }
     Ok(())
 }

@@ -1,10 +1,11 @@
 //! A record of 1,000,000 entries and more.
 
-use crate::replays::{prints, run};
+use crate::program::{Over, Run, USUAL, make};
+use crate::replays::prints;
 use std::alloc::Global;
 use std::io::{self, Write};
 use std::test::Fail;
-use test_modules::ENDLESS;
+use test_modules::{ENDLESS, Module};
 use types::MOST_LIMIT;
 
 /// The record of the loop that adds until the log is full: a round takes five units, and the last one stops behind two.
@@ -20,18 +21,25 @@ fn long_record(alloc: Global) -> io::Result<Vec<u8>> {
 
 const FULL: &str = "thread 0: stop record full\npages 1\nbytes 40 42 0f 00\n";
 
+static FILLING: Run = Run {
+    module: Module::Small(ENDLESS),
+    dump: "--dump 4",
+    words: "--invoke f --limit 1000000",
+    ..USUAL
+};
+
 #[test]
 fn replays_a_million_entries(rt: HostRuntime) -> Result<(), Fail> {
+    let module = ENDLESS.bytes(rt.alloc())?;
     let record = long_record(rt.alloc())?;
-    assert!(rt; prints(&rt, rt.alloc(), ENDLESS, &record, 4, FULL, 1)?);
+    assert!(rt; prints(&rt, rt.alloc(), &module, &record, "4", FULL, 1)?);
     Ok(())
 }
 
 #[test]
 fn records_a_million_entries(rt: HostRuntime) -> Result<(), Fail> {
-    let module = ENDLESS.bytes(rt.alloc())?;
-    let gave = run(&rt, rt.alloc(), &module, MOST_LIMIT, 4);
-    assert_eq!(rt; gave.out.as_slice(), FULL.as_bytes());
+    let gave = make(&rt, rt.alloc(), &FILLING, Over::Recorder)?;
+    assert!(rt; gave.printed(FULL, 1));
     let same = gave.record == long_record(rt.alloc())?;
     assert!(rt; same);
     Ok(())
