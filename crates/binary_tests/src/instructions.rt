@@ -9,7 +9,7 @@ use types::{
     NumericInstr, PlainInstr, RmwOp, Sequence, UnaryOp, ValType, Value,
 };
 
-static NUMERIC: [(u8, NumericInstr); 61] = [
+static NUMERIC: [(u8, NumericInstr); 66] = [
     (0x45, NumericInstr::Test(ValType::I32)),
     (0x46, NumericInstr::Compare(ValType::I32, CompareOp::Eq)),
     (0x47, NumericInstr::Compare(ValType::I32, CompareOp::Ne)),
@@ -71,6 +71,26 @@ static NUMERIC: [(u8, NumericInstr); 61] = [
     (0xa7, NumericInstr::Convert(ConvertOp::WrapI64)),
     (0xac, NumericInstr::Convert(ConvertOp::ExtendI32S)),
     (0xad, NumericInstr::Convert(ConvertOp::ExtendI32U)),
+    (
+        0xc0,
+        NumericInstr::Convert(ConvertOp::SignExtend(NarrowWidth::I32Bits8)),
+    ),
+    (
+        0xc1,
+        NumericInstr::Convert(ConvertOp::SignExtend(NarrowWidth::I32Bits16)),
+    ),
+    (
+        0xc2,
+        NumericInstr::Convert(ConvertOp::SignExtend(NarrowWidth::I64Bits8)),
+    ),
+    (
+        0xc3,
+        NumericInstr::Convert(ConvertOp::SignExtend(NarrowWidth::I64Bits16)),
+    ),
+    (
+        0xc4,
+        NumericInstr::Convert(ConvertOp::SignExtend(NarrowWidth::I64Bits32)),
+    ),
 ];
 
 static LOADS: [(u8, LoadOp); 12] = [
@@ -367,7 +387,7 @@ static OTHERS: [(u8, u8, Fault); 13] = [
     (0x8b, 0xa6, Fault::Float),
     (0xa8, 0xab, Fault::Float),
     (0xae, 0xbf, Fault::Float),
-    (0xc0, 0xfd, Fault::UnknownByte),
+    (0xc5, 0xfd, Fault::UnknownByte),
     (0xff, 0xff, Fault::UnknownByte),
 ];
 

@@ -1,5 +1,5 @@
-//! Runs of modules behind gates that hold threads back, over both memories: threads do run at the same time, and what a run
-//! leaves doesn't depend on who comes first.
+//! Runs of modules over both memories. Behind gates that hold threads back, threads do run at the same time, and what a run
+//! leaves doesn't depend on who comes first; and the sign extensions, from bytes to values.
 #![tactic(auto)]
 
 #[cfg(test)]
@@ -10,3 +10,5 @@ mod holding;
 mod runs;
 #[cfg(test)]
 mod schedules;
+#[cfg(test)]
+mod sign_extension;

@@ -11,7 +11,7 @@ import sys
 import tempfile
 
 here = pathlib.Path(__file__).parent
-OUT_OF_PROFILE = ["multi-value", "sign-extension", "saturating-float-to-int", "simd", "bulk-memory", "reference-types", "mutable-globals"]
+OUT_OF_PROFILE = ["multi-value", "saturating-float-to-int", "simd", "bulk-memory", "reference-types", "mutable-globals"]
 
 def run(command):
     return subprocess.run(command, capture_output=True, text=True)

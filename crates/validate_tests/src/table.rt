@@ -23,7 +23,7 @@ pub struct Case {
     pub end: usize,
 }
 
-pub const DATA_OVER_DATA: usize = 134;
+pub const DATA_OVER_DATA: usize = 144;
 
 pub const DATA_TO_THE_END: usize = 48;
 
@@ -33,7 +33,7 @@ pub const TABLE_OF_LABELS: usize = 90;
 
 pub const SPAWNS: usize = 74;
 
-pub static CASES: [Case; 136] = [
+pub static CASES: [Case; 146] = [
     Case {
         answer: Answer::Valid, // empty
         start: 0,
@@ -650,68 +650,118 @@ pub static CASES: [Case; 136] = [
         end: 4334,
     },
     Case {
-        answer: Answer::Unread, // float_type
+        answer: Answer::Valid, // sign_extensions_of_i32
         start: 4334,
-        end: 4359,
+        end: 4363,
     },
     Case {
-        answer: Answer::Unread, // float_constant
-        start: 4359,
+        answer: Answer::Valid, // sign_extensions_of_i64
+        start: 4363,
         end: 4393,
     },
     Case {
-        answer: Answer::Unread, // sign_extension
+        answer: Answer::InBody(Fault::TypeMismatch, 0, 1), // i32_extend8_of_an_i64
         start: 4393,
         end: 4421,
     },
     Case {
-        answer: Answer::Unread, // sign_extension_of_an_i64
+        answer: Answer::InBody(Fault::TypeMismatch, 0, 2), // i32_extend8_as_an_i64
         start: 4421,
         end: 4449,
     },
     Case {
-        answer: Answer::Unread, // memory_copy
+        answer: Answer::InBody(Fault::TypeMismatch, 0, 1), // i32_extend16_of_an_i64
         start: 4449,
-        end: 4488,
+        end: 4477,
+    },
+    Case {
+        answer: Answer::InBody(Fault::TypeMismatch, 0, 2), // i32_extend16_as_an_i64
+        start: 4477,
+        end: 4505,
+    },
+    Case {
+        answer: Answer::InBody(Fault::TypeMismatch, 0, 1), // i64_extend8_of_an_i32
+        start: 4505,
+        end: 4533,
+    },
+    Case {
+        answer: Answer::InBody(Fault::TypeMismatch, 0, 2), // i64_extend8_as_an_i32
+        start: 4533,
+        end: 4561,
+    },
+    Case {
+        answer: Answer::InBody(Fault::TypeMismatch, 0, 1), // i64_extend16_of_an_i32
+        start: 4561,
+        end: 4589,
+    },
+    Case {
+        answer: Answer::InBody(Fault::TypeMismatch, 0, 2), // i64_extend16_as_an_i32
+        start: 4589,
+        end: 4617,
+    },
+    Case {
+        answer: Answer::InBody(Fault::TypeMismatch, 0, 1), // i64_extend32_of_an_i32
+        start: 4617,
+        end: 4645,
+    },
+    Case {
+        answer: Answer::InBody(Fault::TypeMismatch, 0, 2), // i64_extend32_as_an_i32
+        start: 4645,
+        end: 4673,
+    },
+    Case {
+        answer: Answer::Unread, // float_type
+        start: 4673,
+        end: 4698,
+    },
+    Case {
+        answer: Answer::Unread, // float_constant
+        start: 4698,
+        end: 4732,
+    },
+    Case {
+        answer: Answer::Unread, // memory_copy
+        start: 4732,
+        end: 4771,
     },
     Case {
         answer: Answer::Unread, // passive_data
-        start: 4488,
-        end: 4507,
+        start: 4771,
+        end: 4790,
     },
     Case {
         answer: Answer::Unread, // reference
-        start: 4507,
-        end: 4534,
+        start: 4790,
+        end: 4817,
     },
     Case {
         answer: Answer::Unread, // table_of_other_references
-        start: 4534,
-        end: 4548,
+        start: 4817,
+        end: 4831,
     },
     Case {
         answer: Answer::Unread, // block_with_parameters
-        start: 4548,
-        end: 4582,
+        start: 4831,
+        end: 4865,
     },
     Case {
         answer: Answer::Unread, // saturating_conversion
-        start: 4582,
-        end: 4612,
+        start: 4865,
+        end: 4895,
     },
     Case {
         answer: Answer::Unread, // tail_call
-        start: 4612,
-        end: 4638,
+        start: 4895,
+        end: 4921,
     },
     Case {
         answer: Answer::Valid, // data_over_data
-        start: 4638,
-        end: 4679,
+        start: 4921,
+        end: 4962,
     },
     Case {
         answer: Answer::Outside(Fault::NotConstant), // two_data_faults_are_answered_in_order
-        start: 4679,
-        end: 4723,
+        start: 4962,
+        end: 5006,
     },
 ];
