@@ -10,3 +10,5 @@ mod holding;
 mod runs;
 #[cfg(test)]
 mod schedules;
+#[cfg(test)]
+mod units;
