@@ -1,11 +1,13 @@
 //! Five threads of one run meet in the middle of it.
 
-use crate::runs::{BOTH, has_reports, run};
+use crate::runs::{BOTH, END, Ended, FUEL, Trouble, has_ends, run};
 use interp_trait::Gate;
+use std::alloc::Global;
+use std::sync::Wait;
 use std::sync::atomic::{AtomicU64, Ordering};
 use std::test::Fail;
-use std::thread::yield_now;
-use test_modules::FOUR;
+use std::thread::{Threads, yield_now};
+use test_modules::{COUNTING, FOUR};
 use types::{Outcome, Value};
 
 /// How often a thread looks for the others before it gives up.
@@ -14,60 +16,31 @@ const LOOKS: u32 = 10_000_000;
 /// How many units thread 0 has spent when it has spawned the four others.
 const SPAWNED: u64 = 12;
 
-/// One of the five threads.
-#[derive(Drop)]
-struct Guest {
-    /// 1 once it has come.
-    came: AtomicU64,
-    /// How many it saw there in its last look, itself counted.
-    saw: AtomicU64,
-}
-
-impl Guest {
-    fn new() -> Guest {
-        Guest {
-            came: AtomicU64::new(0),
-            saw: AtomicU64::new(0),
-        }
-    }
-}
+/// The flags of all five threads: that of thread n is 2 to the power of n.
+const ALL: u64 = 31;
 
 /// Holds thread 0 where it has spawned, and each other before its first turn, until all five have come.
 #[derive(Drop)]
 struct Meeting {
-    guests: [Guest; 5],
+    /// The flags of those that have come.
+    came: AtomicU64,
+    /// The flags of those that saw all five there.
+    saw: AtomicU64,
 }
 
 impl Meeting {
     fn new() -> Meeting {
         Meeting {
-            guests: [
-                Guest::new(),
-                Guest::new(),
-                Guest::new(),
-                Guest::new(),
-                Guest::new(),
-            ],
+            came: AtomicU64::new(0),
+            saw: AtomicU64::new(0),
         }
-    }
-
-    /// How many have come.
-    fn present(&self) -> u64 {
-        let mut count = 0u64;
-        for guest in &self.guests {
-            if guest.came.load(Ordering::SeqCst) == 1 {
-                count = count.saturating_add(1);
-            }
-        }
-        count
     }
 
     /// Waits until all have come, or for so many looks.
-    fn wait(&self, guest: &Guest) {
+    fn wait(&self, flag: u64) {
         for _ in 0..LOOKS {
-            let present = self.present();
-            guest.saw.store(present, Ordering::SeqCst);
-            if present == 5 {
+            if self.came.load(Ordering::SeqCst) == ALL {
+                self.saw.fetch_add(flag, Ordering::SeqCst);
                 return;
             }
             yield_now();
@@ -77,34 +50,51 @@ impl Meeting {
 
 impl Gate for Meeting {
     fn at(&self, thread: u32, turn: u64) {
-        let Some(guest) = self.guests.get(thread as usize) else {
-            return;
-        };
-        if guest.came.load(Ordering::SeqCst) == 1 || (thread == 0 && turn < SPAWNED) {
+        if thread > 4 || (thread == 0 && turn < SPAWNED) {
             return;
         }
-        guest.came.store(1, Ordering::SeqCst);
-        self.wait(guest);
+        let flag = 1u64 << thread;
+        if self.came.load(Ordering::SeqCst) & flag != 0 {
+            return;
+        }
+        self.came.fetch_add(flag, Ordering::SeqCst);
+        self.wait(flag);
     }
+}
+
+/// Modules that spawn four threads, and how the threads end.
+#[rattlefmt::skip]
+static MODULES: [(&[u8], [Ended; 5]); 2] = [
+    (FOUR, [
+        (Outcome::Done(Some(Value::I32(7))), Some(14)),
+        (Outcome::Done(None), Some(1)), (Outcome::Done(None), Some(1)),
+        (Outcome::Done(None), Some(1)), (Outcome::Done(None), Some(1)),
+    ]),
+    (COUNTING, [(Outcome::Done(Some(Value::I32(160))), None), END, END, END, END]),
+];
+
+/// Whether all five saw one another, and ended so.
+fn meet<R: Threads + Wait + Sync>(
+    rt: &R,
+    alloc: Global,
+    module: &[u8],
+    ends: &[Ended],
+) -> Result<bool, Trouble> {
+    for memory in BOTH {
+        let meeting = Meeting::new();
+        let end = run(rt, alloc, module, &[], FUEL, memory, &meeting)?;
+        if meeting.saw.load(Ordering::SeqCst) != ALL || !has_ends(&end, ends) {
+            return Ok(false);
+        }
+    }
+    Ok(true)
 }
 
 /// A host that ran the spawned threads one after the other would leave each of them alone at the gate.
 #[test]
 fn five_threads_run_at_once(rt: HostRuntime) -> Result<(), Fail> {
-    let wanted = [
-        (Outcome::Done(Some(Value::I32(7))), 14),
-        (Outcome::Done(None), 1),
-        (Outcome::Done(None), 1),
-        (Outcome::Done(None), 1),
-        (Outcome::Done(None), 1),
-    ];
-    for memory in BOTH {
-        let meeting = Meeting::new();
-        let end = run(&rt, rt.alloc(), FOUR, &[], memory, &meeting)?;
-        for guest in &meeting.guests {
-            assert_eq!(rt; guest.saw.load(Ordering::SeqCst), 5, "{memory:?}");
-        }
-        assert!(rt; has_reports(&end, &wanted), "{end:?}");
+    for (module, ends) in MODULES {
+        assert!(rt; meet(&rt, rt.alloc(), module, &ends)?);
     }
     Ok(())
 }

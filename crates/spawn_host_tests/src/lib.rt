@@ -12,3 +12,5 @@ mod runs;
 mod schedules;
 #[cfg(test)]
 mod sign_extension;
+#[cfg(test)]
+mod units;

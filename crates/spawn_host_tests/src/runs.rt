@@ -2,11 +2,13 @@
 
 use interp_trait::Gate;
 use replay::{ReplayFault, replay};
+use replay_text::Record;
 use report::{Call, EndState, RecordRunFault, Refusal, load, record_run, run_on_words};
-use std::alloc::Global;
+use std::alloc::{AllocError, Global};
 use std::sync::Wait;
 use std::thread::Threads;
 use types::{MOST_LIMIT, Outcome, ThreadReport, Value};
+use validate::ValidModule;
 
 /// Over which memory, and how many entries its log takes.
 #[derive(Clone, Copy, PartialEq, Eq, Debug)]
@@ -18,8 +20,14 @@ pub(crate) enum Memory {
 /// Both, without a limit that is met.
 pub(crate) const BOTH: [Memory; 2] = [Memory::Locked { limit: MOST_LIMIT }, Memory::Words];
 
-/// The units of each thread.
-const FUEL: u64 = 1_000_000_000;
+/// The units of each thread, more than any spends.
+pub(crate) const FUEL: u64 = 1_000_000_000;
+
+/// How a thread ends, and how many units it has spent, where that doesn't depend on who comes first.
+pub(crate) type Ended = (Outcome, Option<u64>);
+
+/// A thread without a result that ends well.
+pub(crate) const END: Ended = (Outcome::Done(None), None);
 
 /// Why there was no run.
 #[derive(Clone, Copy, PartialEq, Eq, Debug)]
@@ -29,6 +37,13 @@ pub(crate) enum Trouble {
     Replay(ReplayFault),
     /// The replay came to another end than the run.
     AnotherEnd,
+    NoMemory,
+}
+
+impl From<AllocError> for Trouble {
+    fn from(_: AllocError) -> Trouble {
+        Trouble::NoMemory
+    }
 }
 
 impl From<Refusal> for Trouble {
@@ -49,50 +64,94 @@ impl From<ReplayFault> for Trouble {
     }
 }
 
+/// Whether the replay of a record comes to this end.
+fn comes_to(
+    alloc: Global,
+    valid: &ValidModule,
+    record: &Record,
+    end: &EndState,
+) -> Result<bool, ReplayFault> {
+    let replayed = replay(alloc, valid, record)?;
+    Ok(replayed == *end)
+}
+
+/// A run over the recorder. Its record is replayed, and has to come to the same end.
+fn run_recorded<G: Gate + Sync, R: Threads + Wait + Sync>(
+    rt: &R,
+    alloc: Global,
+    valid: &ValidModule,
+    call: Call,
+    limit: u32,
+    gate: &G,
+) -> Result<EndState, Trouble> {
+    let (record, end) = record_run(rt, alloc, valid, call, limit, gate)?;
+    if comes_to(alloc, valid, &record, &end)? {
+        Ok(end)
+    } else {
+        Err(Trouble::AnotherEnd)
+    }
+}
+
+/// A run over the row of words.
+fn run_plain<G: Gate + Sync, R: Threads + Wait + Sync>(
+    rt: &R,
+    alloc: Global,
+    valid: &ValidModule,
+    call: Call,
+    gate: &G,
+) -> Result<EndState, Trouble> {
+    Ok(run_on_words(rt, alloc, valid, call, gate)?)
+}
+
+/// Runs a module's function behind a gate.
+fn run_valid<G: Gate + Sync, R: Threads + Wait + Sync>(
+    rt: &R,
+    alloc: Global,
+    valid: &ValidModule,
+    call: Call,
+    memory: Memory,
+    gate: &G,
+) -> Result<EndState, Trouble> {
+    match memory {
+        Memory::Locked { limit } => run_recorded(rt, alloc, valid, call, limit, gate),
+        Memory::Words => run_plain(rt, alloc, valid, call, gate),
+    }
+}
+
 /// Runs the function `f` of a module behind a gate. What was recorded is replayed, and has to come to the same end.
-pub(crate) fn run<G, R>(
+pub(crate) fn run<G: Gate + Sync, R: Threads + Wait + Sync>(
     rt: &R,
     alloc: Global,
     module: &[u8],
     args: &[Value],
+    fuel: u64,
     memory: Memory,
     gate: &G,
-) -> Result<EndState, Trouble>
-where
-    G: Gate + Sync,
-    R: Threads + Wait + Sync,
-{
+) -> Result<EndState, Trouble> {
     let valid = load(alloc, module)?;
     let call = Call {
         name: "f",
         args,
-        fuel: FUEL,
+        fuel,
     };
-    match memory {
-        Memory::Locked { limit } => {
-            let (record, end) = record_run(rt, alloc, &valid, call, limit, gate)?;
-            if replay(alloc, &valid, &record)? == end {
-                Ok(end)
-            } else {
-                Err(Trouble::AnotherEnd)
-            }
-        }
-        Memory::Words => Ok(run_on_words(rt, alloc, &valid, call, gate)?),
-    }
+    run_valid(rt, alloc, &valid, call, memory, gate)
 }
 
-/// Whether the threads ended so, each with the units that it spent.
-pub(crate) fn has_reports(end: &EndState, wanted: &[(Outcome, u64)]) -> bool {
-    let same = |(report, &(outcome, spent)): (&ThreadReport, &(Outcome, u64))| -> bool {
-        *report == ThreadReport { outcome, spent }
-    };
-    end.threads.len() == wanted.len() && end.threads.iter().zip(wanted).all(same)
+/// Whether the thread ended so.
+fn has_ended(report: &ThreadReport, ended: &Ended) -> bool {
+    let (outcome, spent) = *ended;
+    report.outcome == outcome && (spent.is_none() || spent == Some(report.spent))
 }
 
 /// Whether the threads ended so.
-pub(crate) fn has_outcomes(end: &EndState, wanted: &[Outcome]) -> bool {
-    let same = |(report, outcome): (&ThreadReport, &Outcome)| -> bool {
-        report.outcome == *outcome
-    };
-    end.threads.len() == wanted.len() && end.threads.iter().zip(wanted).all(same)
+pub(crate) fn has_ends(end: &EndState, wanted: &[Ended]) -> bool {
+    if end.threads.len() != wanted.len() {
+        return false;
+    }
+    for (report, ended) in end.threads.iter().zip(wanted) {
+        if !has_ended(report, ended) {
+            return false;
+        }
+    }
+    true
 }

@@ -1,250 +1,457 @@
-//! Runs on schedules that gates force: each leaves what the module says, whoever comes first. The expected reports are
-//! counted by hand, from the modules' texts.
+//! Runs on schedules that gates force: each leaves what the module says, whoever comes first. The expected ends are counted
+//! by hand, from the modules' texts.
 
 use crate::holding::{Hold, Holding, Sign};
-use crate::runs::{BOTH, Memory, has_outcomes, has_reports, run};
-use interp_trait::OpenGate;
+use crate::runs::{BOTH, END, Ended, FUEL, Memory, Trouble, has_ends, run};
+use std::alloc::Global;
+use std::process::Abort;
+use std::sync::Wait;
 use std::test::Fail;
-use test_modules::{COUNTING, SIXTEEN, SLEEPERS, TABLE, TELLING, TREE};
-use types::{MOST_SPAWNED, MOST_THREADS, Outcome, Stop, Trap, Value};
+use std::thread::Threads;
+use test_modules::{COUNTING, Module, SIXTEEN, SLEEPERS, TABLE, TELLING, TREE};
+use types::{Outcome, Stop, Trap, Value};
 
-const OK: Outcome = Outcome::Done(None);
-
-const fn number(value: u32) -> Outcome {
-    Outcome::Done(Some(Value::I32(value)))
+/// A module, what its threads wait for, and how they end over each of these memories.
+#[derive(Clone, Copy)]
+pub(crate) struct Scheduled {
+    pub(crate) name: &'static str,
+    pub(crate) module: Module,
+    pub(crate) args: &'static [Value],
+    pub(crate) fuel: u64,
+    pub(crate) memories: &'static [Memory],
+    pub(crate) holds: &'static [Hold],
+    pub(crate) ends: &'static [Ended],
+    /// The first bytes of the memory at the end.
+    pub(crate) bytes: &'static [u8],
 }
 
-/// A thread that goes on from so many units behind the turn of another that begins with so many.
-fn behind(thread: u32, from: u64, other: u32, spent: u64) -> Hold {
-    let sign = Sign {
-        thread: other,
-        spent,
-        turns: 1,
-    };
-    Hold { thread, from, sign }
+/// Over both memories, without a gate.
+pub(crate) const FREE: Scheduled = Scheduled {
+    name: "",
+    module: Module::Bytes(b""),
+    args: &[],
+    fuel: FUEL,
+    memories: &BOTH,
+    holds: &[],
+    ends: &[],
+    bytes: b"",
+};
+
+/// Whether a run ends as it should, where each held thread goes on behind its sign.
+fn is_right<R: Threads + Wait + Sync>(
+    rt: &R,
+    alloc: Global,
+    row: &Scheduled,
+    memory: Memory,
+) -> Result<bool, Trouble> {
+    let module = row.module.bytes(alloc)?;
+    let gate = Holding::new(alloc, row.holds)?;
+    let end = run(rt, alloc, &module, row.args, row.fuel, memory, &gate)?;
+    Ok(gate.was_kept() && has_ends(&end, row.ends) && end.bytes.starts_with(row.bytes))
 }
 
-/// The same, where the other's question has been entered: its turn that takes the reply is the second one.
-fn behind_question(thread: u32, from: u64, other: u32, spent: u64) -> Hold {
-    let sign = Sign {
-        thread: other,
-        spent,
-        turns: 2,
-    };
-    Hold { thread, from, sign }
+/// Makes each of the runs, so often over each of its memories.
+pub(crate) fn check_all<R: Threads + Wait + Abort + Sync>(
+    rt: &R,
+    alloc: Global,
+    rows: &[Scheduled],
+    times: u32,
+) -> Result<(), Trouble> {
+    for row in rows {
+        for memory in row.memories {
+            for _ in 0..times {
+                let name = row.name;
+                assert!(rt; is_right(rt, alloc, row, *memory)?, "{name}: {memory:?}");
+            }
+        }
+    }
+    Ok(())
 }
+
+/// Thread 0 of the tree, and the others.
+#[rattlefmt::skip]
+const GROWN: [Ended; 16] = [
+    (Outcome::Done(Some(Value::I32(7))), None),
+    END, END, END, END, END, END, END, END, END, END, END, END, END, END, END,
+];
+
+static TREES: [Scheduled; 1] = [Scheduled {
+    name: "a tree of threads",
+    module: Module::Bytes(TREE),
+    ends: &GROWN,
+    bytes: b"\xfe\xff\x00\x00",
+    ..FREE
+}];
 
 #[test]
 fn grows_a_tree_of_threads(rt: HostRuntime) -> Result<(), Fail> {
-    let mut wanted = [OK; MOST_THREADS];
-    wanted[0] = number(7);
-    for memory in BOTH {
-        for _ in 0..100 {
-            let end = run(&rt, rt.alloc(), TREE, &[], memory, &OpenGate)?;
-            assert!(rt; has_outcomes(&end, &wanted), "{memory:?}");
-            assert!(rt;
-                end.bytes.starts_with(b"\xfe\xff\x00\x00".as_slice()),
-                "{memory:?}"
-            );
-        }
-    }
+    check_all(&rt, rt.alloc(), &TREES, 100)?;
     Ok(())
 }
 
 /// Thread 0 goes on only when the fifteenth thread comes, which another one spawned.
-#[test]
-fn grows_a_tree_behind_a_gate(rt: HostRuntime) -> Result<(), Fail> {
-    let mut wanted = [OK; MOST_THREADS];
-    wanted[0] = number(7);
-    for memory in BOTH {
-        let gate = Holding::new(rt.alloc(), &[behind(0, 7, 15, 0)])?;
-        let end = run(&rt, rt.alloc(), TREE, &[], memory, &gate)?;
-        assert!(rt; gate.was_kept());
-        assert!(rt; has_outcomes(&end, &wanted), "{memory:?}");
-        assert!(rt;
-            end.bytes.starts_with(b"\xfe\xff\x00\x00".as_slice()),
-            "{memory:?}"
-        );
-    }
-    Ok(())
-}
-
-#[test]
-fn spawns_through_a_table(rt: HostRuntime) -> Result<(), Fail> {
-    let wanted = [(number(1), 4), (OK, 4)];
-    for memory in BOTH {
-        for hold in [behind(0, 3, 1, 3), behind(1, 0, 0, 3)] {
-            let gate = Holding::new(rt.alloc(), &[hold])?;
-            let end = run(&rt, rt.alloc(), TABLE, &[], memory, &gate)?;
-            assert!(rt; gate.was_kept());
-            assert!(rt; has_reports(&end, &wanted), "{memory:?}, {hold:?}");
-            assert!(rt;
-                end.bytes.starts_with(b"\x05\x00\x00\x00".as_slice()),
-                "{memory:?}"
-            );
-        }
-    }
-    Ok(())
-}
-
-const SLEPT: [(Outcome, u64); 5] = [
-    (Outcome::Trap(Trap::DivideByZero), 15),
-    (Outcome::Stop(Stop::AsleepForGood), 10),
-    (Outcome::Trap(Trap::Unreachable), 6),
-    (Outcome::Stop(Stop::AsleepForGood), 10),
-    (Outcome::Trap(Trap::OutOfBounds), 7),
+#[rattlefmt::skip]
+const LAST_OF_TREE: [Hold; 1] = [
+    Hold { thread: 0, from: 7, sign: Sign { thread: 15, spent: 0, turns: 1 } },
 ];
 
-/// Sleepers hear that they sleep for good whether the traps come before they sleep or behind.
+/// The spawned thread has stored before the other goes on.
+#[rattlefmt::skip]
+const STORED_FIRST: [Hold; 1] = [
+    Hold { thread: 0, from: 3, sign: Sign { thread: 1, spent: 3, turns: 1 } },
+];
+
+/// The other goes on before the spawned thread begins.
+#[rattlefmt::skip]
+const STORED_LAST: [Hold; 1] = [
+    Hold { thread: 1, from: 0, sign: Sign { thread: 0, spent: 3, turns: 1 } },
+];
+
+/// A thread that spawned through a table, and the other.
+#[rattlefmt::skip]
+const SPAWNED_THROUGH_TABLE: [Ended; 2] = [
+    (Outcome::Done(Some(Value::I32(1))), Some(4)),
+    (Outcome::Done(None), Some(4)),
+];
+
+static SPAWNS: [Scheduled; 3] = [
+    Scheduled {
+        name: "a tree behind a gate",
+        module: Module::Bytes(TREE),
+        holds: &LAST_OF_TREE,
+        ends: &GROWN,
+        bytes: b"\xfe\xff\x00\x00",
+        ..FREE
+    },
+    Scheduled {
+        name: "through a table, stored first",
+        module: Module::Bytes(TABLE),
+        holds: &STORED_FIRST,
+        ends: &SPAWNED_THROUGH_TABLE,
+        bytes: b"\x05\x00\x00\x00",
+        ..FREE
+    },
+    Scheduled {
+        name: "through a table, stored last",
+        module: Module::Bytes(TABLE),
+        holds: &STORED_LAST,
+        ends: &SPAWNED_THROUGH_TABLE,
+        bytes: b"\x05\x00\x00\x00",
+        ..FREE
+    },
+];
+
 #[test]
-fn traps_while_others_sleep(rt: HostRuntime) -> Result<(), Fail> {
-    let asleep_first = [
-        behind_question(0, 14, 1, 9),
-        behind_question(0, 14, 3, 9),
-        behind_question(2, 0, 1, 9),
-        behind_question(2, 0, 3, 9),
-        behind_question(4, 0, 1, 9),
-        behind_question(4, 0, 3, 9),
-    ];
-    let asleep_last = [
-        behind(1, 0, 0, 14),
-        behind(1, 0, 2, 5),
-        behind(1, 0, 4, 6),
-        behind(3, 0, 0, 14),
-        behind(3, 0, 2, 5),
-        behind(3, 0, 4, 6),
-    ];
-    for memory in BOTH {
-        for holds in [&[], asleep_first.as_slice(), asleep_last.as_slice()] {
-            let gate = Holding::new(rt.alloc(), holds)?;
-            let end = run(&rt, rt.alloc(), SLEEPERS, &[], memory, &gate)?;
-            assert!(rt; gate.was_kept());
-            assert!(rt; has_reports(&end, &SLEPT), "{memory:?}, {holds:?}");
-        }
-    }
+fn spawns_behind_gates(rt: HostRuntime) -> Result<(), Fail> {
+    check_all(&rt, rt.alloc(), &SPAWNS, 1)?;
     Ok(())
 }
+
+/// Two sleepers hear that they sleep for good; the other threads trap.
+#[rattlefmt::skip]
+const SLEPT: [Ended; 5] = [
+    (Outcome::Trap(Trap::DivideByZero), Some(15)),
+    (Outcome::Stop(Stop::AsleepForGood), Some(10)),
+    (Outcome::Trap(Trap::Unreachable), Some(6)),
+    (Outcome::Stop(Stop::AsleepForGood), Some(10)),
+    (Outcome::Trap(Trap::OutOfBounds), Some(7)),
+];
+
+/// The traps come when both sleep.
+#[rattlefmt::skip]
+const ASLEEP_FIRST: [Hold; 6] = [
+    Hold { thread: 0, from: 14, sign: Sign { thread: 1, spent: 9, turns: 2 } },
+    Hold { thread: 0, from: 14, sign: Sign { thread: 3, spent: 9, turns: 2 } },
+    Hold { thread: 2, from: 0, sign: Sign { thread: 1, spent: 9, turns: 2 } },
+    Hold { thread: 2, from: 0, sign: Sign { thread: 3, spent: 9, turns: 2 } },
+    Hold { thread: 4, from: 0, sign: Sign { thread: 1, spent: 9, turns: 2 } },
+    Hold { thread: 4, from: 0, sign: Sign { thread: 3, spent: 9, turns: 2 } },
+];
+
+/// Both fall asleep behind the traps.
+#[rattlefmt::skip]
+const ASLEEP_LAST: [Hold; 6] = [
+    Hold { thread: 1, from: 0, sign: Sign { thread: 0, spent: 14, turns: 1 } },
+    Hold { thread: 1, from: 0, sign: Sign { thread: 2, spent: 5, turns: 1 } },
+    Hold { thread: 1, from: 0, sign: Sign { thread: 4, spent: 6, turns: 1 } },
+    Hold { thread: 3, from: 0, sign: Sign { thread: 0, spent: 14, turns: 1 } },
+    Hold { thread: 3, from: 0, sign: Sign { thread: 2, spent: 5, turns: 1 } },
+    Hold { thread: 3, from: 0, sign: Sign { thread: 4, spent: 6, turns: 1 } },
+];
+
+static SLEEPS: [Scheduled; 3] = [
+    Scheduled {
+        name: "asleep on any schedule",
+        module: Module::Bytes(SLEEPERS),
+        ends: &SLEPT,
+        ..FREE
+    },
+    Scheduled {
+        name: "asleep first",
+        module: Module::Bytes(SLEEPERS),
+        holds: &ASLEEP_FIRST,
+        ends: &SLEPT,
+        ..FREE
+    },
+    Scheduled {
+        name: "asleep last",
+        module: Module::Bytes(SLEEPERS),
+        holds: &ASLEEP_LAST,
+        ends: &SLEPT,
+        ..FREE
+    },
+];
+
+#[test]
+fn traps_while_others_sleep(rt: HostRuntime) -> Result<(), Fail> {
+    check_all(&rt, rt.alloc(), &SLEEPS, 1)?;
+    Ok(())
+}
+
+/// Thread 0 notifies when thread 1 sleeps.
+#[rattlefmt::skip]
+const TOLD_LAST: [Hold; 1] = [
+    Hold { thread: 0, from: 3, sign: Sign { thread: 1, spent: 4, turns: 2 } },
+];
+
+/// Thread 1 begins when thread 0 has notified.
+#[rattlefmt::skip]
+const TOLD_FIRST: [Hold; 1] = [
+    Hold { thread: 1, from: 0, sign: Sign { thread: 0, spent: 6, turns: 1 } },
+];
+
+static FULL_LOGS: [Scheduled; 6] = [
+    Scheduled {
+        name: "a log of one entry",
+        module: Module::Bytes(TELLING),
+        args: &[Value::I32(u32::MAX)],
+        memories: &[Memory::Locked { limit: 1 }],
+        ends: &[
+            (Outcome::Stop(Stop::RecordFull), Some(5)),
+            (Outcome::Stop(Stop::RecordFull), Some(4)),
+        ],
+        ..FREE
+    },
+    Scheduled {
+        name: "a log of two",
+        module: Module::Bytes(TELLING),
+        args: &[Value::I32(u32::MAX)],
+        memories: &[Memory::Locked { limit: 2 }],
+        ends: &[
+            (Outcome::Stop(Stop::RecordFull), Some(5)),
+            (Outcome::Stop(Stop::RecordFull), Some(4)),
+        ],
+        ..FREE
+    },
+    Scheduled {
+        name: "a log of three, asleep for good",
+        module: Module::Bytes(TELLING),
+        args: &[Value::I32(u32::MAX)],
+        memories: &[Memory::Locked { limit: 3 }],
+        holds: &TOLD_LAST,
+        ends: &[
+            (Outcome::Stop(Stop::RecordFull), Some(5)),
+            (Outcome::Stop(Stop::AsleepForGood), Some(5)),
+        ],
+        ..FREE
+    },
+    Scheduled {
+        name: "a log of three, and a timeout",
+        module: Module::Bytes(TELLING),
+        args: &[Value::I32(5)],
+        memories: &[Memory::Locked { limit: 3 }],
+        holds: &TOLD_LAST,
+        ends: &[
+            (Outcome::Stop(Stop::RecordFull), Some(5)),
+            (Outcome::Done(None), Some(7)),
+        ],
+        ..FREE
+    },
+    Scheduled {
+        name: "a log of three, told first",
+        module: Module::Bytes(TELLING),
+        args: &[Value::I32(u32::MAX)],
+        memories: &[Memory::Locked { limit: 3 }],
+        holds: &TOLD_FIRST,
+        ends: &[
+            (Outcome::Done(Some(Value::I32(0))), Some(7)),
+            (Outcome::Stop(Stop::RecordFull), Some(4)),
+        ],
+        ..FREE
+    },
+    Scheduled {
+        name: "a log of four",
+        module: Module::Bytes(TELLING),
+        args: &[Value::I32(u32::MAX)],
+        memories: &[Memory::Locked { limit: 4 }],
+        holds: &TOLD_LAST,
+        ends: &[
+            (Outcome::Done(Some(Value::I32(1))), Some(7)),
+            (Outcome::Done(None), Some(7)),
+        ],
+        ..FREE
+    },
+];
 
 /// Two entries are the spawn and its answer, so a log of three is full behind the next question.
 #[test]
 fn a_full_log_meets_a_wait(rt: HostRuntime) -> Result<(), Fail> {
-    let full = Outcome::Stop(Stop::RecordFull);
-    let for_good = Outcome::Stop(Stop::AsleepForGood);
-    let asleep_first = behind_question(0, 3, 1, 4);
-    let told_first = behind(1, 0, 0, 6);
-    let runs = [
-        (1, u32::MAX, None, [(full, 5), (full, 4)]),
-        (2, u32::MAX, None, [(full, 5), (full, 4)]),
-        (3, u32::MAX, Some(asleep_first), [(full, 5), (for_good, 5)]),
-        (3, 5, Some(asleep_first), [(full, 5), (OK, 7)]),
-        (3, u32::MAX, Some(told_first), [(number(0), 7), (full, 4)]),
-        (4, u32::MAX, Some(asleep_first), [(number(1), 7), (OK, 7)]),
-    ];
-    for (limit, timeout, hold, wanted) in runs {
-        let gate = Holding::new(rt.alloc(), hold.as_slice())?;
-        let memory = Memory::Locked { limit };
-        let args = [Value::I32(timeout)];
-        let end = run(&rt, rt.alloc(), TELLING, &args, memory, &gate)?;
-        assert!(rt; gate.was_kept());
-        assert!(rt; has_reports(&end, &wanted), "{limit}, {hold:?}");
-    }
+    check_all(&rt, rt.alloc(), &FULL_LOGS, 1)?;
     Ok(())
 }
+
+/// Thread 0, whose last spawn was refused, and the others.
+#[rattlefmt::skip]
+const REFUSED_ONE: [Ended; 16] = [
+    (Outcome::Done(Some(Value::I32(u32::MAX))), None),
+    END, END, END, END, END, END, END, END, END, END, END, END, END, END, END,
+];
+
+/// Each thread begins when the next one has stored, and thread 0 spawns once more behind all of them.
+#[rattlefmt::skip]
+const LAST_FIRST: [Hold; 15] = [
+    Hold { thread: 0, from: 138, sign: Sign { thread: 1, spent: 3, turns: 1 } },
+    Hold { thread: 1, from: 0, sign: Sign { thread: 2, spent: 3, turns: 1 } },
+    Hold { thread: 2, from: 0, sign: Sign { thread: 3, spent: 3, turns: 1 } },
+    Hold { thread: 3, from: 0, sign: Sign { thread: 4, spent: 3, turns: 1 } },
+    Hold { thread: 4, from: 0, sign: Sign { thread: 5, spent: 3, turns: 1 } },
+    Hold { thread: 5, from: 0, sign: Sign { thread: 6, spent: 3, turns: 1 } },
+    Hold { thread: 6, from: 0, sign: Sign { thread: 7, spent: 3, turns: 1 } },
+    Hold { thread: 7, from: 0, sign: Sign { thread: 8, spent: 3, turns: 1 } },
+    Hold { thread: 8, from: 0, sign: Sign { thread: 9, spent: 3, turns: 1 } },
+    Hold { thread: 9, from: 0, sign: Sign { thread: 10, spent: 3, turns: 1 } },
+    Hold { thread: 10, from: 0, sign: Sign { thread: 11, spent: 3, turns: 1 } },
+    Hold { thread: 11, from: 0, sign: Sign { thread: 12, spent: 3, turns: 1 } },
+    Hold { thread: 12, from: 0, sign: Sign { thread: 13, spent: 3, turns: 1 } },
+    Hold { thread: 13, from: 0, sign: Sign { thread: 14, spent: 3, turns: 1 } },
+    Hold { thread: 14, from: 0, sign: Sign { thread: 15, spent: 3, turns: 1 } },
+];
+
+static SIXTEENTH: [Scheduled; 2] = [
+    Scheduled {
+        name: "a sixteenth spawn",
+        module: Module::Bytes(SIXTEEN),
+        ends: &REFUSED_ONE,
+        bytes: b"\x00\x0f\x0e\x0d\x0c\x0b\x0a\x09\x08\x07\x06\x05\x04\x03\x02\x01\x00",
+        ..FREE
+    },
+    Scheduled {
+        name: "a sixteenth spawn behind all ends",
+        module: Module::Bytes(SIXTEEN),
+        holds: &LAST_FIRST,
+        ends: &REFUSED_ONE,
+        bytes: b"\x00\x0f\x0e\x0d\x0c\x0b\x0a\x09\x08\x07\x06\x05\x04\x03\x02\x01\x00",
+        ..FREE
+    },
+];
 
 /// The last spawn is refused, also where all fifteen have come to their ends before.
 #[test]
 fn refuses_a_sixteenth_spawn(rt: HostRuntime) -> Result<(), Fail> {
-    let mut wanted = [OK; MOST_THREADS];
-    wanted[0] = number(u32::MAX);
-    let bytes = b"\x00\x0f\x0e\x0d\x0c\x0b\x0a\x09\x08\x07\x06\x05\x04\x03\x02\x01\x00";
-    let mut last_first = Vec::new(rt.alloc());
-    last_first.push(behind(0, 138, 1, 3))?;
-    for thread in 1..MOST_SPAWNED as u32 {
-        last_first.push(behind(thread, 0, thread + 1, 3))?;
-    }
-    for memory in BOTH {
-        for holds in [&[], last_first.as_slice()] {
-            let gate = Holding::new(rt.alloc(), holds)?;
-            let end = run(&rt, rt.alloc(), SIXTEEN, &[], memory, &gate)?;
-            assert!(rt; gate.was_kept());
-            assert!(rt; has_outcomes(&end, &wanted), "{memory:?}, {end:?}");
-            assert!(rt; end.bytes.starts_with(bytes.as_slice()), "{memory:?}");
-        }
-    }
+    check_all(&rt, rt.alloc(), &SIXTEENTH, 1)?;
     Ok(())
 }
 
-/// The first turn of thread 0 behind its spawns, and the last turns of the others in `COUNTING`.
-const SPAWNED: u64 = 12;
-
+/// The last turns of the threads that count.
 const LAST: u64 = 9_012;
 
-/// One thread after the other, so that no try is lost: each has spent its units over both memories.
-#[test]
-fn counts_one_after_the_other(rt: HostRuntime) -> Result<(), Fail> {
-    let wanted = [
-        (number(160), 24),
-        (OK, 9_013),
-        (OK, 9_013),
-        (OK, 9_013),
-        (OK, 9_013),
-    ];
-    let in_order = [
-        behind(2, 0, 1, LAST),
-        behind(3, 0, 2, LAST),
-        behind(4, 0, 3, LAST),
-        behind(0, SPAWNED, 4, LAST),
-    ];
-    let from_the_last = [
-        behind(3, 0, 4, LAST),
-        behind(2, 0, 3, LAST),
-        behind(1, 0, 2, LAST),
-        behind(0, SPAWNED, 1, LAST),
-    ];
-    for memory in BOTH {
-        for holds in [in_order.as_slice(), from_the_last.as_slice()] {
-            let gate = Holding::new(rt.alloc(), holds)?;
-            let end = run(&rt, rt.alloc(), COUNTING, &[], memory, &gate)?;
-            assert!(rt; gate.was_kept());
-            assert!(rt; has_reports(&end, &wanted), "{memory:?}, {holds:?}");
-            assert!(rt;
-                end.bytes.starts_with(
-                    b"\xa0\x00\x00\x00\x00\x00\x00\x00\x04\x00\x00\x00".as_slice()
-                )
-            );
-        }
-    }
-    Ok(())
-}
+/// One thread after the other, no try is lost: each has spent its units over both memories.
+#[rattlefmt::skip]
+const COUNTED: [Ended; 5] = [
+    (Outcome::Done(Some(Value::I32(160))), Some(24)),
+    (Outcome::Done(None), Some(9_013)),
+    (Outcome::Done(None), Some(9_013)),
+    (Outcome::Done(None), Some(9_013)),
+    (Outcome::Done(None), Some(9_013)),
+];
 
-/// All at once, where thread 0 sleeps before they begin, or comes behind all of them.
+/// All at once.
+#[rattlefmt::skip]
+const COUNTED_AT_ONCE: [Ended; 5] = [
+    (Outcome::Done(Some(Value::I32(160))), None),
+    END, END, END, END,
+];
+
+/// Threads 1 to 4 in order, and then thread 0 behind its spawns.
+#[rattlefmt::skip]
+const IN_ORDER: [Hold; 4] = [
+    Hold { thread: 2, from: 0, sign: Sign { thread: 1, spent: LAST, turns: 1 } },
+    Hold { thread: 3, from: 0, sign: Sign { thread: 2, spent: LAST, turns: 1 } },
+    Hold { thread: 4, from: 0, sign: Sign { thread: 3, spent: LAST, turns: 1 } },
+    Hold { thread: 0, from: 12, sign: Sign { thread: 4, spent: LAST, turns: 1 } },
+];
+
+/// Threads 4 to 1, and then thread 0.
+#[rattlefmt::skip]
+const FROM_THE_LAST: [Hold; 4] = [
+    Hold { thread: 3, from: 0, sign: Sign { thread: 4, spent: LAST, turns: 1 } },
+    Hold { thread: 2, from: 0, sign: Sign { thread: 3, spent: LAST, turns: 1 } },
+    Hold { thread: 1, from: 0, sign: Sign { thread: 2, spent: LAST, turns: 1 } },
+    Hold { thread: 0, from: 12, sign: Sign { thread: 1, spent: LAST, turns: 1 } },
+];
+
+/// They begin when thread 0 sleeps.
+#[rattlefmt::skip]
+const SLEEPING: [Hold; 4] = [
+    Hold { thread: 1, from: 0, sign: Sign { thread: 0, spent: 22, turns: 2 } },
+    Hold { thread: 2, from: 0, sign: Sign { thread: 0, spent: 22, turns: 2 } },
+    Hold { thread: 3, from: 0, sign: Sign { thread: 0, spent: 22, turns: 2 } },
+    Hold { thread: 4, from: 0, sign: Sign { thread: 0, spent: 22, turns: 2 } },
+];
+
+/// Thread 0 comes behind all of them.
+#[rattlefmt::skip]
+const BEHIND_ALL: [Hold; 4] = [
+    Hold { thread: 0, from: 12, sign: Sign { thread: 1, spent: LAST, turns: 1 } },
+    Hold { thread: 0, from: 12, sign: Sign { thread: 2, spent: LAST, turns: 1 } },
+    Hold { thread: 0, from: 12, sign: Sign { thread: 3, spent: LAST, turns: 1 } },
+    Hold { thread: 0, from: 12, sign: Sign { thread: 4, spent: LAST, turns: 1 } },
+];
+
+static COUNTS: [Scheduled; 5] = [
+    Scheduled {
+        name: "in order",
+        module: Module::Bytes(COUNTING),
+        holds: &IN_ORDER,
+        ends: &COUNTED,
+        bytes: b"\xa0\x00\x00\x00\x00\x00\x00\x00\x04\x00\x00\x00",
+        ..FREE
+    },
+    Scheduled {
+        name: "from the last",
+        module: Module::Bytes(COUNTING),
+        holds: &FROM_THE_LAST,
+        ends: &COUNTED,
+        bytes: b"\xa0\x00\x00\x00\x00\x00\x00\x00\x04\x00\x00\x00",
+        ..FREE
+    },
+    Scheduled {
+        name: "at once",
+        module: Module::Bytes(COUNTING),
+        ends: &COUNTED_AT_ONCE,
+        bytes: b"\xa0\x00\x00\x00\x00\x00\x00\x00\x04\x00\x00\x00",
+        ..FREE
+    },
+    Scheduled {
+        name: "asleep first",
+        module: Module::Bytes(COUNTING),
+        holds: &SLEEPING,
+        ends: &COUNTED_AT_ONCE,
+        bytes: b"\xa0\x00\x00\x00\x00\x00\x00\x00\x04\x00\x00\x00",
+        ..FREE
+    },
+    Scheduled {
+        name: "behind all",
+        module: Module::Bytes(COUNTING),
+        holds: &BEHIND_ALL,
+        ends: &COUNTED_AT_ONCE,
+        bytes: b"\xa0\x00\x00\x00\x00\x00\x00\x00\x04\x00\x00\x00",
+        ..FREE
+    },
+];
+
 #[test]
-fn counts_all_at_once(rt: HostRuntime) -> Result<(), Fail> {
-    let wanted = [number(160), OK, OK, OK, OK];
-    let asleep_first = [
-        behind_question(1, 0, 0, 22),
-        behind_question(2, 0, 0, 22),
-        behind_question(3, 0, 0, 22),
-        behind_question(4, 0, 0, 22),
-    ];
-    let last = [
-        behind(0, SPAWNED, 1, LAST),
-        behind(0, SPAWNED, 2, LAST),
-        behind(0, SPAWNED, 3, LAST),
-        behind(0, SPAWNED, 4, LAST),
-    ];
-    for memory in BOTH {
-        for holds in [&[], asleep_first.as_slice(), last.as_slice()] {
-            let gate = Holding::new(rt.alloc(), holds)?;
-            let end = run(&rt, rt.alloc(), COUNTING, &[], memory, &gate)?;
-            assert!(rt; gate.was_kept());
-            assert!(rt; has_outcomes(&end, &wanted), "{memory:?}, {holds:?}");
-            assert!(rt;
-                end.bytes.starts_with(
-                    b"\xa0\x00\x00\x00\x00\x00\x00\x00\x04\x00\x00\x00".as_slice()
-                )
-            );
-        }
-    }
+fn counts(rt: HostRuntime) -> Result<(), Fail> {
+    check_all(&rt, rt.alloc(), &COUNTS, 1)?;
     Ok(())
 }
