@@ -2,7 +2,6 @@
 
 use crate::runs::{BOTH, has_reports, run};
 use interp_trait::OpenGate;
-use report::load;
 use std::test::Fail;
 use test_modules::{GIVING_I32, I32, I64, Small};
 use types::{Outcome, ValType, Value};
@@ -75,40 +74,6 @@ fn extends_signs(rt: HostRuntime) -> Result<(), Fail> {
             let end = run(&rt, rt.alloc(), &bytes, &[], memory, &OpenGate)?;
             assert!(rt; has_reports(&end, &wanted), "{end:?}");
         }
-    }
-    Ok(())
-}
-
-/// A function's code, and why a module of it is refused.
-#[derive(Clone, Copy)]
-struct Refused {
-    body: &'static [u8],
-    why: &'static str,
-}
-
-/// The opcode behind the last sign extension, and an operand of another type.
-static REFUSED: [Refused; 2] = [
-    Refused {
-        body: b"\x41\x00\xc5",
-        why: "read 7 at 39",
-    },
-    Refused {
-        body: b"\x42\x00\xc0",
-        why: "validity 1 in function 0 at 1",
-    },
-];
-
-#[test]
-fn refuses_what_is_none(rt: HostRuntime) -> Result<(), Fail> {
-    for refused in &REFUSED {
-        let module = Small {
-            body: refused.body,
-            ..GIVING_I32
-        };
-        let bytes = module.bytes(rt.alloc())?;
-        let refusal = load(rt.alloc(), &bytes).err().ok_or("it was taken")?;
-        let why = format!(in rt.alloc(); "{refusal}")?;
-        assert_eq!(rt; why.as_str(), refused.why);
     }
     Ok(())
 }
