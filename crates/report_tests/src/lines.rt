@@ -20,7 +20,7 @@ pub(crate) struct Line {
 }
 
 /// Refused modules, and why each is.
-static REFUSED: [(Module, &str); 10] = [
+static REFUSED: [(Module, &str); 11] = [
     // the first bytes of the opening ones, and none
     (
         Module::Bytes(b"\x00\x61\x73\x6d\x01\x00\x00"),
@@ -76,6 +76,11 @@ static REFUSED: [(Module, &str); 10] = [
             ..GIVING_I32
         }),
         "module refused: validity 1 in function 0 at 3\n",
+    ),
+    // a shared memory whose minimum passes its maximum
+    (
+        Module::Bytes(b"\x00\x61\x73\x6d\x01\x00\x00\x00\x05\x04\x01\x03\x02\x01"),
+        "module refused: validity 11\n",
     ),
     // a start section
     (
