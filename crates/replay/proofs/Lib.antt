@@ -5,3 +5,5 @@ pub mod Faults
 pub mod Beginning
 pub mod Lines
 pub mod Schedules
+pub mod Left
+pub mod LegalLogs

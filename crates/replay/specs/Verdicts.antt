@@ -1,16 +1,22 @@
 -- What the end of a walk along a record's log shows of every schedule that makes the log.
 use Rattle.std.specs.Prelude.{ℕ, ◌≡◌, false, Some}
 use Rattle.types.specs.declared.event.Answer.{Answer}
+use Rattle.types.specs.declared.parts.Parts.{Parts}
 use Rattle.shared_memory.specs.Memory.{Memory}
+use Rattle.shared_memory.specs.Legal.{IsLegal}
 use Rattle.schedule.specs.System as systems
 use Rattle.schedule.specs.Histories.{Place}
 use Rattle.schedule_threads.specs.Shared.{Shared, try_rules}
 use Rattle.schedule_runs.specs.Runs.{Start, system_of, first_state, first_places, as_acts}
 use Rattle.interp_trait.specs.Turns.{Running}
+use Rattle.spawn_host.specs.Runs.{opening_memory}
 use Rattle.replay_text.specs.declared.parts.RecordParts.{RecordParts}
+use Rattle.replay_text.specs.Text.{IsRecord}
 use Rattle.replay_rules.specs.Walk.{Walks}
 use Rattle.replay_rules.specs.Recorded.{IsRecordedRun, IsFirstMisfit, IsFirstWrongEnd}
+use Rattle.replay.specs.declared.end.EndState.{EndState}
 use Rattle.replay.specs.Ends.{AllAgree, IsFirstWrong}
+use Rattle.replay.specs.Runs.{IsRunOf}
 
 -- A walk takes the whole log of a record, and comes to this state, with these places.
 abbrev pub WalksAlong : Start → RecordParts → systems.State Shared Running → (ℕ → Place Answer) → Type 0
@@ -40,3 +46,9 @@ NoRunHasAWrongEnd = (b : Start) (r : RecordParts) (k : ℕ) → IsFirstWrongEnd 
 
 abbrev pub NoRunHasAMisfit : Type 0
 NoRunHasAMisfit = (b : Start) (r : RecordParts) (k : ℕ) → IsFirstMisfit b r k → (last : Memory) → IsRecordedRun b r last → ⊥
+
+-- The log of a record within its ranges that is of a run of a module is legal, from the module's opening memory and the wait queue's
+-- first state on: for the memory, for the wait queue, and in the order of each thread's calls.
+abbrev pub LogsOfRunsAreLegal : Type 0
+LogsOfRunsAreLegal =
+    (m : Parts) (r : RecordParts) (end : EndState) → IsRecord r → IsRunOf m r end → IsLegal (opening_memory m) r.log

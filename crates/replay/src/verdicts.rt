@@ -1,6 +1,6 @@
 //! What the end of a walk shows of every schedule that makes its log: functions that do nothing, and whose contracts are laws.
 ghost use Rattle.replay.specs.Verdicts.{AgreeingRecordsAreOfRuns, WrongEndsAreOfNoRun, RunsEndInOneMemory, NoRunHasAWrongEnd};
-ghost use Rattle.replay.specs.Verdicts.{NoRunHasAMisfit};
+ghost use Rattle.replay.specs.Verdicts.{NoRunHasAMisfit, LogsOfRunsAreLegal};
 
 /// A walk took the whole log and each line behind it agrees: the record is of a run, which ends with the walk's memory.
 pub fn agreeing_records_are_of_runs()
@@ -25,4 +25,9 @@ pub fn no_run_has_a_wrong_end()
 /// A record with an entry that doesn't fit is of no run.
 pub fn no_run_has_a_misfit()
     ensures { NoRunHasAMisfit }
+{}
+
+/// The log of a record that is of a run is legal, from the module's opening memory on.
+pub fn logs_of_runs_are_legal()
+    ensures { LogsOfRunsAreLegal }
 {}

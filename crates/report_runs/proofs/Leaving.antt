@@ -16,18 +16,9 @@ use Rattle.replay_text.specs.declared.parts.RecordParts.{RecordParts}
 use Rattle.replay_rules.specs.Ranges.{IsLimited}
 use Rattle.replay.specs.declared.end.EndState.{EndState}
 use Rattle.report_runs.specs.Ends.{EndsRun}
+use Rattle.report_runs.specs.Logs.{of_callers}
 use Rattle.report_runs.proofs.Whole.{Knows, is_history}
 use Rattle.shared_memory.proofs.Soundness.{IsSound-after, few_spawned}
-
--- a memory whose seats have their callers' names, and have seen what their callers have
-abbrev pub of_callers : {S : Type 0} → (S → Caller) → Bool → Memory → Option ℕ → OverMemory S
-of_callers caller loses opening limit = record {
-  loses = loses;
-  opening = opening;
-  limit = limit;
-  name = λ s. (caller s).name;
-  seen = λ s. (caller s).seen;
-}
 
 module _ {S : Type 0} (caller : S → Caller) (P : S → Type 0) (m : Parts) (entry : List ℕ) (args : List Value) (fuel : ℕ)
     (loses : Bool) (opening : Memory) (limit : Option ℕ) (seats : List S) (log : List Entry) (end : EndState) where

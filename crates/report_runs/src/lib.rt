@@ -2,9 +2,11 @@
 #![tactic(auto)]
 
 mod fitting;
+mod laws;
 mod recording;
 mod words;
 
+pub use laws::the_log_is_the_history_that_all_seats_saw;
 pub use recording::{RecordRunFault, record_run};
 pub use replay::EndState;
 pub use spawn_host::Call;

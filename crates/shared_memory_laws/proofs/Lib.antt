@@ -1,4 +1,5 @@
 pub mod Alternating
+pub mod Awake
 pub mod Notified
 pub mod Timeouts
 pub mod Settled

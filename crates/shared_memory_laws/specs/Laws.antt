@@ -12,7 +12,7 @@ use Rattle.types.specs.declared.event.Reply.TheVariants.{OutOfBounds}
 use Rattle.shared_memory.specs.declared.sleeper.Sleeper.{Sleeper}
 use Rattle.shared_memory.specs.Memory.{Memory}
 use Rattle.shared_memory.specs.WaitQueue.{WaitQueue, is_alive, is_among, is_asleep, answer_due}
-use Rattle.shared_memory.specs.WaitQueue.{amount, asked, after_answer, has_open_question}
+use Rattle.shared_memory.specs.WaitQueue.{amount, settled, asked, after_answer, has_open_question}
 use Rattle.shared_memory.specs.History.{entry, value_of, queue_after}
 use Rattle.shared_memory.specs.Legal.{IsQueueLegal, IsLegal}
 use Rattle.shared_memory_laws.specs.Exchanges.{exchanges_of, Alternate, lacks_an_answer}
@@ -96,6 +96,17 @@ ForGoodOnlyWhereNoTimeoutIsLeft = (history : List Entry) (e : Entry) (s : Sleepe
     → Contains (unsettled (queue_after history) e.thread e.event e.reply).sleepers s
     → answer_due (queue_after (history ++ e ∷ [])) s.thread ≡ Some ForGood
     → AllSleepForGood (unsettled (queue_after history) e.thread e.event e.reply)
+
+-- After no history that the wait queue allows do all live threads sleep: where somebody is alive, somebody alive is awake. So
+-- nobody is left asleep whose timeout would have to end, and nobody who would have to be told that it sleeps for good.
+abbrev pub SomebodyIsAwake : Type 0
+SomebodyIsAwake = (history : List Entry) (m : ℕ) → IsQueueLegal history → is_alive (queue_after history) m ≡ true
+    → (n : ℕ) × (is_alive (queue_after history) n ≡ true) × (is_asleep (queue_after history) n ≡ false)
+
+-- Settling after an answer taken would change nothing.
+abbrev pub AnswersTakenLeaveItSettled : Type 0
+AnswersTakenLeaveItSettled = (history : List Entry) (n : ℕ) → IsQueueLegal history
+    → settled (after_answer (queue_after history) n) ≡ after_answer (queue_after history) n
 
 -- Of two histories that begin the same list, one begins the other.
 abbrev pub OneHistoryPerLongestList : Type 0

@@ -6,6 +6,7 @@ mod callers;
 
 ghost use Rattle.shared_memory_laws.specs.Laws.{AnswersAlternate, OpenUntilAnswered, NeverAsleepAndOwed};
 ghost use Rattle.shared_memory_laws.specs.Laws.{NotifyWakesTheLongestAsleep, TimeoutsEndOnlyWhereAllSleep, ForGoodOnlyWhereNoTimeoutIsLeft};
+ghost use Rattle.shared_memory_laws.specs.Laws.{SomebodyIsAwake, AnswersTakenLeaveItSettled};
 ghost use Rattle.shared_memory_laws.specs.Laws.{OneHistoryPerLongestList, PrefixesAreLegal};
 ghost use Rattle.shared_memory_laws.specs.Example.{WorkedHistory};
 
@@ -39,6 +40,17 @@ pub fn timeout_ends_only_where_all_sleep()
 /// A thread is told that it sleeps for good only where all live threads sleep and no timeout is left to end.
 pub fn asleep_for_good_only_where_no_timeout_is_left()
     ensures { ForGoodOnlyWhereNoTimeoutIsLeft }
+{}
+
+/// After no legal history do all live threads sleep: where somebody is alive, somebody alive is awake. So no timeout is left
+/// that would have to end, and nobody sleeps who would have to be told that it does for good.
+pub fn somebody_alive_is_awake()
+    ensures { SomebodyIsAwake }
+{}
+
+/// Settling after an answer taken would change nothing.
+pub fn an_answer_taken_leaves_the_queue_settled()
+    ensures { AnswersTakenLeaveItSettled }
 {}
 
 /// The histories that threads have seen of one list are one history, as far as each of them goes.

@@ -7,10 +7,10 @@ use shared_memory::SharedMemory;
 use shared_memory_lanes::{lane_elsewhere, lane_of_with_lane};
 use shared_memory_laws::{
     a_prefix_of_a_legal_history_is_legal, a_question_is_open_until_its_answer_is_taken,
-    a_worked_history, agree, asleep_for_good_only_where_no_timeout_is_left,
-    asleep_or_owed_never_both, every_answer_taken_answers_one_question,
-    notify_wakes_the_longest_asleep, one_history_per_longest_list,
-    timeout_ends_only_where_all_sleep,
+    a_worked_history, agree, an_answer_taken_leaves_the_queue_settled,
+    asleep_for_good_only_where_no_timeout_is_left, asleep_or_owed_never_both,
+    every_answer_taken_answers_one_question, notify_wakes_the_longest_asleep,
+    one_history_per_longest_list, somebody_alive_is_awake, timeout_ends_only_where_all_sleep,
 };
 use std::alloc::Global;
 use std::marker::Brand;
@@ -25,6 +25,8 @@ fn laws_of_histories_ask_for_nothing() {
     notify_wakes_the_longest_asleep();
     timeout_ends_only_where_all_sleep();
     asleep_for_good_only_where_no_timeout_is_left();
+    somebody_alive_is_awake();
+    an_answer_taken_leaves_the_queue_settled();
     one_history_per_longest_list();
     a_prefix_of_a_legal_history_is_legal();
     a_worked_history();

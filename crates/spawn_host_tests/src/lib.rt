@@ -1,11 +1,13 @@
 //! Runs of modules over both memories. Behind gates that hold threads back, threads do run at the same time, and what a run
-//! leaves doesn't depend on who comes first; and the sign extensions, from bytes to values.
+//! leaves doesn't depend on who comes first; the sign extensions, from bytes to values; and the laws of records and runs.
 #![tactic(auto)]
 
 #[cfg(test)]
 mod at_once;
 #[cfg(test)]
 mod holding;
+#[cfg(test)]
+mod laws;
 #[cfg(test)]
 mod runs;
 #[cfg(test)]

@@ -5,3 +5,4 @@ pub mod Turning
 pub mod Beginning
 pub mod Surviving
 pub mod Locks
+pub mod Standing
