@@ -104,7 +104,7 @@ fn run_plain<G: Gate + Sync, R: Threads + Wait + Sync>(
 }
 
 /// Runs a module's function behind a gate.
-fn run_valid<G: Gate + Sync, R: Threads + Wait + Sync>(
+pub(crate) fn run_valid<G: Gate + Sync, R: Threads + Wait + Sync>(
     rt: &R,
     alloc: Global,
     valid: &ValidModule,

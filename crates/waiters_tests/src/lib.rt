@@ -4,6 +4,8 @@
 #![tactic(auto)]
 
 #[cfg(test)]
+mod blocked;
+#[cfg(test)]
 mod calls;
 mod dealt;
 #[cfg(test)]

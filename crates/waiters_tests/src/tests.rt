@@ -2,6 +2,7 @@
 ghost use Rattle.std.specs.Prelude.{◌≡◌};
 ghost use Rattle.waiters_tests.specs.Standing.{StandsFree, StandsNew};
 
+use crate::blocked::{Told, begin_beside, sleep_beside, wake_in_turn};
 use crate::dealt::{Dealt, deal};
 use crate::script::{Script, play, play_short, spawn_all, wait_alone};
 use crate::together::{Together, notify_beside};
@@ -26,6 +27,10 @@ enum Trial {
     Alone,
     AllIds,
     Together,
+    InTurn,
+    Asleep,
+    Spawned,
+    Over,
 }
 
 /// What was heard there.
@@ -36,6 +41,9 @@ enum Heard {
     Alone(Option<Answer>),
     AllIds([Result<u32, Full>; MOST_THREADS]),
     Together(Option<Together>),
+    InTurn(Option<(Result<Notified, Full>, [Told; 3])>),
+    Asleep(Option<(Answer, Option<Answer>)>),
+    Begun([Option<u32>; 3]),
 }
 
 /// Makes a trial with threads 0 to 3.
@@ -52,7 +60,7 @@ fn make<M, W, R>(
 where
     M: SharedMemory + Sync,
     W: Wait + Drop + Sync,
-    R: Threads,
+    R: Threads + Sync,
     requires zero { StandsFree (M.name zero.old) (M.seen zero.old) }
     requires one { StandsNew (M.name one.old) (M.seen one.old) }
     requires two { StandsNew (M.name two.old) (M.seen two.old) }
@@ -64,6 +72,12 @@ where
         Trial::Alone => Heard::Alone(wait_alone(desk, memory, zero)),
         Trial::AllIds => Heard::AllIds(spawn_all(desk, memory, zero)),
         Trial::Together => Heard::Together(notify_beside(rt, desk, memory, zero, one)),
+        Trial::InTurn => Heard::InTurn(wake_in_turn(rt, desk, memory, zero, one, two, three)),
+        Trial::Asleep => Heard::Asleep(sleep_beside(rt, desk, memory, zero, one)),
+        Trial::Spawned => {
+            Heard::Begun(begin_beside(rt, desk, memory, zero, one, two, three, true))
+        }
+        Trial::Over => Heard::Begun(begin_beside(rt, desk, memory, zero, one, two, three, false)),
     }
 }
 
@@ -167,5 +181,43 @@ fn a_blocked_thread_is_woken_by_another(rt: HostRuntime) -> Result<(), Fail> {
     };
     assert_eq!(rt; heard, Heard::Together(Some(together)));
     assert_eq!(rt; end.log.len(), 2006);
+    Ok(())
+}
+
+#[test]
+fn blocked_threads_are_woken_in_turn(rt: HostRuntime) -> Result<(), Fail> {
+    let (heard, end) = try_at(&rt, rt.alloc(), 1000, Trial::InTurn)?;
+    let told = [
+        (Answer::Number(0), Ok(Notified::Woke(1))),
+        (Answer::Number(0), Ok(Notified::Woke(1))),
+        (Answer::Number(0), Ok(Notified::Woke(0))),
+    ];
+    assert_eq!(rt; heard, Heard::InTurn(Some((Ok(Notified::Woke(1)), told))));
+    assert_eq!(rt; end.log.len(), 20);
+    Ok(())
+}
+
+#[test]
+fn a_timeout_ends_when_another_sleeps(rt: HostRuntime) -> Result<(), Fail> {
+    let (heard, end) = try_at(&rt, rt.alloc(), 1000, Trial::Asleep)?;
+    let told = (Answer::Number(2), Some(Answer::ForGood));
+    assert_eq!(rt; heard, Heard::Asleep(Some(told)));
+    assert_eq!(rt; end.log.len(), 8);
+    Ok(())
+}
+
+#[test]
+fn blocked_threads_begin_when_spawned(rt: HostRuntime) -> Result<(), Fail> {
+    let (heard, end) = try_at(&rt, rt.alloc(), 1000, Trial::Spawned)?;
+    assert_eq!(rt; heard, Heard::Begun([Some(100), Some(101), Some(102)]));
+    assert_eq!(rt; end.log.len(), 6);
+    Ok(())
+}
+
+#[test]
+fn blocked_threads_go_home_when_all_is_over(rt: HostRuntime) -> Result<(), Fail> {
+    let (heard, end) = try_at(&rt, rt.alloc(), 1000, Trial::Over)?;
+    assert_eq!(rt; heard, Heard::Begun([None, None, None]));
+    assert_eq!(rt; end.log.len(), 2);
     Ok(())
 }
