@@ -1,6 +1,6 @@
 //! A run over the memory that records.
 ghost use Rattle.std.specs.Prelude.{◌≡◌, ◌≤◌, ◌+◌, ◌++◌, [], length, vec_len, vec_capacity, IfOk};
-ghost use Rattle.types.specs.Limits.{most_threads, most_limit};
+ghost use Rattle.types.specs.Limits.{most_threads, most_limit, most_fuel};
 ghost use Rattle.spawn_host.specs.Runs.{opening_memory};
 ghost use Rattle.replay.specs.Runs.{IsRunOf};
 ghost use Rattle.report_runs.specs.Ends.{RecordsRun};
@@ -19,7 +19,7 @@ use std::marker::Brand;
 use std::sync::Wait;
 use std::thread::Threads;
 use thiserror::Error;
-use types::{MOST_FUEL, MOST_THREADS, Name, Sequence, ThreadReport, Value};
+use types::{MOST_THREADS, Name, Sequence, ThreadReport, Value};
 use validate::ValidModule;
 
 /// Why there is no run over a memory of its own. All come before the first turn.
@@ -34,13 +34,10 @@ pub enum RecordRunFault {
     /// 3: the system had too little memory left.
     #[error("no memory")]
     NoMemory,
-    /// 4: the fuel passes 1,000,000,000,000 units.
-    #[error("fuel")]
-    Fuel,
 }
 
 impl RecordRunFault {
-    /// The fault's number, 1 to 4.
+    /// The fault's number, 1 to 3.
     pub fn number(self) -> u8
         ensures { result ≡ record_run_fault_number self }
     {
@@ -48,7 +45,6 @@ impl RecordRunFault {
             RecordRunFault::Open(_) => 1,
             RecordRunFault::Run(_) => 2,
             RecordRunFault::NoMemory => 3,
-            RecordRunFault::Fuel => 4,
         }
     }
 }
@@ -88,7 +84,7 @@ struct Header {
 /// reports, pages and bytes. So the record is of a run of the module, and that ends as this one did.
 ///
 /// # Errors
-/// `Fuel` where the fuel is out of its range, `Open` where the recorder can't be opened, also where the limit is out of its
+/// `Open` where the recorder can't be opened, also where the limit is out of its
 /// range, `Run` where the run can't begin, `NoMemory`. All come before the first turn.
 pub fn record_run<G, R>(
     rt: &R,
@@ -101,13 +97,11 @@ pub fn record_run<G, R>(
 where
     G: Gate + Sync,
     R: Threads + Wait + Sync,
+    requires fuel { call.fuel ≤ most_fuel }
     ensures record { IfOk result (λ r. RecordsRun «module».now.parts call.entry.name.now call.entry.args.now call.entry.fuel
         limit r.0 r.1) }
     ensures run { IfOk result (λ r. IsRunOf «module».now.parts r.0 r.1) }
 {
-    if call.fuel > MOST_FUEL {
-        return Err(RecordRunFault::Fuel);
-    }
     let (parts, end) = run_recorded(rt, alloc, module, call, limit, gate)?;
     match Record::new(parts) {
         Ok(record) => Ok((record, end)),
