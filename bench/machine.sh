@@ -1,8 +1,10 @@
 #!/bin/bash
-# Runs the modules of machine/ by wathread over both memories and by wabt's wasm-interp, and prints how many million
-# instructions each makes a second, in processor time, and what ours are of the other. Then what memory runs take. Other work on the
-# machine slows all sides, so the least of several runs counts, and the sides take turns.
-# Needs wabt, python3 and time (Debian: apt-get install wabt python3 time). ROUNDS=N: how often each runs.
+# Runs the modules of machine/ by wathread over both memories, by wabt's wasm-interp and by JavaScriptCore's interpreter in
+# place, and prints how many million instructions each makes a second, in processor time, and what ours are of wabt's. The
+# loop of `sum` is also made by an interpreter in C (turns.c), by its own clock. Then what memory runs take. Other work on
+# the machine slows all sides, so the least of several runs counts, and the sides take turns.
+# Needs wabt, python3, cc and time (Debian: apt-get install wabt python3 gcc time); JavaScriptCore's shell is left out
+# where it isn't there (Debian: libjavascriptcoregtk-4.0-bin). ROUNDS=N: how often each runs.
 set -eu
 source "$(dirname "$0")/common.sh"
 
@@ -13,16 +15,25 @@ units_of() {
 }
 
 machine
-printf '%-6s %12s %15s %14s %14s %14s %14s\n' module instructions 'recorder M/s' 'words M/s' 'wabt M/s' recorder/wabt words/wabt
+sides=(recorder words wabt)
+! command -v jsc >/dev/null || sides+=(jsc)
+printf '%-6s %12s' module instructions
+printf ' %12s' "${sides[@]/%/ M/s}" recorder/wabt words/wabt
+echo
 for name in sum fib sieve adds; do
     file=$(module machine/$name)
-    "$top/bench/least.py" "$rounds" recorder="$(run_of locked "$file")" words="$(run_of words "$file")" \
-        wabt="wasm-interp --enable-threads $file --run-all-exports" >"$work/times"
-    awk -v name=$name -v units="$(units_of "$file")" '{ ms[$1] = $3 } END {
-        printf "%-6s %12d %15.1f %14.1f %14.1f %14.2f %14.2f\n", name, units, units / ms["recorder"] / 1e3,
-            units / ms["words"] / 1e3, units / ms["wabt"] / 1e3, ms["wabt"] / ms["recorder"], ms["wabt"] / ms["words"]
+    commands=(recorder="$(run_of locked "$file")" words="$(run_of words "$file")"
+        wabt="wasm-interp --enable-threads $file --run-all-exports"
+        jsc="jsc --useBBQJIT=0 --useOMGJIT=0 $top/bench/jsc.js -- $file")
+    "$top/bench/least.py" "$rounds" "${commands[@]:0:${#sides[@]}}" >"$work/times"
+    awk -v name=$name -v units="$(units_of "$file")" '{ ms[$1] = $3; side[NR] = $1 } END {
+        printf "%-6s %12d", name, units
+        for (i = 1; i <= NR; i++) printf " %12.1f", units / ms[side[i]] / 1e3
+        printf " %12.2f %12.2f\n", ms["wabt"] / ms["recorder"], ms["wabt"] / ms["words"]
     }' "$work/times"
 done
+cc -O2 -o "$work/turns" "$top/bench/turns.c"
+"$top/bench/least.py" "$rounds" turns="$work/turns" | awk '{ printf "sum in C, %.1f M/s\n", 24000.003 / $4 }'
 
 # The largest part of a run that stayed in memory, in KiB.
 resident() {

@@ -1,7 +1,8 @@
 //! Sign extensions, from a module's bytes to what it gives. The values are worked out by hand, and node 20.20.2 gives them too.
 
-use crate::runs::{BOTH, has_reports, run};
+use crate::runs::{BOTH, FUEL, has_ends, run};
 use interp_trait::OpenGate;
+use report::check;
 use std::test::Fail;
 use test_modules::{GIVING_I32, I32, I64, Small};
 use types::{Outcome, ValType, Value};
@@ -69,11 +70,47 @@ fn extends_signs(rt: HostRuntime) -> Result<(), Fail> {
             ..GIVING_I32
         };
         let bytes = module.bytes(rt.alloc())?;
-        let wanted = [(Outcome::Done(Some(example.gives)), 3)];
+        let wanted = [(Outcome::Done(Some(example.gives)), Some(3))];
         for memory in BOTH {
-            let end = run(&rt, rt.alloc(), &bytes, &[], memory, &OpenGate)?;
-            assert!(rt; has_reports(&end, &wanted), "{end:?}");
+            let end = run(&rt, rt.alloc(), &bytes, &[], FUEL, memory, &OpenGate)?;
+            assert!(rt; has_ends(&end, &wanted), "{end:?}");
         }
+    }
+    Ok(())
+}
+
+/// A function's code, and the line by which a module of it is refused.
+#[derive(Clone, Copy)]
+struct Refused {
+    body: &'static [u8],
+    line: &'static str,
+}
+
+/// The opcode behind the last sign extension, and an operand of another type.
+static REFUSED: [Refused; 2] = [
+    Refused {
+        body: b"\x41\x00\xc5",
+        line: "module refused: read 7 at 39\n",
+    },
+    Refused {
+        body: b"\x42\x00\xc0",
+        line: "module refused: validity 1 in function 0 at 1\n",
+    },
+];
+
+#[test]
+fn refuses_what_is_none(rt: HostRuntime) -> Result<(), Fail> {
+    for refused in &REFUSED {
+        let module = Small {
+            body: refused.body,
+            ..GIVING_I32
+        };
+        let bytes = module.bytes(rt.alloc())?;
+        let mut out = Vec::new(rt.alloc());
+        let mut err = Vec::new(rt.alloc());
+        let status = check(rt.alloc(), &bytes, &mut out, &mut err);
+        assert_eq!(rt; status, 2);
+        assert!(rt; err.as_slice() == refused.line.as_bytes(), "{err:?}");
     }
     Ok(())
 }
