@@ -3,6 +3,8 @@ ghost use Rattle.std.specs.Prelude.{◌≡◌, ◌≤◌, ◌⊎◌, ℕ, List, 
 ghost use Rattle.std.specs.Io.KnownBytes.{Appends};
 ghost use Rattle.report_lines.specs.Lines.{functions_line};
 ghost use Rattle.types.specs.declared.parts.Parts.{Parts};
+ghost use Rattle.types.specs.Limits.{most_fuel};
+ghost use Rattle.report_command.specs.Jobs.{IsInRange};
 ghost use Rattle.report.specs.Jobs.{IsAccepted, IsReplayed, IsNoRecordOf, IsUnfit, IsOfNoRun};
 
 use crate::loading::{Refusal, load};
@@ -27,6 +29,8 @@ const FAULT: u8 = 5;
 
 /// Does a job on a module's bytes: writes its lines to `out`, and at most one line about what went wrong to `err`.
 ///
+/// The job's numbers are in their ranges, as those of a job are that `command` gives.
+///
 /// `saved` has the bytes of the record that a replay reads, and else nothing. `save` takes the record that a run makes, after
 /// the lines.
 ///
@@ -48,6 +52,7 @@ where
     W: Write,
     E: Write,
     S: Write,
+    requires { IsInRange job.now }
     ensures { result ≤ 5 }
 {
     match job {
@@ -162,6 +167,7 @@ where
     W: Write,
     E: Write,
     S: Write,
+    requires { wanted.now.fuel ≤ most_fuel }
     ensures { result ≤ 5 }
 {
     let valid = match load(alloc, module) {
@@ -237,10 +243,6 @@ fn complain<E: Write>(err: &mut E, trouble: Trouble, path: Option<&str>) -> u8
         }
         Trouble::WrongArguments => {
             say(err, "run refused: wrong arguments");
-            RUN_REFUSED
-        }
-        Trouble::Fuel => {
-            say(err, "run refused: fuel");
             RUN_REFUSED
         }
         Trouble::NoThread => {

@@ -1,6 +1,7 @@
 //! Runs of modules by the program: over which memory, and what is printed.
 ghost use Rattle.std.specs.Prelude.{◌≤◌, IfOk};
 ghost use Rattle.std.specs.Io.KnownBytes.{Appends};
+ghost use Rattle.types.specs.Limits.{most_fuel};
 ghost use Rattle.report_lines.specs.Lines.{end_lines};
 
 use crate::args::read_args;
@@ -34,8 +35,6 @@ pub(crate) struct Wanted<'a> {
 pub(crate) enum Trouble {
     UnknownExport,
     WrongArguments,
-    /// The fuel passes its range.
-    Fuel,
     NoThread,
     NoMemory,
     /// Standard output failed.
@@ -66,7 +65,6 @@ impl From<RecordRunFault> for Trouble {
         match fault {
             RecordRunFault::Run(fault) => Trouble::from(fault),
             RecordRunFault::Open(_) | RecordRunFault::NoMemory => Trouble::NoMemory,
-            RecordRunFault::Fuel => Trouble::Fuel,
         }
     }
 }
@@ -96,6 +94,7 @@ where
     R: Threads + Wait + Sync,
     W: Write,
     S: Write,
+    requires fuel { wanted.now.fuel ≤ most_fuel }
     ensures { IfOk result (λ status. status ≤ 1) }
 {
     let args = args_of(alloc, module, wanted)?;

@@ -7,4 +7,3 @@ abbrev pub record_run_fault_number : RecordRunFault → ℕ
 record_run_fault_number (faults.Open f) = 1
 record_run_fault_number (faults.Run f) = 2
 record_run_fault_number faults.NoMemory = 3
-record_run_fault_number faults.Fuel = 4

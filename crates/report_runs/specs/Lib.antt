@@ -1,3 +1,4 @@
 pub mod Ends
 pub mod FaultNumbers
 pub mod Logs
+pub mod RunFaults

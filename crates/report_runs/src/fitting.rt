@@ -1,12 +1,23 @@
-//! What the types of a record's parts say of its numbers: functions that only look, for the facts.
+//! What the types of a record's parts say of its numbers, and that of modules of their memories: functions that only look, for
+//! the facts.
 ghost use Rattle.std.specs.List.{All};
 ghost use Rattle.std.specs.Prelude.{◌≡◌, ◌≤◌, true};
 ghost use Rattle.std.specs.Str.{is_utf8};
+ghost use Rattle.shared_memory_sequential.specs.Opening.{can_open};
+ghost use Rattle.spawn_host.specs.Runs.{opening_memory};
 ghost use Rattle.replay_text.specs.Conditions.{IsValue, IsOutcome};
 ghost use Rattle.replay_rules.specs.Ranges.{EntryFits, ReportFits, AreTyped};
 
 use replay_text::RecordParts;
 use types::{Entry, ThreadReport, Value};
+use validate::ValidModule;
+
+/// The opening memory of a valid module can be opened.
+pub(crate) fn show_memory_opens(module: &ValidModule)
+    ensures { can_open (opening_memory module.now.parts).bytes (opening_memory module.now.parts).max ≡ true }
+{
+    let _parts = module.parts();
+}
 
 /// A name is UTF-8, and its bytes are bytes.
 fn show_name_fits(name: &str)

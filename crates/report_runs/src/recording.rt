@@ -1,25 +1,28 @@
 //! A run over the memory that records.
-ghost use Rattle.std.specs.Prelude.{◌≡◌, ◌≤◌, ◌+◌, ◌++◌, [], length, vec_len, vec_capacity, IfOk};
-ghost use Rattle.types.specs.Limits.{most_threads, most_limit};
+ghost use Rattle.std.specs.Prelude.{◌≡◌, ◌≤◌, ◌+◌, ◌++◌, [], length, vec_len, vec_capacity, IfOk, IfErr};
+ghost use Rattle.types.specs.Limits.{most_threads, most_limit, most_fuel};
 ghost use Rattle.spawn_host.specs.Runs.{opening_memory};
 ghost use Rattle.replay.specs.Runs.{IsRunOf};
 ghost use Rattle.report_runs.specs.Ends.{RecordsRun};
 ghost use Rattle.report_runs.specs.FaultNumbers.{record_run_fault_number};
+ghost use Rattle.report_runs.specs.RunFaults.{IsRecordingFault};
+ghost use Rattle.report_runs.specs.declared.recording.RecordRunFault.TheVariants as faults;
+ghost use Rattle.spawn_host.specs.Entries.{Takes};
 
-use crate::fitting::show_parts_fit;
+use crate::fitting::{show_memory_opens, show_parts_fit};
 use interp_trait::Gate;
 use locked_recorder::{LockedRecorder, Naming, Prepared};
 use replay::EndState;
 use replay_text::{Record, RecordParts};
 use shared_memory_sequential::OpenFault;
-use spawn_host::{Call, run};
+use spawn_host::{Call, first_thread, run};
 use spawn_host_workers::RunFault;
 use std::alloc::{AllocError, Global};
 use std::marker::Brand;
 use std::sync::Wait;
 use std::thread::Threads;
 use thiserror::Error;
-use types::{MOST_FUEL, MOST_THREADS, Name, Sequence, ThreadReport, Value};
+use types::{MOST_LIMIT, MOST_THREADS, Name, Sequence, ThreadReport, Value};
 use validate::ValidModule;
 
 /// Why there is no run over a memory of its own. All come before the first turn.
@@ -34,13 +37,10 @@ pub enum RecordRunFault {
     /// 3: the system had too little memory left.
     #[error("no memory")]
     NoMemory,
-    /// 4: the fuel passes 1,000,000,000,000 units.
-    #[error("fuel")]
-    Fuel,
 }
 
 impl RecordRunFault {
-    /// The fault's number, 1 to 4.
+    /// The fault's number, 1 to 3.
     pub fn number(self) -> u8
         ensures { result ≡ record_run_fault_number self }
     {
@@ -48,24 +48,29 @@ impl RecordRunFault {
             RecordRunFault::Open(_) => 1,
             RecordRunFault::Run(_) => 2,
             RecordRunFault::NoMemory => 3,
-            RecordRunFault::Fuel => 4,
         }
     }
 }
 
 impl From<AllocError> for RecordRunFault {
+    ghost from_gives = { λ _ e. e ≡ faults.NoMemory };
+
     fn from(_: AllocError) -> RecordRunFault {
         RecordRunFault::NoMemory
     }
 }
 
 impl From<OpenFault> for RecordRunFault {
+    ghost from_gives = { λ f e. e ≡ faults.Open f };
+
     fn from(fault: OpenFault) -> RecordRunFault {
         RecordRunFault::Open(fault)
     }
 }
 
 impl From<RunFault> for RecordRunFault {
+    ghost from_gives = { λ f e. e ≡ faults.Run f };
+
     fn from(fault: RunFault) -> RecordRunFault {
         RecordRunFault::Run(fault)
     }
@@ -88,8 +93,10 @@ struct Header {
 /// reports, pages and bytes. So the record is of a run of the module, and that ends as this one did.
 ///
 /// # Errors
-/// `Fuel` where the fuel is out of its range, `Open` where the recorder can't be opened, also where the limit is out of its
-/// range, `Run` where the run can't begin, `NoMemory`. All come before the first turn.
+/// `Open` with `PastLimit` exactly where the limit is out of its range. Otherwise `Run` with `UnknownExport` exactly where no
+/// function of the module itself is exported under the name, and with `WrongArguments` exactly where one is, and the arguments
+/// don't fit it. Otherwise `NoMemory`, `Open` or `Run` where memory is refused, and `Run` with `NoThread` where the system
+/// starts no further thread. All come before the first turn.
 pub fn record_run<G, R>(
     rt: &R,
     alloc: Global,
@@ -101,13 +108,17 @@ pub fn record_run<G, R>(
 where
     G: Gate + Sync,
     R: Threads + Wait + Sync,
+    requires fuel { call.fuel ≤ most_fuel }
     ensures record { IfOk result (λ r. RecordsRun «module».now.parts call.entry.name.now call.entry.args.now call.entry.fuel
         limit r.0 r.1) }
     ensures run { IfOk result (λ r. IsRunOf «module».now.parts r.0 r.1) }
+    ensures fault { IfErr result (λ fault. IsRecordingFault «module».now.parts call.entry.name.now call.entry.args.now limit fault) }
 {
-    if call.fuel > MOST_FUEL {
-        return Err(RecordRunFault::Fuel);
+    if limit == 0 || limit > MOST_LIMIT {
+        return Err(RecordRunFault::Open(OpenFault::PastLimit));
     }
+    // Before the memory takes room, so that a call that can't be made is told as such.
+    let _ = first_thread(alloc, module, call)?;
     let (parts, end) = run_recorded(rt, alloc, module, call, limit, gate)?;
     match Record::new(parts) {
         Ok(record) => Ok((record, end)),
@@ -131,8 +142,13 @@ fn run_recorded<G, R>(
 where
     G: Gate + Sync,
     R: Threads + Wait + Sync,
-    ensures { IfOk result (λ r. RecordsRun «module».now.parts call.entry.name.now call.entry.args.now call.entry.fuel limit r.0 r.1) }
+    requires range { (1 ≤ limit) × (limit ≤ most_limit) }
+    requires takes { Takes «module».now.parts call.name.now call.args.now }
+    ensures made { IfOk result (λ r. RecordsRun «module».now.parts call.entry.name.now call.entry.args.now call.entry.fuel
+        limit r.0 r.1) }
+    ensures fault { IfErr result (λ fault. IsRecordingFault «module».now.parts call.entry.name.now call.entry.args.now limit fault) }
 {
+    show_memory_opens(module);
     let header = Header {
         invoke: Name::from_string(String::from_str(alloc, call.name)?),
         args: Sequence::from_vec(Vec::from_slice(alloc, call.args)?),
@@ -166,7 +182,9 @@ where
     requires range { (1 ≤ limit) × (limit ≤ most_limit) }
     requires ends { header.ends.items ≡ [] }
     requires room { most_threads ≤ vec_capacity header.ends }
-    ensures { IfOk result (λ r. RecordsRun «module».now.parts header.invoke header.args header.fuel limit r.0 r.1) }
+    requires takes { Takes «module».now.parts header.invoke header.args }
+    ensures made { IfOk result (λ r. RecordsRun «module».now.parts header.invoke header.args header.fuel limit r.0 r.1) }
+    ensures fault { IfErr result (λ fault. IsRecordingFault «module».now.parts header.invoke header.args limit fault) }
 {
     let Header {
         invoke,

@@ -1,13 +1,17 @@
 //! A run over the row of words.
-ghost use Rattle.std.specs.Prelude.{◌≡◌, IfOk};
+ghost use Rattle.std.specs.Prelude.{◌≡◌, ◌≤◌, ◌*◌, [], length, vec_capacity, IfOk, IfErr};
+ghost use Rattle.types.specs.Limits.{page_size};
+ghost use Rattle.spawn_host.specs.Entries.{Takes};
 ghost use Rattle.spawn_host.specs.Runs.{opening_memory};
 ghost use Rattle.report_runs.specs.Ends.{EndsRunOnWords};
+ghost use Rattle.report_runs.specs.RunFaults.{IsWordsFault};
 
+use crate::fitting::show_memory_opens;
 use crate::recording::RecordRunFault;
 use interp_trait::Gate;
 use replay::EndState;
-use spawn_host::{Call, run};
-use std::alloc::{AllocError, Global};
+use spawn_host::{Call, first_thread, run};
+use std::alloc::Global;
 use std::marker::Brand;
 use std::sync::Wait;
 use std::thread::Threads;
@@ -22,8 +26,10 @@ use word_row::{ClosedRow, Naming, Prepared, WordRow};
 /// reports, pages and bytes.
 ///
 /// # Errors
-/// `Open` where the row can't be opened, `Run` where the run can't begin: both come before the first turn. `NoMemory`
-/// before the first turn, or where the bytes can't be copied out of the row after the last.
+/// `Run` with `UnknownExport` exactly where no function of the module itself is exported under the name, and with
+/// `WrongArguments` exactly where one is, and the arguments don't fit it. Otherwise `NoMemory`, `Open` or `Run` where memory is
+/// refused, and `Run` with `NoThread` where the system starts no further thread. All come before the first turn: room for the
+/// final bytes is taken before it, and nothing afterwards.
 pub fn run_on_words<G, R>(
     rt: &R,
     alloc: Global,
@@ -34,11 +40,16 @@ pub fn run_on_words<G, R>(
 where
     G: Gate + Sync,
     R: Threads + Wait + Sync,
-    ensures { IfOk result (λ end. EndsRunOnWords «module».now.parts call.entry.name.now call.entry.args.now call.entry.fuel end) }
+    ensures end { IfOk result (λ end. EndsRunOnWords «module».now.parts call.entry.name.now call.entry.args.now call.entry.fuel end) }
+    ensures fault { IfErr result (λ fault. IsWordsFault «module».now.parts call.entry.name.now call.entry.args.now fault) }
 {
+    // Before the memory takes room, so that a call that can't be made is told as such.
+    let _ = first_thread(alloc, module, call)?;
+    show_memory_opens(module);
+    let bytes = Vec::with_capacity(alloc, PAGE_SIZE * module.pages_max() as usize)?;
     let image = module.image(alloc)?;
     let prepared = Prepared::new(alloc, &image, module.pages_max())?;
-    run_named::<Brand, _, _>(rt, alloc, module, prepared, call, gate)
+    run_named::<Brand, _, _>(rt, alloc, module, prepared, bytes, call, gate)
 }
 
 /// The same, over a row whose type has been named.
@@ -47,6 +58,7 @@ fn run_named<B, G, R>(
     alloc: Global,
     module: &ValidModule,
     prepared: Prepared,
+    mut bytes: Vec<u8>,
     call: Call,
     gate: &G,
 ) -> Result<EndState, RecordRunFault>
@@ -57,13 +69,17 @@ where
     requires table { prepared.table ≡ B.table }
     requires opening { prepared.opening ≡ B.opening }
     requires image { B.opening ≡ opening_memory «module».now.parts }
-    ensures { IfOk result (λ end. EndsRunOnWords «module».now.parts call.entry.name.now call.entry.args.now call.entry.fuel end) }
+    requires takes { Takes «module».now.parts call.name.now call.args.now }
+    requires none { bytes.items ≡ [] }
+    requires room { page_size * (opening_memory «module».now.parts).max ≤ vec_capacity bytes }
+    ensures end { IfOk result (λ end. EndsRunOnWords «module».now.parts call.entry.name.now call.entry.args.now call.entry.fuel end) }
+    ensures fault { IfErr result (λ fault. IsWordsFault «module».now.parts call.entry.name.now call.entry.args.now fault) }
 {
     let (memory, seats) = WordRow::<B>::open(alloc, prepared)?;
     let end = run(rt, alloc, module, call, &memory, seats, gate)?;
     let closed = memory.close(end.seats);
     let pages = closed.pages();
-    let bytes = bytes_of(alloc, &closed)?;
+    copy_bytes(&closed, &mut bytes);
     Ok(EndState {
         threads: end.threads,
         pages,
@@ -71,17 +87,16 @@ where
     })
 }
 
-/// The bytes of a closed row.
-fn bytes_of(alloc: Global, closed: &ClosedRow) -> Result<Vec<u8>, AllocError>
-    ensures { IfOk result (λ bytes. bytes.items ≡ closed.now.bytes) }
+/// Copies the bytes of a closed row into the room that was kept for them.
+fn copy_bytes(closed: &ClosedRow, bytes: &mut Vec<u8>)
+    requires none { bytes.old.items ≡ [] }
+    requires room { length closed.now.bytes ≤ vec_capacity bytes.old }
+    ensures { bytes.new.items ≡ closed.now.bytes }
 {
-    let count = PAGE_SIZE * closed.pages() as usize;
-    let mut bytes = Vec::with_capacity(alloc, count)?;
-    for at in 0..count {
+    for at in 0..PAGE_SIZE * closed.pages() as usize {
         match closed.byte(at) {
             Some(byte) => bytes.push_reserved(byte),
             None => unreachable!(),
         }
     }
-    Ok(bytes)
 }

@@ -1,5 +1,7 @@
 //! The program on a command line: what it writes, and its status.
 
+ghost use Rattle.report_command.specs.Jobs.{IsInRange};
+
 use report::{Job, Usage, command, perform};
 use std::alloc::{AllocError, Global};
 use std::process::Abort;
@@ -44,7 +46,9 @@ fn give<R: Threads + Wait + Sync>(
     job: &Job,
     module: &[u8],
     saved: &[u8],
-) -> Gave {
+) -> Gave
+    requires { IsInRange job.now }
+{
     let mut gave = nothing(alloc);
     gave.status = perform(
         rt,

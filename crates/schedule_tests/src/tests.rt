@@ -14,7 +14,7 @@ use test_modules::{
     ADDING, COUNTING, ENDLESS, GROWING, OUTSIDE, RACING, SUMMING, TIMEOUTS, TRAPPING,
     WAITING_FOR_GOOD,
 };
-use types::{Entry, Event, Outcome, Stop, ThreadReport, Value};
+use types::{Entry, Event, MOST_FUEL, Outcome, Stop, ThreadReport, Value};
 use validate::ValidModule;
 
 /// How many turns of its own a thread makes at most between two entries.
@@ -40,13 +40,14 @@ struct Recorded {
     end: EndState,
 }
 
-fn record<R: Threads + Wait + Sync>(
+fn record<R: Threads + Wait + Abort + Sync>(
     rt: &R,
     alloc: Global,
     module: &ValidModule,
     fuel: u64,
     limit: u32,
 ) -> Result<Recorded, Fail> {
+    assert!(rt; fuel <= MOST_FUEL);
     let (record, end) = record_run(rt, alloc, module, call_with(fuel), limit, &OpenGate)?;
     Ok(Recorded {
         log: Vec::from_slice(alloc, record.parts().log.as_slice())?,

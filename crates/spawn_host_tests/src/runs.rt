@@ -7,7 +7,7 @@ use report::{Call, EndState, RecordRunFault, Refusal, load, record_run, run_on_w
 use std::alloc::{AllocError, Global};
 use std::sync::Wait;
 use std::thread::Threads;
-use types::{MOST_LIMIT, Outcome, ThreadReport, Value};
+use types::{MOST_FUEL, MOST_LIMIT, Outcome, ThreadReport, Value};
 use validate::ValidModule;
 
 /// Over which memory, and how many entries its log takes.
@@ -35,6 +35,8 @@ pub(crate) enum Trouble {
     Refused(Refusal),
     Run(RecordRunFault),
     Replay(ReplayFault),
+    /// A record can't have so much fuel.
+    Fuel,
     /// The replay came to another end than the run.
     AnotherEnd,
     NoMemory,
@@ -84,6 +86,9 @@ fn run_recorded<G: Gate + Sync, R: Threads + Wait + Sync>(
     limit: u32,
     gate: &G,
 ) -> Result<EndState, Trouble> {
+    if call.fuel > MOST_FUEL {
+        return Err(Trouble::Fuel);
+    }
     let (record, end) = record_run(rt, alloc, valid, call, limit, gate)?;
     if comes_to(alloc, valid, &record, &end)? {
         Ok(end)

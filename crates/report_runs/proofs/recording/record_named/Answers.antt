@@ -1,8 +1,11 @@
-use Rattle.std.proofs.Common.{◌≡◌, ◌++◌, List, length, Some, false, refl, sym, ◌∙◌, ap, arith}
+use Rattle.std.proofs.Common.{◌≡◌, ◌++◌, ℕ, List, length, Some, false, refl, sym, ◌∙◌, ap, subst, arith}
+use Rattle.std.proofs.lemmas.Result.{err_from_is_err_and}
+use Rattle.types.specs.declared.value.Value.{Value}
 use Rattle.types.specs.declared.outcome.ThreadReport.{ThreadReport}
 use Rattle.shared_memory.specs.Memory.{Memory, pages}
 use Rattle.shared_memory.specs.History.{memory_after}
 use Rattle.locked_recorder.specs.Promises.{Begins}
+use Rattle.spawn_host.specs.Faults.{IsFaultOf}
 use Rattle.report_runs.proofs.NewSeats.{seat_name, seat_new, seat_right}
 use Rattle.report_runs.proofs.Leaving.{leaves, few_reports, limited_by, the_same}
 use Rattle.report_runs.proofs.recording.record_named.Goals as goal
@@ -25,8 +28,19 @@ copy_reports-requires g c =
     let room = c.requires.room in
     omega arith
 
-pub returns : goal.returns
-returns g c =
+pub returns-in_err-end-clause-fault : goal.returns-in_err-end-clause-fault
+returns-in_err-end-clause-fault g c =
+    let p = err_from_is_err_and c.from_residual-in_err-end.result c.from_residual-in_err-end.ensures.1 in
+    let m = c.args.module.now.parts in
+    let f = c.in_err-end.field-0.0 in
+    rw (p.1, p.2) (
+      c.requires.range,
+      subst (λ (n : List ℕ). IsFaultOf m n c.args.header.args f) c.as_str.ensures
+          (subst (λ (a : List Value). IsFaultOf m c.as_str.result.now a f) c.as_slice.ensures c.in_err-end.ensures.fault),
+    )
+
+pub returns-clause-made : goal.returns-clause-made
+returns-clause-made g c =
     let log = c.finish-finished.result.log.items in
     record {
       invoke = refl;

@@ -1,10 +1,12 @@
-use Rattle.std.proofs.Common.{◌∙◌, ap}
+use Rattle.std.proofs.Common.{◌∙◌, ap, arith}
+use Rattle.std.proofs.lemmas.Result.{err_from_is_err_and}
 use Rattle.shared_memory.specs.Memory.{Memory, pages}
 use Rattle.shared_memory.specs.History.{memory_after}
 use Rattle.shared_memory_on_table.specs.Callers.{GoesOn}
 use Rattle.report_runs.proofs.NewSeats.{seat_name, seat_new}
 use Rattle.report_runs.proofs.Whole.{of_no_seat, went_on}
 use Rattle.report_runs.proofs.Leaving.{leaves}
+use Rattle.report_runs.proofs.Openable.{max_kept}
 use Rattle.report_runs.proofs.words.run_named.Goals as goal
 
 pub run-requires-clause-names : goal.run-requires-clause-names
@@ -13,13 +15,27 @@ run-requires-clause-names g c κs within = λ k d less. seat_name (λ s. s.calle
 pub run-requires-clause-new : goal.run-requires-clause-new
 run-requires-clause-new g c κs within = λ k d less. seat_new (λ s. s.caller) c.in_ok-memory.seats.items c.in_ok-memory.ensures.seats k d less
 
-pub returns : goal.returns
-returns g c =
+pub copy_bytes-requires-clause-room : goal.copy_bytes-requires-clause-room
+copy_bytes-requires-clause-room g c =
+    let close = c.close-closed.ensures in
+    let max = λ (m : Memory). m.max in
+    let same = ap max close.3 ∙ max_kept _ close.0 ∙ ap max c.requires.image in
+    let within = c.pages-pages.ensures.sized.within in
+    let room = c.requires.room in
+    omega (arith, same, within, room)
+
+pub returns-in_err-end-clause-fault : goal.returns-in_err-end-clause-fault
+returns-in_err-end-clause-fault g c =
+    let p = err_from_is_err_and c.from_residual-in_err-end.result c.from_residual-in_err-end.ensures.1 in
+    rw (p.1, p.2) c.in_err-end.ensures.fault
+
+pub returns-clause-end : goal.returns-clause-end
+returns-clause-end g c =
     let close = c.close-closed.ensures in (
       close.0,
       leaves (λ s. s.caller) (λ s. GoesOn s.caller close.0) _ _ _ _ _ _ _ c.in_ok-end.end.seats.items close.0 _
           c.in_ok-end.ensures.run (λ n large. of_no_seat close.0 n close.2.entries large)
           (λ s x. went_on s.caller close.0 x) close.1
           (c.pages-pages.ensures.count ∙ ap pages close.3 ∙ ap (λ (o : Memory). pages (memory_after o close.0)) c.requires.image)
-          (c.in_ok-bytes.ensures ∙ ap (λ (m : Memory). m.bytes) close.3 ∙ ap (λ (o : Memory). (memory_after o close.0).bytes) c.requires.image),
+          (c.copy_bytes.ensures ∙ ap (λ (m : Memory). m.bytes) close.3 ∙ ap (λ (o : Memory). (memory_after o close.0).bytes) c.requires.image),
     )

@@ -1,6 +1,6 @@
 use Rattle.std.proofs.Common.{◌++◌, ◌∷◌, [], sym, ◌∙◌, ap, arith}
 use Rattle.report_runs.proofs.Fronts.{front_more}
-use Rattle.report_runs.proofs.words.bytes_of.Goals as goal
+use Rattle.report_runs.proofs.words.copy_bytes.Goals as goal
 
 pub loop-at-preserved : goal.loop-at-preserved
 loop-at-preserved c = record {
