@@ -5,6 +5,8 @@
 #[cfg(test)]
 mod at_once;
 #[cfg(test)]
+mod faults;
+#[cfg(test)]
 mod holding;
 #[cfg(test)]
 mod runs;
