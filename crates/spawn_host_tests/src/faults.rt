@@ -23,7 +23,7 @@ struct Faulty {
     fault: RecordRunFault,
 }
 
-static FAULTY: [Faulty; 6] = [
+static FAULTY: [Faulty; 7] = [
     Faulty {
         module: Module::Small(ADDING),
         name: "g",
@@ -66,6 +66,14 @@ static FAULTY: [Faulty; 6] = [
         memories: &[Memory::Locked {
             limit: MOST_LIMIT + 1,
         }],
+        fault: RecordRunFault::Open(OpenFault::PastLimit),
+    },
+    // the limit is told before the arguments
+    Faulty {
+        module: Module::Small(ADDING),
+        name: "f",
+        args: &[Value::I32(0)],
+        memories: &[Memory::Locked { limit: 0 }],
         fault: RecordRunFault::Open(OpenFault::PastLimit),
     },
 ];
