@@ -11,17 +11,24 @@ use Rattle.shared_memory.specs.History.{memory_after}
 use Rattle.shared_memory.specs.Legal.{IsMemoryLegal}
 use Rattle.shared_memory.proofs.Histories.{memory_after-append, IsMemoryLegal-rest}
 use Rattle.waiters_desk.specs.Calls.{asked_with}
-use Rattle.waiters_desk.specs.Locks.{WaitAfterNotify, WordChanges, ReadsAfter}
+use Rattle.waiters_desk.specs.Locks.{WaitAfterNotify, IsStoredAgain, ReadsAfter}
 
--- a word that has another value after some entries was changed by one of them
-word_changes : (at width : ℕ) (m : Memory) (since : List Entry) → loaded m at width ≢ loaded (memory_after m since) at width → WordChanges m at width since
-word_changes at width m [] differs = absurd (differs refl)
-word_changes at width m (e ∷ since) differs =
-    elim (cases_eq (loaded (state_after m e.event) at width) (loaded m at width)) [
-      | inl same ↦ (let later : WordChanges (state_after m e.event) at width since =
-          word_changes at width (state_after m e.event) since (λ is. differs (sym same ∙ is)) in
-          record { front = e ∷ later.front; changing = later.changing; back = later.back; among = ap (λ w. e ∷ w) later.among; changed = later.changed })
-      | inr changed ↦ record { front = []; changing = e; back = since; among = refl; changed = changed }
+-- a word that hasn't a value and has it after some entries was given it by one of them
+stored_again : (at width value : ℕ) (m : Memory) (since : List Entry) → loaded m at width ≢ value → loaded (memory_after m since) at width ≡ value
+    → IsStoredAgain m at width value since
+stored_again at width value m [] differs is = absurd (differs is)
+stored_again at width value m (e ∷ since) differs is =
+    elim (cases_eq (loaded (state_after m e.event) at width) value) [
+      | inl same ↦ record { front = []; changing = e; back = since; among = refl; before = differs; stored = same }
+      | inr apart ↦ (let later : IsStoredAgain (state_after m e.event) at width value since = stored_again at width value (state_after m e.event) since apart is in
+          record {
+            front = e ∷ later.front;
+            changing = later.changing;
+            back = later.back;
+            among = ap (λ w. e ∷ w) later.among;
+            before = later.before;
+            stored = later.stored;
+          })
     ]
 
 -- the value that a wait's reply has is the word's
@@ -36,7 +43,7 @@ reads_after opening history legal w = record {
   since = since;
   list = list;
   read = read;
-  fresh = λ differs. word_changes w.at w.width (memory_after opening w.seen) since (λ same. differs (same ∙ sym read_since));
+  fresh = λ differs. stored_again w.at w.width w.value (memory_after opening w.seen) since differs (sym read_since);
 }
   where
     notify : Entry

@@ -33,21 +33,22 @@ pub record WaitAfterNotify (history : List Entry) : Type 0 where
   pub stands : history ≡ before ++ asked_with notifier (Notify addr count) reply
       ∷ (between ++ asked_with waiter (Wait at width expected timeout) (Value value) ∷ after)
 
--- The word at an address was changed by one of these entries.
-pub record WordChanges (m : Memory) (at width : ℕ) (since : List Entry) : Type 0 where
+-- The word at an address had another value, and one of these entries stored this one there.
+pub record IsStoredAgain (m : Memory) (at width value : ℕ) (since : List Entry) : Type 0 where
   pub front : List Entry
   pub changing : Entry
   pub back : List Entry
   pub among : since ≡ front ++ changing ∷ back
-  pub changed : loaded (memory_after m (front ++ changing ∷ [])) at width ≢ loaded (memory_after m front) at width
+  pub before : loaded (memory_after m front) at width ≢ value
+  pub stored : loaded (memory_after m (front ++ changing ∷ [])) at width ≡ value
 
 -- The value was read behind all that was seen: from the memory after it and the entries since. So where the word had
--- another value after what was seen, one of the entries since changed it.
+-- another value after what was seen, one of the entries since stored the value that was read.
 pub record ReadsAfter (opening : Memory) (seen upto : List Entry) (at width value : ℕ) : Type 0 where
   pub since : List Entry
   pub list : upto ≡ seen ++ since
   pub read : value ≡ loaded (memory_after opening upto) at width
-  pub fresh : loaded (memory_after opening seen) at width ≢ value → WordChanges (memory_after opening seen) at width since
+  pub fresh : loaded (memory_after opening seen) at width ≢ value → IsStoredAgain (memory_after opening seen) at width value since
 
 -- Each wait of a history that stands after a notify read its word behind all that the notifier had seen.
 abbrev pub WaitsReadWhatNotifiersSaw : Memory → List Entry → Type 0
