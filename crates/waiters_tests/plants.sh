@@ -20,7 +20,7 @@ plant() {
         return
     fi
     said=$(cd "$room/crates/waiters_tests" && rt try --test --seconds 10 2>&1)
-    if failed=$(echo "$said" | grep '^test .* FAILED'); then
+    if failed=$(echo "$said" | grep '^test [^ ]* ... FAILED'); then
         echo "$1: seen"
         echo "$failed"
     else
