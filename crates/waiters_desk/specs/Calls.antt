@@ -192,3 +192,7 @@ Puts opening limit n Leave before after asked.Asleep = ⊥
 -- A thread was spawned, or nobody is alive who could spawn it.
 abbrev pub MayBegin : WaitQueue → ℕ → Type 0
 MayBegin q n = (arg_of q n ≡ None) → q.alive ≡ []
+
+-- A thread wasn't spawned, and somebody is alive who could spawn it.
+abbrev pub IsToCome : WaitQueue → ℕ → Type 0
+IsToCome q n = (arg_of q n ≡ None) × (q.alive ≢ [])

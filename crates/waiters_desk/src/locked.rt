@@ -7,7 +7,7 @@ ghost use Rattle.shared_memory.specs.WaitQueue.{IsFree, is_asleep};
 ghost use Rattle.shared_memory.specs.History.{entries_of, of_queue, queue_after};
 ghost use Rattle.shared_memory.specs.Legal.{IsQueueLegal};
 ghost use Rattle.shared_memory.proofs.Props.{IsQueueLegal-prop};
-ghost use Rattle.waiters_desk.specs.Calls.{BeginsOrNever, Collects, IsWaiting, MayBegin, Puts, Refused};
+ghost use Rattle.waiters_desk.specs.Calls.{BeginsOrNever, Collects, IsToCome, IsWaiting, MayBegin, Puts, Refused};
 ghost use Rattle.waiters_desk.specs.Locks.{WaitsReadWhatNotifiersSaw};
 
 use crate::answers::{Asked, Full};
@@ -66,7 +66,8 @@ impl<M: SharedMemory> Locked<M> {
 
     /// Whether a thread of this name is still to come: it wasn't spawned, and somebody is alive who could spawn it.
     pub(crate) fn is_to_come(&self, name: u32) -> bool
-        ensures { result ≡ false → MayBegin self.now.queue name }
+        ensures waits { result ≡ true → IsToCome self.now.queue name }
+        ensures goes_on { result ≡ false → MayBegin self.now.queue name }
     {
         self.queue.arg_of(name).is_none() && !self.queue.is_over()
     }

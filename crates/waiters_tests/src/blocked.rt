@@ -8,27 +8,27 @@ use crate::script::spawn_two;
 use shared_memory::SharedMemory;
 use std::sync::Wait;
 use std::thread;
-use std::thread::{Threads, yield_now};
+use std::thread::Threads;
+use std::time::{Clock, Duration};
 use types::Answer;
 use waiters_desk::{Desk, Full, Notified};
 
 /// What a blocked thread was told, and whom it woke then.
 pub type Told = (Answer, Result<Notified, Full>);
 
-/// How often a thread yields, so that others are blocked before it goes on.
-const YIELDS: u32 = 50_000;
+/// So many milliseconds later the others are blocked.
+const PAUSE: u64 = 50;
 
 /// Gives the others time, so often.
-fn pause(times: u32) {
+fn pause<R: Clock>(rt: &R, times: u32) {
     for _ in 0..times {
-        for _ in 0..YIELDS {
-            yield_now();
-        }
+        thread::sleep(rt, Duration::from_millis(PAUSE));
     }
 }
 
 /// Takes the answer behind so many pauses, and notifies one at 8.
-fn collect_and_notify<M: SharedMemory, W: Wait + Drop>(
+fn collect_and_notify<M: SharedMemory, W: Wait + Drop, R: Clock>(
+    rt: &R,
     desk: &Desk<M, W>,
     memory: &M,
     seat: &mut M::Seat,
@@ -36,7 +36,7 @@ fn collect_and_notify<M: SharedMemory, W: Wait + Drop>(
 ) -> Told
     requires { StandsWaiting (M.name seat.old) (M.seen seat.old) }
 {
-    pause(pauses);
+    pause(rt, pauses);
     let told = collects(desk, memory, seat);
     (told, notifies(desk, memory, seat, 8, 1))
 }
@@ -52,7 +52,7 @@ fn two_collect<M, W, R>(
 where
     M: SharedMemory + Sync,
     W: Wait + Drop + Sync,
-    R: Threads,
+    R: Threads + Clock + Sync,
     requires one { StandsWaiting (M.name one.old) (M.seen one.old) }
     requires two { StandsWaiting (M.name two.old) (M.seen two.old) }
 {
@@ -60,10 +60,10 @@ where
         rt,
         move || -> Told
             requires { StandsWaiting (M.name one.now) (M.seen one.now) }
-        { collect_and_notify(desk, memory, one, 2) },
+        { collect_and_notify(rt, desk, memory, one, 2) },
         move || -> Told
             requires { StandsWaiting (M.name two.now) (M.seen two.now) }
-        { collect_and_notify(desk, memory, two, 1) },
+        { collect_and_notify(rt, desk, memory, two, 1) },
     )
 }
 
@@ -78,7 +78,7 @@ fn one_collects<M, W, R>(
 where
     M: SharedMemory + Sync,
     W: Wait + Drop + Sync,
-    R: Threads,
+    R: Threads + Clock + Sync,
     requires zero { StandsFree (M.name zero.old) (M.seen zero.old) }
     requires three { StandsWaiting (M.name three.old) (M.seen three.old) }
 {
@@ -86,11 +86,11 @@ where
         rt,
         move || -> Told
             requires { StandsWaiting (M.name three.now) (M.seen three.now) }
-        { collect_and_notify(desk, memory, three, 0) },
+        { collect_and_notify(rt, desk, memory, three, 0) },
         move || -> Result<Notified, Full>
             requires { StandsFree (M.name zero.now) (M.seen zero.now) }
         {
-            pause(3);
+            pause(rt, 3);
             notifies(desk, memory, zero, 8, 1)
         },
     )
@@ -139,7 +139,7 @@ pub fn wake_in_turn<M, W, R>(
 where
     M: SharedMemory + Sync,
     W: Wait + Drop + Sync,
-    R: Threads + Sync,
+    R: Threads + Clock + Sync,
     requires zero { StandsFree (M.name zero.old) (M.seen zero.old) }
     requires one { StandsNew (M.name one.old) (M.seen one.old) }
     requires two { StandsNew (M.name two.old) (M.seen two.old) }
@@ -161,7 +161,8 @@ where
 }
 
 /// Takes the answer, and ends when the other one is blocked.
-fn collect_and_end<M: SharedMemory, W: Wait + Drop>(
+fn collect_and_end<M: SharedMemory, W: Wait + Drop, R: Clock>(
+    rt: &R,
     desk: &Desk<M, W>,
     memory: &M,
     seat: &mut M::Seat,
@@ -169,20 +170,21 @@ fn collect_and_end<M: SharedMemory, W: Wait + Drop>(
     requires { StandsWaiting (M.name seat.old) (M.seen seat.old) }
 {
     let told = collects(desk, memory, seat);
-    pause(1);
+    pause(rt, 1);
     desk.end(memory, seat);
     told
 }
 
 /// Falls asleep when the other one is blocked, and takes the answer.
-fn sleep_and_collect<M: SharedMemory, W: Wait + Drop>(
+fn sleep_and_collect<M: SharedMemory, W: Wait + Drop, R: Clock>(
+    rt: &R,
     desk: &Desk<M, W>,
     memory: &M,
     seat: &mut M::Seat,
 ) -> Option<Answer>
     requires { StandsFree (M.name seat.old) (M.seen seat.old) }
 {
-    pause(1);
+    pause(rt, 1);
     if !sleeps(desk, memory, seat, 4, -1) {
         return None;
     }
@@ -201,7 +203,7 @@ pub fn sleep_beside<M, W, R>(
 where
     M: SharedMemory + Sync,
     W: Wait + Drop + Sync,
-    R: Threads,
+    R: Threads + Clock + Sync,
     requires zero { StandsFree (M.name zero.old) (M.seen zero.old) }
     requires one { StandsNew (M.name one.old) (M.seen one.old) }
 {
@@ -214,15 +216,16 @@ where
         rt,
         move || -> Answer
             requires { StandsWaiting (M.name one.now) (M.seen one.now) }
-        { collect_and_end(desk, memory, one) },
+        { collect_and_end(rt, desk, memory, one) },
         move || -> Option<Answer>
             requires { StandsFree (M.name zero.now) (M.seen zero.now) }
-        { sleep_and_collect(desk, memory, zero) },
+        { sleep_and_collect(rt, desk, memory, zero) },
     ))
 }
 
 /// Begins behind so many pauses.
-fn begin_late<M: SharedMemory, W: Wait + Drop>(
+fn begin_late<M: SharedMemory, W: Wait + Drop, R: Clock>(
+    rt: &R,
     desk: &Desk<M, W>,
     memory: &M,
     seat: &mut M::Seat,
@@ -230,7 +233,7 @@ fn begin_late<M: SharedMemory, W: Wait + Drop>(
 ) -> Option<u32>
     requires { StandsNew (M.name seat.old) (M.seen seat.old) }
 {
-    pause(pauses);
+    pause(rt, pauses);
     begins(desk, memory, seat)
 }
 
@@ -245,7 +248,7 @@ fn two_begin<M, W, R>(
 where
     M: SharedMemory + Sync,
     W: Wait + Drop + Sync,
-    R: Threads,
+    R: Threads + Clock + Sync,
     requires one { StandsNew (M.name one.old) (M.seen one.old) }
     requires two { StandsNew (M.name two.old) (M.seen two.old) }
 {
@@ -253,15 +256,16 @@ where
         rt,
         move || -> Option<u32>
             requires { StandsNew (M.name one.now) (M.seen one.now) }
-        { begin_late(desk, memory, one, 2) },
+        { begin_late(rt, desk, memory, one, 2) },
         move || -> Option<u32>
             requires { StandsNew (M.name two.now) (M.seen two.now) }
-        { begin_late(desk, memory, two, 1) },
+        { begin_late(rt, desk, memory, two, 1) },
     )
 }
 
 /// Spawns three threads, or ends.
-fn spawn_or_end<M: SharedMemory, W: Wait + Drop>(
+fn spawn_or_end<M: SharedMemory, W: Wait + Drop, R: Clock>(
+    rt: &R,
     desk: &Desk<M, W>,
     memory: &M,
     zero: &mut M::Seat,
@@ -269,7 +273,7 @@ fn spawn_or_end<M: SharedMemory, W: Wait + Drop>(
 )
     requires { StandsFree (M.name zero.old) (M.seen zero.old) }
 {
-    pause(3);
+    pause(rt, 3);
     if spawns_three {
         let _ = spawns(desk, memory, zero, 100);
         let _ = spawns(desk, memory, zero, 101);
@@ -291,7 +295,7 @@ fn one_begins<M, W, R>(
 where
     M: SharedMemory + Sync,
     W: Wait + Drop + Sync,
-    R: Threads,
+    R: Threads + Clock + Sync,
     requires zero { StandsFree (M.name zero.old) (M.seen zero.old) }
     requires three { StandsNew (M.name three.old) (M.seen three.old) }
 {
@@ -299,10 +303,10 @@ where
         rt,
         move || -> Option<u32>
             requires { StandsNew (M.name three.now) (M.seen three.now) }
-        { begin_late(desk, memory, three, 0) },
+        { begin_late(rt, desk, memory, three, 0) },
         move || -> ()
             requires { StandsFree (M.name zero.now) (M.seen zero.now) }
-        { spawn_or_end(desk, memory, zero, spawns_three) },
+        { spawn_or_end(rt, desk, memory, zero, spawns_three) },
     );
     begun
 }
@@ -321,7 +325,7 @@ pub fn begin_beside<M, W, R>(
 where
     M: SharedMemory + Sync,
     W: Wait + Drop + Sync,
-    R: Threads + Sync,
+    R: Threads + Clock + Sync,
     requires zero { StandsFree (M.name zero.old) (M.seen zero.old) }
     requires one { StandsNew (M.name one.old) (M.seen one.old) }
     requires two { StandsNew (M.name two.old) (M.seen two.old) }

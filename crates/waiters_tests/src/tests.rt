@@ -13,6 +13,7 @@ use std::marker::Brand;
 use std::sync::Wait;
 use std::test::Fail;
 use std::thread::Threads;
+use std::time::Clock;
 use types::{Answer, Event, MOST_SPAWNED, MOST_THREADS, PAGE_SIZE, Question};
 use waiters_desk::{Asked, Desk, Full, Notified};
 
@@ -60,7 +61,7 @@ fn make<M, W, R>(
 where
     M: SharedMemory + Sync,
     W: Wait + Drop + Sync,
-    R: Threads + Sync,
+    R: Threads + Clock + Sync,
     requires zero { StandsFree (M.name zero.old) (M.seen zero.old) }
     requires one { StandsNew (M.name one.old) (M.seen one.old) }
     requires two { StandsNew (M.name two.old) (M.seen two.old) }
@@ -82,7 +83,7 @@ where
 }
 
 /// Makes a trial at a recorder: what was heard, and what is left of the recorder.
-fn make_at_recorder<B: Naming + Send + Sync, R: Threads + Wait + Sync>(
+fn make_at_recorder<B: Naming + Send + Sync, R: Threads + Wait + Clock + Sync>(
     rt: &R,
     alloc: Global,
     prepared: Prepared,
@@ -112,7 +113,7 @@ fn make_at_recorder<B: Naming + Send + Sync, R: Threads + Wait + Sync>(
 }
 
 /// Makes a trial over a page of zeros and a log of so many entries: what was heard, and the log.
-fn try_at<R: Threads + Wait + Sync>(
+fn try_at<R: Threads + Wait + Clock + Sync>(
     rt: &R,
     alloc: Global,
     limit: u32,
