@@ -47,8 +47,9 @@ fn record<R: Threads + Wait + Abort + Sync>(
     fuel: u64,
     limit: u32,
 ) -> Result<Recorded, Fail> {
-    assert!(rt; fuel <= MOST_FUEL);
-    let (record, end) = record_run(rt, alloc, module, call_with(fuel), limit, &OpenGate)?;
+    let call = call_with(fuel);
+    assert!(rt; call.fuel <= MOST_FUEL);
+    let (record, end) = record_run(rt, alloc, module, call, limit, &OpenGate)?;
     Ok(Recorded {
         log: Vec::from_slice(alloc, record.parts().log.as_slice())?,
         end,
