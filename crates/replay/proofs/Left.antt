@@ -146,8 +146,10 @@ module _ (b : Start) where
 
   unborn_mark : (w : Of) (k : ℕ) (kind : Kind) → Unborn w → Unborn (after_mark (system_of b) w k kind)
   unborn_mark w k Turn unborn = unborn_turn w k (wants (w.threads k)) refl unborn
-  unborn_mark w k Loses unborn = unborn_may w k _ _ (λ may. known_of w k unborn (λ e. let s = system_of b in let no : s.may_lose (w.threads k) ≡ false = ap s.may_lose e in absurd (cc (may, no)))) unborn
-  unborn_mark w k Fills unborn = unborn_may w k _ _ (λ may. known_of w k unborn (λ e. let s = system_of b in let no : s.may_fill (w.threads k) ≡ false = ap s.may_fill e in absurd (cc (may, no)))) unborn
+  unborn_mark w k Loses unborn = unborn_may w k _ _ (λ may. known_of w k unborn (λ e. let s = system_of b in
+      let no : s.may_lose (w.threads k) ≡ false = ap s.may_lose e in absurd (cc (may, no)))) unborn
+  unborn_mark w k Fills unborn = unborn_may w k _ _ (λ may. known_of w k unborn (λ e. let s = system_of b in
+      let no : s.may_fill (w.threads k) ≡ false = ap s.may_fill e in absurd (cc (may, no)))) unborn
 
   -- who is out stays out, and makes nothing
 
