@@ -261,7 +261,7 @@ fn make_in_turn<B: Naming, K: Kind>(
     (seat, tally)
 }
 
-/// Changes over a row of words, and no loads: eight a round of the loop, so that little of the time is the loop's own.
+/// Changes over a row of words, and no loads.
 fn make_changes<B: Naming, K: Kind>(
     row: &WordRow<B>,
     mut seat: WordSeat<B>,
@@ -269,14 +269,8 @@ fn make_changes<B: Naming, K: Kind>(
 ) -> (WordSeat<B>, Tally) {
     let addr = word_of(task.rounds, seat.caller.name());
     let mut tally = NONE;
-    for group in 0..task.times / 8 {
-        for k in 0..8u64 {
-            let number = 8 * u64::from(group) + k;
-            tally.note(make(row, &mut seat, K::event(addr, number)));
-        }
-    }
-    for k in 0..task.times % 8 {
-        tally.note(make(row, &mut seat, K::event(addr, u64::from(k))));
+    for round in 0..task.times {
+        tally.note(make(row, &mut seat, K::event(addr, u64::from(round))));
     }
     (seat, tally)
 }
