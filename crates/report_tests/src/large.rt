@@ -95,7 +95,9 @@ static RUNS: [Run; 11] = [
             code: &[(1, b"\x41\x07")],
             ..CODE
         }),
-        words: "--invoke ffffffffffffffffffffffffffffffffffffffffffffffffffffffffffffffffffffffffffffffffffffffffffffffffffffffffffffffffffffffffffffffffffffffffffffffffffffffffffffffffffffffffffffffffffffffffffffffffffffffff",
+        words: "--invoke \
+            ffffffffffffffffffffffffffffffffffffffffffffffffffffffffffffffffffffffffffffffffffffffffffffffffffff\
+            ffffffffffffffffffffffffffffffffffffffffffffffffffffffffffffffffffffffffffffffffffffffffffffffffffff",
         out: "thread 0: ok i32:7\npages 1\n",
         end: "0 leave = done\n0 told 0 = done\nend 0 ok i32:7 2\n",
         ..USUAL
