@@ -23,7 +23,7 @@ pub struct Task {
 fn word_of(rounds: Rounds, name: u32) -> u64
     requires { name ≤ desk_name }
     ensures aligned { result % 8 ≡ 0 }
-    ensures near { result ≤ 1024 }
+    ensures near { result ≤ 4096 }
 {
     match rounds {
         Rounds::Together => 0,
@@ -41,7 +41,7 @@ fn is_load(rounds: Rounds, round: u32) -> bool {
 #[inline(always)]
 fn load_at(addr: u64) -> Event
     requires aligned { addr % 8 ≡ 0 }
-    requires near { addr ≤ 1024 }
+    requires near { addr ≤ 4096 }
     ensures event { IsEvent result }
     ensures plain { is_of_queue result ≡ false }
 {
@@ -57,7 +57,7 @@ trait Kind {
     /// The change of the word at an address, by this number where it has a value.
     fn event(addr: u64, number: u64) -> Event
         requires aligned { addr % 8 ≡ 0 }
-        requires near { addr ≤ 1024 }
+        requires near { addr ≤ 4096 }
         ensures event { IsEvent result }
         ensures plain { is_of_queue result ≡ false };
 }
@@ -170,7 +170,7 @@ impl Kind for Xors {
 /// The change of the word at an address, by this number where it has a value.
 fn change_at(change: Change, addr: u64, number: u64) -> Event
     requires aligned { addr % 8 ≡ 0 }
-    requires near { addr ≤ 1024 }
+    requires near { addr ≤ 4096 }
     ensures event { IsEvent result }
     ensures plain { is_of_queue result ≡ false }
 {

@@ -3,7 +3,7 @@
 //! `memory`: threads make accesses over one shared memory. The further arguments are `locked` for the recorder or `words` for
 //! the row of words; the change, `stores`, `swaps`, `adds`, `ands`, `ors` or `xors` of eight bytes, or `narrow-adds` of
 //! four; where, `turns` (each thread on its own word, in turn with loads), `apart` (each on its own) or `together` (all on
-//! one, and a lost try is made again); the number of threads, 1 to 16; and the number of accesses in all, 1 to 1,000,000,
+//! one, and a lost try is made again); the number of threads, 1 to 64; and the number of accesses in all, 1 to 1,000,000,
 //! over words to 100,000,000.
 //!
 //! `desk`: calls of a desk over one recorder. The further arguments are `alone` (one thread notifies where nobody is asleep)

@@ -148,7 +148,7 @@ fn is_time(word: &String) -> bool {
 }
 
 impl MemoryPlan {
-    /// Reads what stands behind `memory`: `None` where it isn't `locked` or `words`, a change, on which words, 1 to 16
+    /// Reads what stands behind `memory`: `None` where it isn't `locked` or `words`, a change, on which words, 1 to 64
     /// threads, and 1 to 1,000,000 accesses, or 100,000,000 over words.
     fn read(words: &[String]) -> Option<MemoryPlan> {
         let shared = shared_of(words.first()?.as_str())?;

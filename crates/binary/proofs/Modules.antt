@@ -168,7 +168,7 @@ module_takes bytes m e0 =
     bind_case (stores_at s c) _ _ x2 (λ y h y1 y2.
     bind_case (contents_at x.types x.functions s h) _ _ y2 (λ z k z1 z2.
     one_case (customs_at (length k) s k) _ _ z2 (λ rest r1 r2.
-    let made = parts_of x y z in
+    let made = parts_of (length bytes) x y z in
     let wrong = refused faults.CountsDiffer s rest in
     let t = finish_case s rest (cond (eqb (length x.functions) (length z.bodies)) (good made) (bad wrong)) m r2 in
     let w = when_ok (eqb (length x.functions) (length z.bodies)) (good made) wrong m t.1 in
@@ -179,6 +179,7 @@ module_takes bytes m e0 =
     let size : length bytes ≤ most_module_bytes = ltb-false _ _ fits.0 in
     subst (IsModuleText bytes) (good_is made m w.1) (record {
       size = size;
+      counted = refl;
       before_types = opened;
       before_imports = signatures.0;
       before_functions = signatures.1;
@@ -233,6 +234,7 @@ module_again bytes m h =
       contents_again m.types m.functions s h.before_elements z h.before_end (h.before_bodies, h.before_data, h.elements, h.bodies, h.data_segments),
       customs_again (length h.before_end) s h.before_end h.customs_at_end [] (omega arith) h.end,
       eq-eqb (length m.functions) (length m.bodies) h.counts,
+      sym h.counted,
     ) refl
 
 -- ---- what a reader answers

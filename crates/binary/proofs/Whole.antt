@@ -174,6 +174,7 @@ limits_of bytes m h bodies =
       exports = few 7 most_items IsExport h.before_exports m.exports h.before_start h.exports;
       elements = elements.0;
       data_segments = few 11 most_items IsData h.before_data m.«data» h.before_end h.data_segments;
+      size = omega (arith, h.counted, h.size);
       each_type = types.1;
       each_import = imports.1;
       each_table = tables.1;

@@ -50,7 +50,7 @@ IsLimitsAfter most_min most_max flags.Min bytes l rest = (min : ℕ) × IsU32Wit
 IsLimitsAfter most_min most_max flags.MinMax bytes l rest = IsMinMax most_min most_max false bytes l rest
 IsLimitsAfter most_min most_max flags.SharedMinMax bytes l rest = IsMinMax most_min most_max true bytes l rest
 
--- A memory type: at most 64 pages.
+-- A memory type: at most 256 pages.
 abbrev pub IsMemory : Spelling Limits
 IsMemory bytes l rest = (flag : LimitsFlag) × (mid : List ℕ) × IsCoded memory_flag_of bytes flag mid
     × IsLimitsAfter most_pages most_pages flag mid l rest
@@ -175,10 +175,11 @@ abbrev pub opening_bytes : List ℕ
 opening_bytes = 0x00 ∷ (0x61 ∷ (0x73 ∷ (0x6d ∷ (0x01 ∷ (0x00 ∷ (0x00 ∷ (0x00 ∷ [])))))))
 
 -- At most 1,048,576 bytes: the opening bytes and the sections in the order of their ids, with custom sections anywhere
--- between them, and as many bodies as functions. The fields before_S are the bytes from the custom sections before the
--- section S on.
+-- between them, and as many bodies as functions. The module knows how many bytes they are. The fields before_S are the bytes
+-- from the custom sections before the section S on.
 pub record IsModuleText (bytes : List ℕ) (m : Parts) : Type 0 where
   pub size : length bytes ≤ most_module_bytes
+  pub counted : m.length ≡ length bytes
   pub before_types : List ℕ
   pub before_imports : List ℕ
   pub before_functions : List ℕ

@@ -226,8 +226,8 @@ contents_at types functions s bytes = do
   segments ← section_at 11 most_items data_at s bodies.1
   Ok (record { elements = elements.0; bodies = bodies.0; «data» = segments.0 }, segments.1)
 
-abbrev pub parts_of : Signatures → Stores → Contents → Parts
-parts_of signatures stores contents = record {
+abbrev pub parts_of : ℕ → Signatures → Stores → Contents → Parts
+parts_of size signatures stores contents = record {
   types = signatures.types;
   imports = signatures.imports;
   functions = signatures.functions;
@@ -239,22 +239,23 @@ parts_of signatures stores contents = record {
   elements = contents.elements;
   bodies = contents.bodies;
   «data» = contents.«data»;
+  length = size;
 }
 
--- The sections of a module, behind the opening bytes: nothing is left behind them.
-unfoldable pub sections_at : Bounds → List ℕ → Result Parts Refusal
-sections_at s bytes = do
+-- The sections of a module of so many bytes, behind the opening bytes: nothing is left behind them.
+unfoldable pub sections_at : ℕ → Bounds → List ℕ → Result Parts Refusal
+sections_at size s bytes = do
   signatures ← signatures_at s bytes
   stores ← stores_at s signatures.1
   contents ← contents_at signatures.0.types signatures.0.functions s stores.1
   rest ← customs_at (length contents.1) s contents.1
   whole ← finish_at s rest
   if nat_eq (length signatures.0.functions) (length contents.0.bodies)
-      then Ok (parts_of signatures.0 stores.0 contents.0)
+      then Ok (parts_of size signatures.0 stores.0 contents.0)
       else Err (refused faults.CountsDiffer s rest)
 
 -- The module that the bytes spell, or the first fault from front to back, and its offset.
 unfoldable pub module_at : List ℕ → Result Parts Refusal
 module_at bytes =
     if nat_lt most_module_bytes (length bytes) then Err (refusal faults.Limit most_module_bytes)
-    else (opening_at (input bytes) bytes >>= λ opened. sections_at (input bytes) opened)
+    else (opening_at (input bytes) bytes >>= λ opened. sections_at (length bytes) (input bytes) opened)

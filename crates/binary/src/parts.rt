@@ -123,10 +123,10 @@ fn read_contents(
     })
 }
 
-/// The sections of a module, behind the opening bytes: nothing is left behind them.
+/// The sections of a module of so many bytes, behind the opening bytes: nothing is left behind them.
 #[tactic(auto, unfolding(crate::specs::Reading::sections_at))]
-fn read_sections(reader: &mut Reader, alloc: Global) -> Result<Parts, ReadFault>
-    ensures { GivesInMemory (λ m. m) result (sections_at reader.old.bounds reader.old.rest.now) }
+fn read_sections(reader: &mut Reader, alloc: Global, length: u32) -> Result<Parts, ReadFault>
+    ensures { GivesInMemory (λ m. m) result (sections_at length reader.old.bounds reader.old.rest.now) }
 {
     let Signatures {
         types,
@@ -152,6 +152,7 @@ fn read_sections(reader: &mut Reader, alloc: Global) -> Result<Parts, ReadFault>
         elements: contents.elements,
         bodies: contents.bodies,
         data: contents.data,
+        length,
     })
 }
 
@@ -167,7 +168,7 @@ fn read_whole(alloc: Global, bytes: &[u8]) -> Result<Parts, ReadFault>
     }
     let mut reader = Reader::new(bytes);
     read_opening(&mut reader)?;
-    read_sections(&mut reader, alloc)
+    read_sections(&mut reader, alloc, bytes.len() as u32)
 }
 
 /// The parts of the module that the bytes spell (Core specification 1.0, section 5.5.15).

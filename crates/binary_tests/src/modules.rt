@@ -65,8 +65,8 @@ static CASES: [(&str, u8, usize); 49] = [
     // limits
     ("01 05 ff ff ff ff 0f", 11, 10), // a count
     ("01 02 e9 07", 11, 10), // 1,001 types
-    ("05 03 01 00 41", 11, 12), // 65 pages
-    ("05 04 01 01 00 41", 11, 13), // 65 pages at most
+    ("05 04 01 00 81 02", 11, 12), // 257 pages
+    ("05 05 01 01 00 81 02", 11, 13), // 257 pages at most
     ("04 05 01 70 00 91 4e", 11, 13), // a table of 10,001 elements
     ("04 05 01 70 00 90 4e", 0, 0), // a table of 10,000 elements
     // limits of bodies

@@ -64,7 +64,7 @@ pub record Begins (c : Caller) (log : List Entry) : Type 0 where
   pub begins : IsPrefix c.seen log
   pub own : entries_of c.name log ≡ entries_of c.name c.seen
 
--- What is left of a run: a log that is legal for the memory and for the wait queue, of entries of the names 0 to 16
+-- What is left of a run: a log that is legal for the memory and for the wait queue, of entries of the names 0 to 64
 -- alone, and the page count and the bytes after it.
 pub record IsRecord (opening : Memory) (log : List Entry) (count : ℕ) (contents : List ℕ) : Type 0 where
   pub seen : IsSeen opening log
@@ -73,7 +73,7 @@ pub record IsRecord (opening : Memory) (log : List Entry) (count : ℕ) (content
   pub pages_after : count ≡ pages (memory_after opening log)
   pub bytes_after : contents ≡ (memory_after opening log).bytes
 
--- What no run passes: 48 entries above the limit, and 64 pages.
+-- What no run passes: 192 entries above the limit, and 256 pages.
 pub record IsBounded (limit : ℕ) (log : List Entry) (count : ℕ) : Type 0 where
   pub room : length log ≤ limit + past_limit
   pub small : count ≤ most_pages

@@ -16,6 +16,6 @@ open_questions q (suc n) = one_if (has_open_question q n) + open_questions q n
 unfoldable pub still_due : WaitQueue → ℕ
 still_due q = 2 * length q.alive + open_questions q most_threads
 
--- With all that may still come past the limit, a log has 48 entries above it at most.
+-- With all that may still come past the limit, a log has 192 entries above it at most.
 abbrev pub HasSpare : ℕ → List Entry → Type 0
 HasSpare limit history = length history + still_due (queue_after history) ≤ limit + past_limit

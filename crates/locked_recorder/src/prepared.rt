@@ -38,7 +38,7 @@ impl Prepared {
     /// `LockedRecorder::open`.
     ///
     /// # Errors
-    /// `PastLimit` exactly where the image isn't whole pages of 65,536 bytes or passes `max` pages, `max` passes 64, or
+    /// `PastLimit` exactly where the image isn't whole pages of 65,536 bytes or passes `max` pages, `max` passes 256, or
     /// `limit` isn't 1 to 1,000,000; otherwise `NoMemory` where the room can't be had.
     pub fn new(alloc: Global, image: &[u8], max: u32, limit: u32) -> Result<Prepared, OpenFault>
         ensures opened { IfOk result (λ p. (p.opening ≡ record { bytes = image.now; max = max }) × (p.limit ≡ limit)) }

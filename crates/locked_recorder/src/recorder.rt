@@ -31,7 +31,7 @@ pub struct LockedRecorder<B: Naming, W: Wait + Drop> {
 }
 
 impl<B: Naming, W: Wait + Drop> LockedRecorder<B, W> {
-    /// Opens a prepared recorder under its name, with 17 seats in order of name: 0 to 15 for threads, and 16 for the
+    /// Opens a prepared recorder under its name, with 65 seats in order of name: 0 to 63 for threads, and 64 for the
     /// desk, which alone has the queue right. No seat has seen an entry. By `rt` its calls may wait for the lock.
     ///
     /// # Errors
@@ -78,8 +78,8 @@ impl<B: Naming, W: Wait + Drop> LockedRecorder<B, W> {
     }
 
     /// Gives up the recorder and all its seats for the log and the memory after it. The list of each seat begins the
-    /// log, and the log has of its name what it has. The log has at most 48 entries above its limit, and the memory at
-    /// most 64 pages.
+    /// log, and the log has of its name what it has. The log has at most 192 entries above its limit, and the memory at
+    /// most 256 pages.
     pub fn finish(self, seats: Vec<LockedSeat<B>>) -> Finished
         ensures seats { All (λ s. Begins s.caller result.log.items) seats.items }
         ensures record { IsRecord B.opening result.log.items result.pages result.bytes.items }

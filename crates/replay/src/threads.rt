@@ -12,7 +12,7 @@ use spawn_host_workers::RunFault;
 use std::alloc::Global;
 use validate::ValidModule;
 
-/// Thread 0, and behind it the 15 that can be spawned where the module can start threads.
+/// Thread 0, and behind it the 63 that can be spawned where the module can start threads.
 pub(crate) fn threads_of<'m>(
     alloc: Global,
     module: &'m ValidModule,

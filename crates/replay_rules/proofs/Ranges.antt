@@ -23,7 +23,7 @@ use Rattle.replay_rules.proofs.Replies.{kinds, reply_fits}
 
 module _ (b : Start) (r : RecordParts) (outcomes : ℕ → Outcome) (lefts : ℕ → ℕ)
     (ran : RanTogether b false (Some r.limit) r.log outcomes lefts) (tells : RecordTells b r outcomes lefts) where
-  -- each entry is of a thread that was started, and there are at most 16
+  -- each entry is of a thread that was started, and there are at most 64
   abbrev IsSmall : Entry → Type 0
   IsSmall e = e.thread ≤ most_spawned
 

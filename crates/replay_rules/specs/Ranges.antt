@@ -38,8 +38,8 @@ pub record AreTyped (r : RecordParts) : Type 0 where
   pub log : All EntryFits r.log
   pub ends : All ReportFits r.ends
 
--- What the memory that records keeps to: the limit is 1 to 1,000,000 entries, of which the log has at most 48 more, the pages are
--- at most 64, and the events meet their conditions.
+-- What the memory that records keeps to: the limit is 1 to 1,000,000 entries, of which the log has at most 192 more, the pages are
+-- at most 256, and the events meet their conditions.
 pub record IsLimited (r : RecordParts) : Type 0 where
   pub limit_low : 1 ≤ r.limit
   pub limit : r.limit ≤ most_limit

@@ -96,7 +96,7 @@ is_reply_to event replies.OutOfBounds = has_address event
 is_reply_to event replies.Again = false
 is_reply_to event replies.Full = false
 
--- An entry: a thread of 0 to 15, an event that meets the conditions on events, and a reply of the right kind.
+-- An entry: a thread of 0 to 63, an event that meets the conditions on events, and a reply of the right kind.
 pub record IsEntry (e : Entry) : Type 0 where
   pub thread : e.thread ≤ most_spawned
   pub event_fits : EventFits e.event

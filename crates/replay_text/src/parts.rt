@@ -13,10 +13,10 @@ pub struct RecordParts {
     pub fuel: u64,
     /// How many entries the log took before it was full: 1 to 1,000,000.
     pub limit: u32,
-    /// The entries in order, at most the limit and 48.
+    /// The entries in order, at most the limit and 192.
     pub log: Sequence<Entry>,
-    /// How the threads ended, in the order of their numbers from 0 on: 1 to 16.
+    /// How the threads ended, in the order of their numbers from 0 on: 1 to 64.
     pub ends: Sequence<ThreadReport>,
-    /// The pages of the memory after the run: 0 to 64, of 65,536 bytes each.
+    /// The pages of the memory after the run: 0 to 256, of 65,536 bytes each.
     pub pages: u32,
 }

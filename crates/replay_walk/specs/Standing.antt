@@ -106,7 +106,7 @@ module _ {S : Type 0} (meaning : S → Meaning) where
   StandsAt p worker (Due answer) t slot (Some outcome) alive = (left : ℕ) × (t ≡ Left outcome left) × IsGone slot left
 
   -- A walk's threads and queue, how many threads were started, and how each ended that asked to leave, are those of the
-  -- scheduled machine. There may be 16 threads.
+  -- scheduled machine. There may be 64 threads.
   pub record IsStanding (s : Standing) (threads : List S) (queue : WaitQueue) (begun : ℕ) (ends : List (Option Outcome)) : Type 0 where
     pub shared : s.state.shared ≡ record { memory = s.memory; queue = without_dues queue }
     pub places : (m : ℕ) → s.places m ≡ place_of queue m

@@ -31,7 +31,7 @@ use Rattle.replay_walk.specs.Standing.{Standing, IsStanding, system_at, StageSta
 abbrev pub rules_of : ℕ → TryRules Shared Event (List ℕ)
 rules_of limit = try_rules false (Some limit)
 
--- A walk of a program that starts threads has 16, and another one thread.
+-- A walk of a program that starts threads has 64, and another one thread.
 abbrev pub HasThreads : Program → ℕ → Type 0
 HasThreads p count = (count ≡ most_threads) ⊎ ((p.imported ≡ 0) × (count ≡ 1))
 

@@ -107,7 +107,7 @@ impl Stage {
     }
 
     /// A thread's question goes to the queue, unless its reply was out of bounds. A spawn starts a thread, while there
-    /// are fewer than 16.
+    /// are fewer than 64.
     pub fn ask<T: TakesTurns>(
         &mut self,
         threads: &mut [T],

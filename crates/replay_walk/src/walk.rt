@@ -16,7 +16,7 @@ use types::{Answer, Entry, Event, Outcome, Question, Stop};
 
 /// A recorded run on its way along its log: its threads by their numbers, its memory, and what they ask of one another.
 ///
-/// A program that starts threads has 16 here, of which those that weren't spawned yet haven't made a turn; another
+/// A program that starts threads has 64 here, of which those that weren't spawned yet haven't made a turn; another
 /// program has one.
 #[derive(Drop)]
 pub struct Walk<T> {

@@ -35,7 +35,7 @@ module _ {S : Type 0} (caller : S → Caller) (P : S → Type 0) (m : Parts) (en
         bytes_after = b ∙ ap (λ (l : List Entry). (memory_after (opening_memory m) l).bytes) e;
       })
 
--- there are at most 16 reports
+-- there are at most 64 reports
 pub few_reports : {S : Type 0} (m : Parts) (entry : List ℕ) (args : List Value) (fuel : ℕ) (mem : OverMemory S)
     (threads : List ThreadReport) (seats : List S) → IsRun m entry args fuel mem threads seats → length threads ≤ most_threads
 few_reports m entry args fuel mem threads seats run =

@@ -15,7 +15,7 @@ fresh_at caller (suc count) n (s ∷ seats) h (suc k) d less =
     let e : n + 1 + k ≡ n + suc k = omega arith in let l : k < count = omega arith in
     fresh_at caller count (n + 1) seats t k d l ∙ ap fresh e
 
--- each of the 17 has its place as its name, and has seen nothing; the last has the queue right
+-- each of the 65 has its place as its name, and has seen nothing; the last has the queue right
 module _ {S : Type 0} (caller : S → Caller) (seats : List S) (new : map caller seats ≡ fresh_from seat_count 0) where
   pub seat_name : (k : ℕ) (d : S) → k < seat_count → (caller (slice_index_or seats k d)).name ≡ k
   seat_name k d less = let e : 0 + k ≡ k = omega arith in ap (λ (c : Caller). c.name) (fresh_at caller seat_count 0 seats new k d less) ∙ e

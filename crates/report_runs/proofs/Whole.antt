@@ -52,7 +52,7 @@ small_or_large n = elim (cases_Bool (nat_lt n seat_count)) [
   | inr h ↦ inr (search arith)
 ]
 
--- all 17 seats have seen one list, and the log goes on from each by nothing of its own
+-- all 65 seats have seen one list, and the log goes on from each by nothing of its own
 module _ {S : Type 0} (caller : S → Caller) (log history : List Entry)
     (past : (n : ℕ) → seat_count ≤ n → entries_of n log ≡ []) (P : S → Type 0)
     (known : (s : S) → P s → Knows (caller s) log) where

@@ -105,7 +105,7 @@ fn makes_atomic_accesses(rt: HostRuntime) -> Result<(), Fail> {
 }
 
 /// Plain accesses, some of them over two words, and growth.
-static OTHERS: [Run; 7] = [
+static OTHERS: [Run; 9] = [
     Run {
         name: "store over the end",
         module: Module::Small(OVER_THE_END),
@@ -165,6 +165,28 @@ static OTHERS: [Run; 7] = [
         dump: "--dump 8",
         out: "thread 0: ok i32:4294967295\npages 2\nbytes 01 00 00 00 01 00 00 00\n",
         end: "end 0 ok i32:4294967295 11\n",
+        ..USUAL
+    },
+    Run {
+        name: "a memory of 256 pages at most",
+        module: Module::Small(Small {
+            memory: b"\x05\x05\x01\x03\x01\x80\x02",
+            ..ADDING
+        }),
+        dump: "--dump 8",
+        out: "thread 0: ok i32:0\npages 1\nbytes 05 00 00 00 00 00 00 00\n",
+        end: "0 rmw add 0 4 5 = 0\n0 leave = done\n0 told 0 = done\nend 0 ok i32:0 4\n",
+        ..USUAL
+    },
+    Run {
+        name: "as far as a memory without a maximum grows",
+        module: Module::Small(Small {
+            memory: b"\x05\x03\x01\x00\x01",
+            body: b"\x41\xff\x01\x40\x00",
+            ..GIVING_I32
+        }),
+        out: "thread 0: ok i32:1\npages 256\n",
+        end: "0 grow 255 = 1\n0 leave = done\n0 told 0 = done\nend 0 ok i32:1 3\n",
         ..USUAL
     },
     Run {

@@ -20,7 +20,7 @@ pub(crate) struct Line {
 }
 
 /// Refused modules, and why each is.
-static REFUSED: [(Module, &str); 11] = [
+static REFUSED: [(Module, &str); 12] = [
     // the first bytes of the opening ones, and none
     (
         Module::Bytes(b"\x00\x61\x73\x6d\x01\x00\x00"),
@@ -81,6 +81,14 @@ static REFUSED: [(Module, &str); 11] = [
     (
         Module::Bytes(b"\x00\x61\x73\x6d\x01\x00\x00\x00\x05\x04\x01\x03\x02\x01"),
         "module refused: validity 11\n",
+    ),
+    // a memory of 257 pages at most
+    (
+        Module::Small(Small {
+            memory: b"\x05\x05\x01\x03\x01\x81\x02",
+            ..ADDING
+        }),
+        "module refused: read 11 at 24\n",
     ),
     // a start section
     (

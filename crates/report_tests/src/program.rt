@@ -162,16 +162,22 @@ pub(crate) const USUAL: Run = Run {
     end: "",
 };
 
+/// The line of the pages, without its line feed.
+fn pages_line(out: &str) -> &str {
+    for line in out.lines() {
+        if line.contains("pages ") {
+            return line;
+        }
+    }
+    ""
+}
+
 /// Whether a record has these lines right before the line of the pages, which was printed too.
 fn ends_with(record: &[u8], end: &str, out: &str) -> bool {
-    let pages = out
-        .find("pages ")
-        .and_then(|at| out.get(at..at + 8))
-        .unwrap_or("");
-    let Some(rest) = record.strip_suffix(b"finish\n".as_slice()) else {
+    let Some(rest) = record.strip_suffix(b"\nfinish\n".as_slice()) else {
         return false;
     };
-    match rest.strip_suffix(pages.as_bytes()) {
+    match rest.strip_suffix(pages_line(out).as_bytes()) {
         Some(rest) => rest.ends_with(end.as_bytes()),
         None => false,
     }

@@ -77,8 +77,8 @@ static ENTRIES: [Forged; 16] = [
     (6, "0 rmw add 0 4 5 = 1", "line 6 does not fit"),
     (6, "0 rmw add 0 4 5 = out", "line 6 does not fit"),
     (6, "1 rmw add 0 4 5 = 0", "line 6 does not fit"),
-    (6, "15 rmw add 0 4 5 = 0", "line 6 does not fit"),
-    (6, "16 rmw add 0 4 5 = 0", "line 6 unreadable"),
+    (6, "63 rmw add 0 4 5 = 0", "line 6 does not fit"),
+    (6, "64 rmw add 0 4 5 = 0", "line 6 unreadable"),
     (6, "0 rmw add 0 4 05 = 0", "line 6 unreadable"),
     (6, "0 rmw add 0 4 4294967296 = 0", "line 6 unreadable"),
     (6, "0 rmw add 0 1 256 = 0", "line 6 unreadable"),
@@ -229,6 +229,6 @@ fn refuses_other_line_ends_and_long_logs(rt: HostRuntime) -> Result<(), Fail> {
     let most = crowded(alloc, 1 + PAST_LIMIT)?;
     assert!(rt; is_refused(&rt, alloc, ATOMIC_ADD, &most, "line 6 does not fit")?);
     let more = crowded(alloc, 2 + PAST_LIMIT)?;
-    assert!(rt; is_refused(&rt, alloc, ATOMIC_ADD, &more, "line 55 unreadable")?);
+    assert!(rt; is_refused(&rt, alloc, ATOMIC_ADD, &more, "line 199 unreadable")?);
     Ok(())
 }

@@ -7,10 +7,10 @@ use std::test::Fail;
 use std::thread::Threads;
 use test_modules::{
     ATOMIC_ADD, C_COUNTER, C_ONE_WORD_LOCK, C_TICKET_LOCK, CONDITION, COUNTING, Module, SUMMING,
-    TICKET_LOCK, TIMEOUTS, TRAPPING,
+    SUMMING_ALL, TICKET_LOCK, TIMEOUTS, TRAPPING,
 };
 
-static RUNS: [Run; 10] = [
+static RUNS: [Run; 11] = [
     Run {
         name: "atomic_add",
         module: Module::Bytes(ATOMIC_ADD),
@@ -63,9 +63,28 @@ bytes 00 00 00 00 96 00 00 00 00 00 00 00\n",
     Run {
         name: "sums the ids",
         module: Module::Bytes(SUMMING),
-        out: "thread 0: ok i32:119\nthread 1: ok\nthread 2: ok\nthread 3: ok\nthread 4: ok\n\
-            thread 5: ok\nthread 6: ok\nthread 7: ok\nthread 8: ok\nthread 9: ok\nthread 10: ok\n\
-            thread 11: ok\nthread 12: ok\nthread 13: ok\nthread 14: ok\nthread 15: ok\npages 1\n",
+        out: "thread 0: ok i32:136\nthread 1: ok\nthread 2: ok\nthread 3: ok\nthread 4: ok\n\
+            thread 5: ok\nthread 6: ok\nthread 7: ok\nthread 8: ok\nthread 9: ok\n\
+            thread 10: ok\nthread 11: ok\nthread 12: ok\nthread 13: ok\nthread 14: ok\n\
+            thread 15: ok\nthread 16: ok\npages 1\n",
+        ..USUAL
+    },
+    Run {
+        name: "sums all ids, and -1",
+        module: Module::Bytes(SUMMING_ALL),
+        out: "thread 0: ok i32:2015\nthread 1: ok\nthread 2: ok\nthread 3: ok\nthread 4: ok\n\
+            thread 5: ok\nthread 6: ok\nthread 7: ok\nthread 8: ok\nthread 9: ok\n\
+            thread 10: ok\nthread 11: ok\nthread 12: ok\nthread 13: ok\nthread 14: ok\n\
+            thread 15: ok\nthread 16: ok\nthread 17: ok\nthread 18: ok\nthread 19: ok\n\
+            thread 20: ok\nthread 21: ok\nthread 22: ok\nthread 23: ok\nthread 24: ok\n\
+            thread 25: ok\nthread 26: ok\nthread 27: ok\nthread 28: ok\nthread 29: ok\n\
+            thread 30: ok\nthread 31: ok\nthread 32: ok\nthread 33: ok\nthread 34: ok\n\
+            thread 35: ok\nthread 36: ok\nthread 37: ok\nthread 38: ok\nthread 39: ok\n\
+            thread 40: ok\nthread 41: ok\nthread 42: ok\nthread 43: ok\nthread 44: ok\n\
+            thread 45: ok\nthread 46: ok\nthread 47: ok\nthread 48: ok\nthread 49: ok\n\
+            thread 50: ok\nthread 51: ok\nthread 52: ok\nthread 53: ok\nthread 54: ok\n\
+            thread 55: ok\nthread 56: ok\nthread 57: ok\nthread 58: ok\nthread 59: ok\n\
+            thread 60: ok\nthread 61: ok\nthread 62: ok\nthread 63: ok\npages 1\n",
         ..USUAL
     },
     Run {

@@ -59,7 +59,7 @@ system_by s = over_memory_and_queue (machine_of s.program) (spawned_in s.worker)
 abbrev pub first_thread : Running → ℕ → Running
 first_thread t = put (λ (m : ℕ). Absent) 0 t
 
--- What every state of the scheduled machine keeps to: there may be 16 threads, no answer is due, who was started and
+-- What every state of the scheduled machine keeps to: there may be 64 threads, no answer is due, who was started and
 -- hasn't left is alive, and who sleeps awaits the answer to its question.
 pub record IsOrderly (p : Program) (q : WaitQueue) (threads : ℕ → Running) : Type 0 where
   pub sound : IsSound q

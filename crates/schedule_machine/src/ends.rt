@@ -14,7 +14,7 @@ use shared_memory_sequential::OneMemory;
 use std::alloc::{AllocError, Global};
 use types::{MOST_THREADS, ThreadReport};
 
-/// Threads are numbered 0 to 15.
+/// Threads are numbered 0 to 63.
 const THREADS: u32 = MOST_THREADS as u32;
 
 impl<T: TakesTurns> Machine<T> {

@@ -29,7 +29,7 @@ use std::alloc::AllocError;
 use types::{Entry, Event, MOST_THREADS, Question, Reply};
 use waiters::Queue;
 
-/// The scheduled machine: threads 0 to 15 of a module, over one memory and one wait queue.
+/// The scheduled machine: threads 0 to 63 of a module, over one memory and one wait queue.
 #[derive(Drop)]
 pub struct Machine<T> {
     pub(crate) threads: Vec<Stepped<T>>,
@@ -61,13 +61,13 @@ fn tell_all<T: TakesTurns>(queue: &mut Queue, threads: &mut Vec<Stepped<T>>)
     ensures threads { (s : Setting) (f : ℕ → Running) → AreThreads T.meaning s threads.old.items f → MayHear s f queue.old
         → AreThreads T.meaning s threads.new.items (all_hear s f queue.old) }
 {
-    for n in 0..16 {
+    for n in 0..64 {
         tell(queue, threads, n);
     }
 }
 
 impl<T: TakesTurns> Machine<T> {
-    /// A machine before its first mark: of its threads, thread 0 is at its start, and the others aren't started. There are 16,
+    /// A machine before its first mark: of its threads, thread 0 is at its start, and the others aren't started. There are 64,
     /// or fewer where the program spawns none.
     pub fn new(threads: Vec<Stepped<T>>, memory: OneMemory) -> Machine<T>
         ensures { (s : Setting) (main : Config) → AreThreads T.meaning s threads.items (first_thread (Runs (At main) s.fuel))

@@ -11,7 +11,7 @@ use std::sync::Wait;
 use std::test::Fail;
 use std::thread::Threads;
 use test_modules::{
-    ADDING, COUNTING, ENDLESS, GROWING, OUTSIDE, RACING, SUMMING, TIMEOUTS, TRAPPING,
+    ADDING, COUNTING, ENDLESS, GROWING, OUTSIDE, RACING, SUMMING, SUMMING_ALL, TIMEOUTS, TRAPPING,
     WAITING_FOR_GOOD,
 };
 use types::{Entry, Event, MOST_FUEL, Outcome, Stop, ThreadReport, Value};
@@ -106,9 +106,10 @@ fn check<R: Threads + Wait + Abort + Sync>(
 }
 
 /// Modules, how often each is run, and how many threads have an end.
-static STEPPED: [(&[u8], u32, usize); 4] = [
+static STEPPED: [(&[u8], u32, usize); 5] = [
     (COUNTING, 5, 5),
-    (SUMMING, 20, 16),
+    (SUMMING, 20, 17),
+    (SUMMING_ALL, 5, 64),
     (TRAPPING, 20, 2),
     (TIMEOUTS, 20, 4),
 ];

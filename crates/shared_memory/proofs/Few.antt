@@ -1,4 +1,4 @@
--- A sound wait queue has no more live threads than were given a number, and at most 16 sleepers.
+-- A sound wait queue has no more live threads than were given a number, and at most 64 sleepers.
 use Rattle.std.proofs.Common.{◌≡◌, ℕ, ◌+◌, ◌≤◌, ◌==◌, eqb, Bool, true, false, ◌||◌, List, [], ◌∷◌, length, map, refl, sym, ◌∙◌, ap, arith}
 use Rattle.std.specs.List.{list_any, IsDistinct, AllByRecursion}
 use Rattle.std.proofs.lemmas.Bool.{true≢false}
@@ -61,7 +61,7 @@ few_alive q sound =
     length-le_from_distinct_below q.alive (length q.args + 1) (distinct_from q.alive sound.distinct)
     (λ n found. sound.named n (sym (turned q.alive n) ∙ found))
 
--- at most 16 sleep
+-- at most 64 sleep
 pub few_asleep : (q : WaitQueue) → IsSound q → length q.sleepers ≤ most_threads
 unfolding numbers
 few_asleep q sound =

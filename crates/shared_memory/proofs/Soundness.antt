@@ -32,7 +32,7 @@ pub awake_if_due : (q : WaitQueue) → IsSound q → (n : ℕ) (a : Answer) → 
 awake_if_due q sound n a due =
     false_from_ne_true (is_asleep q n) (λ is. let none : answer_due q n ≡ None = sound.unanswered n is in absurd (cc (none, due)))
 
--- there are at most 16 threads, numbered from 0
+-- there are at most 64 threads, numbered from 0
 pub alive_below : (q : WaitQueue) → IsSound q → (n : ℕ) → is_alive q n ≡ true → n < most_threads
 alive_below q sound n is = let known : n < next_id q = sound.named n is in omega (arith, sound.few, sound.due_length)
 
@@ -246,7 +246,7 @@ no_answers most n = elim (cases_lt n most) [
   | inr past ↦ get_or_past (replicate most None) n None (omega (arith, length-replicate {A = Option Answer} most None))
 ]
 
--- the first queue is sound for up to 16 threads
+-- the first queue is sound for up to 64 threads
 pub IsSound-opening : (most : ℕ) → 0 < most → most ≤ most_threads → IsSound (first_queue most)
 unfolding first_queue
 IsSound-opening most some bound = record {

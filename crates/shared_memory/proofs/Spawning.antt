@@ -82,7 +82,7 @@ module _ (t arg : ℕ) (q : WaitQueue) (sound : IsSound q) (free : IsFree q t) (
   spawns_step Again inside = spawns_question 0
   spawns_step Full inside = spawns_question 0
 
--- where fewer than 15 threads were spawned before
+-- where fewer than 63 threads were spawned before
 pub spawned : (history : List Entry) (t arg : ℕ) (reply : Reply) → reply ≢ OutOfBounds → next_id (queue_after history) < most_threads
     → IsQueueLegal (history ++ entry t (Ask (Spawn arg)) reply ∷ [])
     → Spawns t arg (queue_after history) (queue_after (history ++ entry t (Ask (Spawn arg)) reply ∷ []))

@@ -22,7 +22,7 @@ entries_of n history = filter (λ (e : Entry). e.thread == n) history
 abbrev pub of_queue : List Entry → List Entry
 of_queue history = filter (λ (e : Entry). is_of_queue e.event) history
 
--- An entry is of one of 17 names, of which the last is the desk's, and its event meets the conditions on events.
+-- An entry is of one of 65 names, of which the last is the desk's, and its event meets the conditions on events.
 pub record IsEntry (e : Entry) : Type 0 where
   pub named : e.thread ≤ desk_name
   pub event : IsEvent e.event

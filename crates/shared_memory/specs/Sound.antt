@@ -18,7 +18,7 @@ SleepOnce (s ∷ sleepers) = (is_among s.thread sleepers ≡ false) × SleepOnce
 
 -- The live threads are distinct and their numbers given out, as are those of whom an answer is due to; who sleeps is
 -- alive, sleeps once, and is owed no answer. For each number that is given out there is a place in the answers due, and
--- there are at most 16 places.
+-- there are at most 64 places.
 pub record IsSound (q : WaitQueue) : Type 0 where
   pub named : (n : ℕ) → is_alive q n ≡ true → n < next_id q
   pub distinct : AreDistinct q.alive

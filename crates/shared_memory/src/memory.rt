@@ -41,7 +41,7 @@ pub trait SharedMemory {
     /// How many pages the memory may have.
     ghost pages_max: { Self → ℕ };
 
-    /// The number under which a seat enters: 0 to 15 for threads, 16 for the desk.
+    /// The number under which a seat enters: 0 to 63 for threads, 64 for the desk.
     ghost name: { Self.Seat → ℕ };
 
     /// The entries that a seat has seen.
@@ -69,7 +69,7 @@ pub trait SharedMemory {
         ensures longer { Meets opening (name a.old) (name b.old) (has_queue_right a.old) (has_queue_right b.old)
             (seen a.old) (seen b.old) (seen a.new) };
 
-    /// The number under which a seat enters, 0 to 16.
+    /// The number under which a seat enters, 0 to 64.
     fn name(&self, seat: &Self::Seat) -> u32
         ensures { result ≡ name seat.now };
 
@@ -81,6 +81,6 @@ pub trait SharedMemory {
     fn pages_max(&self) -> u32
         ensures { result ≡ pages_max self.now };
 
-    /// A name is one of 17.
+    /// A name is one of 65.
     ghost names: { (s : Self.Seat) → name s ≤ desk_name };
 }

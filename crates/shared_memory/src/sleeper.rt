@@ -3,7 +3,7 @@
 /// A thread that sleeps in the wait queue.
 #[derive(Clone, Copy, PartialEq, Eq, Debug, Default)]
 pub struct Sleeper {
-    /// The thread's number, 0 to 15.
+    /// The thread's number, 0 to 63.
     pub thread: u32,
     /// The effective address that it waits at. Waits of 4 and of 8 bytes share one line.
     pub addr: u64,

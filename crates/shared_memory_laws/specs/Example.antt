@@ -32,7 +32,7 @@ meeting =
 -- The wait queue of these threads: who is alive, who sleeps, and what is due to thread 0 and to thread 1.
 abbrev pub queue : List ℕ → List Sleeper → Option Answer → Option Answer → WaitQueue
 queue alive sleepers to_zero to_one =
-    record { alive = alive; sleepers = sleepers; due = to_zero ∷ to_one ∷ replicate 14 None; args = 7 ∷ [] }
+    record { alive = alive; sleepers = sleepers; due = to_zero ∷ to_one ∷ replicate 62 None; args = 7 ∷ [] }
 
 -- Thread 1, as it sleeps.
 abbrev pub waiter : Sleeper

@@ -131,7 +131,7 @@ seated-meet most history views id v a b r at is =
       g.1,
     )
 
--- at first 17 callers stand on one seat
+-- at first 65 callers stand on one seat
 pub seated-open : (most : ℕ) (v : View) → one_if v.keeps ≤ most → v.log ≡ [] → v.callers ≡ fresh_from seat_count 0 → AreSeated most [] (v ∷ [])
 seated-open most v few log callers = record {
   few_keepers = omega arith;

@@ -45,7 +45,7 @@ rights v = total_of has_right v.callers
 abbrev pub keepers : View → ℕ
 keepers v = one_if v.keeps
 
--- A new caller: it has seen nothing, and the one named 16, the desk's, has the queue right.
+-- A new caller: it has seen nothing, and the one named 64, the desk's, has the queue right.
 abbrev pub fresh : ℕ → Caller
 fresh n = record { name = n; has_queue_right = n == desk_name; seen = [] }
 

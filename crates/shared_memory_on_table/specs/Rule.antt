@@ -29,7 +29,7 @@ gathered has_keeper callers = record { keeps = has_keeper; log = []; callers = c
 abbrev pub opened : Bool → View
 opened has_keeper = gathered has_keeper (fresh_from seat_count 0)
 
--- A seat of the table is one caller's alone; that caller has this name, 0 to 16, and has seen a history of the memory.
+-- A seat of the table is one caller's alone; that caller has this name, 0 to 64, and has seen a history of the memory.
 abbrev pub StandsAlone : TableId → Memory → ℕ → TableId → Me ℕ View → Type 0
 StandsAlone table opening name own me =
     (own ≡ table) × IsOne me × (name ≡ (caller_in me.0).name) × IsSeen opening (caller_in me.0).seen × (name ≤ desk_name)

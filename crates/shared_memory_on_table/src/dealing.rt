@@ -37,7 +37,7 @@ fn take_seat<B: Naming, K, H: History<K>>(
     }
 }
 
-/// The 17 seats of a memory, in order of name: 0 to 15 for threads, and 16 for the desk. The first seat, on which all
+/// The 65 seats of a memory, in order of name: 0 to 63 for threads, and 64 for the desk. The first seat, on which all
 /// callers stood, has none then.
 ///
 /// # Errors

@@ -12,7 +12,7 @@ use std::marker::{Model, PhantomData};
 /// A place on the memory's table on which one caller stands. Contracts see that caller.
 #[derive(Drop)]
 pub struct Standing<B: Naming> {
-    /// The number under which the caller enters, 0 to 16.
+    /// The number under which the caller enters, 0 to 64.
     pub name: u32,
     /// Its seat of the table.
     pub place: Place,
@@ -33,7 +33,7 @@ impl<B: Naming> Model for Standing<B> {
 }
 
 impl<B: Naming> Standing<B> {
-    /// The number under which the caller enters, 0 to 16.
+    /// The number under which the caller enters, 0 to 64.
     pub fn name(&self) -> u32
         ensures { result ≡ self.now.name }
     {

@@ -5,7 +5,7 @@ use types::Entry;
 
 /// What a caller knows. Contracts speak of it; no value of it is made.
 pub struct Caller {
-    /// The number under which it enters: 0 to 15 for threads, 16 for the desk.
+    /// The number under which it enters: 0 to 63 for threads, 64 for the desk.
     pub name: u32,
     /// Whether it may enter questions and answers.
     pub has_queue_right: bool,

@@ -3,7 +3,7 @@ use Rattle.std.specs.Prelude.{ℕ, ◌≡◌, ◌*◌, ◌%◌, ◌≤◌, ◌==
 use Rattle.types.specs.Limits.{page_size, most_pages}
 use Rattle.shared_memory.specs.Memory.{Memory}
 
--- An image is whole pages of 65,536 bytes under a maximum of at most 64 pages.
+-- An image is whole pages of 65,536 bytes under a maximum of at most 256 pages.
 abbrev pub can_open : List ℕ → ℕ → Bool
 can_open image max = nat_le max most_pages && nat_le (length image) (page_size * max) && (length image % page_size == 0)
 

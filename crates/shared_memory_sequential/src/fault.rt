@@ -10,7 +10,7 @@ use thiserror::Error;
 pub enum OpenFault {
     /// The system had too little memory left for the pages.
     NoMemory,
-    /// The image isn't whole pages or passes the maximum, or the maximum passes 64 pages.
+    /// The image isn't whole pages or passes the maximum, or the maximum passes 256 pages.
     PastLimit,
 }
 

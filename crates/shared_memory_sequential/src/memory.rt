@@ -41,7 +41,7 @@ impl OneMemory {
     ///
     /// # Errors
     /// `PastLimit` exactly where the image isn't whole pages of 65,536 bytes or passes `max` pages, or `max` passes
-    /// 64; otherwise `NoMemory` where the room can't be had.
+    /// 256; otherwise `NoMemory` where the room can't be had.
     pub fn open(alloc: Global, image: &[u8], max: u32) -> Result<OneMemory, OpenFault>
         ensures opened { IfOk result (λ m. m ≡ record { bytes = image.now; max = max }) }
         ensures within { OnOk result (can_open image.now max ≡ true) }
@@ -101,7 +101,7 @@ impl OneMemory {
         (self.bytes.len() / PAGE_SIZE) as u32
     }
 
-    /// How many pages the memory may have, at most 64.
+    /// How many pages the memory may have, at most 256.
     pub fn max(&self) -> u32
         ensures { result ≡ self.now.max }
     {

@@ -20,7 +20,7 @@ const TIMES: u32 = 10_000;
 const MOST_BYTES: usize = MOST_PAGES as usize * PAGE_SIZE;
 
 /// How many pages two threads want, one by one: more than there may be.
-const PAGES_WANTED: u32 = 40;
+const PAGES_WANTED: u32 = 160;
 
 /// The first eight bytes after 10,000 additions of 1 to the byte at 0, the two bytes at 2 and the four at 4.
 const ADDED: [u8; 8] = [0x10, 0x00, 0x10, 0x27, 0x10, 0x27, 0x00, 0x00];
@@ -253,9 +253,9 @@ fn two_threads_grow(rt: HostRuntime) -> Result<(), Fail> {
         counts.push(count)?;
     }
     counts.sort()?;
-    assert_eq!(rt; counts.len(), 62);
+    assert_eq!(rt; counts.len(), 254);
     for (i, count) in counts.iter().enumerate() {
-        assert!(rt; i < 62 && *count == i as u64 + 2, "{count} at {i}");
+        assert!(rt; i < 254 && *count == i as u64 + 2, "{count} at {i}");
     }
     assert_eq!(rt; end.byte(MOST_BYTES - 1), Some(0));
     assert_eq!(rt; end.byte(MOST_BYTES), None);

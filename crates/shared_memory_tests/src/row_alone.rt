@@ -63,7 +63,7 @@ fn use_alone<B: Naming + Send + Sync>(alloc: Global, prepared: Prepared) -> Resu
     seats.push(seat)?;
     let end = row.close(seats);
     let bytes = (end.byte(131_070), end.byte(131_071), end.byte(131_072));
-    if about != (16, None, 4) || end.pages() != 3 || bytes != (Some(7), Some(9), Some(0)) {
+    if about != (64, None, 4) || end.pages() != 3 || bytes != (Some(7), Some(9), Some(0)) {
         return Err(Fail::new("another end"));
     }
     if end.byte(196_607) != Some(0) || end.byte(196_608).is_some() {
@@ -84,8 +84,8 @@ fn faults_of_opening(rt: HostRuntime) -> Result<(), Fail> {
     let alloc = rt.alloc();
     assert!(rt; matches!(Prepared::new(alloc, &[0], 1), Err(OpenFault::PastLimit)));
     assert!(rt; matches!(Prepared::new(alloc, &PAGE, 0), Err(OpenFault::PastLimit)));
-    assert!(rt; matches!(Prepared::new(alloc, &PAGE, 65), Err(OpenFault::PastLimit)));
-    assert!(rt; Prepared::new(alloc, &PAGE, 64).is_ok());
+    assert!(rt; matches!(Prepared::new(alloc, &PAGE, 257), Err(OpenFault::PastLimit)));
+    assert!(rt; Prepared::new(alloc, &PAGE, 256).is_ok());
     assert!(rt; Prepared::new(alloc, &[], 0).is_ok());
     Ok(())
 }

@@ -217,7 +217,7 @@ fn faults_of_opening(rt: HostRuntime) -> Result<(), Fail> {
     assert!(rt; matches!(Prepared::new(alloc, &PAGE, 0, 3), Err(OpenFault::PastLimit)));
     assert!(rt;
         matches!(
-            Prepared::new(alloc, &PAGE, 65, 3),
+            Prepared::new(alloc, &PAGE, 257, 3),
             Err(OpenFault::PastLimit)
         )
     );

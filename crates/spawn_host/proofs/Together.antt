@@ -34,7 +34,7 @@ use Rattle.spawn_host.specs.Entries.{StartsThreads, CallsThreadStart}
 use Rattle.spawn_host.specs.Threads.{IsCall, IsFirst, AreSpawnable}
 use Rattle.spawn_host.specs.Runs.{opening_memory, start_with, Tells, IsRun}
 
--- Nobody enters under a name past 16.
+-- Nobody enters under a name past 64.
 silent_past : (H : List Entry) (n : ℕ) → desk_name < n → AllByRecursion IsEntry H → entries_of n H ≡ []
 silent_past [] n past all = refl
 silent_past (e ∷ H) n past all =

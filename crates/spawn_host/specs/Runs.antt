@@ -68,7 +68,7 @@ pub record IsRunHistory (m : Parts) (entry : List ℕ) (args : List Value) (fuel
   pub together : RanTogether (start_by m entry args fuel beginning) loses limit history outcomes lefts
   pub one : IsOneRun (start_by m entry args fuel beginning) loses limit history outcomes lefts
 
--- All 17 seats have seen one history, which is that of the run.
+-- All 65 seats have seen one history, which is that of the run.
 pub record IsRun {S : Type 0} (m : Parts) (entry : List ℕ) (args : List Value) (fuel : ℕ) (mem : OverMemory S)
     (threads : List ThreadReport) (seats : List S) : Type 0 where
   pub history : List Entry

@@ -26,7 +26,7 @@ module _ {T : Type 0} (meaning : T → Meaning) where
     pub takes : Takes m name args
     pub call : IsCall m takes.func_type takes.body args budget thread
 
-  -- The 15 threads that can be spawned are about to call the function for that, with some arguments.
+  -- The 63 threads that can be spawned are about to call the function for that, with some arguments.
   pub record AreSpawnable (m : Parts) (args : List Value) (budget : ℕ) (threads : List T) : Type 0 where
     pub count : length threads ≡ most_spawned
     pub own : ℕ

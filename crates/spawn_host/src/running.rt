@@ -18,7 +18,7 @@ use validate::ValidModule;
 /// Runs an exported function of a module with arguments, and the threads that are spawned meanwhile, each as a real thread over
 /// the memory. Each has the budget of the call.
 ///
-/// The memory begins as the module's does. The 17 seats are those of a new memory, in order of their names, and the last has
+/// The memory begins as the module's does. The 65 seats are those of a new memory, in order of their names, and the last has
 /// the queue right.
 ///
 /// # Errors

@@ -8,7 +8,7 @@ use std::process::Abort;
 use std::sync::Wait;
 use std::test::Fail;
 use std::thread::Threads;
-use test_modules::{COUNTING, Module, SIXTEEN, SLEEPERS, TABLE, TELLING, TREE};
+use test_modules::{COUNTING, Module, SLEEPERS, SPAWNING_ALL, TABLE, TELLING, TREE};
 use types::{Outcome, Stop, Trap, Value};
 
 /// A module, what its threads wait for, and how they end over each of these memories.
@@ -302,15 +302,17 @@ fn a_full_log_meets_a_wait(rt: HostRuntime) -> Result<(), Fail> {
 
 /// Thread 0, whose last spawn was refused, and the others.
 #[rattlefmt::skip]
-const REFUSED_ONE: [Ended; 16] = [
+const REFUSED_ONE: [Ended; 64] = [
     (Outcome::Done(Some(Value::I32(u32::MAX))), None),
-    END, END, END, END, END, END, END, END, END, END, END, END, END, END, END,
+    END, END, END, END, END, END, END, END, END, END, END, END, END, END, END, END, END, END, END, END, END,
+    END, END, END, END, END, END, END, END, END, END, END, END, END, END, END, END, END, END, END, END, END,
+    END, END, END, END, END, END, END, END, END, END, END, END, END, END, END, END, END, END, END, END, END,
 ];
 
 /// Each thread begins when the next one has stored, and thread 0 spawns once more behind all of them.
 #[rattlefmt::skip]
-const LAST_FIRST: [Hold; 15] = [
-    Hold { thread: 0, from: 138, sign: Sign { thread: 1, spent: 3, turns: 1 } },
+const LAST_FIRST: [Hold; 63] = [
+    Hold { thread: 0, from: 570, sign: Sign { thread: 1, spent: 3, turns: 1 } },
     Hold { thread: 1, from: 0, sign: Sign { thread: 2, spent: 3, turns: 1 } },
     Hold { thread: 2, from: 0, sign: Sign { thread: 3, spent: 3, turns: 1 } },
     Hold { thread: 3, from: 0, sign: Sign { thread: 4, spent: 3, turns: 1 } },
@@ -325,30 +327,86 @@ const LAST_FIRST: [Hold; 15] = [
     Hold { thread: 12, from: 0, sign: Sign { thread: 13, spent: 3, turns: 1 } },
     Hold { thread: 13, from: 0, sign: Sign { thread: 14, spent: 3, turns: 1 } },
     Hold { thread: 14, from: 0, sign: Sign { thread: 15, spent: 3, turns: 1 } },
+    Hold { thread: 15, from: 0, sign: Sign { thread: 16, spent: 3, turns: 1 } },
+    Hold { thread: 16, from: 0, sign: Sign { thread: 17, spent: 3, turns: 1 } },
+    Hold { thread: 17, from: 0, sign: Sign { thread: 18, spent: 3, turns: 1 } },
+    Hold { thread: 18, from: 0, sign: Sign { thread: 19, spent: 3, turns: 1 } },
+    Hold { thread: 19, from: 0, sign: Sign { thread: 20, spent: 3, turns: 1 } },
+    Hold { thread: 20, from: 0, sign: Sign { thread: 21, spent: 3, turns: 1 } },
+    Hold { thread: 21, from: 0, sign: Sign { thread: 22, spent: 3, turns: 1 } },
+    Hold { thread: 22, from: 0, sign: Sign { thread: 23, spent: 3, turns: 1 } },
+    Hold { thread: 23, from: 0, sign: Sign { thread: 24, spent: 3, turns: 1 } },
+    Hold { thread: 24, from: 0, sign: Sign { thread: 25, spent: 3, turns: 1 } },
+    Hold { thread: 25, from: 0, sign: Sign { thread: 26, spent: 3, turns: 1 } },
+    Hold { thread: 26, from: 0, sign: Sign { thread: 27, spent: 3, turns: 1 } },
+    Hold { thread: 27, from: 0, sign: Sign { thread: 28, spent: 3, turns: 1 } },
+    Hold { thread: 28, from: 0, sign: Sign { thread: 29, spent: 3, turns: 1 } },
+    Hold { thread: 29, from: 0, sign: Sign { thread: 30, spent: 3, turns: 1 } },
+    Hold { thread: 30, from: 0, sign: Sign { thread: 31, spent: 3, turns: 1 } },
+    Hold { thread: 31, from: 0, sign: Sign { thread: 32, spent: 3, turns: 1 } },
+    Hold { thread: 32, from: 0, sign: Sign { thread: 33, spent: 3, turns: 1 } },
+    Hold { thread: 33, from: 0, sign: Sign { thread: 34, spent: 3, turns: 1 } },
+    Hold { thread: 34, from: 0, sign: Sign { thread: 35, spent: 3, turns: 1 } },
+    Hold { thread: 35, from: 0, sign: Sign { thread: 36, spent: 3, turns: 1 } },
+    Hold { thread: 36, from: 0, sign: Sign { thread: 37, spent: 3, turns: 1 } },
+    Hold { thread: 37, from: 0, sign: Sign { thread: 38, spent: 3, turns: 1 } },
+    Hold { thread: 38, from: 0, sign: Sign { thread: 39, spent: 3, turns: 1 } },
+    Hold { thread: 39, from: 0, sign: Sign { thread: 40, spent: 3, turns: 1 } },
+    Hold { thread: 40, from: 0, sign: Sign { thread: 41, spent: 3, turns: 1 } },
+    Hold { thread: 41, from: 0, sign: Sign { thread: 42, spent: 3, turns: 1 } },
+    Hold { thread: 42, from: 0, sign: Sign { thread: 43, spent: 3, turns: 1 } },
+    Hold { thread: 43, from: 0, sign: Sign { thread: 44, spent: 3, turns: 1 } },
+    Hold { thread: 44, from: 0, sign: Sign { thread: 45, spent: 3, turns: 1 } },
+    Hold { thread: 45, from: 0, sign: Sign { thread: 46, spent: 3, turns: 1 } },
+    Hold { thread: 46, from: 0, sign: Sign { thread: 47, spent: 3, turns: 1 } },
+    Hold { thread: 47, from: 0, sign: Sign { thread: 48, spent: 3, turns: 1 } },
+    Hold { thread: 48, from: 0, sign: Sign { thread: 49, spent: 3, turns: 1 } },
+    Hold { thread: 49, from: 0, sign: Sign { thread: 50, spent: 3, turns: 1 } },
+    Hold { thread: 50, from: 0, sign: Sign { thread: 51, spent: 3, turns: 1 } },
+    Hold { thread: 51, from: 0, sign: Sign { thread: 52, spent: 3, turns: 1 } },
+    Hold { thread: 52, from: 0, sign: Sign { thread: 53, spent: 3, turns: 1 } },
+    Hold { thread: 53, from: 0, sign: Sign { thread: 54, spent: 3, turns: 1 } },
+    Hold { thread: 54, from: 0, sign: Sign { thread: 55, spent: 3, turns: 1 } },
+    Hold { thread: 55, from: 0, sign: Sign { thread: 56, spent: 3, turns: 1 } },
+    Hold { thread: 56, from: 0, sign: Sign { thread: 57, spent: 3, turns: 1 } },
+    Hold { thread: 57, from: 0, sign: Sign { thread: 58, spent: 3, turns: 1 } },
+    Hold { thread: 58, from: 0, sign: Sign { thread: 59, spent: 3, turns: 1 } },
+    Hold { thread: 59, from: 0, sign: Sign { thread: 60, spent: 3, turns: 1 } },
+    Hold { thread: 60, from: 0, sign: Sign { thread: 61, spent: 3, turns: 1 } },
+    Hold { thread: 61, from: 0, sign: Sign { thread: 62, spent: 3, turns: 1 } },
+    Hold { thread: 62, from: 0, sign: Sign { thread: 63, spent: 3, turns: 1 } },
 ];
 
-static SIXTEENTH: [Scheduled; 2] = [
+/// The bytes at the ids: the arguments.
+const ARGUMENTS: &[u8] = b"\
+\x00\x3f\x3e\x3d\x3c\x3b\x3a\x39\x38\x37\x36\x35\x34\x33\x32\x31\
+\x30\x2f\x2e\x2d\x2c\x2b\x2a\x29\x28\x27\x26\x25\x24\x23\x22\x21\
+\x20\x1f\x1e\x1d\x1c\x1b\x1a\x19\x18\x17\x16\x15\x14\x13\x12\x11\
+\x10\x0f\x0e\x0d\x0c\x0b\x0a\x09\x08\x07\x06\x05\x04\x03\x02\x01\
+\x00";
+
+static REFUSED: [Scheduled; 2] = [
     Scheduled {
-        name: "a sixteenth spawn",
-        module: Module::Bytes(SIXTEEN),
+        name: "a 64th spawn",
+        module: Module::Bytes(SPAWNING_ALL),
         ends: &REFUSED_ONE,
-        bytes: b"\x00\x0f\x0e\x0d\x0c\x0b\x0a\x09\x08\x07\x06\x05\x04\x03\x02\x01\x00",
+        bytes: ARGUMENTS,
         ..FREE
     },
     Scheduled {
-        name: "a sixteenth spawn behind all ends",
-        module: Module::Bytes(SIXTEEN),
+        name: "a 64th spawn behind all ends",
+        module: Module::Bytes(SPAWNING_ALL),
         holds: &LAST_FIRST,
         ends: &REFUSED_ONE,
-        bytes: b"\x00\x0f\x0e\x0d\x0c\x0b\x0a\x09\x08\x07\x06\x05\x04\x03\x02\x01\x00",
+        bytes: ARGUMENTS,
         ..FREE
     },
 ];
 
-/// The last spawn is refused, also where all fifteen have come to their ends before.
+/// The last spawn is refused, also where all 63 have come to their ends before.
 #[test]
-fn refuses_a_sixteenth_spawn(rt: HostRuntime) -> Result<(), Fail> {
-    check_all(&rt, rt.alloc(), &SIXTEENTH, 1)?;
+fn refuses_a_64th_spawn(rt: HostRuntime) -> Result<(), Fail> {
+    check_all(&rt, rt.alloc(), &REFUSED, 1)?;
     Ok(())
 }
 

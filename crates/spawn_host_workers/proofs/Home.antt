@@ -18,7 +18,7 @@ get_or-left xs y k d lt = grind (arith, common_steps)
 pub get_or-last : {A : Type 0} (xs : List A) (y : A) (d : A) → get_or (xs ++ y ∷ []) (length xs) d ≡ y
 get_or-last xs y d = grind (arith, common_steps)
 
--- All 17 have seen one list, which goes on from what each of the first 16 had seen, by nothing of its own.
+-- All 65 have seen one list, which goes on from what each of the first 64 had seen, by nothing of its own.
 pub record IsHome {S : Type 0} (opening : Memory) (name : S → ℕ) (seen : S → List Entry) (d : S) (home all : List S) (history : List Entry) : Type 0 where
   pub len : length all ≡ seat_count
   pub names : (k : ℕ) (d : S) → k < seat_count → name (get_or all k d) ≡ k

@@ -54,7 +54,7 @@ pub record IsSpawnReport (loses : Bool) (opening : Memory) (limit : Option ℕ) 
   pub ran : (types : List ValType) (start : List Value → Config) → m.begins types start
       → IsReport loses opening limit n m.program (Runs (At (start (values.I32 n ∷ values.I32 arg ∷ []))) m.fuel) m.fuel report begun history
 
--- All 17 seats have seen one list, which is legal for the memory and for the wait queue. Only thread 0 and those that were spawned
+-- All 65 seats have seen one list, which is legal for the memory and for the wait queue. Only thread 0 and those that were spawned
 -- have entries in it. These are reported, in order of their numbers, and each ran as it was reported.
 pub record IsComposed {S T : Type 0} (mem : OverMemory S) (meaning : T → Meaning) (first : T) (spawned : List T)
     (threads : List ThreadReport) (seats : List S) : Type 0 where

@@ -20,7 +20,7 @@ use waiters_desk::Desk;
 /// Runs the first thread of a program that imports no function that starts threads, in the calling thread. No other is
 /// started.
 ///
-/// The 17 seats are those of a new memory, in order of their names. Memory is taken before the first turn alone.
+/// The 65 seats are those of a new memory, in order of their names. Memory is taken before the first turn alone.
 pub fn run_alone<T, M, G, R>(
     rt: &R,
     alloc: Global,

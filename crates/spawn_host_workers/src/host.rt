@@ -101,7 +101,7 @@ pub(crate) fn level_all<M: SharedMemory>(memory: &M, hub: &mut M::Seat, seats: &
 /// Runs the threads of a module as real threads, over one shared memory: the first in the calling thread, and each
 /// spawned one in a thread of its own, which waits until it is spawned.
 ///
-/// The 17 seats are those of a new memory, in order of their names. Memory is taken before the first turn alone.
+/// The 65 seats are those of a new memory, in order of their names. Memory is taken before the first turn alone.
 pub fn run_all<T, M, G, R>(
     rt: &R,
     alloc: Global,

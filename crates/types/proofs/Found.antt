@@ -16,7 +16,7 @@ use Rattle.types.specs.Tests.{is_expression, is_type_within, is_table_within, is
 use Rattle.types.specs.Tests.{is_desc_within, is_body_within, has_few_items, has_items_within, has_bodies_within}
 use Rattle.types.specs.Tests.{has_nested_code, is_module}
 use Rattle.types.proofs.Nested.{Decides-expression}
-use Rattle.types.specs.Limits.{most_pages, most_items, most_functions, most_elements, most_params, most_locals}
+use Rattle.types.specs.Limits.{most_pages, most_items, most_functions, most_elements, most_params, most_locals, most_module_bytes}
 
 Decides-leb : (a b : ℕ) → Decides (nat_le a b) (a ≤ b)
 Decides-leb a b = (λ h. grind (arith, nat_tests), λ h. grind (arith, nat_tests))
@@ -57,6 +57,7 @@ record HasFewItems (m : Parts) : Type 0 where
   exports : length m.exports ≤ most_items
   elements : length m.elements ≤ most_items
   data_segments : length m.data ≤ most_items
+  size : m.length ≤ most_module_bytes
 
 record HasItemsWithin (m : Parts) : Type 0 where
   each_type : All IsTypeWithin m.types
@@ -75,18 +76,19 @@ Decides-few : (m : Parts) → Decides (has_few_items m) (HasFewItems m)
 Decides-few m =
     Decides-like (has_few_items m)
     (λ t. record {
-      types = t.0.0.0.0.0.0.0.0;
-      imports = t.0.0.0.0.0.0.0.1;
-      functions = t.0.0.0.0.0.0.1;
-      tables = t.0.0.0.0.0.1;
-      memories = t.0.0.0.0.1;
-      globals = t.0.0.0.1;
-      exports = t.0.0.1;
-      elements = t.0.1;
-      data_segments = t.1;
+      types = t.0.0.0.0.0.0.0.0.0;
+      imports = t.0.0.0.0.0.0.0.0.1;
+      functions = t.0.0.0.0.0.0.0.1;
+      tables = t.0.0.0.0.0.0.1;
+      memories = t.0.0.0.0.0.1;
+      globals = t.0.0.0.0.1;
+      exports = t.0.0.0.1;
+      elements = t.0.0.1;
+      data_segments = t.0.1;
+      size = t.1;
     })
-    (λ t. ((((((((t.types, t.imports), t.functions), t.tables), t.memories), t.globals), t.exports), t.elements), t.data_segments))
-    (Decides-and _ _ (Decides-and _ _ (Decides-and _ _ (Decides-and _ _ (Decides-and _ _ (Decides-and _ _ (Decides-and _ _ (Decides-and _ _
+    (λ t. (((((((((t.types, t.imports), t.functions), t.tables), t.memories), t.globals), t.exports), t.elements), t.data_segments), t.size))
+    (Decides-and _ _ (Decides-and _ _ (Decides-and _ _ (Decides-and _ _ (Decides-and _ _ (Decides-and _ _ (Decides-and _ _ (Decides-and _ _ (Decides-and _ _
     (Decides-leb (length m.types) most_items)
     (Decides-leb (length m.imports) most_items))
     (Decides-leb (count_by (λ i. is_func i.desc) m.imports + length m.functions) most_functions))
@@ -96,6 +98,7 @@ Decides-few m =
     (Decides-leb (length m.exports) most_items))
     (Decides-leb (length m.elements) most_items))
     (Decides-leb (length m.data) most_items))
+    (Decides-leb m.length most_module_bytes))
 
 Decides-items : (m : Parts) → Decides (has_items_within m) (HasItemsWithin m)
 Decides-items m =
@@ -132,6 +135,7 @@ few_of m w = record {
   exports = w.exports;
   elements = w.elements;
   data_segments = w.data_segments;
+  size = w.size;
 }
 
 items_of : (m : Parts) → IsWithinLimits m → HasItemsWithin m
@@ -167,6 +171,7 @@ Decides-module m =
         exports = t.0.0.0.exports;
         elements = t.0.0.0.elements;
         data_segments = t.0.0.0.data_segments;
+        size = t.0.0.0.size;
         each_type = t.0.0.1.each_type;
         each_import = t.0.0.1.each_import;
         each_table = t.0.0.1.each_table;

@@ -8,25 +8,25 @@ page_size = 65536
 
 -- Pages of a memory, at first and at most.
 abbrev pub most_pages : ℕ
-most_pages = 64
+most_pages = 256
 
 -- Threads of a run: thread 0, and those that it spawns.
 abbrev pub most_threads : ℕ
-most_threads = 16
+most_threads = 64
 
 abbrev pub most_spawned : ℕ
-most_spawned = 15
+most_spawned = 63
 
 -- The name of the desk's seat, behind those of the threads' seats; and how many seats a memory has.
 abbrev pub desk_name : ℕ
-desk_name = 16
+desk_name = 64
 
 abbrev pub seat_count : ℕ
-seat_count = 17
+seat_count = 65
 
 -- Entries that a log takes past its limit: three for each thread.
 abbrev pub past_limit : ℕ
-past_limit = 48
+past_limit = 192
 
 -- The greatest limit of a log, in entries.
 abbrev pub most_limit : ℕ

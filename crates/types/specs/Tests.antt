@@ -12,6 +12,7 @@ use Rattle.types.specs.declared.parts.Body.{Body}
 use Rattle.types.specs.declared.parts.Parts.{Parts}
 use Rattle.types.specs.Within.{param_count, is_func}
 use Rattle.types.specs.Limits.{most_pages, most_items, most_functions, most_elements, most_params, most_locals, most_nested}
+use Rattle.types.specs.Limits.{most_module_bytes}
 
 -- The open blocks at a place of an expression are listed with the innermost first; the outermost is the whole
 -- expression. Of each it is kept whether an else may come: in an if that has had none.
@@ -84,6 +85,7 @@ has_few_items m =
     && nat_le (length m.tables) most_items && nat_le (length m.memories) most_items && nat_le (length m.globals)
     most_items && nat_le (length m.exports) most_items
     && nat_le (length m.elements) most_items && nat_le (length m.data) most_items
+    && nat_le m.length most_module_bytes
 
 abbrev pub has_items_within : Parts → Bool
 has_items_within m =

@@ -1,4 +1,4 @@
--- The limits on a module, other than those on sizes in bytes. They are this project's own (Core specification 1.0,
+-- The limits on a module, other than those on the sizes of its sections in bytes. They are this project's own (Core specification 1.0,
 -- appendix 7.2, leaves limits to an implementation).
 use Rattle.std.specs.Prelude.{ℕ, ◌+◌, ◌≤◌, List, length, count_by, Bool, true, false, IfSome, unwrap_or}
 use Rattle.std.specs.Option.{option_map}
@@ -10,7 +10,7 @@ use Rattle.types.specs.declared.parts.ImportDesc.{ImportDesc}
 use Rattle.types.specs.declared.parts.ImportDesc.TheVariants as imports
 use Rattle.types.specs.declared.parts.Body.{Body}
 use Rattle.types.specs.declared.parts.Parts.{Parts}
-use Rattle.types.specs.Limits.{most_pages, most_items, most_functions, most_elements, most_params, most_locals}
+use Rattle.types.specs.Limits.{most_pages, most_items, most_functions, most_elements, most_params, most_locals, most_module_bytes}
 
 abbrev pub IsTypeWithin : FuncType → Type 0
 IsTypeWithin t = (length t.params ≤ most_params) × (length t.results ≤ most_params)
@@ -19,7 +19,7 @@ IsTypeWithin t = (length t.params ≤ most_params) × (length t.results ≤ most
 abbrev pub IsTableWithin : Limits → Type 0
 IsTableWithin l = l.min ≤ most_elements
 
--- A memory has at most 64 pages at first, and at most 64 where a maximum is given.
+-- A memory has at most 256 pages at first, and at most 256 where a maximum is given.
 abbrev pub IsMemoryWithin : Limits → Type 0
 IsMemoryWithin l = (l.min ≤ most_pages) × IfSome l.max (λ m. m ≤ most_pages)
 
@@ -54,6 +54,7 @@ pub record IsWithinLimits (m : Parts) : Type 0 where
   pub exports : length m.exports ≤ most_items
   pub elements : length m.elements ≤ most_items
   pub data_segments : length m.data ≤ most_items
+  pub size : m.length ≤ most_module_bytes
   pub each_type : All IsTypeWithin m.types
   pub each_import : All (λ i. IsDescWithin i.desc) m.imports
   pub each_table : All IsTableWithin m.tables

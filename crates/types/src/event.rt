@@ -110,7 +110,7 @@ pub enum Reply {
 /// One entry of a history: who made which event, and what it got.
 #[derive(Clone, Copy, PartialEq, Eq, Debug)]
 pub struct Entry {
-    /// The thread's number, 0 to 15.
+    /// The thread's number, 0 to 63.
     pub thread: u32,
     pub event: Event,
     pub reply: Reply,

@@ -4,22 +4,22 @@
 pub const PAGE_SIZE: usize = 65_536;
 
 /// Pages of a memory, at first and at most.
-pub const MOST_PAGES: u32 = 64;
+pub const MOST_PAGES: u32 = 256;
 
 /// Threads of a run: thread 0, and those that it spawns.
-pub const MOST_THREADS: usize = 16;
+pub const MOST_THREADS: usize = 64;
 
 /// Threads that a run spawns.
-pub const MOST_SPAWNED: usize = 15;
+pub const MOST_SPAWNED: usize = 63;
 
 /// The name of the desk's seat, behind those of the threads' seats.
-pub const DESK_NAME: u32 = 16;
+pub const DESK_NAME: u32 = 64;
 
 /// Seats of a memory: one for each thread, and the desk's.
-pub const SEATS: u32 = 17;
+pub const SEATS: u32 = 65;
 
 /// Entries that a log takes past its limit: three for each thread.
-pub const PAST_LIMIT: usize = 48;
+pub const PAST_LIMIT: usize = 192;
 
 /// The greatest limit of a log, in entries.
 pub const MOST_LIMIT: u32 = 1_000_000;

@@ -93,7 +93,8 @@ pub struct Body {
     pub code: Sequence<Instr>,
 }
 
-/// A module's parts: one list for each section other than custom (Core specification 1.0, section 5.5).
+/// A module's parts: one list for each section other than custom (Core specification 1.0, section 5.5), and the length of
+/// its text.
 #[derive(PartialEq, Eq, Debug, Drop)]
 pub struct Parts {
     pub types: Sequence<FuncType>,
@@ -109,4 +110,6 @@ pub struct Parts {
     pub elements: Sequence<ElementSegment>,
     pub bodies: Sequence<Body>,
     pub data: Sequence<DataSegment>,
+    /// The bytes of the binary module, at most 1,048,576.
+    pub length: u32,
 }

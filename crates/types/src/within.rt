@@ -8,7 +8,8 @@ ghost use Rattle.types.specs.Tests.{has_bodies_within};
 ghost use Rattle.types.specs.Limits.{most_functions};
 
 use crate::limits::{
-    MOST_ELEMENTS, MOST_FUNCTIONS, MOST_ITEMS, MOST_LOCALS, MOST_PAGES, MOST_PARAMS,
+    MOST_ELEMENTS, MOST_FUNCTIONS, MOST_ITEMS, MOST_LOCALS, MOST_MODULE_BYTES, MOST_PAGES,
+    MOST_PARAMS,
 };
 use crate::parts::{Body, ElementSegment, FuncType, Import, ImportDesc, Limits, Parts};
 
@@ -80,7 +81,7 @@ fn is_body_in(types: &[FuncType], index: u32, body: &Body) -> bool
     params <= MOST_LOCALS && body.locals.len() <= MOST_LOCALS - params
 }
 
-/// Whether each section has as few items as a module may have.
+/// Whether each section has as few items as a module may have, and the module as few bytes.
 pub fn has_few_items_in(parts: &Parts) -> bool
     ensures { result ≡ has_few_items parts.now }
 {
@@ -95,6 +96,7 @@ pub fn has_few_items_in(parts: &Parts) -> bool
         && parts.exports.len() <= MOST_ITEMS
         && parts.elements.len() <= MOST_ITEMS
         && parts.data.len() <= MOST_ITEMS
+        && parts.length as usize <= MOST_MODULE_BYTES
 }
 
 fn are_types_in(types: &[FuncType]) -> bool

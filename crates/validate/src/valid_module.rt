@@ -77,7 +77,7 @@ impl ValidModule {
         }
     }
 
-    /// The most pages that the memory may have: 64 where none are stated, 0 without a memory.
+    /// The most pages that the memory may have: 256 where none are stated, 0 without a memory.
     pub fn pages_max(&self) -> u32
         ensures { result ≡ pages_max_of most_pages self.now.parts }
     {

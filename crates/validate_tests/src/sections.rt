@@ -25,6 +25,7 @@ pub fn empty(alloc: Global) -> Parts {
         elements: Sequence::from_vec(Vec::new(alloc)),
         bodies: Sequence::from_vec(Vec::new(alloc)),
         data: Sequence::from_vec(Vec::new(alloc)),
+        length: 0,
     }
 }
 

@@ -19,7 +19,7 @@ is_in sleepers k d within =
     let is_same : (s.thread == s.thread) ≡ true = grind (arith, nat_tests) in
     list_any_at (λ (t : Sleeper). t.thread == s.thread) sleepers k d within is_same
 
--- who sleeps in a sound queue is one of the threads 0 to 15
+-- who sleeps in a sound queue is one of the threads 0 to 63
 pub numbered_from : (q : WaitQueue) → IsSound q → (woken : List Sleeper) → AreAsleep woken q → AreNumbered woken
 numbered_from q sound woken asleep k d within =
     let s : Sleeper = get_or woken k d in

@@ -19,7 +19,7 @@ falls_asleep (Notify addr count) loaded = false
 falls_asleep (Spawn arg) loaded = false
 falls_asleep Leave loaded = false
 
--- Each sleeper is one of the threads 0 to 15.
+-- Each sleeper is one of the threads 0 to 63.
 abbrev pub AreNumbered : List Sleeper → Type 0
 AreNumbered sleepers = All (λ (s : Sleeper). s.thread < most_threads) sleepers
 

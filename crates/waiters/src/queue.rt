@@ -13,13 +13,13 @@ use shared_memory::Sleeper;
 use std::marker::Model;
 use types::{Answer, MOST_SPAWNED, MOST_THREADS, Question};
 
-/// What a spawn answers where 15 threads were spawned already.
+/// What a spawn answers where 63 threads were spawned already.
 const NO_THREAD: u32 = 4_294_967_295;
 
 /// The wait queue: who is alive, who sleeps, which answers are due, and the arguments of the spawned threads. It takes
 /// no memory beyond itself, holds no lock and waits for nobody.
 ///
-/// Threads are numbered 0 to 15. The answers of a wait are 0 where the thread was notified, 1 where the value differed
+/// Threads are numbered 0 to 63. The answers of a wait are 0 where the thread was notified, 1 where the value differed
 /// and 2 where its timeout ended (threads proposal, "Wait and notify operators"); the numbers of threads and the
 /// settling are the profile's own.
 #[derive(Drop)]
@@ -74,7 +74,7 @@ impl Queue {
     }
 
     /// The answer that is due to the thread, which is then taken. It is `None`, with no change, where none is due, as
-    /// for every number from 16 on.
+    /// for every number from 64 on.
     #[tactic(auto, unfolding(shared_memory::specs::WaitQueue::after_answer))]
     pub fn told(&mut self, thread: u32) -> Option<Answer>
         ensures answer { result ≡ answer_due self.old thread }
@@ -198,7 +198,7 @@ impl Queue {
         woken.len() as u32
     }
 
-    /// A thread with the next number comes alive, unless 15 were spawned already.
+    /// A thread with the next number comes alive, unless 63 were spawned already.
     fn spawn(&mut self, arg: u32) -> u32
         ensures after { self.new ≡ (if nat_lt (next_id self.old) (length self.old.due) then starts arg self.old else self.old) }
         ensures id { result ≡ (if nat_lt (next_id self.old) (length self.old.due) then next_id self.old else NO_THREAD) }

@@ -39,7 +39,7 @@ impl<M: SharedMemory, W: Wait + Drop> Drop for Desk<M, W> {
 }
 
 impl<M: SharedMemory, W: Wait + Drop> Desk<M, W> {
-    /// The desk of a memory, with the seat named 16, which has the queue right. That seat has entered nothing, and has
+    /// The desk of a memory, with the seat named 64, which has the queue right. That seat has entered nothing, and has
     /// seen no question and no answer.
     pub fn open(rt: W, _memory: &M, seat: M::Seat) -> Desk<M, W>
         requires right { M.has_queue_right seat ≡ true }
@@ -163,7 +163,7 @@ impl<M: SharedMemory, W: Wait + Drop> Desk<M, W> {
         }
     }
 
-    /// Spawns a thread with this argument, and answers its id, 1 to 15, or 4294967295 where none is left.
+    /// Spawns a thread with this argument, and answers its id, 1 to 63, or 4294967295 where none is left.
     pub fn spawn(&self, memory: &M, seat: &mut M::Seat, arg: u32) -> Result<u32, Full>
         requires free { IsFree (queue_after (M.seen seat.old)) (M.name seat.old) }
         ensures name { M.name seat.new ≡ M.name seat.old }

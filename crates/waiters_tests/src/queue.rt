@@ -57,7 +57,7 @@ fn ask(rt: &impl Abort, queue: &mut Queue, thread: u32, question: &Question) {
 }
 
 fn spawn_all(rt: &impl Abort, queue: &mut Queue, count: u32) {
-    for id in 1..=count.min(15) {
+    for id in 1..=count.min(63) {
         ask(rt, queue, 0, &Question::Spawn { arg: 100 + id });
         assert_eq!(rt; queue.told(0), Some(Answer::Number(id)));
     }
@@ -273,22 +273,22 @@ fn numbers_are_not_used_again(rt: HostRuntime) -> Result<(), Fail> {
     play(
         &rt,
         &[
-            Spawns(14),
-            Asks(14, Question::Leave),
-            Takes(14, number(0)),
-            IsAlive(14, false),
-            HasArg(14, Some(114)),
-            HasArg(15, None),
+            Spawns(62),
+            Asks(62, Question::Leave),
+            Takes(62, number(0)),
+            IsAlive(62, false),
+            HasArg(62, Some(162)),
+            HasArg(63, None),
             Asks(1, Question::Spawn { arg: 7 }),
-            Takes(1, number(15)),
-            IsAlive(15, true),
-            Asks(15, Question::Spawn { arg: 8 }),
-            Takes(15, number(4_294_967_295)),
-            IsAlive(16, false),
+            Takes(1, number(63)),
+            IsAlive(63, true),
+            Asks(63, Question::Spawn { arg: 8 }),
+            Takes(63, number(4_294_967_295)),
+            IsAlive(64, false),
             HasArg(0, None),
             HasArg(1, Some(101)),
-            HasArg(15, Some(7)),
-            HasArg(16, None),
+            HasArg(63, Some(7)),
+            HasArg(64, None),
             HasArg(4_294_967_295, None),
         ],
     );

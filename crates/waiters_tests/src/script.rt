@@ -203,7 +203,7 @@ pub fn wait_alone<M: SharedMemory, W: Wait + Drop>(
     Some(collects(desk, memory, zero))
 }
 
-/// Thread 0 spawns 16 threads: each answer.
+/// Thread 0 spawns 64 threads: each answer.
 pub fn spawn_all<M: SharedMemory, W: Wait + Drop>(
     desk: &Desk<M, W>,
     memory: &M,

@@ -161,14 +161,14 @@ fn who_waits_alone_sleeps_for_good(rt: HostRuntime) -> Result<(), Fail> {
 }
 
 #[test]
-fn the_sixteenth_spawn_is_refused(rt: HostRuntime) -> Result<(), Fail> {
+fn the_sixty_fourth_spawn_is_refused(rt: HostRuntime) -> Result<(), Fail> {
     let (heard, end) = try_at(&rt, rt.alloc(), 1000, Trial::AllIds)?;
     let mut ids = [Ok(u32::MAX); MOST_THREADS];
     for i in 0..MOST_SPAWNED as u32 {
         ids[i as usize] = Ok(i + 1);
     }
     assert_eq!(rt; heard, Heard::AllIds(ids));
-    assert_eq!(rt; end.log.len(), 32);
+    assert_eq!(rt; end.log.len(), 128);
     Ok(())
 }
 

@@ -226,7 +226,7 @@ place_in opening seen event stored all is within =
     let same = o.max in
     omega (arith, p, same)
 
--- What a history shows of the page count is at most 64.
+-- What a history shows of the page count is at most 256.
 pub few_pages : (opening : Memory) (event : Event) (answer : Option Reply) (found : ℕ) (c w : Caller)
     → IsStored opening → Steps opening event answer 0 c found w → found ≤ most_pages
 few_pages opening event answer found c w stored s = by_list answer s.list

@@ -71,7 +71,7 @@ found-HasPages opening event answer found c w stored s = by_list answer s.list
         let word : pages (memory_after opening s.log) ≡ found = s.word in
         later opening s.log (entry c.name event r ∷ []) w.seen found stored s.seen.entries (ap (λ (x : Caller). x.seen) e) (omega arith)
 
--- it is at most 64, and what lies within it lies within the memory seen
+-- it is at most 256, and what lies within it lies within the memory seen
 pub few-HasPages : (opening : Memory) (seen : L) (count : ℕ) → IsStored opening → AreEntries seen → HasPages opening seen count → count ≤ most_pages
 few-HasPages opening seen count stored all has =
     let o = outlasts opening seen stored all in

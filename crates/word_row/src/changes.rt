@@ -31,7 +31,7 @@ pub enum Next {
     Exchange(Change),
 }
 
-/// Whether `width` bytes at an address end within so many pages, at most 64. The end may pass the last address.
+/// Whether `width` bytes at an address end within so many pages, at most 256. The end may pass the last address.
 #[inline(always)]
 fn ends_within(addr: u64, width: u8, pages: u64) -> bool
     requires { pages ≤ most_pages }
@@ -41,7 +41,7 @@ fn ends_within(addr: u64, width: u8, pages: u64) -> bool
     addr <= length && u64::from(width) <= length - addr
 }
 
-/// The refusal of an access of `width` bytes at an address, where it ends past so many pages, at most 64.
+/// The refusal of an access of `width` bytes at an address, where it ends past so many pages, at most 256.
 #[inline(always)]
 fn refuse(addr: u64, width: u8, pages: u64) -> Option<Reply>
     requires { pages ≤ most_pages }
@@ -54,7 +54,7 @@ fn refuse(addr: u64, width: u8, pages: u64) -> Option<Reply>
     }
 }
 
-/// Whether an event is an access that lies within so many pages, at most 64.
+/// Whether an event is an access that lies within so many pages, at most 256.
 #[inline(always)]
 pub fn is_within(event: Event, pages: u64) -> bool
     requires { pages ≤ most_pages }
@@ -70,7 +70,7 @@ pub fn is_within(event: Event, pages: u64) -> bool
 }
 
 /// The reply that the page count settles: a page count, a refusal, or that of an event that reads no byte. `None` for
-/// an access within bounds and a growth that can succeed. The count is at most 64.
+/// an access within bounds and a growth that can succeed. The count is at most 256.
 #[inline(always)]
 pub fn by_size(pages_max: u32, event: Event, pages: u64) -> Option<Reply>
     requires { pages ≤ most_pages }

@@ -33,7 +33,7 @@ impl Model for ClosedRow {
 }
 
 impl ClosedRow {
-    /// The page count, at most 64; a page has 65,536 bytes.
+    /// The page count, at most 256; a page has 65,536 bytes.
     pub fn pages(&self) -> u32
         ensures count { result ≡ pages self.now }
         ensures sized { IsSized self.now }

@@ -86,7 +86,7 @@ impl Prepared {
     ///
     /// # Errors
     /// `PastLimit` exactly where the image isn't whole pages of 65,536 bytes or passes `max` pages, or `max` passes
-    /// 64; otherwise `NoMemory` where the room can't be had.
+    /// 256; otherwise `NoMemory` where the room can't be had.
     pub fn new(alloc: Global, image: &[u8], max: u32) -> Result<Prepared, OpenFault>
         ensures opened { IfOk result (λ p. p.opening ≡ record { bytes = image.now; max = max }) }
         ensures within { OnOk result (can_open image.now max ≡ true) }

@@ -64,7 +64,7 @@ pub struct WordRow<B: Naming> {
 }
 
 impl<B: Naming> WordRow<B> {
-    /// Opens a prepared row under its name, with 17 seats in order of name: 0 to 15 for threads, and 16 for the desk,
+    /// Opens a prepared row under its name, with 65 seats in order of name: 0 to 63 for threads, and 64 for the desk,
     /// which alone has the queue right. No seat has seen an entry.
     ///
     /// # Errors

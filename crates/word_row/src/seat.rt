@@ -24,7 +24,7 @@ pub struct WordSeat<B: Naming> {
     pub ghost counted: { HasPages B.opening caller.seen pages },
 }
 
-/// The 17 seats of a row, in order of name, which have loaded no page count.
+/// The 65 seats of a row, in order of name, which have loaded no page count.
 ///
 /// # Errors
 /// Where the room for them can't be had.
