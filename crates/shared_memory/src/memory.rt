@@ -22,8 +22,10 @@ use types::{Event, Reply};
 /// sequential memory answers it after the list; the try was lost, and an entry of another changed what the event
 /// touches; or the log is full. Where the seat has the queue right, others enter no question and no answer
 /// meanwhile. Say how many tries a seat has lost (`lost`), by the steps of the memory itself; `access` raises that by
-/// one exactly where it answers `Again`, so it makes one try, and makes none again by itself. Prove of `meet` that both seats have the longer of the two lists, and that the right is exchanged.
-/// Which memory a seat belongs to is settled by its type. Everything above rests on these clauses alone.
+/// one exactly where it answers `Again`, so it makes one try, and makes none again by itself. Prove of `meet` that both
+/// seats have the longer of the two lists, and that the right is exchanged. Say that the memory before any entry is whole
+/// pages, under the most pages that it may have. Which memory a seat belongs to is settled by its type. Everything above
+/// rests on these clauses alone.
 pub trait SharedMemory {
     /// A caller's place at this memory. It is made with the memory, and never twice.
     type Seat: Drop + Send;
