@@ -14,7 +14,7 @@ use Rattle.shared_memory.specs.Events.{IsEvent, is_of_queue, is_exempt}
 use Rattle.shared_memory.specs.Memory.{Memory, pages, reply_of, state_after, if_within}
 use Rattle.shared_memory.specs.History.{entry, entries_of, IsEntry, AreEntries, memory_after}
 use Rattle.shared_memory.specs.Legal.{IsAllowed, MayEnter}
-use Rattle.shared_memory.specs.Access.{IsSeen, Answers, Accesses}
+use Rattle.shared_memory.specs.Access.{IsSeen, Answers, Accesses, lost_after}
 use Rattle.shared_memory.proofs.Histories.{memory_after-append, IsMemoryLegal-entry, AreEntries-append, same_queue}
 use Rattle.shared_memory_sequential.specs.Opening.{IsSized}
 use Rattle.shared_memory_on_table.specs.declared.view.Caller.{Caller}
@@ -69,6 +69,18 @@ answered opening limit n right event before after m reply is a = by_reply reply 
     by_reply OutOfBounds t a = a
     by_reply Again t a = absurd (true≢false (sym t))
     by_reply Full t a = absurd (true≢false (sym t))
+
+-- so no try is lost
+pub never_lost : (m : Memory) (event : Event) (reply : Reply) (lost : ℕ) → reply ≡ reply_of m event → lost ≡ lost_after reply lost
+unfolding answers
+never_lost m event reply lost is = by_reply reply (ap answers is ∙ reply_answers m event)
+  where
+    by_reply : (r : Reply) → answers r ≡ true → lost ≡ lost_after r lost
+    by_reply (Value v) t = refl
+    by_reply Done t = refl
+    by_reply OutOfBounds t = refl
+    by_reply Again t = absurd (true≢false (sym t))
+    by_reply Full t = refl
 
 -- the event that a caller may hand in after its list it may hand in after the log
 may_enter : (c : Caller) (log : L) (event : Event) → GoesOn c log → c.has_queue_right ≡ true → MayEnter c.name event c.seen → MayEnter c.name event log

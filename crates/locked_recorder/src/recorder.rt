@@ -1,6 +1,7 @@
 //! The recorder.
 ghost use Rattle.std.specs.Prelude.{◌≡◌, ◌<◌, IfOk, IsOkUnless, All, map};
 ghost use Rattle.types.specs.Limits.{seat_count};
+ghost use Rattle.shared_memory.specs.Memory.{IsWhole};
 ghost use Rattle.shared_memory_on_table.specs.Callers.{fresh_from};
 ghost use Rattle.locked_recorder.specs.Promises.{Begins, IsRecord, IsBounded};
 
@@ -28,6 +29,7 @@ pub struct LockedRecorder<B: Naming, W: Wait + Drop> {
     ghost word: { 0 < board.shared.table_id.words },
     ghost limited: { limit ≡ B.limit },
     ghost sized: { pages_max ≡ B.opening.max },
+    ghost whole: { IsWhole B.opening },
 }
 
 impl<B: Naming, W: Wait + Drop> LockedRecorder<B, W> {
@@ -102,6 +104,7 @@ impl<B: Naming + Send + Sync, W: Wait + Drop> SharedMemory for LockedRecorder<B,
     type Seat = LockedSeat<B>;
 
     ghost use Rattle.std.specs.Prelude.{false, Some};
+    ghost use Rattle.std.proofs.Common.{refl};
 
     const LOSES: bool = false;
 
@@ -119,7 +122,13 @@ impl<B: Naming + Send + Sync, W: Wait + Drop> SharedMemory for LockedRecorder<B,
 
     ghost has_queue_right = { λ s. s.caller.has_queue_right };
 
+    ghost lost = { λ s. s.caller.lost };
+
     ghost names = { λ s. s.known };
+
+    ghost most = { λ m. refl };
+
+    ghost whole = { λ m. m.whole };
 
     fn access(&self, seat: &mut LockedSeat<B>, event: Event) -> Reply {
         self.desk

@@ -9,7 +9,7 @@ use Rattle.types.specs.declared.event.Entry.{Entry}
 use Rattle.types.specs.declared.outcome.Outcome.{Outcome}
 use Rattle.shared_memory.specs.Memory.{Memory}
 use Rattle.shared_memory.specs.History.{entry, entries_of, memory_after}
-use Rattle.shared_memory.specs.Access.{Changes, HasRoom, HasReached}
+use Rattle.shared_memory.specs.Access.{Changes, WasExpected, HasRoom, HasReached}
 use Rattle.schedule.specs.System.{Act, Act.Made, Act.Heard, Step, Step.Own, Step.Lost, Step.Full, Step.Acts}
 use Rattle.schedule.specs.ThreadRun.{IsThreadRun}
 use Rattle.schedule.specs.Machine.{Thread, Thread.Left}
@@ -31,13 +31,15 @@ abbrev pub entered : ℕ → Act Event Reply Answer → Entry
 entered n act = entry n (event_of act) (reply_with act)
 
 -- The list that thread n has seen goes on, in one step, with entries of others:
--- a try is lost only where one of them changes what its event touches;
+-- a try is lost only where one of them changes what its event touches, and a compare-exchange only where its expected value
+-- was there;
 pub record SeesLost (loses : Bool) (opening : Memory) (n : ℕ) (event : Event) (before after : List Entry) : Type 0 where
   pub others : List Entry
   pub list : after ≡ before ++ others
   pub apart : entries_of n others ≡ []
   pub may : loses ≡ true
   pub cause : Changes (memory_after opening before) event others
+  pub expected : WasExpected (memory_after opening before) event others
 
 -- a log is full only where they reach the limit;
 pub record SeesFull (limit : Option ℕ) (n : ℕ) (before after : List Entry) : Type 0 where

@@ -1,5 +1,5 @@
 -- The sequential memory: what an event reads and writes where one thread alone steps it.
-use Rattle.std.specs.Prelude.{ℕ, ◌+◌, ◌-◌, ◌*◌, ◌/◌, ◌%◌, ◌^◌, ◌==◌, Bool, nat_le, if◌then◌else◌}
+use Rattle.std.specs.Prelude.{ℕ, ◌≡◌, ◌+◌, ◌-◌, ◌*◌, ◌/◌, ◌%◌, ◌^◌, ◌==◌, Bool, nat_le, if◌then◌else◌}
 use Rattle.std.specs.Prelude.{List, [], ◌∷◌, ◌++◌, length, take, drop, replicate, bit_and, bit_or, bit_xor}
 use Rattle.std.specs.List.{splice}
 use Rattle.types.specs.declared.event.Event.{Event}
@@ -38,6 +38,10 @@ combined ops.And width old value = bit_and old value
 combined ops.Or width old value = bit_or old value
 combined ops.Xor width old value = bit_xor old value
 combined ops.Xchg width old value = value
+
+-- Its bytes are whole pages (section 4.2.8).
+abbrev pub IsWhole : Memory → Type 0
+IsWhole m = length m.bytes % page_size ≡ 0
 
 -- So many more pages fit under the maximum.
 abbrev pub can_grow : Memory → ℕ → Bool

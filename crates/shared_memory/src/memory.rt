@@ -3,9 +3,9 @@ ghost use Rattle.std.specs.Prelude.{◌≡◌, ℕ, Bool, true, ◌≤◌, List,
 ghost use Rattle.types.specs.declared.event.Entry.{Entry};
 ghost use Rattle.types.specs.Limits.{desk_name};
 ghost use Rattle.shared_memory.specs.Events.{IsEvent, is_of_queue};
-ghost use Rattle.shared_memory.specs.Memory.{Memory};
+ghost use Rattle.shared_memory.specs.Memory.{Memory, IsWhole};
 ghost use Rattle.shared_memory.specs.Legal.{MayEnter};
-ghost use Rattle.shared_memory.specs.Access.{Accesses, Meets};
+ghost use Rattle.shared_memory.specs.Access.{Accesses, Meets, lost_after};
 
 use types::{Event, Reply};
 
@@ -21,8 +21,11 @@ use types::{Event, Reply};
 /// first that of the desk. Then prove of `access` one of three things, by its reply: the event was answered as the
 /// sequential memory answers it after the list; the try was lost, and an entry of another changed what the event
 /// touches; or the log is full. Where the seat has the queue right, others enter no question and no answer
-/// meanwhile. Prove of `meet` that both seats have the longer of the two lists, and that the right is exchanged.
-/// Which memory a seat belongs to is settled by its type. Everything above rests on these clauses alone.
+/// meanwhile. Say how many tries a seat has lost (`lost`), by the steps of the memory itself; `access` raises that by
+/// one exactly where it answers `Again`, so it makes one try, and makes none again by itself. Prove of `meet` that both
+/// seats have the longer of the two lists, and that the right is exchanged. Say that the memory before any entry is whole
+/// pages, under the most pages that it may have. Which memory a seat belongs to is settled by its type. Everything above
+/// rests on these clauses alone.
 pub trait SharedMemory {
     /// A caller's place at this memory. It is made with the memory, and never twice.
     type Seat: Drop + Send;
@@ -50,6 +53,9 @@ pub trait SharedMemory {
     /// Whether a seat may enter questions and answers.
     ghost has_queue_right: { Self.Seat → Bool };
 
+    /// How many of its tries were lost.
+    ghost lost: { Self.Seat → ℕ };
+
     /// Makes one try of an event. An event of the queue takes the queue right, and is one that the wait queue allows
     /// after the list seen.
     fn access(&self, seat: &mut Self::Seat, event: Event) -> Reply
@@ -59,7 +65,8 @@ pub trait SharedMemory {
         ensures name { name seat.new ≡ name seat.old }
         ensures right { has_queue_right seat.new ≡ has_queue_right seat.old }
         ensures outcome { Accesses LOSES opening (limit self.now) (name seat.old) (has_queue_right seat.old) event
-            (seen seat.old) (seen seat.new) result };
+            (seen seat.old) (seen seat.new) result }
+        ensures tries { lost seat.new ≡ lost_after result (lost seat.old) };
 
     /// Two seats learn from each other, and exchange the queue right.
     fn meet(&self, a: &mut Self::Seat, b: &mut Self::Seat)
@@ -67,7 +74,8 @@ pub trait SharedMemory {
         ensures rights { (has_queue_right a.new ≡ has_queue_right b.old) × (has_queue_right b.new ≡ has_queue_right a.old) }
         ensures one { seen b.new ≡ seen a.new }
         ensures longer { Meets opening (name a.old) (name b.old) (has_queue_right a.old) (has_queue_right b.old)
-            (seen a.old) (seen b.old) (seen a.new) };
+            (seen a.old) (seen b.old) (seen a.new) }
+        ensures tries { (lost a.new ≡ lost a.old) × (lost b.new ≡ lost b.old) };
 
     /// The number under which a seat enters, 0 to 64.
     fn name(&self, seat: &Self::Seat) -> u32
@@ -83,4 +91,10 @@ pub trait SharedMemory {
 
     /// A name is one of 65.
     ghost names: { (s : Self.Seat) → name s ≤ desk_name };
+
+    /// The pages that it may have are those of the memory before any entry.
+    ghost most: { (m : Self) → pages_max m ≡ opening.max };
+
+    /// That memory is whole pages.
+    ghost whole: { Self → IsWhole opening };
 }

@@ -2,6 +2,7 @@
 ghost use Rattle.std.specs.Prelude.{◌≡◌};
 ghost use mathlib.Core.List.{IsPrefix};
 ghost use Rattle.shared_memory.specs.Legal.{IsMemoryLegal};
+ghost use Rattle.shared_memory.specs.Memory.{IsWhole};
 
 use shared_memory::SharedMemory;
 
@@ -12,4 +13,12 @@ pub fn agree<M: SharedMemory>(memory: &M, a: &mut M::Seat, b: &mut M::Seat)
     ensures legal { IsMemoryLegal M.opening (M.seen a.new) }
 {
     memory.meet(a, b);
+}
+
+/// The most pages that a memory may have, as the memory before any entry says, which is whole pages of 65,536 bytes.
+pub fn most_pages<M: SharedMemory>(memory: &M) -> u32
+    ensures most { result ≡ M.opening.max }
+    ensures whole { IsWhole M.opening }
+{
+    memory.pages_max()
 }

@@ -10,7 +10,7 @@ ghost use Rattle.shared_memory_laws.specs.Laws.{SomebodyIsAwake, AnswersTakenLea
 ghost use Rattle.shared_memory_laws.specs.Laws.{OneHistoryPerLongestList, PrefixesAreLegal};
 ghost use Rattle.shared_memory_laws.specs.Example.{WorkedHistory};
 
-pub use callers::agree;
+pub use callers::{agree, most_pages};
 
 /// Each answer that a thread takes answers one question of its own: the two alternate.
 pub fn every_answer_taken_answers_one_question()

@@ -45,9 +45,9 @@ rights v = total_of has_right v.callers
 abbrev pub keepers : View → ℕ
 keepers v = one_if v.keeps
 
--- A new caller: it has seen nothing, and the one named 64, the desk's, has the queue right.
+-- A new caller: it has seen nothing and lost no try, and the one named 64, the desk's, has the queue right.
 abbrev pub fresh : ℕ → Caller
-fresh n = record { name = n; has_queue_right = n == desk_name; seen = [] }
+fresh n = record { name = n; has_queue_right = n == desk_name; seen = []; lost = 0 }
 
 -- So many new callers, in order of name from this one on.
 abbrev pub fresh_from : ℕ → ℕ → List Caller
@@ -61,4 +61,12 @@ head_of (c ∷ callers) = c
 
 -- The caller, with another list seen.
 abbrev pub seeing : List Entry → Caller → Caller
-seeing list c = record { name = c.name; has_queue_right = c.has_queue_right; seen = list }
+seeing list c = record { name = c.name; has_queue_right = c.has_queue_right; seen = list; lost = c.lost }
+
+abbrev lost_if : Bool → ℕ → ℕ
+lost_if true lost = suc lost
+lost_if false lost = lost
+
+-- The caller, with one more try lost, or as it is.
+abbrev pub losing_if : Bool → Caller → Caller
+losing_if is c = record { name = c.name; has_queue_right = c.has_queue_right; seen = c.seen; lost = lost_if is c.lost }

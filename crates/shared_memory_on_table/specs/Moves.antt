@@ -50,7 +50,7 @@ longer xs ys = if nat_lt (length ys) (length xs) then xs else ys
 
 -- What a caller is after a meeting: it has seen the longer list, and has the other's queue right.
 abbrev pub meeting : Caller → Caller → List Entry → Caller
-meeting c other list = record { name = c.name; has_queue_right = other.has_queue_right; seen = list }
+meeting c other list = record { name = c.name; has_queue_right = other.has_queue_right; seen = list; lost = c.lost }
 
 abbrev pub met_callers : List Caller → List Caller
 met_callers [] = []

@@ -56,6 +56,7 @@ pub fn meet<B: Naming, K, H: History<K>>(row: &Row<K, H>, a: &mut Standing<B>, b
     ensures rights { (a.new.has_queue_right ≡ b.old.has_queue_right) × (b.new.has_queue_right ≡ a.old.has_queue_right) }
     ensures one { b.new.seen ≡ a.new.seen }
     ensures longer { MeetsIn B.opening a.old b.old a.new.seen }
+    ensures tries { (a.new.lost ≡ a.old.lost) × (b.new.lost ≡ b.old.lost) }
 {
     steps::meet(row, &mut a.place, &mut b.place);
 }

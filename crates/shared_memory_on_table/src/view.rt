@@ -11,6 +11,8 @@ pub struct Caller {
     pub has_queue_right: bool,
     /// The entries that it has seen, a beginning of the history.
     pub seen: LinkedList<Entry>,
+    /// How many of its tries were lost.
+    pub lost: u64,
 }
 
 /// What a seat of the table knows. Contracts speak of it; no value of it is made.

@@ -9,7 +9,7 @@ use shared_memory_laws::{
     a_prefix_of_a_legal_history_is_legal, a_question_is_open_until_its_answer_is_taken,
     a_worked_history, agree, an_answer_taken_leaves_the_queue_settled,
     asleep_for_good_only_where_no_timeout_is_left, asleep_or_owed_never_both,
-    every_answer_taken_answers_one_question, notify_wakes_the_longest_asleep,
+    every_answer_taken_answers_one_question, most_pages, notify_wakes_the_longest_asleep,
     one_history_per_longest_list, somebody_alive_is_awake, timeout_ends_only_where_all_sleep,
 };
 use std::alloc::Global;
@@ -38,12 +38,12 @@ fn laws_of_lanes_ask_for_nothing() {
     lane_elsewhere();
 }
 
-/// What is left of a recorder where two seats added once each, and then met.
+/// The most pages of a recorder, and what is left of it where two seats added once each, and then met.
 fn agree_after_two<B: Naming + Send + Sync, R: Wait>(
     rt: &R,
     alloc: Global,
     prepared: Prepared,
-) -> Result<Finished, Fail>
+) -> Result<(u32, Finished), Fail>
     requires table { prepared.table ≡ B.table }
     requires opening { prepared.opening ≡ B.opening }
     requires limit { prepared.limit ≡ B.limit }
@@ -57,14 +57,15 @@ fn agree_after_two<B: Naming + Send + Sync, R: Wait>(
     agree(&memory, &mut a, &mut b);
     seats.push(a)?;
     seats.push(b)?;
-    Ok(memory.finish(seats))
+    Ok((most_pages(&memory), memory.finish(seats)))
 }
 
 #[test]
 fn two_seats_agree(rt: HostRuntime) -> Result<(), Fail> {
     let alloc = rt.alloc();
     let prepared = Prepared::new(alloc, &IMAGE, THREE_PAGES, 5000)?;
-    let end = agree_after_two::<Brand, HostRuntime>(&rt, alloc, prepared)?;
+    let (most, end) = agree_after_two::<Brand, HostRuntime>(&rt, alloc, prepared)?;
+    assert_eq!(rt; most, THREE_PAGES);
     assert_eq!(rt; end.log.len(), 2);
     Ok(())
 }

@@ -11,7 +11,7 @@ use std::sync::Wait;
 use std::test::Fail;
 use std::thread;
 use std::thread::Threads;
-use types::{Event, MOST_LIMIT, Reply};
+use types::{Answer, Event, MOST_LIMIT, Reply};
 
 /// How often each of them adds.
 const TIMES: u32 = 20_000;
@@ -46,6 +46,52 @@ fn one_seat_agrees_with_one_memory(rt: HostRuntime) -> Result<(), Fail> {
     assert_eq!(rt; end.log.len(), 717);
     assert_eq!(rt; end.pages, 3);
     assert!(rt; end.bytes.as_slice() == one.bytes());
+    Ok(())
+}
+
+/// Where one seat along a few events and a sequential memory that has another byte at 16 first differ.
+fn follow_another<B: Naming + Send + Sync, R: Wait>(
+    rt: &R,
+    alloc: Global,
+    prepared: Prepared,
+) -> Result<Option<usize>, Fail>
+    requires table { prepared.table ≡ B.table }
+    requires opening { prepared.opening ≡ B.opening }
+    requires limit { prepared.limit ≡ B.limit }
+{
+    let mut one = OneMemory::open(alloc, &IMAGE, THREE_PAGES)?;
+    let store = Event::Store {
+        addr: 16,
+        width: 1,
+        reach: 17,
+        value: 7,
+    };
+    one.step(&store);
+    let (memory, mut seats) = LockedRecorder::<B, &R>::open(alloc, rt, prepared)?;
+    let Some(mut seat) = seats.pop() else {
+        return Err(Fail::new("no seats"));
+    };
+    let load = |addr, reach| Event::Load {
+        addr,
+        width: 8,
+        reach,
+    };
+    let events = [
+        Event::Size,
+        Event::Told(Answer::ForGood),
+        load(8, 16),
+        load(16, 24),
+        Event::Size,
+    ];
+    Ok(agree(&memory, &mut seat, &mut one, &events))
+}
+
+#[test]
+fn another_byte_is_found(rt: HostRuntime) -> Result<(), Fail> {
+    let alloc = rt.alloc();
+    let prepared = Prepared::new(alloc, &IMAGE, THREE_PAGES, 5000)?;
+    let differs = follow_another::<Brand, HostRuntime>(&rt, alloc, prepared)?;
+    assert_eq!(rt; differs, Some(3));
     Ok(())
 }
 

@@ -6,6 +6,7 @@ use Rattle.types.specs.declared.event.Reply.TheVariants as replies
 use Rattle.types.specs.declared.event.Answer.{Answer}
 use Rattle.types.specs.declared.event.Entry.{Entry}
 use Rattle.shared_memory.specs.Memory.{Memory}
+use Rattle.shared_memory.specs.Access.{lost_after}
 use Rattle.schedule.specs.System.{Act.Made, Act.Heard, Step.Own, Step.Acts, Want.Turns, Want.Calls}
 use Rattle.schedule.specs.Machine.{Thread.Runs, thread_goes}
 use Rattle.interp_machine.specs.Program.{Program}
@@ -17,31 +18,31 @@ use Rattle.interp_trait.proofs.Pausing.{own_here}
 use Rattle.interp_trait.specs.declared.turn.Given.TheVariants as given
 use Rattle.interp_trait.specs.declared.turn.Turn.{Turn}
 use Rattle.interp_trait.specs.declared.turn.Turn.TheVariants as turns
-use Rattle.spawn_host_thread.specs.Ends.{Comes}
+use Rattle.spawn_host_thread.specs.Ends.{Comes, Watched}
 use Rattle.spawn_host_thread.specs.Serving.{IsOpen, IsEndOf, MayTry, try_of, Attends, Steps}
-use Rattle.spawn_host_thread.proofs.Coming.{comes_none, comes_by, comes_then}
+use Rattle.spawn_host_thread.proofs.Coming.{lost_try, comes_none, comes_by, comes_then}
 use Rattle.spawn_host_thread.proofs.Turning.{Opening, opening, open_done, fits_try, after_try, here_try, less_after, ended_by}
 use Rattle.spawn_host_thread.proofs.Paying.{paid_reply, paid_answer, paid_own, paid_then, own_less}
 
 module _ (p : Program) (loses : Bool) (opening_memory : Memory) (limit : Option ℕ) (n : ℕ) (t : Running) (e : Event)
-    (none : outcome_of t ≡ None) (want : wants_of p t ≡ Calls e) (before after : List Entry) where
+    (none : outcome_of t ≡ None) (want : wants_of p t ≡ Calls e) (before after : Watched) where
   -- a reply
   abbrev attends_reply : (reply : Reply) (turn : Turn) (Stands : Running → Type 0) → MayTry e reply
-      → Sees loses opening_memory limit n (try_of e reply) before after
+      → Sees loses opening_memory limit n (try_of e reply) before.seen after.seen → after.lost ≡ lost_after reply before.lost
       → IsTurned p t (given.Reply reply) turn Stands → Attends p loses opening_memory limit n t turn Stands before after
-  attends_reply reply turn Stands may sees turned = record {
+  attends_reply reply turn Stands may sees tries turned = record {
     now = after_reply p t reply;
     stands = turned.after;
     here = here_try p t e none want reply;
     comes = comes_by loses opening_memory limit n p t (after_reply p t reply) (try_of e reply) before after
-        (λ start fuel. (fits_try p t e none want reply may start fuel, after_try p t e none want reply start fuel)) sees;
+        (λ start fuel. (fits_try p t e none want reply may start fuel, after_try p t e none want reply start fuel)) sees (lost_try e reply before.lost after.lost tries);
     ended = ended_by p t (given.Reply reply) turn turned.answer;
   }
 
-  pub steps_reply : (reply : Reply) (turn : Turn) (Stands : Running → Type 0) → MayTry e reply → Sees loses opening_memory limit n (try_of e reply) before after
-      → IsTurned p t (given.Reply reply) turn Stands → Steps p loses opening_memory limit n t turn Stands before after
-  steps_reply reply turn Stands may sees turned = record {
-    attends = attends_reply reply turn Stands may sees turned;
+  pub steps_reply : (reply : Reply) (turn : Turn) (Stands : Running → Type 0) → MayTry e reply → Sees loses opening_memory limit n (try_of e reply) before.seen after.seen
+      → after.lost ≡ lost_after reply before.lost → IsTurned p t (given.Reply reply) turn Stands → Steps p loses opening_memory limit n t turn Stands before after
+  steps_reply reply turn Stands may sees tries turned = record {
+    attends = attends_reply reply turn Stands may sees tries turned;
     paid = paid_reply p t reply turn turned.answer (less_after p t e none want reply);
   }
 
@@ -64,26 +65,26 @@ module _ (p : Program) (loses : Bool) (opening_memory : Memory) (limit : Option 
     may_be_told q same answer = (awaiting, awaiting_stands, subst (λ z. IsGiven z awaiting (given.Told answer)) (sym same) (awaiting_given answer))
 
     -- and its answer
-    abbrev attends_answer : (answer : Answer) (middle : List Entry) (turn : Turn) (Stands : Running → Type 0) → SeesAct limit n (Made e reply) before middle
-        → SeesAct limit n (Heard answer) middle after
+    abbrev attends_answer : (answer : Answer) (middle : List Entry) (turn : Turn) (Stands : Running → Type 0)
+        → SeesAct limit n (Made e reply) before.seen middle → SeesAct limit n (Heard answer) middle after.seen → after.lost ≡ before.lost
         → IsTurned p awaiting (given.Told answer) turn Stands → Attends p loses opening_memory limit n t turn Stands before after
-    attends_answer answer middle turn Stands sees_asked sees_heard turned = record {
+    attends_answer answer middle turn Stands sees_asked sees_heard tries turned = let asked_at : Watched = record { seen = middle; lost = before.lost } in record {
       now = Runs (heard p (At open_now.config) answer) open_now.left;
       stands = turned.after;
       here = tt;
-      comes = comes_then loses opening_memory limit n p t awaiting (Runs (heard p (At open_now.config) answer) open_now.left) before middle after
-          (comes_by loses opening_memory limit n p t awaiting (Acts (Made e reply)) before middle
-          (λ start fuel. (want, open_now.takes reply opened)) sees_asked)
-          (comes_by loses opening_memory limit n p awaiting (Runs (heard p (At open_now.config) answer) open_now.left) (Acts (Heard answer)) middle after
-          (λ start fuel. (open_now.awaits, refl)) sees_heard);
+      comes = comes_then loses opening_memory limit n p t awaiting (Runs (heard p (At open_now.config) answer) open_now.left) before asked_at after
+          (comes_by loses opening_memory limit n p t awaiting (Acts (Made e reply)) before asked_at
+          (λ start fuel. (want, open_now.takes reply opened)) sees_asked (omega arith))
+          (comes_by loses opening_memory limit n p awaiting (Runs (heard p (At open_now.config) answer) open_now.left) (Acts (Heard answer)) asked_at after
+          (λ start fuel. (open_now.awaits, refl)) sees_heard (omega (arith, tries)));
       ended = ended_by p awaiting (given.Told answer) turn turned.answer;
     }
 
     pub steps_answer : (answer : Answer) (middle : List Entry) (turn : Turn) (Stands : Running → Type 0)
-        → SeesAct limit n (Made e reply) before middle → SeesAct limit n (Heard answer) middle after
+        → SeesAct limit n (Made e reply) before.seen middle → SeesAct limit n (Heard answer) middle after.seen → after.lost ≡ before.lost
         → IsTurned p awaiting (given.Told answer) turn Stands → Steps p loses opening_memory limit n t turn Stands before after
-    steps_answer answer middle turn Stands sees_asked sees_heard turned = record {
-      attends = attends_answer answer middle turn Stands sees_asked sees_heard turned;
+    steps_answer answer middle turn Stands sees_asked sees_heard tries turned = record {
+      attends = attends_answer answer middle turn Stands sees_asked sees_heard tries turned;
       paid = paid_answer p t awaiting answer turn turned.answer open_now.less;
     }
 
@@ -95,14 +96,14 @@ ended_why p x (turns.Wants event) h = tt
 ended_why p x turns.Awaits h = tt
 ended_why p x (turns.Ended outcome) h = h
 
-module _ (p : Program) (t : Running) (loses : Bool) (opening_memory : Memory) (limit : Option ℕ) (n : ℕ) (before : List Entry) where
+module _ (p : Program) (t : Running) (loses : Bool) (opening_memory : Memory) (limit : Option ℕ) (n : ℕ) (before : Watched) where
   comes_own : (k : ℕ) → ((j : ℕ) → j < k → wants_of p (after_own p j t) ≡ Turns)
       → Comes p loses opening_memory limit n t (after_own p k t) before before
   comes_own zero each = comes_none loses opening_memory limit n p t before
   comes_own (suc k) each =
       let x = after_own p k t in
       comes_then loses opening_memory limit n p t x (thread_goes (machine_of p) x) before before before (comes_own k (λ j h. each j (omega arith)))
-      (comes_by loses opening_memory limit n p x (thread_goes (machine_of p) x) Own before before (λ start fuel. (each k (omega arith), refl)) refl)
+      (comes_by loses opening_memory limit n p x (thread_goes (machine_of p) x) Own before before (λ start fuel. (each k (omega arith), refl)) refl (omega arith))
 
   abbrev attends_own : (turn : Turn) (Stands : Running → Type 0) → IsHere t → IsPaused p t turn Stands
       → Attends p loses opening_memory limit n t turn Stands before before
@@ -123,7 +124,7 @@ module _ (p : Program) (t : Running) (loses : Bool) (opening_memory : Memory) (l
   }
 
   -- and then an event
-  pub steps_then : (event : Event) (turn : Turn) (Stands Stands' : Running → Type 0) (after : List Entry) → IsHere t
+  pub steps_then : (event : Event) (turn : Turn) (Stands Stands' : Running → Type 0) (after : Watched) → IsHere t
       → (g : IsPaused p t (turns.Wants event) Stands)
       → Steps p loses opening_memory limit n (after_own p g.turns t) turn Stands' before after
       → Steps p loses opening_memory limit n t turn Stands' before after
@@ -141,7 +142,7 @@ module _ (p : Program) (t : Running) (loses : Bool) (opening_memory : Memory) (l
 
 -- one after the other
 module _ (p : Program) (loses : Bool) (opening_memory : Memory) (limit : Option ℕ) (n : ℕ) (t : Running) where
-  pub attends_none : (Stands : Running → Type 0) (before : List Entry) → Stands t → IsHere t
+  pub attends_none : (Stands : Running → Type 0) (before : Watched) → Stands t → IsHere t
       → Attends p loses opening_memory limit n t turns.Moved Stands before before
   attends_none Stands before stands here = record {
     now = t;
@@ -151,7 +152,7 @@ module _ (p : Program) (loses : Bool) (opening_memory : Memory) (limit : Option 
     ended = tt;
   }
 
-  pub attends_then : (first turn : Turn) (Stands Stands' : Running → Type 0) (before middle after : List Entry)
+  pub attends_then : (first turn : Turn) (Stands Stands' : Running → Type 0) (before middle after : Watched)
       → Attends p loses opening_memory limit n t first Stands before middle
       → ((x : Running) → Stands x → IsHere x → Attends p loses opening_memory limit n x turn Stands' middle after)
       → Attends p loses opening_memory limit n t turn Stands' before after
@@ -164,6 +165,6 @@ module _ (p : Program) (loses : Bool) (opening_memory : Memory) (limit : Option 
         ended = k.ended;
       }
 
-  pub attends_moved : (turn : Turn) (Stands : Running → Type 0) (before after : List Entry) → Attends p loses opening_memory limit n t turn Stands before after
+  pub attends_moved : (turn : Turn) (Stands : Running → Type 0) (before after : Watched) → Attends p loses opening_memory limit n t turn Stands before after
       → Attends p loses opening_memory limit n t turns.Moved Stands before after
   attends_moved turn Stands before after h = record { now = h.now; stands = h.stands; here = h.here; comes = h.comes; ended = tt }

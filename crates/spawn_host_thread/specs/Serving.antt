@@ -10,6 +10,7 @@ use Rattle.shared_memory.specs.Memory.{Memory}
 use Rattle.shared_memory.specs.Events.{is_exempt, may_lose}
 use Rattle.shared_memory.specs.WaitQueue.{IsFree}
 use Rattle.shared_memory.specs.History.{queue_after}
+use Rattle.shared_memory.specs.Access.{lost_after}
 use Rattle.waiters_desk.specs.Calls.{IsWaiting}
 use Rattle.schedule.specs.System.{Act.Made, Act.Heard, Step, Step.Lost, Step.Full, Step.Acts, Want.Awaits}
 use Rattle.interp_machine.specs.Program.{Program}
@@ -19,7 +20,7 @@ use Rattle.interp_trait.specs.declared.turn.Turn.{Turn}
 use Rattle.interp_trait.specs.declared.turn.Turn.TheVariants as turns
 use Rattle.spawn_host_thread.specs.declared.serving.Served.{Served}
 use Rattle.spawn_host_thread.specs.declared.serving.Served.TheVariants as served
-use Rattle.spawn_host_thread.specs.Ends.{Comes}
+use Rattle.spawn_host_thread.specs.Ends.{Comes, Watched}
 
 -- A try as a step of the thread, and when it may be one.
 abbrev pub try_of : Event → Reply → Step Event Reply Answer
@@ -68,10 +69,15 @@ IsEndOf (turns.Wants event) t = Unit {0}
 IsEndOf turns.Awaits t = Unit {0}
 IsEndOf (turns.Ended outcome) t = outcome_of t ≡ Some outcome
 
+-- A try that was lost has its reply; no question is lost.
+abbrev pub lost_by : Served → ℕ → ℕ
+lost_by (served.Replied reply) lost = lost_after reply lost
+lost_by _ lost = lost
+
 -- The thread has come from one state to another, for which it stands now.
 pub record Attends (p : Program) (loses : Bool) (opening : Memory) (limit : Option ℕ) (n : ℕ) (first : Running) (turn : Turn)
     (Stands : Running → Type 0)
-    (before after : List Entry) : Type 0 where
+    (before after : Watched) : Type 0 where
   pub now : Running
   pub stands : Stands now
   pub here : IsHere now
@@ -88,6 +94,6 @@ IsPaid p first (turns.Ended outcome) now = Unit {0}
 -- The thread has made a step: it hasn't stayed as it was.
 pub record Steps (p : Program) (loses : Bool) (opening : Memory) (limit : Option ℕ) (n : ℕ) (first : Running) (turn : Turn)
     (Stands : Running → Type 0)
-    (before after : List Entry) : Type 0 where
+    (before after : Watched) : Type 0 where
   pub attends : Attends p loses opening limit n first turn Stands before after
   pub paid : IsPaid p first turn attends.now

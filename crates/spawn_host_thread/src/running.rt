@@ -4,7 +4,7 @@ ghost use Rattle.shared_memory.specs.WaitQueue.{IsFree};
 ghost use Rattle.shared_memory.specs.History.{queue_after};
 ghost use Rattle.interp_trait.specs.Turns.{Running, IsHere, MayBeGiven, MayRun, StaysAs, MakesTurn, WantsEvent};
 ghost use Rattle.interp_trait.specs.declared.turn.Turn.{Turn};
-ghost use Rattle.spawn_host_thread.specs.Ends.{IsLast, RunsOut, SeatStays};
+ghost use Rattle.spawn_host_thread.specs.Ends.{IsLast, RunsOutTrying, SeatStays, watched};
 ghost use Rattle.spawn_host_thread.specs.Serving.{Attends, Steps};
 
 use crate::serving::{Served, serve};
@@ -49,7 +49,7 @@ fn attend<T: TakesTurns, M: SharedMemory, W: Wait + Drop, G: Gate>(
     ensures free { IsFree (queue_after (M.seen seat.new)) (M.name seat.old) }
     ensures attended { (t : Running) → WantsEvent (T.meaning thread.old) event t
         → Steps (T.meaning thread.old).program M.LOSES M.opening (M.limit memory.now) (M.name seat.old) t result
-        (T.meaning thread.new).stands (M.seen seat.old) (M.seen seat.new) }
+        (T.meaning thread.new).stands (watched M.seen M.lost seat.old) (watched M.seen M.lost seat.new) }
 {
     let name = memory.name(seat);
     match serve(memory, seat, desk, event) {
@@ -81,7 +81,7 @@ fn step<T: TakesTurns, M: SharedMemory, W: Wait + Drop, G: Gate>(
     ensures free { IsFree (queue_after (M.seen seat.new)) (M.name seat.old) }
     ensures stepped { (t : Running) → (T.meaning thread.old).stands t → IsHere t
         → Steps (T.meaning thread.old).program M.LOSES M.opening (M.limit memory.now) (M.name seat.old) t result
-        (T.meaning thread.new).stands (M.seen seat.old) (M.seen seat.new) }
+        (T.meaning thread.new).stands (watched M.seen M.lost seat.old) (watched M.seen M.lost seat.new) }
 {
     let name = memory.name(seat);
     match thread.own_turns(name, gate) {
@@ -106,7 +106,7 @@ fn run_steps<T: TakesTurns, M: SharedMemory, W: Wait + Drop, G: Gate, R: Wait>(
     ensures free { IsFree (queue_after (M.seen seat.new)) (M.name seat.old) }
     ensures ended { (t : Running) → (T.meaning thread.old).stands t → IsHere t
         → Attends (T.meaning thread.old).program M.LOSES M.opening (M.limit memory.now) (M.name seat.old) t (Turn.Ended result)
-        (T.meaning thread.new).stands (M.seen seat.old) (M.seen seat.new) }
+        (T.meaning thread.new).stands (watched M.seen M.lost seat.old) (watched M.seen M.lost seat.new) }
 {
     for _ in rt.forever() {
         if let Turn::Ended(outcome) = step(thread, memory, seat, desk, gate) {
@@ -118,7 +118,8 @@ fn run_steps<T: TakesTurns, M: SharedMemory, W: Wait + Drop, G: Gate, R: Wait>(
 
 /// Runs a thread to its end, by turns of its own, tries of accesses and questions to the desk; then the thread leaves.
 ///
-/// A lost try and a full log are given to the thread too, which says what they cost. The gate is called before each turn.
+/// A lost try and a full log are given to the thread too, which says what they cost: the tries that the seat lost are as many
+/// as the lost tries among the thread's steps, and each costs a unit. The gate is called before each turn.
 /// It isn't promised that this returns: a call of the desk may wait, and a thread of whose configuration nothing is
 /// defined never ends.
 pub fn run_thread<T: TakesTurns + Drop, M: SharedMemory, W: Wait + Drop, G: Gate, R: Wait>(
@@ -133,8 +134,8 @@ pub fn run_thread<T: TakesTurns + Drop, M: SharedMemory, W: Wait + Drop, G: Gate
     requires free { IsFree (queue_after (M.seen seat)) (M.name seat) }
     ensures seat { SeatStays M.name M.has_queue_right seat result.seat }
     ensures ran { (t : Running) → (T.meaning thread).stands t → IsHere t
-        → RunsOut (T.meaning thread).program M.LOSES M.opening (M.limit memory.now) (M.name seat) t result.outcome result.spent
-        (T.meaning thread).fuel (M.seen seat) (M.seen result.seat) }
+        → RunsOutTrying (T.meaning thread).program M.LOSES M.opening (M.limit memory.now) (M.name seat) t result.outcome result.spent
+        (T.meaning thread).fuel (watched M.seen M.lost seat) (watched M.seen M.lost result.seat) }
     ensures last { IsLast M.opening (M.name seat) (M.seen result.seat) }
 {
     let outcome = run_steps(rt, &mut thread, memory, &mut seat, desk, gate);

@@ -5,7 +5,7 @@ ghost use Rattle.shared_memory.specs.Events.{IsEvent, IsQuestion};
 ghost use Rattle.shared_memory.specs.WaitQueue.{IsFree};
 ghost use Rattle.shared_memory.specs.History.{queue_after};
 ghost use Rattle.schedule_threads.specs.Threads.{IsOfThread};
-ghost use Rattle.spawn_host_thread.specs.Serving.{Serves};
+ghost use Rattle.spawn_host_thread.specs.Serving.{Serves, lost_by};
 
 use shared_memory::SharedMemory;
 use std::sync::Wait;
@@ -35,6 +35,7 @@ pub(crate) fn serve<M: SharedMemory, W: Wait + Drop>(
     requires free { IsFree (queue_after (M.seen seat.old)) (M.name seat.old) }
     ensures name { M.name seat.new ≡ M.name seat.old }
     ensures right { M.has_queue_right seat.new ≡ M.has_queue_right seat.old }
+    ensures tries { M.lost seat.new ≡ lost_by result (M.lost seat.old) }
     ensures served { Serves M.LOSES M.opening (M.limit memory.now) (M.name seat.old) event (M.seen seat.old) (M.seen seat.new) result }
 {
     match event {
@@ -56,6 +57,7 @@ fn ask<M: SharedMemory, W: Wait + Drop>(
     requires free { IsFree (queue_after (M.seen seat.old)) (M.name seat.old) }
     ensures name { M.name seat.new ≡ M.name seat.old }
     ensures right { M.has_queue_right seat.new ≡ M.has_queue_right seat.old }
+    ensures tries { M.lost seat.new ≡ lost_by result (M.lost seat.old) }
     ensures served { Serves M.LOSES M.opening (M.limit memory.now) (M.name seat.old) (Ask question) (M.seen seat.old)
         (M.seen seat.new) result }
 {

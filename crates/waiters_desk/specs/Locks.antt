@@ -8,7 +8,9 @@ use Rattle.types.specs.declared.event.Reply.TheVariants.{Value}
 use Rattle.shared_memory.specs.Memory.{Memory, loaded}
 use Rattle.shared_memory.specs.History.{memory_after}
 use Rattle.shared_memory.specs.Legal.{IsMemoryLegal}
-use Rattle.waiters_desk.specs.Calls.{asked_with}
+use Rattle.waiters_desk.specs.declared.answers.Asked.{Asked}
+use Rattle.waiters_desk.specs.declared.answers.Asked.TheVariants as asked
+use Rattle.waiters_desk.specs.Calls.{asked_with, IsAtOnce}
 
 -- In a history, a wait's question that stands after a notify's question. What the notifier had seen begins the list in
 -- front of its question.
@@ -60,3 +62,31 @@ WaitsReadWhatNotifiersSaw opening history =
 abbrev pub AWaitAfterANotifyReadsWhatItSaw : Type 0
 AWaitAfterANotifyReadsWhatItSaw =
     (opening : Memory) (history : List Entry) → IsMemoryLegal opening history → WaitsReadWhatNotifiersSaw opening history
+
+-- A call's own wait stands in the list that its caller then has, and read its word behind all that the caller had seen before.
+pub record ReadsBehind (opening : Memory) (n addr width expected : ℕ) (timeout : ℤ) (value : ℕ) (before after : List Entry) : Type 0 where
+  pub upto : List Entry
+  pub rest : List Entry
+  pub stands : after ≡ upto ++ asked_with n (Wait addr width expected timeout) (Value value) ∷ rest
+  pub reads : ReadsAfter opening before upto addr width value
+
+-- By that value it was answered at once, or sleeps.
+abbrev pub WaitReads : Memory → ℕ → ℕ → ℕ → ℕ → ℤ → List Entry → List Entry → Asked → Type 0
+WaitReads opening n addr width expected timeout before after asked.OutOfBounds = Unit {0}
+WaitReads opening n addr width expected timeout before after (asked.Told number) =
+    (value : ℕ) × ReadsBehind opening n addr width expected timeout value before after × IsAtOnce expected timeout value number
+WaitReads opening n addr width expected timeout before after asked.Asleep =
+    ReadsBehind opening n addr width expected timeout expected before after
+
+-- A call's own notify stands in the list that its caller then has; and in whatever history goes on from that list, each wait
+-- behind it reads its word behind all that the caller had seen before.
+pub record NotifiesBehind (opening : Memory) (n addr count : ℕ) (before after : List Entry) : Type 0 where
+  pub reply : Reply
+  pub upto : List Entry
+  pub rest : List Entry
+  pub had_seen : IsPrefix before upto
+  pub stands : after ≡ upto ++ asked_with n (Notify addr count) reply ∷ rest
+  pub read_later : (between later : List Entry) (waiter at width expected : ℕ) (timeout : ℤ) (value : ℕ)
+      → IsMemoryLegal opening (upto ++ asked_with n (Notify addr count) reply
+      ∷ (between ++ asked_with waiter (Wait at width expected timeout) (Value value) ∷ later))
+      → ReadsAfter opening before (upto ++ asked_with n (Notify addr count) reply ∷ between) at width value

@@ -1,5 +1,5 @@
 //! The desk.
-ghost use Rattle.std.specs.Prelude.{◌≡◌, ◌%◌, [], true, false, IfOk, OnErr};
+ghost use Rattle.std.specs.Prelude.{◌≡◌, ◌%◌, [], true, false, IfOk, OnOk, OnErr};
 ghost use Rattle.types.specs.declared.event.Event.TheVariants.{Ask};
 ghost use Rattle.types.specs.declared.event.Question.TheVariants.{Wait};
 ghost use Rattle.types.specs.Limits.{desk_name};
@@ -8,7 +8,7 @@ ghost use Rattle.shared_memory.specs.WaitQueue.{IsFree};
 ghost use Rattle.shared_memory.specs.History.{entries_of, of_queue, queue_after};
 ghost use Rattle.shared_memory.specs.Legal.{IsQueueLegal};
 ghost use Rattle.waiters_desk.specs.Calls.{BeginsOrNever, Collects, IsWaiting, Leaves, Notifies, Puts, Refused, Spawns, Waits};
-ghost use Rattle.waiters_desk.specs.Locks.{WaitsReadWhatNotifiersSaw};
+ghost use Rattle.waiters_desk.specs.Locks.{NotifiesBehind, WaitReads, WaitsReadWhatNotifiersSaw};
 
 use crate::answers::{Asked, Full, Notified};
 use crate::locked::Locked;
@@ -76,6 +76,7 @@ impl<M: SharedMemory, W: Wait + Drop> Desk<M, W> {
         requires free { IsFree (queue_after (M.seen seat.old)) (M.name seat.old) }
         ensures name { M.name seat.new ≡ M.name seat.old }
         ensures right { M.has_queue_right seat.new ≡ M.has_queue_right seat.old }
+        ensures tries { M.lost seat.new ≡ M.lost seat.old }
         ensures asked { IfOk result (Puts M.opening (M.limit memory.now) (M.name seat.old) question (M.seen seat.old) (M.seen seat.new)) }
         ensures full { OnErr result (Refused M.opening (M.limit memory.now) (M.name seat.old) (M.seen seat.old) (M.seen seat.new)) }
         ensures exempt { OnErr result (is_exempt (Ask question) ≡ false) }
@@ -104,10 +105,12 @@ impl<M: SharedMemory, W: Wait + Drop> Desk<M, W> {
         requires free { IsFree (queue_after (M.seen seat.old)) (M.name seat.old) }
         ensures name { M.name seat.new ≡ M.name seat.old }
         ensures right { M.has_queue_right seat.new ≡ M.has_queue_right seat.old }
+        ensures tries { M.lost seat.new ≡ M.lost seat.old }
         ensures asked { IfOk result (Waits M.opening (M.limit memory.now) (M.name seat.old) addr width expected timeout
             (M.seen seat.old) (M.seen seat.new)) }
         ensures full { OnErr result (Refused M.opening (M.limit memory.now) (M.name seat.old) (M.seen seat.old) (M.seen seat.new)) }
-        ensures reads { WaitsReadWhatNotifiersSaw M.opening (M.seen seat.new) }
+        ensures reads { IfOk result (WaitReads M.opening (M.name seat.old) addr width expected timeout (M.seen seat.old) (M.seen seat.new)) }
+        ensures others { WaitsReadWhatNotifiersSaw M.opening (M.seen seat.new) }
     {
         let question = Question::Wait {
             addr,
@@ -124,6 +127,7 @@ impl<M: SharedMemory, W: Wait + Drop> Desk<M, W> {
         requires waiting { IsWaiting (queue_after (M.seen seat.old)) (M.name seat.old) }
         ensures name { M.name seat.new ≡ M.name seat.old }
         ensures right { M.has_queue_right seat.new ≡ M.has_queue_right seat.old }
+        ensures tries { M.lost seat.new ≡ M.lost seat.old }
         ensures collected { Collects M.opening (M.name seat.old) result (M.seen seat.old) (M.seen seat.new) }
     {
         let name = memory.name(seat);
@@ -151,10 +155,12 @@ impl<M: SharedMemory, W: Wait + Drop> Desk<M, W> {
         requires free { IsFree (queue_after (M.seen seat.old)) (M.name seat.old) }
         ensures name { M.name seat.new ≡ M.name seat.old }
         ensures right { M.has_queue_right seat.new ≡ M.has_queue_right seat.old }
+        ensures tries { M.lost seat.new ≡ M.lost seat.old }
         ensures notified { IfOk result (Notifies M.opening (M.limit memory.now) (M.name seat.old) addr count
             (M.seen seat.old) (M.seen seat.new)) }
         ensures full { OnErr result (Refused M.opening (M.limit memory.now) (M.name seat.old) (M.seen seat.old) (M.seen seat.new)) }
-        ensures reads { WaitsReadWhatNotifiersSaw M.opening (M.seen seat.new) }
+        ensures reads { OnOk result (NotifiesBehind M.opening (M.name seat.old) addr count (M.seen seat.old) (M.seen seat.new)) }
+        ensures others { WaitsReadWhatNotifiersSaw M.opening (M.seen seat.new) }
     {
         match self.ask(memory, seat, Question::Notify { addr, count })? {
             Asked::OutOfBounds => Ok(Notified::OutOfBounds),
@@ -168,6 +174,7 @@ impl<M: SharedMemory, W: Wait + Drop> Desk<M, W> {
         requires free { IsFree (queue_after (M.seen seat.old)) (M.name seat.old) }
         ensures name { M.name seat.new ≡ M.name seat.old }
         ensures right { M.has_queue_right seat.new ≡ M.has_queue_right seat.old }
+        ensures tries { M.lost seat.new ≡ M.lost seat.old }
         ensures spawned { IfOk result (Spawns M.opening (M.limit memory.now) (M.name seat.old) arg (M.seen seat.old) (M.seen seat.new)) }
         ensures full { OnErr result (Refused M.opening (M.limit memory.now) (M.name seat.old) (M.seen seat.old) (M.seen seat.new)) }
     {
@@ -183,6 +190,7 @@ impl<M: SharedMemory, W: Wait + Drop> Desk<M, W> {
         requires new { entries_of (M.name seat.old) (M.seen seat.old) ≡ [] }
         ensures name { M.name seat.new ≡ M.name seat.old }
         ensures right { M.has_queue_right seat.new ≡ M.has_queue_right seat.old }
+        ensures tries { M.lost seat.new ≡ M.lost seat.old }
         ensures begun { BeginsOrNever M.opening (M.name seat.old) (M.seen seat.old) (M.seen seat.new) result }
     {
         let name = memory.name(seat);
@@ -199,6 +207,7 @@ impl<M: SharedMemory, W: Wait + Drop> Desk<M, W> {
         requires free { IsFree (queue_after (M.seen seat.old)) (M.name seat.old) }
         ensures name { M.name seat.new ≡ M.name seat.old }
         ensures right { M.has_queue_right seat.new ≡ M.has_queue_right seat.old }
+        ensures tries { M.lost seat.new ≡ M.lost seat.old }
         ensures left { Leaves M.opening (M.limit memory.now) (M.name seat.old) (M.seen seat.old) (M.seen seat.new) }
     {
         match self.ask(memory, seat, Question::Leave) {

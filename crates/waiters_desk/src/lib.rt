@@ -13,3 +13,4 @@ pub use laws::{
     a_free_thread_stays_free, a_meeting_leaves_both_as_they_stand,
     a_wait_after_a_notify_reads_what_the_notifier_saw, others_leave_a_thread_as_it_stands,
 };
+pub use turn::{hear, put};

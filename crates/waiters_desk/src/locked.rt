@@ -83,6 +83,7 @@ impl<M: SharedMemory> Locked<M> {
         requires free { IsFree (queue_after (M.seen seat.old)) (M.name seat.old) }
         ensures name { M.name seat.new ≡ M.name seat.old }
         ensures right { M.has_queue_right seat.new ≡ M.has_queue_right seat.old }
+        ensures tries { M.lost seat.new ≡ M.lost seat.old }
         ensures asked { IfOk result (Puts M.opening (M.limit memory.now) (M.name seat.old) question (M.seen seat.old) (M.seen seat.new)) }
         ensures full { OnErr result (Refused M.opening (M.limit memory.now) (M.name seat.old) (M.seen seat.old) (M.seen seat.new)) }
         ensures unchanged { OnErr result (self.new.queue ≡ self.old.queue) }
@@ -101,6 +102,7 @@ impl<M: SharedMemory> Locked<M> {
         requires awake { is_asleep self.old.queue (M.name seat.old) ≡ false }
         ensures name { M.name seat.new ≡ M.name seat.old }
         ensures right { M.has_queue_right seat.new ≡ M.has_queue_right seat.old }
+        ensures tries { M.lost seat.new ≡ M.lost seat.old }
         ensures collected { Collects M.opening (M.name seat.old) result (M.seen seat.old) (M.seen seat.new) }
     {
         memory.meet(seat, &mut self.seat);
@@ -115,6 +117,7 @@ impl<M: SharedMemory> Locked<M> {
         requires known { MayBegin self.old.queue (M.name seat.old) }
         ensures name { M.name seat.new ≡ M.name seat.old }
         ensures right { M.has_queue_right seat.new ≡ M.has_queue_right seat.old }
+        ensures tries { M.lost seat.new ≡ M.lost seat.old }
         ensures begun { BeginsOrNever M.opening (M.name seat.old) (M.seen seat.old) (M.seen seat.new) result }
     {
         memory.meet(seat, &mut self.seat);

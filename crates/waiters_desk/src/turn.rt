@@ -34,6 +34,7 @@ fn ask<M: SharedMemory>(
     requires free { IsFree queue.old (M.name seat.old) }
     ensures name { M.name seat.new ≡ M.name seat.old }
     ensures right { M.has_queue_right seat.new ≡ true }
+    ensures tries { M.lost seat.new ≡ M.lost seat.old }
     ensures beside { IsBeside queue.new (M.seen seat.new) }
     ensures step { IfOk result (λ entered. queue.new ≡ step_of question (loaded_of entered) (M.name seat.old) queue.old) }
     ensures asleep { IfOk result (λ entered. IfSome entered (λ e. e.asleep ≡ falls_asleep question e.loaded)) }
@@ -59,13 +60,14 @@ fn ask<M: SharedMemory>(
     }
 }
 
-/// Takes the answer that is due, and enters it.
-pub(crate) fn hear<M: SharedMemory>(memory: &M, seat: &mut M::Seat, queue: &mut Queue) -> Answer
+/// Takes the answer that is due, and enters it. Like `put`, it serves a desk under any lock.
+pub fn hear<M: SharedMemory>(memory: &M, seat: &mut M::Seat, queue: &mut Queue) -> Answer
     requires right { M.has_queue_right seat.old ≡ true }
     requires beside { IsBeside queue.old (M.seen seat.old) }
     requires due { answer_due queue.old (M.name seat.old) ≢ None }
     ensures name { M.name seat.new ≡ M.name seat.old }
     ensures right { M.has_queue_right seat.new ≡ true }
+    ensures tries { M.lost seat.new ≡ M.lost seat.old }
     ensures beside { IsBeside queue.new (M.seen seat.new) }
     ensures due { answer_due queue.old (M.name seat.old) ≡ Some result }
     ensures after { queue.new ≡ after_answer queue.old (M.name seat.old) }
@@ -79,8 +81,12 @@ pub(crate) fn hear<M: SharedMemory>(memory: &M, seat: &mut M::Seat, queue: &mut 
     answer
 }
 
-/// Asks a question, and takes the answer unless the thread falls asleep.
-pub(crate) fn put<M: SharedMemory>(
+/// Asks a question, and takes the answer unless the thread falls asleep. The seat has the queue right, and the queue is the
+/// one after what the seat has seen; so it serves a desk under any lock, whose seat met the caller's before.
+///
+/// # Errors
+/// `Full` where the log has reached its limit: nothing of the caller is entered, and the queue is as it was.
+pub fn put<M: SharedMemory>(
     memory: &M,
     seat: &mut M::Seat,
     queue: &mut Queue,
@@ -92,6 +98,7 @@ pub(crate) fn put<M: SharedMemory>(
     requires free { IsFree queue.old (M.name seat.old) }
     ensures name { M.name seat.new ≡ M.name seat.old }
     ensures right { M.has_queue_right seat.new ≡ true }
+    ensures tries { M.lost seat.new ≡ M.lost seat.old }
     ensures beside { IsBeside queue.new (M.seen seat.new) }
     ensures asked { IfOk result (Puts M.opening (M.limit memory.now) (M.name seat.old) question (M.seen seat.old) (M.seen seat.new)) }
     ensures full { OnErr result (Refused M.opening (M.limit memory.now) (M.name seat.old) (M.seen seat.old) (M.seen seat.new)) }

@@ -1,5 +1,5 @@
 -- What a try leaves of its caller's list, from what its steps tell.
-use Rattle.std.proofs.Common.{◌≡◌, ◌≢◌, ℕ, ◌+◌, ◌*◌, ◌<◌, ◌≤◌, Bool, true, cond, List, [], ◌∷◌, ◌++◌, length}
+use Rattle.std.proofs.Common.{◌≡◌, ◌≢◌, ℕ, suc, ◌+◌, ◌*◌, ◌<◌, ◌≤◌, Bool, true, false, cond, List, [], ◌∷◌, ◌++◌, length}
 use Rattle.std.proofs.Common.{take, drop, get_or, Option, Some, None, refl, sym, ap, ◌∙◌, subst, arith, append_assoc, eqb, ne_eqb}
 use native.Mathlib.Decide.{ℕ_discrete}
 use mathlib.Core.Logic.{dite}
@@ -13,14 +13,14 @@ use Rattle.shared_memory.specs.Numbers.{le_number}
 use Rattle.shared_memory.specs.Events.{IsEvent, is_of_queue}
 use Rattle.shared_memory.specs.Memory.{Memory, pages, state_after, touched}
 use Rattle.shared_memory.specs.History.{entry, AreEntries, memory_after}
-use Rattle.shared_memory.specs.Access.{Gains, IsSeen, Answers, Changes, WasThere, WasExpected, LosesTry, Accesses}
+use Rattle.shared_memory.specs.Access.{Gains, IsSeen, Answers, Changes, WasThere, WasExpected, LosesTry, Accesses, lost_after}
 use Rattle.shared_memory.proofs.Histories.{memory_after-append, AreEntries-prefix}
 use Rattle.shared_memory_on_table.specs.declared.view.Caller.{Caller}
-use Rattle.shared_memory_on_table.specs.Callers.{GoesOn, seeing}
+use Rattle.shared_memory_on_table.specs.Callers.{GoesOn, seeing, losing_if}
 use Rattle.shared_memory_on_table.proofs.GoingOn.{none_of}
 use Rattle.word_row_rules.specs.Words.{words_of, IsStored}
 use Rattle.word_row_rules.specs.Answers.{end_of, place_of, size_answer, Makes, made_reply, exchange_answer}
-use Rattle.word_row_rules.specs.Rule.{list_after, Steps}
+use Rattle.word_row_rules.specs.Rule.{caller_after, Steps}
 use Rattle.word_row_rules.proofs.Memories.{outlasts}
 use Rattle.word_row_rules.proofs.Settling.{IsAnswer, touched_is, expected_there, makes_may_lose, open_within, place_within}
 use Rattle.word_row_rules.proofs.Moves.{later_than}
@@ -104,15 +104,15 @@ accesses-later opening n right event before xs middle after reply g = by_reply r
     by_reply Full a = elim a.reached [ ]
 
 -- A step that settles the reply answers.
-pub answered : (opening : Memory) (event : Event) (answer : Option Reply) (place found : ℕ) (c w : Caller)
-    (reply : Reply) → Steps opening event answer place c found w → answer ≡ Some reply
+pub answered : (opening : Memory) (loses : Bool) (event : Event) (answer : Option Reply) (place found : ℕ) (c w : Caller)
+    (reply : Reply) → Steps opening loses event answer place c found w → answer ≡ Some reply
     → IsAnswer answer
     → Accesses true opening None c.name c.has_queue_right event c.seen w.seen reply
-answered opening event answer place found c w reply s is kind = by_reply reply (subst IsAnswer is kind) (record {
+answered opening loses event answer place found c w reply s is kind = by_reply reply (subst IsAnswer is kind) (record {
   others = s.goes_on.0;
   so_far = s.log;
   gains = s.goes_on.1;
-  list = ap (λ (x : Caller). x.seen) s.list ∙ ap (λ (a : Option Reply). list_after c.name event a s.log) is;
+  list = ap (λ (x : Caller). x.seen) s.list ∙ ap (λ (a : Option Reply). (caller_after loses event a s.log c).seen) is;
   seen = s.seen;
   room = tt;
 })
@@ -125,26 +125,42 @@ answered opening event answer place found c w reply s is kind = by_reply reply (
     by_reply Again k a = elim k [ ]
     by_reply Full k a = elim k [ ]
 
+-- It loses no try.
+pub answered_tries : (opening : Memory) (loses : Bool) (event : Event) (answer : Option Reply) (place found : ℕ) (c w : Caller)
+    (reply : Reply) → Steps opening loses event answer place c found w → answer ≡ Some reply
+    → IsAnswer answer
+    → w.lost ≡ lost_after reply c.lost
+answered_tries opening loses event answer place found c w reply s is kind =
+    by_reply reply (subst IsAnswer is kind)
+    (ap (λ (x : Caller). x.lost) s.list ∙ ap (λ (a : Option Reply). (caller_after loses event a s.log c).lost) is)
+  where
+    by_reply : (r : Reply) → IsAnswer (Some r) → w.lost ≡ c.lost → w.lost ≡ lost_after r c.lost
+    by_reply (Value v) k same = same
+    by_reply Done k same = same
+    by_reply OutOfBounds k same = same
+    by_reply Again k same = elim k [ ]
+    by_reply Full k same = elim k [ ]
+
 -- A step that settles nothing shows the history, and what follows is a try from before it.
-pub record Shows (opening : Memory) (place : ℕ) (c : Caller) (found : ℕ) (w : Caller) : Type 0 where
+pub record Shows (opening : Memory) (loses : Bool) (place : ℕ) (c : Caller) (found : ℕ) (w : Caller) : Type 0 where
   pub goes_on : GoesOn c w.seen
-  pub same : w ≡ seeing w.seen c
+  pub same : w ≡ losing_if loses (seeing w.seen c)
   pub seen : IsSeen opening w.seen
   pub word : get_or (words_of (memory_after opening w.seen)) place 0 ≡ found
 
-pub shows : (opening : Memory) (event : Event) (answer : Option Reply) (place found : ℕ) (c w : Caller)
-    → Steps opening event answer place c found w → answer ≡ None → Shows opening place c found w
-shows opening event answer place found c w s is =
-    let list : w ≡ seeing s.log c = s.list ∙ ap (λ (a : Option Reply). seeing (list_after c.name event a s.log) c) is in
+pub shows : (opening : Memory) (loses : Bool) (event : Event) (answer : Option Reply) (place found : ℕ) (c w : Caller)
+    → Steps opening loses event answer place c found w → answer ≡ None → Shows opening loses place c found w
+shows opening loses event answer place found c w s is =
+    let list : w ≡ losing_if loses (seeing s.log c) = s.list ∙ ap (λ (a : Option Reply). caller_after loses event a s.log c) is in
     let log : s.log ≡ w.seen = sym (ap (λ (x : Caller). x.seen) list) in
     record {
       goes_on = subst (GoesOn c) log s.goes_on;
-      same = list ∙ ap (λ (l : L). seeing l c) log;
+      same = list ∙ ap (λ (l : L). losing_if loses (seeing l c)) log;
       seen = s.seen;
       word = subst (λ (l : L). get_or (words_of (memory_after opening l)) place 0 ≡ found) log s.word;
     }
 
-pub accesses-after : (opening : Memory) (event : Event) (place found : ℕ) (c w : Caller) (after : L) (reply : Reply) → Shows opening place c found w
+pub accesses-after : (opening : Memory) (event : Event) (place found : ℕ) (c w : Caller) (after : L) (reply : Reply) → Shows opening false place c found w
     → Accesses true opening None w.name w.has_queue_right event w.seen after reply
     → Accesses true opening None c.name c.has_queue_right event c.seen after reply
 accesses-after opening event place found c w after reply s a =
@@ -153,6 +169,11 @@ accesses-after opening event place found c w after reply s a =
     accesses-later opening c.name c.has_queue_right event c.seen s.goes_on.0 w.seen after reply s.goes_on.1
     (subst (λ (r : Bool). Accesses true opening None c.name r event w.seen after reply) right
     (subst (λ (n : ℕ). Accesses true opening None n w.has_queue_right event w.seen after reply) name a))
+
+-- So are the tries that it loses.
+pub tries-after : (opening : Memory) (place found : ℕ) (c w : Caller) (lost : ℕ) (reply : Reply) → Shows opening false place c found w
+    → lost ≡ lost_after reply w.lost → lost ≡ lost_after reply c.lost
+tries-after opening place found c w lost reply s is = is ∙ ap (λ (x : Caller). lost_after reply x.lost) s.same
 
 -- What an event touches is another where it spells another number, so some entry changed it.
 changed : (m : Memory) (event : Event) (others : L) → le_number (touched (memory_after m others) event) ≢ le_number (touched m event) → Changes m event others
@@ -168,15 +189,25 @@ changed m event (e ∷ others) ne = dite (ℕ_discrete (le_number (touched (stat
     })
     (λ differ. record { front = []; changing = e; back = others; among = refl; changed = λ k. differ (ap le_number k) })
 
+-- An exchange that found another word isn't made, and counts as a lost try.
+not_made : (event : Event) (old found : ℕ) → found ≢ old → exchange_answer event old found ≡ None
+not_made event old found miss = ap (λ (b : Bool). cond b (Some (made_reply event old)) None) (ne_eqb found old miss)
+
+pub lost_tries : (opening : Memory) (event : Event) (old found : ℕ) (c w : Caller)
+    → Steps opening true event (exchange_answer event old found) (place_of event) c found w → found ≢ old → w.lost ≡ suc c.lost
+lost_tries opening event old found c w s miss =
+    ap (λ (x : Caller). x.lost)
+    (shows opening true event (exchange_answer event old found) (place_of event) found c w s (not_made event old found miss)).same
+
 -- A try that found another word than the one that the list seen leaves was lost.
 pub lost : (opening : Memory) (event : Event) (old found new : ℕ) (c w : Caller) → IsStored opening → IsEvent event
     → end_of event ≤ length (memory_after opening c.seen).bytes → Makes opening.max event old new
     → get_or (words_of (memory_after opening c.seen)) (place_of event) 0 ≡ old
-    → Steps opening event (exchange_answer event old found) (place_of event) c found w → found ≢ old
+    → Steps opening true event (exchange_answer event old found) (place_of event) c found w → found ≢ old
     → LosesTry true opening c.name c.has_queue_right event c.seen w.seen
 lost opening event old found new c w stored is within makes word s miss =
-    let none : exchange_answer event old found ≡ None = ap (λ (b : Bool). cond b (Some (made_reply event old)) None) (ne_eqb found old miss) in
-    let sh = shows opening event (exchange_answer event old found) (place_of event) found c w s none in
+    let none = not_made event old found miss in
+    let sh = shows opening true event (exchange_answer event old found) (place_of event) found c w s none in
     let others : L = sh.goes_on.0 in
     let first : Memory = memory_after opening c.seen in
     let last : Memory = memory_after opening w.seen in
@@ -227,9 +258,9 @@ place_in opening seen event stored all is within =
     omega (arith, p, same)
 
 -- What a history shows of the page count is at most 256.
-pub few_pages : (opening : Memory) (event : Event) (answer : Option Reply) (found : ℕ) (c w : Caller)
-    → IsStored opening → Steps opening event answer 0 c found w → found ≤ most_pages
-few_pages opening event answer found c w stored s = by_list answer s.list
+pub few_pages : (opening : Memory) (loses : Bool) (event : Event) (answer : Option Reply) (found : ℕ) (c w : Caller)
+    → IsStored opening → Steps opening loses event answer 0 c found w → found ≤ most_pages
+few_pages opening loses event answer found c w stored s = by_list answer s.list
   where
     by_log : (log : L) → AreEntries log → pages (memory_after opening log) ≡ found → found ≤ most_pages
     by_log log all e =
@@ -239,13 +270,13 @@ few_pages opening event answer found c w stored s = by_list answer s.list
         let small = sized.small in
         omega (arith, e)
 
-    by_list : (a : Option Reply) → w ≡ seeing (list_after c.name event a s.log) c → found ≤ most_pages
+    by_list : (a : Option Reply) → w ≡ caller_after loses event a s.log c → found ≤ most_pages
     by_list None e = by_log s.log (subst AreEntries (ap (λ (x : Caller). x.seen) e) s.seen.entries) s.word
     by_list (Some r) e = by_log s.log (AreEntries-prefix s.log (entry c.name event r ∷ [])
         (subst AreEntries (ap (λ (x : Caller). x.seen) e) s.seen.entries)) s.word
 
 -- What the page count leaves open lies within the memory seen.
-pub noted_within : (opening : Memory) (event : Event) (count : ℕ) (c w : Caller) → Shows opening 0 c count w → size_answer opening.max event count ≡ None
+pub noted_within : (opening : Memory) (event : Event) (count : ℕ) (c w : Caller) → Shows opening false 0 c count w → size_answer opening.max event count ≡ None
     → end_of event ≤ length (memory_after opening w.seen).bytes
 noted_within opening event count c w sh none =
     let end = open_within opening.max event count none in
@@ -254,7 +285,7 @@ noted_within opening event count c w sh none =
 
 -- What lay within the memory seen lies within the memory seen later.
 pub still_within : (opening : Memory) (event : Event) (place found : ℕ) (c w : Caller) → IsStored opening
-    → Shows opening place c found w → end_of event ≤ length (memory_after opening c.seen).bytes
+    → Shows opening false place c found w → end_of event ≤ length (memory_after opening c.seen).bytes
     → end_of event ≤ length (memory_after opening w.seen).bytes
 still_within opening event place found c w stored sh within =
     let more = later_than opening c w.seen stored sh.seen.entries sh.goes_on in

@@ -11,9 +11,8 @@ use Rattle.shared_memory.specs.History.{entry, AreEntries, memory_after}
 use Rattle.shared_memory.specs.Access.{Answers, Accesses}
 use Rattle.shared_memory.proofs.Histories.{memory_after-append, AreEntries-prefix, AreEntries-rest}
 use Rattle.shared_memory_on_table.specs.declared.view.Caller.{Caller}
-use Rattle.shared_memory_on_table.specs.Callers.{seeing}
 use Rattle.word_row_rules.specs.Words.{IsStored}
-use Rattle.word_row_rules.specs.Rule.{list_after, Steps}
+use Rattle.word_row_rules.specs.Rule.{caller_after, Steps}
 use Rattle.word_row_rules.proofs.Memories.{outlasts}
 use Rattle.word_row.specs.Rows.{HasPages}
 
@@ -59,11 +58,11 @@ accesses-HasPages opening n right event before after reply count stored = by_rep
     by_reply Full a = later opening before a.others after count stored a.seen.entries a.gains.list
 
 -- the page count that a step found
-pub found-HasPages : (opening : Memory) (event : Event) (answer : Option Reply) (found : ℕ) (c w : Caller) → IsStored opening
-    → Steps opening event answer 0 c found w → HasPages opening w.seen found
-found-HasPages opening event answer found c w stored s = by_list answer s.list
+pub found-HasPages : (opening : Memory) (loses : Bool) (event : Event) (answer : Option Reply) (found : ℕ) (c w : Caller) → IsStored opening
+    → Steps opening loses event answer 0 c found w → HasPages opening w.seen found
+found-HasPages opening loses event answer found c w stored s = by_list answer s.list
   where
-    by_list : (a : Option Reply) → w ≡ seeing (list_after c.name event a s.log) c → HasPages opening w.seen found
+    by_list : (a : Option Reply) → w ≡ caller_after loses event a s.log c → HasPages opening w.seen found
     by_list None e =
         let word : pages (memory_after opening s.log) ≡ found = s.word in
         subst (λ (l : L). HasPages opening l found) (sym (ap (λ (x : Caller). x.seen) e)) (omega arith)

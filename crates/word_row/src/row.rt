@@ -5,6 +5,7 @@ ghost use Rattle.types.specs.declared.event.Reply.TheVariants.{Again};
 ghost use Rattle.types.specs.Limits.{most_pages, seat_count};
 ghost use Rattle.shared_memory.specs.Events.{IsEvent, is_of_queue};
 ghost use Rattle.shared_memory.specs.History.{memory_after};
+ghost use Rattle.shared_memory.specs.Access.{lost_after};
 ghost use Rattle.shared_memory_on_table.specs.Callers.{GoesOn, AllGoOn, fresh_from};
 ghost use Rattle.shared_memory_on_table.specs.Rule.{AccessesIn, MeetsIn};
 ghost use Rattle.word_row_rules.specs.Words.{words_of};
@@ -97,8 +98,9 @@ impl<B: Naming> WordRow<B> {
     }
 
     /// Makes one try of an event, and waits for nobody. A try that another thread's change of the word overtook is
-    /// answered `Again`, and may be made again; no try of an event is that a single step on its word makes. An event
-    /// of the queue takes the queue right.
+    /// answered `Again`, and may be made again; no try of an event is that a single step on its word makes. An exchange
+    /// that wasn't made counts as a lost try of the seat, so the event isn't tried again here. An event of the queue takes
+    /// the queue right.
     #[inline(always)]
     pub fn access(&self, seat: &mut WordSeat<B>, event: Event) -> Reply
         requires event { IsEvent event }
@@ -106,6 +108,7 @@ impl<B: Naming> WordRow<B> {
         ensures name { seat.new.caller.name ≡ seat.old.caller.name }
         ensures right { seat.new.caller.has_queue_right ≡ seat.old.caller.has_queue_right }
         ensures outcome { AccessesIn true B.opening None seat.old.caller event seat.new.caller.seen result }
+        ensures tries { seat.new.caller.lost ≡ lost_after result seat.old.caller.lost }
         ensures single { is_single event ≡ true → result ≢ Again }
     {
         self.make(seat, event)
@@ -118,6 +121,7 @@ impl<B: Naming> WordRow<B> {
         ensures right_of_b { b.new.caller.has_queue_right ≡ a.old.caller.has_queue_right }
         ensures one { b.new.caller.seen ≡ a.new.caller.seen }
         ensures longer { MeetsIn B.opening a.old.caller b.old.caller a.new.caller.seen }
+        ensures tries { (a.new.caller.lost ≡ a.old.caller.lost) × (b.new.caller.lost ≡ b.old.caller.lost) }
     {
         meet(&self.board.shared, &mut a.caller, &mut b.caller);
     }
@@ -148,6 +152,7 @@ impl<B: Naming> WordRow<B> {
         ensures name { seat.new.caller.name ≡ seat.old.caller.name }
         ensures right { seat.new.caller.has_queue_right ≡ seat.old.caller.has_queue_right }
         ensures outcome { AccessesIn true B.opening None seat.old.caller event seat.new.caller.seen result }
+        ensures tries { seat.new.caller.lost ≡ lost_after result seat.old.caller.lost }
         ensures single { is_single event ≡ true → result ≢ Again }
     {
         if is_within(event, seat.pages) {
@@ -166,6 +171,7 @@ impl<B: Naming> WordRow<B> {
         ensures name { caller.new.name ≡ caller.old.name }
         ensures right { caller.new.has_queue_right ≡ caller.old.has_queue_right }
         ensures outcome { AccessesIn true B.opening None caller.old event caller.new.seen result.1 }
+        ensures tries { caller.new.lost ≡ lost_after result.1 caller.old.lost }
         ensures single { is_single event ≡ true → result.1 ≢ Again }
         ensures few { result.0 ≤ most_pages }
         ensures counted { HasPages B.opening caller.new.seen result.0 }
@@ -195,6 +201,7 @@ impl<B: Naming> WordRow<B> {
         ensures name { caller.new.name ≡ caller.old.name }
         ensures right { caller.new.has_queue_right ≡ caller.old.has_queue_right }
         ensures outcome { AccessesIn true B.opening None caller.old event caller.new.seen result }
+        ensures tries { caller.new.lost ≡ lost_after result caller.old.lost }
         ensures single { is_single event ≡ true → result ≢ Again }
     {
         match event {
@@ -228,6 +235,7 @@ impl<B: Naming> WordRow<B> {
         ensures name { caller.new.name ≡ caller.old.name }
         ensures right { caller.new.has_queue_right ≡ caller.old.has_queue_right }
         ensures outcome { AccessesIn true B.opening None caller.old event caller.new.seen result }
+        ensures tries { caller.new.lost ≡ lost_after result caller.old.lost }
     {
         let word = tries::read(&self.board.shared, caller, event);
         match by_word(event, word) {
@@ -246,6 +254,7 @@ impl<B: Naming> WordRow<B> {
         ensures name { caller.new.name ≡ caller.old.name }
         ensures right { caller.new.has_queue_right ≡ caller.old.has_queue_right }
         ensures outcome { AccessesIn true B.opening None caller.old event caller.new.seen result }
+        ensures tries { caller.new.lost ≡ lost_after result caller.old.lost }
     {
         let found = tries::exchange(&self.board.shared, caller, event, old, change.new);
         if found == old {
@@ -260,6 +269,7 @@ impl<B: Naming + Send + Sync> SharedMemory for WordRow<B> {
     type Seat = WordSeat<B>;
 
     ghost use Rattle.std.specs.Prelude.{true, None};
+    ghost use Rattle.std.proofs.Common.{refl};
 
     const LOSES: bool = true;
 
@@ -277,7 +287,13 @@ impl<B: Naming + Send + Sync> SharedMemory for WordRow<B> {
 
     ghost has_queue_right = { λ s. s.caller.has_queue_right };
 
+    ghost lost = { λ s. s.caller.lost };
+
     ghost names = { λ s. s.known };
+
+    ghost most = { λ m. refl };
+
+    ghost whole = { λ m. m.row.stored.sized.whole };
 
     fn access(&self, seat: &mut WordSeat<B>, event: Event) -> Reply {
         WordRow::access(self, seat, event)

@@ -1,5 +1,5 @@
 //! The steps that the caller of a seat makes for an event.
-ghost use Rattle.std.specs.Prelude.{◌≡◌, ◌≤◌, ℕ, true, length, Some};
+ghost use Rattle.std.specs.Prelude.{◌≡◌, ◌≤◌, ℕ, true, false, length, Some};
 ghost use Rattle.shared_memory.specs.Events.{IsEvent, is_of_queue};
 ghost use Rattle.shared_memory.specs.History.{memory_after};
 ghost use Rattle.word_row_rules.specs.Answers.{end_of, is_access, place_of, size_answer, word_answer, Makes, made_reply, exchange_answer};
@@ -18,7 +18,7 @@ pub fn note<B: Naming>(row: &Row, caller: &mut Standing<B>, event: Event) -> u64
     requires row { IsRow B.table B.opening row.now.table_id row.now.key }
     requires event { IsEvent event }
     requires right { is_of_queue event ≡ true → caller.old.has_queue_right ≡ true }
-    ensures { Steps B.opening event (size_answer B.opening.max event result) 0 caller.old result caller.new }
+    ensures { Steps B.opening false event (size_answer B.opening.max event result) 0 caller.old result caller.new }
 {
     steps::note::<B, Brand>(row, &mut caller.place, event)
 }
@@ -31,7 +31,7 @@ pub fn read<B: Naming>(row: &Row, caller: &mut Standing<B>, event: Event) -> u64
     requires right { is_of_queue event ≡ true → caller.old.has_queue_right ≡ true }
     requires access { is_access event ≡ true }
     requires within { end_of event ≤ length (memory_after B.opening caller.old.seen).bytes }
-    ensures { Steps B.opening event (word_answer event result) (place_of event) caller.old result caller.new }
+    ensures { Steps B.opening false event (word_answer event result) (place_of event) caller.old result caller.new }
 {
     steps::read::<B, Brand>(row, &mut caller.place, changes::word_place(event), event)
 }
@@ -50,7 +50,7 @@ pub fn exchange<B: Naming>(
     requires right { is_of_queue event ≡ true → caller.old.has_queue_right ≡ true }
     requires within { end_of event ≤ length (memory_after B.opening caller.old.seen).bytes }
     requires makes { Makes B.opening.max event old new }
-    ensures { Steps B.opening event (exchange_answer event old result) (place_of event) caller.old result caller.new }
+    ensures { Steps B.opening true event (exchange_answer event old result) (place_of event) caller.old result caller.new }
 {
     steps::exchange::<B, Brand>(
         row,
@@ -70,7 +70,7 @@ pub fn store<B: Naming>(row: &Row, caller: &mut Standing<B>, event: Event, new: 
     requires right { is_of_queue event ≡ true → caller.old.has_queue_right ≡ true }
     requires within { end_of event ≤ length (memory_after B.opening caller.old.seen).bytes }
     requires makes { IsMadeBy event (λ _. new) }
-    ensures { (found : ℕ) × Steps B.opening event (Some (made_reply event found)) (place_of event) caller.old found caller.new }
+    ensures { (found : ℕ) × Steps B.opening false event (Some (made_reply event found)) (place_of event) caller.old found caller.new }
 {
     steps::store::<B, Brand>(
         row,
@@ -89,7 +89,7 @@ pub fn fetch<B: Naming>(row: &Row, caller: &mut Standing<B>, event: Event, singl
     requires right { is_of_queue event ≡ true → caller.old.has_queue_right ≡ true }
     requires within { end_of event ≤ length (memory_after B.opening caller.old.seen).bytes }
     requires makes { IsMadeBy event (after_single single) }
-    ensures { Steps B.opening event (Some (made_reply event result)) (place_of event) caller.old result caller.new }
+    ensures { Steps B.opening false event (Some (made_reply event result)) (place_of event) caller.old result caller.new }
 {
     steps::fetch::<B, Brand>(
         row,

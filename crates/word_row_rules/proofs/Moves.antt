@@ -1,5 +1,5 @@
 -- Each move of the seats, and each step of a caller, keeps the rule.
-use Rattle.std.proofs.Common.{◌≡◌, ℕ, ◌^◌, ◌<◌, ◌≤◌, true, false, List, [], ◌∷◌, ◌++◌, length, set, get_or, Option}
+use Rattle.std.proofs.Common.{◌≡◌, ℕ, ◌^◌, ◌<◌, ◌≤◌, Bool, true, false, List, [], ◌∷◌, ◌++◌, length, set, get_or, Option}
 use Rattle.std.proofs.Common.{Some, None, refl, sym, ap, ◌∙◌, subst, ⊎_elim, arith, eqb}
 use mathlib.Core.Option.{some}
 use lib.ListN.{get_elem?}
@@ -16,7 +16,7 @@ use Rattle.shared_memory.specs.Access.{IsSeen}
 use Rattle.shared_memory.proofs.Histories.{memory_after-append, IsMemoryLegal-entry, AreEntries-append, AreEntries-prefix, AreEntries-rest}
 use Rattle.shared_memory_on_table.specs.declared.view.Caller.{Caller}
 use Rattle.shared_memory_on_table.specs.declared.view.View.{View}
-use Rattle.shared_memory_on_table.specs.Callers.{GoesOn, named, rights, keepers, seeing}
+use Rattle.shared_memory_on_table.specs.Callers.{GoesOn, named, rights, keepers, seeing, losing_if}
 use Rattle.shared_memory_on_table.specs.Moves.{IsOne, caller_in, alone, nobody}
 use Rattle.shared_memory_on_table.specs.Seating.{Fits}
 use Rattle.shared_memory_on_table.specs.Rule.{opened}
@@ -68,14 +68,14 @@ later_than m c log s all goes =
     front = AreEntries-prefix
 
 -- A step on one word, by what the word settles.
-module _ (m : Memory) (slots id place : ℕ) (c : Caller) (event : Event) (answer : ℕ → Option Reply) (makes : ℕ → ℕ)
+module _ (m : Memory) (loses : Bool) (slots id place : ℕ) (c : Caller) (event : Event) (answer : ℕ → Option Reply) (makes : ℕ → ℕ)
     (may : MayTry c event) (settles : SettlesAll m c event answer place makes) where
   steps_from : (s : S) (r : KeptRow m s) → get_elem? s.views id ≡ some (alone c) → (found : ℕ) → get_or s.words place 0 ≡ found
       → (a : Option Reply) → Settles (memory_after m r.log) event a place (makes found)
       → (w : View) × (act : Act ℕ) × Valid s.homes [] act × KeptRow m (stepped s place (makes found) id [] w act)
-      × StepsAs m event a place (alone c, []) found (w, carried_after [] act)
+      × StepsAs m loses event a place (alone c, []) found (w, carried_after [] act)
   steps_from s r at found is None settled =
-      let w = alone (seeing r.log c) in
+      let w = alone (losing_if loses (seeing r.log c)) in
       let goes = (r.seated.each id (alone c) at).begins in (
         w,
         keeps,
@@ -88,7 +88,7 @@ module _ (m : Memory) (slots id place : ℕ) (c : Caller) (event : Event) (answe
             are = ap (λ (ws : List ℕ). set ws place (makes found)) r.words.are ∙ settled;
           };
           seated = seated-change 0 r.log s.views id (alone c) w r.seated at refl (λ n. refl) refl
-              (record { knows = λ h. absurd (cc (h)); begins = (goes_on-self (seeing r.log c), tt) });
+              (record { knows = λ h. absurd (cc (h)); begins = (goes_on-self (losing_if loses (seeing r.log c)), tt) });
         },
         (
           refl,
@@ -124,7 +124,7 @@ module _ (m : Memory) (slots id place : ℕ) (c : Caller) (event : Event) (answe
         (refl, record { log = r.log; goes_on = goes.0; list = refl; seen = seen; word = ap (λ (ws : List ℕ). get_or ws place 0) (sym r.words.are) ∙ is }),
       )
 
-  steps_at : Allows (KeptRow m) slots id (alone c, []) place makes (λ n x. StepsAs m event (answer n) place (alone c, []) n x)
+  steps_at : Allows (KeptRow m) slots id (alone c, []) place makes (λ n x. StepsAs m loses event (answer n) place (alone c, []) n x)
   steps_at s r _ at small =
       let found : ℕ = get_or s.words place 0 in
       let now : ℕ = get_or (words_of (memory_after m r.log)) place 0 in
@@ -134,35 +134,35 @@ module _ (m : Memory) (slots id place : ℕ) (c : Caller) (event : Event) (answe
       (later_than m c r.log r.words.stored r.words.seen.entries goes.0) (subst (λ (n : ℕ). n < 2 ^ 64) (sym same) small) in
       steps_from s r at found refl (answer found) (subst (λ (n : ℕ). Settles (memory_after m r.log) event (answer n) place (makes n)) same settled)
 
-steps : (m : Memory) (slots id place : ℕ) (me : M) (event : Event) (answer : ℕ → Option Reply) (makes : ℕ → ℕ) → IsOne me → MayTry (caller_in me.0) event
-    → SettlesAll m (caller_in me.0) event answer place makes → Allows (KeptRow m) slots id me place makes (λ n x. StepsAs m event (answer n) place me n x)
-steps m slots id place me event answer makes one may settles =
-    subst (λ (x : M). Allows (KeptRow m) slots id x place makes (λ n y. StepsAs m event (answer n) place x n y)) (sym one)
-    (steps_at m slots id place (caller_in me.0) event answer makes may settles)
+steps : (m : Memory) (loses : Bool) (slots id place : ℕ) (me : M) (event : Event) (answer : ℕ → Option Reply) (makes : ℕ → ℕ) → IsOne me → MayTry (caller_in me.0) event
+    → SettlesAll m (caller_in me.0) event answer place makes → Allows (KeptRow m) slots id me place makes (λ n x. StepsAs m loses event (answer n) place me n x)
+steps m loses slots id place me event answer makes one may settles =
+    subst (λ (x : M). Allows (KeptRow m) slots id x place makes (λ n y. StepsAs m loses event (answer n) place x n y)) (sym one)
+    (steps_at m loses slots id place (caller_in me.0) event answer makes may settles)
 
 -- A load of the size word.
 pub notes : (m : Memory) (slots id : ℕ) (me : M) (event : Event) → IsOne me → MayTry (caller_in me.0) event
-    → Allows (KeptRow m) slots id me 0 (λ n. n) (λ n x. StepsAs m event (size_answer m.max event n) 0 me n x)
+    → Allows (KeptRow m) slots id me 0 (λ n. n) (λ n x. StepsAs m false event (size_answer m.max event n) 0 me n x)
 notes m slots id me event one may =
-    steps m slots id 0 me event (λ n. size_answer m.max event n) (λ n. n) one may
+    steps m false slots id 0 me event (λ n. size_answer m.max event n) (λ n. n) one may
     (λ later o _ _. subst (λ (most : ℕ). Settles later event (size_answer most event (get_or (words_of later) 0 0)) 0
     (get_or (words_of later) 0 0)) o.max (size_settles later event o.stored))
 
 -- A load of a data word, by a caller that has seen that the access lies within the memory.
 pub reads : (m : Memory) (slots id : ℕ) (me : M) (event : Event) → IsOne me → MayTry (caller_in me.0) event → is_access event ≡ true
     → end_of event ≤ length (memory_after m (caller_in me.0).seen).bytes
-    → Allows (KeptRow m) slots id me (place_of event) (λ n. n) (λ n x. StepsAs m event (word_answer event n) (place_of event) me n x)
+    → Allows (KeptRow m) slots id me (place_of event) (λ n. n) (λ n x. StepsAs m false event (word_answer event n) (place_of event) me n x)
 reads m slots id me event one may access within =
-    steps m slots id (place_of event) me event (λ n. word_answer event n)
+    steps m false slots id (place_of event) me event (λ n. word_answer event n)
     (λ n. n) one may (λ later o more _. word_settles later event o.stored may.is access (omega arith))
 
 -- A compare-exchange of a word.
 pub exchanges : (m : Memory) (slots id old new : ℕ) (me : M) (event : Event) → IsOne me → MayTry (caller_in me.0) event
     → end_of event ≤ length (memory_after m (caller_in me.0).seen).bytes → new < 2 ^ 64 → Makes m.max event old new
     → Allows (KeptRow m) slots id me (place_of event) (λ n. either (eqb n old) new n)
-    (λ n x. StepsAs m event (exchange_answer event old n) (place_of event) me n x)
+    (λ n x. StepsAs m true event (exchange_answer event old n) (place_of event) me n x)
 exchanges m slots id old new me event one may within fits makes =
-    steps m slots id (place_of event) me event (λ n. exchange_answer event old n) (λ n. either (eqb n old) new n) one may
+    steps m true slots id (place_of event) me event (λ n. exchange_answer event old n) (λ n. either (eqb n old) new n) one may
     (λ later o more _. exchange_settles later event old new o.stored may.is (omega arith) fits (subst (λ (most : ℕ). Makes most event old new) (sym o.max) makes))
 
 -- A single exchange of a word, by a caller that has seen that the access lies within the memory.
@@ -171,7 +171,7 @@ pub fetches : (m : Memory) (slots id : ℕ) (me : M) (event : Event) (makes : �
     → ((word : ℕ) → word < 2 ^ 64 → makes word < 2 ^ 64) → IsMadeBy event makes
     → Allows (KeptRow m) slots id me (place_of event) makes (λ n x. FetchesAs m event (place_of event) me n x)
 fetches m slots id me event makes one may within fits made_by =
-    steps m slots id (place_of event) me event (λ n. Some (made_reply event n)) makes one may
+    steps m false slots id (place_of event) me event (λ n. Some (made_reply event n)) makes one may
     (λ later o more small.
     let found : ℕ = get_or (words_of later) (place_of event) 0 in
     let d = made later event found (makes found) o.stored may.is (omega arith) (fits found small) (made_by later.max found small) refl in

@@ -1,5 +1,5 @@
 -- The rule of the row of words, and what its steps tell.
-use Rattle.std.specs.Prelude.{ℕ, ◌≡◌, ◌+◌, ◌*◌, ◌≤◌, true, false, List, [], ◌∷◌, ◌++◌, Option, Some, None, slice_index}
+use Rattle.std.specs.Prelude.{ℕ, ◌≡◌, ◌+◌, ◌*◌, ◌≤◌, Bool, true, false, List, [], ◌∷◌, ◌++◌, Option, Some, None, slice_index}
 use Rattle.atomic_table.specs.Table.{State, Me}
 use Rattle.atomic_table.specs.Seated.{TableId}
 use Rattle.types.specs.declared.event.Entry.{Entry}
@@ -13,7 +13,7 @@ use Rattle.shared_memory.specs.History.{entry, memory_after}
 use Rattle.shared_memory.specs.Access.{IsSeen}
 use Rattle.shared_memory_on_table.specs.declared.view.Caller.{Caller}
 use Rattle.shared_memory_on_table.specs.declared.view.View.{View}
-use Rattle.shared_memory_on_table.specs.Callers.{GoesOn, seeing}
+use Rattle.shared_memory_on_table.specs.Callers.{GoesOn, seeing, losing_if}
 use Rattle.shared_memory_on_table.specs.Moves.{IsOne, caller_in, nobody}
 use Rattle.shared_memory_on_table.specs.Rule.{Kept}
 use Rattle.word_row_rules.specs.Words.{words_of, IsStored}
@@ -44,43 +44,45 @@ pub record MayTry (c : Caller) (event : Event) : Type 0 where
   pub is : IsEvent event
   pub right : is_of_queue event ≡ true → c.has_queue_right ≡ true
 
--- A caller's list after a step: all that was there, and behind it the caller's entry, if the step settled its reply.
-abbrev pub list_after : ℕ → Event → Option Reply → List Entry → List Entry
-list_after n event None log = log
-list_after n event (Some reply) log = log ++ entry n event reply ∷ []
+-- A caller after a step: it has seen all that was there, and behind it its own entry, if the step settled its reply.
+-- Where it settled none, the step may lose the try.
+abbrev pub caller_after : Bool → Event → Option Reply → List Entry → Caller → Caller
+caller_after loses event None log c = losing_if loses (seeing log c)
+caller_after loses event (Some reply) log c = seeing (log ++ entry c.name event reply ∷ []) c
 
 -- One step on one word: the caller has seen the whole history at that point, which leaves the word found there, and
 -- its own entry stands behind it, if the word settled the reply.
-pub record Steps (opening : Memory) (event : Event) (answer : Option Reply) (place : ℕ) (before : Caller) (found : ℕ)
+pub record Steps (opening : Memory) (loses : Bool) (event : Event) (answer : Option Reply) (place : ℕ) (before : Caller) (found : ℕ)
     (after : Caller) : Type 0 where
   pub log : List Entry
   pub goes_on : GoesOn before log
-  pub list : after ≡ seeing (list_after before.name event answer log) before
+  pub list : after ≡ caller_after loses event answer log before
   pub seen : IsSeen opening after.seen
   pub word : slice_index (words_of (memory_after opening log)) place ≡ found
 
 -- The same of the seat on which the caller stands alone.
-abbrev pub StepsAs : Memory → Event → Option Reply → ℕ → Me ℕ View → ℕ → Me ℕ View → Type 0
-StepsAs opening event answer place before found after =
-    IsOne after × Steps opening event answer place (caller_in before.0) found (caller_in after.0)
+abbrev pub StepsAs : Memory → Bool → Event → Option Reply → ℕ → Me ℕ View → ℕ → Me ℕ View → Type 0
+StepsAs opening loses event answer place before found after =
+    IsOne after × Steps opening loses event answer place (caller_in before.0) found (caller_in after.0)
 
--- A load of the size word, a load of a data word, and a compare-exchange of a word that was to be old.
+-- A load of the size word, a load of a data word, and a compare-exchange of a word that was to be old, which loses the try
+-- where it isn't made.
 abbrev pub NotesAs : Memory → Event → ℕ → Me ℕ View → ℕ → Me ℕ View → Type 0
 NotesAs opening event place before found after =
-    StepsAs opening event (size_answer opening.max event found) place before found after
+    StepsAs opening false event (size_answer opening.max event found) place before found after
 
 abbrev pub ReadsAs : Memory → Event → ℕ → Me ℕ View → ℕ → Me ℕ View → Type 0
-ReadsAs opening event place before found after = StepsAs opening event (word_answer event found) place before found after
+ReadsAs opening event place before found after = StepsAs opening false event (word_answer event found) place before found after
 
 abbrev pub ExchangesAs : Memory → Event → ℕ → ℕ → Me ℕ View → ℕ → Me ℕ View → Type 0
 ExchangesAs opening event old place before found after =
-    StepsAs opening event (exchange_answer event old found) place before found after
+    StepsAs opening true event (exchange_answer event old found) place before found after
 
 -- A single exchange of a data word, which is made whatever the word is; and a store of it, which does not tell the word
 -- that was there.
 abbrev pub FetchesAs : Memory → Event → ℕ → Me ℕ View → ℕ → Me ℕ View → Type 0
 FetchesAs opening event place before found after =
-    StepsAs opening event (Some (made_reply event found)) place before found after
+    StepsAs opening false event (Some (made_reply event found)) place before found after
 
 abbrev pub StoresAs : Memory → Event → ℕ → Me ℕ View → Me ℕ View → Type 0
 StoresAs opening event place before after = (found : ℕ) × FetchesAs opening event place before found after

@@ -1,3 +1,4 @@
+use Rattle.spawn_host_thread.specs.Ends.{watched}
 use Rattle.std.proofs.Common.{◌∙◌}
 use Rattle.interp_trait.specs.declared.turn.Turn.TheVariants.{Moved, Ended}
 use Rattle.spawn_host_thread.proofs.Attending.{attends_then, attends_moved}
@@ -10,7 +11,7 @@ returns-in-Ended-clause-ended g c t stands here =
     let stepped = rw (i.stays.program, i.seat.name_is) at c.in-Ended.ensures.stepped in
     attends_then (g.T.TakesTurns.meaning c.args.thread.now).program m.LOSES m.opening (m.limit c.args.memory.now)
     (m.name c.args.seat.now) t Moved (Ended c.in-Ended.outcome) _ _
-    (m.seen c.args.seat.now) (m.seen c.loop.seat) (m.seen c.step.new.seat) (i.comes t stands here) (λ x s h. (stepped x s h).attends)
+    (watched m.seen m.lost c.args.seat.now) (watched m.seen m.lost c.loop.seat) (watched m.seen m.lost c.step.new.seat) (i.comes t stands here) (λ x s h. (stepped x s h).attends)
 
 pub loop-preserved : goal.loop-preserved
 loop-preserved g c =
@@ -25,7 +26,7 @@ loop-preserved g c =
       free = rw i.seat.name_is at c.step.ensures.free;
       comes = λ t stands here.
           attends_moved p m.LOSES m.opening limit n t c.step.result _ _ _
-          (attends_then p m.LOSES m.opening limit n t Moved c.step.result _ _ (m.seen c.args.seat.now)
-          (m.seen c.loop.seat) (m.seen c.step.new.seat) (i.comes t stands here)
+          (attends_then p m.LOSES m.opening limit n t Moved c.step.result _ _ (watched m.seen m.lost c.args.seat.now)
+          (watched m.seen m.lost c.loop.seat) (watched m.seen m.lost c.step.new.seat) (i.comes t stands here)
           (λ x s h. (stepped x s h).attends));
     }

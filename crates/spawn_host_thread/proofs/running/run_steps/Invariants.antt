@@ -1,7 +1,7 @@
 use Rattle.shared_memory.specs.WaitQueue.{IsFree}
 use Rattle.shared_memory.specs.History.{queue_after}
 use Rattle.interp_trait.specs.Turns.{Running, IsHere, StaysAs}
-use Rattle.spawn_host_thread.specs.Ends.{SeatStays}
+use Rattle.spawn_host_thread.specs.Ends.{SeatStays, watched}
 use Rattle.interp_trait.specs.declared.turn.Turn.TheVariants.{Moved}
 use Rattle.spawn_host_thread.specs.Serving.{Attends}
 use Rattle.spawn_host_thread.proofs.running.run_steps.Given as goal
@@ -17,5 +17,5 @@ invariant-loop g l =
       free : IsFree (queue_after (m.seen l.seat)) n;
       comes :
           (t : Running) → first.stands t → IsHere t
-          → Attends first.program m.LOSES m.opening (m.limit l.memory) n t Moved now.stands (m.seen l.initial.seat) (m.seen l.seat);
+          → Attends first.program m.LOSES m.opening (m.limit l.memory) n t Moved now.stands (watched m.seen m.lost l.initial.seat) (watched m.seen m.lost l.seat);
     }

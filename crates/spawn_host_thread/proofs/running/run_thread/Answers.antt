@@ -1,3 +1,4 @@
+use Rattle.spawn_host_thread.specs.Ends.{watched}
 use Rattle.std.proofs.Common.{◌∙◌}
 use Rattle.spawn_host_thread.proofs.Leaving.{runs_out}
 use Rattle.spawn_host_thread.proofs.running.run_thread.Goals as goal
@@ -10,5 +11,5 @@ returns-clause-ran g c t stands here =
     runs_out (g.T.TakesTurns.meaning c.args.thread).program m.LOSES m.opening (m.limit c.args.memory.now)
     (m.name c.args.seat) ran.result t _ c.spent-spent.result
     (g.T.TakesTurns.meaning c.args.thread).fuel
-    (m.seen c.args.seat) (m.seen ran.new.seat) (m.seen c.end.new.seat)
-    (ran.ensures.ended t stands here) left (λ x s. c.spent-spent.ensures x s ∙ ran.ensures.stays.fuel)
+    (watched m.seen m.lost c.args.seat) (watched m.seen m.lost ran.new.seat) (watched m.seen m.lost c.end.new.seat)
+    (ran.ensures.ended t stands here) left c.end.ensures.tries (λ x s. c.spent-spent.ensures x s ∙ ran.ensures.stays.fuel)

@@ -1,4 +1,4 @@
-use Rattle.std.proofs.Common.{◌≡◌, ℕ, List, Option}
+use Rattle.std.proofs.Common.{ℕ, List, Option}
 use Rattle.types.specs.declared.event.Entry.{Entry}
 use Rattle.types.specs.declared.event.Event.TheVariants.{Ask}
 use Rattle.types.specs.declared.event.Question.{Question}
@@ -11,7 +11,7 @@ use Rattle.waiters_desk.specs.declared.answers.Asked.TheVariants as asked
 use Rattle.schedule_threads.specs.Threads.{IsOfThread}
 use Rattle.spawn_host_thread.specs.Serving.{Serves}
 use Rattle.spawn_host_thread.specs.declared.serving.Served.TheVariants as served
-use Rattle.spawn_host_thread.proofs.Entered.{sees_refused, served_miss, served_answer, served_sleep}
+use Rattle.spawn_host_thread.proofs.Entered.{served_miss, served_answer, served_sleep}
 use Rattle.spawn_host_thread.proofs.serving.ask.Goals as goal
 
 -- what a question of a thread came to, by what it got

@@ -25,6 +25,7 @@ returns-in_default g c =
     let did = sees_access m.LOSES m.opening limit n right event before after c.access.result c.access.ensures.outcome in record {
       name = c.access.ensures.name;
       right = c.access.ensures.right;
+      tries = c.access.ensures.tries;
       served = (
         did.0,
         did.1,

@@ -5,10 +5,10 @@ pub returns : goal.returns
 returns g c =
     let m = g.M.SharedMemory in
     let end = c.run_thread-outcome in
-    let some = end.ensures.ran c.requires.here.0 c.requires.here.1 c.requires.here.2 in record {
+    let some = (end.ensures.ran c.requires.here.0 c.requires.here.1 c.requires.here.2).out in record {
       name_is = end.ensures.seat.name_is;
       works = record {
-        ran = end.ensures.ran;
+        ran = λ t stands here. (end.ensures.ran t stands here).out;
         grows = sees_grows m.LOSES m.opening (m.limit c.args.memory.now)
             (m.name c.args.seat) some.run.steps (m.seen c.args.seat) (m.seen end.result.seat) some.run.sees;
         last = end.ensures.last;

@@ -14,15 +14,15 @@ returns g c =
     let ran = rw (c.set_args.ensures.stays.program, c.set_args.ensures.stays.fuel, c.begin.ensures.name) at end.ensures.ran in
     let last = rw (c.begin.ensures.name) at end.ensures.last in
     let stands = rw (c.set_args.ensures.stays.fuel, c.name-name.ensures) at c.set_args.ensures.stands in
-    let some = ran (Runs (At (c.requires.begins.0 (I32 n ∷ I32 c.in-Some.arg ∷ [])))
-    (g.T.TakesTurns.meaning c.args.thread).fuel) (stands _ _ c.requires.begins.1) tt in record {
+    let some = (ran (Runs (At (c.requires.begins.0 (I32 n ∷ I32 c.in-Some.arg ∷ [])))
+    (g.T.TakesTurns.meaning c.args.thread).fuel) (stands _ _ c.requires.begins.1) tt).out in record {
       name_is = end.ensures.seat.name_is ∙ c.begin.ensures.name;
       works = record {
         arg = c.in-Some.arg;
         begun = m.seen c.begin.new.seat;
         begins_with = c.in-Some.ensures.begun;
         ran = λ types start begins.
-            ran (Runs (At (start (I32 n ∷ I32 c.in-Some.arg ∷ []))) (g.T.TakesTurns.meaning c.args.thread).fuel) (stands types start begins) tt;
+            (ran (Runs (At (start (I32 n ∷ I32 c.in-Some.arg ∷ []))) (g.T.TakesTurns.meaning c.args.thread).fuel) (stands types start begins) tt).out;
         grows = sees_grows m.LOSES m.opening limit n some.run.steps (m.seen c.begin.new.seat) (m.seen end.result.seat) some.run.sees;
         last = last;
       };

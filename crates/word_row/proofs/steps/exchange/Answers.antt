@@ -1,4 +1,4 @@
-use Rattle.std.proofs.Common.{ℕ, ◌≡◌, ◌≤◌, ◌∙◌, ap, sym, subst, length, eqb, arith}
+use Rattle.std.proofs.Common.{ℕ, ◌≡◌, ◌≤◌, ◌∙◌, ap, sym, subst, length, eqb, arith, true}
 use prog.Atomic.{either}
 use Rattle.atomic_table.specs.Table.{Allows}
 use Rattle.types.specs.declared.event.Event.{Event}
@@ -26,9 +26,9 @@ compare_exchange-requires g c =
       c.requires.row.0,
       c.requires.row.1,
       subst (λ (k : Memory). Allows (KeptRow k) slots place.id place.me c.args.word (λ n. either (eqb n old) new n)
-          (λ n x. StepsAs opening event (exchange_answer event old n) c.args.word place.me n x)) (sym c.requires.row.2)
+          (λ n x. StepsAs opening true event (exchange_answer event old n) c.args.word place.me n x)) (sym c.requires.row.2)
           (subst (λ (w : ℕ). Allows (KeptRow opening) slots place.id place.me w (λ n. either (eqb n old) new n)
-          (λ n x. StepsAs opening event (exchange_answer event old n) w place.me n x))
+          (λ n x. StepsAs opening true event (exchange_answer event old n) w place.me n x))
           (ap place_of same ∙ c.requires.word)
           (exchanges opening slots place.id old new place.me event c.requires.one may within (omega arith) makes)),
     )

@@ -1,4 +1,4 @@
-use Rattle.std.proofs.Common.{ℕ, sym, subst}
+use Rattle.std.proofs.Common.{ℕ, sym, subst, false}
 use Rattle.atomic_table.specs.Table.{Allows}
 use Rattle.types.specs.declared.event.Event.{Event}
 use Rattle.shared_memory.specs.Memory.{Memory}
@@ -18,6 +18,6 @@ load-requires g c =
       c.requires.row.0,
       c.requires.row.1,
       subst (λ (k : Memory). Allows (KeptRow k) slots place.id place.me 0 (λ n. n)
-          (λ n x. StepsAs opening event (size_answer opening.max event n) 0 place.me n x)) (sym c.requires.row.2)
+          (λ n x. StepsAs opening false event (size_answer opening.max event n) 0 place.me n x)) (sym c.requires.row.2)
           (notes opening slots place.id place.me event c.requires.one may),
     )

@@ -1,4 +1,4 @@
-use Rattle.std.proofs.Common.{ℕ, ◌≡◌, ◌≤◌, true, ◌∙◌, ap, sym, subst, length}
+use Rattle.std.proofs.Common.{ℕ, ◌≡◌, ◌≤◌, true, ◌∙◌, ap, sym, subst, length, false}
 use Rattle.atomic_table.specs.Table.{Allows}
 use Rattle.types.specs.declared.event.Event.{Event}
 use Rattle.shared_memory.specs.Memory.{Memory}
@@ -23,8 +23,8 @@ load-requires g c =
       c.requires.row.0,
       c.requires.row.1,
       subst (λ (k : Memory). Allows (KeptRow k) slots place.id place.me c.args.word (λ n. n)
-          (λ n x. StepsAs opening event (word_answer event n) c.args.word place.me n x)) (sym c.requires.row.2)
+          (λ n x. StepsAs opening false event (word_answer event n) c.args.word place.me n x)) (sym c.requires.row.2)
           (subst (λ (w : ℕ). Allows (KeptRow opening) slots place.id place.me w (λ n. n)
-          (λ n x. StepsAs opening event (word_answer event n) w place.me n x)) (ap place_of same ∙ c.requires.word)
+          (λ n x. StepsAs opening false event (word_answer event n) w place.me n x)) (ap place_of same ∙ c.requires.word)
           (reads opening slots place.id place.me event c.requires.one may access within)),
     )

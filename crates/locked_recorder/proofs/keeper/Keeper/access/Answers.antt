@@ -13,7 +13,7 @@ use Rattle.shared_memory_on_table.specs.Callers.{GoesOn, seeing}
 use Rattle.shared_memory_on_table.specs.Moves.{caller_in, keeper, alone}
 use Rattle.locked_recorder.specs.Promises.{KeepsLog}
 use Rattle.shared_memory_on_table.proofs.Moves.{is_one}
-use Rattle.locked_recorder.proofs.Access.{Entered, enters_log}
+use Rattle.locked_recorder.proofs.Access.{Entered, enters_log, never_lost}
 use Rattle.locked_recorder.proofs.keeper.Keeper.access.Given as given
 use Rattle.locked_recorder.proofs.keeper.Keeper.access.Goals as goal
 use Rattle.locked_recorder.proofs.keeper.Keeper.access.Goals.{After-record}
@@ -116,3 +116,10 @@ returns-clause-outcome g c =
     c.args.event who.seen l c.step-reply.result) (sym seen)
     (subst (λ (k : ℕ). Accesses false g.B.Naming.opening (Some k) who.name who.has_queue_right c.args.event who.seen now c.step-reply.result)
     c.self.invariant.2 (entered g made_so).outcome))
+
+pub returns-clause-tries : goal.returns-clause-tries
+returns-clause-tries g c =
+    let made_so = (goal.at.returns-clause-tries g c).After-record in
+    let same = ap (λ (m : Me ℕ View). (caller_in m.0).lost) (seen_by g made_so) in
+    same ∙ ap (λ (x : Caller). x.lost) c.seat.view_is
+    ∙ never_lost c.self.inside.memory c.args.event c.step-reply.result c.args.seat.now.lost c.step-reply.ensures.reply

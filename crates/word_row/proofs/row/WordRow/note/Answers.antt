@@ -1,4 +1,4 @@
-use Rattle.std.proofs.Common.{ℕ, ◌≡◌, true, None, ap, sym, subst, ◌∙◌}
+use Rattle.std.proofs.Common.{ℕ, ◌≡◌, true, false, None, ap, sym, subst, ◌∙◌}
 use Rattle.types.specs.declared.event.Event.{Event}
 use Rattle.shared_memory.specs.Memory.{Memory}
 use Rattle.shared_memory.specs.Access.{Accesses}
@@ -9,14 +9,14 @@ use Rattle.word_row_rules.specs.Answers.{size_answer}
 use Rattle.word_row_rules.specs.Rule.{Steps}
 use Rattle.word_row.specs.Rows.{HasPages}
 use Rattle.word_row.proofs.Counts.{found-HasPages, accesses-HasPages}
-use Rattle.word_row.proofs.Access.{few_pages, shows, accesses-after}
+use Rattle.word_row.proofs.Access.{few_pages, shows, accesses-after, tries-after}
 use Rattle.word_row.proofs.row.WordRow.note.Goals as goal
 
 pub by_size-requires : goal.by_size-requires
 by_size-requires g c =
     let opening : Memory = g.B.Naming.opening in
     let row = c.args.self.now.row in
-    few_pages opening c.args.event (size_answer opening.max c.args.event c.note-pages.result) c.note-pages.result
+    few_pages opening false c.args.event (size_answer opening.max c.args.event c.note-pages.result) c.note-pages.result
     c.args.caller.now c.note-pages.new.caller row.stored c.note-pages.ensures
 
 pub returns-in-Grow-clause-outcome : goal.returns-in-Grow-clause-outcome
@@ -26,22 +26,32 @@ returns-in-Grow-clause-outcome g c =
     let count : ℕ = c.note-pages.result in
     let none : size_answer opening.max event count ≡ None = ap (λ k. size_answer k event count)
     (sym c.args.self.now.sized) ∙ sym c.by_size.ensures ∙ c.in_default.is in
-    let sh = shows opening event (size_answer opening.max event count) 0 count c.args.caller.now c.note-pages.new.caller c.note-pages.ensures none in
+    let sh = shows opening false event (size_answer opening.max event count) 0 count c.args.caller.now c.note-pages.new.caller c.note-pages.ensures none in
     let w : Caller = c.note-pages.new.caller in
     let outcome = subst (λ (e : Event). Accesses true opening None w.name w.has_queue_right e w.seen
     c.exchange.new.caller.seen c.exchange.result) (sym c.in-Grow.is) c.exchange.ensures.outcome in
     accesses-after opening event 0 count c.args.caller.now w c.exchange.new.caller.seen c.exchange.result sh outcome
 
+pub returns-in-Grow-clause-tries : goal.returns-in-Grow-clause-tries
+returns-in-Grow-clause-tries g c =
+    let opening : Memory = g.B.Naming.opening in
+    let event : Event = c.args.event in
+    let count : ℕ = c.note-pages.result in
+    let none : size_answer opening.max event count ≡ None = ap (λ k. size_answer k event count)
+    (sym c.args.self.now.sized) ∙ sym c.by_size.ensures ∙ c.in_default.is in
+    let sh = shows opening false event (size_answer opening.max event count) 0 count c.args.caller.now c.note-pages.new.caller c.note-pages.ensures none in
+    tries-after opening 0 count c.args.caller.now c.note-pages.new.caller c.exchange.new.caller.lost c.exchange.result sh c.exchange.ensures.tries
+
 -- the page count that the note found
 counted_by : (opening : Memory) (event : Event) (count : ℕ) (c w : Caller) → IsStored opening
-    → Steps opening event (size_answer opening.max event count) 0 c count w → HasPages opening w.seen count
-counted_by opening event count c w stored s = found-HasPages opening event (size_answer opening.max event count) count c w stored s
+    → Steps opening false event (size_answer opening.max event count) 0 c count w → HasPages opening w.seen count
+counted_by opening event count c w stored s = found-HasPages opening false event (size_answer opening.max event count) count c w stored s
 
 pub returns-in-Some-clause-few : goal.returns-in-Some-clause-few
 returns-in-Some-clause-few g c =
     let opening : Memory = g.B.Naming.opening in
     let count : ℕ = c.note-pages.result in
-    few_pages opening c.args.event (size_answer opening.max c.args.event count) count
+    few_pages opening false c.args.event (size_answer opening.max c.args.event count) count
     c.args.caller.now c.note-pages.new.caller c.args.self.now.row.stored c.note-pages.ensures
 
 pub returns-in-Some-clause-counted : goal.returns-in-Some-clause-counted
@@ -65,14 +75,15 @@ returns g c =
     let w : Caller = c.note-pages.new.caller in
     let none : size_answer opening.max event count ≡ None = ap (λ k. size_answer k event count)
     (sym c.args.self.now.sized) ∙ sym c.by_size.ensures ∙ c.in_default.is in
-    let sh = shows opening event (size_answer opening.max event count) 0 count c.args.caller.now c.note-pages.new.caller c.note-pages.ensures none in
+    let sh = shows opening false event (size_answer opening.max event count) 0 count c.args.caller.now c.note-pages.new.caller c.note-pages.ensures none in
     record {
       name = c.touch.ensures.name ∙ ap (λ (x : Caller). x.name) sh.same;
       right = c.touch.ensures.right ∙ ap (λ (x : Caller). x.has_queue_right) sh.same;
       outcome = accesses-after opening event 0 count c.args.caller.now c.note-pages.new.caller c.touch.new.caller.seen
           c.touch.result sh c.touch.ensures.outcome;
+      tries = tries-after opening 0 count c.args.caller.now c.note-pages.new.caller c.touch.new.caller.lost c.touch.result sh c.touch.ensures.tries;
       single = c.touch.ensures.single;
-      few = few_pages opening event (size_answer opening.max event count) count c.args.caller.now w c.args.self.now.row.stored c.note-pages.ensures;
+      few = few_pages opening false event (size_answer opening.max event count) count c.args.caller.now w c.args.self.now.row.stored c.note-pages.ensures;
       counted = accesses-HasPages opening w.name w.has_queue_right event w.seen c.touch.new.caller.seen c.touch.result count c.args.self.now.row.stored
           c.touch.ensures.outcome (counted_by opening event count c.args.caller.now w c.args.self.now.row.stored c.note-pages.ensures);
     }
