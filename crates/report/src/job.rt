@@ -5,7 +5,11 @@ ghost use Rattle.report_lines.specs.Lines.{functions_line};
 ghost use Rattle.types.specs.declared.parts.Parts.{Parts};
 ghost use Rattle.types.specs.Limits.{most_fuel};
 ghost use Rattle.report_command.specs.Jobs.{IsInRange};
-ghost use Rattle.report.specs.Jobs.{IsAccepted, IsReplayed, IsNoRecordOf, IsUnfit, IsOfNoRun};
+ghost use Rattle.report.specs.Arguments.{CannotCall};
+ghost use Rattle.report.specs.Jobs.{Performs, IsAccepted, HasRun, HasNoSuchCall, IsReplayed, IsNoRecordOf, IsRefused, IsNoValidModule, IsUnfit, IsOfNoRun};
+ghost use Rattle.report.specs.Prints.{change};
+ghost use Rattle.report.specs.declared.loading.Refusal.{Refusal};
+ghost use Rattle.report.specs.Troubles.{IsTrouble, request_of};
 
 use crate::loading::{Refusal, load};
 use crate::replaying::{Unfit, replay_record};
@@ -53,7 +57,8 @@ where
     E: Write,
     S: Write,
     requires { IsInRange job.now }
-    ensures { result ≤ 5 }
+    ensures { Performs job.now «module».now saved.now (change (W.contents out.old) (W.contents out.new))
+        (change (S.contents save.old) (S.contents save.new)) result }
 {
     match job {
         Job::Check { .. } => check(alloc, module, out, err),
@@ -88,6 +93,7 @@ where
 /// 5 where memory or the stream failed.
 pub fn check<W: Write, E: Write>(alloc: Global, bytes: &[u8], out: &mut W, err: &mut E) -> u8
     ensures accepted { result ≡ 0 → IsAccepted bytes.now (W.contents out.old) (W.contents out.new) }
+    ensures refused { result ≡ 2 → IsNoValidModule bytes.now }
     ensures status { (result ≡ 0) ⊎ (result ≡ 2) ⊎ (result ≡ 5) }
 {
     match load(alloc, bytes) {
@@ -112,36 +118,61 @@ fn accept<W: Write, E: Write>(functions: usize, out: &mut W, err: &mut E) -> u8
 
 /// Says why a module was refused, and answers the status: 2, or 5 where memory ran out.
 fn refuse<E: Write>(err: &mut E, refusal: Refusal) -> u8
-    ensures { (result ≡ 2) ⊎ (result ≡ 5) }
+    ensures status { (result ≡ 2) ⊎ (result ≡ 5) }
+    ensures refused { (bytes : List ℕ) → IsRefused bytes refusal → result ≡ 2 → IsNoValidModule bytes }
 {
     match refusal {
-        Refusal::Read(ReadFault::OutOfMemory) | Refusal::Validity(ValidFault::OutOfMemory) => {
+        Refusal::Read(fault) => refuse_text(err, fault),
+        Refusal::Validity(fault) => refuse_module(err, fault),
+    }
+}
+
+/// Says why bytes are no module's text, and answers the status.
+fn refuse_text<E: Write>(err: &mut E, fault: ReadFault) -> u8
+    ensures status { (result ≡ 2) ⊎ (result ≡ 5) }
+    ensures refused { (bytes : List ℕ) → IsRefused bytes (Refusal.Read fault) → result ≡ 2 → IsNoValidModule bytes }
+{
+    match fault {
+        ReadFault::OutOfMemory => {
             say(err, "no memory");
-            return FAULT;
+            FAULT
         }
-        Refusal::Read(ReadFault::Malformed { kind, offset }) => {
+        ReadFault::Malformed { kind, offset } => {
             let number = kind.number();
             let _ = write!(err, "module refused: read {number} at {offset}\n");
+            MODULE_REFUSED
         }
-        Refusal::Validity(ValidFault::Outside(kind)) => {
+    }
+}
+
+/// Says why a module isn't valid, and answers the status.
+fn refuse_module<E: Write>(err: &mut E, fault: ValidFault) -> u8
+    ensures status { (result ≡ 2) ⊎ (result ≡ 5) }
+    ensures refused { (bytes : List ℕ) → IsRefused bytes (Refusal.Validity fault) → result ≡ 2 → IsNoValidModule bytes }
+{
+    match fault {
+        ValidFault::OutOfMemory => {
+            say(err, "no memory");
+            FAULT
+        }
+        ValidFault::Outside(kind) => {
             let number = kind.number();
             let _ = write!(err, "module refused: validity {number}\n");
+            MODULE_REFUSED
         }
-        Refusal::Validity(
-            ValidFault::InBody {
-                kind,
-                function,
-                instruction,
-            },
-        ) => {
+        ValidFault::InBody {
+            kind,
+            function,
+            instruction,
+        } => {
             let number = kind.number();
             let _ = write!(
                 err,
                 "module refused: validity {number} in function {function} at {instruction}\n"
             );
+            MODULE_REFUSED
         }
     }
-    MODULE_REFUSED
 }
 
 /// The line of an accepted module: `ok functions N`.
@@ -168,7 +199,11 @@ where
     E: Write,
     S: Write,
     requires { wanted.now.fuel ≤ most_fuel }
-    ensures { result ≤ 5 }
+    ensures made { result ≤ 1 → HasRun «module».now (request_of wanted.now) (change (W.contents out.old) (W.contents out.new))
+        (change (S.contents save.old) (S.contents save.new)) result }
+    ensures refused { result ≡ 2 → IsNoValidModule «module».now }
+    ensures cannot { result ≡ 3 → HasNoSuchCall «module».now (request_of wanted.now) }
+    ensures status { (result ≤ 3) ⊎ (result ≡ 5) }
 {
     let valid = match load(alloc, module) {
         Ok(valid) => valid,
@@ -193,9 +228,10 @@ pub fn replay_saved<W: Write, E: Write>(
     out: &mut W,
     err: &mut E,
 ) -> u8
-    ensures replayed { result ≤ 1 → IsReplayed «module».now saved.now dump (W.contents out.old) (W.contents out.new) }
-    ensures refused { result ≡ 4 → IsNoRecordOf «module».now saved.now }
-    ensures status { result ≤ 5 }
+    ensures replayed { result ≤ 1 → IsReplayed «module».now saved.now dump (W.contents out.old) (W.contents out.new) result }
+    ensures refused { result ≡ 2 → IsNoValidModule «module».now }
+    ensures none { result ≡ 4 → IsNoRecordOf «module».now saved.now }
+    ensures status { (result ≤ 2) ⊎ (result ≡ 4) ⊎ (result ≡ 5) }
 {
     let valid = match load(alloc, module) {
         Ok(valid) => valid,
@@ -210,7 +246,7 @@ pub fn replay_saved<W: Write, E: Write>(
 /// Says why a record was refused, or why its lines couldn't be written, and answers the status.
 fn reject<E: Write>(err: &mut E, unfit: Unfit) -> u8
     ensures status { (result ≡ 4) ⊎ (result ≡ 5) }
-    ensures refused { (m : Parts) (saved : List ℕ) → IsUnfit m saved unfit → result ≡ 4 → IsOfNoRun m saved }
+    ensures unfit { (m : Parts) (saved : List ℕ) → IsUnfit m saved unfit → result ≡ 4 → IsOfNoRun m saved }
 {
     match unfit {
         Unfit::Unread(fault) => {
@@ -234,7 +270,9 @@ fn reject<E: Write>(err: &mut E, unfit: Unfit) -> u8
 
 /// Says why there was no run, or why its lines or its record couldn't be written, and answers the status.
 fn complain<E: Write>(err: &mut E, trouble: Trouble, path: Option<&str>) -> u8
-    ensures { result ≤ 5 }
+    ensures status { (result ≡ 3) ⊎ (result ≡ 5) }
+    ensures refused { (m : Parts) (name : List ℕ) (texts : List (List ℕ)) → IsTrouble m name texts trouble → result ≡ 3
+        → CannotCall m name texts }
 {
     match trouble {
         Trouble::UnknownExport => {

@@ -34,8 +34,7 @@ pub(crate) fn replay_record<W: Write>(
     dump: u32,
     out: &mut W,
 ) -> Result<u8, Unfit>
-    ensures status { IfOk result (λ status. status ≤ 1) }
-    ensures prints { IfOk result (λ status. PrintsReplay «module».now.parts saved.now dump (W.contents out.old) (W.contents out.new)) }
+    ensures prints { IfOk result (PrintsReplay «module».now.parts saved.now dump (W.contents out.old) (W.contents out.new)) }
     ensures unfit { IfErr result (λ unfit. IsUnfit «module».now.parts saved.now unfit) }
 {
     let record = match read_record(alloc, saved) {

@@ -1,8 +1,16 @@
 //! Runs of modules by the program: over which memory, and what is printed.
-ghost use Rattle.std.specs.Prelude.{◌≤◌, IfOk};
+ghost use Rattle.std.specs.Prelude.{◌≡◌, ◌≤◌, true, map, IfOk, IfErr, OnOk};
 ghost use Rattle.std.specs.Io.KnownBytes.{Appends};
+ghost use Rattle.std.specs.List.{list_all};
 ghost use Rattle.types.specs.Limits.{most_fuel};
-ghost use Rattle.report_lines.specs.Lines.{end_lines};
+ghost use Rattle.validate_typing.specs.Validity.{HasDistinctNames};
+ghost use Rattle.spawn_host.specs.Entries.{Takes};
+ghost use Rattle.replay_text.specs.Text.{record_text};
+ghost use Rattle.report.specs.Arguments.{AreSpelled};
+ghost use Rattle.report.specs.Prints as specified;
+ghost use Rattle.report.specs.Prints.{change, Prints, PrintsRun};
+ghost use Rattle.report.specs.Troubles.{IsTrouble, request_of, trouble_of, trouble_of_recording};
+ghost use Rattle.report.specs.declared.running.Trouble.TheVariants as troubles;
 
 use crate::args::read_args;
 use interp_trait::OpenGate;
@@ -15,7 +23,7 @@ use std::alloc::{AllocError, Global};
 use std::io::{self, Write};
 use std::sync::Wait;
 use std::thread::Threads;
-use types::{Outcome, Value};
+use types::{Outcome, ThreadReport, Value};
 use validate::ValidModule;
 
 /// How a run is asked for.
@@ -44,12 +52,16 @@ pub(crate) enum Trouble {
 }
 
 impl From<AllocError> for Trouble {
+    ghost from_gives = { λ _ e. e ≡ troubles.NoMemory };
+
     fn from(_: AllocError) -> Trouble {
         Trouble::NoMemory
     }
 }
 
 impl From<RunFault> for Trouble {
+    ghost from_gives = { λ f e. e ≡ trouble_of f };
+
     fn from(fault: RunFault) -> Trouble {
         match fault {
             RunFault::NoMemory => Trouble::NoMemory,
@@ -61,6 +73,8 @@ impl From<RunFault> for Trouble {
 }
 
 impl From<RecordRunFault> for Trouble {
+    ghost from_gives = { λ f e. e ≡ trouble_of_recording f };
+
     fn from(fault: RecordRunFault) -> Trouble {
         match fault {
             RecordRunFault::Run(fault) => Trouble::from(fault),
@@ -69,11 +83,23 @@ impl From<RecordRunFault> for Trouble {
     }
 }
 
+// The exports of a valid module have distinct names (Core specification 1.0, section 3.4.10).
+fn show_distinct(module: &ValidModule)
+    ensures { HasDistinctNames «module».now.parts.exports }
+{
+    let _parts = module.parts();
+}
+
 /// The values of the arguments of an exported function.
-fn args_of(alloc: Global, module: &ValidModule, wanted: &Wanted) -> Result<Vec<Value>, Trouble> {
+fn args_of(alloc: Global, module: &ValidModule, wanted: &Wanted) -> Result<Vec<Value>, Trouble>
+    ensures takes { IfOk result (λ args. AreSpelled (map (λ text. text.now) wanted.now.args.now) args.items
+        × Takes «module».now.parts wanted.now.invoke.now args.items) }
+    ensures trouble { IfErr result (IsTrouble «module».now.parts wanted.now.invoke.now (map (λ text. text.now) wanted.now.args.now)) }
+{
     let Some(function) = own_function(module, wanted.invoke) else {
         return Err(Trouble::UnknownExport);
     };
+    show_distinct(module);
     match read_args(alloc, function.func_type.params.as_slice(), wanted.args)? {
         Some(args) => Ok(args),
         None => Err(Trouble::WrongArguments),
@@ -95,7 +121,9 @@ where
     W: Write,
     S: Write,
     requires fuel { wanted.now.fuel ≤ most_fuel }
-    ensures { IfOk result (λ status. status ≤ 1) }
+    ensures made { IfOk result (PrintsRun «module».now.parts (request_of wanted.now)
+        (change (W.contents out.old) (W.contents out.new)) (change (S.contents save.old) (S.contents save.new))) }
+    ensures trouble { IfErr result (IsTrouble «module».now.parts wanted.now.invoke.now (map (λ text. text.now) wanted.now.args.now)) }
 {
     let args = args_of(alloc, module, wanted)?;
     let call = Call {
@@ -103,38 +131,51 @@ where
         args: &args,
         fuel: wanted.fuel,
     };
+    show_distinct(module);
     if wanted.on_words {
         let end = run_on_words(rt, alloc, module, call, &OpenGate)?;
-        return print(out, &end, wanted.dump);
+        let status = print(out, &end, wanted.dump)?;
+        return Ok(status);
     }
     let (record, end) = record_run(rt, alloc, module, call, wanted.limit, &OpenGate)?;
     let status = print(out, &end, wanted.dump)?;
-    if wanted.save.is_some() {
-        keep(&record, save)?;
-    }
+    keep(&record, wanted.save.is_some(), save)?;
     Ok(status)
 }
 
 /// Prints how the threads ended and what the memory is, and answers the status.
 pub(crate) fn print<W: Write>(out: &mut W, end: &EndState, dump: u32) -> Result<u8, Trouble>
-    ensures status { IfOk result (λ status. status ≤ 1) }
-    ensures lines { IfOk result (λ status. Appends (W.contents out.old) (W.contents out.new)
-        (end_lines end.now.threads.items end.now.pages dump end.now.bytes.items)) }
+    ensures prints { IfOk result (Prints end.now dump (change (W.contents out.old) (W.contents out.new))) }
+    ensures output { IfErr result (λ trouble. trouble ≡ troubles.Output) }
 {
     match write_end(out, &end.threads, end.pages, dump, &end.bytes) {
-        Ok(()) => {
-            let all_well = end
-                .threads
-                .iter()
-                .all(|report| matches!(report.outcome, Outcome::Done(_)));
-            Ok(u8::from(!all_well))
-        }
+        Ok(()) => Ok(u8::from(!all_done(&end.threads))),
         Err(_) => Err(Trouble::Output),
     }
 }
 
-/// Writes a record to its file.
-fn keep<S: Write>(record: &Record, save: &mut S) -> Result<(), Trouble> {
+/// Whether a thread ended well.
+fn is_done(outcome: Outcome) -> bool
+    ensures { result ≡ specified.is_done outcome }
+{
+    matches!(outcome, Outcome::Done(_))
+}
+
+/// Whether all threads ended well.
+fn all_done(reports: &[ThreadReport]) -> bool
+    ensures { result ≡ list_all (λ r. specified.is_done r.outcome) reports.now }
+{
+    reports.iter().all(|report| is_done(report.outcome))
+}
+
+/// Writes a record to its file, where it is wanted.
+fn keep<S: Write>(record: &Record, is_wanted: bool, save: &mut S) -> Result<(), Trouble>
+    ensures kept { OnOk result (is_wanted ≡ true → Appends (S.contents save.old) (S.contents save.new) (record_text «record».now)) }
+    ensures save { IfErr result (λ trouble. trouble ≡ troubles.Save) }
+{
+    if !is_wanted {
+        return Ok(());
+    }
     if write_record(record, save).is_err() || save.flush().is_err() {
         return Err(Trouble::Save);
     }

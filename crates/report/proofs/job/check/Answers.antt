@@ -15,3 +15,6 @@ returns-in-Ok-clause-accepted g c =
       valid = c.in-Ok.ensures.ok.1.valid;
       line = subst Line count (c.accept.ensures.written zero);
     }
+
+pub returns-in-Err-clause-refused : goal.returns-in-Err-clause-refused
+returns-in-Err-clause-refused g c = λ two. c.refuse.ensures.refused c.args.bytes.now c.in-Err.ensures.err two
