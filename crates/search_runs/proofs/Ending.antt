@@ -1,5 +1,5 @@
 -- Each run in which nobody stops ends as threads without budgets can.
-use Rattle.std.proofs.Common.{◌≡◌, ◌≢◌, ℕ, zero, suc, ◌+◌, ◌<◌, ◌≤◌, ◌⊎◌, inl, inr, Bool, length, take, List, [], ◌∷◌, Option, Some, None, refl, sym, ◌∙◌, ap, subst, arith}
+use Rattle.std.proofs.Common.{◌≡◌, ℕ, ◌<◌, ◌⊎◌, inl, inr, Bool, length, take, List, [], ◌∷◌, Option, Some, None, refl, sym, ◌∙◌, ap, subst, arith}
 use Rattle.std.specs.List.{slice_get}
 use Rattle.std.proofs.lemmas.Option.{slice_get_within, slice_get-get_or}
 use Rattle.types.specs.declared.event.Event.{Event}
@@ -9,16 +9,15 @@ use Rattle.types.specs.declared.event.Entry as entries
 use Rattle.types.specs.declared.outcome.Outcome.{Outcome}
 use Rattle.types.specs.declared.outcome.Outcome.TheVariants as outcomes
 use Rattle.types.specs.declared.outcome.Stop.TheVariants as stops
-use Rattle.types.specs.Limits.{most_threads}
 use Rattle.shared_memory.specs.Memory.{Memory, pages}
-use Rattle.shared_memory.specs.WaitQueue.{WaitQueue, first_queue, next_id}
+use Rattle.shared_memory.specs.WaitQueue.{WaitQueue, next_id}
 use Rattle.shared_memory.specs.History.{memory_after, queue_after}
 use Rattle.schedule.specs.System.{Act, Act.Made, Act.Heard, Entry, System}
 use Rattle.schedule.specs.System as systems
 use Rattle.schedule.specs.Scheduled.{scheduled_run}
-use Rattle.schedule.specs.Histories.{Place, Place.Unstarted, next_shared, shared_after, places_after}
+use Rattle.schedule.specs.Histories.{Place.Unstarted, next_shared, shared_after, places_after}
 use Rattle.schedule.specs.Schedules.{ThreadsRun}
-use Rattle.schedule.specs.Machine.{Thread, Thread.Left}
+use Rattle.schedule.specs.Machine.{Thread.Left}
 use Rattle.interp_machine.specs.State.{State}
 use Rattle.schedule_threads.specs.Shared.{Shared, without_dues}
 use Rattle.schedule_threads.specs.Threads.{machine_of}
@@ -116,9 +115,9 @@ module _ (b : Called) (fuel : ℕ) where
     started : (m : ℕ) → m < next_id (queue_after H) → places_after (system_of b) (first_shared b) first_places (as_acts H) m ≡ Unstarted → ⊥
     started m known none =
         let same : places_after (runs.system_of start) (first_shared b) first_places (as_acts H)
-            ≡ places_after (system_of b) (first_shared b) first_places (as_acts H) =
-            ap (λ s. places_after s (first_shared b) first_places (as_acts H)) (system_same b fuel)
-            ∙ places_same (machine_of b.program) reply_by shared_by answer_by (begun_by b) fuel (as_acts H) (first_shared b) first_places in
+        ≡ places_after (system_of b) (first_shared b) first_places (as_acts H) =
+        ap (λ s. places_after s (first_shared b) first_places (as_acts H)) (system_same b fuel)
+        ∙ places_same (machine_of b.program) reply_by shared_by answer_by (begun_by b) fuel (as_acts H) (first_shared b) first_places in
         started_place (queue_after H) m known (sym (stand_after start H legal m) ∙ (ap (λ f. f m) same ∙ none))
 
     known_at : (m : ℕ) (o : Outcome) → slice_get e.outcomes m ≡ Some o → m < next_id (queue_after H)
@@ -144,6 +143,8 @@ module _ (b : Called) (fuel : ℕ) where
     }
 
 pub every_run_ends_so : EveryRunEndsSo
-every_run_ends_so b fuel loses limit H outcomes_of lefts together dump e ending =
-    (last b fuel loses limit H outcomes_of lefts together dump e ending, reached b fuel loses limit H outcomes_of lefts together dump e ending,
-    ended b fuel loses limit H outcomes_of lefts together dump e ending)
+every_run_ends_so b fuel loses limit H outcomes_of lefts together dump e ending = (
+  last b fuel loses limit H outcomes_of lefts together dump e ending,
+  reached b fuel loses limit H outcomes_of lefts together dump e ending,
+  ended b fuel loses limit H outcomes_of lefts together dump e ending,
+)

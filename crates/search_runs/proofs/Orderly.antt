@@ -1,20 +1,17 @@
 -- The states of the scheduled machine are orderly, along turns.
-use Rattle.std.proofs.Common.{◌≡◌, ◌≢◌, ℕ, ◌<◌, ◌≤◌, Bool, true, false, length, List, [], ◌∷◌, Option, Some, None, refl, sym, ◌∙◌, ap, subst, ◌⊎◌, inl, inr, arith}
+use Rattle.std.proofs.Common.{◌≡◌, ◌≢◌, ℕ, false, List, [], ◌∷◌, Option, Some, None, refl, sym, ◌∙◌, ap, subst}
 use Rattle.types.specs.declared.event.Event.{Event}
 use Rattle.types.specs.declared.event.Event.TheVariants as events
 use Rattle.types.specs.declared.event.Question.{Question}
-use Rattle.types.specs.declared.event.Question.TheVariants.{Leave}
-use Rattle.types.specs.declared.event.Reply.{Reply}
 use Rattle.types.specs.declared.event.Answer.{Answer}
-use Rattle.types.specs.Limits.{most_threads}
-use Rattle.shared_memory.specs.Memory.{Memory, reply_of}
+use Rattle.shared_memory.specs.Memory.{reply_of}
 use Rattle.shared_memory.specs.Events.{is_of_queue}
-use Rattle.shared_memory.specs.WaitQueue.{WaitQueue, answer_due, next_id, after_question, first_queue}
+use Rattle.shared_memory.specs.WaitQueue.{WaitQueue, answer_due, next_id, after_question}
 use Rattle.shared_memory.specs.History.{queue_step}
 use Rattle.schedule.specs.System.{State, Want, Want.Turns, Want.Calls, Want.Awaits, Want.Gone, Kind.Turn, put}
 use Rattle.schedule.specs.Scheduled.{after_event, after_turn, after_mark, scheduled_run, hears_any, or_started}
-use Rattle.schedule.specs.Machine.{thread_takes, thread_goes, Thread.Absent}
-use Rattle.schedule.proofs.Basics.{put-same, put-other}
+use Rattle.schedule.specs.Machine.{thread_takes, thread_goes}
+use Rattle.schedule.proofs.Basics.{put-other}
 use Rattle.schedule.proofs.Budgets.{opened}
 use Rattle.schedule_threads.specs.Shared.{Shared, without_dues, starts_by}
 use Rattle.schedule_threads.specs.Threads.{machine_of}

@@ -1,5 +1,5 @@
 -- The system of threads with a budget is the one that crate schedule_runs has, and its first state too.
-use Rattle.std.proofs.Common.{◌≡◌, ◌≢◌, ℕ, ◌==◌, ◌&&◌, Bool, true, false, cond, length, Option, Some, None, refl, sym, ◌∙◌, ap, subst, List, [], ◌∷◌}
+use Rattle.std.proofs.Common.{◌≡◌, ℕ, ◌==◌, ◌&&◌, Bool, true, false, cond, length, Some, None, refl, sym, ◌∙◌, ap}
 use Rattle.std.specs.Prelude.{nat_lt}
 use Rattle.types.specs.declared.event.Event.{Event}
 use Rattle.types.specs.declared.event.Event.TheVariants as events
@@ -10,7 +10,7 @@ use Rattle.types.specs.declared.outcome.Outcome.{Outcome}
 use Rattle.shared_memory.specs.WaitQueue.{next_id}
 use Rattle.schedule.specs.System.{System, put, Kind.Turn}
 use Rattle.schedule.specs.System as systems
-use Rattle.schedule.specs.Machine.{Thread, Thread.Absent, Thread.Runs, system}
+use Rattle.schedule.specs.Machine.{Thread.Absent, Thread.Runs, system}
 use Rattle.schedule.proofs.Basics.{at_each, put-same, put-other}
 use Rattle.interp_machine.specs.State.{State, At}
 use Rattle.schedule_threads.specs.Shared.{Shared, starts_by}

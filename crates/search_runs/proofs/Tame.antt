@@ -1,15 +1,15 @@
 -- What threads without budgets come to, the scheduled machine comes to, and it is orderly.
-use Rattle.std.proofs.Common.{◌≡◌, ◌≢◌, ℕ, zero, suc, ◌+◌, ◌<◌, ◌≤◌, Bool, true, false, length, List, [], ◌∷◌, Option, Some, None, refl, sym, ◌∙◌, ap, subst, arith}
+use Rattle.std.proofs.Common.{◌≡◌, ℕ, zero, suc, ◌+◌, ◌<◌, ◌≤◌, length, List, [], ◌∷◌, refl, sym, ◌∙◌, ap, subst, arith}
 use Rattle.types.specs.declared.event.Event.{Event}
 use Rattle.types.specs.declared.event.Reply.{Reply}
 use Rattle.types.specs.declared.event.Answer.{Answer}
 use Rattle.types.specs.declared.outcome.Outcome.{Outcome}
 use Rattle.types.specs.Limits.{most_threads}
-use Rattle.shared_memory.specs.WaitQueue.{WaitQueue, next_id, is_alive, is_asleep}
+use Rattle.shared_memory.specs.WaitQueue.{WaitQueue, next_id}
 use Rattle.schedule.specs.System.{Want, Want.Turns, Want.Calls, Want.Awaits, Kind.Turn, System}
 use Rattle.schedule.specs.System as systems
 use Rattle.schedule.specs.Scheduled.{scheduled_run, after_mark}
-use Rattle.schedule.specs.Machine.{Thread, Thread.Absent, Thread.Runs, Thread.Leaves, Thread.Left, wanted}
+use Rattle.schedule.specs.Machine.{Thread.Absent, Thread.Runs, Thread.Leaves, Thread.Left, wanted}
 use Rattle.schedule.specs.Machine.{Wish, Wish.Asks, Wish.Ends, Wish.Goes, Wish.Waits}
 use Rattle.interp_machine.specs.Program.{Program}
 use Rattle.interp_machine.specs.State.{State, At}
@@ -21,10 +21,10 @@ use Rattle.schedule_machine.specs.Runs.{IsOrderly, system_by}
 use Rattle.schedule_machine.proofs.Beginning.{orderly_first}
 use Rattle.search_reach.specs.Paths.{Goes as GoesSteps, Reaches}
 use Rattle.search_reach.proofs.Paths.{stays, one_step, onward}
-use Rattle.search_threads.specs.Unlimited.{Unlimited, Unlimited.Missing, Unlimited.Going, Unlimited.Leaving, Unlimited.Away, unlimited_wants, want_by}
+use Rattle.search_threads.specs.Unlimited.{Unlimited.Missing, Unlimited.Going, Unlimited.Leaving, Unlimited.Away, unlimited_wants, want_by}
 use Rattle.search_threads.specs.Budgets.{IsSame, turns_of}
 use Rattle.search_threads.proofs.Laws as budgets
-use Rattle.search_settled.specs.Settled.{StepsBy, AnswersFit, AreFew, AreTame}
+use Rattle.search_settled.specs.Settled.{StepsBy, AnswersFit, AreFew}
 use Rattle.search_runs.specs.Called.{Called, Walker, setting_of, with_fuel, system_of, first_state, first_shared, first_threads}
 use Rattle.search_runs.specs.Called.{reply_by, shared_by, answer_by, begun_by}
 use Rattle.search_runs.specs.Theorems.{ThreadsAreTame, CanReach, IsScheduled, EveryEndIsScheduled}
@@ -51,10 +51,10 @@ scheduled b w reach =
     let path = turns_for (system_of b) reach.count (first_state b) w reach.path in
     let fuel = length path.0 + 1 in
     let same = budgets.unlimited_runs_have_budgets State Event Reply Answer Outcome Shared (machine_of b.program) reply_by shared_by answer_by (begun_by b)
-        fuel (first_shared b) (first_threads b) path.0 (omega arith) in
+    fuel (first_shared b) (first_threads b) path.0 (omega arith) in
     let there : scheduled_run (runs.system_of (with_fuel b fuel)) (runs.first_state (with_fuel b fuel)) (turns_of path.0)
-        ≡ scheduled_run (budgeted b fuel) (budgeted_first b fuel) (turns_of path.0) =
-        λ i. scheduled_run (system_same b fuel i) (first_state_same b fuel i) (turns_of path.0) in
+    ≡ scheduled_run (budgeted b fuel) (budgeted_first b fuel) (turns_of path.0) =
+    λ i. scheduled_run (system_same b fuel i) (first_state_same b fuel i) (turns_of path.0) in
     record {
       fuel = fuel;
       turns = path.0;

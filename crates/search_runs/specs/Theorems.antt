@@ -1,5 +1,5 @@
 -- Runs of a module's threads, with and without budgets.
-use Rattle.std.specs.Prelude.{ℕ, ◌≡◌, ◌≢◌, ◌+◌, ◌≤◌, Bool, List, length, take, Option, Some}
+use Rattle.std.specs.Prelude.{ℕ, ◌≡◌, ◌≢◌, ◌+◌, Bool, List, length, take, Option, Some}
 use Rattle.std.specs.List.{slice_get}
 use Rattle.types.specs.declared.event.Entry as entries
 use Rattle.types.specs.declared.outcome.Outcome.{Outcome}
@@ -7,7 +7,7 @@ use Rattle.types.specs.declared.outcome.Outcome.TheVariants as outcomes
 use Rattle.types.specs.declared.outcome.Stop.TheVariants as stops
 use Rattle.types.specs.Limits.{most_threads}
 use Rattle.shared_memory.specs.Memory.{Memory, pages}
-use Rattle.shared_memory.specs.WaitQueue.{WaitQueue, next_id}
+use Rattle.shared_memory.specs.WaitQueue.{WaitQueue}
 use Rattle.shared_memory.specs.History.{memory_after, queue_after}
 use Rattle.schedule.specs.System as systems
 use Rattle.schedule.specs.Scheduled.{scheduled_run}
