@@ -90,7 +90,8 @@ module _ {W E : Type 0} (steps : W → W → Type 0) (begins : W → Type 0) (en
   abbrev pub HasAllEnds : List E → Type 0
   HasAllEnds es = (w z : W) (e : E) → begins w → Reaches steps w z → ends z e → HasEqual eq es e
 
-module _ {S W E : Type 0} (stands : S → W → Type 0) (steps : W → W → Type 0) (begins : W → Type 0) (ends : W → E → Type 0) (eq : E → E → Bool) where
+module _ {S W E : Type 0} (stands : S → W → Type 0) (steps : W → W → Type 0) (begins : W → Type 0) (ends : W → E → Type 0)
+    (eq : E → E → Bool) where
   -- The endings of the first i of ks.
   pub record Ended (ks : List S) (i : ℕ) (es : List E) : Type 0 where
     pub all : AllEnds stands ends eq (take i ks) es

@@ -43,7 +43,8 @@ pub fn all_endings<T: Explores>(
     system: &T,
     most: usize,
 ) -> Result<Ended<T::Ending>, AllocError>
-    ensures all { IfOk result (λ r. r.verdict ≡ Verdict.All → HasAllEnds (T.steps system.now) (T.begins system.now) (T.ends system.now) T.Ending.eq r.endings.keys) }
+    ensures all { IfOk result (λ r. r.verdict ≡ Verdict.All
+        → HasAllEnds (T.steps system.now) (T.begins system.now) (T.ends system.now) T.Ending.eq r.endings.keys) }
     ensures sound { IfOk result (λ r. AreEnds (T.steps system.now) (T.begins system.now) (T.ends system.now) r.endings.keys) }
 {
     let found = reach_all(alloc, system, most)?;

@@ -24,7 +24,8 @@ pub enum Verdict {
 pub struct Found<S: Eq + Hash> {
     /// The states that it met, each once, in the order of their meeting.
     pub met: IndexSet<S>,
-    /// For each, the index of the one from which it was met first. No clause says so: it is a hint at a path.
+    /// For each, the index of the one from which it was met first. No clause says so: it is a hint at a path, to be judged by
+    /// whoever follows it.
     pub from: Vec<usize>,
     /// Whether these are all.
     pub verdict: Verdict,
@@ -56,7 +57,8 @@ pub fn reach_all<T: Explores>(
     system: &T,
     most: usize,
 ) -> Result<Found<T::State>, AllocError>
-    ensures all { IfOk result (λ f. f.verdict ≡ Verdict.All → IsAll (T.stands system.now) (T.steps system.now) (T.begins system.now) f.met.keys) }
+    ensures all { IfOk result (λ f. f.verdict ≡ Verdict.All
+        → IsAll (T.stands system.now) (T.steps system.now) (T.begins system.now) f.met.keys) }
     ensures sound { IfOk result (λ f. IsSound (T.stands system.now) (T.steps system.now) (T.begins system.now) f.met.keys) }
     ensures from { IfOk result (λ f. vec_len f.from ≡ index_set_len f.met) }
     ensures bound { IfOk result (λ f. f.verdict ≡ Verdict.TooMany → most < index_set_len f.met) }
@@ -96,22 +98,4 @@ pub fn reach_all<T: Explores>(
         from,
         verdict: Verdict::All,
     })
-}
-
-/// The indices of the states on a way to the one of this index, from that one back. It follows the hints.
-pub fn way_back<S: Eq + Hash>(
-    alloc: Global,
-    found: &Found<S>,
-    index: usize,
-) -> Result<Vec<usize>, AllocError> {
-    let mut way = Vec::new(alloc);
-    let mut at = index;
-    while let Some(before) = found.from.get(at) {
-        way.push(at)?;
-        if *before >= at {
-            break;
-        }
-        at = *before;
-    }
-    Ok(way)
 }

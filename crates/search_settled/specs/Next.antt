@@ -35,8 +35,10 @@ module _ {X T E V A S : Type 0} (s : System X T E V A) (first : State X T) (is :
 
   -- For each thread that wants an event there is one of these, and each of these is of such a thread.
   pub record HasNext (c : S) (xs : List S) : Type 0 where
-    pub all : (z : State X T) → IsAt c z → (n : ℕ) (e : E) → s.wants (z.threads n) ≡ Calls e → (x : S) × Contains xs x × IsNextBy z n e x
-    pub sound : (z : State X T) → IsAt c z → (x : S) → Contains xs x → (n : ℕ) × (e : E) × (s.wants (z.threads n) ≡ Calls e) × IsNextBy z n e x
+    pub all : (z : State X T) → IsAt c z → (n : ℕ) (e : E) → s.wants (z.threads n) ≡ Calls e
+        → (x : S) × Contains xs x × IsNextBy z n e x
+    pub sound : (z : State X T) → IsAt c z → (x : S) → Contains xs x
+        → (n : ℕ) × (e : E) × (s.wants (z.threads n) ≡ Calls e) × IsNextBy z n e x
 
   -- This is how it has ended, if it has.
   pub record HasEnded {O : Type 0} (ends : State X T → O → Type 0) (c : S) (r : Option O) : Type 0 where

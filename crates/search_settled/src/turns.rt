@@ -34,7 +34,8 @@ impl<M: SettledStates> Explores for Turns<'_, M> {
 
     ghost ends = { λ t. M.ends t.system.now };
 
-    ghost same = { λ t x y e w. stands_alike (M.system t.system.now) (M.beginning t.system.now) (M.is t.system.now) x y w (M.same t.system.now x y e) };
+    ghost same = { λ t x y e w. stands_alike (M.system t.system.now) (M.beginning t.system.now) (M.is t.system.now) x y w
+        (M.same t.system.now x y e) };
 
     fn first(&self, alloc: Global) -> Result<Option<M::Settled>, AllocError> {
         self.system.first(alloc)
@@ -59,8 +60,8 @@ pub fn endings_of_turns<M: SettledStates>(
     system: &M,
     most: usize,
 ) -> Result<Ended<M::Ending>, AllocError>
-    ensures all { IfOk result (λ r. r.verdict ≡ Verdict.All → HasAllEnds (StepsBy (M.system system.now)) (IsFirstOf (M.beginning system.now))
-        (M.ends system.now) M.Ending.eq r.endings.keys) }
+    ensures all { IfOk result (λ r. r.verdict ≡ Verdict.All
+        → HasAllEnds (StepsBy (M.system system.now)) (IsFirstOf (M.beginning system.now)) (M.ends system.now) M.Ending.eq r.endings.keys) }
     ensures sound { IfOk result (λ r. AreEnds (StepsBy (M.system system.now)) (IsFirstOf (M.beginning system.now)) (M.ends system.now)
         r.endings.keys) }
 {

@@ -10,7 +10,8 @@ use Rattle.search_states.specs.declared.flat.Flat.{Flat}
 -- Beyond a number an event starts no thread and gives no answer.
 abbrev pub AreBounded : {X T E V A : Type 0} → System X T E V A → State X T → ℕ → Type 0
 AreBounded s first count =
-    (w : State _ _) → IsReached s first w → (n m : ℕ) (e : _) → count ≤ m → (s.starts w.shared n e m ≡ None) × (s.gives w.shared n e m ≡ None)
+    (w : State _ _) → IsReached s first w → (n m : ℕ) (e : _) → count ≤ m
+    → (s.starts w.shared n e m ≡ None) × (s.gives w.shared n e m ≡ None)
 
 module _ {X T E V A G H M : Type 0} (s : System X T E V A) (first : State X T) (count : ℕ)
     (shares : G → X → Type 0) (is_thread : H → T → Type 0) (makes : M → X → ℕ → E → Type 0) where
@@ -43,7 +44,8 @@ module _ {X T E V A G H M : Type 0} (s : System X T E V A) (first : State X T) (
     pub is : is_thread t settled
 
   abbrev pub ComesAfter : M → ℕ → H → ℕ → H → Type 0
-  ComesAfter made n before m after = (z : State X T) (e : E) → IsMadeBy made z n e → is_thread before (z.threads m) → RestsAfter z n e m after
+  ComesAfter made n before m after =
+      (z : State X T) (e : E) → IsMadeBy made z n e → is_thread before (z.threads m) → RestsAfter z n e m after
 
   abbrev pub AreThreads : List H → State X T → Type 0
   AreThreads threads z = (m : ℕ) (t : H) → slice_get threads m ≡ Some t → is_thread t (z.threads m)
@@ -51,7 +53,8 @@ module _ {X T E V A G H M : Type 0} (s : System X T E V A) (first : State X T) (
   -- So do they all.
   pub record AllComeAfter (made : M) (n : ℕ) (threads after : List H) : Type 0 where
     pub len : length after ≡ length threads
-    pub each : (z : State X T) (e : E) → IsMadeBy made z n e → AreThreads threads z → (m : ℕ) (t : H) → slice_get after m ≡ Some t → RestsAfter z n e m t
+    pub each : (z : State X T) (e : E) → IsMadeBy made z n e → AreThreads threads z
+        → (m : ℕ) (t : H) → slice_get after m ≡ Some t → RestsAfter z n e m t
 
   -- The next states by the events of the threads below a number.
   pub record HasNextBelow (c : Flat G H) (i : ℕ) (xs : List (Flat G H)) : Type 0 where

@@ -16,7 +16,8 @@ module _ {H : Type 0} (eq : H → H → Bool) where
   same_length (x ∷ xs) (y ∷ ys) e = ap suc (same_length xs ys (second_so (eq x y) (pointwise eq xs ys) e))
 
   -- what stands in one list stands in the other, as an equal one
-  one_at : (xs ys : List H) (m : ℕ) (y : H) → pointwise eq xs ys ≡ true → slice_get ys m ≡ Some y → (x : H) × (slice_get xs m ≡ Some x) × (eq x y ≡ true)
+  one_at : (xs ys : List H) (m : ℕ) (y : H) → pointwise eq xs ys ≡ true → slice_get ys m ≡ Some y
+      → (x : H) × (slice_get xs m ≡ Some x) × (eq x y ≡ true)
   one_at [] [] m y e at = absurd (cc at)
   one_at [] (z ∷ ys) m y e at = absurd (true≢false (sym e))
   one_at (x ∷ xs) [] m y e at = absurd (true≢false (sym e))
@@ -25,7 +26,8 @@ module _ {H : Type 0} (eq : H → H → Bool) where
       (x, refl, ap (eq x) (sym same) ∙ first_so (eq x z) (pointwise eq xs ys) e)
   one_at (x ∷ xs) (z ∷ ys) (suc m) y e at = one_at xs ys m y (second_so (eq x z) (pointwise eq xs ys) e) at
 
-pub flat_alike : {X T E V A G H M : Type 0} (eq_shared : G → G → Bool) (eq_thread : H → H → Bool) (s : System X T E V A) (first : State X T) (count : ℕ)
+pub flat_alike : {X T E V A G H M : Type 0} (eq_shared : G → G → Bool) (eq_thread : H → H → Bool)
+    (s : System X T E V A) (first : State X T) (count : ℕ)
     (shares : G → X → Type 0) (is_thread : H → T → Type 0) (makes : M → X → ℕ → E → Type 0)
     → ((x y : G) → eq_shared x y ≡ true → (w : X) → shares x w → shares y w)
     → ((x y : H) → eq_thread x y ≡ true → (w : T) → is_thread x w → is_thread y w)
@@ -37,6 +39,7 @@ flat_alike eq_shared eq_thread s first count shares is_thread makes same_shared 
     record {
       shared = same_shared x.shared y.shared a z.shared is.shared;
       len = sym (same_length eq_thread x.threads.items y.threads.items b) ∙ is.len;
-      each = λ m t at. (let o = one_at eq_thread x.threads.items y.threads.items m t b at in same_thread o.0 t o.2 (z.threads m) (is.each m o.0 o.1));
+      each = λ m t at. (let o = one_at eq_thread x.threads.items y.threads.items m t b at in
+          same_thread o.0 t o.2 (z.threads m) (is.each m o.0 o.1));
       others = is.others;
     }

@@ -64,12 +64,13 @@ pub trait Moves {
         thread: &Self::Thread,
         n: usize,
     ) -> Result<Option<(Self::Shared, Self::Made)>, AllocError>
-        requires { (z : State X T) × IsThreadOf (system self.now) (beginning self.now) (count self.now) (shares self.now) (is_thread self.now)
-            (makes self.now) shared.now thread.now n z }
+        requires { (z : State X T) × IsThreadOf (system self.now) (beginning self.now) (count self.now) (shares self.now)
+            (is_thread self.now) (makes self.now) shared.now thread.now n z }
         ensures { IfOk result (λ o. (z : State X T)
             → IsThreadOf (system self.now) (beginning self.now) (count self.now) (shares self.now) (is_thread self.now) (makes self.now)
             shared.now thread.now n z
-            → IsEventOf (system self.now) (beginning self.now) (count self.now) (shares self.now) (is_thread self.now) (makes self.now) z n o) };
+            → IsEventOf (system self.now) (beginning self.now) (count self.now) (shares self.now) (is_thread self.now)
+            (makes self.now) z n o) };
 
     /// Where thread m comes to rest after an event of thread n, or nothing where it cannot tell that.
     fn after(
@@ -92,7 +93,8 @@ pub trait Moves {
         flat: &Flat<Self::Shared, Self::Thread>,
     ) -> Result<Option<Self::Ending>, AllocError>
         requires { IsSomewhere (system self.now) (beginning self.now)
-            (IsFlat (system self.now) (beginning self.now) (count self.now) (shares self.now) (is_thread self.now) (makes self.now)) flat.now }
+            (IsFlat (system self.now) (beginning self.now) (count self.now) (shares self.now) (is_thread self.now) (makes self.now))
+            flat.now }
         ensures { IfOk result (HasEnded (system self.now) (beginning self.now)
             (IsFlat (system self.now) (beginning self.now) (count self.now) (shares self.now) (is_thread self.now) (makes self.now))
             (ends self.now) flat.now) };

@@ -16,10 +16,13 @@ fn threads_after<M: Moves>(
     n: usize,
     threads: &[M::Thread],
 ) -> Result<Option<Vec<M::Thread>>, AllocError>
-    requires { (z : State M.X M.T) × (e : M.E) × IsMadeBy (M.system system.now) (M.beginning system.now) (M.count system.now) (M.shares system.now)
+    requires { (z : State M.X M.T) × (e : M.E) × IsMadeBy (M.system system.now) (M.beginning system.now) (M.count system.now)
+        (M.shares system.now)
         (M.is_thread system.now) (M.makes system.now) made.now z n e × AreThreads (M.system system.now) (M.beginning system.now)
-        (M.count system.now) (M.shares system.now) (M.is_thread system.now) (M.makes system.now) threads.now z × (length threads.now ≡ M.count system.now) }
-    ensures { IfOk result (λ o. IfSome o (λ v. AllComeAfter (M.system system.now) (M.beginning system.now) (M.count system.now) (M.shares system.now)
+        (M.count system.now) (M.shares system.now) (M.is_thread system.now) (M.makes system.now) threads.now z
+        × (length threads.now ≡ M.count system.now) }
+    ensures { IfOk result (λ o. IfSome o (λ v. AllComeAfter (M.system system.now) (M.beginning system.now) (M.count system.now)
+        (M.shares system.now)
         (M.is_thread system.now) (M.makes system.now) made.now n threads.now v.items)) }
 {
     let mut after = Vec::new(alloc);
@@ -70,7 +73,8 @@ pub(crate) fn next_states<M: Moves>(
 ) -> Result<Option<Vec<Flat<M::Shared, M::Thread>>>, AllocError>
     requires { IsSomewhere (M.system system.now) (M.beginning system.now) (IsFlat (M.system system.now) (M.beginning system.now)
         (M.count system.now) (M.shares system.now) (M.is_thread system.now) (M.makes system.now)) flat.now }
-    ensures { IfOk result (λ o. IfSome o (λ v. HasNext (M.system system.now) (M.beginning system.now) (IsFlat (M.system system.now) (M.beginning system.now)
+    ensures { IfOk result (λ o. IfSome o (λ v. HasNext (M.system system.now) (M.beginning system.now)
+        (IsFlat (M.system system.now) (M.beginning system.now)
         (M.count system.now) (M.shares system.now) (M.is_thread system.now) (M.makes system.now)) flat.now v.items)) }
 {
     let mut all = Vec::new(alloc);

@@ -49,8 +49,9 @@ impl<M: Moves> SettledStates for States<'_, M> {
 
     ghost over = { λ t. M.over t.system.now };
 
-    ghost same = { λ t x y e w. flat_alike M.Shared.eq M.Thread.eq (M.system t.system.now) (M.beginning t.system.now) (M.count t.system.now)
-        (M.shares t.system.now) (M.is_thread t.system.now) (M.makes t.system.now) (M.same_shared t.system.now) (M.same_thread t.system.now) x y w e };
+    ghost same = { λ t x y e w. flat_alike M.Shared.eq M.Thread.eq (M.system t.system.now)
+        (M.beginning t.system.now) (M.count t.system.now) (M.shares t.system.now) (M.is_thread t.system.now) (M.makes t.system.now)
+        (M.same_shared t.system.now) (M.same_thread t.system.now) x y w e };
 
     fn first(&self, alloc: Global) -> Result<Option<Flat<M::Shared, M::Thread>>, AllocError> {
         self.system.first(alloc)
@@ -79,8 +80,8 @@ pub fn search_all<M: Moves>(
     system: &M,
     most: usize,
 ) -> Result<Ended<M::Ending>, AllocError>
-    ensures all { IfOk result (λ r. r.verdict ≡ Verdict.All → HasAllEnds (StepsBy (M.system system.now)) (IsFirstOf (M.beginning system.now))
-        (M.ends system.now) M.Ending.eq r.endings.keys) }
+    ensures all { IfOk result (λ r. r.verdict ≡ Verdict.All
+        → HasAllEnds (StepsBy (M.system system.now)) (IsFirstOf (M.beginning system.now)) (M.ends system.now) M.Ending.eq r.endings.keys) }
     ensures sound { IfOk result (λ r. AreEnds (StepsBy (M.system system.now)) (IsFirstOf (M.beginning system.now)) (M.ends system.now)
         r.endings.keys) }
 {

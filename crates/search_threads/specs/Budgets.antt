@@ -5,7 +5,8 @@ use Rattle.schedule.specs.ThreadRun.{Laws}
 use Rattle.schedule.specs.Scheduled.{scheduled_run, entries_made}
 use Rattle.schedule.specs.Histories.{Place, Place.Unstarted, places_after, shared_after}
 use Rattle.schedule.specs.Schedules.{ThreadsRun, Makes}
-use Rattle.schedule.specs.Machine.{Machine, MachineLaws, Thread, Thread.Absent, Thread.Runs, Thread.Over, Thread.Leaves, Thread.Left, system}
+use Rattle.schedule.specs.Machine.{Machine, MachineLaws, Thread, Thread.Absent, Thread.Runs, Thread.Over, Thread.Leaves}
+use Rattle.schedule.specs.Machine.{Thread.Left, system}
 use Rattle.search_threads.specs.Unlimited.{Unlimited, Unlimited.Missing, Unlimited.Going, Unlimited.Leaving, Unlimited.Away, unlimited}
 
 -- A thread, its units aside. One that stopped for want of them or for a full log is away.
@@ -71,7 +72,8 @@ module _ {C E V A O X : Type 0} (k : Machine C E V A O) (reply : X → ℕ → E
   NobodyStops ends = (m left : ℕ) (o : O) → ends m ≡ Left o left → (o ≡ k.out_of_fuel) ⊎ (o ≡ k.record_full) → ⊥
 
   -- Turns alone, by which threads without a budget make the history, and come to the same ends.
-  pub record RunsUnlimited (x : X) (first : ℕ → Option C) (places : ℕ → Place A) (ends : ℕ → Thread C O) (H : List (Entry E V A)) : Type 0 where
+  pub record RunsUnlimited (x : X) (first : ℕ → Option C) (places : ℕ → Place A) (ends : ℕ → Thread C O)
+      (H : List (Entry E V A)) : Type 0 where
     pub turns : List ℕ
     pub makes : Makes without_budget (first_state_without x first) H (turns_of turns)
     pub shared : (scheduled_run without_budget (first_state_without x first) (turns_of turns)).shared ≡ shared_after without_budget x H
@@ -102,7 +104,8 @@ RunsWithoutStopsNeedNoBudget C E V A O X =
     → (reply : X → ℕ → E → V) (after : X → ℕ → E → X) (gives : X → ℕ → E → ℕ → Option A) (starts : X → ℕ → E → ℕ → Option C)
     → (fuel : ℕ) (x : X) (first : ℕ → Option C) (places : ℕ → Place A) (steps : ℕ → List (Step E V A)) (ends : ℕ → Thread C O)
     → (H : List (Entry E V A))
-    → ThreadsRun (with_budget k reply after gives starts fuel) (first_state_with k reply after gives starts fuel x first) places steps ends H
+    → ThreadsRun (with_budget k reply after gives starts fuel) (first_state_with k reply after gives starts fuel x first)
+    places steps ends H
     → NobodyStops k reply after gives starts ends
     → RunsUnlimited k reply after gives starts x first places ends H
 
