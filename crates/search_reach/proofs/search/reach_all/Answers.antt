@@ -1,0 +1,22 @@
+use Rattle.std.proofs.Common.{sym}
+use Rattle.search_reach.proofs.Searching.{if_some_at, explored-is_met, explored-next, explored-end}
+use Rattle.search_reach.proofs.search.reach_all.Goals as goal
+
+pub next-requires : goal.next-requires
+next-requires g c =
+    explored-is_met (g.T.Explores.stands c.args.system.now) (g.T.Explores.steps c.args.system.now) (g.T.Explores.begins c.args.system.now)
+    c.loop-state.met.keys c.loop-state.at c.in-Some-get_index.state.now c.loop-state.invariant.explored (sym c.in-Some-get_index.ensures.key)
+
+pub loop-state-preserved : goal.loop-state-preserved
+loop-state-preserved g c = record {
+  explored = explored-next g.T.State.PartialEq.eq (g.T.Explores.stands c.args.system.now) (g.met.T.Explores.same c.args.system.now)
+      (g.T.Explores.steps c.args.system.now) (g.T.Explores.begins c.args.system.now)
+      c.loop-state.met.keys c.add_all.new.met.keys c.in-Some-2.after.items c.loop-state.at c.in-Some-get_index.state.now
+      c.loop-state.invariant.explored (sym c.in-Some-get_index.ensures.key) (if_some_at _ _ _ c.in-Some-2.is c.in_ok-after.ensures) c.in_ok-add_all.ensures.met;
+  from = c.in_ok-add_all.ensures.from;
+}
+
+pub returns-clause-all : goal.returns-clause-all
+returns-clause-all g c _ =
+    explored-end (g.T.Explores.stands c.args.system.now) (g.T.Explores.steps c.args.system.now) (g.T.Explores.begins c.args.system.now)
+    c.loop-state.met.keys c.loop-state.at c.loop-state.invariant.explored (sym c.in_default-get_index.ensures.key)

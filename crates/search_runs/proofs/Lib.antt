@@ -1,0 +1,4 @@
+pub mod Same
+pub mod Orderly
+pub mod Tame
+pub mod Ending

@@ -1,0 +1,27 @@
+//! The runs of a module's threads, as a search goes through them: without budgets.
+//!
+//! Each function here does nothing, and its contract is a law.
+//!
+//! - `specs/Called.antt`: the threads of a module without budgets, over the sequential memory and the wait queue.
+//! - `specs/Ends.antt`: how they have ended.
+//! - `specs/Theorems.antt`: how their ends stand to those of runs.
+#![tactic(auto)]
+
+ghost use Rattle.search_runs.specs.Theorems.{ThreadsAreTame, EveryRunEndsSo, EveryEndIsScheduled};
+
+/// Wherever these threads come, an event gives answers to its own thread or to one that awaits it, and threads 0 to 15 alone make
+/// turns of their own.
+pub fn threads_are_tame()
+    ensures { ThreadsAreTame }
+{}
+
+/// However threads ran together, where none of them stopped for want of units or for a full log, threads without budgets can
+/// end as they did.
+pub fn every_run_ends_so()
+    ensures { EveryRunEndsSo }
+{}
+
+/// What threads without budgets can come to, the scheduled machine comes to along some turns, with some budget.
+pub fn every_end_is_scheduled()
+    ensures { EveryEndIsScheduled }
+{}

@@ -1,0 +1,4 @@
+pub mod Resting
+pub mod Reaching
+pub mod Stepping
+pub mod Laws

@@ -1,0 +1,20 @@
+//! Settled states: a search over the turns of threads needs to look only where no thread wants a turn of its own.
+//!
+//! A thread's own turns change nobody else. So whoever goes through all runs of threads goes from settled state to settled state:
+//! one thread makes the event that it wants, and then each makes its turns of its own. It is stated over any system of threads
+//! (crate `schedule`), and searched by crate `search_reach`.
+//!
+//! - `specs/Settled.antt`: where threads come to rest, and what is asked of a system: answers go to who awaits them, and only some
+//!   threads make turns.
+//! - `specs/Next.antt`: what a settled state stands for, and which settled states come next.
+//! - `SettledStates` is what a system supplies, and `endings_of_turns` the search: at `Verdict::All` the list has the ending of each
+//!   run, whatever the order of the turns.
+//! - `proofs/Resting.antt` and `proofs/Stepping.antt`: a turn from what comes to rest in a state stays there, or is the event of a
+//!   thread that rests. `proofs/Reaching.antt`: where threads come to rest can be reached, by their own turns.
+#![tactic(auto)]
+
+mod settled;
+mod turns;
+
+pub use settled::SettledStates;
+pub use turns::endings_of_turns;

@@ -1,0 +1,89 @@
+//! The next states: of each thread that wants an event, what comes of it.
+ghost use Rattle.std.specs.Prelude.{◌≡◌, ◌+◌, ℕ, length, true, Some, IfOk, IfSome};
+ghost use Rattle.std.specs.List.{slice_get};
+ghost use Rattle.schedule.specs.System.{State};
+ghost use Rattle.search_settled.specs.Next.{IsSomewhere, HasNext};
+ghost use Rattle.search_states.specs.Flat.{IsFlat, IsMadeBy, AreThreads, AllComeAfter, HasNextBelow};
+
+use crate::{Flat, Moves};
+use std::alloc::{AllocError, Global};
+
+/// Where all threads come to rest after an event of thread n.
+fn threads_after<M: Moves>(
+    alloc: Global,
+    system: &M,
+    made: &M::Made,
+    n: usize,
+    threads: &[M::Thread],
+) -> Result<Option<Vec<M::Thread>>, AllocError>
+    requires { (z : State M.X M.T) × (e : M.E) × IsMadeBy (M.system system.now) (M.beginning system.now) (M.count system.now)
+        (M.shares system.now)
+        (M.is_thread system.now) (M.makes system.now) made.now z n e × AreThreads (M.system system.now) (M.beginning system.now)
+        (M.count system.now) (M.shares system.now) (M.is_thread system.now) (M.makes system.now) threads.now z
+        × (length threads.now ≡ M.count system.now) }
+    ensures { IfOk result (λ o. IfSome o (λ v. AllComeAfter (M.system system.now) (M.beginning system.now) (M.count system.now)
+        (M.shares system.now)
+        (M.is_thread system.now) (M.makes system.now) made.now n threads.now v.items)) }
+{
+    let mut after = Vec::new(alloc);
+    let mut m: usize = 0;
+    while let Some(thread) = threads.get(m) {
+        let Some(rested) = system.after(alloc, made, n, thread, m)? else {
+            return Ok(None);
+        };
+        after.push(rested)?;
+        m += 1;
+    }
+    Ok(Some(after))
+}
+
+/// Puts the next state by the event of thread n, if it wants one, behind those of the threads before it. It answers no where it
+/// cannot tell that state.
+fn put_next<M: Moves>(
+    alloc: Global,
+    system: &M,
+    flat: &Flat<M::Shared, M::Thread>,
+    thread: &M::Thread,
+    n: usize,
+    all: &mut Vec<Flat<M::Shared, M::Thread>>,
+) -> Result<bool, AllocError>
+    requires somewhere { IsSomewhere (M.system system.now) (M.beginning system.now) (IsFlat (M.system system.now) (M.beginning system.now)
+        (M.count system.now) (M.shares system.now) (M.is_thread system.now) (M.makes system.now)) flat.now }
+    requires thread { slice_get flat.now.threads.items n ≡ Some thread.now }
+    ensures { IfOk result (λ told. told ≡ true → HasNextBelow (M.system system.now) (M.beginning system.now)
+        (M.count system.now) (M.shares system.now) (M.is_thread system.now) (M.makes system.now) flat.now n all.old.items
+        → HasNextBelow (M.system system.now) (M.beginning system.now)
+        (M.count system.now) (M.shares system.now) (M.is_thread system.now) (M.makes system.now) flat.now (n + 1) all.new.items) }
+{
+    let Some((shared, made)) = system.event(alloc, &flat.shared, thread, n)? else {
+        return Ok(true);
+    };
+    let Some(threads) = threads_after(alloc, system, &made, n, flat.threads.as_slice())? else {
+        return Ok(false);
+    };
+    all.push(Flat { shared, threads })?;
+    Ok(true)
+}
+
+/// The next states of a settled state.
+pub(crate) fn next_states<M: Moves>(
+    alloc: Global,
+    system: &M,
+    flat: &Flat<M::Shared, M::Thread>,
+) -> Result<Option<Vec<Flat<M::Shared, M::Thread>>>, AllocError>
+    requires { IsSomewhere (M.system system.now) (M.beginning system.now) (IsFlat (M.system system.now) (M.beginning system.now)
+        (M.count system.now) (M.shares system.now) (M.is_thread system.now) (M.makes system.now)) flat.now }
+    ensures { IfOk result (λ o. IfSome o (λ v. HasNext (M.system system.now) (M.beginning system.now)
+        (IsFlat (M.system system.now) (M.beginning system.now)
+        (M.count system.now) (M.shares system.now) (M.is_thread system.now) (M.makes system.now)) flat.now v.items)) }
+{
+    let mut all = Vec::new(alloc);
+    let mut n: usize = 0;
+    while let Some(thread) = flat.threads.get(n) {
+        if !put_next(alloc, system, flat, thread, n, &mut all)? {
+            return Ok(None);
+        }
+        n += 1;
+    }
+    Ok(Some(all))
+}

@@ -1,0 +1,90 @@
+//! All endings of threads that are moved one by one.
+ghost use Rattle.std.specs.Prelude.{◌≡◌, IfOk};
+ghost use Rattle.search_reach.specs.Search.{HasAllEnds, AreEnds};
+ghost use Rattle.search_settled.specs.Settled.{StepsBy};
+ghost use Rattle.search_settled.specs.Next.{IsFirstOf};
+
+use crate::next::next_states;
+use crate::{Flat, Moves};
+use search_reach::{Ended, Verdict};
+use search_settled::{SettledStates, endings_of_turns};
+use std::alloc::{AllocError, Global};
+
+/// The settled states of such a system.
+#[derive(Drop)]
+struct States<'s, M> {
+    system: &'s M,
+}
+
+impl<M: Moves> SettledStates for States<'_, M> {
+    ghost use Rattle.search_states.specs.Flat.{IsFlat};
+    ghost use Rattle.search_states.specs.Same.{flat_alike};
+
+    type Settled = Flat<M::Shared, M::Thread>;
+
+    type Ending = M::Ending;
+
+    ghost Shared = { M.X };
+
+    ghost Thread = { M.T };
+
+    ghost Event = { M.E };
+
+    ghost Reply = { M.V };
+
+    ghost Answer = { M.A };
+
+    ghost system = { λ t. M.system t.system.now };
+
+    ghost beginning = { λ t. M.beginning t.system.now };
+
+    ghost is = { λ t. IsFlat (M.system t.system.now) (M.beginning t.system.now) (M.count t.system.now) (M.shares t.system.now)
+        (M.is_thread t.system.now) (M.makes t.system.now) };
+
+    ghost ends = { λ t. M.ends t.system.now };
+
+    ghost count = { λ t. M.count t.system.now };
+
+    ghost tame = { λ t. M.tame t.system.now };
+
+    ghost over = { λ t. M.over t.system.now };
+
+    ghost same = { λ t x y e w. flat_alike M.Shared.eq M.Thread.eq (M.system t.system.now)
+        (M.beginning t.system.now) (M.count t.system.now) (M.shares t.system.now) (M.is_thread t.system.now) (M.makes t.system.now)
+        (M.same_shared t.system.now) (M.same_thread t.system.now) x y w e };
+
+    fn first(&self, alloc: Global) -> Result<Option<Flat<M::Shared, M::Thread>>, AllocError> {
+        self.system.first(alloc)
+    }
+
+    fn next(
+        &self,
+        alloc: Global,
+        settled: &Flat<M::Shared, M::Thread>,
+    ) -> Result<Option<Vec<Flat<M::Shared, M::Thread>>>, AllocError> {
+        next_states(alloc, self.system, settled)
+    }
+
+    fn ending(
+        &self,
+        alloc: Global,
+        settled: &Flat<M::Shared, M::Thread>,
+    ) -> Result<Option<M::Ending>, AllocError> {
+        self.system.ending(alloc, settled)
+    }
+}
+
+/// The endings of all runs of threads, whatever the order of their turns; it meets no more than `most` settled states and a few.
+pub fn search_all<M: Moves>(
+    alloc: Global,
+    system: &M,
+    most: usize,
+) -> Result<Ended<M::Ending>, AllocError>
+    ensures all { IfOk result (λ r. r.verdict ≡ Verdict.All
+        → HasAllEnds (StepsBy (M.system system.now)) (IsFirstOf (M.beginning system.now)) (M.ends system.now) M.Ending.eq r.endings.keys) }
+    ensures sound { IfOk result (λ r. AreEnds (StepsBy (M.system system.now)) (IsFirstOf (M.beginning system.now)) (M.ends system.now)
+        r.endings.keys) }
+{
+    let states = States { system };
+    endings_of_turns(alloc, &states, most)
+}
