@@ -16,13 +16,21 @@ abbrev pub Behind : Bounds → List (ℕ × List ℕ) → List ℕ → List ℕ 
 Behind s [] bytes rest = rest ≡ bytes
 Behind s (x ∷ xs) bytes rest = (mid : List ℕ) × (section_at s bytes ≡ Ok (x, mid)) × Behind s xs mid rest
 
--- Behind the first eight bytes of a module, and then behind some sections, stands this one.
-pub record HasSection (bytes : List ℕ) (id : ℕ) (contents : List ℕ) : Type 0 where
+-- Behind some sections stands this one.
+pub record HasPart (s : Bounds) (bytes : List ℕ) (id : ℕ) (contents : List ℕ) : Type 0 where
   pub before : List (ℕ × List ℕ)
   pub left : List ℕ
   pub rest : List ℕ
-  pub behind : Behind (input bytes) before (drop 8 bytes) left
-  pub stands : section_at (input bytes) left ≡ Ok ((id, contents), rest)
+  pub behind : Behind s before bytes left
+  pub stands : section_at s left ≡ Ok ((id, contents), rest)
+
+-- The first eight bytes of a module are its header.
+abbrev pub HasSection : List ℕ → ℕ → List ℕ → Type 0
+HasSection bytes id contents = HasPart (input bytes) (drop 8 bytes) id contents
+
+-- Subsections have the form of sections, without a header.
+abbrev pub HasSubsection : List ℕ → ℕ → List ℕ → Type 0
+HasSubsection bytes id contents = HasPart (input bytes) bytes id contents
 
 -- A size and that many bytes of a name, and these bytes behind it.
 pub record IsNamed (bytes name contents : List ℕ) : Type 0 where

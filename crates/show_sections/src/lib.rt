@@ -6,4 +6,4 @@
 
 mod sections;
 
-pub use sections::{Section, custom_section, next_section, section_of};
+pub use sections::{Section, custom_section, next_section, section_of, subsection_of};

@@ -3,7 +3,7 @@
 ghost use Rattle.std.specs.Prelude.{◌≡◌, ◌+◌, length, drop, IfOk, IfSome};
 ghost use Rattle.binary_wire.specs.Reading.{Gives};
 ghost use Rattle.binary_wire.specs.Faults.{input};
-ghost use Rattle.show_sections.specs.Sections.{section_at, HasSection, IsNamed, HasCustom};
+ghost use Rattle.show_sections.specs.Sections.{section_at, HasPart, HasSection, HasSubsection, IsNamed, HasCustom};
 
 use binary_wire::{Reader, Refusal};
 
@@ -41,13 +41,12 @@ fn behind_header(bytes: &[u8]) -> Result<Reader<'_>, Refusal>
     Ok(reader)
 }
 
-/// The first section of an id.
-pub fn section_of(bytes: &[u8], id: u8) -> Option<Section<'_>>
-    ensures { IfSome result (λ s. HasSection bytes.now id s.contents.now) }
+/// The first section of an id, among at most so many.
+fn find<'a>(reader: &mut Reader<'a>, id: u8, most: usize) -> Option<Section<'a>>
+    ensures { IfSome result (λ s. HasPart reader.old.bounds reader.old.rest.now id s.contents.now) }
 {
-    let mut reader = behind_header(bytes).ok()?;
-    for _ in 0..bytes.len() {
-        let found = match next_section(&mut reader) {
+    for _ in 0..most {
+        let found = match next_section(reader) {
             Ok(found) => found,
             Err(_) => return None,
         };
@@ -56,6 +55,22 @@ pub fn section_of(bytes: &[u8], id: u8) -> Option<Section<'_>>
         }
     }
     None
+}
+
+/// The first section of an id.
+pub fn section_of(bytes: &[u8], id: u8) -> Option<Section<'_>>
+    ensures { IfSome result (λ s. HasSection bytes.now id s.contents.now) }
+{
+    let mut reader = behind_header(bytes).ok()?;
+    find(&mut reader, id, bytes.len())
+}
+
+/// The first subsection of an id, in the contents of a section that is made of such, as the name section is.
+pub fn subsection_of(bytes: &[u8], id: u8) -> Option<Section<'_>>
+    ensures { IfSome result (λ s. HasSubsection bytes.now id s.contents.now) }
+{
+    let mut subsections = Reader::new(bytes);
+    find(&mut subsections, id, bytes.len())
 }
 
 /// The name at the front of a custom section's contents, and the bytes behind it.

@@ -4,3 +4,5 @@
 mod data;
 #[cfg(test)]
 mod lines;
+#[cfg(test)]
+mod places;
