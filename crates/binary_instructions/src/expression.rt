@@ -33,9 +33,10 @@ pub fn read_expression(reader: &mut Reader, alloc: Global) -> Result<Sequence<In
     Err(reader.missing().into())
 }
 
-/// The next instruction. The open blocks are then those behind it.
+/// The next instruction. The open blocks are then those behind it; of each is kept, the innermost last, whether it is an
+/// `if` that may still have an `else`.
 #[tactic(auto, unfolding(crate::specs::Reading::instr_at))]
-fn read_instr(
+pub fn read_instr(
     reader: &mut Reader,
     alloc: Global,
     open_blocks: &mut Vec<bool>,

@@ -4,6 +4,8 @@
 mod dispatch;
 mod entry;
 mod opening;
+mod place;
 mod thread;
 
+pub use place::Place;
 pub use thread::Thread;

@@ -22,7 +22,7 @@ mod walking;
 pub use end::EndState;
 pub use ends::first_wrong_end;
 pub use fault::ReplayFault;
-pub use replaying::replay;
+pub use replaying::{replay, replay_watched};
 pub use verdicts::{
     agreeing_records_are_of_runs, logs_of_runs_are_legal, no_run_has_a_misfit,
     no_run_has_a_wrong_end, runs_end_in_one_memory, wrong_ends_are_of_no_run,

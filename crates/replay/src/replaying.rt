@@ -8,7 +8,9 @@ use crate::end::EndState;
 use crate::fault::ReplayFault;
 use crate::threads::threads_of;
 use crate::walking::walk;
+use interp::Thread;
 use replay_text::Record;
+use replay_walk::{Unwatched, Watch};
 use shared_memory_sequential::OneMemory;
 use std::alloc::Global;
 use validate::ValidModule;
@@ -28,11 +30,28 @@ pub fn replay(alloc: Global, module: &ValidModule, record: &Record) -> Result<En
     ensures fault { IfErr result (λ fault. IsReplayFault «module».now.parts «record».now fault) }
     ensures none { IfErr result (λ fault. ShowsNoRun «module».now.parts «record».now fault) }
 {
+    replay_watched(alloc, module, record, &mut Unwatched)
+}
+
+/// The same, while `watch` sees the walk along the record's log, up to the first entry that doesn't fit.
+///
+/// # Errors
+/// As of `replay`.
+pub fn replay_watched<'m, W: Watch<Thread<'m>>>(
+    alloc: Global,
+    module: &'m ValidModule,
+    record: &Record,
+    watch: &mut W,
+) -> Result<EndState, ReplayFault>
+    ensures run { IfOk result (λ end. IsRunOf «module».now.parts «record».now end) }
+    ensures fault { IfErr result (λ fault. IsReplayFault «module».now.parts «record».now fault) }
+    ensures none { IfErr result (λ fault. ShowsNoRun «module».now.parts «record».now fault) }
+{
     has_distinct_names(module);
     let parts = record.parts();
     let threads = threads_of(alloc, module, parts)?;
     let ends = Vec::from_slice(alloc, parts.ends.as_slice())?;
-    let memory = walk(threads, opening(alloc, module)?, parts)?;
+    let memory = walk(threads, opening(alloc, module)?, parts, watch)?;
     Ok(EndState {
         threads: ends,
         pages: parts.pages,

@@ -9,7 +9,7 @@ use crate::fault::ReplayFault;
 use crate::first_wrong_end;
 use interp_trait::TakesTurns;
 use replay_text::RecordParts;
-use replay_walk::Walk;
+use replay_walk::{Walk, Watch};
 use shared_memory_sequential::OneMemory;
 
 /// The line of the first entry.
@@ -23,14 +23,15 @@ fn line_at(first: usize, behind: usize) -> u32
     (first + behind) as u32
 }
 
-/// Walks along a record's log, then compares the lines behind it, and gives the memory in the end.
+/// Walks along a record's log, then compares the lines behind it, and gives the memory in the end. `watch` sees the walk.
 ///
 /// # Errors
 /// `Line` where an entry doesn't fit, and `EndLine` where all do and a line behind them doesn't: the first such line.
-pub(crate) fn walk<T: TakesTurns + Drop>(
+pub(crate) fn walk<T: TakesTurns + Drop, W: Watch<T>>(
     threads: Vec<T>,
     memory: OneMemory,
     parts: &RecordParts,
+    watch: &mut W,
 ) -> Result<OneMemory, ReplayFault>
     requires ranges { IsRecord parts.now }
     requires ready { (run : Run) × IsReadyFor T.meaning run parts.now threads.items memory }
@@ -41,7 +42,7 @@ pub(crate) fn walk<T: TakesTurns + Drop>(
 {
     let mut walk = Walk::new(threads, memory);
     let log = parts.log.as_slice();
-    if let Some(at) = walk.along(log, parts.limit, parts.fuel) {
+    if let Some(at) = walk.along_watched(log, parts.limit, parts.fuel, watch) {
         return Err(ReplayFault::Line(line_at(FIRST_ENTRY, at)));
     }
     let held = walk.memory.pages();

@@ -15,3 +15,4 @@ pub mod Taken
 pub mod Refused
 pub mod Along
 pub mod Begin
+pub mod Watched

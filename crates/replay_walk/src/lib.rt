@@ -18,7 +18,7 @@
 //! - `specs/Walked.antt` says how far a walk has come (`HasWalked`), and what it is to take one more entry (`HasTaken`).
 //! - `Walk::take` takes an entry: an answer heard, a leave, or another event. `proofs/Settled.antt` has the thread's turns of
 //!   its own, `proofs/Taken.antt` an entry that is taken, and `proofs/Refused.antt` one that doesn't fit.
-//! - `Walk::along` walks along a log, to its end or to the first entry that doesn't fit (`proofs/Along.antt`).
+//! - `Walk::along` and `Walk::along_watched` walk along a log, to its end or to the first entry that doesn't fit (`proofs/Along.antt`).
 #![tactic(auto)]
 
 mod equal;
@@ -26,9 +26,11 @@ mod settling;
 mod stage;
 mod turns;
 mod walk;
+mod watch;
 
 pub use equal::{is_same_answer, is_same_event, is_same_reply};
 pub use settling::settle;
 pub use stage::Stage;
 pub use turns::{settle_at, start_at, turn_at};
 pub use walk::Walk;
+pub use watch::{Unwatched, Watch};

@@ -9,7 +9,8 @@ ghost use Rattle.replay_text.specs.Conditions.{IsEntry};
 ghost use Rattle.replay_walk.specs.Standing.{Standing};
 ghost use Rattle.replay_walk.specs.Walked.{Run, HasThreads, IsRefused, IsReady, IsFirstMisfit, WalkStands, WalkTakes, WalkCame};
 
-use crate::{Stage, is_same_event, settle_at};
+use crate::watch::show_event;
+use crate::{Stage, Unwatched, Watch, is_same_event, settle_at};
 use interp_trait::{TakesTurns, Turn};
 use shared_memory_sequential::OneMemory;
 use types::{Answer, Entry, Event, Outcome, Question, Stop};
@@ -38,7 +39,14 @@ impl<T: TakesTurns> Walk<T> {
     }
 
     /// Takes the entry that stands behind `at` others, if it fits.
-    fn take(&mut self, entry: &Entry, at: usize, limit: u32, fuel: u64) -> bool
+    fn take<W: Watch<T>>(
+        &mut self,
+        entry: &Entry,
+        at: usize,
+        limit: u32,
+        fuel: u64,
+        watch: &mut W,
+    ) -> bool
         requires entry { IsEntry entry.now }
         requires standing { (s : Standing) × WalkStands T.meaning s self.old × (s.memory ≡ self.old.memory) × (s.budget ≡ fuel)
             × HasThreads s.program (length self.old.threads.items) }
@@ -51,7 +59,7 @@ impl<T: TakesTurns> Walk<T> {
         match entry.event {
             Event::Told(answer) => self.take_told(entry.thread, answer),
             Event::Ask(Question::Leave) => self.take_leave(entry, at, limit, fuel),
-            _ => self.take_event(entry, at, limit, fuel),
+            _ => self.take_event(entry, at, limit, fuel, watch),
         }
     }
 
@@ -85,7 +93,14 @@ impl<T: TakesTurns> Walk<T> {
     }
 
     /// Another event, for which the log has room: the thread wants this very one, and the memory gives this reply.
-    fn take_event(&mut self, entry: &Entry, at: usize, limit: u32, fuel: u64) -> bool
+    fn take_event<W: Watch<T>>(
+        &mut self,
+        entry: &Entry,
+        at: usize,
+        limit: u32,
+        fuel: u64,
+        watch: &mut W,
+    ) -> bool
         requires entry { IsEntry entry.now }
         requires kind { is_exempt entry.now.event ≡ false }
         requires standing { (s : Standing) × WalkStands T.meaning s self.old × (s.memory ≡ self.old.memory) × (s.budget ≡ fuel)
@@ -111,6 +126,7 @@ impl<T: TakesTurns> Walk<T> {
         if !is_same_event(wanted, event) {
             return false;
         }
+        show_event(watch, entry, threads, &self.memory);
         self.stage.make(threads, &mut self.memory, n, event, reply)
     }
 
@@ -136,11 +152,32 @@ impl<T: TakesTurns> Walk<T> {
         ensures misfit { (k : ℕ) → result ≡ Some k → (r : Run) → WalkCame T.meaning r [] self.old → r.limit ≡ limit
             → IsFirstMisfit r log.now k }
     {
+        self.along_watched(log, limit, fuel, &mut Unwatched)
+    }
+
+    /// Walks along a log from its beginning, to the first entry that doesn't fit, and gives that one's place, counted
+    /// from 0; or to the end of the log. `watch` sees it at each entry.
+    pub fn along_watched<W: Watch<T>>(
+        &mut self,
+        log: &[Entry],
+        limit: u32,
+        fuel: u64,
+        watch: &mut W,
+    ) -> Option<usize>
+        requires entries { All IsEntry log.now }
+        requires new { (r : Run) × WalkCame T.meaning r [] self.old × (r.budget ≡ fuel) × (r.limit ≡ limit) }
+        ensures whole { result ≡ None → (r : Run) → WalkCame T.meaning r [] self.old → r.limit ≡ limit
+            → WalkCame T.meaning r log.now self.new }
+        ensures misfit { (k : ℕ) → result ≡ Some k → (r : Run) → WalkCame T.meaning r [] self.old → r.limit ≡ limit
+            → IsFirstMisfit r log.now k }
+    {
         for (at, entry) in log.iter().enumerate() {
-            if !self.take(entry, at, limit, fuel) {
+            watch.came(at, self);
+            if !self.take(entry, at, limit, fuel, watch) {
                 return Some(at);
             }
         }
+        watch.came(log.len(), self);
         None
     }
 }

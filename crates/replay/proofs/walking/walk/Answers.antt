@@ -4,8 +4,8 @@ use Rattle.replay_walk.specs.Walked as walked
 use Rattle.replay.proofs.Deciding.{first_misfit, within_log, none_left, is_recorded, is_wrong, within_ends}
 use Rattle.replay.proofs.walking.walk.Goals as goal
 
-pub along-requires-clause-new : goal.along-requires-clause-new
-along-requires-clause-new g c = let ready = c.requires.ready.1 in
+pub along_watched-requires-clause-new : goal.along_watched-requires-clause-new
+along_watched-requires-clause-new g c = let ready = c.requires.ready.1 in
     (c.requires.ready.0, c.new-walk.ensures c.requires.ready.0 ready.ready, ready.budget, ready.limit)
 
 pub line_at-requires : goal.line_at-requires
@@ -32,7 +32,7 @@ pub line_at-requires-in-Some-first_wrong_end : goal.line_at-requires-in-Some-fir
 line_at-requires-in-Some-first_wrong_end g c =
     let run = c.requires.ready.0 in
     let ready = c.requires.ready.1 in
-    let w = c.along.ensures.whole (none_left c.along.result c.in_default.not-Some) run (c.new-walk.ensures run ready.ready) ready.limit in
+    let w = c.along_watched.ensures.whole (none_left c.along_watched.result c.in_default.not-Some) run (c.new-walk.ensures run ready.ready) ready.limit in
     let below = within_ends run c.args.parts.now ready.limit ready.budget c.as_slice-log.ensures c.deref.ensures.value w
     c.pages-held.ensures c.first_wrong_end.result c.first_wrong_end.ensures
     c.in-Some-first_wrong_end.at c.in-Some-first_wrong_end.is in
@@ -42,7 +42,7 @@ line_at-requires-in-Some-first_wrong_end g c =
 
 pub returns-in-Some-first_wrong_end-clause-fault : goal.returns-in-Some-first_wrong_end-clause-fault
 returns-in-Some-first_wrong_end-clause-fault g c = λ run ready.
-    let w = c.along.ensures.whole (none_left c.along.result c.in_default.not-Some) run (c.new-walk.ensures run ready.ready) ready.limit in
+    let w = c.along_watched.ensures.whole (none_left c.along_watched.result c.in_default.not-Some) run (c.new-walk.ensures run ready.ready) ready.limit in
     let wrong = is_wrong run c.args.parts.now ready.limit ready.budget c.as_slice-log.ensures c.deref.ensures.value w
     c.pages-held.ensures c.first_wrong_end.result c.first_wrong_end.ensures
     c.in-Some-first_wrong_end.at c.in-Some-first_wrong_end.is in
@@ -52,6 +52,6 @@ returns-in-Some-first_wrong_end-clause-fault g c = λ run ready.
 
 pub returns-in-None-clause-run : goal.returns-in-None-clause-run
 returns-in-None-clause-run g c = λ run ready.
-    let w = c.along.ensures.whole (none_left c.along.result c.in_default.not-Some) run (c.new-walk.ensures run ready.ready) ready.limit in
+    let w = c.along_watched.ensures.whole (none_left c.along_watched.result c.in_default.not-Some) run (c.new-walk.ensures run ready.ready) ready.limit in
     is_recorded run c.args.parts.now ready.limit ready.budget c.as_slice-log.ensures c.deref.ensures.value w
     c.pages-held.ensures c.first_wrong_end.result c.first_wrong_end.ensures c.in-None.is

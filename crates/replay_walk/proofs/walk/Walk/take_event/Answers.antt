@@ -1,4 +1,4 @@
-use Rattle.std.proofs.Common.{◌≡◌, List, length, sym, ◌∙◌, ap, subst}
+use Rattle.std.proofs.Common.{◌≡◌, arith, List, length, sym, ◌∙◌, ap, subst}
 use Rattle.std.proofs.lemmas.List.{take_at}
 use Rattle.types.specs.declared.event.Event.{Event}
 use Rattle.types.specs.declared.event.Reply.{Reply}
@@ -12,6 +12,7 @@ use Rattle.replay_walk.specs.Standing.{Says}
 use Rattle.replay_walk.specs.Walked.{IsRefused}
 use Rattle.replay_walk.proofs.Acts.{event_act, answered}
 use Rattle.replay_walk.proofs.Settled.{within, ready, settled}
+use Rattle.replay_walk.proofs.Watched.{wants_at}
 use Rattle.replay_walk.proofs.Taken.{room_for, can_event, took_as}
 use Rattle.replay_walk.proofs.Refused.{refused_gone, refused_full, refused_other, refused_reply}
 use Rattle.replay_walk.proofs.walk.Walk.take_event.Goals as goal
@@ -73,6 +74,27 @@ returns-then-not-is_same_event-clause-refused g c = λ no s st same.
     c.args.self.now.stage.started c.args.self.now.stage.ends st c.args.entry.now.thread c.args.limit
     c.args.at going c.settle_at.result c.settle_at.new.threads d c.args.entry.now.event c.args.entry.now.reply c.requires.kind
     (λ is. let apart : c.in-Wants.wanted ≡ c.args.entry.now.event = cc (is, c.in-Wants.is) in c.is_same_event.ensures.other c.if-not-is_same_event.true apart))
+
+pub show_event-requires-clause-within : goal.show_event-requires-clause-within
+show_event-requires-clause-within g c =
+    let s = c.requires.standing.0 in let st = c.requires.standing.1 in
+    let going = c.is_going.ensures.going c.if-not-is_going.false s c.args.self.now.threads.items st in
+    let before = within g.T.TakesTurns.meaning s c.args.self.now.threads.items c.args.self.now.stage.queue
+    c.args.self.now.stage.started c.args.self.now.stage.ends st c.args.entry.now.thread going
+    c.as_mut_slice-threads.result.now c.as_mut_slice-threads.ensures.value in
+    omega (arith, before, c.settle_at.ensures.count)
+
+pub show_event-requires-clause-wants : goal.show_event-requires-clause-wants
+show_event-requires-clause-wants g c = λ x at.
+    let s = c.requires.standing.0 in let st = c.requires.standing.1 in
+    let going = c.is_going.ensures.going c.if-not-is_going.false s c.args.self.now.threads.items st in
+    let d = settled g.T.TakesTurns.meaning s c.args.self.now.threads.items c.args.self.now.stage.queue
+    c.args.self.now.stage.started c.args.self.now.stage.ends st c.args.entry.now.thread going
+    c.as_mut_slice-threads.result.now c.as_mut_slice-threads.ensures.value c.settle_at.result c.settle_at.new.threads c.settle_at.ensures.settled in
+    let same : c.in-Wants.wanted ≡ c.args.entry.now.event = c.is_same_event.ensures.same c.if-not-is_same_event.false in
+    let says = subst (λ (t : Turn). Says s.program d.thread t) (c.in-Wants.is ∙ ap (λ (e : Event). turns.Wants e) same) d.says in
+    wants_at g.T.TakesTurns.meaning s c.settle_at.new.threads c.args.self.now.stage.queue c.args.self.now.stage.started
+    c.args.self.now.stage.ends c.args.entry.now.thread d.thread d.on c.args.entry.now.event says.0 says.1 x at
 
 pub make-requires-clause-event : goal.make-requires-clause-event
 make-requires-clause-event g c = c.requires.entry.event

@@ -1,6 +1,6 @@
 use Rattle.std.proofs.Common.{◌≡◌, [], take}
 use Rattle.replay_walk.specs.Walked.{Run, HasWalked}
-use Rattle.replay_walk.proofs.walk.Walk.along.Given as goal
+use Rattle.replay_walk.proofs.walk.Walk.along_watched.Given as goal
 
 abbrev pub invariant-loop-at : goal.invariant-loop-at
 invariant-loop-at g l =

@@ -1,7 +1,8 @@
-use Rattle.std.proofs.Common.{◌≡◌, ℕ, refl, subst}
+use Rattle.std.proofs.Common.{◌≡◌, ℕ, refl, subst, take, arith}
+use Rattle.std.proofs.lemmas.List.{length-take-le}
 use Rattle.replay_walk.specs.Walked.{IsFirstMisfit, standing_in}
 use Rattle.replay_walk.proofs.Along.{goes_in, stops_in, ends_in}
-use Rattle.replay_walk.proofs.walk.Walk.along.Goals as goal
+use Rattle.replay_walk.proofs.walk.Walk.along_watched.Goals as goal
 
 pub loop-at-init : goal.loop-at-init
 loop-at-init g c = λ r walked limit. walked
@@ -38,3 +39,9 @@ returns-clause-whole g c = λ none r walked limit.
     ends_in g.T.TakesTurns.meaning r c.args.log.now c.loop-at.self.threads.items c.loop-at.self.memory
     c.loop-at.self.stage.queue c.loop-at.self.stage.started c.loop-at.self.stage.ends c.loop-at.at
     c.args.limit limit w c.loop-at.auto.at-end c.loop-at-test.false
+
+pub came-requires : goal.came-requires
+came-requires g c =
+    let new = c.requires.new in
+    let w = c.loop-at.invariant new.0 new.1 new.3 in
+    (new.0, take c.loop-at.at c.args.log.now, length-take-le c.loop-at.at c.args.log.now (omega (arith, c.loop-at-test.true)), w)

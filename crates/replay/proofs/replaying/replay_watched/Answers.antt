@@ -8,10 +8,10 @@ use Rattle.replay_walk.specs.Walked.{start}
 use Rattle.replay.specs.Runs.{IsReplayFault, ShowsNoRun}
 use Rattle.replay.proofs.Ready.{can_begin}
 use Rattle.replay.proofs.Faults.{is_run, of_call, of_walk, no_run}
-use Rattle.replay.proofs.replaying.replay.Goals as goal
+use Rattle.replay.proofs.replaying.replay_watched.Goals as goal
 
 pub returns-in_err-threads-clause-fault : goal.returns-in_err-threads-clause-fault
-returns-in_err-threads-clause-fault c =
+returns-in_err-threads-clause-fault g c =
     let p = err_from_is_err_and c.from_residual.result c.from_residual.ensures.1 in
     let m = c.args.module.now.parts in
     let e = c.in_err-threads.field-0.0 in
@@ -19,7 +19,7 @@ returns-in_err-threads-clause-fault c =
     (of_call m c.parts-parts.result.now e c.in_err-threads.ensures.fault))
 
 pub returns-in_err-threads-clause-none : goal.returns-in_err-threads-clause-none
-returns-in_err-threads-clause-none c =
+returns-in_err-threads-clause-none g c =
     let p = err_from_is_err_and c.from_residual.result c.from_residual.ensures.1 in
     let m = c.args.module.now.parts in
     let r = c.parts-parts.result.now in
@@ -28,13 +28,13 @@ returns-in_err-threads-clause-none c =
     (no_run m r c.has_distinct_names.ensures e (of_call m r e c.in_err-threads.ensures.fault)))
 
 pub walk-requires-clause-ready : goal.walk-requires-clause-ready
-walk-requires-clause-ready c =
+walk-requires-clause-ready g c =
     let b = can_begin meaning_in c.args.module.now.parts c.parts-parts.result.now c.in_ok-threads.threads.items c.in_ok-opening.field-0
     c.in_ok-threads.ensures.threads c.in_ok-opening.ensures.opened in
     (b.run, b.ready)
 
 pub returns-in_err-memory-clause-fault : goal.returns-in_err-memory-clause-fault
-returns-in_err-memory-clause-fault c =
+returns-in_err-memory-clause-fault g c =
     let p = err_from_is_err_and c.from_residual-in_err-memory.result c.from_residual-in_err-memory.ensures.1 in
     let m = c.args.module.now.parts in
     let r = c.parts-parts.result.now in
@@ -44,7 +44,7 @@ returns-in_err-memory-clause-fault c =
     (of_walk m r b.beginning (start b.run) b.same e (c.in_err-memory.ensures.fault b.run b.ready)))
 
 pub returns-in_err-memory-clause-none : goal.returns-in_err-memory-clause-none
-returns-in_err-memory-clause-none c =
+returns-in_err-memory-clause-none g c =
     let p = err_from_is_err_and c.from_residual-in_err-memory.result c.from_residual-in_err-memory.ensures.1 in
     let m = c.args.module.now.parts in
     let r = c.parts-parts.result.now in
@@ -54,7 +54,7 @@ returns-in_err-memory-clause-none c =
     rw (p.1, p.2) (subst (λ (x : RecordParts). ShowsNoRun m x e) c.parts-parts.ensures.parts (no_run m r c.has_distinct_names.ensures e fault))
 
 pub returns-clause-run : goal.returns-clause-run
-returns-clause-run c =
+returns-clause-run g c =
     let m = c.args.module.now.parts in
     let r = c.parts-parts.result.now in
     let b = can_begin meaning_in m r c.in_ok-threads.threads.items c.in_ok-opening.field-0 c.in_ok-threads.ensures.threads c.in_ok-opening.ensures.opened in

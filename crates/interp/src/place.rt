@@ -1,0 +1,37 @@
+//! Where a thread stands: its place in its function, and its callers.
+
+use crate::thread::Thread;
+use interp_state::Caller;
+
+/// A place in a module: a function of the module itself, from 0, and the number of an instruction in its flat code.
+#[derive(Clone, Copy, PartialEq, Eq, Debug)]
+pub struct Place {
+    pub function: usize,
+    pub instr: usize,
+}
+
+impl Thread<'_> {
+    ghost use Rattle.std.specs.Prelude.{ℕ};
+    ghost use Rattle.schedule.specs.Machine.{Thread.Runs};
+    ghost use Rattle.interp_machine.specs.Config.{Config};
+    ghost use Rattle.interp_machine.specs.State.{At};
+    ghost use Rattle.interp.specs.Threads.{StandsFor};
+    ghost use Rattle.interp.specs.Places.{IsAtPlace, HasCallers};
+
+    /// Where the instruction stands that comes next in it; the one at which it ended, if it has.
+    pub fn place(&self) -> Place
+        ensures { (c : Config) (left : ℕ) → StandsFor self.now (Runs (At c) left) → IsAtPlace self.now.parts.now result.function result.instr c }
+    {
+        Place {
+            function: self.state.function,
+            instr: self.state.pc,
+        }
+    }
+
+    /// The functions that called the one that runs, the outermost first.
+    pub fn callers(&self) -> &[Caller]
+        ensures { (c : Config) (left : ℕ) → StandsFor self.now (Runs (At c) left) → HasCallers self.now.parts.now result.now c }
+    {
+        self.state.callers.as_slice()
+    }
+}

@@ -1,0 +1,47 @@
+//! Who looks on while a walk goes along a log.
+ghost use Rattle.std.specs.Prelude.{◌≡◌, ◌<◌, ℕ, List, length, Some};
+ghost use Rattle.std.specs.List.{slice_get};
+ghost use Rattle.types.specs.declared.event.Entry.{Entry};
+ghost use Rattle.interp_trait.specs.Turns.{Running, WantsEvent};
+ghost use Rattle.replay_walk.specs.Walked.{Run, WalkCame};
+
+use crate::walk::Walk;
+use interp_trait::TakesTurns;
+use shared_memory_sequential::OneMemory;
+use types::Entry;
+
+/// Sees a walk behind each of its entries, and each event before it is made.
+pub trait Watch<T: TakesTurns> {
+    /// The walk came along as many entries of a run's log. Threads haven't made the turns of their own behind their last
+    /// entries.
+    fn came(&mut self, entries: usize, walk: &Walk<T>)
+        requires { (r : Run) × (log : List Entry) × (length log ≡ entries) × WalkCame T.meaning r log walk.now };
+
+    /// The thread wants the event of this entry. The memory is as it is before it.
+    fn event(&mut self, entry: &Entry, thread: &T, memory: &OneMemory)
+        requires { (t : Running) × WantsEvent (T.meaning thread.now) entry.now.event t };
+}
+
+/// Nobody looks on.
+#[derive(Clone, Copy, PartialEq, Eq, Debug, Default)]
+pub struct Unwatched;
+
+impl<T: TakesTurns> Watch<T> for Unwatched {
+    fn came(&mut self, _entries: usize, _walk: &Walk<T>) {}
+
+    fn event(&mut self, _entry: &Entry, _thread: &T, _memory: &OneMemory) {}
+}
+
+/// Shows the event that is wanted by the thread of an entry.
+pub(crate) fn show_event<T: TakesTurns, W: Watch<T>>(
+    watch: &mut W,
+    entry: &Entry,
+    threads: &[T],
+    memory: &OneMemory,
+)
+    requires within { entry.now.thread < length threads.now }
+    requires wants { (x : T) → slice_get threads.now entry.now.thread ≡ Some x → (t : Running)
+        × WantsEvent (T.meaning x) entry.now.event t }
+{
+    watch.event(entry, &threads[entry.thread as usize], memory);
+}

@@ -1,0 +1,13 @@
+//! Lines of source of a module's code, from its custom section `.debug_line` (DWARF 4 and 5, section 6.2, of 32 bits).
+//!
+//! Nothing is asked of the section: what can't be read gives no line.
+#![tactic(auto)]
+
+mod cursor;
+mod fault;
+mod header;
+mod program;
+mod table;
+mod unit;
+
+pub use table::{DebugSections, LineTable, Range, read_lines};

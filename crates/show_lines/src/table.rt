@@ -1,0 +1,94 @@
+//! The table of lines of a module.
+
+ghost use Rattle.std.specs.Prelude.{◌≡◌, find, codes};
+ghost use Rattle.show_lines.specs.Lines.{holds};
+ghost use Rattle.show_lines.specs.Sections.{IsCustomOrEmpty};
+
+use crate::cursor::Cursor;
+use crate::fault::Fault;
+use crate::unit::read_unit;
+use show_sections::custom_section;
+use std::alloc::{AllocError, Global};
+
+/// Code that comes from one line of source: from an offset up to another, counted from the start of the code section's
+/// contents.
+#[derive(Clone, Copy, Debug, PartialEq, Eq)]
+pub struct Range<'a> {
+    pub start: u64,
+    pub end: u64,
+    /// As the compiler wrote it; empty where it isn't known.
+    pub directory: &'a str,
+    pub file: &'a str,
+    /// From 1 on.
+    pub line: u64,
+}
+
+/// The lines of a module's code.
+#[derive(Drop)]
+pub struct LineTable<'a> {
+    pub ranges: Vec<Range<'a>>,
+}
+
+impl<'a> LineTable<'a> {
+    /// The line of the code at an offset from the start of the code section's contents.
+    pub fn at(&self, offset: u64) -> Option<Range<'a>>
+        ensures { result ≡ find (holds offset) self.now.ranges.items }
+    {
+        for range in &self.ranges {
+            if range.start <= offset && offset < range.end {
+                return Some(*range);
+            }
+        }
+        None
+    }
+}
+
+/// The sections of a module that say where its code comes from; empty where there is none.
+#[derive(Clone, Copy, Debug, PartialEq, Eq)]
+pub struct DebugSections<'a> {
+    /// `.debug_line`
+    pub lines: &'a [u8],
+    /// `.debug_line_str`
+    pub line_texts: &'a [u8],
+    /// `.debug_str`
+    pub texts: &'a [u8],
+}
+
+fn custom_or_empty<'a>(bytes: &'a [u8], name: &[u8]) -> &'a [u8]
+    ensures { IsCustomOrEmpty bytes.now name.now result.now }
+{
+    custom_section(bytes, name).unwrap_or(&[])
+}
+
+impl<'a> DebugSections<'a> {
+    /// Those of a module.
+    pub fn of(bytes: &'a [u8]) -> DebugSections<'a>
+        ensures lines { IsCustomOrEmpty bytes.now (codes ".debug_line") result.lines.now }
+        ensures line_texts { IsCustomOrEmpty bytes.now (codes ".debug_line_str") result.line_texts.now }
+        ensures texts { IsCustomOrEmpty bytes.now (codes ".debug_str") result.texts.now }
+    {
+        DebugSections {
+            lines: custom_or_empty(bytes, b".debug_line"),
+            line_texts: custom_or_empty(bytes, b".debug_line_str"),
+            texts: custom_or_empty(bytes, b".debug_str"),
+        }
+    }
+}
+
+/// The lines of a module's code, as far as they can be read. A unit that can't be read has those that were read of it.
+pub fn read_lines<'a>(
+    alloc: Global,
+    sections: DebugSections<'a>,
+) -> Result<LineTable<'a>, AllocError> {
+    let mut ranges = Vec::new(alloc);
+    let mut cursor = Cursor::new(sections.lines);
+    // Each unit takes a byte at least.
+    for _ in 0..cursor.len() {
+        match read_unit(alloc, &mut cursor, sections, &mut ranges) {
+            Ok(()) => {}
+            Err(Fault::Unreadable) => break,
+            Err(Fault::OutOfMemory) => return Err(AllocError),
+        }
+    }
+    Ok(LineTable { ranges })
+}
