@@ -109,7 +109,8 @@ impl<M: SharedMemory, W: Wait + Drop> Desk<M, W> {
         ensures asked { IfOk result (Waits M.opening (M.limit memory.now) (M.name seat.old) addr width expected timeout
             (M.seen seat.old) (M.seen seat.new)) }
         ensures full { OnErr result (Refused M.opening (M.limit memory.now) (M.name seat.old) (M.seen seat.old) (M.seen seat.new)) }
-        ensures reads { IfOk result (WaitReads M.opening (M.name seat.old) addr width expected timeout (M.seen seat.old) (M.seen seat.new)) }
+        ensures reads { IfOk result (WaitReads M.opening (M.name seat.old) addr width expected timeout
+            (M.seen seat.old) (M.seen seat.new)) }
         ensures others { WaitsReadWhatNotifiersSaw M.opening (M.seen seat.new) }
     {
         let question = Question::Wait {
