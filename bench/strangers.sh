@@ -71,6 +71,25 @@ done
 ends 5 '' 'no memory' prlimit --as=40000000 ./wathread replay atomic_add.wasm line
 rm large line
 
+# Counts of 4294967295, where the system has 30 MB of addresses: nothing of that size is reserved.
+greatest='\xff\xff\xff\xff\x0f' opening='\x00\x61\x73\x6d\x01\x00\x00\x00'
+function='\x01\x04\x01\x60\x00\x00\x03\x02\x01\x00'
+while read -r fault before; do
+    printf '%b' "$opening" "$before" "$greatest" >swollen.wasm
+    ends 2 '' "module refused: read $fault at $(($(stat -c %s swollen.wasm) - (fault == 11 ? 5 : 0)))" \
+        prlimit --as=30000000 ./wathread check swollen.wasm
+done <<END
+11 \x01\x05
+11 \x01\x07\x01\x60
+5 \x02\x06\x01
+11 \x09\x0a\x01\x00\x41\x00\x0b
+5 \x0b\x0a\x01\x00\x41\x00\x0b
+5 \x00\x05
+1 \x01
+5 $function\x0a\x07\x01\x05
+5 $function\x0a\x09\x01\x07\x00\x0e
+END
+
 # Paths of files that are no files, or not there.
 mkdir folder closed
 head -c 20 atomic_add.wasm >cut.wasm

@@ -173,10 +173,26 @@ static SWOLLEN: [(&str, u8, usize); 23] = [
     ("0b 0a 01 00 41 00 0b ff ff ff ff 0f", 5, 20), // bytes of a segment
     ("00 05 ff ff ff ff 0f", 5, 15), // a custom section's name
     ("01 ff ff ff ff 0f", 1, 14), // a section's size
-    ("01 04 01 60 00 00 03 02 01 00 0a 06 01 ff ff ff ff 0f", 11, 21), // a body's size
-    ("01 04 01 60 00 00 03 02 01 00 0a 07 01 05 ff ff ff ff 0f", 5, 27), // groups of locals
-    ("01 04 01 60 00 00 03 02 01 00 0a 09 01 07 01 ff ff ff ff 0f 7f", 11, 23), // locals
-    ("01 04 01 60 00 00 03 02 01 00 0a 09 01 07 00 0e ff ff ff ff 0f", 5, 29), // labels
+    (
+        "01 04 01 60 00 00 03 02 01 00 0a 06 01 ff ff ff ff 0f",
+        11,
+        21,
+    ), // a body's size
+    (
+        "01 04 01 60 00 00 03 02 01 00 0a 07 01 05 ff ff ff ff 0f",
+        5,
+        27,
+    ), // groups of locals
+    (
+        "01 04 01 60 00 00 03 02 01 00 0a 09 01 07 01 ff ff ff ff 0f 7f",
+        11,
+        23,
+    ), // locals
+    (
+        "01 04 01 60 00 00 03 02 01 00 0a 09 01 07 00 0e ff ff ff ff 0f",
+        5,
+        29,
+    ), // labels
 ];
 
 fn outcomes_are<R: Abort>(rt: &R, alloc: Global, cases: &[(&str, u8, usize)]) -> Result<(), Fail> {

@@ -310,8 +310,15 @@ pub fn misused(alloc: Global, misuse: Misuse) -> Usage
     }
 }
 
+/// The error with its text, and the usage of the command whose words they are.
 fn error_of(alloc: Global, misuse: Misuse) -> Result<Error, AllocError> {
-    commands(alloc)?.error(misuse.kind(), misuse.text())
+    let mut usage = match misuse {
+        Misuse::NotText | Misuse::Unreadable => commands(alloc)?,
+        Misuse::RecordsWords | Misuse::ReplacesModule => {
+            run_command(alloc)?.bin_name("wathread run")?
+        }
+    };
+    usage.error(misuse.kind(), misuse.text())
 }
 
 /// Why the numbers and paths of a job don't go together, if they don't.

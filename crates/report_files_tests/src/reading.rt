@@ -31,8 +31,14 @@ fn no_more_is_read_than_was_asked(rt: HostRuntime) -> Result<(), Fail> {
 
 #[test]
 fn all_is_read_of_a_short_file(rt: HostRuntime) -> Result<(), Fail> {
-    assert_eq!(rt; read_front(rt.alloc(), b"abc".as_slice(), 4)?.as_slice(), b"abc".as_slice());
-    assert_eq!(rt; read_front(rt.alloc(), b"abc".as_slice(), 2)?.as_slice(), b"ab".as_slice());
+    assert_eq!(rt;
+        read_front(rt.alloc(), b"abc".as_slice(), 4)?.as_slice(),
+        b"abc".as_slice()
+    );
+    assert_eq!(rt;
+        read_front(rt.alloc(), b"abc".as_slice(), 2)?.as_slice(),
+        b"ab".as_slice()
+    );
     Ok(())
 }
 
@@ -60,7 +66,10 @@ fn files_are_read_in_part(rt: HostRuntime) -> Result<(), Fail> {
     fs::write(&rt, path.as_str(), "wathread-record 1\nand more\n")?;
     assert_eq!(rt; read_saved(&rt, &path).map(|it| it.len()), Ok(27));
     fs::remove_dir_all(&rt, room.as_path())?;
-    assert_eq!(rt; read_module(&rt, &path).map(|it| it.len()), Err(Unread::File));
+    assert_eq!(rt;
+        read_module(&rt, &path).map(|it| it.len()),
+        Err(Unread::File)
+    );
     assert_eq!(rt; read_saved(&rt, "/").map(|it| it.len()), Err(Unread::File));
     Ok(())
 }

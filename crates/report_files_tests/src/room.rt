@@ -1,8 +1,7 @@
 //! A folder for a test.
 
-use std::io;
 use std::path::PathBuf;
-use std::{env, fs, process};
+use std::{env, fs, io, process};
 
 /// Makes a folder of this name for this process alone.
 pub(crate) fn make_room(rt: &HostRuntime, name: &str) -> io::Result<PathBuf> {

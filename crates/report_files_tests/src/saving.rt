@@ -75,7 +75,9 @@ fn links_lead_to_one_file_and_stay(rt: HostRuntime) -> Result<(), Fail> {
     assert!(rt; is_one_file(&rt, &path, &link) && !is_one_file(&rt, &path, &other));
     assert!(rt; !is_one_file(&rt, "/", "/") && !is_one_file(&rt, "", ""));
     assert!(rt; save(&rt, &link, Some("old"), End::Kept)?);
-    assert!(rt; fs::symlink_metadata(&rt, link.as_str())?.is_symlink() && has(&rt, &path, Some("new")));
+    assert!(rt;
+        fs::symlink_metadata(&rt, link.as_str())?.is_symlink() && has(&rt, &path, Some("new"))
+    );
     fs::remove_dir_all(&rt, room.as_path())?;
     Ok(())
 }

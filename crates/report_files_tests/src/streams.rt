@@ -20,7 +20,10 @@ impl Write for Failing {
 
 #[test]
 fn a_closed_stream_is_told_from_a_full_one(rt: HostRuntime) -> Result<(), Fail> {
-    for (kind, is_closed) in [(ErrorKind::BrokenPipe, true), (ErrorKind::StorageFull, false)] {
+    for (kind, is_closed) in [
+        (ErrorKind::BrokenPipe, true),
+        (ErrorKind::StorageFull, false),
+    ] {
         let mut stream = Noted::new(Failing(kind));
         assert!(rt; !stream.is_closed());
         assert!(rt; stream.write(b"x").is_err());
