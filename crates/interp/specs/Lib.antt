@@ -1,3 +1,4 @@
 pub mod Places
+pub mod Shown
 pub mod Starts
 pub mod Threads
