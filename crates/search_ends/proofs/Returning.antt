@@ -1,5 +1,5 @@
 -- What runs return is reached.
-use Rattle.std.proofs.Common.{◌≡◌, ◌≢◌, ℕ, ◌+◌, Bool, List, [], length, take, Option, Some, None, refl, sym, ◌∙◌, ap, subst}
+use Rattle.std.proofs.Common.{◌≡◌, ℕ, Bool, List, [], take, Option, Some, None, refl, sym, ◌∙◌, ap, subst}
 use Rattle.std.specs.Prelude.{map}
 use Rattle.std.specs.List.{slice_get}
 use Rattle.std.specs.Option.{option_map}
@@ -16,7 +16,7 @@ use Rattle.validate_typing.specs.Validity.{HasDistinctNames}
 use Rattle.schedule.specs.System as systems
 use Rattle.schedule_threads.specs.Shared.{Shared}
 use Rattle.schedule_runs.specs.Runs.{Start, RanTogether}
-use Rattle.spawn_host.specs.Runs.{Beginning, start_by, opening_memory, IsRunHistory, Tells}
+use Rattle.spawn_host.specs.Runs.{start_by, opening_memory, IsRunHistory}
 use Rattle.replay_text.specs.declared.parts.RecordParts.{RecordParts}
 use Rattle.replay.specs.declared.end.EndState.{EndState}
 use Rattle.replay.proofs.Same.{same_start}
@@ -25,7 +25,7 @@ use Rattle.search_runs.specs.Called.{Called, Walker, with_fuel}
 use Rattle.search_runs.specs.Ends.{HasEndedSo}
 use Rattle.search_runs.specs.Theorems.{CanReach, IsEndingOf}
 use Rattle.search_runs.proofs.Ending.{every_run_ends_so}
-use Rattle.search_ends.specs.Returned.{IsCall, HadEnough, AllHadEnough, outcome_in, ending_of, WhatRunsReturnIsReached}
+use Rattle.search_ends.specs.Returned.{IsCall, AllHadEnough, outcome_in, ending_of, WhatRunsReturnIsReached}
 
 -- an outcome that is told is one of a report
 record IsOf (reports : List ThreadReport) (n : ℕ) (o : Outcome) : Type 0 where
