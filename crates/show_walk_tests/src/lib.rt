@@ -1,0 +1,6 @@
+//! Tests of rows: where each entry of a record was made, with its function's name and its line of source.
+#![tactic(auto)]
+
+mod data;
+#[cfg(test)]
+mod walks;
