@@ -2,8 +2,9 @@
 top=$(cd "$(dirname "${BASH_SOURCE[0]}")/.." && pwd)
 work=$(mktemp -d)
 trap 'rm -rf "$work"' EXIT
-program=$top/crates/wathread/out/wathread
-"$top/wathread" --version >/dev/null
+# PROGRAM=PATH: the program, where it is built already.
+program=${PROGRAM:-$top/crates/wathread/out/wathread}
+[ -n "${PROGRAM-}" ] || "$top/wathread" --version >/dev/null
 
 # How often each command runs; the least time counts.
 rounds=${ROUNDS:-15}

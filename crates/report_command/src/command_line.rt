@@ -1,8 +1,8 @@
 //! The command line.
-ghost use Rattle.std.specs.Prelude.{◌≡◌, ◌≤◌, IfOk, IfSome};
+ghost use Rattle.std.specs.Prelude.{◌≡◌, ◌≤◌, IfOk, IfSome, IsNone};
 ghost use Rattle.types.specs.Limits.{most_limit, most_fuel};
-ghost use Rattle.report_command.specs.Jobs.{IsInRange};
-ghost use Rattle.report_command.specs.FaultNumbers.{usage_number};
+ghost use Rattle.report_command.specs.Jobs.{IsInRange, KeepsItsModule};
+ghost use Rattle.report_command.specs.FaultNumbers.{usage_number, IsWrong};
 
 use clap::error::ErrorKind;
 use clap::{Arg, ArgMatches, Command, Error, value_parser};
@@ -265,39 +265,100 @@ fn job_of<'a>(alloc: Global, matches: &ArgMatches<'a>) -> Result<Option<Job<'a>>
     }
 }
 
-/// Whether the job wants a record of a memory that keeps none.
-fn records_words(job: &Job) -> bool {
-    matches!(
-        job,
-        Job::Run {
-            on_words: true,
-            save: Some(_),
-            ..
-        }
-    )
+/// Why words are no job, though the parser takes each of them.
+#[derive(Clone, Copy, PartialEq, Eq, Debug)]
+pub enum Misuse {
+    /// A word isn't UTF-8.
+    NotText,
+    /// A record of a memory of words is wanted, which keeps none.
+    RecordsWords,
+    /// The record would take the place of the module.
+    ReplacesModule,
+    /// A number isn't in its range.
+    Unreadable,
 }
 
-/// An error about words that are no job.
-fn refused(alloc: Global, kind: ErrorKind, text: &str) -> Result<Error, AllocError> {
-    commands(alloc)?.error(kind, text)
+impl Misuse {
+    fn kind(self) -> ErrorKind {
+        match self {
+            Misuse::NotText | Misuse::Unreadable => ErrorKind::InvalidValue,
+            Misuse::RecordsWords | Misuse::ReplacesModule => ErrorKind::ArgumentConflict,
+        }
+    }
+
+    fn text(self) -> &'static str {
+        match self {
+            Misuse::NotText => "invalid UTF-8 was detected in one or more arguments",
+            Misuse::RecordsWords => {
+                "the argument '--record <OUT>' cannot be used with '--memory words'"
+            }
+            Misuse::ReplacesModule => {
+                "the argument '--record <OUT>' cannot be used with the path of <FILE>"
+            }
+            Misuse::Unreadable => "the command line can't be read",
+        }
+    }
+}
+
+/// What is said of words that are no job for this reason: `Wrong`, or `NoMemory`.
+pub fn misused(alloc: Global, misuse: Misuse) -> Usage
+    ensures { IsWrong result }
+{
+    match error_of(alloc, misuse) {
+        Ok(error) => Usage::Wrong(error),
+        Err(_) => Usage::NoMemory,
+    }
+}
+
+/// The error with its text, and the usage of the command whose words they are.
+fn error_of(alloc: Global, misuse: Misuse) -> Result<Error, AllocError> {
+    let mut usage = match misuse {
+        Misuse::NotText | Misuse::Unreadable => commands(alloc)?,
+        Misuse::RecordsWords | Misuse::ReplacesModule => {
+            run_command(alloc)?.bin_name("wathread run")?
+        }
+    };
+    usage.error(misuse.kind(), misuse.text())
+}
+
+/// Why the numbers and paths of a job don't go together, if they don't.
+fn misuse_of(job: &Job) -> Option<Misuse>
+    ensures { IsNone result → KeepsItsModule job.now }
+{
+    match job {
+        Job::Run {
+            file,
+            on_words,
+            save: Some(path),
+            ..
+        } => {
+            if *on_words {
+                Some(Misuse::RecordsWords)
+            } else if *path == *file {
+                Some(Misuse::ReplacesModule)
+            } else {
+                None
+            }
+        }
+        _ => None,
+    }
 }
 
 /// Reads the command line, of which the first word is the program's name.
 ///
 /// # Errors
-/// `Wrong` where the words are no job, also where a record of a memory of words is wanted, which keeps none; `Help` where
-/// they ask for help or the version; `NoMemory`.
+/// `Wrong` where the words are no job, also where a record of a memory of words is wanted, which keeps none, or one at the
+/// path of the module; `Help` where they ask for help or the version; `NoMemory`.
 pub fn command<'a>(alloc: Global, words: &'a [&'a str]) -> Result<Job<'a>, Usage>
-    ensures { IfOk result IsInRange }
+    ensures range { IfOk result IsInRange }
+    ensures kept { IfOk result KeepsItsModule }
 {
     let matches = commands(alloc)?.try_get_matches_from(words)?;
     let Some(job) = job_of(alloc, &matches)? else {
-        let text = "the command line can't be read";
-        return Err(Usage::Wrong(refused(alloc, ErrorKind::InvalidValue, text)?));
+        return Err(misused(alloc, Misuse::Unreadable));
     };
-    if records_words(&job) {
-        let text = "the argument '--record <OUT>' cannot be used with '--memory words'";
-        return Err(Usage::Wrong(refused(alloc, ErrorKind::ArgumentConflict, text)?));
+    match misuse_of(&job) {
+        None => Ok(job),
+        Some(misuse) => Err(misused(alloc, misuse)),
     }
-    Ok(job)
 }

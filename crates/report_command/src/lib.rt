@@ -3,4 +3,4 @@
 
 mod command_line;
 
-pub use command_line::{Job, Usage, command};
+pub use command_line::{Job, Misuse, Usage, command, misused};

@@ -3,6 +3,49 @@
 use crate::lines::{ADD, Line, is_said};
 use std::test::Fail;
 
+/// Words of which each is right, and all together are wrong; and one too many.
+static TOGETHER: [Line; 5] = [
+    Line {
+        module: ADD,
+        words: "check a.wasm b.wasm",
+        text: "error: unexpected argument 'b.wasm' found\n\n\
+            Usage: wathread check <FILE>\n\n\
+            For more information, try '--help'.\n",
+        status: 3,
+    },
+    Line {
+        module: ADD,
+        words: "replay a.wasm a.record b.record",
+        text: "error: unexpected argument 'b.record' found\n\n\
+            Usage: wathread replay [OPTIONS] <FILE> <RECORD>\n\n\
+            For more information, try '--help'.\n",
+        status: 3,
+    },
+    Line {
+        module: ADD,
+        words: "run a.wasm --invoke f --dump 5000",
+        text: "error: invalid value '5000' for '--dump <N>': 5000 is not in 0..=4096\n\n\
+            For more information, try '--help'.\n",
+        status: 3,
+    },
+    Line {
+        module: ADD,
+        words: "run a.wasm --invoke f --record a.wasm",
+        text: "error: the argument '--record <OUT>' cannot be used with the path of <FILE>\n\n\
+            Usage: wathread run [OPTIONS] --invoke <NAME> <FILE> [ARG]...\n\n\
+            For more information, try '--help'.\n",
+        status: 3,
+    },
+    Line {
+        module: ADD,
+        words: "run a.wasm --invoke f --record a.wasm --memory words",
+        text: "error: the argument '--record <OUT>' cannot be used with '--memory words'\n\n\
+            Usage: wathread run [OPTIONS] --invoke <NAME> <FILE> [ARG]...\n\n\
+            For more information, try '--help'.\n",
+        status: 3,
+    },
+];
+
 static LINES: [Line; 13] = [
     Line {
         module: ADD,
@@ -119,7 +162,7 @@ static LINES: [Line; 13] = [
         module: ADD,
         words: "run a.wasm --invoke f --memory words --record a.record",
         text: "error: the argument '--record <OUT>' cannot be used with '--memory words'\n\n\
-            Usage: wathread <COMMAND>\n\n\
+            Usage: wathread run [OPTIONS] --invoke <NAME> <FILE> [ARG]...\n\n\
             For more information, try '--help'.\n",
         status: 3,
     },
@@ -137,6 +180,15 @@ static LINES: [Line; 13] = [
 #[test]
 fn tells_of_usage(rt: HostRuntime) -> Result<(), Fail> {
     for line in LINES.iter() {
+        let words = line.words;
+        assert!(rt; is_said(&rt, rt.alloc(), line)?, "{words}");
+    }
+    Ok(())
+}
+
+#[test]
+fn tells_of_words_that_do_not_go_together(rt: HostRuntime) -> Result<(), Fail> {
+    for line in TOGETHER.iter() {
         let words = line.words;
         assert!(rt; is_said(&rt, rt.alloc(), line)?, "{words}");
     }

@@ -12,17 +12,19 @@ use test_modules::ATOMIC_ADD;
 
 const OUT: &str = "thread 0: ok i32:0\npages 1\nbytes 05 00 00 00 00 00 00 00\n";
 
-/// A writer that takes so many bytes, and then answers an error.
+/// A writer that takes so many bytes, at most so many of them at once, and then answers an error.
 #[derive(Drop)]
 struct Narrow {
     room: usize,
+    at_once: usize,
     taken: Vec<u8>,
 }
 
 impl Narrow {
-    fn new(alloc: Global, room: usize) -> Narrow {
+    fn new(alloc: Global, room: usize, at_once: usize) -> Narrow {
         Narrow {
             room,
+            at_once,
             taken: Vec::new(alloc),
         }
     }
@@ -37,7 +39,7 @@ impl Narrow {
 impl Write for Narrow {
     fn write(&mut self, bytes: &[u8]) -> io::Result<usize> {
         let left = self.room.saturating_sub(self.taken.len());
-        let count = bytes.len().min(left);
+        let count = bytes.len().min(left).min(self.at_once);
         if count == 0 && !bytes.is_empty() {
             return Err(io::Error::from(io::ErrorKind::StorageFull));
         }
@@ -50,13 +52,14 @@ impl Write for Narrow {
     }
 }
 
-/// Runs the atomic add with so much room on standard output and in the record's file. Answers what is said of it, and the
-/// status, where each of the two took what it has room for.
+/// Runs the atomic add with so much room on standard output and in the record's file, which take so many bytes at once. Answers
+/// what is said of it, and the status, where each of the two took what it has room for.
 fn run_narrow<R: Threads + Wait + Sync>(
     rt: &R,
     alloc: Global,
     out: usize,
     record: usize,
+    at_once: usize,
 ) -> Result<Option<(Vec<u8>, u8)>, AllocError> {
     let job = Job::Run {
         file: "a.wasm",
@@ -68,8 +71,8 @@ fn run_narrow<R: Threads + Wait + Sync>(
         dump: 8,
         args: Vec::new(alloc),
     };
-    let mut lines = Narrow::new(alloc, out);
-    let mut save = Narrow::new(alloc, record);
+    let mut lines = Narrow::new(alloc, out, at_once);
+    let mut save = Narrow::new(alloc, record, at_once);
     let mut err = Vec::new(alloc);
     let status = perform(
         rt, alloc, &job, ATOMIC_ADD, b"", &mut lines, &mut err, &mut save,
@@ -81,18 +84,22 @@ fn run_narrow<R: Threads + Wait + Sync>(
     }
 }
 
-/// The whole record, and the lines on standard output.
+/// The whole record, and the lines on standard output, also where a write takes less than there is.
 #[test]
 fn writes_lines_and_record(rt: HostRuntime) -> Result<(), Fail> {
-    let (err, status) = run_narrow(&rt, rt.alloc(), OUT.len(), ADDED.len())?.ok_or("other text")?;
-    assert_eq!(rt; (err.len(), status), (0, 0));
+    for at_once in [usize::MAX, 1, 7] {
+        let (err, status) = run_narrow(&rt, rt.alloc(), OUT.len(), ADDED.len(), at_once)?.ok_or(
+            "other text",
+        )?;
+        assert_eq!(rt; (err.len(), status), (0, 0));
+    }
     Ok(())
 }
 
 #[test]
 fn says_that_standard_output_failed(rt: HostRuntime) -> Result<(), Fail> {
     for room in 0..OUT.len() {
-        let (err, status) = run_narrow(&rt, rt.alloc(), room, ADDED.len())?.ok_or("other text")?;
+        let (err, status) = run_narrow(&rt, rt.alloc(), room, ADDED.len(), 7)?.ok_or("other text")?;
         assert_eq!(rt; err.as_slice(), b"file fault: standard output\n".as_slice());
         assert_eq!(rt; status, 5);
     }
@@ -103,7 +110,7 @@ fn says_that_standard_output_failed(rt: HostRuntime) -> Result<(), Fail> {
 #[test]
 fn says_that_the_record_failed(rt: HostRuntime) -> Result<(), Fail> {
     for room in 0..ADDED.len() {
-        let (err, status) = run_narrow(&rt, rt.alloc(), OUT.len(), room)?.ok_or("other text")?;
+        let (err, status) = run_narrow(&rt, rt.alloc(), OUT.len(), room, 7)?.ok_or("other text")?;
         assert_eq!(rt; err.as_slice(), b"file fault: a.record\n".as_slice());
         assert_eq!(rt; status, 5);
     }
@@ -112,7 +119,7 @@ fn says_that_the_record_failed(rt: HostRuntime) -> Result<(), Fail> {
 
 /// Whether a record is written to a writer with so much room, which then has its front.
 fn is_written(alloc: Global, record: &Record, room: usize) -> Option<bool> {
-    let mut narrow = Narrow::new(alloc, room);
+    let mut narrow = Narrow::new(alloc, room, usize::MAX);
     let wrote = write_record(record, &mut narrow);
     if narrow.has_front(ADDED) {
         Some(wrote.is_ok())

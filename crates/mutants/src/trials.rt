@@ -1,0 +1,172 @@
+//! Jobs on changed bytes, and whether each ends as a job can.
+ghost use Rattle.std.specs.Prelude.{◌≤◌};
+ghost use Rattle.report_command.specs.Jobs.{IsInRange};
+
+use crate::answers::is_answer;
+use report::{Job, perform};
+use std::alloc::{AllocError, Global};
+use std::sync::Wait;
+use std::thread::Threads;
+
+/// The units of each thread, few enough that a thread that goes round for good ends soon.
+const FUEL: u64 = 2000;
+
+/// The entries of the log.
+const LIMIT: u32 = 1000;
+
+/// The bytes that are shown.
+const DUMP: u32 = 64;
+
+/// What a job gave.
+#[derive(Drop)]
+pub(crate) struct Gave {
+    status: u8,
+    out: Vec<u8>,
+    err: Vec<u8>,
+    pub(crate) record: Vec<u8>,
+}
+
+impl Gave {
+    /// Whether the job ended as a job can.
+    fn is_right(&self) -> bool {
+        is_answer(self.status, &self.out, &self.err)
+    }
+
+    /// Whether there was a run.
+    pub(crate) fn ran(&self) -> bool {
+        self.status <= 1
+    }
+}
+
+/// Does a job on the bytes of a module and of a record.
+fn give<R: Threads + Wait + Sync>(
+    rt: &R,
+    alloc: Global,
+    job: &Job,
+    module: &[u8],
+    saved: &[u8],
+) -> Gave
+    requires { IsInRange job.now }
+{
+    let mut gave = Gave {
+        status: 0,
+        out: Vec::new(alloc),
+        err: Vec::new(alloc),
+        record: Vec::new(alloc),
+    };
+    gave.status = perform(
+        rt,
+        alloc,
+        job,
+        module,
+        saved,
+        &mut gave.out,
+        &mut gave.err,
+        &mut gave.record,
+    );
+    gave
+}
+
+/// Over which memory a module is run.
+#[derive(Clone, Copy)]
+pub(crate) enum Over {
+    Recorder,
+    Words,
+}
+
+/// What is called in a module.
+#[derive(Clone, Copy)]
+pub(crate) struct Called {
+    pub(crate) name: &'static str,
+    pub(crate) arg: Option<&'static str>,
+}
+
+/// Runs a module, and keeps its record where the memory has one.
+pub(crate) fn run<R: Threads + Wait + Sync>(
+    rt: &R,
+    alloc: Global,
+    module: &[u8],
+    called: Called,
+    over: Over,
+) -> Result<Gave, AllocError> {
+    let mut args = Vec::new(alloc);
+    if let Some(arg) = called.arg {
+        args.push(arg)?;
+    }
+    let (on_words, save) = match over {
+        Over::Recorder => (false, Some("a.record")),
+        Over::Words => (true, None),
+    };
+    let job = Job::Run {
+        file: "a.wasm",
+        invoke: called.name,
+        on_words,
+        fuel: FUEL,
+        limit: LIMIT,
+        save,
+        dump: 0,
+        args,
+    };
+    Ok(give(rt, alloc, &job, module, b""))
+}
+
+/// Replays a record of a module.
+fn replay<R: Threads + Wait + Sync>(rt: &R, alloc: Global, module: &[u8], saved: &[u8]) -> Gave {
+    let job = Job::Replay {
+        file: "a.wasm",
+        saved: "a.record",
+        dump: 0,
+    };
+    give(rt, alloc, &job, module, saved)
+}
+
+/// Whether a run over the recorder ends as it can, and its record's replay gives the same.
+fn is_recorded<R: Threads + Wait + Sync>(
+    rt: &R,
+    alloc: Global,
+    module: &[u8],
+    called: Called,
+) -> Result<bool, AllocError> {
+    let ran = run(rt, alloc, module, called, Over::Recorder)?;
+    if !ran.ran() {
+        return Ok(ran.is_right());
+    }
+    let again = replay(rt, alloc, module, &ran.record);
+    Ok(ran.is_right() && again.status == ran.status && again.out == ran.out && again.err.is_empty())
+}
+
+/// Whether a module is refused or accepted as it can be, and where it is accepted its runs end as they can.
+pub(crate) fn module_is_right<R: Threads + Wait + Sync>(
+    rt: &R,
+    alloc: Global,
+    module: &[u8],
+    called: Called,
+) -> Result<Option<u8>, AllocError> {
+    let checked = give(rt, alloc, &Job::Check { file: "a.wasm" }, module, b"");
+    if !checked.is_right() {
+        return Ok(None);
+    }
+    if checked.status == 0 {
+        let on_words = run(rt, alloc, module, called, Over::Words)?;
+        if !on_words.is_right() || !is_recorded(rt, alloc, module, called)? {
+            return Ok(None);
+        }
+        return Ok(Some(on_words.status));
+    }
+    Ok(Some(checked.status))
+}
+
+/// Whether a record is refused, or replayed, as it can be.
+pub(crate) fn record_is_right<R: Threads + Wait + Sync>(
+    rt: &R,
+    alloc: Global,
+    module: &[u8],
+    saved: &[u8],
+) -> Option<u8> {
+    let gave = replay(rt, alloc, module, saved);
+    if gave.is_right() {
+        Some(gave.status)
+    } else {
+        None
+    }
+}

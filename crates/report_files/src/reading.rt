@@ -1,0 +1,81 @@
+//! Files that are read to some length at most, so that neither an endless nor a large one takes more time or memory than a file
+//! that can be accepted.
+ghost use Rattle.std.specs.Prelude.{◌≡◌, IfOk, IfSome, take};
+
+use std::alloc::Global;
+use std::fs::File;
+use std::io::{self, Read};
+use types::{MOST_LIMIT, MOST_MODULE_BYTES, MOST_PARAMS, MOST_THREADS, PAST_LIMIT};
+
+/// What is read of a module: one byte more than it may have, by which a longer one is told.
+const MODULE_FRONT: u64 = MOST_MODULE_BYTES as u64 + 1;
+
+/// How each record begins.
+const RECORD_HEAD: &[u8] = b"wathread-record ";
+
+/// No line of an entry has more bytes, nor one of a number alone.
+const LINE_BYTES: u64 = 100;
+
+/// The bytes of an argument in a record, with the space before it: ` i64:` and twenty digits.
+const ARG_BYTES: u64 = 25;
+
+/// The lines of a record beside the entries: fewer than eight with one number, three more, and those of the ends.
+const OTHER_LINES: u64 = 11 + MOST_THREADS as u64;
+
+/// What is read of a record. No run's record is longer, with two digits for each byte of a name.
+const RECORD_FRONT: u64 = 2 * MOST_MODULE_BYTES as u64
+    + ARG_BYTES * MOST_PARAMS as u64
+    + LINE_BYTES * (MOST_LIMIT as u64 + PAST_LIMIT as u64 + OTHER_LINES);
+
+/// Why a file's bytes aren't there.
+#[derive(Clone, Copy, PartialEq, Eq, Debug)]
+pub enum Unread {
+    /// The system had too little memory left.
+    NoMemory,
+    /// The file isn't there, or can't be read.
+    File,
+}
+
+impl From<io::Error> for Unread {
+    fn from(error: io::Error) -> Unread {
+        match error.kind() {
+            io::ErrorKind::OutOfMemory => Unread::NoMemory,
+            _ => Unread::File,
+        }
+    }
+}
+
+/// The first `most` bytes of a reader, or all where it has fewer; what is behind them isn't read.
+///
+/// # Errors
+/// The reader's, or of the kind `OutOfMemory`.
+pub fn read_front<R: Read + Drop>(alloc: Global, reader: R, most: u64) -> io::Result<Vec<u8>>
+    ensures { IfOk result (λ bytes. IfSome (R.remaining reader) (λ all. bytes.items ≡ take most all)) }
+{
+    let mut bytes = Vec::new(alloc);
+    reader.take(most).read_to_end(&mut bytes)?;
+    Ok(bytes)
+}
+
+/// The bytes of a module's file, or of one that is too long for a module the first 1,048,577.
+///
+/// # Errors
+/// `File` where it can't be read, `NoMemory`.
+pub fn read_module(rt: &HostRuntime, path: &str) -> Result<Vec<u8>, Unread> {
+    let file = File::open(rt, path)?;
+    Ok(read_front(rt.alloc(), file, MODULE_FRONT)?)
+}
+
+/// The bytes of a record's file, or of one that is too long for the record of a run as many as the longest can have; where it
+/// doesn't begin as a record does, only those that show it.
+///
+/// # Errors
+/// `File` where it can't be read, `NoMemory`.
+pub fn read_saved(rt: &HostRuntime, path: &str) -> Result<Vec<u8>, Unread> {
+    let mut file = File::open(rt, path)?;
+    let mut bytes = read_front(rt.alloc(), &mut file, RECORD_HEAD.len() as u64)?;
+    if bytes.as_slice() == RECORD_HEAD {
+        file.take(RECORD_FRONT).read_to_end(&mut bytes)?;
+    }
+    Ok(bytes)
+}

@@ -1,0 +1,182 @@
+//! The file of a record.
+
+use crate::beside::Beside;
+use std::fs::{self, File, OpenOptions, Permissions};
+use std::io::{self, Error, ErrorKind, Write};
+use std::os::unix::fs::MetadataExt;
+
+/// Whether two paths lead to one file.
+pub fn is_one_file(rt: &HostRuntime, one: &str, other: &str) -> bool {
+    let (Ok(one), Ok(other)) = (fs::metadata(rt, one), fs::metadata(rt, other)) else {
+        return false;
+    };
+    one.is_file() && (one.dev(), one.ino()) == (other.dev(), other.ino())
+}
+
+/// Where a record goes.
+#[derive(Drop)]
+enum Target {
+    /// A file that takes the place of what has this path, once all of it is there.
+    File {
+        path: String,
+        beside: Beside,
+        /// Those of the file that is there, if there is one.
+        permissions: Option<Permissions>,
+    },
+    /// What has this path and is no file, as a pipe: it takes the record as it is written.
+    Stream {
+        path: String,
+    },
+}
+
+/// Where a record goes, found before there is one: all memory that writing it takes is taken then.
+#[derive(Drop)]
+pub struct Place {
+    target: Target,
+}
+
+/// The place of a file at a path, if a file can be made beside it.
+fn of_file(rt: &HostRuntime, path: String, permissions: Option<Permissions>) -> io::Result<Place> {
+    let mut beside = Beside::new(rt.alloc(), &path)?;
+    beside.create(rt)?;
+    beside.remove(rt)?;
+    Ok(Place {
+        target: Target::File {
+            path,
+            beside,
+            permissions,
+        },
+    })
+}
+
+/// Whether nothing has this path, and a file can get it.
+fn is_free(rt: &HostRuntime, path: &str) -> bool {
+    !path.is_empty() && !path.ends_with('/') && fs::symlink_metadata(rt, path).is_err()
+}
+
+impl Place {
+    /// Where a record with this path goes: links are followed, and what is there stays as it is.
+    ///
+    /// # Errors
+    /// Where that is a folder, or can't be written, or nothing can be made beside it. Of the kind `OutOfMemory` where the system
+    /// had too little memory left.
+    pub fn new(rt: &HostRuntime, path: &str) -> io::Result<Place> {
+        let found = match fs::metadata(rt, path) {
+            Ok(found) => found,
+            Err(error) if error.kind() == ErrorKind::NotFound && is_free(rt, path) => {
+                return of_file(rt, String::from_str(rt.alloc(), path)?, None);
+            }
+            Err(error) => return Err(error),
+        };
+        if found.is_dir() {
+            return Err(Error::from(ErrorKind::IsADirectory));
+        }
+        if !found.is_file() {
+            let path = String::from_str(rt.alloc(), path)?;
+            return Ok(Place {
+                target: Target::Stream { path },
+            });
+        }
+        OpenOptions::new().write(true).open(rt, path)?;
+        let path = fs::canonicalize(rt, path)?.into_string();
+        of_file(rt, path, Some(found.permissions()))
+    }
+}
+
+/// A record that is being written, from the first write on.
+#[derive(Drop)]
+pub struct SavedFile<'a> {
+    rt: &'a HostRuntime,
+    target: Option<Target>,
+    file: Option<File>,
+}
+
+impl<'a> SavedFile<'a> {
+    /// A record of which nothing is written yet; without a place none can be.
+    pub fn new(rt: &'a HostRuntime, place: Option<Place>) -> SavedFile<'a> {
+        SavedFile {
+            rt,
+            target: place.map(|place| place.target),
+            file: None,
+        }
+    }
+
+    /// Makes the file, or opens what is there.
+    fn open(&mut self) -> io::Result<File> {
+        match &mut self.target {
+            Some(Target::File { beside, .. }) => beside.create(self.rt),
+            Some(Target::Stream { path }) => {
+                OpenOptions::new().write(true).open(self.rt, path.as_str())
+            }
+            None => Err(Error::from(ErrorKind::NotFound)),
+        }
+    }
+
+    /// Gives a record its place, which is all there.
+    ///
+    /// # Errors
+    /// The system's; then what was there before is there still, and nothing else.
+    pub fn keep(self) -> io::Result<()> {
+        let SavedFile { rt, target, file } = self;
+        let (
+            Some(file),
+            Some(
+                Target::File {
+                    path,
+                    beside,
+                    permissions,
+                },
+            ),
+        ) = (file, target)
+        else {
+            return Ok(());
+        };
+        let kept = put(rt, &file, &beside, &path, permissions);
+        if kept.is_err() {
+            let _ = beside.remove(rt);
+        }
+        kept
+    }
+
+    /// Takes away what was written of a record that isn't all there.
+    pub fn give_up(self) {
+        let SavedFile { rt, target, file } = self;
+        if let (Some(_), Some(Target::File { beside, .. })) = (file, target) {
+            let _ = beside.remove(rt);
+        }
+    }
+}
+
+/// Gives a file its path.
+fn put(
+    rt: &HostRuntime,
+    file: &File,
+    beside: &Beside,
+    path: &str,
+    permissions: Option<Permissions>,
+) -> io::Result<()> {
+    if let Some(permissions) = permissions {
+        file.set_permissions(permissions)?;
+    }
+    file.sync_all()?;
+    fs::rename(rt, beside.path(), path)
+}
+
+impl Write for SavedFile<'_> {
+    fn write(&mut self, bytes: &[u8]) -> io::Result<usize> {
+        if self.file.is_none() {
+            self.file = Some(self.open()?);
+        }
+        match &mut self.file {
+            Some(file) => file.write(bytes),
+            None => Ok(0),
+        }
+    }
+
+    fn flush(&mut self) -> io::Result<()> {
+        match &mut self.file {
+            Some(file) => file.flush(),
+            None => Ok(()),
+        }
+    }
+}

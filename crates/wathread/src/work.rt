@@ -1,0 +1,156 @@
+//! A job, with its files and streams.
+
+ghost use Rattle.report_command.specs.Jobs.{IsInRange};
+
+use crate::telling::{tell, tell_file_fault, tell_no_memory, tell_usage};
+use report::perform;
+use report_command::{Job, Misuse, Usage, misused};
+use report_files::{Noted, Place, SavedFile, Unread, is_one_file, read_module, read_saved};
+use std::alloc::AllocError;
+use std::io::{self, BufWriter, ErrorKind};
+use std::sync::Wait;
+use std::thread::Threads;
+
+/// The bytes of standard output, which is written in one piece: 64 lines of threads, one of pages and 4096 bytes shown fit.
+const OUT: usize = 16_384;
+
+/// The bytes of a line on standard error, beside a path in it.
+const LINE: usize = 256;
+
+/// The bytes of a record that are written at once.
+const RECORD: usize = 65_536;
+
+/// Why a job isn't done.
+#[derive(Drop)]
+enum Stop<'a> {
+    Usage(Usage),
+    /// The file at this path failed.
+    File(&'a str),
+    NoMemory,
+}
+
+impl From<AllocError> for Stop<'_> {
+    fn from(_: AllocError) -> Self {
+        Stop::NoMemory
+    }
+}
+
+impl From<io::Error> for Stop<'_> {
+    /// The error of a buffer, which is that of memory.
+    fn from(_: io::Error) -> Self {
+        Stop::NoMemory
+    }
+}
+
+impl<'a> Stop<'a> {
+    /// The file at the path couldn't be read.
+    fn unread(path: &'a str, why: Unread) -> Stop<'a> {
+        match why {
+            Unread::NoMemory => Stop::NoMemory,
+            Unread::File => Stop::File(path),
+        }
+    }
+}
+
+/// What a job reads: a module, and a record where one is replayed.
+#[derive(Drop)]
+struct Input {
+    module: Vec<u8>,
+    saved: Vec<u8>,
+}
+
+fn read<'a>(rt: &HostRuntime, job: &Job<'a>) -> Result<Input, Stop<'a>> {
+    let (Job::Check { file } | Job::Run { file, .. } | Job::Replay { file, .. }) = job;
+    let module = read_module(rt, file).map_err(|why| Stop::unread(file, why))?;
+    let saved = match job {
+        Job::Check { .. } | Job::Run { .. } => Vec::new(rt.alloc()),
+        Job::Replay { saved, .. } => {
+            read_saved(rt, saved).map_err(|why| Stop::unread(saved, why))?
+        }
+    };
+    Ok(Input { module, saved })
+}
+
+/// The path of the record that a job makes, or none.
+fn record_of<'a>(job: &Job<'a>) -> Option<&'a str> {
+    match job {
+        Job::Check { .. } | Job::Replay { .. } => None,
+        Job::Run { save, .. } => *save,
+    }
+}
+
+/// Where a job's record goes, if it makes one.
+fn place_of<'a>(rt: &HostRuntime, job: &Job<'a>) -> Result<Option<Place>, Stop<'a>> {
+    let Some(path) = record_of(job) else {
+        return Ok(None);
+    };
+    match Place::new(rt, path) {
+        Ok(place) => Ok(Some(place)),
+        Err(error) if error.kind() == ErrorKind::OutOfMemory => Err(Stop::NoMemory),
+        Err(_) => Err(Stop::File(path)),
+    }
+}
+
+/// Refuses a record that would take the place of the module.
+fn keep_module<'a>(rt: &HostRuntime, job: &Job<'a>) -> Result<(), Stop<'a>> {
+    match job {
+        Job::Run {
+            file,
+            save: Some(path),
+            ..
+        } if is_one_file(rt, file, path) => {
+            Err(Stop::Usage(misused(rt.alloc(), Misuse::ReplacesModule)))
+        }
+        _ => Ok(()),
+    }
+}
+
+/// Gives the record its path where the job made all of it, and else takes away what there is of it. Answers the job's status.
+fn finish(rt: &HostRuntime, job: &Job, status: u8, save: SavedFile) -> u8 {
+    if status > 1 {
+        save.give_up();
+        return status;
+    }
+    match save.keep() {
+        Ok(()) => status,
+        Err(_) => tell_file_fault(rt, record_of(job).unwrap_or("")),
+    }
+}
+
+/// Does a job whose files can be read, and whose record can be written.
+fn attempt<'a, R: Threads + Wait + Sync>(
+    rt: &HostRuntime,
+    threads: &R,
+    job: &Job<'a>,
+) -> Result<u8, Stop<'a>>
+    requires { IsInRange job.now }
+{
+    let alloc = rt.alloc();
+    keep_module(rt, job)?;
+    let Input { module, saved } = read(rt, job)?;
+    let place = place_of(rt, job)?;
+    let room = record_of(job).unwrap_or("").len().saturating_add(LINE);
+    let mut err = Vec::with_capacity(alloc, room)?;
+    let mut out = BufWriter::with_capacity(alloc, OUT, Noted::new(rt.stdout()))?;
+    let mut save = BufWriter::with_capacity(alloc, RECORD, SavedFile::new(rt, place))?;
+    let status = perform(
+        threads, alloc, job, &module, &saved, &mut out, &mut err, &mut save,
+    );
+    if !out.get_ref().is_closed() {
+        tell(rt, &err);
+    }
+    let (save, _) = save.into_parts();
+    Ok(finish(rt, job, status, save))
+}
+
+/// Does a job: reads its files, prints its lines in one piece, and keeps its record. Answers the status.
+pub(crate) fn work<R: Threads + Wait + Sync>(rt: &HostRuntime, threads: &R, job: &Job) -> u8
+    requires { IsInRange job.now }
+{
+    match attempt(rt, threads, job) {
+        Ok(status) => status,
+        Err(Stop::NoMemory) => tell_no_memory(rt),
+        Err(Stop::File(path)) => tell_file_fault(rt, path),
+        Err(Stop::Usage(usage)) => tell_usage(rt, &usage),
+    }
+}
