@@ -1,6 +1,7 @@
 //! Faults with their offsets, worked out by hand, and what is read of each section.
 use binary::read;
 use std::alloc::{AllocError, Global};
+use std::process::Abort;
 use std::test::Fail;
 use types::{ExportDesc, Module};
 
@@ -151,14 +152,66 @@ fn module_of(alloc: Global, text: &str) -> Result<Vec<u8>, AllocError> {
     Ok(bytes)
 }
 
-#[test]
-fn faults_and_offsets(rt: HostRuntime) -> Result<(), Fail> {
-    for (sections, number, offset) in CASES {
-        let bytes = module_of(rt.alloc(), sections)?;
-        let found = outcome(rt.alloc(), bytes.as_slice());
-        assert!(rt; found == (number, offset), "{sections}");
+/// The same where a count, or a size, is the greatest u32: nothing of that size is there, and none is reserved.
+static SWOLLEN: [(&str, u8, usize); 23] = [
+    ("01 05 ff ff ff ff 0f", 11, 10), // types
+    ("01 07 01 60 ff ff ff ff 0f", 11, 12), // parameters
+    ("01 08 01 60 00 ff ff ff ff 0f", 11, 13), // results
+    ("02 05 ff ff ff ff 0f", 11, 10), // imports
+    ("02 06 01 ff ff ff ff 0f", 5, 16), // a module's name
+    ("03 05 ff ff ff ff 0f", 11, 10), // functions
+    ("04 05 ff ff ff ff 0f", 11, 10), // tables
+    ("04 08 01 70 00 ff ff ff ff 0f", 11, 13), // elements of a table
+    ("05 05 ff ff ff ff 0f", 11, 10), // memories
+    ("06 05 ff ff ff ff 0f", 11, 10), // globals
+    ("07 05 ff ff ff ff 0f", 11, 10), // exports
+    ("07 06 01 ff ff ff ff 0f", 5, 16), // an export's name
+    ("09 05 ff ff ff ff 0f", 11, 10), // element segments
+    ("09 0a 01 00 41 00 0b ff ff ff ff 0f", 11, 15), // functions of a segment
+    ("0a 05 ff ff ff ff 0f", 10, 10), // bodies
+    ("0b 05 ff ff ff ff 0f", 11, 10), // data segments
+    ("0b 0a 01 00 41 00 0b ff ff ff ff 0f", 5, 20), // bytes of a segment
+    ("00 05 ff ff ff ff 0f", 5, 15), // a custom section's name
+    ("01 ff ff ff ff 0f", 1, 14), // a section's size
+    (
+        "01 04 01 60 00 00 03 02 01 00 0a 06 01 ff ff ff ff 0f",
+        11,
+        21,
+    ), // a body's size
+    (
+        "01 04 01 60 00 00 03 02 01 00 0a 07 01 05 ff ff ff ff 0f",
+        5,
+        27,
+    ), // groups of locals
+    (
+        "01 04 01 60 00 00 03 02 01 00 0a 09 01 07 01 ff ff ff ff 0f 7f",
+        11,
+        23,
+    ), // locals
+    (
+        "01 04 01 60 00 00 03 02 01 00 0a 09 01 07 00 0e ff ff ff ff 0f",
+        5,
+        29,
+    ), // labels
+];
+
+fn outcomes_are<R: Abort>(rt: &R, alloc: Global, cases: &[(&str, u8, usize)]) -> Result<(), Fail> {
+    for (sections, number, offset) in cases {
+        let bytes = module_of(alloc, sections)?;
+        let found = outcome(alloc, bytes.as_slice());
+        assert!(rt; found == (*number, *offset), "{sections}");
     }
     Ok(())
+}
+
+#[test]
+fn faults_and_offsets(rt: HostRuntime) -> Result<(), Fail> {
+    outcomes_are(&rt, rt.alloc(), &CASES)
+}
+
+#[test]
+fn swollen_counts(rt: HostRuntime) -> Result<(), Fail> {
+    outcomes_are(&rt, rt.alloc(), &SWOLLEN)
 }
 
 #[test]
