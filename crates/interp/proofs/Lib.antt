@@ -4,3 +4,4 @@ pub mod Going
 pub mod Here
 pub mod Begun
 pub mod Starting
+pub mod Flats

@@ -7,7 +7,7 @@ ghost use Rattle.types.specs.Values.{type_of};
 ghost use Rattle.interp.specs.Starts.{IsFunction, StandsAtStart};
 
 use crate::opening::{opening_globals, opening_values, program};
-use interp_state::{Progress, State};
+use interp_state::{Progress, State, code_of};
 use std::alloc::{AllocError, Global};
 use types::{MOST_FRAMES, Value};
 use validate::ValidModule;
@@ -30,15 +30,15 @@ pub(crate) fn start<'m>(
     let Some(body) = valid.body(own) else {
         unreachable!();
     };
-    let Some(table) = valid.table(own) else {
-        unreachable!();
-    };
     let values = opening_values(alloc, args, body.locals.as_slice())?;
+    let program = program(alloc, valid)?;
+    let code = code_of(&program, own);
     Ok(State {
-        program: program(alloc, valid)?,
+        program,
         function: own,
-        code: body.code.as_slice(),
-        table,
+        code: code.code,
+        table: code.table,
+        flats: code.flats,
         pc: 0,
         base: 0,
         operands: values.len(),

@@ -89,6 +89,7 @@ pub(crate) fn program<'m>(alloc: Global, valid: &'m ValidModule) -> Result<Progr
     Ok(Program {
         parts,
         tables: valid.tables(),
+        flats: valid.flats(),
         functions: spaces.functions,
         imported: spaces.imported,
         elements: opening_table(alloc, parts)?,

@@ -11,7 +11,7 @@ use interp_state::{Progress, State, Step};
 use types::{Instr, LoadOp, MemArg, PlainInstr};
 
 /// A load wants the number of its first word, and then that of the second one, where it touches two.
-#[inline]
+#[inline(always)]
 pub fn load(state: &mut State, op: LoadOp, arg: MemArg) -> Step
     requires { Continues state.old (Instr.Plain (PlainInstr.Load op arg)) }
     ensures { IsStep state.old result state.new }
@@ -25,7 +25,7 @@ pub fn load(state: &mut State, op: LoadOp, arg: MemArg) -> Step
 }
 
 /// The number that a load wanted is there: the value replaces the address as soon as all parts are.
-#[inline]
+#[inline(always)]
 pub fn load_replied(state: &mut State, op: LoadOp, arg: MemArg, number: u64)
     requires { Wanting state.old (Instr.Plain (PlainInstr.Load op arg)) }
     ensures { IsReplied state.old number state.new }

@@ -11,7 +11,7 @@ use interp_state::{Progress, State, Step};
 use types::{AccessWidth, Instr, MemArg, PlainInstr};
 
 /// A store wants its part in the first word written, and then that in the second one, where it touches two.
-#[inline]
+#[inline(always)]
 pub fn store(state: &mut State, width: AccessWidth, arg: MemArg) -> Step
     requires { Continues state.old (Instr.Plain (PlainInstr.Store width arg)) }
     ensures { IsStep state.old result state.new }
@@ -26,7 +26,7 @@ pub fn store(state: &mut State, width: AccessWidth, arg: MemArg) -> Step
 }
 
 /// The part that a store wanted written is: the value and the address go as soon as all parts are.
-#[inline]
+#[inline(always)]
 pub fn store_replied(state: &mut State, width: AccessWidth, arg: MemArg)
     requires { Wanting state.old (Instr.Plain (PlainInstr.Store width arg)) }
     ensures { (number : ℕ) → IsReplied state.old number state.new }

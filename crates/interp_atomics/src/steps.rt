@@ -15,7 +15,7 @@ use interp_state::{State, Step};
 use types::{AtomicOp, Event, MemArg, Trap, Value};
 
 /// The event that an atomic instruction wants, or its trap.
-#[inline]
+#[inline(always)]
 pub(crate) fn request(
     values: &[Value],
     shared: bool,
@@ -36,7 +36,7 @@ pub(crate) fn request(
 }
 
 /// An atomic instruction wants its event, or traps. The operands stay until the reply.
-#[inline]
+#[inline(always)]
 pub fn atomic(state: &mut State, op: AtomicOp, arg: MemArg) -> Step
     requires { ComesNext state.old (Instr.Plain (PlainInstr.Atomic op arg)) }
     ensures { IsStep state.old result state.new }
@@ -48,7 +48,7 @@ pub fn atomic(state: &mut State, op: AtomicOp, arg: MemArg) -> Step
 }
 
 /// The reply to an atomic instruction's event is taken. After `wait` and `notify` the answer is due.
-#[inline]
+#[inline(always)]
 pub fn atomic_replied(state: &mut State, op: AtomicOp, arg: MemArg, number: u64)
     requires { Wanting state.old (Instr.Plain (PlainInstr.Atomic op arg)) }
     ensures { IsReplied state.old number state.new }

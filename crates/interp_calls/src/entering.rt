@@ -6,7 +6,7 @@ ghost use Rattle.types.specs.declared.parts.FuncType.{FuncType};
 ghost use Rattle.types.specs.declared.parts.Body.{Body};
 ghost use Rattle.interp_calls.specs.Entering.{IsOfType, CanEnter, IsEntered};
 
-use interp_state::{Caller, Program, State, Step, code_of, push_zeros, table_of};
+use interp_state::{Caller, Program, State, Step, code_of, push_zeros};
 use types::{FuncType, MOST_FRAMES, MOST_VALUES, Parts, Trap, ValType, Value};
 
 /// Puts a calling function on top of those that called before.
@@ -65,8 +65,10 @@ pub(crate) fn enter(state: &mut State, own: usize) -> Step
     push_zeros(&mut state.values, locals);
     state.operands = state.values.len();
     state.results = func_type.results.len();
-    state.code = code_of(&state.program, own);
-    state.table = table_of(&state.program, own);
+    let code = code_of(&state.program, own);
+    state.code = code.code;
+    state.table = code.table;
+    state.flats = code.flats;
     state.function = own;
     state.pc = 0;
     Step::Moved

@@ -6,6 +6,6 @@ mod functions;
 mod stack;
 mod state;
 
-pub use functions::{code_of, table_of};
+pub use functions::{Code, code_of};
 pub use stack::{pop, pop_i32, pop_i64, push, push_zeros};
 pub use state::{Caller, Program, Progress, State, Step};

@@ -10,6 +10,7 @@ ghost use Rattle.validate_typing.specs.Image.{opening_image, opening_pages, page
 ghost use Rattle.validate_typing.specs.Tabled.{IsValidated, target_at};
 ghost use Rattle.validate_module_rules.specs.Exported.{IsExported};
 ghost use Rattle.validate_module_rules.specs.Faults.{fault_outside};
+ghost use Rattle.validate_flat.specs.Flattening.{all_flats};
 ghost use Rattle.validate.specs.Refusals.{IsRefusal, IsRefused};
 ghost use Rattle.validate_typing.specs.Validity.{IsValid};
 ghost use Rattle.validate_typing.specs.Faults.{fault_kind};
@@ -19,7 +20,8 @@ use crate::check::check_parts;
 use crate::image::opening_image;
 use std::alloc::{AllocError, Global};
 use std::marker::Model;
-use types::{Body, FuncType, Limits, MOST_PAGES, Module, Parts};
+use types::{Body, FuncType, Limits, MOST_PAGES, Module, Parts, Sequence};
+use validate_flat::Flat;
 use validate_module_rules::exported_function;
 use validate_typing::{Table, Target, ValidFault};
 
@@ -29,6 +31,8 @@ pub struct ValidModule {
     module: Module,
     /// The table of each body, in order.
     tables: Vec<Table>,
+    /// The flat instructions of each body, in order.
+    flats: Vec<Sequence<Flat>>,
     /// How many functions are imported.
     imported: usize,
     /// The memory, imported or not.
@@ -40,13 +44,15 @@ impl Model for ValidModule {
     ghost use Rattle.std.specs.List.{slice_get};
     ghost use Rattle.validate_typing.specs.Context.{imported_functions, memories_of};
     ghost use Rattle.validate_typing.specs.Tabled.{WithTables, IsValidated};
+    ghost use Rattle.validate_flat.specs.Flattening.{all_flats};
 
     ghost Value = { WithTables };
 
     ghost view = { λ v. record { parts = v.module; tables = v.tables.items } };
 
     ghost invariant = { λ v. IsValidated (record { parts = v.module; tables = v.tables.items })
-        × (v.imported ≡ length (imported_functions v.module)) × (v.memory ≡ slice_get (memories_of v.module) 0) };
+        × (v.imported ≡ length (imported_functions v.module)) × (v.memory ≡ slice_get (memories_of v.module) 0)
+        × (v.flats.items ≡ all_flats v.module.bodies v.tables.items) };
 }
 
 impl ValidModule {
@@ -127,6 +133,13 @@ impl ValidModule {
         self.table(own)?.target(instruction, which)
     }
 
+    /// The flat instructions of each body, in order.
+    pub fn flats(&self) -> &[Sequence<Flat>]
+        ensures { result.now ≡ all_flats self.now.parts.bodies self.now.tables }
+    {
+        &self.flats
+    }
+
     /// A function's body; functions of the module itself, from 0.
     pub fn body(&self, own: usize) -> Option<&Body>
         ensures { MatchOption result (slice_get self.now.parts.bodies own ≡ None)
@@ -173,6 +186,7 @@ pub fn validate(alloc: Global, module: Module) -> Result<ValidModule, ValidFault
         Ok(findings) => Ok(ValidModule {
             module,
             tables: findings.tables,
+            flats: findings.flats,
             imported: findings.imported,
             memory: findings.memory,
         }),

@@ -1,8 +1,10 @@
-use Rattle.std.proofs.Common.{rules, ◌≡◌, ◌++◌, List, length, map, refl, ◌∙◌, ap, arith}
+use Rattle.std.proofs.Common.{rules, ◌≡◌, ◌<◌, ◌++◌, List, [], Some, length, get_or, map, refl, ◌∙◌, ap, arith}
+use Rattle.std.proofs.lemmas.Option.{slice_get-get_or, slice_get_within}
 use Rattle.std.specs.List.{slice_get}
 use Rattle.types.specs.declared.value.ValType.{ValType}
 use Rattle.types.specs.declared.parts.FuncType.{FuncType}
 use Rattle.types.specs.declared.parts.Body.{Body}
+use Rattle.types.specs.declared.parts.Parts.{Parts}
 use Rattle.types.specs.Values.{type_of}
 use Rattle.interp_machine.specs.Program.{zero_of, opening_globals}
 use Rattle.interp.proofs.Begun.{one_function}
@@ -30,14 +32,18 @@ returns-clause-stands c = λ t body f.
     let type_is : c.in-Some.func_type.now ≡ t =
     (let x = f.type_is in let y = ap (λ i. slice_get m.types i) index in let z = found.2 in cc) in
     let locals : c.as_slice.result.now ≡ body.locals = c.as_slice.ensures ∙ ap (λ (b : Body). b.locals) same in
-    starts c.args.valid.now _ c.args.own t body c.in-Some-table.table.now c.args.args.now c.parts-parts.ensures.validated
+    let within : c.args.own < length c.args.valid.now.tables =
+    (let h = slice_get_within m.bodies c.args.own body f.body_is in let e = c.parts-parts.ensures.validated.long in omega arith) in
+    let rows = get_or c.args.valid.now.tables c.args.own [] in
+    let there : slice_get c.args.valid.now.tables c.args.own ≡ Some rows = slice_get-get_or c.args.valid.now.tables c.args.own [] within in
+    starts c.args.valid.now _ c.args.own t body rows c.args.args.now c.parts-parts.ensures.validated
     c.parts-parts.ensures.tested.bodies f fit
     (record {
       program = c.in_ok-program.ensures;
       function = refl;
-      rows_are = c.in-Some-table.ensures;
-      code = c.as_slice-2.ensures ∙ ap (λ (b : Body). b.code) same;
-      table = refl;
+      rows_are = there;
+      code = c.code_of-code.ensures.code body (ap (λ (y : Parts). slice_get y.bodies c.args.own) c.in_ok-program.ensures.parts ∙ f.body_is);
+      table = c.code_of-code.ensures.table rows (ap (λ x. slice_get x c.args.own) c.in_ok-program.ensures.tables ∙ there);
       pc = refl;
       base = refl;
       operands = search rules;

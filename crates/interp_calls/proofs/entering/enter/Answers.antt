@@ -9,11 +9,11 @@ overflow_sub-state c =
     let t = ap (λ (x : FuncType). length x.params) (c.type_of-func_type.ensures c.requires.func_type c.requires.is.typed) in
     let a = c.requires.arguments in let p = c.len-3.ensures in let v = c.len-2.ensures in omega arith
 
-pub code_of-state-requires : goal.code_of-state-requires
-code_of-state-requires c = slice_get_within _ _ _ c.requires.is.body_is
+pub code_of-code-requires-clause-body : goal.code_of-code-requires-clause-body
+code_of-code-requires-clause-body c = slice_get_within _ _ _ c.requires.is.body_is
 
-pub table_of-state-requires : goal.table_of-state-requires
-table_of-state-requires c = slice_get_within _ _ _ c.requires.is.rows_are
+pub code_of-code-requires-clause-table : goal.code_of-code-requires-clause-table
+code_of-code-requires-clause-table c = slice_get_within _ _ _ c.requires.is.rows_are
 
 pub returns : goal.returns
 returns c = λ t body rows f.
@@ -25,8 +25,8 @@ returns c = λ t body rows f.
         refl,
         record {
           function = refl;
-          code = c.code_of-state.ensures body f.body_is;
-          table = c.table_of-state.ensures rows f.rows_are;
+          code = c.code_of-code.ensures.code body f.body_is;
+          table = c.code_of-code.ensures.table rows f.rows_are;
           pc = refl;
           base =
               (let p = c.len-3.ensures ∙ ap (λ (x : FuncType). length x.params) same_type in let v = c.len-2.ensures in
