@@ -225,7 +225,7 @@ fn entries_past_the_limit_are_refused(rt: HostRuntime) -> Result<(), Fail> {
         let expected = if readable {
             None
         } else {
-            Some(RecordFault::Unreadable(55))
+            Some(RecordFault::Unreadable(199))
         };
         assert_eq!(rt; fault, expected);
     }
