@@ -12,7 +12,8 @@ pub returns-in_err-end-clause-trouble : goal.returns-in_err-end-clause-trouble
 returns-in_err-end-clause-trouble g c =
     let p = err_from_is_err_and c.from_residual-in_err-end.result c.from_residual-in_err-end.ensures.1 in
     let asked = request_of c.args.wanted.now in
-    rw (p.1, p.2) (of_words c.args.module.now.parts c.show_distinct.ensures asked.name asked.texts c.deref.result.now (subst (Takes c.args.module.now.parts asked.name) (sym c.deref.ensures.value) c.in_ok-args.ensures.takes.1)
+    rw (p.1, p.2) (of_words c.args.module.now.parts c.show_distinct.ensures asked.name asked.texts c.deref.result.now
+    (subst (Takes c.args.module.now.parts asked.name) (sym c.deref.ensures.value) c.in_ok-args.ensures.takes.1)
     c.in_err-end.field-0.0 c.in_err-end.ensures.fault)
 
 pub returns-then-wanted-clause-made : goal.returns-then-wanted-clause-made
@@ -28,7 +29,8 @@ pub returns-in_err-record-clause-trouble : goal.returns-in_err-record-clause-tro
 returns-in_err-record-clause-trouble g c =
     let p = err_from_is_err_and c.from_residual-in_err-record.result c.from_residual-in_err-record.ensures.1 in
     let asked = request_of c.args.wanted.now in
-    rw (p.1, p.2) (of_recording c.args.module.now.parts c.show_distinct.ensures asked.name asked.texts c.deref.result.now (subst (Takes c.args.module.now.parts asked.name) (sym c.deref.ensures.value) c.in_ok-args.ensures.takes.1)
+    rw (p.1, p.2) (of_recording c.args.module.now.parts c.show_distinct.ensures asked.name asked.texts c.deref.result.now
+    (subst (Takes c.args.module.now.parts asked.name) (sym c.deref.ensures.value) c.in_ok-args.ensures.takes.1)
     asked.limit c.in_err-record.field-0.0 c.in_err-record.ensures.fault)
 
 pub returns-clause-made : goal.returns-clause-made
