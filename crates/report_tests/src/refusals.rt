@@ -1,6 +1,6 @@
 //! Records that are refused, and at which line.
 
-use crate::records::{ADDED, SPUN, STORED};
+use crate::records::{ADDED, ADDED_TWO, SPUN, STORED};
 use crate::replays::{is_refused, prints, replay};
 use std::alloc::{AllocError, Global};
 use std::process::Abort;
@@ -8,10 +8,13 @@ use std::sync::Wait;
 use std::test::Fail;
 use std::thread::Threads;
 use test_modules::{ATOMIC_ADD, SPINNING, Small, TAKING, TWO_WORDS};
-use types::PAST_LIMIT;
+use replay_text::FIRST_THREADS;
+
+/// Entries past the limit, in a record of version 1.
+const PAST_LIMIT: usize = 3 * FIRST_THREADS as usize;
 
 /// The record with the line of this number, from 1 on, replaced.
-fn with_line(
+pub(crate) fn with_line(
     alloc: Global,
     record: &str,
     number: usize,
@@ -50,7 +53,7 @@ fn check_forged<R: Threads + Wait + Abort + Sync>(
 }
 
 static HEADERS: [Forged; 13] = [
-    (1, "wathread-record 2", "header line 1"),
+    (1, "wathread-record 3", "header line 1"),
     (2, "invoke 67", "line 2 does not fit"),
     (2, "invoke -", "line 2 does not fit"),
     (2, "invoke 6", "header line 2"),
@@ -77,8 +80,8 @@ static ENTRIES: [Forged; 16] = [
     (6, "0 rmw add 0 4 5 = 1", "line 6 does not fit"),
     (6, "0 rmw add 0 4 5 = out", "line 6 does not fit"),
     (6, "1 rmw add 0 4 5 = 0", "line 6 does not fit"),
-    (6, "63 rmw add 0 4 5 = 0", "line 6 does not fit"),
-    (6, "64 rmw add 0 4 5 = 0", "line 6 unreadable"),
+    (6, "15 rmw add 0 4 5 = 0", "line 6 does not fit"),
+    (6, "16 rmw add 0 4 5 = 0", "line 6 unreadable"),
     (6, "0 rmw add 0 4 05 = 0", "line 6 unreadable"),
     (6, "0 rmw add 0 4 4294967296 = 0", "line 6 unreadable"),
     (6, "0 rmw add 0 1 256 = 0", "line 6 unreadable"),
@@ -177,24 +180,41 @@ fn refuses_records_of_others(rt: HostRuntime) -> Result<(), Fail> {
     Ok(())
 }
 
-/// Why a record with this front alone is refused.
-fn is_cut_right(alloc: Global, front: &[u8], err: &[u8]) -> Result<bool, AllocError> {
+/// Why a record whose header has so many lines is refused with this front alone.
+fn is_cut_right(alloc: Global, header: usize, front: &[u8], err: &[u8]) -> Result<bool, AllocError> {
     let lines = front.iter().filter(|byte| **byte == b'\n').count();
-    let wanted = match lines {
-        0..=4 => format!(in alloc; "record refused: header line {}\n", lines + 1)?,
-        _ => format!(in alloc; "record refused: end missing\n")?,
+    let wanted = if lines < header {
+        format!(in alloc; "record refused: header line {}\n", lines + 1)?
+    } else {
+        format!(in alloc; "record refused: end missing\n")?
     };
     Ok(err == wanted.as_bytes())
 }
 
-#[test]
-fn refuses_every_front(rt: HostRuntime) -> Result<(), Fail> {
-    for count in 0..ADDED.len() {
-        let front = &ADDED.as_bytes()[..count];
-        let gave = replay(&rt, rt.alloc(), ATOMIC_ADD, front, "8")?;
-        assert!(rt; is_cut_right(rt.alloc(), front, &gave.err)?, "{count}");
+fn check_fronts<R: Threads + Wait + Abort + Sync>(
+    rt: &R,
+    alloc: Global,
+    header: usize,
+    record: &str,
+) -> Result<(), AllocError> {
+    for count in 0..record.len() {
+        let front = &record.as_bytes()[..count];
+        let gave = replay(rt, alloc, ATOMIC_ADD, front, "8")?;
+        assert!(rt; is_cut_right(alloc, header, front, &gave.err)?, "{count}");
         assert_eq!(rt; (gave.status, gave.out.len()), (4, 0));
     }
+    Ok(())
+}
+
+#[test]
+fn refuses_every_front(rt: HostRuntime) -> Result<(), Fail> {
+    check_fronts(&rt, rt.alloc(), 5, ADDED)?;
+    Ok(())
+}
+
+#[test]
+fn refuses_every_front_of_version_2(rt: HostRuntime) -> Result<(), Fail> {
+    check_fronts(&rt, rt.alloc(), 8, ADDED_TWO)?;
     Ok(())
 }
 
@@ -229,6 +249,6 @@ fn refuses_other_line_ends_and_long_logs(rt: HostRuntime) -> Result<(), Fail> {
     let most = crowded(alloc, 1 + PAST_LIMIT)?;
     assert!(rt; is_refused(&rt, alloc, ATOMIC_ADD, &most, "line 6 does not fit")?);
     let more = crowded(alloc, 2 + PAST_LIMIT)?;
-    assert!(rt; is_refused(&rt, alloc, ATOMIC_ADD, &more, "line 199 unreadable")?);
+    assert!(rt; is_refused(&rt, alloc, ATOMIC_ADD, &more, "line 55 unreadable")?);
     Ok(())
 }
