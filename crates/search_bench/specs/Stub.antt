@@ -1,0 +1,2 @@
+-- Stubs.
+use Rattle.std.specs.Prelude.{ℕ}
