@@ -159,7 +159,7 @@ rm -r closed broken
 # What is there stays until the whole record is written, with its permissions; links stay links.
 cp "$top/examples/atomic_add.wasm" same.wasm
 "${add[@]}" --record whole >/dev/null
-[ "$(head -n 1 whole)" = 'wathread-record 1' ] || say 'the record has another first line'
+[ "$(head -n 1 whole)" = 'wathread-record 2' ] || say 'the record has another first line'
 echo old >folder/a.record
 chmod 600 folder/a.record
 ln -s folder/a.record to.record

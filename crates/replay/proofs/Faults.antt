@@ -12,28 +12,34 @@ use Rattle.replay.proofs.Schedules.{no_run_has_a_wrong_end, no_run_has_a_misfit}
 use Rattle.replay.specs.declared.end.EndState.{EndState}
 use Rattle.replay.specs.declared.fault.ReplayFault.{ReplayFault}
 use Rattle.replay.specs.declared.fault.ReplayFault.TheVariants.{Line, EndLine, NoMemory}
-use Rattle.replay.specs.Runs.{BeginsBy, start_of_record, IsRunOf, IsReplayFault, IsOfNoRun, ShowsNoRun}
+use Rattle.replay.specs.Runs.{BeginsBy, start_of_record, HasLength, HasPages, OfScale, IsRunOf, IsReplayFault, IsOfNoRun, ShowsNoRun}
 use Rattle.replay.specs.Threads.{IsCallFault}
 use Rattle.replay.specs.Walks.{IsWalkFault}
 use Rattle.replay.proofs.Same.{same_function, same_start}
 
 pub is_run : (m : Parts) (r x : RecordParts) → r ≡ x → (b : BeginsBy m r) (last : Memory) → IsRecordedRun (start_of_record m r b) r last
-    → (end : EndState) → end.threads.items ≡ r.ends → end.pages ≡ r.pages → end.bytes.items ≡ last.bytes → IsRunOf m x end
-is_run m r x is b last recorded end threads pages bytes =
+    → HasLength m r → HasPages m r → (end : EndState) → end.threads.items ≡ r.ends → end.pages ≡ r.pages → end.bytes.items ≡ last.bytes → IsRunOf m x end
+is_run m r x is b last recorded len within end threads pages bytes =
     subst (λ (y : RecordParts). IsRunOf m y end) is
-    (record { beginning = b; last = last; recorded = recorded; threads = threads; pages = pages; bytes = bytes })
+    (record { length_fits = len; pages_fit = within; beginning = b; last = last; recorded = recorded; threads = threads; pages = pages; bytes = bytes })
 
 module _ (m : Parts) (r : RecordParts) where
-  pub of_call : (fault : ReplayFault) → IsCallFault m r fault → IsReplayFault m r fault
-  of_call (Line line) (inl h) = inl h
-  of_call (Line line) (inr h) = inr (inl h)
-  of_call (EndLine line) h = absurd h
-  of_call NoMemory h = tt
+  pub of_scale : (fault : ReplayFault) → OfScale m r fault → IsReplayFault m r fault
+  of_scale (Line line) h = inl (inl h)
+  of_scale (EndLine line) h = absurd h
+  of_scale NoMemory h = absurd h
 
-  pub of_walk : (b : BeginsBy m r) (start : Start) → start ≡ start_of_record m r b → (fault : ReplayFault) → IsWalkFault start r fault → IsReplayFault m r fault
-  of_walk b start same (Line line) h = inr (inr (h.0, h.1, (b, subst (λ (s : Start). IsFirstMisfit s r h.0) same h.2)))
-  of_walk b start same (EndLine line) h = (h.0, h.1, (b, subst (λ (s : Start). IsFirstWrongEnd s r h.0) same h.2))
-  of_walk b start same NoMemory h = absurd h
+  module _ (len : HasLength m r) (within : HasPages m r) where
+    pub of_call : (fault : ReplayFault) → IsCallFault m r fault → IsReplayFault m r fault
+    of_call (Line line) (inl h) = inl (inr (inl (h.0, len, within, h.1)))
+    of_call (Line line) (inr h) = inl (inr (inr (h.0, len, within, h.1)))
+    of_call (EndLine line) h = absurd h
+    of_call NoMemory h = tt
+
+    pub of_walk : (b : BeginsBy m r) (start : Start) → start ≡ start_of_record m r b → (fault : ReplayFault) → IsWalkFault start r fault → IsReplayFault m r fault
+    of_walk b start same (Line line) h = inr (h.0, h.1, len, within, (b, subst (λ (s : Start). IsFirstMisfit s r h.0) same h.2))
+    of_walk b start same (EndLine line) h = (h.0, h.1, len, within, (b, subst (λ (s : Start). IsFirstWrongEnd s r h.0) same h.2))
+    of_walk b start same NoMemory h = absurd h
 
   module _ (distinct : HasDistinctNames m.exports) where
     fits_not : Refuses m r.invoke r.args → IsOfNoRun m r
@@ -46,8 +52,10 @@ module _ (m : Parts) (r : RecordParts) where
     recorded_by b end run = subst (λ (s : Start). IsRecordedRun s r run.last) (same_start m distinct r run.beginning b) run.recorded
 
     pub no_run : (fault : ReplayFault) → IsReplayFault m r fault → ShowsNoRun m r fault
-    no_run (Line line) (inl h) = λ end run. h.1 run.beginning.own run.beginning.exports.exported
-    no_run (Line line) (inr (inl h)) = fits_not h.1
-    no_run (Line line) (inr (inr h)) = λ end run. no_run_has_a_misfit (start_of_record m r h.2.0) r h.0 h.2.1 run.last (recorded_by h.2.0 end run)
-    no_run (EndLine line) h = λ end run. no_run_has_a_wrong_end (start_of_record m r h.2.0) r h.0 h.2.1 run.last (recorded_by h.2.0 end run)
+    no_run (Line line) (inl (inl (inl h))) = λ end run. h.1 run.length_fits
+    no_run (Line line) (inl (inl (inr h))) = λ end run. h.2 run.pages_fit
+    no_run (Line line) (inl (inr (inl h))) = λ end run. h.3 run.beginning.own run.beginning.exports.exported
+    no_run (Line line) (inl (inr (inr h))) = fits_not h.3
+    no_run (Line line) (inr h) = λ end run. no_run_has_a_misfit (start_of_record m r h.4.0) r h.0 h.4.1 run.last (recorded_by h.4.0 end run)
+    no_run (EndLine line) h = λ end run. no_run_has_a_wrong_end (start_of_record m r h.4.0) r h.0 h.4.1 run.last (recorded_by h.4.0 end run)
     no_run NoMemory h = tt

@@ -24,7 +24,7 @@ use Rattle.interp_machine.specs.State.{State}
 use Rattle.schedule_threads.specs.Shared.{Shared, starts_by}
 use Rattle.schedule_threads.specs.Threads.{wishes, machine_of}
 use Rattle.schedule_threads.proofs.Asking.{wishes_of_threads}
-use Rattle.schedule_runs.specs.Runs.{Start, system_of, first_state}
+use Rattle.schedule_runs.specs.Runs.{Start, system_of, state_for}
 use Rattle.schedule_runs.proofs.Idle.{next_along}
 use Rattle.schedule_runs.proofs.Places.{question_args}
 
@@ -284,9 +284,9 @@ module _ (b : Start) where
   made_last [] w unborn = tt
   made_last (k ∷ S) w unborn = mark_last w k.thread k.kind S (made_last S) unborn
 
-  unborn_first : Unborn (first_state b)
+  unborn_first : (most : ℕ) → Unborn (state_for most b)
   unfolding first_queue
-  unborn_first m past = put-other (λ (j : ℕ). Absent) 0 (Runs b.main b.fuel) m (λ e. absurd (omega (arith, e, past)))
+  unborn_first most m past = put-other (λ (j : ℕ). Absent) 0 (Runs b.main b.fuel) m (λ e. absurd (omega (arith, e, past)))
 
-  pub first_last : (S : List Mark) → LeavesLast (entries_made (system_of b) (first_state b) S)
-  first_last S = made_last S (first_state b) unborn_first
+  pub first_last : (most : ℕ) (S : List Mark) → LeavesLast (entries_made (system_of b) (state_for most b) S)
+  first_last most S = made_last S (state_for most b) (unborn_first most)

@@ -1,5 +1,5 @@
 -- The log that a schedule makes is legal: for the memory, for the wait queue, and in the order of each thread's calls.
-use Rattle.std.proofs.Common.{◌≡◌, ℕ, ◌<◌, true, false, List, [], ◌∷◌, ◌++◌, Option, Some, None, refl, sym, ◌∙◌, ap, subst, inl, inr, append_assoc}
+use Rattle.std.proofs.Common.{◌≡◌, ℕ, ◌<◌, ◌≤◌, true, false, List, [], ◌∷◌, ◌++◌, Option, Some, None, refl, sym, ◌∙◌, ap, subst, inl, inr, append_assoc}
 use Rattle.std.specs.List.{All}
 use Rattle.std.proofs.lemmas.Bool.{cases_lt, cases_Bool}
 use Rattle.std.proofs.lemmas.List.Elements.{All-head, All-tail}
@@ -13,24 +13,25 @@ use Rattle.types.specs.declared.event.Entry as entries
 use Rattle.types.specs.Limits.{most_threads}
 use Rattle.shared_memory.specs.Memory.{Memory, reply_of, state_after}
 use Rattle.shared_memory.specs.WaitQueue.{WaitQueue, first_queue, is_alive, is_asleep, answer_due, next_id, IsFree}
-use Rattle.shared_memory.specs.History.{entry, of_queue, queue_step, queue_from, queue_after}
-use Rattle.shared_memory.specs.Legal.{IsMemoryLegal, IsAllowed, IsQueueLegalFrom, IsQueueLegal, IsInTurn, IsWellFormedFrom, IsWellFormed, IsLegal}
+use Rattle.shared_memory.specs.History.{entry, of_queue, queue_step, queue_from}
+use Rattle.shared_memory.specs.Legal.{IsMemoryLegal, IsAllowed, IsQueueLegalFrom, IsInTurn, IsWellFormedFrom}
 use Rattle.shared_memory.specs.Sound.{IsSound}
 use Rattle.shared_memory.proofs.Histories.{queue_from-append}
-use Rattle.shared_memory.proofs.Soundness.{IsSound-step, IsSound-first}
+use Rattle.shared_memory.proofs.Soundness.{IsSound-step, IsSound-opening}
 use Rattle.schedule.specs.System.{Act, Act.Made, Act.Heard, Entry, Mark}
 use Rattle.schedule.specs.Histories.{Place, Place.Unstarted, Place.Free, Place.Open, Place.Due, if_made, without_answers}
 use Rattle.schedule.specs.Histories.{IsLegalEntry, IsLegalHistory, IsFreeAt, IsOrdered}
 use Rattle.schedule_threads.specs.Shared.{Shared, act_by, act_of}
-use Rattle.schedule_runs.specs.Runs.{Start, system_of, first_shared, first_places, as_acts}
+use Rattle.schedule_runs.specs.Runs.{Start, system_of, shared_for, first_places, as_acts}
 use Rattle.schedule_runs.specs.Places.{place_of, place_due}
 use Rattle.schedule_runs.proofs.Places.{place_unstarted, place_open, place_awake}
 use Rattle.schedule_runs.proofs.Asked.{shared_of}
 use Rattle.schedule_runs.proofs.Entries.{StandAt, EntryStep, entry_step}
-use Rattle.schedule_runs.proofs.Linked.{queue_after-all, first_is, first_stand}
-use Rattle.schedule_runs.proofs.Alive.{HasLeave, alive_until}
+use Rattle.schedule_runs.proofs.Linked.{first_is_for, first_stand_for}
+use Rattle.schedule_runs.proofs.Alive.{HasLeave, alive_until_from}
 use Rattle.replay_text.specs.declared.parts.RecordParts.{RecordParts}
 use Rattle.replay_text.specs.Conditions.{IsEntry, is_reply_to}
+use Rattle.replay_text.proofs.Whole.{counted}
 use Rattle.replay_rules.specs.Recorded.{MakesLog}
 use Rattle.replay.specs.Runs.{start_of_record}
 use Rattle.replay.specs.Verdicts.{LogsOfRunsAreLegal}
@@ -152,10 +153,10 @@ record Rest (mem : Memory) (q : WaitQueue) (H : List entries.Entry) : Type 0 whe
   queue : IsQueueLegalFrom q (of_queue H)
   form : IsWellFormedFrom q H
 
-module _ (b : Start) (log : List entries.Entry) (last : LeavesLast (made_of log)) where
-  legal_rest : (xs ys : List entries.Entry) → log ≡ xs ++ ys → (mem : Memory) (q : WaitQueue) → q ≡ queue_from (first_queue most_threads) xs
+module _ (b : Start) (threads : ℕ) (log : List entries.Entry) (last : LeavesLast (made_of log)) where
+  legal_rest : (xs ys : List entries.Entry) → log ≡ xs ++ ys → (mem : Memory) (q : WaitQueue) → q ≡ queue_from (first_queue threads) xs
       → (places : ℕ → Place Answer) (x : Shared) → x ≡ shared_of mem q → IsSound q → StandAt q places
-      → IsLegalHistory (system_of b) x places (as_acts ys) → IsOrdered (system_of b) x places (as_acts ys) → All IsEntry ys
+      → IsLegalHistory (system_of b) x places (as_acts ys) → IsOrdered (system_of b) x places (as_acts ys) → All (IsEntry threads) ys
       → Rest mem q ys
   legal_rest xs [] split mem q queue_is places x is sound stand legal ordered kinds = record { memory = tt; queue = tt; form = tt }
   legal_rest xs (e ∷ ys) split mem q queue_is places x is sound stand legal ordered kinds =
@@ -164,37 +165,35 @@ module _ (b : Start) (log : List entries.Entry) (last : LeavesLast (made_of log)
       let ordered' : IsOrdered (system_of b) (shared_of mem q) places (as_acts (e ∷ ys)) =
       subst (λ (y : Shared). IsOrdered (system_of b) y places (as_acts (e ∷ ys))) is ordered in
       let fit : Fits mem q e.thread e.event e.reply =
-      fits b mem q places e.thread stand e.event e.reply legal'.0 ordered'.0 (All-head IsEntry e ys kinds).reply alive in
+      fits b mem q places e.thread stand e.event e.reply legal'.0 ordered'.0 (All-head (IsEntry threads) e ys kinds).reply alive in
       let step : EntryStep b mem q places e.thread e.event e.reply =
       entry_step b mem q places e.thread e.event e.reply sound stand fit.reply_is fit.allowed fit.known in
       let rest : Rest (state_after mem e.event) (queue_step q e.thread e.event e.reply) ys =
       legal_rest (xs ++ e ∷ []) ys (split ∙ sym (append_assoc xs (e ∷ []) ys)) (state_after mem e.event) (queue_step q e.thread e.event e.reply)
-      (ap (λ (w : WaitQueue). queue_step w e.thread e.event e.reply) queue_is ∙ sym (queue_from-append (first_queue most_threads) xs (e ∷ []))) _ _
-      step.shared (IsSound-step q e.thread e.event e.reply fit.allowed sound) step.stand legal'.1 ordered'.1 (All-tail IsEntry e ys kinds) in
+      (ap (λ (w : WaitQueue). queue_step w e.thread e.event e.reply) queue_is ∙ sym (queue_from-append (first_queue threads) xs (e ∷ []))) _ _
+      step.shared (IsSound-step q e.thread e.event e.reply fit.allowed sound) step.stand legal'.1 ordered'.1 (All-tail (IsEntry threads) e ys kinds) in
       record {
         memory = (fit.reply_is, rest.memory);
         queue = more_legal q e.thread e.event e.reply ys fit.allowed rest.queue;
         form = (fit.turn, rest.form);
       }
     where
-      after : queue_after xs ≡ q
-      after = queue_after-all xs ∙ sym queue_is
-
       alive : act_of e ≡ Made e.event e.reply → e.thread < next_id q → is_alive q e.thread ≡ true
       alive made known =
-          elim (alive_until xs e.thread (subst (λ (w : WaitQueue). e.thread < next_id w) (sym after) known)) [
-            | inl there ↦ subst (λ (w : WaitQueue). is_alive w e.thread ≡ true) after there
+          elim (alive_until_from threads xs e.thread (subst (λ (w : WaitQueue). e.thread < next_id w) queue_is known)) [
+            | inl there ↦ subst (λ (w : WaitQueue). is_alive w e.thread ≡ true) (sym queue_is) there
             | inr has ↦ absurd (not_left e made xs ys (subst (λ (l : List entries.Entry). LeavesLast (made_of l)) split last) has)
           ]
 
-made_legal : (b : Start) (r : RecordParts) (S : List Mark) → MakesLog b r S → All IsEntry r.log → IsLegal b.opening r.log
-unfolding IsQueueLegal IsWellFormed
-made_legal b r S makes kinds =
-    let rest : Rest b.opening (first_queue most_threads) r.log =
-    legal_rest b r.log (subst LeavesLast makes.events (first_last b S)) [] r.log refl b.opening (first_queue most_threads) refl
-    first_places (first_shared b) (first_is b) IsSound-first first_stand makes.legal makes.ordered kinds in
-    record { memory = rest.memory; queue = rest.queue; form = rest.form }
+made_legal : (b : Start) (r : RecordParts) (S : List Mark) → MakesLog b r S → 0 < r.threads → r.threads ≤ most_threads
+    → All (IsEntry r.threads) r.log → Rest b.opening (first_queue r.threads) r.log
+made_legal b r S makes some few kinds =
+    legal_rest b r.threads r.log (subst LeavesLast makes.events (first_last b r.threads S)) [] r.log refl b.opening (first_queue r.threads) refl
+    first_places (shared_for r.threads b) (first_is_for r.threads b) (IsSound-opening r.threads some few) (first_stand_for r.threads)
+    makes.legal makes.ordered kinds
 
 pub logs_of_runs_are_legal : LogsOfRunsAreLegal
 logs_of_runs_are_legal m r end kept run =
-    made_legal (start_of_record m r run.beginning) r run.recorded.schedule run.recorded.makes kept.log
+    let count = (counted r.version r.module_len r.threads r.max_pages kept.numbers.scale).0 in
+    let rest = made_legal (start_of_record m r run.beginning) r run.recorded.schedule run.recorded.makes count.0 count.1 kept.log in
+    record { memory = rest.memory; queue = rest.queue; form = rest.form }

@@ -15,7 +15,7 @@ use Rattle.interp_trait.specs.Turns.{Meaning, spawn_types, spawned_in}
 use Rattle.interp.specs.Starts.{start_of}
 use Rattle.spawn_host.specs.Entries.{StartsThreads}
 use Rattle.spawn_host.specs.Threads.{IsCall, IsFirst, AreSpawnable}
-use Rattle.spawn_host.specs.Runs.{opening_memory}
+use Rattle.spawn_host.specs.Runs.{opening_within}
 use Rattle.replay_text.specs.declared.parts.RecordParts.{RecordParts}
 use Rattle.replay_walk.specs.Walked.{Run, start}
 use Rattle.replay.specs.Runs.{BeginsBy, start_of_record}
@@ -39,7 +39,8 @@ module _ {T : Type 0} (meaning : T → Meaning) (m : Parts) (r : RecordParts) wh
     main = start_of m f.takes.func_type f.takes.body r.args;
     worker = worker;
     budget = r.fuel;
-    opening = opening_memory m;
+    opening = opening_within r.max_pages m;
+    threads = r.threads;
     limit = r.limit;
   }
 
@@ -75,7 +76,7 @@ module _ {T : Type 0} (meaning : T → Meaning) (m : Parts) (r : RecordParts) wh
   alike_others first args others f s (suc k) x h = let call = spawnable args others s k x h in (call.program_is, call.fuel_is)
 
   threaded : (first : T) (args : List Value) (others : List T) (memory : Memory) → First first → StartsThreads m → AreSpawnable meaning m args r.fuel others
-      → memory ≡ opening_memory m → CanBegin (first ∷ others) memory
+      → memory ≡ opening_within r.max_pages m → CanBegin (first ∷ others) memory
   threaded first args others memory f starts s is = record {
     beginning = record {
       own = f.takes.own;
@@ -98,6 +99,7 @@ module _ {T : Type 0} (meaning : T → Meaning) (m : Parts) (r : RecordParts) wh
       };
       budget = refl;
       limit = refl;
+      most = refl;
     };
     same = refl;
   }
@@ -111,7 +113,7 @@ module _ {T : Type 0} (meaning : T → Meaning) (m : Parts) (r : RecordParts) wh
   no_other first worker zero x other h = absurd (other refl)
   no_other first worker (suc k) x other h = absurd (cc h)
 
-  alone : (first : T) (memory : Memory) → First first → (StartsThreads m → ⊥) → memory ≡ opening_memory m → CanBegin (first ∷ []) memory
+  alone : (first : T) (memory : Memory) → First first → (StartsThreads m → ⊥) → memory ≡ opening_within r.max_pages m → CanBegin (first ∷ []) memory
   alone first memory f none is =
       let worker : List Value → Config = start_of m f.takes.func_type f.takes.body in record {
         beginning = record {
@@ -135,6 +137,7 @@ module _ {T : Type 0} (meaning : T → Meaning) (m : Parts) (r : RecordParts) wh
           };
           budget = refl;
           limit = refl;
+          most = refl;
         };
         same = refl;
       }
@@ -143,7 +146,7 @@ module _ {T : Type 0} (meaning : T → Meaning) (m : Parts) (r : RecordParts) wh
       no_imports zero h = refl
       no_imports (suc n) h = absurd (h (omega arith))
 
-  pub can_begin : (threads : List T) (memory : Memory) → AreThreads meaning m r threads → memory ≡ opening_memory m → CanBegin threads memory
+  pub can_begin : (threads : List T) (memory : Memory) → AreThreads meaning m r threads → memory ≡ opening_within r.max_pages m → CanBegin threads memory
   can_begin threads memory a is =
       subst (λ (l : List T). CanBegin l memory) (sym a.list)
       (elim a.are_others [

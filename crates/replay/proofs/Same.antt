@@ -16,7 +16,8 @@ use Rattle.validate_module_rules.proofs.ExportLaws.{exported_is}
 use Rattle.interp_machine.specs.State.{State, At}
 use Rattle.interp.specs.Starts.{IsFunction, start_of}
 use Rattle.spawn_host.specs.Entries.{Exports, StartsThreads, CallsThreadStart}
-use Rattle.spawn_host.specs.Runs.{Beginning, start_with}
+use Rattle.schedule_runs.specs.Runs.{Start}
+use Rattle.spawn_host.specs.Runs.{Beginning, start_with, opening_within}
 use Rattle.replay_text.specs.declared.parts.RecordParts.{RecordParts}
 use Rattle.replay.specs.Runs.{BeginsBy, start_of_record}
 
@@ -64,5 +65,6 @@ module _ (m : Parts) (distinct : HasDistinctNames m.exports) where
   same_start r x y =
       let same = same_function r.invoke x.own y.own x.func_type y.func_type x.body y.body x.exports y.exports in
       let spawned : x.spawned ≡ y.spawned = fun_ext (λ n. fun_ext (λ arg. same_spawned r.invoke r.args x y n arg)) in
-      ap (λ (t : FuncType). start_with m t x.body r.args x.spawned r.fuel) same.0 ∙ ap (λ (b : Body). start_with m y.func_type b r.args x.spawned r.fuel) same.1
-      ∙ ap (λ (s : ℕ → ℕ → State). start_with m y.func_type y.body r.args s r.fuel) spawned
+      ap (λ (s : Start). record s { opening = opening_within r.max_pages m })
+      (ap (λ (t : FuncType). start_with m t x.body r.args x.spawned r.fuel) same.0 ∙ ap (λ (b : Body). start_with m y.func_type b r.args x.spawned r.fuel) same.1
+      ∙ ap (λ (s : ℕ → ℕ → State). start_with m y.func_type y.body r.args s r.fuel) spawned)

@@ -11,7 +11,7 @@ use Rattle.schedule.specs.Histories.{Place}
 use Rattle.schedule.specs.Machine.{thread_wants}
 use Rattle.schedule_threads.specs.Shared.{Shared, try_rules}
 use Rattle.schedule_threads.specs.Threads.{machine_of}
-use Rattle.schedule_runs.specs.Runs.{Start, system_of, first_state, first_places, as_acts}
+use Rattle.schedule_runs.specs.Runs.{Start, system_of, state_for, first_places, as_acts}
 use Rattle.interp_trait.specs.Turns.{Running}
 use Rattle.replay_text.specs.declared.parts.RecordParts.{RecordParts}
 use Rattle.replay_rules.specs.Logs as logs
@@ -23,15 +23,15 @@ use Rattle.replay.specs.Verdicts.{WalksAlong, AgreeingRecordsAreOfRuns, WrongEnd
 use Rattle.replay.proofs.Beginning.{laws_of, begins}
 
 module _ (b : Start) (r : RecordParts) (z : systems.State Shared Running) (places : ℕ → Place Answer) (walks : WalksAlong b r z places) where
-  made : IsMadeBy (system_of b) (try_rules false (Some r.limit)) (first_state b) first_places (as_acts r.log) z places
+  made : IsMadeBy (system_of b) (try_rules false (Some r.limit)) (state_for r.threads b) first_places (as_acts r.log) z places
   made = walks_are_made _ _ _ _ _ _ (system_of b) (try_rules false (Some r.limit)) (laws_of b)
-      (first_state b) first_places (begins b) (as_acts r.log) z places walks
+      (state_for r.threads b) first_places (begins r.threads b) (as_acts r.log) z places walks
 
   module _ (S : List Mark) (makes : MakesLog b r S) where
     alike : ((state_along b r S).shared ≡ z.shared)
         × ((m : ℕ) → thread_wants (machine_of b.program) ((state_along b r S).threads m) ≡ Gone → z.threads m ≡ (state_along b r S).threads m)
     alike = ends_are_the_same _ _ _ _ _ _ (system_of b) (try_rules false (Some r.limit)) (laws_of b)
-        (first_state b) first_places (begins b) (as_acts r.log) z places walks S makes
+        (state_for r.threads b) first_places (begins r.threads b) (as_acts r.log) z places walks S makes
 
     pub same_memory : (state_along b r S).shared.memory ≡ z.shared.memory
     same_memory = ap (λ (x : Shared). x.memory) alike.0
@@ -91,5 +91,5 @@ no_run_has_a_misfit b r k misfit last run =
     misfit.none (drop (suc k) (as_acts r.log)) (
       run.schedule,
       subst (λ l. logs.MakesLog (system_of b) (try_rules false (Some r.limit))
-          (first_state b) first_places l run.schedule) (sym (take-append-drop (suc k) (as_acts r.log))) run.makes,
+          (state_for r.threads b) first_places l run.schedule) (sym (take-append-drop (suc k) (as_acts r.log))) run.makes,
     )

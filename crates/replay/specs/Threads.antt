@@ -1,11 +1,12 @@
 -- The threads of a run by a record, before their first turn.
-use Rattle.std.specs.Prelude.{ℕ, ◌≡◌, ◌⊎◌, List, [], ◌∷◌}
+use Rattle.std.specs.Prelude.{ℕ, ◌≡◌, ◌+◌, ◌⊎◌, List, [], ◌∷◌}
 use Rattle.types.specs.declared.value.Value.{Value}
 use Rattle.types.specs.declared.parts.Parts.{Parts}
 use Rattle.interp_trait.specs.Turns.{Meaning}
 use Rattle.spawn_host.specs.Entries.{IsUnknown, Refuses, StartsThreads}
 use Rattle.spawn_host.specs.Threads.{IsFirst, AreSpawnable}
 use Rattle.replay_text.specs.declared.parts.RecordParts.{RecordParts}
+use Rattle.replay.specs.Runs.{invoke_line}
 use Rattle.replay.specs.declared.fault.ReplayFault.{ReplayFault}
 use Rattle.replay.specs.declared.fault.ReplayFault.TheVariants.{Line, EndLine, NoMemory}
 
@@ -23,8 +24,9 @@ pub record AreThreads {T : Type 0} (meaning : T → Meaning)
   pub is_first : IsFirst meaning m r.invoke r.args r.fuel first
   pub are_others : AreOthers meaning m r.fuel others
 
--- There is no such call: the record's line 2 or 3 doesn't fit.
+-- There is no such call: the record's line of the name doesn't fit, or that of the arguments behind it.
 abbrev pub IsCallFault : Parts → RecordParts → ReplayFault → Type 0
-IsCallFault m r (Line line) = ((line ≡ 2) × IsUnknown m r.invoke) ⊎ ((line ≡ 3) × Refuses m r.invoke r.args)
+IsCallFault m r (Line line) =
+    ((line ≡ invoke_line r.version) × IsUnknown m r.invoke) ⊎ ((line ≡ invoke_line r.version + 1) × Refuses m r.invoke r.args)
 IsCallFault m r (EndLine line) = ⊥
 IsCallFault m r NoMemory = Unit {0}

@@ -1,15 +1,15 @@
 //! The replay of a recorded run of a module.
-ghost use Rattle.std.specs.Prelude.{◌≡◌, IfOk, IfErr};
+ghost use Rattle.std.specs.Prelude.{◌≡◌, ◌↔◌, IsTrue, IfOk, OnOk, IfErr};
 ghost use Rattle.validate_typing.specs.Validity.{HasDistinctNames};
-ghost use Rattle.spawn_host.specs.Runs.{opening_memory};
-ghost use Rattle.replay.specs.Runs.{IsRunOf, IsReplayFault, ShowsNoRun};
+ghost use Rattle.spawn_host.specs.Runs.{opening_within};
+ghost use Rattle.replay.specs.Runs.{HasLength, HasPages, OfScale, IsRunOf, IsReplayFault, ShowsNoRun, pages_line};
 
 use crate::end::EndState;
 use crate::fault::ReplayFault;
 use crate::threads::threads_of;
 use crate::walking::walk;
 use interp::Thread;
-use replay_text::Record;
+use replay_text::{Record, RecordParts, Version};
 use replay_walk::{Unwatched, Watch};
 use shared_memory_sequential::OneMemory;
 use std::alloc::Global;
@@ -22,9 +22,11 @@ use validate::ValidModule;
 /// and at most the fuel for each thread.
 ///
 /// # Errors
-/// `Line` and `EndLine` name the first line of the record's text that doesn't fit, from line 1 on: 2 where no function of the
-/// module itself is exported under the name, 3 where the arguments don't fit it; behind them the first entry with which no
-/// run goes on, or the first line behind the log with which none ends. `NoMemory` says nothing of the record.
+/// `Line` and `EndLine` name the first line of the record's text that doesn't fit, from line 1 on. In version 2 it is 2 where
+/// the module has another length, and 4 where its memory has more pages than there might be, at first or at most, as in
+/// version 1 line 1. Then comes the line of the name, 5 or 2, where no function of the module itself is exported under it,
+/// and the line behind it where the arguments don't fit it; behind them the first entry with which no run goes on, or the
+/// first line behind the log with which none ends. `NoMemory` says nothing of the record.
 pub fn replay(alloc: Global, module: &ValidModule, record: &Record) -> Result<EndState, ReplayFault>
     ensures run { IfOk result (λ end. IsRunOf «module».now.parts «record».now end) }
     ensures fault { IfErr result (λ fault. IsReplayFault «module».now.parts «record».now fault) }
@@ -49,9 +51,15 @@ pub fn replay_watched<'m, W: Watch<Thread<'m>>>(
 {
     has_distinct_names(module);
     let parts = record.parts();
+    check_scale(module, parts)?;
     let threads = threads_of(alloc, module, parts)?;
     let ends = Vec::from_slice(alloc, parts.ends.as_slice())?;
-    let memory = walk(threads, opening(alloc, module)?, parts, watch)?;
+    let memory = walk(
+        threads,
+        opening(alloc, module, parts.max_pages)?,
+        parts,
+        watch,
+    )?;
     Ok(EndState {
         threads: ends,
         pages: parts.pages,
@@ -66,13 +74,49 @@ fn has_distinct_names(module: &ValidModule)
     module.parts();
 }
 
-/// The memory of a module before the first instruction.
-fn opening(alloc: Global, module: &ValidModule) -> Result<OneMemory, ReplayFault>
-    ensures opened { IfOk result (λ memory. memory ≡ opening_memory «module».now.parts) }
+/// Whether the record is of a module of this length, whose memory has no more pages than there might be.
+fn check_scale(module: &ValidModule, parts: &RecordParts) -> Result<(), ReplayFault>
+    ensures fits { OnOk result (HasLength «module».now.parts parts.now × HasPages «module».now.parts parts.now) }
+    ensures fault { IfErr result (λ fault. OfScale «module».now.parts parts.now fault) }
+{
+    if !has_length(module, parts) {
+        return Err(ReplayFault::Line(MODULE_LINE));
+    }
+    if !module.has_pages_within(parts.max_pages) {
+        return Err(ReplayFault::Line(pages_line(parts.version)));
+    }
+    Ok(())
+}
+
+/// The line of the module's length.
+const MODULE_LINE: u32 = 2;
+
+/// The line that says how many pages there might be.
+fn pages_line(version: Version) -> u32
+    ensures { result ≡ pages_line version }
+{
+    match version {
+        Version::One => 1,
+        Version::Two => 4,
+    }
+}
+
+fn has_length(module: &ValidModule, parts: &RecordParts) -> bool
+    ensures { IsTrue result ↔ HasLength «module».now.parts parts.now }
+{
+    match parts.version {
+        Version::One => true,
+        Version::Two => module.parts().length == parts.module_len,
+    }
+}
+
+/// The memory of a module before the first instruction, where one without a maximum may have so many pages.
+fn opening(alloc: Global, module: &ValidModule, max_pages: u32) -> Result<OneMemory, ReplayFault>
+    ensures opened { IfOk result (λ memory. memory ≡ opening_within max_pages «module».now.parts) }
     ensures fault { IfErr result (λ fault. fault ≡ ReplayFault.NoMemory) }
 {
     let image = module.image(alloc)?;
-    match OneMemory::open(alloc, &image, module.pages_max()) {
+    match OneMemory::open(alloc, &image, module.pages_max_within(max_pages)) {
         Ok(memory) => Ok(memory),
         Err(_) => Err(ReplayFault::NoMemory),
     }

@@ -1,12 +1,13 @@
 //! The threads of a run by a record, before their first turn.
-ghost use Rattle.std.specs.Prelude.{IfOk, IfErr};
+ghost use Rattle.std.specs.Prelude.{◌≡◌, IfOk, IfErr};
+ghost use Rattle.replay.specs.Runs.{invoke_line};
 ghost use Rattle.spawn_host.specs.Threads.{IsFirst};
 ghost use Rattle.replay.specs.Threads.{AreThreads, IsCallFault};
 ghost use Rattle.interp.specs.Threads.{meaning_in};
 
 use crate::fault::ReplayFault;
 use interp::Thread;
-use replay_text::RecordParts;
+use replay_text::{RecordParts, Version};
 use spawn_host::{Call, first_thread, spawnable_threads};
 use spawn_host_workers::RunFault;
 use std::alloc::Global;
@@ -31,10 +32,15 @@ pub(crate) fn threads_of<'m>(
     Ok(threads)
 }
 
-/// The line of the name, and that of the arguments.
-const INVOKE_LINE: u32 = 2;
-
-const ARGS_LINE: u32 = 3;
+/// The line of the name. That of the arguments stands behind it.
+fn invoke_line(version: Version) -> u32
+    ensures { result ≡ invoke_line version }
+{
+    match version {
+        Version::One => 2,
+        Version::Two => 5,
+    }
+}
 
 /// Thread 0: it is about to call the exported function with the record's arguments.
 fn first_of<'m>(
@@ -52,8 +58,8 @@ fn first_of<'m>(
     };
     match first_thread(alloc, module, call) {
         Ok(thread) => Ok(thread),
-        Err(RunFault::UnknownExport) => Err(ReplayFault::Line(INVOKE_LINE)),
-        Err(RunFault::WrongArguments) => Err(ReplayFault::Line(ARGS_LINE)),
+        Err(RunFault::UnknownExport) => Err(ReplayFault::Line(invoke_line(parts.version))),
+        Err(RunFault::WrongArguments) => Err(ReplayFault::Line(invoke_line(parts.version) + 1)),
         Err(RunFault::NoMemory | RunFault::NoThread) => Err(ReplayFault::NoMemory),
     }
 }

@@ -12,9 +12,6 @@ use replay_text::RecordParts;
 use replay_walk::{Walk, Watch};
 use shared_memory_sequential::OneMemory;
 
-/// The line of the first entry.
-const FIRST_ENTRY: usize = 6;
-
 /// The number of a line: so many behind this one.
 fn line_at(first: usize, behind: usize) -> u32
     requires { first + behind ≤ 2000000 }
@@ -40,14 +37,15 @@ pub(crate) fn walk<T: TakesTurns + Drop, W: Watch<T>>(
     ensures fault { IfErr result (λ fault. (run : Run) → IsReadyFor T.meaning run parts.now threads.items memory
         → IsWalkFault (start run) parts.now fault) }
 {
-    let mut walk = Walk::new(threads, memory);
+    let mut walk = Walk::new(threads, memory, parts.threads);
+    let first = parts.version.header_lines() + 1;
     let log = parts.log.as_slice();
     if let Some(at) = walk.along_watched(log, parts.limit, parts.fuel, watch) {
-        return Err(ReplayFault::Line(line_at(FIRST_ENTRY, at)));
+        return Err(ReplayFault::Line(line_at(first, at)));
     }
     let held = walk.memory.pages();
     match first_wrong_end(&walk.threads, &walk.stage, held, parts) {
-        Some(at) => Err(ReplayFault::EndLine(line_at(log.len() + FIRST_ENTRY, at))),
+        Some(at) => Err(ReplayFault::EndLine(line_at(first + log.len(), at))),
         None => Ok(walk.memory),
     }
 }

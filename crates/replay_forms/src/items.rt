@@ -8,8 +8,8 @@ use crate::print::Printed;
 use std::alloc::{AllocError, Global};
 use std::io::{self, Write};
 
-/// A kind of item: a type without values, which says how the item at a place is read. So a crate above may say it of
-/// types of another crate.
+/// A kind of item: a value that says how the item at a place is read. So a crate above may say it of types of another
+/// crate, and of numbers that it has read before.
 pub trait Item {
     ghost use Rattle.std.specs.Prelude.{ℕ, List, Option};
     ghost use Rattle.replay_forms.specs.Reading.{Reads};
@@ -17,26 +17,27 @@ pub trait Item {
     type Value: Drop;
 
     /// The item of a place at the front of the bytes, and the bytes behind it.
-    ghost at: { ℕ → List ℕ → Option (Self.Value × List ℕ) };
+    ghost at: { Self → ℕ → List ℕ → Option (Self.Value × List ℕ) };
 
     /// Reads the item of a place.
-    fn read(place: usize, bytes: &[u8]) -> Option<(Self::Value, &[u8])>
-        ensures { Reads (λ r. (r.0, r.1.now)) result (at place bytes.now) };
+    fn read<'a>(&self, place: usize, bytes: &'a [u8]) -> Option<(Self::Value, &'a [u8])>
+        ensures { Reads (λ r. (r.0, r.1.now)) result (at self.now place bytes.now) };
 }
 
 /// As many items as stand there, and at most `most`. Memory is taken as they come.
-pub fn several<T: Item>(
+pub fn several<'a, T: Item>(
     alloc: Global,
+    kind: &T,
     most: usize,
-    bytes: &[u8],
-) -> Result<(Vec<T::Value>, &[u8]), AllocError>
-    ensures reads { IfOk result (λ r. (r.0.items, r.1.now) ≡ several T.at 0 most bytes.now) }
+    bytes: &'a [u8],
+) -> Result<(Vec<T::Value>, &'a [u8]), AllocError>
+    ensures reads { IfOk result (λ r. (r.0.items, r.1.now) ≡ several (T.at kind.now) 0 most bytes.now) }
     ensures few { IfOk result (λ r. length r.0.items ≤ most) }
 {
     let mut items = Vec::new(alloc);
     let mut rest = bytes;
     for place in 0..most {
-        match T::read(place, rest) {
+        match kind.read(place, rest) {
             None => return Ok((items, rest)),
             Some((item, after)) => {
                 items.push(item)?;
@@ -66,9 +67,9 @@ impl Item for HexByte {
 
     type Value = u8;
 
-    ghost at = { λ place. hex_byte_at };
+    ghost at = { λ kind place. hex_byte_at };
 
-    fn read(_place: usize, bytes: &[u8]) -> Option<(u8, &[u8])> {
+    fn read<'a>(&self, _place: usize, bytes: &'a [u8]) -> Option<(u8, &'a [u8])> {
         match bytes {
             [high, low, rest @ ..] => {
                 let high = hex_value(*high)?;

@@ -1,5 +1,5 @@
 -- What threads did together, some schedule without lost tries makes.
-use Rattle.std.proofs.Common.{◌≡◌, ℕ, zero, suc, ◌+◌, ◌<◌, ◌≤◌, false, List, [], ◌∷◌, ◌++◌, length, Option, Some, None, refl, sym, ◌∙◌, ap, arith, append_assoc}
+use Rattle.std.proofs.Common.{◌≡◌, ℕ, zero, suc, ◌+◌, ◌<◌, ◌≤◌, false, List, [], ◌∷◌, ◌++◌, length, Option, Some, None, refl, sym, ◌∙◌, ap, subst, arith, append_assoc}
 use Rattle.std.specs.List.{slice_get}
 use Rattle.std.proofs.lemmas.Option.{slice_get_within}
 use Rattle.types.specs.declared.event.Event.{Event}
@@ -9,6 +9,7 @@ use Rattle.types.specs.declared.event.Answer.{Answer}
 use Rattle.types.specs.declared.event.Reply.{Reply}
 use Rattle.types.specs.declared.outcome.Outcome.{Outcome}
 use Rattle.types.specs.declared.outcome.ThreadReport.{ThreadReport}
+use Rattle.types.specs.Limits.{most_threads}
 use Rattle.shared_memory.specs.Memory.{pages}
 use Rattle.shared_memory.specs.WaitQueue.{next_id}
 use Rattle.shared_memory.specs.History.{memory_after, queue_after}
@@ -41,8 +42,12 @@ none_past [] n is = omega arith
 none_past (x ∷ reports) zero is = absurd (cc is)
 none_past (x ∷ reports) (suc n) is = let past : length reports ≤ n = none_past reports n is in omega (arith, past)
 
-module _ (b : Start) (r : RecordParts) (outcomes : ℕ → Outcome) (lefts : ℕ → ℕ)
-    (ran : RanTogether b false (Some r.limit) r.log outcomes lefts) (tells : RecordTells b r outcomes lefts) where
+module _ (b : Start) (of : RecordParts) (outcomes : ℕ → Outcome) (lefts : ℕ → ℕ)
+    (ran : RanTogether b false (Some of.limit) of.log outcomes lefts) (tells : RecordTells b of outcomes lefts) where
+  -- the record, with as many threads as a run may have
+  abbrev r : RecordParts
+  r = record of { threads = most_threads }
+
   one : IsOneRun b false (Some r.limit) r.log outcomes lefts
   one = threads_make_one_run b false (Some r.limit) r.log outcomes lefts ran
 
@@ -101,4 +106,6 @@ module _ (b : Start) (r : RecordParts) (outcomes : ℕ → Outcome) (lefts : ℕ
   recorded = record { schedule = schedule; makes = makes; agrees = λ m within. agrees_with m (slice_get r.ends m) refl; memory = one.gives.memory }
 
 pub runs_are_recorded : RunsAreRecorded
-runs_are_recorded b r outcomes lefts ran tells = recorded b r outcomes lefts ran tells
+runs_are_recorded b r outcomes lefts ran tells =
+    subst (λ (x : RecordParts). IsRecordedRun b x (memory_after b.opening r.log))
+    (ap (λ (k : ℕ). record r { threads = k }) (sym tells.threads)) (recorded b r outcomes lefts ran tells)

@@ -7,11 +7,12 @@ use Rattle.types.specs.declared.event.Reply.{Reply}
 use Rattle.types.specs.declared.event.Reply.TheVariants as replies
 use Rattle.types.specs.declared.outcome.Outcome.{Outcome}
 use Rattle.types.specs.declared.outcome.ThreadReport.{ThreadReport}
-use Rattle.types.specs.Limits.{most_pages, past_limit, most_limit, most_fuel}
+use Rattle.types.specs.Limits.{most_pages, past_limit, most_limit, most_fuel, most_module_bytes}
 use Rattle.shared_memory.specs.History.{AreEntries}
 use Rattle.schedule_runs.specs.Runs.{Start, RanTogether}
 use Rattle.replay_text.specs.Conditions.{Fits64, EventFits, IsValue, IsOutcome}
 use Rattle.replay_text.specs.Text.{IsRecord}
+use Rattle.replay_text.specs.declared.version.Version.TheVariants as versions
 use Rattle.replay_text.specs.declared.parts.RecordParts.{RecordParts}
 use Rattle.replay_rules.specs.Telling.{RecordTells}
 
@@ -38,6 +39,12 @@ pub record AreTyped (r : RecordParts) : Type 0 where
   pub log : All EntryFits r.log
   pub ends : All ReportFits r.ends
 
+-- A record is written in version 2, with the numbers of the program that writes it.
+pub record IsWritten (r : RecordParts) : Type 0 where
+  pub version : r.version ≡ versions.Two
+  pub module_len : r.module_len ≤ most_module_bytes
+  pub max_pages : r.max_pages ≡ most_pages
+
 -- What the memory that records keeps to: the limit is 1 to 1,000,000 entries, of which the log has at most 192 more, the pages are
 -- at most 256, and the events meet their conditions.
 pub record IsLimited (r : RecordParts) : Type 0 where
@@ -53,4 +60,4 @@ abbrev pub RunsAreInRange : Type 0
 RunsAreInRange =
     (b : Start) (r : RecordParts) (outcomes : ℕ → Outcome) (lefts : ℕ → ℕ) → RanTogether b false (Some r.limit) r.log outcomes lefts
     → RecordTells b r outcomes lefts
-    → r.fuel ≤ most_fuel → IsLimited r → AreTyped r → IsRecord r
+    → r.fuel ≤ most_fuel → IsWritten r → IsLimited r → AreTyped r → IsRecord r

@@ -14,7 +14,7 @@ use Rattle.interp_machine.specs.Program.{Program}
 use Rattle.interp_machine.specs.Config.{Config}
 use Rattle.interp_machine.specs.State.{At}
 use Rattle.schedule_threads.specs.Shared.{Shared, try_rules}
-use Rattle.schedule_runs.specs.Runs.{Start, system_of, first_shared, first_state, first_places, as_acts}
+use Rattle.schedule_runs.specs.Runs.{Start, system_of, shared_for, state_for, first_places, as_acts}
 use Rattle.interp_trait.specs.Turns.{Running, spawned_in}
 use Rattle.replay_text.specs.declared.parts.RecordParts.{RecordParts}
 use Rattle.replay_rules.specs.Logs as logs
@@ -39,16 +39,17 @@ module _ (r : RecordParts) (z : systems.State Shared Running) (places : ℕ → 
   LineAgrees m = EndAgrees m (slice_get r.ends m)
 
 module _ (b : Start) (r : RecordParts) where
-  -- A schedule without lost tries makes the record's log: that is legal, no entry but an answer or a leave passes the limit,
-  -- and a thread finds the log full only where it has reached the limit before the thread's leave.
+  -- The run has as many threads as the record says at most. A schedule without lost tries makes the log: that is legal, no entry
+  -- but an answer or a leave passes the limit, and a thread finds the log full only where it has reached the limit before the
+  -- thread's leave.
   abbrev pub MakesLog : List Mark → Type 0
-  MakesLog S = logs.MakesLog (system_of b) (try_rules false (Some r.limit)) (first_state b) first_places (as_acts r.log) S
+  MakesLog S = logs.MakesLog (system_of b) (try_rules false (Some r.limit)) (state_for r.threads b) first_places (as_acts r.log) S
 
   abbrev pub state_along : List Mark → systems.State Shared Running
-  state_along S = scheduled_run (system_of b) (first_state b) S
+  state_along S = scheduled_run (system_of b) (state_for r.threads b) S
 
   abbrev pub last_places : ℕ → Place Answer
-  last_places = places_after (system_of b) (first_shared b) first_places (as_acts r.log)
+  last_places = places_after (system_of b) (shared_for r.threads b) first_places (as_acts r.log)
 
   -- The record is of a run that ends with this memory.
   pub record IsRecordedRun (last : Memory) : Type 0 where
@@ -59,7 +60,7 @@ module _ (b : Start) (r : RecordParts) where
 
   -- The entry at k is the first that doesn't fit.
   abbrev pub IsFirstMisfit : ℕ → Type 0
-  IsFirstMisfit k = logs.IsFirstMisfit (system_of b) (try_rules false (Some r.limit)) (first_state b) first_places (as_acts r.log) k
+  IsFirstMisfit k = logs.IsFirstMisfit (system_of b) (try_rules false (Some r.limit)) (state_for r.threads b) first_places (as_acts r.log) k
 
   -- The log can be made, and of the end lines and the pages line that at k is the first that doesn't agree: with some run all
   -- before it do, and with none it does.

@@ -1,5 +1,5 @@
 -- The laws of events, replies and entries.
-use Rattle.std.proofs.Common.{◌≡◌, ℕ, ◌-◌, ◌^◌, ◌≤◌, List, [], ◌∷◌, ◌++◌, Some, refl, sym, ap, subst, ◌∙◌, arith, ◌&&◌}
+use Rattle.std.proofs.Common.{◌≡◌, ℕ, ◌-◌, ◌^◌, ◌<◌, ◌≤◌, List, [], ◌∷◌, ◌++◌, Some, refl, sym, ap, subst, ◌∙◌, arith, ◌&&◌}
 use Rattle.std.specs.Prelude.{codes}
 use Rattle.std.specs.Fmt.{decimal}
 use Rattle.std.proofs.lemmas.Bool.{and_parts}
@@ -12,7 +12,7 @@ use Rattle.types.specs.declared.event.Answer.TheVariants.{Number, ForGood}
 use Rattle.types.specs.declared.event.Reply.{Reply}
 use Rattle.types.specs.declared.event.Reply.TheVariants as replies
 use Rattle.types.specs.declared.event.Entry.{Entry}
-use Rattle.types.specs.Limits.{most_spawned}
+use Rattle.types.specs.Limits.{most_threads}
 use Rattle.replay_forms.specs.Reading.{Reader, FitsSigned64, after, number_at, number_then, behind, both, made, word_for, first, signed_then}
 use Rattle.replay_forms.specs.Texts.{line, spaced}
 use Rattle.replay_forms.proofs.Laws.{Law, Takes, number_text, number_law, signed_text, signed_law, behind_text}
@@ -211,9 +211,14 @@ entry_text e rest = line (entry_words e) rest
 abbrev pieces_text : ℕ × (Event × Reply) → List ℕ → List ℕ
 pieces_text = both_text number (both_text event_text (behind_text (codes "= ") reply_text))
 
-pieces_law : Law pieces_text (λ x. (x.0 ≤ most_spawned) × (EventFits (x.1).0 × ReplyFits (x.1).1))
-    (both (number_then most_spawned (32 ∷ [])) (both event_at (behind (codes "= ") reply_at)))
-pieces_law = both_law _ _ _ _ _ _ (number_law most_spawned 32 [] (omega arith) refl) (both_law _ _ _ _ _ _ event_law (behind_law _ _ _ _ reply_law))
+-- so many threads as a record may have
+abbrev pub IsCount : ℕ → Type 0
+IsCount threads = (1 ≤ threads) × (threads ≤ most_threads)
+
+pieces_law : (threads : ℕ) → IsCount threads → Law pieces_text (λ x. (x.0 ≤ threads - 1) × (EventFits (x.1).0 × ReplyFits (x.1).1))
+    (both (number_then (threads - 1) (32 ∷ [])) (both event_at (behind (codes "= ") reply_at)))
+pieces_law threads count =
+    both_law _ _ _ _ _ _ (number_law (threads - 1) 32 [] (omega (arith, count.1)) refl) (both_law _ _ _ _ _ _ event_law (behind_law _ _ _ _ reply_law))
 
 same_text : (thread : ℕ) (event : Event) (reply : Reply) (rest : List ℕ)
     → pieces_text (thread, (event, reply)) rest ≡ entry_text (record { thread = thread; event = event; reply = reply })
@@ -221,28 +226,33 @@ same_text : (thread : ℕ) (event : Event) (reply : Reply) (rest : List ℕ)
 same_text thread event reply rest = sym (ap (λ (t : List ℕ). (decimal thread) ++ t)
     (words_line_spaced (event_words event) (codes "=") (reply_word reply ∷ []) rest))
 
-entry_there : (x : ℕ × (Event × Reply)) (y : Entry) (rest : List ℕ) → (x.0 ≤ most_spawned)
+entry_there : (threads : ℕ) → IsCount threads → (x : ℕ × (Event × Reply)) (y : Entry) (rest : List ℕ) → (x.0 ≤ threads - 1)
     × (EventFits (x.1).0 × ReplyFits (x.1).1) → entry_of x ≡ Some y → (pieces_text x rest ≡ entry_text y rest)
-    × IsEntry y
-entry_there x y rest fit e =
+    × IsEntry threads y
+entry_there threads count x y rest fit e =
     let made_entry : Entry = record { thread = x.0; event = (x.1).0; reply = (x.1).1 } in
     let p = only_some (is_event (x.1).0 && is_reply_to (x.1).0 (x.1).1) (Some made_entry) y e in
     let q = and_parts (is_event (x.1).0) (is_reply_to (x.1).0 (x.1).1) p.0 in
-    let good : IsEntry made_entry = record { thread = fit.0; event_fits = (fit.1).0; event = event_found (x.1).0 q.0; reply_fits = (fit.1).1; reply = q.1 } in
-    subst (λ (z : Entry). (pieces_text x rest ≡ entry_text z rest) × IsEntry z) (some_is made_entry y p.1) (same_text x.0 (x.1).0 (x.1).1 rest, good)
+    let below : x.0 < threads = omega (arith, fit.0, count.0) in
+    let good : IsEntry threads made_entry = record { thread = below; event_fits = (fit.1).0; event = event_found (x.1).0 q.0; reply_fits = (fit.1).1; reply = q.1 } in
+    subst (λ (z : Entry). (pieces_text x rest ≡ entry_text z rest) × IsEntry threads z) (some_is made_entry y p.1) (same_text x.0 (x.1).0 (x.1).1 rest, good)
 
-pub entry_takes : (bytes : List ℕ) (x : Entry) (rest : List ℕ) → entry_at bytes ≡ Some (x, rest) → (bytes ≡ entry_text x rest) × IsEntry x
+pub entry_takes : (threads : ℕ) → IsCount threads → (bytes : List ℕ) (x : Entry) (rest : List ℕ)
+    → entry_at threads bytes ≡ Some (x, rest) → (bytes ≡ entry_text x rest) × IsEntry threads x
 unfolding entry_at
-entry_takes bytes x rest e = (made_takes entry_of _ _ _ entry_text IsEntry pieces_law entry_there).taken bytes x rest e
+entry_takes threads count bytes x rest e =
+    (made_takes entry_of _ _ _ entry_text (IsEntry threads) (pieces_law threads count) (entry_there threads count)).taken bytes x rest e
 
-pub entry_again : (e : Entry) (rest : List ℕ) → IsEntry e → entry_at (entry_text e rest) ≡ Some (e, rest)
+pub entry_again : (threads : ℕ) → IsCount threads → (e : Entry) (rest : List ℕ) → IsEntry threads e
+    → entry_at threads (entry_text e rest) ≡ Some (e, rest)
 unfolding entry_at
-entry_again e rest fit =
+entry_again threads count e rest fit =
     let t = event_made e.event fit.event in
     let u = fit.reply in
     let to : entry_of (e.thread, (e.event, e.reply)) ≡ Some e = rw (t, u) refl in
-    ap entry_at (sym (same_text e.thread e.event e.reply rest))
-    ∙ made_again entry_of _ _ _ pieces_law (e.thread, (e.event, e.reply)) e rest (
-      fit.thread,
+    let low : e.thread ≤ threads - 1 = omega (arith, fit.thread) in
+    ap (entry_at threads) (sym (same_text e.thread e.event e.reply rest))
+    ∙ made_again entry_of _ _ _ (pieces_law threads count) (e.thread, (e.event, e.reply)) e rest (
+      low,
       (fit.event_fits, fit.reply_fits),
     ) to

@@ -1,5 +1,5 @@
--- The laws of the first five lines, of what stands behind them, and of whole records.
-use Rattle.std.proofs.Common.{◌≡◌, ℕ, ◌+◌, ◌/◌, ◌%◌, ◌≤◌, true, false, List, [], ◌∷◌, ◌++◌, Option, Some, None}
+-- The laws of the header, of what stands behind it, and of whole records.
+use Rattle.std.proofs.Common.{◌≡◌, ℕ, ◌+◌, ◌*◌, ◌/◌, ◌%◌, ◌≤◌, true, false, List, [], ◌∷◌, ◌++◌, Option, Some, None}
 use Rattle.std.proofs.Common.{Result, Ok, Err, inl, inr, ◌⊎◌, refl, sym, ap, subst, ◌∙◌, arith, map, length-append}
 use Rattle.std.specs.Prelude.{codes, length, ◌==◌}
 use Rattle.std.specs.List.{All}
@@ -12,8 +12,8 @@ use Rattle.types.specs.declared.value.Value.{Value}
 use Rattle.types.specs.declared.event.Entry.{Entry}
 use Rattle.types.specs.declared.outcome.ThreadReport.{ThreadReport}
 use Rattle.types.specs.Values.{value_text}
-use Rattle.types.specs.Limits.{most_pages, most_threads, past_limit, most_limit, most_fuel}
-use Rattle.replay_forms.specs.Reading.{◌>>=◌, Reader, after, number_at, number_then, behind, made, word_for, first, several, listed, hex_byte_at}
+use Rattle.types.specs.Limits.{most_pages, most_threads, most_limit, most_fuel, most_module_bytes}
+use Rattle.replay_forms.specs.Reading.{◌>>=◌, Reader, after, number_at, number_then, behind, both, made, word_for, first, several, listed, hex_byte_at}
 use Rattle.replay_forms.specs.Texts.{line, words_line, lines_text, texts, hex_text, hex_digit}
 use Rattle.replay_forms.proofs.Laws.{Law, bind_some, move, after_takes, after_again, begins_plain, number_text}
 use Rattle.replay_forms.proofs.Laws.{number_law, behind_text, behind_law, both_text, both_law, made_takes, made_again}
@@ -26,13 +26,18 @@ use Rattle.replay_text.specs.Words.{entry_words}
 use Rattle.replay_text.specs.Conditions.{IsValue, IsEntry, IsReport}
 use Rattle.replay_text.specs.Text.{name_word, end_lines, record_text, IsRecord}
 use Rattle.replay_text.specs.Reading.{value_at, arg_at, end_at, entry_at, named, invoke_at, args_at, fuel_at}
-use Rattle.replay_text.specs.Reading.{limit_at, above_zero, pages_at, header_at, Header, some_items, ends_at, body_at}
-use Rattle.replay_text.specs.Reading.{Body, parts_of, nothing_left, record_at, first_line, last_line}
+use Rattle.replay_text.specs.Reading.{limit_at, above_zero, count_at, Scale, one_at, two_at, scale_at, pages_at, header_at, Header}
+use Rattle.replay_text.specs.Reading.{module_at, threads_at, max_pages_at, threads_in, max_pages_in, limit_in}
+use Rattle.replay_text.specs.Reading.{some_items, ends_at, body_at}
+use Rattle.replay_text.specs.Reading.{Body, parts_of, nothing_left, record_at, first_line, second_line, last_line}
+use Rattle.replay_text.specs.Versions.{IsScale}
+use Rattle.replay_text.specs.declared.version.Version.{Version}
+use Rattle.replay_text.specs.declared.version.Version.TheVariants as versions
 use Rattle.replay_text.specs.declared.parts.RecordParts.{RecordParts}
 use Rattle.replay_text.specs.declared.fault.RecordFault.{RecordFault}
 use Rattle.replay_text.specs.declared.fault.RecordFault.TheVariants as faults
 use Rattle.replay_text.specs.Faults.{Gives}
-use Rattle.replay_text.proofs.Events.{entry_text, entry_takes, entry_again}
+use Rattle.replay_text.proofs.Events.{IsCount, entry_text, entry_takes, entry_again}
 use Rattle.replay_text.proofs.Records.{value_front, value_taken, value_back, end_text, EndFits, end_takes, end_again}
 
 -- ---- lists of items that fit
@@ -154,7 +159,7 @@ args_line : (i : ℕ) (args : List Value) (rest : List ℕ) → texts (λ k. arg
 args_line i [] rest = refl
 args_line i (v ∷ args) rest = ap (arg_text v) (args_line (i + 1) args rest)
 
--- ---- the first five lines
+-- ---- the lines before the entries
 
 abbrev ended : ℕ → List ℕ → List ℕ
 ended = number_text (10 ∷ [])
@@ -162,11 +167,11 @@ ended = number_text (10 ∷ [])
 fuel_law : Law (behind_text (codes "fuel ") ended) (λ n. n ≤ most_fuel) fuel_at
 fuel_law = behind_law (codes "fuel ") _ _ _ (number_law most_fuel 10 [] (omega arith) refl)
 
-abbrev LimitFits : ℕ → Type 0
-LimitFits n = (1 ≤ n) × (n ≤ most_limit)
+abbrev CountFits : ℕ → ℕ → Type 0
+CountFits max n = (1 ≤ n) × (n ≤ max)
 
-limit_plain : Law (behind_text (codes "limit ") ended) (λ n. n ≤ most_limit) (behind (codes "limit ") (number_then most_limit (10 ∷ [])))
-limit_plain = behind_law (codes "limit ") _ _ _ (number_law most_limit 10 [] (omega arith) refl)
+abbrev CountPlain : List ℕ → ℕ → Type 0
+CountPlain word max = Law (behind_text word ended) (λ n. n ≤ max) (behind word (number_then max (10 ∷ [])))
 
 none_some : (y : ℕ) (o : Option ℕ) → o ≡ None → o ≡ Some y → ⊥
 none_some y o p q = cc
@@ -174,43 +179,116 @@ none_some y o p q = cc
 above : (x : ℕ) → (x == 0) ≡ false → 1 ≤ x
 above x e = grind (arith, nat_tests, e)
 
-limit_there : (x y : ℕ) (rest : List ℕ) → x ≤ most_limit → above_zero x ≡ Some y
-    → (behind_text (codes "limit ") ended x rest ≡ behind_text (codes "limit ") ended y rest) × LimitFits y
-limit_there x y rest le e =
+count_there : (word : List ℕ) (max x y : ℕ) (rest : List ℕ) → x ≤ max → above_zero x ≡ Some y
+    → (behind_text word ended x rest ≡ behind_text word ended y rest) × CountFits max y
+count_there word max x y rest le e =
     elim (chosen (x == 0) None (Some x) (Some y) e) [
       | inl t ↦ absurd (none_some y None refl t.1)
-      | inr t ↦ subst (λ (z : ℕ). (behind_text (codes "limit ") ended x rest ≡ behind_text (codes "limit ") ended z
-          rest) × LimitFits z) (some_is x y t.1) (refl, (above x t.0, le))
+      | inr t ↦ subst (λ (z : ℕ). (behind_text word ended x rest ≡ behind_text word ended z
+          rest) × CountFits max z) (some_is x y t.1) (refl, (above x t.0, le))
     ]
 
-limit_to : (n : ℕ) → 1 ≤ n → above_zero n ≡ Some n
-limit_to n le =
+count_to : (n : ℕ) → 1 ≤ n → above_zero n ≡ Some n
+count_to n le =
     let t : (n == 0) ≡ false = grind (arith, nat_tests) in
     rw t refl
 
-limit_law : Law (behind_text (codes "limit ") ended) LimitFits limit_at
-limit_law = law_from _ _ _ (made_takes above_zero _ _ _ _ LimitFits limit_plain limit_there)
-    (λ n rest fit. made_again above_zero _ _ _ limit_plain n n rest fit.1 (limit_to n fit.0))
+count_law : (word : List ℕ) (max : ℕ) → CountPlain word max → Law (behind_text word ended) (CountFits max) (count_at word max)
+count_law word max plain = law_from _ _ _ (made_takes above_zero _ _ _ _ (CountFits max) plain (count_there word max))
+    (λ n rest fit. made_again above_zero _ _ _ plain n n rest fit.1 (count_to n fit.0))
+
+limit_law : Law (behind_text (codes "limit ") ended) (CountFits most_limit) limit_at
+limit_law = count_law (codes "limit ") most_limit (behind_law (codes "limit ") _ _ _ (number_law most_limit 10 [] (omega arith) refl))
+
+-- ---- the version, the length, the threads and the pages
+
+module_law : Law (behind_text (codes "module ") ended) (λ n. n ≤ most_module_bytes) module_at
+module_law = behind_law (codes "module ") _ _ _ (number_law most_module_bytes 10 [] (omega arith) refl)
+
+threads_law : Law (behind_text (codes "threads ") ended) (CountFits most_threads) threads_at
+threads_law = count_law (codes "threads ") most_threads (behind_law (codes "threads ") _ _ _ (number_law most_threads 10 [] (omega arith) refl))
+
+max_pages_law : Law (behind_text (codes "max-pages ") ended) (CountFits most_pages) max_pages_at
+max_pages_law = count_law (codes "max-pages ") most_pages (behind_law (codes "max-pages ") _ _ _ (number_law most_pages 10 [] (omega arith) refl))
+
+abbrev Sizes : Type 0
+Sizes = ℕ × (ℕ × ℕ)
+
+abbrev sizes_text : Sizes → List ℕ → List ℕ
+sizes_text = behind_text second_line (both_text (behind_text (codes "module ") ended)
+    (both_text (behind_text (codes "threads ") ended) (behind_text (codes "max-pages ") ended)))
+
+abbrev SizesFit : Sizes → Type 0
+SizesFit x = (x.0 ≤ most_module_bytes) × (CountFits most_threads (x.1).0 × CountFits most_pages (x.1).1)
+
+sizes_law : Law sizes_text SizesFit (behind second_line (both module_at (both threads_at max_pages_at)))
+sizes_law = behind_law second_line _ _ _ (both_law _ _ _ _ _ _ module_law (both_law _ _ _ _ _ _ threads_law max_pages_law))
+
+abbrev text_by : Version → Sizes → List ℕ → List ℕ
+text_by versions.One x rest = first_line ++ rest
+text_by versions.Two x rest = sizes_text x rest
+
+abbrev scale_text : Scale → List ℕ → List ℕ
+scale_text s rest = text_by s.0 s.1 rest
+
+abbrev ScaleFits : Scale → Type 0
+ScaleFits s = IsScale s.0 (s.1).0 ((s.1).1).0 ((s.1).1).1
+
+abbrev scale_two : Sizes → Scale
+scale_two x = (versions.Two, x)
+
+two_there : (x : Sizes) (y : Scale) (rest : List ℕ) → SizesFit x → Some (scale_two x) ≡ Some y
+    → (sizes_text x rest ≡ scale_text y rest) × ScaleFits y
+two_there x y rest fit e =
+    subst (λ (z : Scale). (sizes_text x rest ≡ scale_text z rest) × ScaleFits z) (some_is (scale_two x) y e) (refl, fit)
+
+one_back : (len threads pages : ℕ) (rest : List ℕ) → IsScale versions.One len threads pages
+    → scale_at (first_line ++ rest) ≡ Some ((versions.One, (len, (threads, pages))), rest)
+unfolding scale_at after
+one_back len threads pages rest fit = rw (fit.0, (fit.1).0, (fit.1).1) refl
+
+not_one : (x : Sizes) (rest : List ℕ) → one_at (sizes_text x rest) ≡ None
+unfolding after
+not_one x rest = refl
+
+scale_back : (v : Version) (x : Sizes) (rest : List ℕ) → ScaleFits (v, x) → scale_at (scale_text (v, x) rest) ≡ Some ((v, x), rest)
+unfolding scale_at
+scale_back versions.One x rest fit = one_back x.0 (x.1).0 (x.1).1 rest fit
+scale_back versions.Two x rest fit =
+    second_again one_at two_at (sizes_text x rest) _ (not_one x rest)
+    (made_again (λ y. Some (versions.Two, y)) _ _ _ sizes_law x (versions.Two, x) rest fit refl)
+
+scale_law : Law scale_text ScaleFits scale_at
+unfolding scale_at
+scale_law = law_from scale_text ScaleFits _ (first_takes _ _ one_at two_at
+    (word_takes _ first_line _ _ (λ rest. refl) (refl, (refl, refl)))
+    (made_takes (λ y. Some (versions.Two, y)) _ _ _ scale_text ScaleFits sizes_law two_there))
+    (λ s rest fit. scale_back s.0 s.1 rest fit)
+
+pub counted : (v : Version) (len threads pages : ℕ) → IsScale v len threads pages → IsCount threads × (pages ≤ most_pages)
+counted versions.One len threads pages fit = ((omega (arith, (fit.1).0), omega (arith, (fit.1).0)), omega (arith, (fit.1).1))
+counted versions.Two len threads pages fit = ((fit.1).0, ((fit.1).1).1)
 
 abbrev header_text : Header → List ℕ → List ℕ
-header_text = behind_text first_line (both_text (behind_text (codes "invoke ") name_text)
+header_text = both_text scale_text (both_text (behind_text (codes "invoke ") name_text)
     (both_text (behind_text (codes "args") args_text)
     (both_text (behind_text (codes "fuel ") ended) (behind_text (codes "limit ") ended))))
 
 abbrev HeaderFits : Header → Type 0
-HeaderFits h = NameFits h.0 × (AllFit (λ k. IsValue) 0 (h.1).0 × ((((h.1).1).0 ≤ most_fuel) × LimitFits ((h.1).1).1))
+HeaderFits h = ScaleFits h.0 × (NameFits (h.1).0 × (AllFit (λ k. IsValue) 0 ((h.1).1).0
+    × (((((h.1).1).1).0 ≤ most_fuel) × CountFits most_limit (limit_in h))))
 
 header_law : Law header_text HeaderFits header_at
 unfolding header_at
-header_law = behind_law first_line _ _ _ (both_law _ _ _ _ _ _ invoke_law (both_law _ _ _ _ _ _ args_law (both_law _ _ _ _ _ _ fuel_law limit_law)))
+header_law = both_law _ _ _ _ _ _ scale_law (both_law _ _ _ _ _ _ invoke_law (both_law _ _ _ _ _ _ args_law (both_law _ _ _ _ _ _ fuel_law limit_law)))
 
 -- ---- what stands behind them
 
 abbrev pages_text : ℕ → List ℕ → List ℕ
 pages_text = behind_text (codes "pages ") ended
 
-pages_law : Law pages_text (λ n. n ≤ most_pages) pages_at
-pages_law = behind_law (codes "pages ") _ _ _ (number_law most_pages 10 [] (omega arith) refl)
+pages_law : (max_pages : ℕ) → max_pages ≤ most_pages → Law pages_text (λ n. n ≤ max_pages) (pages_at max_pages)
+pages_law max_pages fits = behind_law (codes "pages ") _ _ _ (number_law max_pages 10 [] (omega (arith, fits)) refl)
 
 abbrev Ends : Type 0
 Ends = List ThreadReport × ℕ
@@ -218,8 +296,8 @@ Ends = List ThreadReport × ℕ
 abbrev ends_text : Ends → List ℕ → List ℕ
 ends_text x rest = texts end_text 0 x.0 (pages_text x.1 (last_line ++ rest))
 
-abbrev EndsFit : Ends → Type 0
-EndsFit x = AllFit EndFits 0 x.0 × ((1 ≤ length x.0) × ((length x.0 ≤ most_threads) × (x.1 ≤ most_pages)))
+abbrev EndsFit : ℕ → ℕ → Ends → Type 0
+EndsFit threads max_pages x = AllFit EndFits 0 x.0 × ((1 ≤ length x.0) × ((length x.0 ≤ threads) × (x.1 ≤ max_pages)))
 
 items_are : {A : Type 0} (xs ys : List A) → some_items xs ≡ Some ys → (xs ≡ ys) × (1 ≤ length ys)
 items_are [] ys e = absurd cc
@@ -229,75 +307,83 @@ items_to : {A : Type 0} (xs : List A) → 1 ≤ length xs → some_items xs ≡ 
 items_to [] le = absurd (omega arith)
 items_to (x ∷ xs) le = refl
 
-ends_made : (bytes : List ℕ) (all : List ThreadReport × List ℕ) (ends : List ThreadReport) (pages : ℕ)
-    (mid last : List ℕ) (x : Ends) (rest : List ℕ) → IsSeveral end_text EndFits 0 most_threads bytes all
-    → (all.0 ≡ ends) × (1 ≤ length ends) → (all.1 ≡ pages_text pages mid) × (pages ≤ most_pages)
-    → mid ≡ last_line ++ last → gives (ends, pages) last ≡ gives x rest → (bytes ≡ ends_text x rest) × EndsFit x
-ends_made bytes all ends pages mid last x rest t i p m e =
+ends_made : (threads max_pages : ℕ) (bytes : List ℕ) (all : List ThreadReport × List ℕ) (ends : List ThreadReport) (pages : ℕ)
+    (mid last : List ℕ) (x : Ends) (rest : List ℕ) → IsSeveral end_text EndFits 0 threads bytes all
+    → (all.0 ≡ ends) × (1 ≤ length ends) → (all.1 ≡ pages_text pages mid) × (pages ≤ max_pages)
+    → mid ≡ last_line ++ last → gives (ends, pages) last ≡ gives x rest → (bytes ≡ ends_text x rest) × EndsFit threads max_pages x
+ends_made threads max_pages bytes all ends pages mid last x rest t i p m e =
     let whole : bytes ≡ ends_text (ends, pages) last = t.spelled
     ∙ ap (λ (z : List ThreadReport). texts end_text 0 z all.1) i.0
     ∙ ap (texts end_text 0 ends) (p.0 ∙ ap (pages_text pages) m) in
     let fit : AllFit EndFits 0 ends = subst (λ (z : List ThreadReport). AllFit EndFits 0 z) i.0 t.fit in
-    let few : length ends ≤ most_threads = subst (λ (z : List ThreadReport). length z ≤ most_threads) i.0 t.few in
-    move (λ (z : Ends) (r : List ℕ). (bytes ≡ ends_text z r) × EndsFit z) (ends, pages) x last rest e (whole, (fit, (i.1, (few, p.1))))
+    let few : length ends ≤ threads = subst (λ (z : List ThreadReport). length z ≤ threads) i.0 t.few in
+    move (λ (z : Ends) (r : List ℕ). (bytes ≡ ends_text z r) × EndsFit threads max_pages z) (ends, pages) x last rest e (whole, (fit, (i.1, (few, p.1))))
 
-ends_found : (bytes : List ℕ) (x : Ends) (rest : List ℕ) → ends_at bytes ≡ Some (x, rest) → (bytes ≡ ends_text x rest) × EndsFit x
+ends_found : (threads max_pages : ℕ) → max_pages ≤ most_pages → (bytes : List ℕ) (x : Ends) (rest : List ℕ)
+    → ends_at threads max_pages bytes ≡ Some (x, rest) → (bytes ≡ ends_text x rest) × EndsFit threads max_pages x
 unfolding ends_at
-ends_found bytes x rest e =
-    let all = several end_at 0 most_threads bytes in
-    let p = bind_some (some_items all.0) (λ ends. pages_at all.1 >>= λ pages. after last_line pages.1 >>= λ r. Some ((ends, pages.0), r)) (x, rest) e in
-    let q = bind_some (pages_at all.1) (λ pages. after last_line pages.1 >>= λ r. Some ((p.0, pages.0), r)) (x, rest) p.2 in
+ends_found threads max_pages fits bytes x rest e =
+    let all = several end_at 0 threads bytes in
+    let p = bind_some (some_items all.0) (λ ends. pages_at max_pages all.1 >>= λ pages. after last_line pages.1 >>= λ r. Some ((ends, pages.0), r)) (x, rest) e in
+    let q = bind_some (pages_at max_pages all.1) (λ pages. after last_line pages.1 >>= λ r. Some ((p.0, pages.0), r)) (x, rest) p.2 in
     let s = bind_some (after last_line q.0.1) (λ r. Some ((p.0, q.0.0), r)) (x, rest) q.2 in
-    ends_made bytes all p.0 q.0.0 q.0.1 s.0 x rest
-    (several_takes end_text EndFits end_at end_takes 0 most_threads bytes) (items_are all.0 p.0 p.1)
-    (pages_law.takes all.1 q.0.0 q.0.1 q.1) (after_takes last_line q.0.1 s.0 s.1) s.2
+    ends_made threads max_pages bytes all p.0 q.0.0 q.0.1 s.0 x rest
+    (several_takes end_text EndFits end_at end_takes 0 threads bytes) (items_are all.0 p.0 p.1)
+    ((pages_law max_pages fits).takes all.1 q.0.0 q.0.1 q.1) (after_takes last_line q.0.1 s.0 s.1) s.2
 
 pages_stop : (k p : ℕ) (rest : List ℕ) → end_at k (pages_text p rest) ≡ None
 unfolding end_at after
 pages_stop k p rest = refl
 
-ends_again : (x : Ends) (rest : List ℕ) → EndsFit x → ends_at (ends_text x rest) ≡ Some (x, rest)
+ends_again : (threads max_pages : ℕ) → max_pages ≤ most_pages → (x : Ends) (rest : List ℕ) → EndsFit threads max_pages x
+    → ends_at threads max_pages (ends_text x rest) ≡ Some (x, rest)
 unfolding ends_at
-ends_again x rest fit =
+ends_again threads max_pages fits x rest fit =
     let behind_ends = pages_text x.1 (last_line ++ rest) in
     let s = several_again (λ r. Unit {0}) end_text EndFits end_at (λ i y r g f. end_again i y r f)
-    (λ i y r. tt) 0 most_threads x.0 behind_ends tt fit.0 ((fit.1).1).0 (λ k. pages_stop k x.1 (last_line ++ rest))
+    (λ i y r. tt) 0 threads x.0 behind_ends tt fit.0 ((fit.1).1).0 (λ k. pages_stop k x.1 (last_line ++ rest))
     in
-    ap (λ (z : List ThreadReport × List ℕ). some_items z.0 >>= λ ends. pages_at z.1 >>= λ pages. after last_line pages.1 >>= λ r. Some ((ends, pages.0), r)) s
-    ∙ rw (items_to x.0 (fit.1).0, pages_law.again x.1 (last_line ++ rest) ((fit.1).1).1, after_again last_line rest) refl
+    ap (λ (z : List ThreadReport × List ℕ). some_items z.0 >>= λ ends. pages_at max_pages z.1 >>= λ pages. after last_line pages.1 >>= λ r. Some ((ends, pages.0), r)) s
+    ∙ rw (items_to x.0 (fit.1).0, (pages_law max_pages fits).again x.1 (last_line ++ rest) ((fit.1).1).1, after_again last_line rest) refl
 
 abbrev body_text : Body → List ℕ → List ℕ
 body_text b rest = texts (λ k. entry_text) 0 b.0 (ends_text b.1 rest)
 
-abbrev BodyFits : ℕ → Body → Type 0
-BodyFits limit b = AllFit (λ k. IsEntry) 0 b.0 × ((length b.0 ≤ limit + past_limit) × EndsFit b.1)
+abbrev BodyFits : ℕ → ℕ → ℕ → Body → Type 0
+BodyFits threads max_pages limit b =
+    AllFit (λ k. IsEntry threads) 0 b.0 × ((length b.0 ≤ limit + 3 * threads) × EndsFit threads max_pages b.1)
 
-body_takes : (limit : ℕ) (bytes : List ℕ) (b : Body) (rest : List ℕ) → body_at limit bytes ≡ Some (b, rest) → (bytes ≡ body_text b rest) × BodyFits limit b
+abbrev AreIn : ℕ → ℕ → Type 0
+AreIn threads max_pages = IsCount threads × (max_pages ≤ most_pages)
+
+body_takes : (threads max_pages : ℕ) → AreIn threads max_pages → (limit : ℕ) (bytes : List ℕ) (b : Body) (rest : List ℕ)
+    → body_at threads max_pages limit bytes ≡ Some (b, rest) → (bytes ≡ body_text b rest) × BodyFits threads max_pages limit b
 unfolding body_at
-body_takes limit bytes b rest e =
-    let all = several (λ place. entry_at) 0 (limit + past_limit) bytes in
-    let p = bind_some (ends_at all.1) (λ x. Some ((all.0, x.0), x.1)) (b, rest) e in
-    let t = several_takes (λ k. entry_text) (λ k. IsEntry) (λ place. entry_at) (λ i. entry_takes) 0 (limit + past_limit) bytes in
-    let u = ends_found all.1 p.0.0 p.0.1 p.1 in
-    move (λ (z : Body) (r : List ℕ). (bytes ≡ body_text z r) × BodyFits limit z)
+body_takes threads max_pages are limit bytes b rest e =
+    let all = several (λ place. entry_at threads) 0 (limit + 3 * threads) bytes in
+    let p = bind_some (ends_at threads max_pages all.1) (λ x. Some ((all.0, x.0), x.1)) (b, rest) e in
+    let t = several_takes (λ k. entry_text) (λ k. IsEntry threads) (λ place. entry_at threads) (λ i. entry_takes threads are.0) 0 (limit + 3 * threads) bytes in
+    let u = ends_found threads max_pages are.1 all.1 p.0.0 p.0.1 p.1 in
+    move (λ (z : Body) (r : List ℕ). (bytes ≡ body_text z r) × BodyFits threads max_pages limit z)
     (all.0, p.0.0) b p.0.1 rest p.2 (t.spelled ∙ ap (texts (λ k. entry_text) 0 all.0) u.0, (t.fit, (t.few, u.1)))
 
-end_stops_at : (reports : List ThreadReport) (rest : List ℕ) → 1 ≤ length reports → entry_at (texts end_text 0 reports rest) ≡ None
+end_stops_at : (threads : ℕ) (reports : List ThreadReport) (rest : List ℕ) → 1 ≤ length reports → entry_at threads (texts end_text 0 reports rest) ≡ None
 unfolding entry_at number_at
-end_stops_at [] rest le = absurd (omega arith)
-end_stops_at (r ∷ reports) rest le = refl
+end_stops_at threads [] rest le = absurd (omega arith)
+end_stops_at threads (r ∷ reports) rest le = refl
 
-end_stops : (x : Ends) (rest : List ℕ) → 1 ≤ length x.0 → entry_at (ends_text x rest) ≡ None
-end_stops x rest le = end_stops_at x.0 (pages_text x.1 (last_line ++ rest)) le
+end_stops : (threads : ℕ) (x : Ends) (rest : List ℕ) → 1 ≤ length x.0 → entry_at threads (ends_text x rest) ≡ None
+end_stops threads x rest le = end_stops_at threads x.0 (pages_text x.1 (last_line ++ rest)) le
 
-body_again : (limit : ℕ) (b : Body) (rest : List ℕ) → BodyFits limit b → body_at limit (body_text b rest) ≡ Some (b, rest)
+body_again : (threads max_pages : ℕ) → AreIn threads max_pages → (limit : ℕ) (b : Body) (rest : List ℕ) → BodyFits threads max_pages limit b
+    → body_at threads max_pages limit (body_text b rest) ≡ Some (b, rest)
 unfolding body_at
-body_again limit b rest fit =
-    let stop = end_stops b.1 rest (((fit.1).1).1).0 in
-    let s = several_again (λ r. Unit {0}) (λ k. entry_text) (λ k. IsEntry) (λ place. entry_at)
-    (λ i y r g f. entry_again y r f) (λ i y r. tt) 0 (limit + past_limit) b.0 (ends_text b.1 rest) tt fit.0
+body_again threads max_pages are limit b rest fit =
+    let stop = end_stops threads b.1 rest (((fit.1).1).1).0 in
+    let s = several_again (λ r. Unit {0}) (λ k. entry_text) (λ k. IsEntry threads) (λ place. entry_at threads)
+    (λ i y r g f. entry_again threads are.0 y r f) (λ i y r. tt) 0 (limit + 3 * threads) b.0 (ends_text b.1 rest) tt fit.0
     (fit.1).0 (λ k. stop) in
-    ap (λ (z : List Entry × List ℕ). ends_at z.1 >>= λ x. Some ((z.0, x.0), x.1)) s ∙ rw (ends_again b.1 rest (fit.1).1) refl
+    ap (λ (z : List Entry × List ℕ). ends_at threads max_pages z.1 >>= λ x. Some ((z.0, x.0), x.1)) s ∙ rw (ends_again threads max_pages are.1 b.1 rest (fit.1).1) refl
 
 -- ---- records
 
@@ -309,38 +395,58 @@ ends_lines : (i : ℕ) (reports : List ThreadReport) (more : List (List (List �
 ends_lines i [] more = refl
 ends_lines i (r ∷ reports) more = ap (end_text i r) (ends_lines (i + 1) reports more)
 
-record_is : (h : Header) (b : Body) → record_text (parts_of h b) ≡ whole_text h b
-record_is h b =
-    let behind_log = lines_of_items entry_words (λ k. entry_text)
+call_is : (h : Header) (b : Body) (t : List ℕ) → t ≡ body_text b []
+    → line (codes "invoke" ∷ name_word (h.1).0 ∷ []) (line (codes "args" ∷ map value_text ((h.1).1).0)
+    (line (codes "fuel" ∷ decimal (((h.1).1).1).0 ∷ []) (line (codes "limit" ∷ decimal (limit_in h) ∷ []) t)))
+    ≡ codes "invoke " ++ (name_word (h.1).0 ++ 10 ∷ (codes "args" ++ args_text ((h.1).1).0 (codes "fuel " ++ ended (((h.1).1).1).0
+    (codes "limit " ++ ended (limit_in h) (body_text b [])))))
+call_is h b t e =
+    ap (λ (t : List ℕ). line (codes "invoke" ∷ name_word (h.1).0 ∷ []) (line (codes "args" ∷ map value_text ((h.1).1).0)
+    (line (codes "fuel" ∷ decimal (((h.1).1).1).0 ∷ []) (line (codes "limit" ∷ decimal (limit_in h) ∷ []) t)))) e
+    ∙ ap (λ (t : List ℕ). codes "invoke " ++ (name_word (h.1).0 ++ 10 ∷ (codes "args" ++ t)))
+    (sym (args_line 0 ((h.1).1).0 (codes "fuel " ++ ended (((h.1).1).1).0
+    (codes "limit " ++ ended (limit_in h) (body_text b [])))))
+
+behind_log : (b : Body) → lines_text (map entry_words b.0 ++ (end_lines 0 (b.1).0 ++ (codes "pages" ∷ decimal (b.1).1 ∷ []) ∷ (codes "finish" ∷ []) ∷ []))
+    ≡ body_text b []
+behind_log b =
+    lines_of_items entry_words (λ k. entry_text)
     (λ i x rest. refl) 0 b.0 (end_lines 0 (b.1).0 ++ (codes "pages" ∷ decimal (b.1).1 ∷ []) ∷ (codes "finish" ∷ [])
     ∷ []) ∙ ap (texts (λ k. entry_text) 0 b.0)
-    (ends_lines 0 (b.1).0 ((codes "pages" ∷ decimal (b.1).1 ∷ []) ∷ (codes "finish" ∷ []) ∷ [])) in
-    ap (λ (t : List ℕ). line (codes "wathread-record" ∷ codes "1" ∷ [])
-    (line (codes "invoke" ∷ name_word h.0 ∷ [])
-    (line (codes "args" ∷ map value_text (h.1).0)
-    (line (codes "fuel" ∷ decimal ((h.1).1).0 ∷ []) (line (codes "limit" ∷ decimal ((h.1).1).1 ∷ []) t)))))
-    behind_log
-    ∙ ap (λ (t : List ℕ). first_line ++ (codes "invoke " ++ (name_word h.0 ++ 10 ∷ (codes "args" ++ t))))
-    (sym (args_line 0 (h.1).0 (codes "fuel " ++ ended ((h.1).1).0
-    (codes "limit " ++ ended ((h.1).1).1 (body_text b [])))))
+    (ends_lines 0 (b.1).0 ((codes "pages" ∷ decimal (b.1).1 ∷ []) ∷ (codes "finish" ∷ []) ∷ []))
 
-record_fits : (h : Header) (b : Body) → HeaderFits h → BodyFits ((h.1).1).1 b → IsRecord (parts_of h b)
+record_by : (v : Version) (x : Sizes) (c : List ℕ × (List Value × (ℕ × ℕ))) (b : Body)
+    → record_text (parts_of ((v, x), c) b) ≡ whole_text ((v, x), c) b
+record_by versions.One x c b = ap (λ (t : List ℕ). first_line ++ t) (call_is ((versions.One, x), c) b _ (behind_log b))
+record_by versions.Two x c b = ap (λ (t : List ℕ). sizes_text x t) (call_is ((versions.Two, x), c) b _ (behind_log b))
+
+record_is : (h : Header) (b : Body) → record_text (parts_of h b) ≡ whole_text h b
+record_is h b = record_by (h.0).0 (h.0).1 h.1 b
+
+abbrev Fits : Header → Body → Type 0
+Fits h b = BodyFits (threads_in h) (max_pages_in h) (limit_in h) b
+
+record_fits : (h : Header) (b : Body) → HeaderFits h → Fits h b → IsRecord (parts_of h b)
 record_fits h b f g = record {
-  invoke = (f.0).0;
-  bytes = fit_all IsByte 0 h.0 (f.0).1;
+  invoke = ((f.1).0).0;
+  bytes = fit_all IsByte 0 (h.1).0 ((f.1).0).1;
   numbers = record {
-    fuel = ((f.1).1).0;
-    limit_low = (((f.1).1).1).0;
-    limit = (((f.1).1).1).1;
+    scale = f.0;
+    fuel = (((f.1).1).1).0;
+    limit_low = ((((f.1).1).1).1).0;
+    limit = ((((f.1).1).1).1).1;
     log = (g.1).0;
     ends_low = (((g.1).1).1).0;
     ends = ((((g.1).1).1).1).0;
     pages = ((((g.1).1).1).1).1;
   };
-  args = fit_all IsValue 0 (h.1).0 (f.1).0;
-  log = fit_all IsEntry 0 b.0 g.0;
+  args = fit_all IsValue 0 ((h.1).1).0 ((f.1).1).0;
+  log = fit_all (IsEntry (threads_in h)) 0 b.0 g.0;
   ends = fit_ends 0 (b.1).0 ((g.1).1).0;
 }
+
+are_in : (h : Header) → HeaderFits h → AreIn (threads_in h) (max_pages_in h)
+are_in h f = counted (h.0).0 ((h.0).1).0 (threads_in h) (max_pages_in h) f.0
 
 nothing_is : {A : Type 0} (bytes : List ℕ) (x y : A) → nothing_left bytes x ≡ Some y → (bytes ≡ []) × (x ≡ y)
 nothing_is [] x y e = (refl, some_is x y e)
@@ -349,16 +455,16 @@ nothing_is (c ∷ bytes) x y e = absurd cc
 pub record_takes : (bytes : List ℕ) (r : RecordParts) → record_at bytes ≡ Some r → IsRecord r × (bytes ≡ record_text r)
 unfolding record_at
 record_takes bytes r e =
-    let p = bind_some (header_at bytes) (λ h. body_at (((h.0).1).1).1 h.1 >>= λ b. nothing_left b.1 (parts_of h.0 b.0)) r e in
-    let q = bind_some (body_at (((p.0.0).1).1).1 p.0.1) (λ b. nothing_left b.1 (parts_of p.0.0 b.0)) r p.2 in
+    let p = bind_some (header_at bytes) (λ h. body_at (threads_in h.0) (max_pages_in h.0) (limit_in h.0) h.1 >>= λ b. nothing_left b.1 (parts_of h.0 b.0)) r e in
+    let q = bind_some (body_at (threads_in p.0.0) (max_pages_in p.0.0) (limit_in p.0.0) p.0.1) (λ b. nothing_left b.1 (parts_of p.0.0 b.0)) r p.2 in
     let n = nothing_is q.0.1 (parts_of p.0.0 q.0.0) r q.2 in
     let t = header_law.takes bytes p.0.0 p.0.1 p.1 in
-    let u = body_takes (((p.0.0).1).1).1 p.0.1 q.0.0 q.0.1 q.1 in
+    let u = body_takes (threads_in p.0.0) (max_pages_in p.0.0) (are_in p.0.0 t.1) (limit_in p.0.0) p.0.1 q.0.0 q.0.1 q.1 in
     let whole : bytes ≡ record_text (parts_of p.0.0 q.0.0) = t.0 ∙ ap (header_text p.0.0) (u.0 ∙ ap (body_text q.0.0) n.0) ∙ sym (record_is p.0.0 q.0.0) in
     subst (λ (z : RecordParts). IsRecord z × (bytes ≡ record_text z)) n.1 (record_fits p.0.0 q.0.0 t.1 u.1, whole)
 
 abbrev header_of : RecordParts → Header
-header_of r = (r.invoke, (r.args, (r.fuel, r.limit)))
+header_of r = ((r.version, (r.module_len, (r.threads, r.max_pages))), (r.invoke, (r.args, (r.fuel, r.limit))))
 
 abbrev body_of : RecordParts → Body
 body_of r = (r.log, (r.ends, r.pages))
@@ -369,10 +475,11 @@ record_again r fit =
     let h = header_of r in
     let b = body_of r in
     let n = fit.numbers in
-    let hf : HeaderFits h = ((fit.invoke, all_fit IsByte 0 r.invoke fit.bytes), (all_fit IsValue 0 r.args fit.args, (n.fuel, (n.limit_low, n.limit)))) in
-    let few : 0 + length r.ends ≤ most_threads = omega (arith, n.ends) in
-    let bf : BodyFits r.limit b = (all_fit IsEntry 0 r.log fit.log, (n.log, (ends_fit 0 r.ends fit.ends few, (n.ends_low, (n.ends, n.pages))))) in
-    ap record_at (record_is h b) ∙ rw (header_law.again h (body_text b []) hf, body_again r.limit b [] bf) refl
+    let hf : HeaderFits h = (n.scale, ((fit.invoke, all_fit IsByte 0 r.invoke fit.bytes), (all_fit IsValue 0 r.args fit.args, (n.fuel, (n.limit_low, n.limit))))) in
+    let are = are_in h hf in
+    let few : 0 + length r.ends ≤ most_threads = omega (arith, n.ends, are.0.1) in
+    let bf : Fits h b = (all_fit (IsEntry r.threads) 0 r.log fit.log, (n.log, (ends_fit 0 r.ends fit.ends few, (n.ends_low, (n.ends, n.pages))))) in
+    ap record_at (record_is h b) ∙ rw (header_law.again h (body_text b []) hf, body_again r.threads r.max_pages are r.limit b [] bf) refl
 
 pub one_record : (r s : RecordParts) → IsRecord r → IsRecord s → record_text r ≡ record_text s → r ≡ s
 one_record r s p q e = some_is r s (sym (record_again r p) ∙ ap record_at e ∙ record_again s q)

@@ -10,7 +10,7 @@ use Rattle.types.specs.Values.{value_text}
 use Rattle.replay_forms.specs.Texts.{line, words_line, spaced, lines_text, pieces}
 use Rattle.replay_forms.proofs.Lines.{words_line_spaced}
 use Rattle.replay_forms.proofs.Written.{appends_then, line_front}
-use Rattle.replay_text.specs.Text.{name_word, header_lines, end_lines, record_text}
+use Rattle.replay_text.specs.Text.{name_word, scale_lines, call_lines, header_lines, end_lines, record_text}
 use Rattle.replay_text.specs.declared.parts.RecordParts.{RecordParts}
 use Rattle.replay_text.specs.Words.{event_words, reply_word, entry_words, outcome_words, end_words}
 
@@ -60,16 +60,27 @@ args_pieces i (v ∷ args) rest = ap (λ (t : List ℕ). 32 ∷ t)
     (append_assoc (value_text v) (pieces arg_piece (i + 1) args) (10 ∷ rest)
     ∙ ap (λ (t : List ℕ). value_text v ++ t) (args_pieces (i + 1) args rest))
 
-pub header_appends : (r : RecordParts) (a b c d e f : Option (List ℕ))
-    → Appends a b (codes "wathread-record 1" ++ 10 ∷ codes "invoke ") → Appends b c (name_word r.invoke)
+call_appends : (r : RecordParts) (a b c d e f : Option (List ℕ))
+    → Appends a b (codes "invoke ") → Appends b c (name_word r.invoke)
     → Appends c d (10 ∷ codes "args") → Appends d e (pieces arg_piece 0 r.args)
-    → Appends e f (10 ∷ codes "fuel " ++ (decimal r.fuel ++ (10 ∷ codes "limit " ++ (decimal r.limit ++ 10 ∷ [])))) → Appends a f (lines_text (header_lines r))
-header_appends r a b c d e f p q s t u =
+    → Appends e f (10 ∷ codes "fuel " ++ (decimal r.fuel ++ (10 ∷ codes "limit " ++ (decimal r.limit ++ 10 ∷ [])))) → Appends a f (lines_text (call_lines r))
+call_appends r a b c d e f p q s t u =
     let behind_args = codes "fuel " ++ (decimal r.fuel ++ (10 ∷ codes "limit " ++ (decimal r.limit ++ 10 ∷ []))) in
     subst (λ (z : List ℕ). Appends a f z) (ap
-    (λ (z : List ℕ). (codes "wathread-record 1" ++ 10 ∷ codes "invoke ") ++
+    (λ (z : List ℕ). codes "invoke " ++
     (name_word r.invoke ++ (10 ∷ codes "args" ++ z))) (args_pieces 0 r.args behind_args))
     (appends_then a b f _ _ p (appends_then b c f _ _ q (appends_then c d f _ _ s (appends_then d e f _ _ t u))))
+
+abbrev scale_of : RecordParts → List (List (List ℕ))
+scale_of r = scale_lines r.version r.module_len r.threads r.max_pages
+
+pub header_appends : (r : RecordParts) (o a b c d e f : Option (List ℕ)) → Appends o a (lines_text (scale_of r))
+    → Appends a b (codes "invoke ") → Appends b c (name_word r.invoke)
+    → Appends c d (10 ∷ codes "args") → Appends d e (pieces arg_piece 0 r.args)
+    → Appends e f (10 ∷ codes "fuel " ++ (decimal r.fuel ++ (10 ∷ codes "limit " ++ (decimal r.limit ++ 10 ∷ [])))) → Appends o f (lines_text (header_lines r))
+header_appends r o a b c d e f front p q s t u =
+    subst (λ (z : List ℕ). Appends o f z) (lines_then (scale_of r) (call_lines r))
+    (appends_then o a f _ _ front (call_appends r a b c d e f p q s t u))
 
 entry_pieces : (i : ℕ) (log : List Entry) (more : List (List (List ℕ)))
     → pieces (λ place entry. line (entry_words entry) []) i log ++ lines_text more ≡ lines_text

@@ -1,5 +1,5 @@
 -- What the entries and the ends of a record may hold.
-use Rattle.std.specs.Prelude.{◌≡◌, ℕ, ◌≤◌, ◌^◌, ◌-◌, Bool, true, false, not, Some, None}
+use Rattle.std.specs.Prelude.{◌≡◌, ℕ, ◌<◌, ◌≤◌, ◌^◌, ◌-◌, Bool, true, false, not, Some, None}
 use Rattle.types.specs.declared.value.Value.{Value}
 use Rattle.types.specs.declared.value.Value.TheVariants as values
 use Rattle.types.specs.declared.event.Event.{Event}
@@ -14,7 +14,7 @@ use Rattle.types.specs.declared.event.Entry.{Entry}
 use Rattle.types.specs.declared.outcome.Outcome.{Outcome}
 use Rattle.types.specs.declared.outcome.Outcome.TheVariants as outcomes
 use Rattle.types.specs.declared.outcome.ThreadReport.{ThreadReport}
-use Rattle.types.specs.Limits.{most_spawned, most_fuel}
+use Rattle.types.specs.Limits.{most_fuel}
 use Rattle.shared_memory.specs.Events.{IsEvent}
 use Rattle.replay_forms.specs.Reading.{FitsSigned64}
 
@@ -96,9 +96,9 @@ is_reply_to event replies.OutOfBounds = has_address event
 is_reply_to event replies.Again = false
 is_reply_to event replies.Full = false
 
--- An entry: a thread of 0 to 63, an event that meets the conditions on events, and a reply of the right kind.
-pub record IsEntry (e : Entry) : Type 0 where
-  pub thread : e.thread ≤ most_spawned
+-- An entry: a thread of so many, an event that meets the conditions on events, and a reply of the right kind.
+pub record IsEntry (threads : ℕ) (e : Entry) : Type 0 where
+  pub thread : e.thread < threads
   pub event_fits : EventFits e.event
   pub event : IsEvent e.event
   pub reply_fits : ReplyFits e.reply

@@ -1,5 +1,5 @@
 -- Reading the lines of a record.
-use Rattle.std.specs.Prelude.{ℕ, ◌+◌, ◌-◌, ◌^◌, ◌==◌, ◌&&◌, cond, codes, List, [], ◌∷◌, ◌++◌, Option, Some, None, if◌then◌else◌}
+use Rattle.std.specs.Prelude.{ℕ, ◌+◌, ◌-◌, ◌*◌, ◌^◌, ◌==◌, ◌&&◌, cond, codes, List, [], ◌∷◌, ◌++◌, Option, Some, None, if◌then◌else◌}
 use Rattle.std.specs.Str.{is_utf8}
 use Rattle.types.specs.declared.value.Value.{Value}
 use Rattle.types.specs.declared.value.Value.TheVariants as values
@@ -19,11 +19,14 @@ use Rattle.types.specs.declared.outcome.Stop.TheVariants as stops
 use Rattle.types.specs.declared.outcome.Outcome.{Outcome}
 use Rattle.types.specs.declared.outcome.Outcome.TheVariants as outcomes
 use Rattle.types.specs.declared.outcome.ThreadReport.{ThreadReport}
-use Rattle.types.specs.Limits.{most_pages, most_threads, most_spawned, past_limit, most_limit, most_fuel}
+use Rattle.types.specs.Limits.{most_pages, most_threads, most_spawned, most_limit, most_fuel, most_module_bytes}
 use Rattle.replay_forms.specs.Reading.{◌>>=◌, Reader, after, number_within, number_then, signed_then, behind, both}
 use Rattle.replay_forms.specs.Reading.{made, word_for, first, several, listed, hex_byte_at}
 use Rattle.shared_memory.specs.Conditions.{is_event}
 use Rattle.replay_text.specs.Conditions.{is_reply_to}
+use Rattle.replay_text.specs.Versions.{first_threads, first_pages}
+use Rattle.replay_text.specs.declared.version.Version.{Version}
+use Rattle.replay_text.specs.declared.version.Version.TheVariants as versions
 use Rattle.replay_text.specs.declared.parts.RecordParts.{RecordParts}
 
 -- Numbers of 8, 32 and 64 bits, and the space behind them.
@@ -99,12 +102,12 @@ reply_at =
     (first (word_for replies.Done (codes "done" ++ 10 ∷ []))
     (word_for replies.OutOfBounds (codes "out" ++ 10 ∷ [])))
 
--- An entry, where the event meets its conditions and the reply is of the right kind.
+-- An entry of one of so many threads, where the event meets its conditions and the reply is of the right kind.
 abbrev pub entry_of : ℕ × (Event × Reply) → Option Entry
 entry_of x = cond (is_event (x.1).0 && is_reply_to (x.1).0 (x.1).1) (Some (record { thread = x.0; event = (x.1).0; reply = (x.1).1 })) None
 
-unfoldable pub entry_at : Reader Entry
-entry_at bytes = made entry_of (both (number_then most_spawned (32 ∷ [])) (both event_at (behind (codes "= ") reply_at))) bytes
+unfoldable pub entry_at : ℕ → Reader Entry
+entry_at threads bytes = made entry_of (both (number_then (threads - 1) (32 ∷ [])) (both event_at (behind (codes "= ") reply_at))) bytes
 
 abbrev pub i32_at : Reader Value
 i32_at = made (λ n. Some (values.I32 n)) (behind (codes "i32:") (number_within (2 ^ 32 - 1)))
@@ -161,8 +164,40 @@ end_at thread bytes = made (report_of thread)
     (behind (codes "end ") (both (number_then most_spawned (32 ∷ []))
     (both outcome_at (number_then most_fuel (10 ∷ []))))) bytes
 
+abbrev pub above_zero : ℕ → Option ℕ
+above_zero n = cond (n == 0) None (Some n)
+
+-- A line of a word and a number, which isn't 0.
+abbrev pub count_at : List ℕ → ℕ → Reader ℕ
+count_at word max = made above_zero (behind word (number_then max (10 ∷ [])))
+
+-- The version, the module's length, and how many threads and pages there may be.
+abbrev pub Scale : Type 0
+Scale = Version × (ℕ × (ℕ × ℕ))
+
 abbrev pub first_line : List ℕ
 first_line = codes "wathread-record 1" ++ 10 ∷ []
+
+abbrev pub second_line : List ℕ
+second_line = codes "wathread-record 2" ++ 10 ∷ []
+
+abbrev pub one_at : Reader Scale
+one_at = word_for (versions.One, (0, (first_threads, first_pages))) first_line
+
+abbrev pub module_at : Reader ℕ
+module_at = behind (codes "module ") (number_then most_module_bytes (10 ∷ []))
+
+abbrev pub threads_at : Reader ℕ
+threads_at = count_at (codes "threads ") most_threads
+
+abbrev pub max_pages_at : Reader ℕ
+max_pages_at = count_at (codes "max-pages ") most_pages
+
+abbrev pub two_at : Reader Scale
+two_at = made (λ x. Some (versions.Two, x)) (behind second_line (both module_at (both threads_at max_pages_at)))
+
+unfoldable pub scale_at : Reader Scale
+scale_at bytes = first one_at two_at bytes
 
 abbrev pub named : List ℕ → Option (List ℕ)
 named [] = None
@@ -181,23 +216,29 @@ args_at bytes = behind (codes "args") (listed (λ place. arg_at) (10 ∷ [])) by
 abbrev pub fuel_at : Reader ℕ
 fuel_at = behind (codes "fuel ") (number_then most_fuel (10 ∷ []))
 
-abbrev pub above_zero : ℕ → Option ℕ
-above_zero n = cond (n == 0) None (Some n)
-
 abbrev pub limit_at : Reader ℕ
-limit_at = made above_zero (behind (codes "limit ") (number_then most_limit (10 ∷ [])))
+limit_at = count_at (codes "limit ") most_limit
 
-abbrev pub pages_at : Reader ℕ
-pages_at = behind (codes "pages ") (number_then most_pages (10 ∷ []))
+abbrev pub pages_at : ℕ → Reader ℕ
+pages_at max_pages = behind (codes "pages ") (number_then max_pages (10 ∷ []))
 
 abbrev pub last_line : List ℕ
 last_line = codes "finish" ++ 10 ∷ []
 
 abbrev pub Header : Type 0
-Header = List ℕ × (List Value × (ℕ × ℕ))
+Header = Scale × (List ℕ × (List Value × (ℕ × ℕ)))
 
 unfoldable pub header_at : Reader Header
-header_at bytes = behind first_line (both invoke_at (both args_at (both fuel_at limit_at))) bytes
+header_at bytes = both scale_at (both invoke_at (both args_at (both fuel_at limit_at))) bytes
+
+abbrev pub threads_in : Header → ℕ
+threads_in h = (((h.0).1).1).0
+
+abbrev pub max_pages_in : Header → ℕ
+max_pages_in h = (((h.0).1).1).1
+
+abbrev pub limit_in : Header → ℕ
+limit_in h = (((h.1).1).1).1
 
 abbrev pub Body : Type 0
 Body = List Entry × (List ThreadReport × ℕ)
@@ -206,20 +247,34 @@ abbrev pub some_items : {A : Type 0} → List A → Option (List A)
 some_items [] = None
 some_items (x ∷ xs) = Some (x ∷ xs)
 
--- The end lines and what stands behind them.
-unfoldable pub ends_at : Reader (List ThreadReport × ℕ)
-ends_at bytes = some_items (several end_at 0 most_threads bytes).0 >>= λ ends. pages_at
-    (several end_at 0 most_threads bytes).1 >>= λ pages. after last_line pages.1 >>= λ rest. Some (
+-- The end lines, of so many threads at most, and what stands behind them.
+unfoldable pub ends_at : ℕ → ℕ → Reader (List ThreadReport × ℕ)
+ends_at threads max_pages bytes = some_items (several end_at 0 threads bytes).0 >>= λ ends. pages_at max_pages
+    (several end_at 0 threads bytes).1 >>= λ pages. after last_line pages.1 >>= λ rest. Some (
       (ends, pages.0),
       rest,
     )
 
-unfoldable pub body_at : ℕ → Reader Body
-body_at limit bytes = ends_at (several (λ place. entry_at) 0 (limit + past_limit) bytes).1 >>= λ x. Some
-    (((several (λ place. entry_at) 0 (limit + past_limit) bytes).0, x.0), x.1)
+-- What stands behind the header of a run with so many threads and pages, whose log took so many entries before it was full.
+unfoldable pub body_at : ℕ → ℕ → ℕ → Reader Body
+body_at threads max_pages limit bytes =
+    ends_at threads max_pages (several (λ place. entry_at threads) 0 (limit + 3 * threads) bytes).1 >>= λ x. Some
+    (((several (λ place. entry_at threads) 0 (limit + 3 * threads) bytes).0, x.0), x.1)
 
 abbrev pub parts_of : Header → Body → RecordParts
-parts_of h b = record { invoke = h.0; args = (h.1).0; fuel = ((h.1).1).0; limit = ((h.1).1).1; log = b.0; ends = (b.1).0; pages = (b.1).1 }
+parts_of h b = record {
+  version = (h.0).0;
+  module_len = ((h.0).1).0;
+  threads = threads_in h;
+  max_pages = max_pages_in h;
+  invoke = (h.1).0;
+  args = ((h.1).1).0;
+  fuel = (((h.1).1).1).0;
+  limit = limit_in h;
+  log = b.0;
+  ends = (b.1).0;
+  pages = (b.1).1;
+}
 
 abbrev pub nothing_left : {A : Type 0} → List ℕ → A → Option A
 nothing_left [] x = Some x
@@ -227,4 +282,5 @@ nothing_left (b ∷ bytes) x = None
 
 -- The record that the bytes are the text of.
 unfoldable pub record_at : List ℕ → Option RecordParts
-record_at bytes = header_at bytes >>= λ h. body_at (((h.0).1).1).1 h.1 >>= λ b. nothing_left b.1 (parts_of h.0 b.0)
+record_at bytes =
+    header_at bytes >>= λ h. body_at (threads_in h.0) (max_pages_in h.0) (limit_in h.0) h.1 >>= λ b. nothing_left b.1 (parts_of h.0 b.0)

@@ -1,7 +1,7 @@
-//! Reading what stands behind the first five lines.
+//! Reading what stands behind the header.
 
-ghost use Rattle.std.specs.Prelude.{◌≤◌, IfOk};
-ghost use Rattle.types.specs.Limits.{most_limit};
+ghost use Rattle.std.specs.Prelude.{◌≤◌};
+ghost use Rattle.types.specs.Limits.{most_limit, most_threads};
 ghost use Rattle.replay_forms.specs.Reading.{Reads};
 ghost use Rattle.replay_text.specs.Faults.{Gives, Refuses};
 ghost use Rattle.replay_text.specs.Reading.{pages_at, ends_at, body_at};
@@ -9,9 +9,10 @@ ghost use Rattle.replay_text.specs.Reading.{pages_at, ends_at, body_at};
 use crate::end::EndLine;
 use crate::entry::EntryLine;
 use crate::fault::RecordFault;
+use crate::header::Scale;
 use replay_forms::{after, number_then, several};
 use std::alloc::Global;
-use types::{Entry, MOST_PAGES, MOST_THREADS, PAST_LIMIT, Sequence, ThreadReport};
+use types::{Entry, Sequence, ThreadReport};
 
 /// The ends of the threads, and the pages after the run.
 #[derive(Drop)]
@@ -20,7 +21,7 @@ pub struct Ends {
     pub pages: u32,
 }
 
-/// What stands behind the first five lines.
+/// What stands behind the header.
 #[derive(Drop)]
 pub struct RecordBody {
     pub log: Sequence<Entry>,
@@ -39,26 +40,32 @@ fn fault_at(line: usize, rest: &[u8]) -> RecordFault
     }
 }
 
-fn pages_at(bytes: &[u8]) -> Option<(u32, &[u8])>
-    ensures { Reads (λ r. (r.0, r.1.now)) result (pages_at bytes.now) }
+fn pages_at(max_pages: u32, bytes: &[u8]) -> Option<(u32, &[u8])>
+    ensures { Reads (λ r. (r.0, r.1.now)) result (pages_at max_pages bytes.now) }
 {
     let rest = after(b"pages ", bytes)?;
-    let (pages, rest) = number_then(MOST_PAGES as u64, b"\n", rest)?;
+    let (pages, rest) = number_then(max_pages as u64, b"\n", rest)?;
     Some((pages as u32, rest))
 }
 
-/// The end lines and the two lines behind them, the first of which is the line of this number.
+/// The end lines, of so many threads at most, and the two lines behind them. The first is the line of this number.
 #[tactic(auto, unfolding(crate::specs::Reading::ends_at), using(crate::proofs::Faults::fails_none))]
-fn ends_in(alloc: Global, line: usize, bytes: &[u8]) -> Result<(Ends, &[u8]), RecordFault>
-    requires { line ≤ 2000000 }
-    ensures { Gives (λ r. ((r.0.ends, r.0.pages), r.1.now)) result (ends_at bytes.now) }
+fn ends_in(
+    alloc: Global,
+    scale: Scale,
+    line: usize,
+    bytes: &[u8],
+) -> Result<(Ends, &[u8]), RecordFault>
+    requires line { line ≤ 2000000 }
+    requires threads { scale.threads ≤ most_threads }
+    ensures { Gives (λ r. ((r.0.ends, r.0.pages), r.1.now)) result (ends_at scale.threads scale.max_pages bytes.now) }
 {
-    let (ends, rest) = several::<EndLine>(alloc, MOST_THREADS, bytes)?;
+    let (ends, rest) = several(alloc, &EndLine, scale.threads as usize, bytes)?;
     let line = line + ends.len();
     if ends.is_empty() {
         return Err(fault_at(line, rest));
     }
-    let Some((pages, rest)) = pages_at(rest) else {
+    let Some((pages, rest)) = pages_at(scale.max_pages, rest) else {
         return Err(fault_at(line, rest));
     };
     let Some(rest) = after(b"finish\n", rest) else {
@@ -71,14 +78,23 @@ fn ends_in(alloc: Global, line: usize, bytes: &[u8]) -> Result<(Ends, &[u8]), Re
     Ok((ends, rest))
 }
 
-/// What stands behind the first five lines, where the log took so many entries before it was full.
+/// What stands behind the header, where the log took so many entries before it was full.
 #[tactic(auto, unfolding(crate::specs::Reading::body_at))]
-pub fn body_in(alloc: Global, limit: u32, bytes: &[u8]) -> Result<(RecordBody, &[u8]), RecordFault>
-    requires { limit ≤ most_limit }
-    ensures { Gives (λ r. ((r.0.log, (r.0.ends, r.0.pages)), r.1.now)) result (body_at limit bytes.now) }
+pub fn body_in(
+    alloc: Global,
+    scale: Scale,
+    limit: u32,
+    bytes: &[u8],
+) -> Result<(RecordBody, &[u8]), RecordFault>
+    requires limit { limit ≤ most_limit }
+    requires threads { scale.threads ≤ most_threads }
+    ensures { Gives (λ r. ((r.0.log, (r.0.ends, r.0.pages)), r.1.now)) result (body_at scale.threads scale.max_pages limit bytes.now) }
 {
-    let (log, rest) = several::<EntryLine>(alloc, limit as usize + PAST_LIMIT, bytes)?;
-    let (ends, rest) = ends_in(alloc, log.len() + 6, rest)?;
+    let threads = scale.threads;
+    let most = limit as usize + 3 * threads as usize;
+    let (log, rest) = several(alloc, &EntryLine { threads }, most, bytes)?;
+    let first_end = scale.version.header_lines() + log.len() + 1;
+    let (ends, rest) = ends_in(alloc, scale, first_end, rest)?;
     let body = RecordBody {
         log: Sequence::from_vec(log),
         ends: ends.ends,

@@ -103,9 +103,9 @@ impl Item for EndLine {
 
     type Value = ThreadReport;
 
-    ghost at = { end_at };
+    ghost at = { λ kind. end_at };
 
-    fn read(place: usize, bytes: &[u8]) -> Option<(ThreadReport, &[u8])> {
+    fn read<'a>(&self, place: usize, bytes: &'a [u8]) -> Option<(ThreadReport, &'a [u8])> {
         end_at(place, bytes)
     }
 }

@@ -7,7 +7,7 @@ use crate::conditions::is_reply_to;
 use crate::event::event_at;
 use replay_forms::{Item, after, number_then};
 use shared_memory::is_event;
-use types::{Entry, MOST_SPAWNED, Reply};
+use types::{Entry, Reply};
 
 /// What an entry's event got, and the line feed behind it.
 fn reply_at(bytes: &[u8]) -> Option<(Reply, &[u8])>
@@ -23,12 +23,12 @@ fn reply_at(bytes: &[u8]) -> Option<(Reply, &[u8])>
     Some((Reply::OutOfBounds, rest))
 }
 
-/// The line of an entry.
+/// The line of an entry of one of so many threads.
 #[tactic(auto, unfolding(crate::specs::Reading::entry_at))]
-fn entry_at(bytes: &[u8]) -> Option<(Entry, &[u8])>
-    ensures { Reads (λ r. (r.0, r.1.now)) result (entry_at bytes.now) }
+fn entry_at(threads: u32, bytes: &[u8]) -> Option<(Entry, &[u8])>
+    ensures { Reads (λ r. (r.0, r.1.now)) result (entry_at threads bytes.now) }
 {
-    let (thread, rest) = number_then(MOST_SPAWNED as u64, b" ", bytes)?;
+    let (thread, rest) = number_then(threads.saturating_sub(1) as u64, b" ", bytes)?;
     let (event, rest) = event_at(rest)?;
     let rest = after(b"= ", rest)?;
     let (reply, rest) = reply_at(rest)?;
@@ -44,17 +44,20 @@ fn entry_at(bytes: &[u8]) -> Option<(Entry, &[u8])>
     }
 }
 
-/// The lines of the log.
-pub struct EntryLine;
+/// The lines of the log, of so many threads.
+#[derive(Clone, Copy, Debug)]
+pub struct EntryLine {
+    pub threads: u32,
+}
 
 impl Item for EntryLine {
     ghost use Rattle.replay_text.specs.Reading.{entry_at};
 
     type Value = Entry;
 
-    ghost at = { λ place. entry_at };
+    ghost at = { λ kind place. entry_at kind.threads };
 
-    fn read(_place: usize, bytes: &[u8]) -> Option<(Entry, &[u8])> {
-        entry_at(bytes)
+    fn read<'a>(&self, _place: usize, bytes: &'a [u8]) -> Option<(Entry, &'a [u8])> {
+        entry_at(self.threads, bytes)
     }
 }

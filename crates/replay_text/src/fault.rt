@@ -11,10 +11,10 @@ use thiserror::Error;
 /// Why bytes were not read as a record.
 #[derive(Clone, Copy, Debug, PartialEq, Eq, Error)]
 pub enum RecordFault {
-    /// This line, one of the first five, is wrong or missing.
+    /// This line, one of the header, is wrong or missing.
     #[error("header line {0}")]
     Header(usize),
-    /// This line, behind the first five, is wrong where it stands.
+    /// This line, behind the header, is wrong where it stands.
     #[error("line {0} unreadable")]
     Unreadable(usize),
     /// The text ends before the line `finish`.

@@ -1,24 +1,94 @@
-//! Reading the first five lines.
+//! Reading the lines before the entries.
 
 ghost use Rattle.std.specs.Prelude.{◌≤◌, IfOk, IfSome};
-ghost use Rattle.types.specs.Limits.{most_limit};
+ghost use Rattle.types.specs.Limits.{most_limit, most_threads};
 ghost use Rattle.replay_forms.specs.Reading.{Reads};
 ghost use Rattle.replay_text.specs.Faults.{Gives};
-ghost use Rattle.replay_text.specs.Reading.{named, invoke_at, args_at, fuel_at, limit_at, header_at};
+ghost use Rattle.replay_text.specs.Reading.{named, count_at, module_at, scale_at, invoke_at, args_at, fuel_at, limit_at, header_at};
 
 use crate::fault::RecordFault;
 use crate::value::Argument;
+use crate::version::{FIRST_PAGES, FIRST_THREADS, Version};
 use replay_forms::{HexByte, after, number_then, several};
 use std::alloc::Global;
-use types::{MOST_FUEL, MOST_LIMIT, Name, Sequence, Value};
+use types::{
+    MOST_FUEL, MOST_LIMIT, MOST_MODULE_BYTES, MOST_PAGES, MOST_THREADS, Name, Sequence, Value,
+};
 
-/// What the first five lines say.
+/// The version, the module's length, and how many threads and pages there may be.
+#[derive(Clone, Copy)]
+pub struct Scale {
+    pub version: Version,
+    pub module_len: u32,
+    pub threads: u32,
+    pub max_pages: u32,
+}
+
+/// What the lines before the entries say.
 #[derive(Drop)]
 pub struct Header {
+    pub scale: Scale,
     pub invoke: Name,
     pub args: Sequence<Value>,
     pub fuel: u64,
     pub limit: u32,
+}
+
+/// A line of a word and a number, 1 to `max`.
+fn count_at<'a>(word: &[u8], max: u32, bytes: &'a [u8]) -> Option<(u32, &'a [u8])>
+    ensures reads { Reads (λ r. (r.0, r.1.now)) result (count_at word.now max bytes.now) }
+    ensures within { IfSome result (λ r. r.0 ≤ max) }
+{
+    let rest = after(word, bytes)?;
+    let (number, rest) = number_then(max as u64, b"\n", rest)?;
+    if number == 0 {
+        return None;
+    }
+    Some((number as u32, rest))
+}
+
+fn module_at(bytes: &[u8]) -> Option<(u32, &[u8])>
+    ensures { Reads (λ r. (r.0, r.1.now)) result (module_at bytes.now) }
+{
+    let rest = after(b"module ", bytes)?;
+    let (length, rest) = number_then(MOST_MODULE_BYTES as u64, b"\n", rest)?;
+    Some((length as u32, rest))
+}
+
+/// The first line, and in version 2 the three behind it.
+#[tactic(auto, unfolding(crate::specs::Reading::scale_at))]
+fn scale_in(bytes: &[u8]) -> Result<(Scale, &[u8]), RecordFault>
+    ensures threads { IfOk result (λ r. r.0.threads ≤ most_threads) }
+    ensures gives { Gives (λ r. ((r.0.version, (r.0.module_len, (r.0.threads, r.0.max_pages))), r.1.now)) result (scale_at bytes.now) }
+{
+    if let Some(rest) = after(b"wathread-record 1\n", bytes) {
+        let scale = Scale {
+            version: Version::One,
+            module_len: 0,
+            threads: FIRST_THREADS,
+            max_pages: FIRST_PAGES,
+        };
+        return Ok((scale, rest));
+    }
+    let Some(rest) = after(b"wathread-record 2\n", bytes) else {
+        return Err(RecordFault::Header(1));
+    };
+    let Some((module_len, rest)) = module_at(rest) else {
+        return Err(RecordFault::Header(2));
+    };
+    let Some((threads, rest)) = count_at(b"threads ", MOST_THREADS as u32, rest) else {
+        return Err(RecordFault::Header(3));
+    };
+    let Some((max_pages, rest)) = count_at(b"max-pages ", MOST_PAGES, rest) else {
+        return Err(RecordFault::Header(4));
+    };
+    let scale = Scale {
+        version: Version::Two,
+        module_len,
+        threads,
+        max_pages,
+    };
+    Ok((scale, rest))
 }
 
 /// The name of these bytes, at least one, where they are UTF-8.
@@ -36,35 +106,39 @@ fn name_of(bytes: Vec<u8>) -> Option<Name>
 }
 
 #[tactic(auto, unfolding(crate::specs::Reading::invoke_at))]
-fn invoke_in(alloc: Global, bytes: &[u8]) -> Result<(Name, &[u8]), RecordFault>
+fn invoke_in(alloc: Global, line: usize, bytes: &[u8]) -> Result<(Name, &[u8]), RecordFault>
     ensures { Gives (λ r. (r.0, r.1.now)) result (invoke_at bytes.now) }
 {
     let Some(rest) = after(b"invoke ", bytes) else {
-        return Err(RecordFault::Header(2));
+        return Err(RecordFault::Header(line));
     };
     if let Some(rest) = after(b"-\n", rest) {
         return Ok((Name::from_string(String::new(alloc)), rest));
     }
-    let (name, rest) = several::<HexByte>(alloc, rest.len(), rest)?;
+    let (name, rest) = several(alloc, &HexByte, rest.len(), rest)?;
     let Some(rest) = after(b"\n", rest) else {
-        return Err(RecordFault::Header(2));
+        return Err(RecordFault::Header(line));
     };
     match name_of(name) {
         Some(name) => Ok((name, rest)),
-        None => Err(RecordFault::Header(2)),
+        None => Err(RecordFault::Header(line)),
     }
 }
 
 #[tactic(auto, unfolding(crate::specs::Reading::args_at))]
-fn args_in(alloc: Global, bytes: &[u8]) -> Result<(Sequence<Value>, &[u8]), RecordFault>
+fn args_in(
+    alloc: Global,
+    line: usize,
+    bytes: &[u8],
+) -> Result<(Sequence<Value>, &[u8]), RecordFault>
     ensures { Gives (λ r. (r.0, r.1.now)) result (args_at bytes.now) }
 {
     let Some(rest) = after(b"args", bytes) else {
-        return Err(RecordFault::Header(3));
+        return Err(RecordFault::Header(line));
     };
-    let (args, rest) = several::<Argument>(alloc, rest.len(), rest)?;
+    let (args, rest) = several(alloc, &Argument, rest.len(), rest)?;
     let Some(rest) = after(b"\n", rest) else {
-        return Err(RecordFault::Header(3));
+        return Err(RecordFault::Header(line));
     };
     Ok((Sequence::from_vec(args), rest))
 }
@@ -80,32 +154,34 @@ fn limit_at(bytes: &[u8]) -> Option<(u32, &[u8])>
     ensures reads { Reads (λ r. (r.0, r.1.now)) result (limit_at bytes.now) }
     ensures within { IfSome result (λ r. r.0 ≤ most_limit) }
 {
-    let rest = after(b"limit ", bytes)?;
-    let (limit, rest) = number_then(MOST_LIMIT as u64, b"\n", rest)?;
-    if limit == 0 {
-        return None;
-    }
-    Some((limit as u32, rest))
+    count_at(b"limit ", MOST_LIMIT, bytes)
 }
 
-/// The first five lines.
+/// The lines before the entries.
 #[tactic(auto, unfolding(crate::specs::Reading::header_at))]
 pub fn header_in(alloc: Global, bytes: &[u8]) -> Result<(Header, &[u8]), RecordFault>
     ensures limit { IfOk result (λ r. r.0.limit ≤ most_limit) }
-    ensures gives { Gives (λ r. ((r.0.invoke, (r.0.args, (r.0.fuel, r.0.limit))), r.1.now)) result (header_at bytes.now) }
+    ensures threads { IfOk result (λ r. r.0.scale.threads ≤ most_threads) }
+    ensures gives { Gives (λ r. (
+      (
+        (r.0.scale.version, (r.0.scale.module_len, (r.0.scale.threads, r.0.scale.max_pages))),
+        (r.0.invoke, (r.0.args, (r.0.fuel, r.0.limit))),
+      ),
+      r.1.now,
+    )) result (header_at bytes.now) }
 {
-    let Some(rest) = after(b"wathread-record 1\n", bytes) else {
-        return Err(RecordFault::Header(1));
-    };
-    let (invoke, rest) = invoke_in(alloc, rest)?;
-    let (args, rest) = args_in(alloc, rest)?;
+    let (scale, rest) = scale_in(bytes)?;
+    let last = scale.version.header_lines();
+    let (invoke, rest) = invoke_in(alloc, last - 3, rest)?;
+    let (args, rest) = args_in(alloc, last - 2, rest)?;
     let Some((fuel, rest)) = fuel_at(rest) else {
-        return Err(RecordFault::Header(4));
+        return Err(RecordFault::Header(last - 1));
     };
     let Some((limit, rest)) = limit_at(rest) else {
-        return Err(RecordFault::Header(5));
+        return Err(RecordFault::Header(last));
     };
     let header = Header {
+        scale,
         invoke,
         args,
         fuel,

@@ -13,10 +13,12 @@ mod ranges;
 mod read;
 mod record;
 mod value;
+mod version;
 mod write;
 
 pub use fault::{RecordFault, WriteFault};
 pub use parts::RecordParts;
 pub use read::read_record;
 pub use record::{Record, one_text};
+pub use version::{FIRST_PAGES, FIRST_THREADS, Version};
 pub use write::write_record;

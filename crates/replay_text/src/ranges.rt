@@ -1,6 +1,7 @@
 //! The ranges of a record, as tests.
 
 ghost use Rattle.std.specs.Prelude.{◌≡◌, ◌≤◌, ◌↔◌, IsTrue, true};
+ghost use Rattle.replay_text.specs.Versions.{IsScale};
 ghost use Rattle.std.specs.List.{All};
 ghost use Rattle.std.specs.Str.{is_utf8};
 ghost use Rattle.replay_text.specs.Conditions.{IsValue, IsEntry, IsReport};
@@ -8,10 +9,10 @@ ghost use Rattle.replay_text.specs.Text.{HasNumbers, IsRecord};
 
 use crate::conditions::is_reply_to;
 use crate::parts::RecordParts;
+use crate::version::{FIRST_PAGES, FIRST_THREADS, Version};
 use shared_memory::is_event;
 use types::{
-    Entry, MOST_FUEL, MOST_LIMIT, MOST_PAGES, MOST_SPAWNED, MOST_THREADS, PAST_LIMIT, ThreadReport,
-    Value,
+    Entry, MOST_FUEL, MOST_LIMIT, MOST_MODULE_BYTES, MOST_PAGES, MOST_THREADS, ThreadReport, Value,
 };
 
 /// A value is within the range of its type, whatever it is.
@@ -23,12 +24,10 @@ fn is_value(value: Value) -> bool
     }
 }
 
-fn is_entry(entry: Entry) -> bool
-    ensures { IsTrue result ↔ IsEntry entry }
+fn is_entry(threads: u32, entry: Entry) -> bool
+    ensures { IsTrue result ↔ IsEntry threads entry }
 {
-    entry.thread <= MOST_SPAWNED as u32
-        && is_event(entry.event)
-        && is_reply_to(entry.event, entry.reply)
+    entry.thread < threads && is_event(entry.event) && is_reply_to(entry.event, entry.reply)
 }
 
 fn is_report(report: ThreadReport) -> bool
@@ -48,11 +47,11 @@ fn are_values(values: &[Value]) -> bool
     true
 }
 
-fn are_entries(log: &[Entry]) -> bool
-    ensures { IsTrue result ↔ All IsEntry log.now }
+fn are_entries(threads: u32, log: &[Entry]) -> bool
+    ensures { IsTrue result ↔ All (IsEntry threads) log.now }
 {
     for entry in log {
-        if !is_entry(*entry) {
+        if !is_entry(threads, *entry) {
             return false;
         }
     }
@@ -76,16 +75,36 @@ fn show_name_is_text(name: &str)
     ensures bytes { All (λ b. b ≤ 255) name.now }
 {}
 
+fn has_scale_in(parts: &RecordParts) -> bool
+    ensures { IsTrue result ↔ IsScale parts.now.version parts.now.module_len parts.now.threads parts.now.max_pages }
+{
+    match parts.version {
+        Version::One => {
+            parts.module_len == 0
+                && parts.threads == FIRST_THREADS
+                && parts.max_pages == FIRST_PAGES
+        }
+        Version::Two => {
+            parts.module_len as usize <= MOST_MODULE_BYTES
+                && parts.threads >= 1
+                && parts.threads as usize <= MOST_THREADS
+                && parts.max_pages >= 1
+                && parts.max_pages <= MOST_PAGES
+        }
+    }
+}
+
 fn has_numbers_in(parts: &RecordParts) -> bool
     ensures { IsTrue result ↔ HasNumbers parts.now }
 {
-    parts.fuel <= MOST_FUEL
+    has_scale_in(parts)
+        && parts.fuel <= MOST_FUEL
         && parts.limit >= 1
         && parts.limit <= MOST_LIMIT
-        && parts.log.len() <= parts.limit as usize + PAST_LIMIT
+        && parts.log.len() <= parts.limit as usize + 3 * parts.threads as usize
         && parts.ends.len() >= 1
-        && parts.ends.len() <= MOST_THREADS
-        && parts.pages <= MOST_PAGES
+        && parts.ends.len() <= parts.threads as usize
+        && parts.pages <= parts.max_pages
 }
 
 /// Whether the parts are within the ranges of a record.
@@ -99,7 +118,7 @@ pub fn is_record_in(parts: &RecordParts) -> bool
     if !are_values(parts.args.as_slice()) {
         return false;
     }
-    if !are_entries(parts.log.as_slice()) {
+    if !are_entries(parts.threads, parts.log.as_slice()) {
         return false;
     }
     are_reports(parts.ends.as_slice())

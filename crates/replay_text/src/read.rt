@@ -18,11 +18,17 @@ fn parts_in(alloc: Global, bytes: &[u8]) -> Result<RecordParts, RecordFault>
     ensures { Gives (λ r. r) result (record_at bytes.now) }
 {
     let (header, rest) = header_in(alloc, bytes)?;
-    let (body, rest) = body_in(alloc, header.limit, rest)?;
+    let scale = header.scale;
+    let (body, rest) = body_in(alloc, scale, header.limit, rest)?;
     if !rest.is_empty() {
-        return Err(RecordFault::Unreadable(body.log.len() + body.ends.len() + 8));
+        let lines = scale.version.header_lines() + body.log.len() + body.ends.len();
+        return Err(RecordFault::Unreadable(lines + 3));
     }
     Ok(RecordParts {
+        version: scale.version,
+        module_len: scale.module_len,
+        threads: scale.threads,
+        max_pages: scale.max_pages,
         invoke: header.invoke,
         args: header.args,
         fuel: header.fuel,
@@ -35,10 +41,11 @@ fn parts_in(alloc: Global, bytes: &[u8]) -> Result<RecordParts, RecordFault>
 
 /// The record whose text the bytes are, all of them.
 ///
-/// The text is cut into lines at each line feed; a last piece without one is no line. A wrong or missing line among
-/// the first five is `Header` with the number of the first such line. Behind them the first line that is wrong where
-/// it stands is `Unreadable` with its number, from 1 on; a text that ends before the line `finish` is `EndMissing`; and
-/// any byte behind that line is `Unreadable` with the number of the line behind it. `NoMemory` says nothing of the bytes.
+/// The text is cut into lines at each line feed; a last piece without one is no line. A wrong or missing line among the first
+/// eight, or five where the first says version 1, is `Header` with the number of the first such line. Behind them the first line
+/// that is wrong where it stands is `Unreadable` with its number, from 1 on; a text that ends before the line `finish` is
+/// `EndMissing`; and any byte behind that line is `Unreadable` with the number of the line behind it. `NoMemory` says nothing of
+/// the bytes.
 #[tactic(auto, using(crate::proofs::Whole::record_takes, crate::proofs::Whole::read_found))]
 pub fn read_record(alloc: Global, bytes: &[u8]) -> Result<Record, RecordFault>
     ensures ok { IfOk result (λ r. IsRecord r × (bytes.now ≡ record_text r)) }

@@ -40,9 +40,9 @@ impl Item for Argument {
 
     type Value = Value;
 
-    ghost at = { λ place. arg_at };
+    ghost at = { λ kind place. arg_at };
 
-    fn read(_place: usize, bytes: &[u8]) -> Option<(Value, &[u8])> {
+    fn read<'a>(&self, _place: usize, bytes: &'a [u8]) -> Option<(Value, &'a [u8])> {
         let rest = after(b" ", bytes)?;
         value_at(rest)
     }

@@ -3,7 +3,7 @@
 ghost use Rattle.std.specs.Prelude.{◌≡◌, OnOk, codes, [], ◌∷◌};
 ghost use Rattle.std.specs.Io.KnownBytes.{Appends};
 ghost use Rattle.replay_forms.specs.Texts.{line, spaced, lines_text};
-ghost use Rattle.replay_text.specs.Text.{record_text, name_word, header_lines};
+ghost use Rattle.replay_text.specs.Text.{record_text, name_word, scale_lines, header_lines};
 ghost use Rattle.replay_text.specs.Words.{op_word, event_words, question_words, reply_word, outcome_words};
 
 use crate::end::EndLine;
@@ -12,6 +12,7 @@ use crate::fault::WriteFault;
 use crate::parts::RecordParts;
 use crate::record::Record;
 use crate::value::Argument;
+use crate::version::Version;
 use replay_forms::{HexByte, Printed, write_items};
 use std::io::{self, Write};
 use types::{Answer, Entry, Event, Outcome, Question, Reply, RmwOp, ThreadReport, Value};
@@ -169,10 +170,30 @@ fn write_invoke<W: Write>(writer: &mut W, name: &str) -> io::Result<()>
     write_items::<HexByte, W>(writer, name.as_bytes())
 }
 
+/// Writes the lines that the record's version begins with.
+fn write_scale<W: Write>(writer: &mut W, parts: &RecordParts) -> io::Result<()>
+    ensures { OnOk result (Appends (W.contents writer.old) (W.contents writer.new)
+        (lines_text (scale_lines parts.now.version parts.now.module_len parts.now.threads parts.now.max_pages))) }
+{
+    match parts.version {
+        Version::One => write!(writer, "wathread-record 1\n"),
+        Version::Two => {
+            let module_len = parts.module_len;
+            let threads = parts.threads;
+            let max_pages = parts.max_pages;
+            write!(
+                writer,
+                "wathread-record 2\nmodule {module_len}\nthreads {threads}\nmax-pages {max_pages}\n"
+            )
+        }
+    }
+}
+
 fn write_header<W: Write>(writer: &mut W, parts: &RecordParts) -> io::Result<()>
     ensures { OnOk result (Appends (W.contents writer.old) (W.contents writer.new) (lines_text (header_lines parts.now))) }
 {
-    write!(writer, "wathread-record 1\ninvoke ")?;
+    write_scale(writer, parts)?;
+    write!(writer, "invoke ")?;
     write_invoke(writer, parts.invoke.as_str())?;
     write!(writer, "\nargs")?;
     write_items::<Argument, W>(writer, parts.args.as_slice())?;

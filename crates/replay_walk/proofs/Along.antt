@@ -15,7 +15,7 @@ use Rattle.schedule.specs.Tries.{TryRules}
 use Rattle.schedule.proofs.Basics.{at_each, put-same, put-other}
 use Rattle.interp_machine.specs.State.{At}
 use Rattle.schedule_threads.specs.Shared.{act_of}
-use Rattle.schedule_runs.specs.Runs.{system_of, first_state, first_places, as_acts, acted}
+use Rattle.schedule_runs.specs.Runs.{system_of, state_for, first_places, as_acts, acted}
 use Rattle.interp_trait.specs.Turns.{wants_of, Meaning}
 use Rattle.replay_rules.specs.Walk.{Walks, WalksOn, CanTake, after_made}
 use Rattle.replay_rules.specs.Logs as logs
@@ -62,11 +62,11 @@ as_acts-length (x ∷ xs) = ap (λ k. suc k) (as_acts-length xs)
 not_unstarted : ◌≡◌ {A = Place Answer} Free Unstarted → ⊥
 not_unstarted h = cc h
 
-beginning : (r : Run) → IsBeginning (system_of (start r)) (first_state (start r)) first_places
+beginning : (r : Run) → IsBeginning (system_of (start r)) (state_for r.threads (start r)) first_places
 beginning r = record {
   closed = at_each 0 (λ m. IsClosed (first_places m)) (subst IsClosed (sym (put-same (λ (m : ℕ). Unstarted) 0 Free)) tt)
       (λ m h. subst IsClosed (sym (put-other (λ (m : ℕ). Unstarted) 0 Free m h)) tt);
-  idle = at_each 0 (λ m. first_places m ≡ Unstarted → wants_of r.program ((first_state (start r)).threads m) ≡ Gone)
+  idle = at_each 0 (λ m. first_places m ≡ Unstarted → wants_of r.program ((state_for r.threads (start r)).threads m) ≡ Gone)
       (λ is. absurd (not_unstarted (sym (put-same {B = Place Answer} (λ (m : ℕ). Unstarted) 0 Free) ∙ is)))
       (λ m h is. ap (wants_of r.program) (put-other (λ (m : ℕ). Absent) 0 (Runs (At r.main) r.budget) m h));
 }
@@ -86,10 +86,10 @@ module _ {S : Type 0} (meaning : S → Meaning) where
           places = taken.places;
           walks =
               subst (λ l. Walks (system_of (start r))
-              (rules_of r.limit) l (first_state (start r)) first_places 0 taken.state taken.places)
+              (rules_of r.limit) l (state_for r.threads (start r)) first_places 0 taken.state taken.places)
               (sym (as_acts-append log (e ∷ [])))
               (walks_more (system_of (start r)) (rules_of r.limit) walked.state taken.state walked.places taken.places
-              (acted e) (as_acts log) (first_state (start r)) first_places 0 walked.walks
+              (acted e) (as_acts log) (state_for r.threads (start r)) first_places 0 walked.walks
               (subst (λ c. WalksOn (system_of (start r))
               (rules_of r.limit) walked.state walked.places c e.thread (act_of e)
               (λ w q. (w ≡ taken.state) × (q ≡ taken.places))) same taken.walks));
@@ -103,14 +103,14 @@ module _ {S : Type 0} (meaning : S → Meaning) where
     stops_at whole rest is refused =
         let same : length (as_acts log) ≡ count = as_acts-length log ∙ at in
         let stops = stops_are_misfits _ _ _ _ _ _ (system_of (start r)) (rules_of r.limit)
-        (laws_at (standing_in r memory walked.state walked.places)) (first_state (start r)) first_places
+        (laws_at (standing_in r memory walked.state walked.places)) (state_for r.threads (start r)) first_places
         (beginning r)
         (as_acts log) (as_acts rest) (acted e) walked.state walked.places walked.walks
         (subst (λ c. CanTake (system_of (start r)) (rules_of r.limit) walked.state walked.places c e.thread (act_of e) → ⊥) (sym same) refused) in
         subst (λ l. logs.IsFirstMisfit (system_of (start r)) (rules_of r.limit)
-        (first_state (start r)) first_places l count) (sym (ap as_acts is ∙ as_acts-append log (e ∷ rest)))
+        (state_for r.threads (start r)) first_places l count) (sym (ap as_acts is ∙ as_acts-append log (e ∷ rest)))
         (subst (λ c. logs.IsFirstMisfit (system_of (start r)) (rules_of r.limit)
-        (first_state (start r)) first_places (as_acts log ++ acted e ∷ as_acts rest) c) same stops)
+        (state_for r.threads (start r)) first_places (as_acts log ++ acted e ∷ as_acts rest) c) same stops)
 
   -- the same along a log, behind its first k entries
   module _ (r : Run) (log : List entries.Entry) (threads : List S) (memory : Memory) (queue : WaitQueue) (begun : ℕ)

@@ -70,11 +70,11 @@ module _ {S : Type 0} (meaning : S → Meaning) where
     same_after threads' begun' b l same_begun same_threads h = subst (λ k. After threads' k) (sym same_begun) (subst (λ k. After k b) (sym same_threads) h)
 
     -- nobody is started
-    asked_plain : (question : Question) → e ≡ events.Ask question → (is_spawn question ≡ false) ⊎ (most_threads ≤ begun) → After after begun
+    asked_plain : (question : Question) → e ≡ events.Ask question → (is_spawn question ≡ false) ⊎ (length queue.due ≤ begun) → After after begun
     asked_plain question is h =
         let few : (is_spawn question ≡ false) ⊎ (length queue.due ≤ next_id queue) = elim h [
           | inl a ↦ inl a
-          | inr b ↦ inr (omega (arith, b, (on.standing).started, (on.standing).dues))
+          | inr b ↦ inr (omega (arith, b, (on.standing).started))
         ] in
         let few_shared : (is_spawn question ≡ false) ⊎ (length s.state.shared.queue.due ≤ next_id s.state.shared.queue) = elim h [
           | inl a ↦ inl a
@@ -86,10 +86,10 @@ module _ {S : Type 0} (meaning : S → Meaning) where
 
     pub made_question : (question : Question) → e ≡ events.Ask question
         → ((arg : ℕ) → e ≡ events.Ask (Spawn arg) → length threads ≡ most_threads) → (threads' : List S) (begun' : ℕ)
-        → ((arg : ℕ) → question ≡ Spawn arg → begun < most_threads → (begun' ≡ begun + 1)
+        → ((arg : ℕ) → question ≡ Spawn arg → begun < length queue.due → (begun' ≡ begun + 1)
         × ((x : S) (worker : List Value → Config) → slice_get after begun ≡ Some x
         → (meaning x).begins spawn_types worker → IsStartedAt meaning x worker arg after begun threads'))
-        → (most_threads ≤ begun → (begun' ≡ begun) × (threads' ≡ after)) → (is_spawn question ≡ false → (begun' ≡ begun) × (threads' ≡ after))
+        → (length queue.due ≤ begun → (begun' ≡ begun) × (threads' ≡ after)) → (is_spawn question ≡ false → (begun' ≡ begun) × (threads' ≡ after))
         → After threads' begun'
     made_question (Wait addr width expected timeout) is room threads' begun' started full other =
         same_after threads' begun' begun after (other refl).0 (other refl).1 (asked_plain (Wait addr width expected timeout) is (inl refl))
@@ -98,7 +98,7 @@ module _ {S : Type 0} (meaning : S → Meaning) where
     made_question Leave is room threads' begun' started full other =
         same_after threads' begun' begun after (other refl).0 (other refl).1 (asked_plain Leave is (inl refl))
     made_question (Spawn arg) is room threads' begun' started full other =
-        elim (cases_lt begun most_threads) [
+        elim (cases_lt begun (length queue.due)) [
           | inl lt ↦ (let new = started arg refl lt in
               subst (λ k. After threads' k) (sym new.0)
               (made_spawn meaning s threads queue begun ends n t on arg e is v reply kind none wants after taken lt (room arg is) threads' new.1))

@@ -130,7 +130,6 @@ module _ {S : Type 0} (meaning : S → Meaning) where
       shared = step.shared;
       places = step.stand;
       sound = IsSound-step queue n e v (allowed queue n e is_made free) st.sound;
-      dues = due_length_step queue n e v ∙ st.dues;
       started = started;
       slots = slots;
       alike = alike;

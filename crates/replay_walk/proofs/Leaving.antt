@@ -109,7 +109,7 @@ module _ {S : Type 0} (meaning : S → Meaning) where
     pub is_below : s.places n ≡ Free → n < length ends
     is_below free =
         let known : n < begun = is_known free in
-        let started : begun ≡ next_id queue = st.started in omega (arith, st.sound.few, st.dues, st.slots)
+        let started : begun ≡ next_id queue = st.started in omega (arith, st.sound.few, st.sound.due_length, st.slots)
 
     pub gone_at : s.places n ≡ Free → (outcome : Outcome) → get_or ends n None ≡ Some outcome → HasGone (s.state.threads n)
     gone_at free outcome is = let at = at_free free (Some outcome) is in record { outcome = outcome; left = at.0; gone = at.1 }

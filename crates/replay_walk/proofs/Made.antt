@@ -152,14 +152,14 @@ module _ {S : Type 0} (meaning : S → Meaning) where
         go None h = h.1 x at
         go (Some o) h = absurd h
 
-    pub spawn_ready : (v : Reply) (after : List S) → HasTaken v after → length threads ≡ most_threads → begun < most_threads
+    pub spawn_ready : (v : Reply) (after : List S) → HasTaken v after → length threads ≡ most_threads → begun < length queue.due
         → (begun < length after) × ((x : S) → slice_get after begun ≡ Some x → (meaning x).begins spawn_types s.worker)
     spawn_ready v after taken full room =
         let started : begun ≡ next_id queue = (on.standing).started in
         let known : n < next_id queue = IsFreePlace.known place in
         let apart : begun ≢ n = omega arith in
         let long : length after ≡ most_threads = ap length taken.list ∙ (length-set threads n taken.now ∙ full) in
-        let below : begun < length after = omega arith in (
+        let below : begun < length after = omega (arith, room, long, ((on.standing).sound).due_length) in (
           below,
           λ x at. unstarted begun (omega arith) x (sym ((on.others) begun apart)
               ∙ (sym (slice_get-set_other threads n begun taken.now apart)

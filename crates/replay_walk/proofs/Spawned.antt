@@ -40,9 +40,9 @@ module _ {S : Type 0} (meaning : S → Meaning) where
 
   pub dues_are : (s : Standing) (threads : List S) (queue : WaitQueue) (begun : ℕ) (ends : List (Option Outcome))
       → IsStanding meaning s threads queue begun ends
-      → length s.state.shared.queue.due ≡ most_threads
+      → length s.state.shared.queue.due ≡ length queue.due
   dues_are s threads queue begun ends st =
-      ap (λ (x : Shared). length x.queue.due) st.shared ∙ (length-replicate {A = Option Answer} (length queue.due) None ∙ st.dues)
+      ap (λ (x : Shared). length x.queue.due) st.shared ∙ length-replicate {A = Option Answer} (length queue.due) None
 
   module _ (s : Standing) (threads : List S) (queue : WaitQueue) (begun : ℕ) (ends : List (Option Outcome)) (n : ℕ) (t : Running)
       (on : IsSettledOn meaning s threads queue begun ends n t) (arg : ℕ) (e : Event) (is : e ≡ events.Ask (Spawn arg))
@@ -56,25 +56,25 @@ module _ {S : Type 0} (meaning : S → Meaning) where
     abbrev started : Running
     started = Runs (spawned_in s.worker begun arg) s.budget
 
-    starts_is : (m : ℕ) → starts_in m ≡ cond (nat_lt m most_threads && (m == next_id s.state.shared.queue))
+    starts_is : (m : ℕ) → starts_in m ≡ cond (nat_lt m (length queue.due) && (m == next_id s.state.shared.queue))
         (Some (Runs (spawned_in s.worker m arg) s.budget)) None
     starts_is m =
         ap (λ (x : Event). (system_at s).starts (s.state.shared) n x m) is
         ∙ ap (λ (k : ℕ). cond (nat_lt m k && (m == next_id s.state.shared.queue)) (Some (Runs (spawned_in s.worker m arg) s.budget)) None)
         (dues_are s on.before queue begun ends on.standing)
 
-    starts_here : begun < most_threads → starts_in begun ≡ Some started
+    starts_here : begun < length queue.due → starts_in begun ≡ Some started
     starts_here room =
         starts_is begun
-        ∙ cond-true (nat_lt begun most_threads && (begun == next_id s.state.shared.queue)) (Some started) None
-        (and_from (nat_lt begun most_threads) (begun == next_id s.state.shared.queue) (lt-ltb begun most_threads room)
+        ∙ cond-true (nat_lt begun (length queue.due) && (begun == next_id s.state.shared.queue)) (Some started) None
+        (and_from (nat_lt begun (length queue.due)) (begun == next_id s.state.shared.queue) (lt-ltb begun (length queue.due) room)
         (eq-eqb begun (next_id s.state.shared.queue) (sym number_is)))
 
     starts_other : (m : ℕ) → m ≢ begun → (x : Running) → starts_in m ≡ Some x → ⊥
     starts_other m apart x k =
-        cond_both (nat_lt m most_threads && (m == next_id s.state.shared.queue)) (Some (Runs (spawned_in s.worker m arg) s.budget)) None (λ w. w ≡ Some x → ⊥)
+        cond_both (nat_lt m (length queue.due) && (m == next_id s.state.shared.queue)) (Some (Runs (spawned_in s.worker m arg) s.budget)) None (λ w. w ≡ Some x → ⊥)
         (λ both e. apart (eqb-true m (next_id s.state.shared.queue)
-        (and_parts (nat_lt m most_threads) (m == next_id s.state.shared.queue) both).1 ∙ number_is))
+        (and_parts (nat_lt m (length queue.due)) (m == next_id s.state.shared.queue) both).1 ∙ number_is))
         (λ isnt e. absurd (cc e))
         (sym (starts_is m) ∙ k)
 
@@ -83,9 +83,9 @@ module _ {S : Type 0} (meaning : S → Meaning) where
         ap (λ (x : Event). queue_step queue n x v) is
         ∙ ap (λ (w : Reply). queue_step queue n (events.Ask (Spawn arg)) w) (reply ∙ ap (λ (x : Event). reply_of s.memory x) is)
 
-    next_is : begun < most_threads → begun + 1 ≡ next_id (queue_step queue n e v)
+    next_is : begun < length queue.due → begun + 1 ≡ next_id (queue_step queue n e v)
     next_is room =
-        let few : next_id queue < length queue.due = omega (arith, (on.standing).started, (on.standing).dues, room) in
+        let few : next_id queue < length queue.due = omega (arith, (on.standing).started, room) in
         let more : length (queue.args ++ arg ∷ []) ≡ length queue.args + 1 = length-append queue.args (arg ∷ []) in
         ap (λ k. k + 1) (on.standing).started
         ∙ (ap (λ k. k + 1) (sym more)
@@ -94,17 +94,17 @@ module _ {S : Type 0} (meaning : S → Meaning) where
         ∙ cond-true (nat_lt (next_id queue) (length queue.due)) (queue.args ++ arg ∷ []) queue.args
         (lt-ltb (next_id queue) (length queue.due) few))))
 
-    born : begun < most_threads → (m : ℕ) (x : Running) → starts_in m ≡ Some x → is_alive (queue_step queue n e v) m ≡ true
+    born : begun < length queue.due → (m : ℕ) (x : Running) → starts_in m ≡ Some x → is_alive (queue_step queue n e v) m ≡ true
     born room =
         at_each begun (λ m. (x : Running) → starts_in m ≡ Some x → is_alive (queue_step queue n e v) m ≡ true)
         (λ x k. ap (λ (q : WaitQueue). is_alive q begun) queue_is
         ∙ subst (λ (k : ℕ). is_alive (after_question queue n (Spawn arg) 0) k ≡ true) (sym (on.standing).started)
-        (spawned_alive queue n arg 0 (omega (arith, (on.standing).started, (on.standing).dues, room))))
+        (spawned_alive queue n arg 0 (omega (arith, (on.standing).started, room))))
         (λ m h x k. absurd (starts_other m h x k))
 
     module _ (kind : is_exempt e ≡ false) (none : outcome_of t ≡ None) (wants : wants_of s.program t ≡ Calls e)
         (after : List S) (taken : HasTaken meaning s threads queue begun ends n t on v after)
-        (room : begun < most_threads) (full : length threads ≡ most_threads) where
+        (room : begun < length queue.due) (full : length threads ≡ most_threads) where
       apart : begun ≢ n
       apart =
           let started : begun ≡ next_id queue = (on.standing).started in
@@ -112,7 +112,7 @@ module _ {S : Type 0} (meaning : S → Meaning) where
 
       below : begun < length after
       below =
-          let long : length after ≡ most_threads = ap length taken.list ∙ (length-set threads n taken.now ∙ full) in omega arith
+          let long : length after ≡ most_threads = ap length taken.list ∙ (length-set threads n taken.now ∙ full) in omega (arith, room, ((on.standing).sound).due_length)
 
       abbrev old : S
       old = get_or after begun taken.now

@@ -86,7 +86,6 @@ module _ {S : Type 0} (meaning : S → Meaning) where
           shared = st.shared ∙ ap (λ (w : WaitQueue). record { memory = s.memory; queue = w }) (sym (without_answer queue n));
           places = step.stand;
           sound = IsSound-step queue n (events.Told answer) replies.Done due st.sound;
-          dues = length-set queue.due n None ∙ st.dues;
           started = st.started;
           slots = st.slots;
           alike = alike;

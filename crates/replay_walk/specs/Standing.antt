@@ -106,12 +106,11 @@ module _ {S : Type 0} (meaning : S → Meaning) where
   StandsAt p worker (Due answer) t slot (Some outcome) alive = (left : ℕ) × (t ≡ Left outcome left) × IsGone slot left
 
   -- A walk's threads and queue, how many threads were started, and how each ended that asked to leave, are those of the
-  -- scheduled machine. There may be 64 threads.
+  -- scheduled machine.
   pub record IsStanding (s : Standing) (threads : List S) (queue : WaitQueue) (begun : ℕ) (ends : List (Option Outcome)) : Type 0 where
     pub shared : s.state.shared ≡ record { memory = s.memory; queue = without_dues queue }
     pub places : (m : ℕ) → s.places m ≡ place_of queue m
     pub sound : IsSound queue
-    pub dues : length queue.due ≡ most_threads
     pub started : begun ≡ next_id queue
     pub slots : length ends ≡ most_threads
     pub alike : (m : ℕ) (x : S) → slice_get threads m ≡ Some x → ((meaning x).program ≡ s.program) × ((meaning x).fuel ≡ s.budget)

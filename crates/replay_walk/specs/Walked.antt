@@ -19,7 +19,7 @@ use Rattle.interp_machine.specs.Program.{Program}
 use Rattle.interp_machine.specs.Config.{Config}
 use Rattle.interp_machine.specs.State.{At}
 use Rattle.schedule_threads.specs.Shared.{Shared, try_rules}
-use Rattle.schedule_runs.specs.Runs.{Start, system_of, first_state, first_places, as_acts}
+use Rattle.schedule_runs.specs.Runs.{Start, system_of, state_for, first_places, as_acts}
 use Rattle.interp_trait.specs.Turns.{Running, Meaning, spawn_types}
 use Rattle.replay_walk.specs.declared.walk.Walk.{Walk}
 use Rattle.replay_rules.specs.Walk.{WalksOn, Walks, CanTake}
@@ -52,14 +52,15 @@ module _ {S : Type 0} (meaning : S → Meaning) where
     pub walks : WalksOn (system_at s) (rules_of limit) s.state s.places count n act (λ w q. (w ≡ state) × (q ≡ places))
     pub standing : IsStanding meaning (moved s memory state places) threads queue begun ends
 
--- A run to be replayed: its program, the call of thread 0, that of a spawned thread, the budget, the opening memory, and how
--- many entries its log takes.
+-- A run to be replayed: its program, the call of thread 0, that of a spawned thread, the budget, the opening memory, how many
+-- threads it may have, and how many entries its log takes.
 pub record Run : Type 0 where
   pub program : Program
   pub main : Config
   pub worker : List Value → Config
   pub budget : ℕ
   pub opening : Memory
+  pub threads : ℕ
   pub limit : ℕ
 
 abbrev pub start : Run → Start
@@ -77,7 +78,8 @@ standing_in r memory state places = record {
 
 -- The entry at k is the first of the log that doesn't fit the run.
 abbrev pub IsFirstMisfit : Run → List entries.Entry → ℕ → Type 0
-IsFirstMisfit r log k = logs.IsFirstMisfit (system_of (start r)) (rules_of r.limit) (first_state (start r)) first_places (as_acts log) k
+IsFirstMisfit r log k =
+    logs.IsFirstMisfit (system_of (start r)) (rules_of r.limit) (state_for r.threads (start r)) first_places (as_acts log) k
 
 module _ {S : Type 0} (meaning : S → Meaning) where
   -- Threads and a memory with which a run begins: thread 0 is at its start, and the others can be spawned.
@@ -94,7 +96,7 @@ module _ {S : Type 0} (meaning : S → Meaning) where
     pub count : HasThreads r.program (length threads)
     pub state : systems.State Shared Running
     pub places : ℕ → Place Answer
-    pub walks : Walks (system_of (start r)) (rules_of r.limit) (as_acts log) (first_state (start r)) first_places 0 state places
+    pub walks : Walks (system_of (start r)) (rules_of r.limit) (as_acts log) (state_for r.threads (start r)) first_places 0 state places
     pub standing : IsStanding meaning (standing_in r memory state places) threads queue begun ends
 
 module _ {S : Type 0} (meaning : S → Meaning) where

@@ -34,14 +34,16 @@ pub struct Stage {
 }
 
 impl Stage {
-    /// Thread 0 alone is there.
-    pub fn new() -> Stage
-        ensures queue { result.queue ≡ first_queue most_threads }
+    /// Of so many threads at most, thread 0 alone is there.
+    pub fn new(most: u32) -> Stage
+        requires some { 0 < most }
+        requires few { most ≤ most_threads }
+        ensures queue { result.queue ≡ first_queue most }
         ensures started { result.started ≡ 1 }
         ensures ends { result.ends ≡ replicate most_threads None }
     {
         Stage {
-            queue: Queue::new(),
+            queue: Queue::new(most),
             started: 1,
             ends: [None; MOST_THREADS],
         }
@@ -107,7 +109,7 @@ impl Stage {
     }
 
     /// A thread's question goes to the queue, unless its reply was out of bounds. A spawn starts a thread, while there
-    /// are fewer than 64.
+    /// are fewer than there may be.
     pub fn ask<T: TakesTurns>(
         &mut self,
         threads: &mut [T],
@@ -116,18 +118,19 @@ impl Stage {
         reply: Reply,
     )
         requires free { IsFree self.old.queue n }
-        requires spawn { (arg : ℕ) → question ≡ Spawn arg → self.old.started < most_threads → (self.old.started < length threads.old)
-            × ((x : T) → slice_get threads.old self.old.started ≡ Some x → MayBeSpawned (T.meaning x)) }
+        requires spawn { (arg : ℕ) → question ≡ Spawn arg → self.old.started < length self.old.queue.due
+            → (self.old.started < length threads.old) × ((x : T) → slice_get threads.old self.old.started ≡ Some x → MayBeSpawned (T.meaning x)) }
         ensures count { length threads.new ≡ length threads.old }
         ensures queue { self.new.queue ≡ queue_step self.old.queue n (events.Ask question) reply }
         ensures ends { self.new.ends ≡ self.old.ends }
-        ensures started { (arg : ℕ) → question ≡ Spawn arg → self.old.started < most_threads → (self.new.started ≡ self.old.started + 1)
-            × ((x : T) (worker : List Value → Config) → slice_get threads.old self.old.started ≡ Some x
+        ensures started { (arg : ℕ) → question ≡ Spawn arg → self.old.started < length self.old.queue.due
+            → (self.new.started ≡ self.old.started + 1) × ((x : T) (worker : List Value → Config) → slice_get threads.old self.old.started ≡ Some x
             → (T.meaning x).begins spawn_types worker → IsStartedAt T.meaning x worker arg threads.old self.old.started threads.new) }
-        ensures full { most_threads ≤ self.old.started → (self.new.started ≡ self.old.started) × (threads.new ≡ threads.old) }
+        ensures full { length self.old.queue.due ≤ self.old.started → (self.new.started ≡ self.old.started) × (threads.new ≡ threads.old) }
         ensures other { is_spawn question ≡ false → (self.new.started ≡ self.old.started) × (threads.new ≡ threads.old) }
     {
         let started = self.started;
+        let most = self.queue.threads();
         match reply {
             Reply::OutOfBounds => {}
             Reply::Value(loaded) => {
@@ -138,7 +141,7 @@ impl Stage {
             }
         }
         if let Question::Spawn { arg } = question
-            && started < MOST_THREADS as u32
+            && started < most
         {
             start_at(threads, started as usize, arg);
             self.started = started + 1;

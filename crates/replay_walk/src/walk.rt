@@ -1,5 +1,6 @@
 //! A walk along a recorded log.
-ghost use Rattle.std.specs.Prelude.{◌≡◌, ℕ, true, false, [], length, Some, None, All};
+ghost use Rattle.std.specs.Prelude.{◌≡◌, ◌<◌, ◌≤◌, ℕ, true, false, [], length, Some, None, All};
+ghost use Rattle.types.specs.Limits.{most_threads};
 ghost use Rattle.types.specs.declared.event.Event.TheVariants as events;
 ghost use Rattle.types.specs.declared.event.Question.TheVariants.{Leave};
 ghost use Rattle.shared_memory.specs.Events.{is_exempt};
@@ -17,8 +18,8 @@ use types::{Answer, Entry, Event, Outcome, Question, Stop};
 
 /// A recorded run on its way along its log: its threads by their numbers, its memory, and what they ask of one another.
 ///
-/// A program that starts threads has 64 here, of which those that weren't spawned yet haven't made a turn; another
-/// program has one.
+/// A program that starts threads has 64 here, though the run may have had fewer, of which those that weren't spawned yet
+/// haven't made a turn; another program has one.
 #[derive(Drop)]
 pub struct Walk<T> {
     pub threads: Vec<T>,
@@ -27,14 +28,16 @@ pub struct Walk<T> {
 }
 
 impl<T: TakesTurns> Walk<T> {
-    /// Begins a walk, with thread 0 at its start, and the opening memory.
-    pub fn new(threads: Vec<T>, memory: OneMemory) -> Walk<T>
-        ensures { (r : Run) → IsReady T.meaning r threads.items memory → WalkCame T.meaning r [] result }
+    /// Begins a walk of so many threads at most, with thread 0 at its start, and the opening memory.
+    pub fn new(threads: Vec<T>, memory: OneMemory, most: u32) -> Walk<T>
+        requires some { 0 < most }
+        requires few { most ≤ most_threads }
+        ensures { (r : Run) → IsReady T.meaning r threads.items memory → r.threads ≡ most → WalkCame T.meaning r [] result }
     {
         Walk {
             threads,
             memory,
-            stage: Stage::new(),
+            stage: Stage::new(most),
         }
     }
 
@@ -47,7 +50,7 @@ impl<T: TakesTurns> Walk<T> {
         fuel: u64,
         watch: &mut W,
     ) -> bool
-        requires entry { IsEntry entry.now }
+        requires entry { IsEntry most_threads entry.now }
         requires standing { (s : Standing) × WalkStands T.meaning s self.old × (s.memory ≡ self.old.memory) × (s.budget ≡ fuel)
             × HasThreads s.program (length self.old.threads.items) }
         ensures count { length self.new.threads.items ≡ length self.old.threads.items }
@@ -65,7 +68,7 @@ impl<T: TakesTurns> Walk<T> {
 
     /// A leave: the thread has ended, or it wants another event and the log is full.
     fn take_leave(&mut self, entry: &Entry, at: usize, limit: u32, fuel: u64) -> bool
-        requires entry { IsEntry entry.now }
+        requires entry { IsEntry most_threads entry.now }
         requires kind { entry.now.event ≡ events.Ask Leave }
         requires standing { (s : Standing) × WalkStands T.meaning s self.old × (s.memory ≡ self.old.memory) × (s.budget ≡ fuel) }
         ensures count { length self.new.threads.items ≡ length self.old.threads.items }
@@ -101,7 +104,7 @@ impl<T: TakesTurns> Walk<T> {
         fuel: u64,
         watch: &mut W,
     ) -> bool
-        requires entry { IsEntry entry.now }
+        requires entry { IsEntry most_threads entry.now }
         requires kind { is_exempt entry.now.event ≡ false }
         requires standing { (s : Standing) × WalkStands T.meaning s self.old × (s.memory ≡ self.old.memory) × (s.budget ≡ fuel)
             × HasThreads s.program (length self.old.threads.items) }
@@ -145,7 +148,7 @@ impl<T: TakesTurns> Walk<T> {
     /// Walks along a log from its beginning, to the first entry that doesn't fit, and gives that one's place, counted
     /// from 0; or to the end of the log.
     pub fn along(&mut self, log: &[Entry], limit: u32, fuel: u64) -> Option<usize>
-        requires entries { All IsEntry log.now }
+        requires entries { All (IsEntry most_threads) log.now }
         requires new { (r : Run) × WalkCame T.meaning r [] self.old × (r.budget ≡ fuel) × (r.limit ≡ limit) }
         ensures whole { result ≡ None → (r : Run) → WalkCame T.meaning r [] self.old → r.limit ≡ limit
             → WalkCame T.meaning r log.now self.new }
@@ -164,7 +167,7 @@ impl<T: TakesTurns> Walk<T> {
         fuel: u64,
         watch: &mut W,
     ) -> Option<usize>
-        requires entries { All IsEntry log.now }
+        requires entries { All (IsEntry most_threads) log.now }
         requires new { (r : Run) × WalkCame T.meaning r [] self.old × (r.budget ≡ fuel) × (r.limit ≡ limit) }
         ensures whole { result ≡ None → (r : Run) → WalkCame T.meaning r [] self.old → r.limit ≡ limit
             → WalkCame T.meaning r log.now self.new }

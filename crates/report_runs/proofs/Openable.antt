@@ -20,6 +20,7 @@ use Rattle.types.specs.Modules.{IsModule}
 use Rattle.types.specs.Within.{IsMemoryWithin, IsDescWithin}
 use Rattle.validate_typing.specs.Context.{memory_of, memories_of}
 use Rattle.validate_typing.specs.Image.{min_of, max_of, max_of_limits, opening_pages, pages_max_of, offset_of, with_segment, opening_image}
+use Rattle.validate.specs.Pages.{IsWithinPages, HasPagesWithin}
 use Rattle.validate_typing.specs.Validity.{IsValid, IsValidMemory}
 use Rattle.validate.proofs.ImageLaws.{IsWithin, segments_within}
 use Rattle.shared_memory.specs.Memory.{Memory, can_grow, state_after}
@@ -80,12 +81,23 @@ opens image max pages long within small =
     let whole : length image % page_size ≡ 0 = omega (arith, long) in
     grind (arith, a, b, whole)
 
+all_within : (m : Parts) → IsModule m → All IsMemoryWithin (memories_of m)
+all_within m tested =
+    All-append IsMemoryWithin (flat_map (λ (i : Import). memory_of i.desc) m.imports) m.memories
+    (imported_within m.imports tested.limits.each_import) tested.limits.each_memory
+
+first_within : (ms : List Limits) → All IsMemoryWithin ms → IsWithinPages most_pages (slice_get ms 0)
+first_within [] within = tt
+first_within (l ∷ ms) within = All-head IsMemoryWithin l ms within
+
+-- a module's memory has no more pages than any may have
+pub pages_within : (m : Parts) → IsModule m → HasPagesWithin most_pages m
+pages_within m tested = first_within (memories_of m) (all_within m tested)
+
 -- the opening memory of a valid module can be opened
 pub module_opens : (m : Parts) → IsModule m → IsValid m → can_open (opening_image m) (pages_max_of most_pages m) ≡ true
 module_opens m tested valid =
-    let within : All IsMemoryWithin (memories_of m) =
-    All-append IsMemoryWithin (flat_map (λ (i : Import). memory_of i.desc) m.imports) m.memories
-    (imported_within m.imports tested.limits.each_import) tested.limits.each_memory in
+    let within = all_within m tested in
     let fits = first_fits (memories_of m) within valid.memories in
     let zeros = replicate (page_size * opening_pages m) 0 in
     let long = length-image zeros m.data (opening_pages m) (length-replicate (page_size * opening_pages m) 0) (segments_within m valid) in

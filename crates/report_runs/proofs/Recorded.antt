@@ -3,18 +3,21 @@ use Rattle.std.proofs.Common.{ℕ, ◌≤◌, false, List, length, Some, slice_g
 use Rattle.types.specs.declared.value.Value.{Value}
 use Rattle.types.specs.declared.outcome.ThreadReport.{ThreadReport}
 use Rattle.types.specs.declared.parts.Parts.{Parts}
-use Rattle.types.specs.Limits.{most_fuel}
+use Rattle.types.specs.Limits.{most_fuel, most_pages, most_module_bytes}
+use Rattle.validate.specs.Pages.{HasPagesWithin}
 use Rattle.shared_memory.specs.History.{memory_after}
 use Rattle.schedule_runs.specs.Runs.{Start}
-use Rattle.spawn_host.specs.Runs.{opening_memory, start_by, Tells, IsRunHistory}
+use Rattle.spawn_host.specs.Runs.{opening_memory, opening_within, start_by, Tells, IsRunHistory}
 use Rattle.replay_text.specs.declared.parts.RecordParts.{RecordParts}
 use Rattle.replay_text.specs.Text.{IsRecord}
 use Rattle.replay_rules.specs.Telling.{RecordTells}
-use Rattle.replay_rules.specs.Ranges.{AreTyped}
+use Rattle.replay_rules.specs.Recorded.{IsRecordedRun}
+use Rattle.replay_rules.specs.Ranges.{AreTyped, IsWritten}
+use Rattle.replay_text.specs.declared.version.Version.{Version}
 use Rattle.replay_rules.proofs.Recording.{runs_are_recorded}
 use Rattle.replay_rules.proofs.Ranges.{runs_are_in_range}
 use Rattle.replay.specs.declared.end.EndState.{EndState}
-use Rattle.replay.specs.Runs.{IsRunOf}
+use Rattle.replay.specs.Runs.{IsLengthOf, IsRunOf}
 use Rattle.report_runs.specs.Ends.{EndsRun, RecordsRun}
 use Rattle.report_runs.proofs.Leaving.{the_same}
 
@@ -35,6 +38,7 @@ module _ (m : Parts) (entry : List ℕ) (args : List Value) (fuel limit : ℕ) (
 
   tells : RecordTells start r history.outcomes history.lefts
   tells = record {
+    threads = records.threads;
     count = ap length records.ends_are ∙ history.count;
     reports = λ n report is.
         let told : Tells report r.fuel (history.outcomes n) (history.lefts n) =
@@ -43,17 +47,28 @@ module _ (m : Parts) (entry : List ℕ) (args : List Value) (fuel limit : ℕ) (
     pages_are = records.pages_are ∙ ends_run.pages_after;
   }
 
-  pub is_run_of : IsRunOf m r end
-  is_run_of = record {
+  pub is_run_of : HasPagesWithin most_pages m → IsRunOf m r end
+  is_run_of within = record {
+    length_fits = subst (λ (v : Version). IsLengthOf v m r.module_len) (sym records.version) (sym records.module_len);
+    pages_fit = subst (λ (q : ℕ). HasPagesWithin q m) (sym records.max_pages) within;
     beginning = history.beginning;
     last = memory_after (opening_memory m) r.log;
-    recorded = runs_are_recorded start r history.outcomes history.lefts history.together tells;
+    recorded =
+        subst (λ (q : ℕ). IsRecordedRun (record start { opening = opening_within q m }) r (memory_after (opening_memory m) r.log)) (sym records.max_pages)
+        (runs_are_recorded start r history.outcomes history.lefts history.together tells);
     threads = sym records.ends_are;
     pages = sym records.pages_are;
     bytes = ends_run.bytes_after;
   }
 
-  pub is_in_range : fuel ≤ most_fuel → AreTyped r → IsRecord r
-  is_in_range small typed =
+  written : m.length ≤ most_module_bytes → IsWritten r
+  written size = record {
+    version = records.version;
+    module_len = subst (λ (n : ℕ). n ≤ most_module_bytes) (sym records.module_len) size;
+    max_pages = records.max_pages;
+  }
+
+  pub is_in_range : fuel ≤ most_fuel → m.length ≤ most_module_bytes → AreTyped r → IsRecord r
+  is_in_range small size typed =
       runs_are_in_range start r history.outcomes history.lefts history.together tells (subst (λ (f : ℕ). f ≤ most_fuel)
-      (sym records.fuel_is) small) records.limited typed
+      (sym records.fuel_is) small) (written size) records.limited typed

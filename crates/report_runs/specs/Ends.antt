@@ -3,9 +3,11 @@ use Rattle.std.specs.Prelude.{ℕ, ◌≡◌, Bool, true, false, List, Option, S
 use Rattle.types.specs.declared.value.Value.{Value}
 use Rattle.types.specs.declared.event.Entry.{Entry}
 use Rattle.types.specs.declared.parts.Parts.{Parts}
+use Rattle.types.specs.Limits.{most_threads, most_pages}
 use Rattle.shared_memory.specs.Memory.{pages}
 use Rattle.shared_memory.specs.History.{memory_after}
 use Rattle.spawn_host.specs.Runs.{opening_memory, IsRunHistory}
+use Rattle.replay_text.specs.declared.version.Version.TheVariants as versions
 use Rattle.replay_text.specs.declared.parts.RecordParts.{RecordParts}
 use Rattle.replay_rules.specs.Ranges.{IsLimited}
 use Rattle.replay.specs.declared.end.EndState.{EndState}
@@ -18,10 +20,14 @@ pub record EndsRun (m : Parts) (entry : List ℕ) (args : List Value) (fuel : �
   pub pages_after : end.pages ≡ pages (memory_after (opening_memory m) history)
   pub bytes_after : end.bytes.items ≡ (memory_after (opening_memory m) history).bytes
 
--- The record of such a run: its header is the call's, its log the history, its ends and its pages those of the run, and the memory
--- kept to its limits.
+-- The record of such a run: it is of version 2, with the module's length and the threads and pages of every run; its call is the
+-- run's, its log the history, its ends and its pages those of the run, and the memory kept to its limits.
 pub record RecordsRun (m : Parts) (entry : List ℕ) (args : List Value) (fuel limit : ℕ) (record_is : RecordParts)
     (end : EndState) : Type 0 where
+  pub version : record_is.version ≡ versions.Two
+  pub module_len : record_is.module_len ≡ m.length
+  pub threads : record_is.threads ≡ most_threads
+  pub max_pages : record_is.max_pages ≡ most_pages
   pub invoke : record_is.invoke ≡ entry
   pub args_are : record_is.args ≡ args
   pub fuel_is : record_is.fuel ≡ fuel

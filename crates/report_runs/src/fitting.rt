@@ -3,6 +3,8 @@
 ghost use Rattle.std.specs.List.{All};
 ghost use Rattle.std.specs.Prelude.{◌≡◌, ◌≤◌, true};
 ghost use Rattle.std.specs.Str.{is_utf8};
+ghost use Rattle.types.specs.Limits.{most_module_bytes, most_pages};
+ghost use Rattle.validate.specs.Pages.{HasPagesWithin};
 ghost use Rattle.shared_memory_sequential.specs.Opening.{can_open};
 ghost use Rattle.spawn_host.specs.Runs.{opening_memory};
 ghost use Rattle.replay_text.specs.Conditions.{IsValue, IsOutcome};
@@ -15,6 +17,14 @@ use validate::ValidModule;
 /// The opening memory of a valid module can be opened.
 pub(crate) fn show_memory_opens(module: &ValidModule)
     ensures { can_open (opening_memory module.now.parts).bytes (opening_memory module.now.parts).max ≡ true }
+{
+    let _parts = module.parts();
+}
+
+/// A valid module is no longer than any may be, and its memory has no more pages.
+pub(crate) fn show_module_fits(module: &ValidModule)
+    ensures size { «module».now.parts.length ≤ most_module_bytes }
+    ensures pages { HasPagesWithin most_pages «module».now.parts }
 {
     let _parts = module.parts();
 }

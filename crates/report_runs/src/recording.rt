@@ -9,11 +9,11 @@ ghost use Rattle.report_runs.specs.RunFaults.{IsRecordingFault};
 ghost use Rattle.report_runs.specs.declared.recording.RecordRunFault.TheVariants as faults;
 ghost use Rattle.spawn_host.specs.Entries.{Takes};
 
-use crate::fitting::{show_memory_opens, show_parts_fit};
+use crate::fitting::{show_memory_opens, show_module_fits, show_parts_fit};
 use interp_trait::Gate;
 use locked_recorder::{LockedRecorder, Naming, Prepared};
 use replay::EndState;
-use replay_text::{Record, RecordParts};
+use replay_text::{Record, RecordParts, Version};
 use shared_memory_sequential::OpenFault;
 use spawn_host::{Call, first_thread, run};
 use spawn_host_workers::RunFault;
@@ -22,7 +22,7 @@ use std::marker::Brand;
 use std::sync::Wait;
 use std::thread::Threads;
 use thiserror::Error;
-use types::{MOST_LIMIT, MOST_THREADS, Name, Sequence, ThreadReport, Value};
+use types::{MOST_LIMIT, MOST_PAGES, MOST_THREADS, Name, Sequence, ThreadReport, Value};
 use validate::ValidModule;
 
 /// Why there is no run over a memory of its own. All come before the first turn.
@@ -117,6 +117,7 @@ where
     if limit == 0 || limit > MOST_LIMIT {
         return Err(RecordRunFault::Open(OpenFault::PastLimit));
     }
+    show_module_fits(module);
     // Before the memory takes room, so that a call that can't be made is told as such.
     let _ = first_thread(alloc, module, call)?;
     let (parts, end) = run_recorded(rt, alloc, module, call, limit, gate)?;
@@ -202,6 +203,10 @@ where
     let finished = memory.finish(end.seats);
     copy_reports(&end.threads, &mut ends);
     let parts = RecordParts {
+        version: Version::Two,
+        module_len: module.parts().length,
+        threads: MOST_THREADS as u32,
+        max_pages: MOST_PAGES,
         invoke,
         args,
         fuel,

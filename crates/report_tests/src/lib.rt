@@ -35,6 +35,8 @@ mod threaded;
 #[cfg(test)]
 mod usage;
 #[cfg(test)]
+mod versions;
+#[cfg(test)]
 mod waits;
 #[cfg(test)]
 mod writers;

@@ -9,9 +9,10 @@ use test_modules::{ENDLESS, Module};
 use types::MOST_LIMIT;
 
 /// The record of the loop that adds until the log is full: a round takes five units, and the last one stops behind two.
-fn long_record(alloc: Global) -> io::Result<Vec<u8>> {
+fn long_record(alloc: Global, front: &str) -> io::Result<Vec<u8>> {
     let mut text = Vec::new(alloc);
-    text.write_all(b"wathread-record 1\ninvoke 66\nargs\nfuel 1000000000\nlimit 1000000\n")?;
+    text.write_all(front.as_bytes())?;
+    text.write_all(b"invoke 66\nargs\nfuel 1000000000\nlimit 1000000\n")?;
     for count in 0..MOST_LIMIT {
         write!(text, "0 rmw add 0 4 1 = {count}\n")?;
     }
@@ -31,7 +32,7 @@ static FILLING: Run = Run {
 #[test]
 fn replays_a_million_entries(rt: HostRuntime) -> Result<(), Fail> {
     let module = ENDLESS.bytes(rt.alloc())?;
-    let record = long_record(rt.alloc())?;
+    let record = long_record(rt.alloc(), "wathread-record 1\n")?;
     assert!(rt; prints(&rt, rt.alloc(), &module, &record, "4", FULL, 1)?);
     Ok(())
 }
@@ -40,7 +41,11 @@ fn replays_a_million_entries(rt: HostRuntime) -> Result<(), Fail> {
 fn records_a_million_entries(rt: HostRuntime) -> Result<(), Fail> {
     let gave = make(&rt, rt.alloc(), &FILLING, Over::Recorder)?;
     assert!(rt; gave.printed(FULL, 1));
-    let same = gave.record == long_record(rt.alloc())?;
+    let length = ENDLESS.bytes(rt.alloc())?.len();
+    let front = format!(in rt.alloc();
+        "wathread-record 2\nmodule {length}\nthreads 64\nmax-pages 256\n"
+    )?;
+    let same = gave.record == long_record(rt.alloc(), &front)?;
     assert!(rt; same);
     Ok(())
 }

@@ -10,6 +10,12 @@ wathread-record 1\ninvoke 66\nargs\nfuel 1000000000\nlimit 100000\n\
 0 rmw add 0 4 5 = 0\n0 leave = done\n0 told 0 = done\n\
 end 0 ok i32:0 4\npages 1\nfinish\n";
 
+/// The same in version 2.
+pub(crate) const ADDED_TWO: &str = "\
+wathread-record 2\nmodule 46\nthreads 64\nmax-pages 256\ninvoke 66\nargs\nfuel 1000000000\nlimit 100000\n\
+0 rmw add 0 4 5 = 0\n0 leave = done\n0 told 0 = done\n\
+end 0 ok i32:0 4\npages 1\nfinish\n";
+
 /// The two parts of a store over two words.
 pub(crate) const STORED: &str = "\
 wathread-record 1\ninvoke 66\nargs\nfuel 1000000000\nlimit 100000\n\
@@ -43,11 +49,18 @@ struct Example {
     status: u8,
 }
 
-static EXAMPLES: [Example; 5] = [
+static EXAMPLES: [Example; 6] = [
     Example {
         name: "atomic add",
         module: ADDING,
         record: ADDED,
+        out: "thread 0: ok i32:0\npages 1\nbytes 05 00 00 00 00 00 00 00\n",
+        status: 0,
+    },
+    Example {
+        name: "atomic add in version 2",
+        module: ADDING,
+        record: ADDED_TWO,
         out: "thread 0: ok i32:0\npages 1\nbytes 05 00 00 00 00 00 00 00\n",
         status: 0,
     },

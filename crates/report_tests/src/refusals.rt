@@ -1,17 +1,20 @@
 //! Records that are refused, and at which line.
 
-use crate::records::{ADDED, SPUN, STORED};
-use crate::replays::{is_refused, prints, replay};
+use crate::records::{ADDED, ADDED_TWO, SPUN, STORED};
+use crate::replays::{is_refused, prints};
+use replay_text::FIRST_THREADS;
 use std::alloc::{AllocError, Global};
 use std::process::Abort;
 use std::sync::Wait;
 use std::test::Fail;
 use std::thread::Threads;
 use test_modules::{ATOMIC_ADD, SPINNING, Small, TAKING, TWO_WORDS};
-use types::PAST_LIMIT;
+
+/// Entries past the limit, in a record of version 1.
+const PAST_LIMIT: usize = 3 * FIRST_THREADS as usize;
 
 /// The record with the line of this number, from 1 on, replaced.
-fn with_line(
+pub(crate) fn with_line(
     alloc: Global,
     record: &str,
     number: usize,
@@ -50,7 +53,7 @@ fn check_forged<R: Threads + Wait + Abort + Sync>(
 }
 
 static HEADERS: [Forged; 13] = [
-    (1, "wathread-record 2", "header line 1"),
+    (1, "wathread-record 3", "header line 1"),
     (2, "invoke 67", "line 2 does not fit"),
     (2, "invoke -", "line 2 does not fit"),
     (2, "invoke 6", "header line 2"),
@@ -77,8 +80,8 @@ static ENTRIES: [Forged; 16] = [
     (6, "0 rmw add 0 4 5 = 1", "line 6 does not fit"),
     (6, "0 rmw add 0 4 5 = out", "line 6 does not fit"),
     (6, "1 rmw add 0 4 5 = 0", "line 6 does not fit"),
-    (6, "63 rmw add 0 4 5 = 0", "line 6 does not fit"),
-    (6, "64 rmw add 0 4 5 = 0", "line 6 unreadable"),
+    (6, "15 rmw add 0 4 5 = 0", "line 6 does not fit"),
+    (6, "16 rmw add 0 4 5 = 0", "line 6 unreadable"),
     (6, "0 rmw add 0 4 05 = 0", "line 6 unreadable"),
     (6, "0 rmw add 0 4 4294967296 = 0", "line 6 unreadable"),
     (6, "0 rmw add 0 1 256 = 0", "line 6 unreadable"),
@@ -177,24 +180,47 @@ fn refuses_records_of_others(rt: HostRuntime) -> Result<(), Fail> {
     Ok(())
 }
 
-/// Why a record with this front alone is refused.
-fn is_cut_right(alloc: Global, front: &[u8], err: &[u8]) -> Result<bool, AllocError> {
-    let lines = front.iter().filter(|byte| **byte == b'\n').count();
-    let wanted = match lines {
-        0..=4 => format!(in alloc; "record refused: header line {}\n", lines + 1)?,
-        _ => format!(in alloc; "record refused: end missing\n")?,
-    };
-    Ok(err == wanted.as_bytes())
+/// Where each line of the header ends, in bytes from the front.
+static FIRST_ENDS: [usize; 5] = [18, 28, 33, 49, 62];
+
+static SECOND_ENDS: [usize; 8] = [18, 28, 39, 53, 63, 68, 84, 97];
+
+/// What is said of a front of so many bytes: a line of the header is missing, or the end is.
+fn refusal_of(alloc: Global, ends: &[usize], count: usize) -> Result<String, AllocError> {
+    for (place, end) in ends.iter().enumerate() {
+        if count < *end {
+            return format!(in alloc; "header line {}", place + 1);
+        }
+    }
+    format!(in alloc; "end missing")
+}
+
+fn check_fronts<R: Threads + Wait + Abort + Sync>(
+    rt: &R,
+    alloc: Global,
+    ends: &[usize],
+    record: &str,
+) -> Result<(), AllocError> {
+    for count in 0..record.len() {
+        let front = &record.as_bytes()[..count];
+        let wanted = refusal_of(alloc, ends, count)?;
+        assert!(rt;
+            is_refused(rt, alloc, ATOMIC_ADD, front, &wanted)?,
+            "{count}"
+        );
+    }
+    Ok(())
 }
 
 #[test]
 fn refuses_every_front(rt: HostRuntime) -> Result<(), Fail> {
-    for count in 0..ADDED.len() {
-        let front = &ADDED.as_bytes()[..count];
-        let gave = replay(&rt, rt.alloc(), ATOMIC_ADD, front, "8")?;
-        assert!(rt; is_cut_right(rt.alloc(), front, &gave.err)?, "{count}");
-        assert_eq!(rt; (gave.status, gave.out.len()), (4, 0));
-    }
+    check_fronts(&rt, rt.alloc(), &FIRST_ENDS, ADDED)?;
+    Ok(())
+}
+
+#[test]
+fn refuses_every_front_of_version_2(rt: HostRuntime) -> Result<(), Fail> {
+    check_fronts(&rt, rt.alloc(), &SECOND_ENDS, ADDED_TWO)?;
     Ok(())
 }
 
@@ -229,6 +255,6 @@ fn refuses_other_line_ends_and_long_logs(rt: HostRuntime) -> Result<(), Fail> {
     let most = crowded(alloc, 1 + PAST_LIMIT)?;
     assert!(rt; is_refused(&rt, alloc, ATOMIC_ADD, &most, "line 6 does not fit")?);
     let more = crowded(alloc, 2 + PAST_LIMIT)?;
-    assert!(rt; is_refused(&rt, alloc, ATOMIC_ADD, &more, "line 199 unreadable")?);
+    assert!(rt; is_refused(&rt, alloc, ATOMIC_ADD, &more, "line 55 unreadable")?);
     Ok(())
 }

@@ -40,7 +40,7 @@ static ACCEPTED: [(usize, &str); 36] = [
     (4, "limit 1\n"),
     (4, "limit 1000000\n"),
     (5, ""),
-    (5, "63 size = 256\n"),
+    (5, "15 size = 64\n"),
     (5, "0 grow 4294967295 = 4294967295\n"),
     (5, "0 load 5 3 13 = 16777215\n"),
     (5, "0 load 8 8 16 = out\n"),
@@ -67,7 +67,7 @@ static ACCEPTED: [(usize, &str); 36] = [
     (8, "end 0 trap 10 4\nend 1 trap 1 0\n"),
     (8, "end 0 stop 2 4\nend 1 stop 3 4\nend 2 stop 1 4\n"),
     (9, "pages 0\n"),
-    (9, "pages 256\n"),
+    (9, "pages 64\n"),
 ];
 
 /// Whether a record with this line is written as it was read.
@@ -111,15 +111,16 @@ fn says_what_a_record_holds(rt: HostRuntime) -> Result<(), Fail> {
 }
 
 #[test]
-fn a_record_has_256_pages_at_most(rt: HostRuntime) -> Result<(), Fail> {
+fn a_record_of_version_1_has_64_pages_at_most(rt: HostRuntime) -> Result<(), Fail> {
     let mut parts = parts_of(rt.alloc())?;
-    parts.pages = 257;
+    parts.pages = 65;
     assert!(rt; Record::new(parts).is_err());
     Ok(())
 }
 
-static REFUSED: [(usize, &str, RecordFault); 46] = [
-    (0, "wathread-record 2\n", RecordFault::Header(1)),
+static REFUSED: [(usize, &str, RecordFault); 47] = [
+    (0, "wathread-record 2\n", RecordFault::Header(2)),
+    (0, "wathread-record 3\n", RecordFault::Header(1)),
     (0, "wathread-record 1\r\n", RecordFault::Header(1)),
     (0, "", RecordFault::Header(1)),
     (1, "invoke \n", RecordFault::Header(2)),
@@ -140,7 +141,7 @@ static REFUSED: [(usize, &str, RecordFault); 46] = [
     (5, "0  rmw add 0 4 5 = 0\n", RecordFault::Unreadable(6)),
     (5, "0 rmw add 0 4 5 = 0 \n", RecordFault::Unreadable(6)),
     (5, "0 rmw add 0 4 5 = 0\r\n", RecordFault::Unreadable(6)),
-    (5, "64 size = 1\n", RecordFault::Unreadable(6)),
+    (5, "16 size = 1\n", RecordFault::Unreadable(6)),
     (5, "0 wait 0 4 0 -0 = 0\n", RecordFault::Unreadable(6)),
     (
         5,
@@ -177,7 +178,7 @@ static REFUSED: [(usize, &str, RecordFault); 46] = [
         RecordFault::Unreadable(10),
     ),
     (8, "", RecordFault::Unreadable(9)),
-    (9, "pages 257\n", RecordFault::Unreadable(10)),
+    (9, "pages 65\n", RecordFault::Unreadable(10)),
     (10, "finish\r\n", RecordFault::Unreadable(11)),
     (10, "finish", RecordFault::EndMissing),
     (10, "finish\nx", RecordFault::Unreadable(12)),
@@ -214,7 +215,7 @@ fn cut_records_are_refused(rt: HostRuntime) -> Result<(), Fail> {
 
 #[test]
 fn entries_past_the_limit_are_refused(rt: HostRuntime) -> Result<(), Fail> {
-    for (entries, readable) in [(193, true), (194, false)] {
+    for (entries, readable) in [(49, true), (50, false)] {
         let mut text = Vec::new(rt.alloc());
         text.extend_from_slice(b"wathread-record 1\ninvoke 66\nargs\nfuel 9\nlimit 1\n")?;
         for _ in 0..entries {

@@ -77,7 +77,7 @@ impl<T: TakesTurns> Machine<T> {
         Machine {
             threads,
             memory,
-            queue: Queue::new(),
+            queue: Queue::new(MOST_THREADS as u32),
             next_id: 1,
         }
     }

@@ -143,6 +143,11 @@ there_first : (most m : ℕ) → IsThere m (first_queue most)
 unfolding first_queue
 there_first most m known = let is : 0 ≡ m = omega arith in or_left (0 == m) false (eq-eqb 0 m is)
 
+pub alive_until_from : (most : ℕ) (H : List entries.Entry) (m : ℕ) → m < next_id (queue_from (first_queue most) H)
+    → (is_alive (queue_from (first_queue most) H) m ≡ true) ⊎ HasLeave m H
+alive_until_from most H m known =
+    elim (alive_from (first_queue most) H m (there_first most m)) [ inl there ↦ inl (there known) | inr has ↦ inr has ]
+
 pub alive_until : (H : List entries.Entry) (m : ℕ) → m < next_id (queue_after H) → (is_alive (queue_after H) m ≡ true) ⊎ HasLeave m H
 alive_until H m known =
     elim (alive_from (first_queue most_threads) H m (there_first most_threads m)) [

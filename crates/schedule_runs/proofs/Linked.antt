@@ -1,5 +1,6 @@
 -- A legal history of entries is a legal history of acts, and both come to the same memory, queue and places.
-use Rattle.std.proofs.Common.{◌<◌, ◌≡◌, ℕ, List, [], ◌∷◌, ◌++◌, refl, sym, ◌∙◌, subst, inl, inr, arith}
+use Rattle.std.proofs.Common.{◌<◌, ◌≡◌, ℕ, List, [], ◌∷◌, ◌++◌, refl, sym, ◌∙◌, ap, subst, inl, inr, arith, replicate, None}
+use Rattle.std.proofs.lemmas.List.{length-replicate}
 use Rattle.std.proofs.lemmas.Bool.{cases_eq}
 use Rattle.types.specs.declared.event.Event.{Event}
 use Rattle.types.specs.declared.event.Event.TheVariants as events
@@ -13,12 +14,12 @@ use Rattle.shared_memory.specs.History.{entry, of_queue, memory_after, queue_ste
 use Rattle.shared_memory.specs.Legal.{IsAllowed, IsMemoryLegal, IsQueueLegalFrom, IsQueueLegal}
 use Rattle.shared_memory.specs.Sound.{IsSound}
 use Rattle.shared_memory.proofs.Histories.{IsMemoryLegal-prefix, IsQueueLegal-prefix}
-use Rattle.shared_memory.proofs.Soundness.{IsSound-step, IsSound-first}
+use Rattle.shared_memory.proofs.Soundness.{no_answers, IsSound-step, IsSound-first}
 use Rattle.schedule.specs.Histories.{Place, Place.Unstarted, Place.Free, next_shared, next_places, shared_after, places_after, IsLegalHistory}
 use Rattle.schedule.proofs.Basics.{put-same, put-other}
 use Rattle.schedule_threads.specs.Shared.{Shared, act_by}
-use Rattle.schedule_runs.specs.Runs.{Start, system_of, first_shared, first_places, as_acts}
-use Rattle.schedule_runs.specs.Places.{place_of}
+use Rattle.schedule_runs.specs.Runs.{Start, system_of, shared_for, first_shared, first_places, as_acts}
+use Rattle.schedule_runs.specs.Places.{place_of, place_due}
 use Rattle.schedule_runs.proofs.Places.{place_unstarted}
 use Rattle.schedule_runs.proofs.Asked.{shared_of}
 use Rattle.schedule_runs.proofs.Entries.{StandAt, EntryStep, entry_step}
@@ -113,17 +114,27 @@ linked_from b mem q places x (e ∷ H) legal sound stand is =
 
 -- at first
 
+pub first_is_for : (most : ℕ) (b : Start) → shared_for most b ≡ shared_of b.opening (first_queue most)
+unfolding first_queue
+first_is_for most b =
+    ap (λ (k : ℕ). record { memory = b.opening; queue = record (first_queue most) { due = replicate k None } })
+    (sym (length-replicate most None))
+
 pub first_is : (b : Start) → first_shared b ≡ shared_of b.opening (first_queue most_threads)
 unfolding first_queue
 first_is b = refl
 
-pub first_stand : StandAt (first_queue most_threads) first_places
+pub first_stand_for : (most : ℕ) → StandAt (first_queue most) first_places
 unfolding first_queue place_of
-first_stand m =
+first_stand_for most m =
     elim (cases_eq m 0) [
-      | inl e ↦ subst (λ (k : ℕ). first_places k ≡ place_of (first_queue most_threads) k) (sym e) (put-same (λ (k : ℕ). Unstarted) 0 Free)
-      | inr apart ↦ put-other (λ (k : ℕ). Unstarted) 0 Free m apart ∙ sym (place_unstarted (first_queue most_threads) m (omega arith))
+      | inl e ↦ subst (λ (k : ℕ). first_places k ≡ place_of (first_queue most) k) (sym e)
+          (put-same (λ (k : ℕ). Unstarted) 0 Free ∙ sym (ap place_due (no_answers most 0)))
+      | inr apart ↦ put-other (λ (k : ℕ). Unstarted) 0 Free m apart ∙ sym (place_unstarted (first_queue most) m (omega arith))
     ]
+
+pub first_stand : StandAt (first_queue most_threads) first_places
+first_stand = first_stand_for most_threads
 
 -- so a legal history is one
 pub linked : (b : Start) (H : List entries.Entry) → IsStarted b.opening H → Linked b b.opening (first_queue most_threads) first_places (first_shared b) H

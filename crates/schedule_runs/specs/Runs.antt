@@ -41,12 +41,19 @@ pub record Start : Type 0 where
 abbrev pub system_of : Start → System Shared (Thread State Outcome) Event Reply Answer
 system_of b = over_memory_and_queue (machine_of b.program) b.spawned b.fuel
 
--- At first the opening memory is there, nobody sleeps, and thread 0 alone is there.
+-- At first the opening memory is there, nobody sleeps, and of so many threads as there may be thread 0 alone is there.
+abbrev pub shared_for : ℕ → Start → Shared
+shared_for most b = record { memory = b.opening; queue = first_queue most }
+
+abbrev pub state_for : ℕ → Start → systems.State Shared (Thread State Outcome)
+state_for most b = record { shared = shared_for most b; threads = put (λ (m : ℕ). Absent) 0 (Runs b.main b.fuel) }
+
+-- A run has 64 threads at most.
 abbrev pub first_shared : Start → Shared
-first_shared b = record { memory = b.opening; queue = first_queue most_threads }
+first_shared b = shared_for most_threads b
 
 abbrev pub first_state : Start → systems.State Shared (Thread State Outcome)
-first_state b = record { shared = first_shared b; threads = put (λ (m : ℕ). Absent) 0 (Runs b.main b.fuel) }
+first_state b = state_for most_threads b
 
 abbrev pub first_places : ℕ → Place Answer
 first_places = put (λ (m : ℕ). Unstarted) 0 Free

@@ -19,7 +19,7 @@ use Rattle.search_settled.specs.Settled.{AreTame, IsReached}
 use Rattle.search_runs.specs.Called.{Called, Walker, with_fuel, system_of, first_state}
 use Rattle.search_runs.specs.Ends.{Ending, HasEndedSo}
 
--- Answers go to who awaits them, and at most 16 threads make turns.
+-- Answers go to who awaits them, and at most 64 threads make turns.
 abbrev pub ThreadsAreTame : Type 0
 ThreadsAreTame = (b : Called) → AreTame (system_of b) (first_state b) most_threads
 

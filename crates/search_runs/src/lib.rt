@@ -9,7 +9,7 @@
 
 ghost use Rattle.search_runs.specs.Theorems.{ThreadsAreTame, EveryRunEndsSo, EveryEndIsScheduled};
 
-/// Wherever these threads come, an event gives answers to its own thread or to one that awaits it, and threads 0 to 15 alone make
+/// Wherever these threads come, an event gives answers to its own thread or to one that awaits it, and threads 0 to 63 alone make
 /// turns of their own.
 pub fn threads_are_tame()
     ensures { ThreadsAreTame }

@@ -22,9 +22,13 @@ use Rattle.schedule_runs.specs.Theorem.{IsOneRun}
 use Rattle.spawn_host_workers.specs.OverMemory.{OverMemory}
 use Rattle.spawn_host.specs.Entries.{Exports, StartsThreads, CallsThreadStart}
 
--- The memory of a module before the first instruction.
+-- The memory of a module before the first instruction, where one without a maximum may have so many pages.
+abbrev pub opening_within : ℕ → Parts → Memory
+opening_within most m = record { bytes = opening_image m; max = pages_max_of most m }
+
+-- In a run that is 256.
 abbrev pub opening_memory : Parts → Memory
-opening_memory m = record { bytes = opening_image m; max = pages_max_of most_pages m }
+opening_memory m = opening_within most_pages m
 
 -- What the threads of a run start with: thread 0 calls a function of this type and with this body, with the arguments.
 abbrev pub start_with : Parts → FuncType → Body → List Value → (ℕ → ℕ → State) → ℕ → Start

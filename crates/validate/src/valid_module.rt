@@ -7,6 +7,7 @@ ghost use Rattle.types.specs.Modules.{IsModule};
 ghost use Rattle.validate_typing.specs.Context.{imported_functions, memories_of};
 ghost use Rattle.types.specs.Limits.{most_pages};
 ghost use Rattle.validate_typing.specs.Image.{opening_image, opening_pages, pages_max_of};
+ghost use Rattle.validate.specs.Pages.{HasPagesWithin};
 ghost use Rattle.validate_typing.specs.Tabled.{IsValidated, target_at};
 ghost use Rattle.validate_module_rules.specs.Exported.{IsExported};
 ghost use Rattle.validate_module_rules.specs.Faults.{fault_outside};
@@ -87,9 +88,32 @@ impl ValidModule {
     pub fn pages_max(&self) -> u32
         ensures { result ≡ pages_max_of most_pages self.now.parts }
     {
+        self.pages_max_within(MOST_PAGES)
+    }
+
+    /// The most pages that the memory may have: `most` where none are stated, 0 without a memory.
+    pub fn pages_max_within(&self, most: u32) -> u32
+        ensures { result ≡ pages_max_of most self.now.parts }
+    {
         match self.memory {
-            Some(memory) => memory.max.unwrap_or(MOST_PAGES),
+            Some(memory) => memory.max.unwrap_or(most),
             None => 0,
+        }
+    }
+
+    /// Whether the memory's pages at first, and its maximum if one is stated, are at most so many.
+    pub fn has_pages_within(&self, most: u32) -> bool
+        ensures { IsTrue result ↔ HasPagesWithin most self.now.parts }
+    {
+        match self.memory {
+            Some(memory) => {
+                memory.min <= most
+                    && match memory.max {
+                        Some(max) => max <= most,
+                        None => true,
+                    }
+            }
+            None => true,
         }
     }
 

@@ -1,7 +1,8 @@
 -- Who is woken, and how a thread stands that is told something.
-use Rattle.std.proofs.Common.{◌≡◌, ℕ, ◌+◌, ◌<◌, ◌==◌, Bool, true, false, not, List, [], ◌∷◌, length, filter, refl, ap, arith, get_or, length-append}
+use Rattle.std.proofs.Common.{◌≡◌, ℕ, ◌<◌, ◌==◌, Bool, true, false, not, List, [], ◌∷◌, length, filter, refl, subst, drop, ap, arith, get_or, length-append}
 use Rattle.std.specs.Prelude.{nat_lt, if◌then◌else◌}
-use Rattle.std.specs.List.{All}
+use Rattle.std.specs.List.{All, refill}
+use Rattle.std.proofs.Math.Seq.{take-append_seam}
 use Rattle.std.proofs.lemmas.Bool.{cond_both}
 use Rattle.std.proofs.lemmas.Bool.Decides.{nat_tests}
 use Rattle.std.proofs.lemmas.List.Elements.{All-head, All-tail}
@@ -9,8 +10,12 @@ use Rattle.std.proofs.lemmas.List.Folds.{list_any_at}
 use Rattle.shared_memory.specs.declared.sleeper.Sleeper.{Sleeper}
 use Rattle.shared_memory.specs.WaitQueue.{WaitQueue, is_among, next_id, starts}
 use Rattle.shared_memory.specs.Sound.{IsSound}
-use Rattle.shared_memory.proofs.Soundness.{alive_below}
+use Rattle.shared_memory.proofs.Soundness.{has_place}
 use Rattle.waiters.specs.Queue.{AreNumbered, AreAsleep}
+
+-- a list that is written over by one of its own length is that one
+pub refill_same : {X : Type 0} (xs ws : List X) → length ws ≡ length xs → refill (length xs) xs ws ≡ ws
+refill_same xs ws same = subst (λ (n : ℕ). refill n xs ws ≡ ws) same (take-append_seam ws (drop (length ws) xs))
 
 -- a sleeper is among its list
 is_in : (sleepers : List Sleeper) → All (λ (s : Sleeper). is_among s.thread sleepers ≡ true) sleepers
@@ -19,11 +24,11 @@ is_in sleepers k d within =
     let is_same : (s.thread == s.thread) ≡ true = grind (arith, nat_tests) in
     list_any_at (λ (t : Sleeper). t.thread == s.thread) sleepers k d within is_same
 
--- who sleeps in a sound queue is one of the threads 0 to 63
-pub numbered_from : (q : WaitQueue) → IsSound q → (woken : List Sleeper) → AreAsleep woken q → AreNumbered woken
+-- who sleeps in a sound queue is one of its threads
+pub numbered_from : (q : WaitQueue) → IsSound q → (woken : List Sleeper) → AreAsleep woken q → AreNumbered (length q.due) woken
 numbered_from q sound woken asleep k d within =
     let s : Sleeper = get_or woken k d in
-    alive_below q sound s.thread (sound.living s.thread (asleep s.thread (is_in woken k d within)))
+    has_place q sound s.thread (asleep s.thread (is_in woken k d within))
 
 -- a filter keeps nothing where each element fails its test
 filter_none : {X : Type 0} (p : X → Bool) (xs : List X) → All (λ x. p x ≡ false) xs → filter p xs ≡ []

@@ -3,7 +3,6 @@ use Rattle.std.specs.Prelude.{ℕ, ◌≡◌, ◌<◌, ◌==◌, ◌&&◌, Bool,
 use Rattle.std.specs.List.{All}
 use Rattle.types.specs.declared.event.Question.{Question}
 use Rattle.types.specs.declared.event.Question.TheVariants.{Wait, Notify, Spawn, Leave}
-use Rattle.types.specs.Limits.{most_threads}
 use Rattle.shared_memory.specs.declared.sleeper.Sleeper.{Sleeper}
 use Rattle.shared_memory.specs.WaitQueue.{WaitQueue, is_among, is_asleep, ends_at_once}
 
@@ -19,9 +18,9 @@ falls_asleep (Notify addr count) loaded = false
 falls_asleep (Spawn arg) loaded = false
 falls_asleep Leave loaded = false
 
--- Each sleeper is one of the threads 0 to 63.
-abbrev pub AreNumbered : List Sleeper → Type 0
-AreNumbered sleepers = All (λ (s : Sleeper). s.thread < most_threads) sleepers
+-- Each sleeper is one of so many threads, numbered from 0.
+abbrev pub AreNumbered : ℕ → List Sleeper → Type 0
+AreNumbered threads sleepers = All (λ (s : Sleeper). s.thread < threads) sleepers
 
 -- Each of these sleepers sleeps in the queue.
 abbrev pub AreAsleep : List Sleeper → WaitQueue → Type 0

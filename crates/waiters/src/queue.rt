@@ -1,5 +1,5 @@
 //! The state of the wait queue, and its steps.
-ghost use Rattle.std.specs.Prelude.{◌≡◌, ◌<◌, ◌↔◌, [], length, false, nat_lt, if◌then◌else◌, IsTrue, MatchOption};
+ghost use Rattle.std.specs.Prelude.{◌≡◌, ◌<◌, ◌≤◌, ◌↔◌, [], length, replicate, None, false, nat_lt, if◌then◌else◌, IsTrue, MatchOption};
 ghost use Rattle.std.specs.List.{list_all};
 ghost use Rattle.types.specs.Limits.{most_threads};
 ghost use Rattle.shared_memory.specs.WaitQueue.{IsFree, after_answer, after_question, answer_due, asked, first_queue, has_open_question};
@@ -13,7 +13,7 @@ use shared_memory::Sleeper;
 use std::marker::Model;
 use types::{Answer, MOST_SPAWNED, MOST_THREADS, Question};
 
-/// What a spawn answers where 63 threads were spawned already.
+/// What a spawn answers where all threads were spawned that a run may have.
 const NO_THREAD: u32 = 4_294_967_295;
 
 /// The wait queue: who is alive, who sleeps, which answers are due, and the arguments of the spawned threads. It takes
@@ -26,7 +26,7 @@ const NO_THREAD: u32 = 4_294_967_295;
 pub struct Queue {
     alive: ArrayVec<u32, MOST_THREADS>,
     sleepers: ArrayVec<Sleeper, MOST_THREADS>,
-    due: [Option<Answer>; MOST_THREADS],
+    due: ArrayVec<Option<Answer>, MOST_THREADS>,
     args: ArrayVec<u32, MOST_SPAWNED>,
 }
 
@@ -36,23 +36,30 @@ impl Model for Queue {
 
     ghost Value = { WaitQueue };
 
-    ghost view = { λ a. record { alive = a.alive.items; sleepers = a.sleepers.items; due = a.due; args = a.args.items } };
+    ghost view = { λ a. record { alive = a.alive.items; sleepers = a.sleepers.items; due = a.due.items; args = a.args.items } };
 
-    ghost invariant = { λ a. IsSound (record { alive = a.alive.items; sleepers = a.sleepers.items; due = a.due; args = a.args.items }) };
+    ghost invariant = { λ a. IsSound (record {
+      alive = a.alive.items;
+      sleepers = a.sleepers.items;
+      due = a.due.items;
+      args = a.args.items;
+    }) };
 }
 
 impl Queue {
-    /// The first state: thread 0 alone is alive.
+    /// The first state of a run of so many threads at most, 1 to 64: thread 0 alone is alive.
     #[tactic(auto, unfolding(shared_memory::specs::WaitQueue::first_queue))]
-    pub fn new() -> Queue
-        ensures { result ≡ first_queue most_threads }
+    pub fn new(threads: u32) -> Queue
+        requires some { 0 < threads }
+        requires most { threads ≤ most_threads }
+        ensures { result ≡ first_queue threads }
     {
         let mut alive = ArrayVec::new();
         alive.push(0);
         Queue {
             alive,
             sleepers: ArrayVec::new(),
-            due: [None; MOST_THREADS],
+            due: no_answers(threads),
             args: ArrayVec::new(),
         }
     }
@@ -74,7 +81,7 @@ impl Queue {
     }
 
     /// The answer that is due to the thread, which is then taken. It is `None`, with no change, where none is due, as
-    /// for every number from 64 on.
+    /// for every number of no thread.
     #[tactic(auto, unfolding(shared_memory::specs::WaitQueue::after_answer))]
     pub fn told(&mut self, thread: u32) -> Option<Answer>
         ensures answer { result ≡ answer_due self.old thread }
@@ -83,7 +90,7 @@ impl Queue {
         let place = thread as usize;
         let answer = *self.due.get(place)?;
         if answer.is_some() {
-            self.due[place] = None;
+            self.due.as_mut_slice()[place] = None;
         }
         answer
     }
@@ -125,6 +132,14 @@ impl Queue {
     {
         let place = thread.checked_sub(1)?;
         self.args.get(place as usize).copied()
+    }
+
+    /// How many threads a run may have: 64 at most.
+    pub fn threads(&self) -> u32
+        ensures count { result ≡ length self.now.due }
+        ensures few { result ≤ most_threads }
+    {
+        self.due.len() as u32
     }
 
     /// What a question does before the queue settles, and whether the thread falls asleep.
@@ -177,7 +192,7 @@ impl Queue {
         requires awake { is_asleep self.old thread ≡ false }
         ensures { self.new ≡ tells thread answer self.old }
     {
-        self.due[thread as usize] = Some(answer);
+        self.due.as_mut_slice()[thread as usize] = Some(answer);
     }
 
     /// A thread falls asleep, behind those that sleep already.
@@ -198,13 +213,13 @@ impl Queue {
         woken.len() as u32
     }
 
-    /// A thread with the next number comes alive, unless 63 were spawned already.
+    /// A thread with the next number comes alive, unless each number has one.
     fn spawn(&mut self, arg: u32) -> u32
         ensures after { self.new ≡ (if nat_lt (next_id self.old) (length self.old.due) then starts arg self.old else self.old) }
         ensures id { result ≡ (if nat_lt (next_id self.old) (length self.old.due) then next_id self.old else NO_THREAD) }
     {
         let id = self.args.len() as u32 + 1;
-        if id >= MOST_THREADS as u32 {
+        if id >= self.due.len() as u32 {
             return NO_THREAD;
         }
         self.alive.push(id);
@@ -226,14 +241,18 @@ impl Queue {
         ensures { self.new ≡ wakes woken.now answer self.old }
     {
         self.sleepers.retain(|s| !is_among(s.thread, woken));
-        tell_each(&mut self.due, woken, answer);
+        tell_each(self.due.as_mut_slice(), woken, answer);
     }
 
     /// All sleep for good.
     fn wake_all(&mut self)
         ensures { self.new ≡ wakes self.old.sleepers Answer.ForGood self.old }
     {
-        tell_each(&mut self.due, self.sleepers.as_slice(), Answer::ForGood);
+        tell_each(
+            self.due.as_mut_slice(),
+            self.sleepers.as_slice(),
+            Answer::ForGood,
+        );
         self.sleepers.clear();
     }
 
@@ -257,6 +276,18 @@ impl Queue {
             None => self.wake_all(),
         }
     }
+}
+
+/// So many threads, to none of which an answer is due.
+fn no_answers(threads: u32) -> ArrayVec<Option<Answer>, MOST_THREADS>
+    requires { threads ≤ most_threads }
+    ensures { result.items ≡ replicate threads None }
+{
+    let mut due = ArrayVec::new();
+    for _ in 0..threads {
+        due.push(None);
+    }
+    due
 }
 
 /// Whether each of these threads is among the sleepers.

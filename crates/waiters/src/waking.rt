@@ -99,8 +99,8 @@ pub(crate) fn first_to_end(sleepers: &[Sleeper]) -> Option<Sleeper>
 }
 
 /// Gives each of these sleepers an answer.
-pub(crate) fn tell_each(due: &mut [Option<Answer>; MOST_THREADS], woken: &[Sleeper], answer: Answer)
-    requires { AreNumbered woken.now }
+pub(crate) fn tell_each(due: &mut [Option<Answer>], woken: &[Sleeper], answer: Answer)
+    requires { AreNumbered (length due.old) woken.now }
     ensures { due.new ≡ due_after woken.now answer due.old }
 {
     for s in woken {

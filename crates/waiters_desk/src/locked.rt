@@ -13,7 +13,7 @@ ghost use Rattle.waiters_desk.specs.Locks.{WaitsReadWhatNotifiersSaw};
 use crate::answers::{Asked, Full};
 use crate::turn::{hear, put};
 use shared_memory::SharedMemory;
-use types::{Answer, Question};
+use types::{Answer, MOST_THREADS, Question};
 use waiters::Queue;
 
 /// The desk's seat, which has the queue right, and the wait queue after what that seat has seen.
@@ -43,7 +43,7 @@ impl<M: SharedMemory> Locked<M> {
     {
         Locked {
             seat,
-            queue: Queue::new(),
+            queue: Queue::new(MOST_THREADS as u32),
         }
     }
 

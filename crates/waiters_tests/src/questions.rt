@@ -12,7 +12,7 @@ use std::alloc::Global;
 use std::marker::Brand;
 use std::sync::Wait;
 use std::test::Fail;
-use types::{Answer, Event, PAGE_SIZE, Question, Reply};
+use types::{Answer, Event, MOST_THREADS, PAGE_SIZE, Question, Reply};
 use waiters::Queue;
 
 /// A page of zeros.
@@ -121,7 +121,7 @@ fn ask_each<M: SharedMemory>(memory: &M, seat: &mut M::Seat) -> Option<[Heard; 4
     requires right { M.has_queue_right seat.old ≡ true }
     requires new { M.seen seat.old ≡ [] }
 {
-    let mut queue = Queue::new();
+    let mut queue = Queue::new(MOST_THREADS as u32);
     let waited = ask_and_hear(memory, seat, &mut queue, WAIT)?;
     let notified = ask_and_hear(memory, seat, &mut queue, NOTIFY)?;
     let spawned = ask_and_hear(memory, seat, &mut queue, SPAWN)?;

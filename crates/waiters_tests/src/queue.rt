@@ -2,7 +2,7 @@
 //! spawning and settling.
 use std::process::Abort;
 use std::test::Fail;
-use types::{Answer, Question};
+use types::{Answer, MOST_THREADS, Question};
 use waiters::Queue;
 
 /// A step of a script, with what it has to answer.
@@ -77,7 +77,7 @@ fn take_step(rt: &impl Abort, queue: &mut Queue, at: usize, step: Step) {
 }
 
 fn play(rt: &impl Abort, steps: &[Step]) {
-    let mut queue = Queue::new();
+    let mut queue = Queue::new(MOST_THREADS as u32);
     for (at, step) in steps.iter().enumerate() {
         take_step(rt, &mut queue, at, *step);
     }

@@ -5,6 +5,6 @@ use Rattle.replay_forms.proofs.items.several.Given as goal
 
 abbrev pub invariant-loop-place : goal.invariant-loop-place
 invariant-loop-place g l = record {
-  so_far : prepend l.items.items (several g.T.Item.at l.place (l.most - l.place) l.rest) ≡ several g.T.Item.at 0 l.most l.fn.bytes;
+  so_far : prepend l.items.items (several (g.T.Item.at l.kind) l.place (l.most - l.place) l.rest) ≡ several (g.T.Item.at l.kind) 0 l.most l.fn.bytes;
   count : length l.items.items ≡ l.place;
 }

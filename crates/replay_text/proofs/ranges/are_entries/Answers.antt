@@ -7,11 +7,11 @@ use Rattle.replay_text.proofs.ranges.are_entries.Goals as goal
 pub loop-entry-preserved : goal.loop-entry-preserved
 loop-entry-preserved c =
     let holds : IsTrue c.is_entry.result = search rules in
-    All-more IsEntry c.args.log.now c.loop-entry.entry-index _ c.loop-entry-test.true c.loop-entry.invariant (c.is_entry.ensures.0 holds)
+    All-more (IsEntry c.args.threads) c.args.log.now c.loop-entry.entry-index _ c.loop-entry-test.true c.loop-entry.invariant (c.is_entry.ensures.0 holds)
 
 pub returns : goal.returns
 returns c = (
-  λ t. All-same IsEntry c.args.log.now _
+  λ t. All-same (IsEntry c.args.threads) c.args.log.now _
       (sym (take_all c.loop-entry.entry-index c.args.log.now c.loop-entry-test.false)) c.loop-entry.invariant,
   λ h. refl,
 )

@@ -4,4 +4,4 @@ use Rattle.replay_text.specs.Conditions.{IsEntry}
 use Rattle.replay_text.proofs.ranges.are_entries.Given as goal
 
 abbrev pub invariant-loop-entry : goal.invariant-loop-entry
-invariant-loop-entry l = All IsEntry (take l.entry-index l.log)
+invariant-loop-entry l = All (IsEntry l.threads) (take l.entry-index l.log)

@@ -43,6 +43,10 @@ pub returns-clause-made : goal.returns-clause-made
 returns-clause-made g c =
     let log = c.finish-finished.result.log.items in
     record {
+      version = refl;
+      module_len = refl;
+      threads = refl;
+      max_pages = refl;
       invoke = refl;
       args_are = refl;
       fuel_is = refl;

@@ -1,0 +1,14 @@
+-- How many pages the memory of a module may have.
+use Rattle.std.specs.Prelude.{ℕ, ◌≤◌, Option, Some, None, IfSome}
+use Rattle.std.specs.List.{slice_get}
+use Rattle.types.specs.declared.parts.Limits.{Limits}
+use Rattle.types.specs.declared.parts.Parts.{Parts}
+use Rattle.validate_typing.specs.Context.{memories_of}
+
+-- It has at most so many at first, and at most so many where a maximum is given.
+abbrev pub IsWithinPages : ℕ → Option Limits → Type 0
+IsWithinPages most None = Unit {0}
+IsWithinPages most (Some l) = (l.min ≤ most) × IfSome l.max (λ n. n ≤ most)
+
+abbrev pub HasPagesWithin : ℕ → Parts → Type 0
+HasPagesWithin most m = IsWithinPages most (slice_get (memories_of m) 0)
