@@ -10,6 +10,7 @@ use Rattle.types.specs.declared.event.Entry.{Entry}
 use Rattle.types.specs.declared.parts.Parts.{Parts}
 use Rattle.types.specs.declared.outcome.Outcome.{Outcome}
 use Rattle.types.specs.declared.outcome.ThreadReport.{ThreadReport}
+use Rattle.types.specs.Limits.{most_pages, most_threads}
 use Rattle.shared_memory.specs.Memory.{Memory, pages}
 use Rattle.shared_memory.specs.History.{memory_after}
 use Rattle.validate_typing.specs.Validity.{HasDistinctNames}
@@ -17,6 +18,7 @@ use Rattle.schedule.specs.System as systems
 use Rattle.schedule_threads.specs.Shared.{Shared}
 use Rattle.schedule_runs.specs.Runs.{Start, RanTogether}
 use Rattle.spawn_host.specs.Runs.{start_by, opening_memory, IsRunHistory}
+use Rattle.replay_text.specs.declared.version.Version.TheVariants as versions
 use Rattle.replay_text.specs.declared.parts.RecordParts.{RecordParts}
 use Rattle.replay.specs.declared.end.EndState.{EndState}
 use Rattle.replay.proofs.Same.{same_start}
@@ -48,7 +50,19 @@ module _ (m : Parts) (distinct : HasDistinctNames m.exports) (entry : List ℕ) 
   is_history = ends.is_history
 
   abbrev header : RecordParts
-  header = record { invoke = entry; args = args; fuel = fuel; limit = 0; log = []; ends = []; pages = 0 }
+  header = record {
+    version = versions.Two;
+    module_len = m.length;
+    threads = most_threads;
+    max_pages = most_pages;
+    invoke = entry;
+    args = args;
+    fuel = fuel;
+    limit = 0;
+    log = [];
+    ends = [];
+    pages = 0;
+  }
 
   start_is : start_by m entry args fuel is_history.beginning ≡ with_fuel b fuel
   start_is = same_start m distinct header is_history.beginning call.beginning ∙ call.same fuel

@@ -2,6 +2,7 @@ use Rattle.std.proofs.Common.{◌≡◌, ◌++◌, ℕ, List, length, Some, fals
 use Rattle.std.proofs.lemmas.Result.{err_from_is_err_and}
 use Rattle.types.specs.declared.value.Value.{Value}
 use Rattle.types.specs.declared.outcome.ThreadReport.{ThreadReport}
+use Rattle.types.specs.declared.parts.Parts.{Parts}
 use Rattle.shared_memory.specs.Memory.{Memory, pages}
 use Rattle.shared_memory.specs.History.{memory_after}
 use Rattle.locked_recorder.specs.Promises.{Begins}
@@ -44,7 +45,7 @@ returns-clause-made g c =
     let log = c.finish-finished.result.log.items in
     record {
       version = refl;
-      module_len = refl;
+      module_len = ap (λ (m : Parts). m.length) c.parts.ensures.parts;
       threads = refl;
       max_pages = refl;
       invoke = refl;
