@@ -10,7 +10,7 @@ cd "$work" || exit 1
 times=${TIMES:-100} wrong=0 runs=0
 
 say() {
-    echo "wrong: $*"
+    echo "wrong: $*" | head -n 1
     wrong=$((wrong + 1))
 }
 
@@ -39,7 +39,7 @@ tries condition 3150
 tries ticket_lock 315
 tries broken_lock '[0-9]+'
 tries c_counter 31500
-tries c_ticket_lock 315
-tries c_one_word_lock 315
+tries c_ticket_lock 10080 # each of its five times a thread adds its own number, 1 to 63
+tries c_one_word_lock 10080
 [ $wrong -eq 0 ] && echo "all as it should be: $runs runs of 64 threads"
 exit $((wrong != 0))

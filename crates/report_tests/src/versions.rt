@@ -111,21 +111,29 @@ fn refuses_missing_and_doubled_lines(rt: HostRuntime) -> Result<(), Fail> {
     Ok(())
 }
 
-/// The record with the line of this number behind the next one.
+/// The line at this place of a record, from 0 on.
+fn line_at(record: &str, place: usize) -> &str {
+    for (at, line) in record.lines().enumerate() {
+        if at == place {
+            return line;
+        }
+    }
+    ""
+}
+
+/// The record's fourteen lines, with the one of this number, from 1 on, behind the next one.
 fn with_next_first(alloc: Global, number: usize) -> Result<Vec<u8>, AllocError> {
     let mut text = Vec::new(alloc);
-    let mut kept = "";
-    for (place, line) in ADDED_TWO.lines().enumerate() {
-        if place + 1 == number {
-            kept = line;
-            continue;
-        }
-        text.extend_from_slice(line.as_bytes())?;
+    for place in 0..14 {
+        let chosen = if place + 1 == number {
+            number
+        } else if place == number {
+            number.saturating_sub(1)
+        } else {
+            place
+        };
+        text.extend_from_slice(line_at(ADDED_TWO, chosen).as_bytes())?;
         text.push(b'\n')?;
-        if place == number {
-            text.extend_from_slice(kept.as_bytes())?;
-            text.push(b'\n')?;
-        }
     }
     Ok(text)
 }
