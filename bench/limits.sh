@@ -35,8 +35,8 @@ for memory in locked words; do
     # the run has one thread, and 63 more before it begins
     for threads in 1 2 32 62 63; do ends 5 'no thread' "${few[@]}" --nproc=$threads "${run[@]}"; done
     # bytes of addresses: too few for the memory, and then for the stacks of all threads
-    for millions in 10 20; do ends 5 'no memory' prlimit --as=${millions}000000 "${run[@]}"; done
-    for millions in 50 80 100; do ends 5 'no thread' prlimit --as=${millions}000000 "${run[@]}"; done
+    for millions in 10 20 50; do ends 5 'no memory' prlimit --as=${millions}000000 "${run[@]}"; done
+    for millions in 100 200 400; do ends 5 'no thread' prlimit --as=${millions}000000 "${run[@]}"; done
 done
 [ $wrong -eq 0 ] && echo "all as it should be"
 exit $wrong

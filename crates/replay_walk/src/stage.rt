@@ -119,12 +119,14 @@ impl Stage {
     )
         requires free { IsFree self.old.queue n }
         requires spawn { (arg : ℕ) → question ≡ Spawn arg → self.old.started < length self.old.queue.due
-            → (self.old.started < length threads.old) × ((x : T) → slice_get threads.old self.old.started ≡ Some x → MayBeSpawned (T.meaning x)) }
+            → (self.old.started < length threads.old)
+            × ((x : T) → slice_get threads.old self.old.started ≡ Some x → MayBeSpawned (T.meaning x)) }
         ensures count { length threads.new ≡ length threads.old }
         ensures queue { self.new.queue ≡ queue_step self.old.queue n (events.Ask question) reply }
         ensures ends { self.new.ends ≡ self.old.ends }
         ensures started { (arg : ℕ) → question ≡ Spawn arg → self.old.started < length self.old.queue.due
-            → (self.new.started ≡ self.old.started + 1) × ((x : T) (worker : List Value → Config) → slice_get threads.old self.old.started ≡ Some x
+            → (self.new.started ≡ self.old.started + 1)
+            × ((x : T) (worker : List Value → Config) → slice_get threads.old self.old.started ≡ Some x
             → (T.meaning x).begins spawn_types worker → IsStartedAt T.meaning x worker arg threads.old self.old.started threads.new) }
         ensures full { length self.old.queue.due ≤ self.old.started → (self.new.started ≡ self.old.started) × (threads.new ≡ threads.old) }
         ensures other { is_spawn question ≡ false → (self.new.started ≡ self.old.started) × (threads.new ≡ threads.old) }

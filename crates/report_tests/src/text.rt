@@ -226,7 +226,7 @@ fn entries_past_the_limit_are_refused(rt: HostRuntime) -> Result<(), Fail> {
         let expected = if readable {
             None
         } else {
-            Some(RecordFault::Unreadable(199))
+            Some(RecordFault::Unreadable(55))
         };
         assert_eq!(rt; fault, expected);
     }

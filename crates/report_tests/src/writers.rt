@@ -1,6 +1,6 @@
 //! Runs whose lines or whose record can't be written to their end.
 
-use crate::records::ADDED;
+use crate::records::ADDED_TWO;
 use replay_text::{Record, read_record, write_record};
 use report::{Job, perform};
 use std::alloc::{AllocError, Global};
@@ -77,7 +77,7 @@ fn run_narrow<R: Threads + Wait + Sync>(
     let status = perform(
         rt, alloc, &job, ATOMIC_ADD, b"", &mut lines, &mut err, &mut save,
     );
-    if lines.has_front(OUT) && save.has_front(if out < OUT.len() { "" } else { ADDED }) {
+    if lines.has_front(OUT) && save.has_front(if out < OUT.len() { "" } else { ADDED_TWO }) {
         Ok(Some((err, status)))
     } else {
         Ok(None)
@@ -88,7 +88,7 @@ fn run_narrow<R: Threads + Wait + Sync>(
 #[test]
 fn writes_lines_and_record(rt: HostRuntime) -> Result<(), Fail> {
     for at_once in [usize::MAX, 1, 7] {
-        let (err, status) = run_narrow(&rt, rt.alloc(), OUT.len(), ADDED.len(), at_once)?.ok_or(
+        let (err, status) = run_narrow(&rt, rt.alloc(), OUT.len(), ADDED_TWO.len(), at_once)?.ok_or(
             "other text",
         )?;
         assert_eq!(rt; (err.len(), status), (0, 0));
@@ -99,7 +99,9 @@ fn writes_lines_and_record(rt: HostRuntime) -> Result<(), Fail> {
 #[test]
 fn says_that_standard_output_failed(rt: HostRuntime) -> Result<(), Fail> {
     for room in 0..OUT.len() {
-        let (err, status) = run_narrow(&rt, rt.alloc(), room, ADDED.len(), 7)?.ok_or("other text")?;
+        let (err, status) = run_narrow(&rt, rt.alloc(), room, ADDED_TWO.len(), 7)?.ok_or(
+            "other text",
+        )?;
         assert_eq!(rt; err.as_slice(), b"file fault: standard output\n".as_slice());
         assert_eq!(rt; status, 5);
     }
@@ -109,7 +111,7 @@ fn says_that_standard_output_failed(rt: HostRuntime) -> Result<(), Fail> {
 /// The lines stand, and then it is said which file failed.
 #[test]
 fn says_that_the_record_failed(rt: HostRuntime) -> Result<(), Fail> {
-    for room in 0..ADDED.len() {
+    for room in 0..ADDED_TWO.len() {
         let (err, status) = run_narrow(&rt, rt.alloc(), OUT.len(), room, 7)?.ok_or("other text")?;
         assert_eq!(rt; err.as_slice(), b"file fault: a.record\n".as_slice());
         assert_eq!(rt; status, 5);
@@ -121,7 +123,7 @@ fn says_that_the_record_failed(rt: HostRuntime) -> Result<(), Fail> {
 fn is_written(alloc: Global, record: &Record, room: usize) -> Option<bool> {
     let mut narrow = Narrow::new(alloc, room, usize::MAX);
     let wrote = write_record(record, &mut narrow);
-    if narrow.has_front(ADDED) {
+    if narrow.has_front(ADDED_TWO) {
         Some(wrote.is_ok())
     } else {
         None
@@ -130,13 +132,13 @@ fn is_written(alloc: Global, record: &Record, room: usize) -> Option<bool> {
 
 #[test]
 fn says_that_a_writer_failed(rt: HostRuntime) -> Result<(), Fail> {
-    let record = read_record(rt.alloc(), ADDED.as_bytes())?;
-    for room in 0..ADDED.len() {
+    let record = read_record(rt.alloc(), ADDED_TWO.as_bytes())?;
+    for room in 0..ADDED_TWO.len() {
         assert!(rt;
             is_written(rt.alloc(), &record, room) == Some(false),
             "{room}"
         );
     }
-    assert!(rt; is_written(rt.alloc(), &record, ADDED.len()) == Some(true));
+    assert!(rt; is_written(rt.alloc(), &record, ADDED_TWO.len()) == Some(true));
     Ok(())
 }
