@@ -52,7 +52,7 @@ module _ (a v dump : ℕ) (end : EndState) (ends : IsFirstEnd a v end) where
       ∙ (ap (λ o. end_lines (report_of o ∷ []) end.pages dump end.bytes.items) one.2
       ∙ (ap (λ p. end_lines (report_of (first_outcome a) ∷ []) p dump end.bytes.items) ends.pages
       ∙ (ap (λ bytes. end_lines (report_of (first_outcome a) ∷ []) 1 dump bytes) ends.bytes
-      ∙ ap (λ line. line ++ (pages_line 1 ++ bytes_line dump (page_after a v))) (append-nil (thread_line 0 (first_outcome a))))))
+      ∙ ap (λ line. (line ++ pages_line 1) ++ bytes_line dump (page_after a v)) (append-nil (thread_line 0 (first_outcome a))))))
 
   pub runs_by : (bytes : List ℕ) (old new : Option (List ℕ)) (r : Result ℕ FirstFault) → IsFirstModule bytes a v
       → OnOk r (Appends old new (end_lines end.threads.items end.pages dump end.bytes.items))
