@@ -76,7 +76,7 @@ module _ (p : Program) (alone : p.imported ≡ 0) (loses : Bool) (opening : Memo
       subst SpawnsNone (sym sees.list) (none_in_both before sees.others h (none_of_others sees.others sees.apart))
   step_spawns_none t (Acts act) before after fits sees h =
       let so_far : SpawnsNone sees.so_far = subst SpawnsNone (sym sees.gains)
-          (none_in_both before sees.others h (none_of_others sees.others sees.apart)) in
+      (none_in_both before sees.others h (none_of_others sees.others sees.apart)) in
       subst SpawnsNone (sym sees.list) (none_in_both sees.so_far (entered 0 act ∷ sees.behind) so_far
       ((λ same spawn. no_spawn t act fits spawn), none_of_others sees.behind sees.apart_behind))
 
@@ -197,7 +197,7 @@ module _ (loses : Bool) (opening : Memory) (limit : Option ℕ) (last : List Ent
       let quiet : did.behind ≡ [] = first_nil did.behind back.1 did.apart_behind in
       let same : did.so_far ≡ before = did.gains ∙ (ap (λ w. before ++ w) none ∙ append-nil before) in
       let list : sees.0 ≡ before ++ entered 0 act ∷ [] =
-          did.list ∙ (ap (λ w. w ++ entered 0 act ∷ did.behind) same ∙ ap (λ w. before ++ entered 0 act ∷ w) quiet) in
+      did.list ∙ (ap (λ w. w ++ entered 0 act ∷ did.behind) same ∙ ap (λ w. before ++ entered 0 act ∷ w) quiet) in
       subst (λ w. Alone limit w steps last) list (alone_by sees.0 steps sees.2)
 
 -- ---- from threads that ran together

@@ -112,7 +112,7 @@ module _ (p : Program) (start : ℕ → ℕ → State) (fuel : ℕ) (limit : Opt
     pub asks : (event : Event) (go : ℕ → Config) → next p c ≡ Asks event go → (HasReached limit before → ⊥) → HasAsked event go
     asks event go e room =
         let made = call_by (Runs (At c) (suc n)) event before last so.steps
-            (ap (λ x. wanted (machine_of p) (suc n) (wish_of x)) e) room so.run so.alone in
+        (ap (λ x. wanted (machine_of p) (suc n) (wish_of x)) e) room so.run so.alone in
         record {
           reply = made.reply;
           on = subst (λ t. RunsOn t (before ++ entered 0 (Made event made.reply) ∷ []) last)

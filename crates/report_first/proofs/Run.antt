@@ -107,7 +107,7 @@ module _ (a v : ℕ) where
     unaligned_end : is_aligned a ≡ false → On (At c2) (suc (suc f)) [] → EndsSo outcome H
     unaligned_end unaligned on =
         let ended = leaving program start fuel limit outcome left (outcomes.Trap traps.UnalignedAtomic) (suc f) [] H
-            (traps program start fuel limit outcome left c2 (suc f) [] H on traps.UnalignedAtomic (next_unaligned unaligned)) in
+        (traps program start fuel limit outcome left c2 (suc f) [] H on traps.UnalignedAtomic (next_unaligned unaligned)) in
         record {
           outcome_is = ended.outcome_is ∙ sym (cond-false (is_aligned a) (outcomes.Done (Some (values.I32 0))) (outcomes.Trap traps.UnalignedAtomic) unaligned);
           memory = ap (memory_after page) ended.list
@@ -128,9 +128,9 @@ module _ (a v : ℕ) where
         let more = alone_more limit (entry_of made.reply ∷ []) H made.on.steps made.on.alone in
         let reply_is : made.reply ≡ replies.Value 0 = head_legal made.reply more.0 more.1 in
         let behind : On (At (c3 0)) (suc f) (entry_of made.reply ∷ []) =
-            subst (λ r. On (replied_by c2 (Asks (added a v) c3) r) (suc f) (entry_of made.reply ∷ [])) reply_is made.on in
+        subst (λ r. On (replied_by c2 (Asks (added a v) c3) r) (suc f) (entry_of made.reply ∷ [])) reply_is made.on in
         let ended = leaving program start fuel limit outcome left (outcomes.Done (Some (values.I32 0))) f (entry_of made.reply ∷ []) H
-            (finishes program start fuel limit outcome left (c3 0) f (entry_of made.reply ∷ []) H behind (Some (values.I32 0)) next_3) in
+        (finishes program start fuel limit outcome left (c3 0) f (entry_of made.reply ∷ []) H behind (Some (values.I32 0)) next_3) in
         record {
           outcome_is = ended.outcome_is ∙ sym (cond-true (is_aligned a) (outcomes.Done (Some (values.I32 0))) (outcomes.Trap traps.UnalignedAtomic) aligned);
           memory = ap (memory_after page) ended.list ∙ (state_after_add a v below small
