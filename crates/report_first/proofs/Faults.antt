@@ -1,0 +1,33 @@
+-- The call of a module of one atomic add can be made.
+use Rattle.std.proofs.Common.{◌≡◌, ◌⊎◌, inl, inr, ℕ, List, [], ◌∷◌, length, map, refl, sym, ◌∙◌, ap, subst, arith}
+use Rattle.std.specs.Prelude.{codes}
+use Rattle.types.specs.Values.{type_of}
+use Rattle.types.specs.declared.parts.FuncType.{FuncType}
+use Rattle.types.specs.declared.parts.Parts.{Parts}
+use Rattle.validate_module_rules.specs.Exported.{IsExported}
+use Rattle.spawn_host.specs.Entries.{IsUnknown, Refuses, StartsThreads}
+use Rattle.spawn_host.specs.Faults.{IsFaultOf}
+use Rattle.spawn_host_workers.specs.declared.report.RunFault.{RunFault}
+use Rattle.spawn_host_workers.specs.declared.report.RunFault.TheVariants.{NoMemory, UnknownExport, WrongArguments, NoThread}
+use Rattle.report_first.specs.First.{first_type, first_parts}
+use Rattle.report_first.proofs.Ends.{type_is}
+
+module _ (a v : ℕ) where
+  pub exported : IsExported (first_parts a v) (codes "f") 0
+  exported = record { place = 0; entry = _; exported = refl; named = refl; desc = refl; function = omega arith }
+
+  pub not_unknown : IsUnknown (first_parts a v) (codes "f") → ⊥
+  not_unknown none = none 0 exported
+
+  pub not_unfit : Refuses (first_parts a v) (codes "f") [] → ⊥
+  not_unfit x = x.unfit (ap (λ (t : FuncType). t.params) (type_is a v x.own x.func_type x.body x.exports))
+
+  pub starts_none : StartsThreads (first_parts a v) → ⊥
+  starts_none some = omega (arith, some)
+
+  pub no_fault : (fault : RunFault) → IsFaultOf (first_parts a v) (codes "f") [] fault
+      → (fault ≡ UnknownExport) ⊎ ((fault ≡ WrongArguments) ⊎ (fault ≡ NoThread)) → ⊥
+  no_fault NoMemory h is = elim is [ inl e ↦ cc e | inr other ↦ elim other [ inl e ↦ cc e | inr e ↦ cc e ] ]
+  no_fault UnknownExport h is = not_unknown h
+  no_fault WrongArguments h is = not_unfit h
+  no_fault NoThread h is = starts_none h.1

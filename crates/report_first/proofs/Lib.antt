@@ -1,0 +1,10 @@
+pub mod Machine
+pub mod Alone
+pub mod Page
+pub mod Run
+pub mod Valid
+pub mod Body
+pub mod Text
+pub mod Ends
+pub mod Faults
+pub mod Lines
