@@ -1,5 +1,5 @@
 -- A program without imported functions runs one thread: nobody else enters anything.
-use Rattle.std.proofs.Common.{◌≡◌, ◌≢◌, ℕ, zero, suc, ◌<◌, ◌==◌, Bool, ◌⊎◌, inl, inr, List, [], ◌∷◌, ◌++◌, length, Option, Some, None, refl, sym, ◌∙◌, ap, subst, arith, append-nil}
+use Rattle.std.proofs.Common.{◌≡◌, ◌≢◌, ℕ, zero, suc, ◌<◌, ◌==◌, Bool, inl, inr, List, [], ◌∷◌, ◌++◌, length, Option, None, refl, sym, ◌∙◌, ap, subst, arith, append-nil}
 use Rattle.std.specs.Prelude.{slice_get}
 use Rattle.std.proofs.lemmas.Bool.{cases_eq, cond_both, cond-true, both_ways, eq-eqb}
 use Rattle.types.specs.declared.event.Entry.{Entry}
@@ -15,7 +15,7 @@ use Rattle.types.specs.Limits.{most_threads}
 use Rattle.shared_memory.specs.Memory.{Memory}
 use Rattle.shared_memory.specs.Events.{is_of_queue}
 use Rattle.shared_memory.specs.Access.{HasReached}
-use Rattle.shared_memory.specs.WaitQueue.{WaitQueue, first_queue, next_id, after_question, after_answer}
+use Rattle.shared_memory.specs.WaitQueue.{WaitQueue, first_queue, next_id, after_answer}
 use Rattle.shared_memory.specs.History.{entries_of, of_queue, queue_step, queue_from, queue_after}
 use Rattle.shared_memory.specs.Legal.{IsAllowed, IsQueueLegalFrom, IsQueueLegal}
 use Rattle.shared_memory.specs.Sound.{IsSound}

@@ -6,21 +6,19 @@ use Rattle.types.specs.declared.outcome.Outcome.{Outcome}
 use Rattle.types.specs.declared.outcome.ThreadReport.{ThreadReport}
 use Rattle.types.specs.declared.parts.FuncType.{FuncType}
 use Rattle.types.specs.declared.parts.Body.{Body}
-use Rattle.types.specs.declared.parts.Parts.{Parts}
 use Rattle.shared_memory.specs.Memory.{Memory, pages}
-use Rattle.shared_memory.specs.WaitQueue.{WaitQueue}
-use Rattle.shared_memory.specs.History.{queue_after, memory_after}
+use Rattle.shared_memory.specs.History.{memory_after}
 use Rattle.shared_memory.specs.Legal.{IsMemoryLegal}
 use Rattle.shared_memory.specs.Access.{HasReached}
 use Rattle.schedule.specs.Machine.{Thread.Runs}
-use Rattle.interp_machine.specs.State.{State, At}
+use Rattle.interp_machine.specs.State.{At}
 use Rattle.interp.specs.Starts.{start_of}
-use Rattle.schedule_runs.specs.Runs.{Start, RanTogether}
+use Rattle.schedule_runs.specs.Runs.{Start}
 use Rattle.spawn_host.specs.Entries.{Exports}
-use Rattle.spawn_host.specs.Runs.{opening_memory, Tells, Beginning, start_by, IsRunHistory}
+use Rattle.spawn_host.specs.Runs.{opening_memory, Tells, start_by, IsRunHistory}
 use Rattle.replay.specs.declared.end.EndState.{EndState}
 use Rattle.report_runs.specs.Ends.{EndsRun}
-use Rattle.report_first.specs.First.{zeros, first_type, first_body, first_parts, first_outcome, page_after}
+use Rattle.report_first.specs.First.{zeros, first_type, first_body, first_parts, page_after}
 use Rattle.report_first.specs.Laws.{IsFirstEnd, FirstModulesEndSo}
 use Rattle.report_first.proofs.Machine.{RunsOn}
 use Rattle.report_first.proofs.Alone.{unspawned, runs_alone}

@@ -1,15 +1,13 @@
 -- The call of a module of one atomic add can be made.
-use Rattle.std.proofs.Common.{◌≡◌, ◌⊎◌, inl, inr, ℕ, List, [], ◌∷◌, length, map, refl, sym, ◌∙◌, ap, subst, arith}
+use Rattle.std.proofs.Common.{◌≡◌, ◌⊎◌, inl, inr, ℕ, [], refl, ap, arith}
 use Rattle.std.specs.Prelude.{codes}
-use Rattle.types.specs.Values.{type_of}
 use Rattle.types.specs.declared.parts.FuncType.{FuncType}
-use Rattle.types.specs.declared.parts.Parts.{Parts}
 use Rattle.validate_module_rules.specs.Exported.{IsExported}
 use Rattle.spawn_host.specs.Entries.{IsUnknown, Refuses, StartsThreads}
 use Rattle.spawn_host.specs.Faults.{IsFaultOf}
 use Rattle.spawn_host_workers.specs.declared.report.RunFault.{RunFault}
 use Rattle.spawn_host_workers.specs.declared.report.RunFault.TheVariants.{NoMemory, UnknownExport, WrongArguments, NoThread}
-use Rattle.report_first.specs.First.{first_type, first_parts}
+use Rattle.report_first.specs.First.{first_parts}
 use Rattle.report_first.proofs.Ends.{type_is}
 
 module _ (a v : ℕ) where

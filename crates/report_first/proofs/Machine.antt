@@ -1,5 +1,5 @@
 -- The run of a thread, turn by turn.
-use Rattle.std.proofs.Common.{◌≡◌, ℕ, suc, ◌-◌, List, [], ◌∷◌, ◌++◌, refl, sym, ◌∙◌, ap, subst, Option, arith, append-nil, append_assoc}
+use Rattle.std.proofs.Common.{◌≡◌, ℕ, suc, ◌-◌, List, [], ◌∷◌, ◌++◌, sym, ◌∙◌, ap, subst, Option, arith, append-nil, append_assoc}
 use Rattle.types.specs.declared.event.Event.{Event}
 use Rattle.types.specs.declared.event.Event.TheVariants as events
 use Rattle.types.specs.declared.event.Question.TheVariants.{Leave}
@@ -11,9 +11,9 @@ use Rattle.types.specs.declared.outcome.Trap.{Trap}
 use Rattle.types.specs.declared.outcome.Outcome.{Outcome}
 use Rattle.types.specs.declared.outcome.Outcome.TheVariants as outcomes
 use Rattle.shared_memory.specs.Access.{HasReached}
-use Rattle.schedule.specs.System.{Want, Want.Turns, Want.Calls, Want.Awaits, Want.Gone, Act, Act.Made, Act.Heard, Step}
+use Rattle.schedule.specs.System.{Want.Turns, Want.Calls, Act.Made, Act.Heard, Step}
 use Rattle.schedule.specs.System.{Step.Own, Step.Lost, Step.Full, Step.Acts}
-use Rattle.schedule.specs.Machine.{Thread, Thread.Runs, Thread.Over, Thread.Leaves, Thread.Left, wanted, takes_by}
+use Rattle.schedule.specs.Machine.{Thread, Thread.Runs, Thread.Leaves, Thread.Left, wanted, takes_by}
 use Rattle.schedule.specs.Machine.{thread_wants, thread_goes, thread_takes}
 use Rattle.schedule.specs.ThreadRun.{IsThreadRun}
 use Rattle.interp_machine.specs.Program.{Program}

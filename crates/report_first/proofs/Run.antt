@@ -1,11 +1,10 @@
 -- The one thread of a module of one atomic add, from its call to its end.
-use Rattle.std.proofs.Common.{◌≡◌, ℕ, zero, suc, ◌+◌, ◌*◌, ◌%◌, ◌^◌, ◌<◌, ◌==◌, true, false, cond, inl, inr, List, [], ◌∷◌, ◌++◌, Option, Some, refl, sym, ◌∙◌, ap, subst, arith}
+use Rattle.std.proofs.Common.{◌≡◌, ℕ, suc, ◌+◌, ◌%◌, ◌<◌, true, false, cond, inl, inr, List, [], ◌∷◌, Option, Some, refl, sym, ◌∙◌, ap, subst, arith}
 use Rattle.std.proofs.lemmas.Bool.{cond-true, cond-false, cases_Bool}
 use Rattle.std.specs.Prelude.{nat_eq}
 use Rattle.types.specs.declared.value.ValType.TheVariants as types
 use Rattle.types.specs.declared.value.Value.TheVariants as values
 use Rattle.types.specs.declared.event.RmwOp.TheVariants as ops
-use Rattle.types.specs.declared.event.Event.{Event}
 use Rattle.types.specs.declared.event.Event.TheVariants as events
 use Rattle.types.specs.declared.event.Entry.{Entry}
 use Rattle.types.specs.declared.event.Reply.{Reply}
@@ -18,21 +17,19 @@ use Rattle.types.specs.declared.outcome.Trap.TheVariants as traps
 use Rattle.types.specs.declared.outcome.Outcome.{Outcome}
 use Rattle.types.specs.declared.outcome.Outcome.TheVariants as outcomes
 use Rattle.types.specs.Nesting.{Code, Empty, Then}
-use Rattle.shared_memory.specs.Memory.{Memory, reply_of, state_after}
 use Rattle.shared_memory.specs.History.{memory_after}
 use Rattle.shared_memory.specs.Legal.{IsMemoryLegal}
 use Rattle.shared_memory.specs.Access.{HasReached}
-use Rattle.schedule.specs.System.{Act.Made, Act.Heard}
+use Rattle.schedule.specs.System.{Act.Made}
 use Rattle.schedule.specs.Machine.{Thread.Runs}
 use Rattle.interp_machine.specs.Program.{Program, program_of, function_of_body}
 use Rattle.interp_machine.specs.Config.{Config, Next, Goes, Traps, Finishes, Asks}
 use Rattle.interp_machine.specs.Step.{next, limited, with_rest}
 use Rattle.interp_machine.specs.Access.{cut, answered_value}
-use Rattle.interp_machine.specs.State as states
 use Rattle.interp_machine.specs.State.{State, At, start_in, replied_by}
 use Rattle.schedule_threads.specs.Seeing.{entered}
 use Rattle.report_first.specs.First.{first_type, first_body, first_parts, whole_word, page_with, is_aligned, page_after, first_outcome}
-use Rattle.report_first.proofs.Machine.{RunsOn, HasAsked, goes, traps, asks, finishes, Leaving, leaving, alone_more}
+use Rattle.report_first.proofs.Machine.{RunsOn, goes, traps, asks, finishes, leaving, alone_more}
 use Rattle.report_first.proofs.Page.{page, added, reply_of_add, state_after_add}
 
 module _ (a v : ℕ) where

@@ -1,10 +1,9 @@
 -- The bytes of a module of one atomic add, read.
-use Rattle.std.proofs.Common.{◌≡◌, ℕ, suc, ◌<◌, Bool, true, false, Option, Some, None, List, length, [], ◌∷◌, Result, Ok, Err, refl, sym, ◌∙◌, ap, subst, arith}
+use Rattle.std.proofs.Common.{◌≡◌, ℕ, ◌<◌, true, Some, None, List, length, [], ◌∷◌, Result, Ok, Err, refl, sym, ◌∙◌, ap, subst}
 use Rattle.types.specs.declared.instr.Instr.{Instr}
 use Rattle.types.specs.declared.parts.Limits.{Limits}
 use Rattle.types.specs.declared.parts.Export.{Export}
 use Rattle.types.specs.declared.parts.Body.{Body}
-use Rattle.types.specs.declared.parts.Parts.{Parts}
 use Rattle.binary_wire.specs.declared.bounds.Bounds.{Bounds}
 use Rattle.binary_wire.specs.declared.fault.Refusal.{Refusal}
 use Rattle.std.specs.Str.{is_utf8, chars}
@@ -12,7 +11,7 @@ use lib.Utf8.{encode}
 use Rattle.std.specs.Prelude.{nat_eq, if◌then◌else◌, codes}
 use Rattle.binary_wire.specs.Faults.{refused, inside, input}
 use Rattle.binary_wire.specs.Reading.{◌>>=◌, unsigned_at, u32_within_at, end_at, block_at, sized_at, items_at, vector_at, name_at}
-use Rattle.binary_instructions.specs.Reading.{expression_at, val_type_at}
+use Rattle.binary_instructions.specs.Reading.{val_type_at}
 use Rattle.binary.specs.Reading.{block_within_at, body_contents_at, locals_at, groups_at, body_at, bodies_at, code_section_at, part_at, section_at}
 use Rattle.binary.specs.Reading.{code_at, contents_at, customs_at, sections_at, signatures_at, stores_at, func_type_at, memory_at, coded_at}
 use Rattle.binary.specs.Reading.{data_at, finish_at, parts_of, limits_after_at, export_at, export_desc_at, start_at, opening_at, fixed_at, module_at}
@@ -21,7 +20,7 @@ use Rattle.types.specs.declared.parts.ExportDesc.TheVariants as exports
 use Rattle.types.specs.Limits.{most_items}
 use Rattle.binary.specs.Grammar.{IsModuleText}
 use Rattle.binary.proofs.Modules.{module_takes, is_one}
-use Rattle.report_first.specs.First.{first_module, first_type, first_code, first_body, first_parts, IsFirstModule}
+use Rattle.report_first.specs.First.{first_module, first_type, first_body, first_parts, IsFirstModule}
 use Rattle.report_first.specs.Laws.{FirstModulesAreRead}
 use Rattle.report_first.proofs.Body.{code_bytes, code_read}
 

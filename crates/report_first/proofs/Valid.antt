@@ -1,6 +1,5 @@
 -- The modules of one atomic add are valid.
-use Rattle.std.proofs.Common.{◌≡◌, ℕ, zero, suc, ◌+◌, ◌<◌, ◌≤◌, true, List, [], ◌∷◌, Option, Some, refl, arith}
-use Rattle.std.specs.List.{slice_get, zip}
+use Rattle.std.proofs.Common.{ℕ, zero, suc, ◌<◌, true, [], ◌∷◌, Some, refl, arith}
 use Rattle.std.proofs.lemmas.List.Elements.{All-nil, All-cons}
 use Rattle.types.specs.declared.value.ValType.TheVariants.{I32}
 use Rattle.types.specs.declared.value.Value.TheVariants as values
@@ -9,7 +8,6 @@ use Rattle.types.specs.declared.operators.NumericInstr.TheVariants as numeric
 use Rattle.types.specs.declared.operators.AccessWidth.TheVariants as access
 use Rattle.types.specs.declared.operators.AtomicOp.TheVariants as atomic
 use Rattle.types.specs.declared.instr.PlainInstr.TheVariants as plain
-use Rattle.types.specs.declared.parts.Limits.{Limits}
 use Rattle.types.specs.declared.parts.Export.{Export}
 use Rattle.types.specs.declared.parts.Parts.{Parts}
 use Rattle.types.specs.Nesting.{Code, Empty, Then}

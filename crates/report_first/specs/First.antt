@@ -1,5 +1,6 @@
 -- The modules of one atomic add, and what their runs print.
-use Rattle.std.specs.Prelude.{ℕ, ◌≡◌, ◌+◌, ◌%◌, ◌==◌, ◌<◌, Bool, true, if◌then◌else◌, List, [], ◌∷◌, ◌++◌, replicate, codes, Option, Some, None}
+use Rattle.std.specs.Prelude.{ℕ, ◌≡◌, ◌+◌, ◌%◌, ◌==◌, ◌<◌, Bool, true, if◌then◌else◌}
+use Rattle.std.specs.Prelude.{List, [], ◌∷◌, replicate, codes, Some, None}
 use Rattle.std.specs.List.{splice}
 use Rattle.types.specs.declared.value.ValType.TheVariants as types
 use Rattle.types.specs.declared.value.Value.TheVariants as values
