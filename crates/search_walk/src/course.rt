@@ -108,10 +108,12 @@ impl<T: TakesTurns> Course<T> {
         ensures { OnOk result (StaysOnItsRuns T.meaning self.old self.new) }
     {
         let made = self.step(n)?;
-        if let Some(Entry {
-            event: Event::Ask(_),
-            ..
-        }) = made
+        if let Some(
+            Entry {
+                event: Event::Ask(_),
+                ..
+            },
+        ) = made
         {
             self.hear_all()?;
         }

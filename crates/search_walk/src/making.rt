@@ -96,8 +96,8 @@ pub(crate) fn go_on<T: TakesTurns>(
     requires { (s : Standing) × SettlesOn T.meaning s n turn walk.old × (s.memory ≡ walk.old.memory)
         × HasThreads s.program (length walk.old.threads.items) }
     ensures count { length walk.new.threads.items ≡ length walk.old.threads.items }
-    ensures taken { (e : Entry) → result ≡ Some e → (s : Standing) → SettlesOn T.meaning s n turn walk.old → s.memory ≡ walk.old.memory
-        → WalkTakes T.meaning s limit at e.thread (act_of e) walk.new }
+    ensures taken { (e : Entry) → result ≡ Some e → (s : Standing) → SettlesOn T.meaning s n turn walk.old
+        → s.memory ≡ walk.old.memory → WalkTakes T.meaning s limit at e.thread (act_of e) walk.new }
 {
     match turn {
         Turn::Ended(outcome) => Some(leave(walk, n, outcome)),

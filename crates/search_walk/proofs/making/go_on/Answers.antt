@@ -9,22 +9,31 @@ use Rattle.search_walk.proofs.making.go_on.Goals as goal
 
 pub leave-requires : goal.leave-requires
 leave-requires g c =
-    let r = c.requires in
-    (r.0, c.args.limit, c.args.at,
-      ended_leaves g.T.TakesTurns.meaning r.0 c.args.n c.args.turn c.args.walk.now r.1 c.args.limit c.args.at c.in-Ended.outcome c.in-Ended.is)
+    let r = c.requires in (
+      r.0,
+      c.args.limit,
+      c.args.at,
+      ended_leaves g.T.TakesTurns.meaning r.0 c.args.n c.args.turn c.args.walk.now r.1 c.args.limit c.args.at c.in-Ended.outcome c.in-Ended.is,
+    )
 
 pub leave-requires-in-Wants : goal.leave-requires-in-Wants
 leave-requires-in-Wants g c =
-    let r = c.requires in
-    (r.0, c.args.limit, c.args.at,
+    let r = c.requires in (
+      r.0,
+      c.args.limit,
+      c.args.at,
       full_leaves g.T.TakesTurns.meaning r.0 c.args.n c.args.turn c.args.walk.now r.1 c.args.limit c.args.at c.in-Wants.field-0 c.in-Wants.is
-      c.if-at-limit.true)
+          c.if-at-limit.true,
+    )
 
 pub make-reply-requires-clause-wants : goal.make-reply-requires-clause-wants
 make-reply-requires-clause-wants g c =
-    let r = c.requires in
-    (r.0, r.1.thread,
-      wants_on g.T.TakesTurns.meaning r.0 c.args.n c.args.turn c.args.walk.now r.1 c.in-Wants-2.event c.in-Wants-2.is r.2, r.3)
+    let r = c.requires in (
+      r.0,
+      r.1.thread,
+      wants_on g.T.TakesTurns.meaning r.0 c.args.n c.args.turn c.args.walk.now r.1 c.in-Wants-2.event c.in-Wants-2.is r.2,
+      r.3,
+    )
 
 pub returns-in-Ended-clause-taken : goal.returns-in-Ended-clause-taken
 returns-in-Ended-clause-taken g c = λ e is s d same.
