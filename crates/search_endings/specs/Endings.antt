@@ -1,0 +1,15 @@
+-- The ending of a run: how its threads ended, whatever they have spent, the page count, and the first bytes of the memory.
+use Rattle.std.specs.Prelude.{ℕ, ◌≡◌, map, take}
+use Rattle.replay.specs.declared.end.EndState.{EndState}
+use Rattle.search_endings.specs.declared.ending.Ending.{Ending}
+
+pub record IsEndingOf (dump : ℕ) (end : EndState) (e : Ending) : Type 0 where
+  pub outcomes : e.outcomes.items ≡ map (λ r. r.outcome) end.threads.items
+  pub pages : e.pages ≡ end.pages
+  pub bytes : e.bytes.items ≡ take dump end.bytes.items
+
+-- Two runs end alike.
+pub record HaveOneEnding (dump : ℕ) (x y : EndState) : Type 0 where
+  pub outcomes : map (λ r. r.outcome) x.threads.items ≡ map (λ r. r.outcome) y.threads.items
+  pub pages : x.pages ≡ y.pages
+  pub bytes : take dump x.bytes.items ≡ take dump y.bytes.items

@@ -1,0 +1,30 @@
+-- What a course came to, as a record under a header.
+use Rattle.std.specs.Prelude.{ℕ, ◌≡◌, List}
+use Rattle.types.specs.declared.value.Value.{Value}
+use Rattle.shared_memory.specs.Memory.{Memory}
+use Rattle.schedule_runs.specs.Runs.{Start}
+use Rattle.replay_text.specs.declared.parts.RecordParts.{RecordParts}
+use Rattle.replay_rules.specs.Recorded.{IsRecordedRun}
+use Rattle.replay.specs.declared.end.EndState.{EndState}
+
+-- One record has the other's header: its call, its budget and its limit.
+pub record HasHeaderOf (header r : RecordParts) : Type 0 where
+  pub invoke : r.invoke ≡ header.invoke
+  pub args : r.args ≡ header.args
+  pub fuel : r.fuel ≡ header.fuel
+  pub limit : r.limit ≡ header.limit
+
+-- The header is that of a call.
+pub record IsOfCall (name : List ℕ) (values : List Value) (units most : ℕ) (r : RecordParts) : Type 0 where
+  pub invoke : r.invoke ≡ name
+  pub args : r.args ≡ values
+  pub fuel : r.fuel ≡ units
+  pub limit : r.limit ≡ most
+
+-- The record is of a run with this beginning, which ends so.
+pub record Concludes (b : Start) (r : RecordParts) (end : EndState) : Type 0 where
+  pub last : Memory
+  pub recorded : IsRecordedRun b r last
+  pub threads : end.threads.items ≡ r.ends
+  pub pages : end.pages ≡ r.pages
+  pub bytes : end.bytes.items ≡ last.bytes

@@ -1,0 +1,54 @@
+//! Why there is no run.
+
+use search_walk::CourseFault;
+use spawn_host_workers::RunFault;
+use std::alloc::{AllocError, AllocFailed};
+use thiserror::Error;
+
+/// Why a run along a strategy has no record.
+#[derive(Clone, Copy, PartialEq, Eq, Debug, Error)]
+pub enum SearchFault {
+    /// No function of the module itself is exported under the name.
+    #[error("unknown export")]
+    UnknownExport,
+    /// The arguments don't fit the function.
+    #[error("wrong arguments")]
+    WrongArguments,
+    /// The system had too little memory left.
+    #[error("no memory")]
+    NoMemory,
+    /// The run came to no end that a record can tell.
+    #[error("no end")]
+    NoEnd,
+}
+
+impl From<AllocError> for SearchFault {
+    fn from(_: AllocError) -> SearchFault {
+        SearchFault::NoMemory
+    }
+}
+
+impl<T: Drop> From<AllocFailed<T>> for SearchFault {
+    fn from(_: AllocFailed<T>) -> SearchFault {
+        SearchFault::NoMemory
+    }
+}
+
+impl From<RunFault> for SearchFault {
+    fn from(fault: RunFault) -> SearchFault {
+        match fault {
+            RunFault::UnknownExport => SearchFault::UnknownExport,
+            RunFault::WrongArguments => SearchFault::WrongArguments,
+            RunFault::NoMemory | RunFault::NoThread => SearchFault::NoMemory,
+        }
+    }
+}
+
+impl From<CourseFault> for SearchFault {
+    fn from(fault: CourseFault) -> SearchFault {
+        match fault {
+            CourseFault::NoMemory => SearchFault::NoMemory,
+            CourseFault::NoEntry => SearchFault::NoEnd,
+        }
+    }
+}

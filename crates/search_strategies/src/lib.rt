@@ -1,0 +1,17 @@
+//! Who goes on after each entry of a run that one thread steps.
+//!
+//! A strategy is asked before each event of a run, with the threads that can go on. What it answers follows from what it was made of
+//! and from what it was asked: so run number I of a seed is the same run on every machine. `docs/PROFILE.md` says how each chooses.
+#![tactic(auto)]
+
+mod along;
+mod draws;
+mod pct;
+mod random;
+mod strategy;
+
+pub use along::Along;
+pub use draws::Draws;
+pub use pct::{MOST_DEPTH, Pct};
+pub use random::Random;
+pub use strategy::{Strategy, Way};

@@ -1,0 +1,20 @@
+//! What it is to say who goes on.
+ghost use Rattle.std.specs.Prelude.{◌<◌, ◌≤◌, length};
+
+/// Says who goes on.
+pub trait Strategy {
+    /// Which of the threads that can go on does: its place in `ready`, which has their numbers, 1 to 64 of them in order.
+    fn choose(&mut self, ready: &[u32]) -> usize
+        requires some { 0 < length ready.now }
+        requires few { length ready.now ≤ 64 }
+        ensures { result < length ready.now };
+}
+
+/// The strategies by which runs are drawn.
+#[derive(Clone, Copy, PartialEq, Eq, Debug)]
+pub enum Way {
+    /// Each thread that can go on alike.
+    Random,
+    /// The one with the highest priority; these change at one point less than the depth, which is 1 to 32.
+    Priorities(u32),
+}

@@ -1,0 +1,4 @@
+pub mod Settling
+pub mod Answering
+pub mod Leaving
+pub mod Courses
