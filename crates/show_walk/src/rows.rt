@@ -9,7 +9,7 @@ use interp::{Place, Thread};
 use replay_walk::{Walk, Watch};
 use shared_memory_sequential::OneMemory;
 use std::alloc::{AllocError, Global};
-use types::{Entry, Event};
+use types::{Entry, Event, Question};
 
 /// Of an entry: where its thread stands, and what an access finds in memory.
 #[derive(Clone, Copy, Debug, PartialEq, Eq)]
@@ -72,20 +72,35 @@ fn number_before(bytes: &[u8], event: Event) -> Option<u64> {
     Some(number)
 }
 
+impl Rows<'_> {
+    /// Gives the entry of this number a row: where its thread stands.
+    fn see(&mut self, at: usize, threads: &[Thread])
+        ensures { self.new.came ≡ self.old.came }
+    {
+        let Some(entry) = self.log.get(at) else {
+            return;
+        };
+        let Some(thread) = threads.get(entry.thread as usize) else {
+            return;
+        };
+        if let Some(row) = self.rows.get_mut(at) {
+            *row = Some(row_of(thread, None));
+        }
+    }
+}
+
 impl<'a, 'm> Watch<Thread<'m>> for Rows<'a> {
-    /// An answer that is heard, and a leave, stand where the thread stood before them.
+    /// An answer that is heard stands where the thread stood before it, and a leave where the thread ended.
     fn came(&mut self, entries: usize, walk: &Walk<Thread<'m>>)
         ensures { self.new.came ≡ entries }
     {
         self.came = entries;
-        let Some(entry) = self.log.get(entries) else {
-            return;
-        };
-        let Some(thread) = walk.threads.get(entry.thread as usize) else {
-            return;
-        };
-        if let Some(row) = self.rows.get_mut(entries) {
-            *row = Some(row_of(thread, None));
+        self.see(entries, &walk.threads);
+        if let Some(last) = entries.checked_sub(1)
+            && let Some(entry) = self.log.get(last)
+            && entry.event == Event::Ask(Question::Leave)
+        {
+            self.see(last, &walk.threads);
         }
     }
 

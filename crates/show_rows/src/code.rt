@@ -1,0 +1,114 @@
+//! What is known of a module's code: where its instructions are, what its functions are called, and their lines of source.
+
+use crate::spot::Spot;
+use binary_wire::ReadFault;
+use interp::Place;
+use show_lines::{DebugSections, LineTable, read_lines};
+use show_names::{Named, function_name, read_names};
+use show_places::{BodyPlaces, code_places};
+use show_sections::section_of;
+use std::alloc::{AllocError, Global};
+use types::{Import, ImportDesc, Instr, Parts, PlainInstr, Sequence};
+
+/// The code of a module, and what a file says of it that may be another build of the same code.
+#[derive(Drop)]
+pub struct CodeMap<'a> {
+    parts: &'a Parts,
+    /// Where the instructions of the module are.
+    bodies: Sequence<BodyPlaces>,
+    /// Where those of the file with the names are.
+    named_bodies: Sequence<BodyPlaces>,
+    names: Sequence<Named>,
+    lines: LineTable<'a>,
+    /// How many functions are imported.
+    imported: u32,
+}
+
+/// The places of the instructions in a module's bytes; none where they can't be read.
+fn bodies_of(alloc: Global, bytes: &[u8]) -> Result<Sequence<BodyPlaces>, AllocError> {
+    let Some(code) = section_of(bytes, 10) else {
+        return Ok(Sequence::from_vec(Vec::new(alloc)));
+    };
+    match code_places(alloc, code.contents) {
+        Ok(bodies) => Ok(bodies),
+        Err(ReadFault::OutOfMemory) => Err(AllocError),
+        Err(_) => Ok(Sequence::from_vec(Vec::new(alloc))),
+    }
+}
+
+fn count_functions(imports: &[Import]) -> u32 {
+    let mut count = 0u32;
+    for import in imports {
+        if let ImportDesc::Func(_) = import.desc {
+            count = count.saturating_add(1);
+        }
+    }
+    count
+}
+
+/// The offset of the instruction at a place, from the start of the code section's contents.
+fn offset_of(bodies: &[BodyPlaces], place: Place) -> Option<usize> {
+    let body = bodies.get(place.function)?;
+    body.instrs.as_slice().get(place.instr).copied()
+}
+
+impl<'a> CodeMap<'a> {
+    /// What the bytes of a module say of its parts, with the names and lines of another file's bytes, which may be the
+    /// same. Nothing is asked of the bytes: what can't be read isn't known.
+    pub fn read(
+        alloc: Global,
+        parts: &'a Parts,
+        bytes: &[u8],
+        names: &'a [u8],
+    ) -> Result<CodeMap<'a>, AllocError> {
+        Ok(CodeMap {
+            parts,
+            bodies: bodies_of(alloc, bytes)?,
+            named_bodies: bodies_of(alloc, names)?,
+            names: read_names(alloc, names)?,
+            lines: read_lines(alloc, DebugSections::of(names))?,
+            imported: count_functions(parts.imports.as_slice()),
+        })
+    }
+
+    /// The place as it is printed.
+    pub fn spot(&self, place: Place) -> Spot<'_> {
+        let own = u32::try_from(place.function).unwrap_or(u32::MAX);
+        let index = own.saturating_add(self.imported);
+        Spot {
+            name: function_name(self.names.as_slice(), self.parts.exports.as_slice(), index),
+            offset: self.offset_in_body(place),
+            source: self.source_of(place),
+        }
+    }
+
+    /// How far behind the start of its body the instruction is.
+    fn offset_in_body(&self, place: Place) -> Option<usize> {
+        let body = self.bodies.as_slice().get(place.function)?;
+        let offset = offset_of(self.bodies.as_slice(), place)?;
+        Some(offset.saturating_sub(body.start))
+    }
+
+    /// The file and line of source, where both files have as many instructions in the function.
+    fn source_of(&self, place: Place) -> Option<(&str, u64)> {
+        let own = self.bodies.as_slice().get(place.function)?;
+        let named = self.named_bodies.as_slice().get(place.function)?;
+        if own.instrs.len() != named.instrs.len() {
+            return None;
+        }
+        let offset = offset_of(self.named_bodies.as_slice(), place)?;
+        let range = self.lines.at(offset as u64)?;
+        Some((range.file, range.line))
+    }
+
+    /// Whether the instruction at a place is an atomic one.
+    pub fn is_atomic(&self, place: Place) -> bool {
+        let Some(body) = self.parts.bodies.as_slice().get(place.function) else {
+            return false;
+        };
+        matches!(
+            body.code.as_slice().get(place.instr),
+            Some(Instr::Plain(PlainInstr::Atomic(_, _)))
+        )
+    }
+}

@@ -1,0 +1,117 @@
+//! The rows of a record, one below the other.
+
+use crate::code::CodeMap;
+use replay_text::RecordParts;
+use show_text::{Color, Context, Look, Sheet, Unwritten, Wake, Words, all_wakes, contexts};
+use show_walk::Row;
+use std::alloc::{AllocError, Global};
+use std::fmt::Write as _;
+use std::io::Write;
+use types::{Entry, Event, MOST_THREADS, Outcome, Question};
+
+/// The line of the record that has the first entry.
+const FIRST_ENTRY: u64 = 6;
+
+/// What is shown: a record, the rows of its log, and the module's code.
+#[derive(Clone, Copy)]
+pub struct Shown<'a> {
+    pub record: &'a RecordParts,
+    pub rows: &'a [Option<Row>],
+    pub code: &'a CodeMap<'a>,
+}
+
+/// What the log says of its entries beside them.
+#[derive(Drop)]
+struct Story {
+    contexts: Vec<Context>,
+    wakes: Vec<Wake>,
+}
+
+impl Story {
+    fn new(alloc: Global, log: &[Entry]) -> Result<Story, AllocError> {
+        let contexts = contexts(alloc, log, MOST_THREADS)?;
+        let wakes = all_wakes(alloc, log, &contexts)?;
+        Ok(Story { contexts, wakes })
+    }
+
+    /// Whom the notify at a place woke.
+    fn woken_at(&self, at: usize) -> &[Wake] {
+        let first = self.wakes.partition_point(|wake| wake.notify < at);
+        let last = self.wakes.partition_point(|wake| wake.notify <= at);
+        self.wakes.get(first..last).unwrap_or(&[])
+    }
+}
+
+impl Shown<'_> {
+    fn line_of(&self, at: usize) -> u64 {
+        FIRST_ENTRY.saturating_add(at as u64)
+    }
+
+    /// How the thread of a leave has ended.
+    fn outcome_of(&self, entry: &Entry) -> Option<Outcome> {
+        match entry.event {
+            Event::Ask(Question::Leave) => {
+                let report = self.record.ends.as_slice().get(entry.thread as usize)?;
+                Some(report.outcome)
+            }
+            _ => None,
+        }
+    }
+
+    /// The entry at a place in words.
+    fn words_at<'s>(&self, story: &'s Story, at: usize, entry: &Entry) -> Words<'s> {
+        let row = self.rows.get(at).copied().flatten();
+        Words {
+            entry: *entry,
+            context: story.contexts.get(at).copied().unwrap_or(Context::Alone),
+            is_atomic: row.is_some_and(|row| self.code.is_atomic(row.place)),
+            before: row.and_then(|row| row.before),
+            woken: story.woken_at(at),
+            outcome: self.outcome_of(entry),
+        }
+    }
+
+    /// The threads that have an entry which is chosen, in the order of their numbers.
+    fn threads(&self, alloc: Global, look: &Look) -> Result<Vec<u32>, AllocError> {
+        let mut threads = Vec::new(alloc);
+        for (at, entry) in self.record.log.as_slice().iter().enumerate() {
+            if look.choice.has(self.line_of(at), entry) && !threads.contains(&entry.thread) {
+                threads.push(entry.thread)?;
+            }
+        }
+        threads.sort_unstable();
+        Ok(threads)
+    }
+}
+
+/// Writes the rows of the entries that are chosen.
+pub fn write_rows<W: Write>(
+    alloc: Global,
+    shown: Shown,
+    look: &Look,
+    out: &mut W,
+) -> Result<(), Unwritten> {
+    let log = shown.record.log.as_slice();
+    let story = Story::new(alloc, log)?;
+    let is_colored = look.color == Color::Always;
+    let sheet = Sheet::new(shown.threads(alloc, look)?, look.width, is_colored);
+    let mut words = String::new(alloc);
+    let mut place = String::new(alloc);
+    for (at, entry) in log.iter().enumerate() {
+        let line = shown.line_of(at);
+        if !look.choice.has(line, entry) {
+            continue;
+        }
+        words.clear();
+        place.clear();
+        let said = shown.words_at(&story, at, entry);
+        write!(words, "{said}")?;
+        if let Some(Some(row)) = shown.rows.get(at) {
+            let spot = shown.code.spot(row.place);
+            write!(place, "{spot}")?;
+        }
+        sheet.write_row(out, line, entry.thread, words.as_str(), place.as_str())?;
+    }
+    out.flush()?;
+    Ok(())
+}
