@@ -5,3 +5,5 @@ pub mod Here
 pub mod Begun
 pub mod Starting
 pub mod Flats
+pub mod Quickly
+pub mod Sameness

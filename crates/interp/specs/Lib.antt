@@ -1,4 +1,5 @@
 pub mod Places
+pub mod Quick
 pub mod Shown
 pub mod Starts
 pub mod Threads

@@ -4,9 +4,10 @@ ghost use Rattle.std.specs.Prelude.{◌≡◌, ◌+◌, ◌<◌, ◌≤◌, ◌+
 ghost use Rattle.std.specs.List.{slice_get};
 ghost use Rattle.types.specs.declared.parts.FuncType.{FuncType};
 ghost use Rattle.types.specs.declared.parts.Body.{Body};
+ghost use Rattle.interp_state.specs.Steps.{came_to};
 ghost use Rattle.interp_calls.specs.Entering.{IsOfType, CanEnter, IsEntered};
 
-use interp_state::{Caller, Program, State, Step, code_of, push_zeros};
+use interp_state::{Caller, Program, State, code_of, push_zeros};
 use types::{FuncType, MOST_FRAMES, MOST_VALUES, Parts, Trap, ValType, Value};
 
 /// Puts a calling function on top of those that called before.
@@ -44,13 +45,13 @@ fn locals_of<'m>(program: &Program<'m>, own: usize) -> &'m [ValType]
 /// A function of the module itself is opened over the arguments on top of the stack, which become its first locals. Its
 /// other locals begin as zeros.
 #[inline]
-pub(crate) fn enter(state: &mut State, own: usize) -> Step
+pub(crate) fn enter(state: &mut State, own: usize) -> Option<Trap>
     requires { CanEnter state.old own }
-    ensures { IsEntered state.old own result state.new }
+    ensures { IsEntered state.old own (came_to result) state.new }
 {
     let locals = locals_of(&state.program, own);
     if state.callers.len() + 2 > MOST_FRAMES || locals.len() > MOST_VALUES - state.values.len() {
-        return Step::Trapped(Trap::StackExhausted);
+        return Some(Trap::StackExhausted);
     }
     let func_type = type_of(&state.program, own);
     let caller = Caller {
@@ -71,5 +72,5 @@ pub(crate) fn enter(state: &mut State, own: usize) -> Step
     state.flats = code.flats;
     state.function = own;
     state.pc = 0;
-    Step::Moved
+    None
 }

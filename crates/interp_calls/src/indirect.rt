@@ -9,7 +9,7 @@ ghost use Rattle.interp_calls.specs.Entering.{HasBodies};
 
 use crate::entering::enter;
 use crate::indices::{element_at, is_of_type, top_i32};
-use interp_state::{Progress, State, Step, pop};
+use interp_state::{Progress, State, Step, came_to, pop};
 use types::{Event, Instr, PlainInstr, Question, Trap};
 
 /// `call_indirect`: the function at a place of the table, where it has the stated type.
@@ -34,7 +34,7 @@ pub fn call_indirect(state: &mut State, type_index: u32) -> Step
         return Step::Wants(Event::Ask(Question::Spawn { arg }));
     }
     pop(&mut state.values);
-    enter(state, function - imported)
+    came_to(enter(state, function - imported))
 }
 
 /// A `call_indirect` that starts a thread was asked: the place in the table and the argument go, and the answer is due.

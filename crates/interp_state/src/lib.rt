@@ -5,7 +5,9 @@
 mod functions;
 mod stack;
 mod state;
+mod steps;
 
 pub use functions::{Code, code_of};
 pub use stack::{pop, pop_i32, pop_i64, push, push_zeros};
 pub use state::{Caller, Program, Progress, State, Step};
+pub use steps::came_to;

@@ -14,5 +14,5 @@ pub enter-requires : goal.enter-requires
 enter-requires c = call_ready c.args.state.now c.args.function c.requires.begins c.requires.bodies c.if-function-imported.false
 
 pub returns : goal.returns
-returns c = λ w k v st.
+returns c = rw c.came_to.ensures λ w k v st.
     call_enters w c.args.state.now _ k _ c.args.function v st c.requires.begins c.requires.bodies c.if-function-imported.false c.enter.ensures

@@ -90,7 +90,7 @@ enter-requires c =
     (record { same = refl; pc = refl; globals = refl; progress = refl }) c.pop.ensures.value found
 
 pub returns : goal.returns
-returns c = λ w k v st.
+returns c = rw c.came_to.ensures λ w k v st.
     let element = read_at c.args.state.now.program.elements.items _ _ _ (Some (Some c.in-Some-Some.function))
     c.element_at.ensures c.as_slice-2.ensures.value (c.in-Some-Some.is ∙ ap Some c.in-Some-Some.field-0-is) in
     let top = ap reverse (sym c.as_slice.ensures.value) ∙ c.top_i32-place.ensures.1 in
