@@ -10,4 +10,5 @@ mod running;
 pub use job::{check, perform, replay_saved};
 pub use loading::{Refusal, load};
 pub use report_command::{Job, Usage, command};
+pub use report_first::{FirstFault, first};
 pub use report_runs::{Call, EndState, RecordRunFault, record_run, run_on_words};

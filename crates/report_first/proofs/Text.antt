@@ -14,7 +14,7 @@ use Rattle.binary_wire.specs.Reading.{◌>>=◌, unsigned_at, u32_within_at, end
 use Rattle.binary_instructions.specs.Reading.{val_type_at}
 use Rattle.binary.specs.Reading.{block_within_at, body_contents_at, locals_at, groups_at, body_at, bodies_at, code_section_at, part_at, section_at}
 use Rattle.binary.specs.Reading.{code_at, contents_at, customs_at, sections_at, signatures_at, stores_at, func_type_at, memory_at, coded_at}
-use Rattle.binary.specs.Reading.{data_at, finish_at, parts_of, limits_after_at, export_at, export_desc_at, start_at, opening_at, fixed_at, module_at}
+use Rattle.binary.specs.Reading.{global_at, data_at, finish_at, parts_of, limits_after_at, export_at, export_desc_at, start_at, opening_at, fixed_at, module_at}
 use Rattle.binary_wire.specs.declared.fault.Fault.TheVariants as faults
 use Rattle.types.specs.declared.parts.ExportDesc.TheVariants as exports
 use Rattle.types.specs.Limits.{most_items}
@@ -77,9 +77,11 @@ module _ (a v : ℕ) (below : a < 64) (small : v < 64) where
   abbrev tail_bytes : List ℕ
   tail_bytes = 0x0a ∷ 0x0c ∷ section_bytes
 
+  abbrev exports_bytes : List ℕ
+  exports_bytes = 0x07 ∷ 0x05 ∷ 0x01 ∷ 0x01 ∷ 0x66 ∷ 0x00 ∷ 0x00 ∷ tail_bytes
+
   abbrev stores_bytes : List ℕ
-  stores_bytes =
-      0x05 ∷ 0x04 ∷ 0x01 ∷ 0x03 ∷ 0x01 ∷ 0x01 ∷ 0x07 ∷ 0x05 ∷ 0x01 ∷ 0x01 ∷ 0x66 ∷ 0x00 ∷ 0x00 ∷ tail_bytes
+  stores_bytes = 0x05 ∷ 0x04 ∷ 0x01 ∷ 0x03 ∷ 0x01 ∷ 0x01 ∷ exports_bytes
 
   abbrev types_bytes : List ℕ
   types_bytes = 0x01 ∷ 0x05 ∷ 0x01 ∷ 0x60 ∷ 0x00 ∷ 0x01 ∷ 0x7f ∷ 0x03 ∷ 0x02 ∷ 0x01 ∷ 0x00 ∷ stores_bytes
@@ -89,10 +91,17 @@ module _ (a v : ℕ) (below : a < 64) (small : v < 64) where
   unfolding signatures_at section_at part_at customs_at sized_at block_at unsigned_at vector_at items_at u32_within_at func_type_at val_type_at
   signatures_read s = refl
 
+  memories_read : (s : Bounds) → section_at 5 most_items memory_at s stores_bytes ≡ Ok (one_memory ∷ [], exports_bytes)
+  unfolding section_at part_at customs_at sized_at block_at unsigned_at vector_at items_at u32_within_at memory_at coded_at limits_after_at
+  memories_read s = refl
+
   stores_read : (s : Bounds) → stores_at s stores_bytes
       ≡ Ok (record { tables = []; memories = one_memory ∷ []; globals = []; exports = the_export ∷ []; start = None }, tail_bytes)
-  unfolding stores_at section_at part_at customs_at sized_at block_at unsigned_at vector_at items_at u32_within_at memory_at coded_at limits_after_at export_at name_at export_desc_at start_at is_utf8 chars encode
-  stores_read s = refl
+  unfolding stores_at section_at part_at customs_at sized_at block_at unsigned_at vector_at items_at u32_within_at export_at name_at export_desc_at start_at is_utf8 chars encode memory_at coded_at
+  stores_read s =
+      along (memories_read s) (λ r. r >>= λ memories. section_at 6 most_items global_at s memories.1 >>= λ globals.
+      section_at 7 most_items export_at s globals.1 >>= λ exported. start_at s exported.1 >>= λ start.
+      Ok (record { tables = []; memories = memories.0; globals = globals.0; exports = exported.0; start = start.0 }, start.1))
 
   -- what is left to do behind each of them
   sections_read : (s : Bounds) → sections_at 46 s types_bytes ≡ Ok (first_parts a v)

@@ -13,6 +13,8 @@ mod corners;
 #[cfg(test)]
 mod examples;
 #[cfg(test)]
+mod first;
+#[cfg(test)]
 mod large;
 #[cfg(test)]
 mod lines;
