@@ -1,32 +1,53 @@
 -- A run under another record with the same header.
-use Rattle.std.proofs.Common.{ℕ, ◌≡◌, List, refl, sym, ◌∙◌, subst}
+use Rattle.std.proofs.Common.{ℕ, ◌≡◌, List, sym, ◌∙◌, ap, subst}
 use Rattle.types.specs.declared.value.Value.{Value}
 use Rattle.types.specs.declared.parts.Parts.{Parts}
+use Rattle.types.specs.Limits.{most_pages}
+use Rattle.validate.specs.Pages.{HasPagesWithin}
+use Rattle.shared_memory.specs.Memory.{Memory}
 use Rattle.schedule_runs.specs.Runs.{Start}
-use Rattle.spawn_host.specs.Runs.{Beginning, start_by}
+use Rattle.spawn_host.specs.Runs.{Beginning, start_by, opening_memory, opening_within}
+use Rattle.replay_text.specs.declared.version.Version.{Version}
 use Rattle.replay_text.specs.declared.parts.RecordParts.{RecordParts}
 use Rattle.replay_rules.specs.Recorded.{IsRecordedRun}
 use Rattle.replay.specs.declared.end.EndState.{EndState}
-use Rattle.replay.specs.Runs.{BeginsBy, start_of_record, IsRunOf}
-use Rattle.search_scheduled.specs.Headers.{HasHeaderOf, Concludes}
+use Rattle.replay.specs.Runs.{BeginsBy, start_of_record, IsLengthOf, HasLength, HasPages, IsRunOf}
+use Rattle.search_scheduled.specs.Headers.{HasHeaderOf, IsOfCall, Concludes}
+
+-- a call's header is of its module
+pub has_length : (m : Parts) (name : List ℕ) (values : List Value) (units most : ℕ) (r : RecordParts) → IsOfCall m name values units most r
+    → HasLength m r
+has_length m name values units most r h = subst (λ (v : Version). IsLengthOf v m r.module_len) (sym h.version) (sym h.module_len)
+
+pub has_pages : (m : Parts) (name : List ℕ) (values : List Value) (units most : ℕ) (r : RecordParts) → IsOfCall m name values units most r
+    → HasPagesWithin most_pages m → HasPages m r
+has_pages m name values units most r h within = subst (λ (q : ℕ). HasPagesWithin q m) (sym h.max_pages) within
+
+-- its memory opens as every run's
+pub opens_by : (m : Parts) (name : List ℕ) (values : List Value) (units most : ℕ) (r : RecordParts) → IsOfCall m name values units most r
+    → (memory : Memory) → memory ≡ opening_memory m → memory ≡ opening_within r.max_pages m
+opens_by m name values units most r h memory is = is ∙ ap (λ (q : ℕ). opening_within q m) (sym h.max_pages)
 
 module _ (m : Parts) (b : Start) where
-  abbrev Begins : List ℕ → List Value → ℕ → Type 0
-  Begins name args fuel = (x : Beginning m name args) × (b ≡ start_by m name args fuel x)
+  abbrev Begins : List ℕ → List Value → ℕ → ℕ → Type 0
+  Begins name args fuel most = (x : Beginning m name args) × (b ≡ record (start_by m name args fuel x) { opening = opening_within most m })
 
-  begins_as : (name name' : List ℕ) (args args' : List Value) (fuel fuel' : ℕ) → name ≡ name' → args ≡ args' → fuel ≡ fuel'
-      → Begins name args fuel → Begins name' args' fuel'
-  begins_as name name' args args' fuel fuel' n a f x =
-      subst (λ (k : ℕ). Begins name' args' k) f
-      (subst (λ (l : List Value). Begins name' l fuel) a
-      (subst (λ (l : List ℕ). Begins l args fuel) n x))
+  begins_as : (r r' : RecordParts) → HasHeaderOf r r' → Begins r.invoke r.args r.fuel r.max_pages → Begins r'.invoke r'.args r'.fuel r'.max_pages
+  begins_as r r' h x =
+      subst (λ (q : ℕ). Begins r'.invoke r'.args r'.fuel q) (sym h.max_pages)
+      (subst (λ (k : ℕ). Begins r'.invoke r'.args k r.max_pages) (sym h.fuel)
+      (subst (λ (l : List Value). Begins r'.invoke l r.fuel r.max_pages) (sym h.args)
+      (subst (λ (l : List ℕ). Begins l r.args r.fuel r.max_pages) (sym h.invoke) x)))
 
   -- what a course came to is of a run of the module
   pub is_run : (header r : RecordParts) (begins : BeginsBy m header) → b ≡ start_of_record m header begins → HasHeaderOf header r
-      → (end : EndState) → Concludes b r end → IsRunOf m r end
-  is_run header r begins same h end c =
-      let x = begins_as header.invoke r.invoke header.args r.args header.fuel r.fuel (sym h.invoke) (sym h.args) (sym h.fuel) (begins, same) in
+      → HasLength m header → HasPages m header → (end : EndState) → Concludes b r end → IsRunOf m r end
+  is_run header r begins same h len within end c =
+      let x = begins_as header r h (begins, same) in
       record {
+        length_fits = subst (λ (v : Version). IsLengthOf v m r.module_len) (sym h.version)
+            (subst (λ (n : ℕ). IsLengthOf header.version m n) (sym h.module_len) len);
+        pages_fit = subst (λ (q : ℕ). HasPagesWithin q m) (sym h.max_pages) within;
         beginning = x.0;
         last = c.last;
         recorded = subst (λ (s : Start). IsRecordedRun s r c.last) x.1 c.recorded;

@@ -42,8 +42,8 @@ pub(crate) fn conclude<T: TakesTurns + Drop>(
     header: RecordParts,
 ) -> Result<(RecordParts, EndState), SearchFault>
     ensures header { IfOk result (λ r. HasHeaderOf header r.0) }
-    ensures concludes { IfOk result (λ r. (run : Run) → CameAlong T.meaning run course → run.budget ≡ header.fuel
-        → run.limit ≡ header.limit → Concludes (start run) r.0 r.1) }
+    ensures concludes { IfOk result (λ r. (run : Run) → CameAlong T.meaning run course → run.threads ≡ header.threads
+        → run.budget ≡ header.fuel → run.limit ≡ header.limit → Concludes (start run) r.0 r.1) }
 {
     let ends = ends_of(alloc, &course.walk)?;
     let threads = Vec::from_slice(alloc, &ends)?;

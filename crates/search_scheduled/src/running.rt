@@ -1,5 +1,7 @@
 //! A run of a module along a strategy.
 ghost use Rattle.std.specs.Prelude.{◌≡◌, IfOk};
+ghost use Rattle.types.specs.Limits.{most_pages};
+ghost use Rattle.validate.specs.Pages.{HasPagesWithin};
 ghost use Rattle.replay.specs.Runs.{IsRunOf};
 ghost use Rattle.search_scheduled.specs.Headers.{IsOfCall};
 
@@ -7,12 +9,12 @@ use crate::concluding::conclude;
 use crate::fault::SearchFault;
 use crate::threads::{opening, threads_of};
 use replay::EndState;
-use replay_text::{Record, RecordParts};
+use replay_text::{Record, RecordParts, Version};
 use search_strategies::Strategy;
 use search_walk::Course;
 use spawn_host::Call;
 use std::alloc::{AllocError, Global};
-use types::{Name, Sequence};
+use types::{MOST_PAGES, MOST_THREADS, Name, Sequence};
 use validate::ValidModule;
 
 /// A run that was made: its record, and what it left.
@@ -22,11 +24,27 @@ pub struct Made {
     pub end: EndState,
 }
 
+/// A valid module's memory has no more pages than any may have. It does nothing else.
+fn show_pages_fit(module: &ValidModule)
+    ensures { HasPagesWithin most_pages «module».now.parts }
+{
+    let _parts = module.parts();
+}
+
 /// The parts of a record before the first turn: its header alone.
-fn header_of(alloc: Global, call: Call, limit: u32) -> Result<RecordParts, AllocError>
-    ensures { IfOk result (IsOfCall call.entry.name.now call.entry.args.now call.entry.fuel limit) }
+fn header_of(
+    alloc: Global,
+    module: &ValidModule,
+    call: Call,
+    limit: u32,
+) -> Result<RecordParts, AllocError>
+    ensures { IfOk result (IsOfCall «module».now.parts call.entry.name.now call.entry.args.now call.entry.fuel limit) }
 {
     Ok(RecordParts {
+        version: Version::Two,
+        module_len: module.parts().length,
+        threads: MOST_THREADS as u32,
+        max_pages: MOST_PAGES,
         invoke: Name::from_string(String::from_str(alloc, call.name)?),
         args: Sequence::from_vec(Vec::from_slice(alloc, call.args)?),
         fuel: call.fuel,
@@ -41,7 +59,8 @@ fn header_of(alloc: Global, call: Call, limit: u32) -> Result<RecordParts, Alloc
 /// on. A thread takes an answer as soon as that is due. The limit is 1 to 1,000,000 entries, and the fuel of the call 0 to
 /// 1,000,000,000,000 units.
 ///
-/// Whatever the strategy, the record is of a run of the module that ends so.
+/// Whatever the strategy, the record is of a run of the module that ends so. It is of version 2, and says that there may be 64
+/// threads and 256 pages.
 ///
 /// # Errors
 /// `UnknownExport` where no function of the module itself is exported under the name, `WrongArguments` where the arguments don't
@@ -53,10 +72,12 @@ pub fn run_along<S: Strategy>(
     limit: u32,
     strategy: &mut S,
 ) -> Result<Made, SearchFault>
-    ensures call { IfOk result (λ made. IsOfCall call.entry.name.now call.entry.args.now call.entry.fuel limit made.record) }
+    ensures call { IfOk result (λ made. IsOfCall «module».now.parts call.entry.name.now call.entry.args.now call.entry.fuel limit
+        made.record) }
     ensures run { IfOk result (λ made. IsRunOf «module».now.parts made.record made.end) }
 {
-    let header = header_of(alloc, call, limit)?;
+    show_pages_fit(module);
+    let header = header_of(alloc, module, call, limit)?;
     let threads = threads_of(alloc, module, &header)?;
     let memory = opening(alloc, module)?;
     let mut course = Course::new(alloc, threads, memory, header.fuel, limit);

@@ -5,7 +5,6 @@ use Rattle.schedule_threads.specs.Shared.{act_of}
 use Rattle.interp_trait.specs.Turns.{Meaning}
 use Rattle.replay_walk.specs.Standing.{Standing}
 use Rattle.replay_walk.specs.Walked.{Run, standing_in, WalkTakes, WalkCame}
-use Rattle.replay_walk.specs.declared.walk.Walk.{Walk}
 use Rattle.replay_walk.proofs.Along.{walked_on}
 use Rattle.search_walk.specs.Courses.{CameAlong}
 use Rattle.search_walk.specs.declared.course.Course.{Course}

@@ -1,14 +1,13 @@
 -- How a settled thread goes on.
-use Rattle.std.proofs.Common.{◌≡◌, ℕ, ◌<◌, ◌≤◌, refl, sym, ◌∙◌, subst}
+use Rattle.std.proofs.Common.{◌≡◌, ℕ, ◌<◌, ◌≤◌, subst}
 use Rattle.types.specs.declared.event.Event.{Event}
-use Rattle.types.specs.declared.event.Entry.{Entry}
 use Rattle.types.specs.declared.event.Reply.{Reply}
 use Rattle.types.specs.declared.outcome.Outcome.{Outcome}
 use Rattle.types.specs.declared.outcome.Outcome.TheVariants as outcomes
 use Rattle.types.specs.declared.outcome.Stop.TheVariants as stops
 use Rattle.shared_memory.specs.Memory.{reply_of}
 use Rattle.schedule.specs.System.{Act.Made}
-use Rattle.schedule_threads.specs.Shared.{act_by, act_of}
+use Rattle.schedule_threads.specs.Shared.{act_by}
 use Rattle.interp_trait.specs.Turns.{Meaning}
 use Rattle.interp_trait.specs.declared.turn.Turn.{Turn}
 use Rattle.interp_trait.specs.declared.turn.Turn.TheVariants as turns

@@ -1,5 +1,6 @@
 //! A walk with the log that it makes.
 ghost use Rattle.std.specs.Prelude.{◌≡◌, ◌≤◌, length, [], OnOk};
+ghost use Rattle.types.specs.Limits.{most_threads};
 ghost use Rattle.replay_walk.specs.Walked.{Run, IsReady};
 ghost use Rattle.search_walk.specs.Courses.{CameAlong, IsOnARun, StaysOnItsRuns};
 
@@ -42,7 +43,7 @@ pub struct Course<T> {
 }
 
 impl<T: TakesTurns> Course<T> {
-    /// Before the first turn: thread 0 is at its start, and the memory is the opening one.
+    /// Before the first turn: thread 0 is at its start, and the memory is the opening one. There may be 64 threads.
     pub fn new(
         alloc: Global,
         threads: Vec<T>,
@@ -50,11 +51,11 @@ impl<T: TakesTurns> Course<T> {
         fuel: u64,
         limit: u32,
     ) -> Course<T>
-        ensures { (r : Run) → IsReady T.meaning r threads.items memory → r.budget ≡ fuel → r.limit ≡ limit
-            → CameAlong T.meaning r result }
+        ensures { (r : Run) → IsReady T.meaning r threads.items memory → r.threads ≡ most_threads → r.budget ≡ fuel
+            → r.limit ≡ limit → CameAlong T.meaning r result }
     {
         Course {
-            walk: Walk::new(threads, memory),
+            walk: Walk::new(threads, memory, MOST_THREADS as u32),
             log: Vec::new(alloc),
             fuel,
             limit,

@@ -3,9 +3,9 @@ use Rattle.replay.proofs.Deciding.{is_recorded}
 use Rattle.search_scheduled.proofs.concluding.conclude.Goals as goal
 
 pub returns-clause-concludes : goal.returns-clause-concludes
-returns-clause-concludes g c = λ run came budget limit. record {
+returns-clause-concludes g c = λ run came most budget limit. record {
   last = c.args.course.walk.memory;
-  recorded = is_recorded run _ limit budget (sym c.from_vec.ensures) c.deref-2.ensures.value came.walk
+  recorded = is_recorded run _ limit most budget (sym c.from_vec.ensures) c.deref-2.ensures.value came.walk
       c.pages-pages.ensures c.first_wrong_end.result c.first_wrong_end.ensures c.in-None.is;
   threads = c.in_ok-threads.ensures.items ∙ (c.deref.ensures.value ∙ sym c.from_vec-2.ensures);
   pages = refl;

@@ -1,6 +1,6 @@
 use Rattle.std.proofs.Common.{◌≡◌, Some, sym, ◌∙◌, ap, subst, slice_get}
 use Rattle.types.specs.declared.event.Answer.{Answer}
-use Rattle.shared_memory.specs.WaitQueue.{WaitQueue, answer_due, after_answer}
+use Rattle.shared_memory.specs.WaitQueue.{WaitQueue, answer_due}
 use Rattle.interp_trait.specs.declared.turn.Given.TheVariants as given
 use Rattle.replay_walk.specs.Standing.{IsToldOn, IsTurnedAt}
 use Rattle.replay_walk.proofs.Told.{gone_on, awaits_at, within_at, turned_on}

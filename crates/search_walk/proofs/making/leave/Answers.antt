@@ -3,7 +3,6 @@ use Rattle.shared_memory.proofs.Soundness.{alive_below}
 use Rattle.types.specs.declared.event.Event.TheVariants as events
 use Rattle.types.specs.declared.event.Question.TheVariants.{Leave}
 use Rattle.types.specs.declared.event.Reply.TheVariants.{Done}
-use Rattle.schedule_threads.specs.Shared.{act_of}
 use Rattle.replay_walk.proofs.Made.{is_free}
 use Rattle.replay_walk.proofs.Taken.{took_as}
 use Rattle.search_walk.proofs.making.leave.Goals as goal

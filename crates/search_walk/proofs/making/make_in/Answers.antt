@@ -1,4 +1,4 @@
-use Rattle.std.proofs.Common.{◌≡◌, List, Option, refl, sym, ◌∙◌, ap, subst}
+use Rattle.std.proofs.Common.{◌≡◌, List, Option, sym, ◌∙◌, ap, subst}
 use Rattle.types.specs.declared.event.Event.{Event}
 use Rattle.types.specs.declared.event.Event.TheVariants as events
 use Rattle.types.specs.declared.event.Question.{Question}
@@ -6,7 +6,6 @@ use Rattle.types.specs.declared.outcome.Outcome.{Outcome}
 use Rattle.shared_memory.specs.Memory.{Memory, reply_of}
 use Rattle.shared_memory.specs.WaitQueue.{WaitQueue, next_id}
 use Rattle.shared_memory.specs.History.{queue_step}
-use Rattle.types.specs.declared.event.Reply.{Reply}
 use Rattle.replay_walk.specs.Standing.{IsAnswered, IsStanding, made_by}
 use Rattle.replay_walk.proofs.Ending.{goes_on}
 use Rattle.replay_walk.proofs.Made.{is_free, right, has_taken, spawn_ready, made_plain, nobody, queue_stays}

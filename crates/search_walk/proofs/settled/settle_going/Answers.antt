@@ -1,6 +1,5 @@
 use Rattle.std.proofs.Common.{◌≡◌, ◌∙◌}
 use Rattle.std.proofs.lemmas.List.{take_at}
-use Rattle.interp_trait.specs.declared.turn.Turn.{Turn}
 use Rattle.replay_walk.proofs.Settled.{within, ready, settled}
 use Rattle.search_walk.proofs.Settling.{settles_on}
 use Rattle.search_walk.proofs.settled.settle_going.Goals as goal
