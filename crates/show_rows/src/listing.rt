@@ -9,15 +9,12 @@ use std::fmt::Write as _;
 use std::io::Write;
 use types::{Entry, Event, MOST_THREADS, Outcome, Question};
 
-/// The line of the record that has the first entry.
-const FIRST_ENTRY: u64 = 6;
-
 /// What is shown: a record, the rows of its log, and the module's code.
 #[derive(Clone, Copy)]
-pub struct Shown<'a> {
-    pub record: &'a RecordParts,
-    pub rows: &'a [Option<Row>],
-    pub code: &'a CodeMap<'a>,
+pub struct Shown<'r, 'w, 'c, 'm, 'n> {
+    pub record: &'r RecordParts,
+    pub rows: &'w [Option<Row>],
+    pub code: &'c CodeMap<'m, 'n>,
 }
 
 /// What the log says of its entries beside them.
@@ -42,9 +39,11 @@ impl Story {
     }
 }
 
-impl Shown<'_> {
+impl Shown<'_, '_, '_, '_, '_> {
+    /// The line of the record that has the entry at a place.
     fn line_of(&self, at: usize) -> u64 {
-        FIRST_ENTRY.saturating_add(at as u64)
+        let first = self.record.version.header_lines() + 1;
+        (first as u64).saturating_add(at as u64)
     }
 
     /// How the thread of a leave has ended.
