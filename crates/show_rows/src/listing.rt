@@ -1,6 +1,7 @@
 //! The rows of a record, one below the other.
 
 use crate::code::CodeMap;
+use interp::Place;
 use replay_text::RecordParts;
 use show_text::{Color, Context, Look, Sheet, Unwritten, Wake, Words, all_wakes, contexts};
 use show_walk::Row;
@@ -70,6 +71,16 @@ impl Shown<'_, '_, '_, '_, '_> {
         }
     }
 
+    /// Where the entry at a place was made: an answer where its question was asked.
+    fn place_at(&self, story: &Story, at: usize) -> Option<Place> {
+        let made = match story.contexts.get(at) {
+            Some(Context::Asked(_, asked)) => *asked,
+            _ => at,
+        };
+        let row = self.rows.get(made).copied().flatten()?;
+        Some(row.place)
+    }
+
     /// The threads that have an entry which is chosen, in the order of their numbers.
     fn threads(&self, alloc: Global, look: &Look) -> Result<Vec<u32>, AllocError> {
         let mut threads = Vec::new(alloc);
@@ -105,8 +116,8 @@ pub fn write_rows<W: Write>(
         place.clear();
         let said = shown.words_at(&story, at, entry);
         write!(words, "{said}")?;
-        if let Some(Some(row)) = shown.rows.get(at) {
-            let spot = shown.code.spot(row.place);
+        if let Some(made) = shown.place_at(&story, at) {
+            let spot = shown.code.spot(made);
             write!(place, "{spot}")?;
         }
         sheet.write_row(out, line, entry.thread, words.as_str(), place.as_str())?;
