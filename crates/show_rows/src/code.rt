@@ -12,14 +12,14 @@ use types::{Import, ImportDesc, Instr, Parts, PlainInstr, Sequence};
 
 /// The code of a module, and what a file says of it that may be another build of the same code.
 #[derive(Drop)]
-pub struct CodeMap<'a> {
-    parts: &'a Parts,
+pub struct CodeMap<'m, 'n> {
+    parts: &'m Parts,
     /// Where the instructions of the module are.
     bodies: Sequence<BodyPlaces>,
     /// Where those of the file with the names are.
     named_bodies: Sequence<BodyPlaces>,
     names: Sequence<Named>,
-    lines: LineTable<'a>,
+    lines: LineTable<'n>,
     /// How many functions are imported.
     imported: u32,
 }
@@ -52,15 +52,15 @@ fn offset_of(bodies: &[BodyPlaces], place: Place) -> Option<usize> {
     body.instrs.as_slice().get(place.instr).copied()
 }
 
-impl<'a> CodeMap<'a> {
+impl<'m, 'n> CodeMap<'m, 'n> {
     /// What the bytes of a module say of its parts, with the names and lines of another file's bytes, which may be the
     /// same. Nothing is asked of the bytes: what can't be read isn't known.
     pub fn read(
         alloc: Global,
-        parts: &'a Parts,
+        parts: &'m Parts,
         bytes: &[u8],
-        names: &'a [u8],
-    ) -> Result<CodeMap<'a>, AllocError> {
+        names: &'n [u8],
+    ) -> Result<CodeMap<'m, 'n>, AllocError> {
         Ok(CodeMap {
             parts,
             bodies: bodies_of(alloc, bytes)?,

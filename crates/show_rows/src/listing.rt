@@ -1,6 +1,7 @@
 //! The rows of a record, one below the other.
 
 use crate::code::CodeMap;
+use interp::Place;
 use replay_text::RecordParts;
 use show_text::{Color, Context, Look, Sheet, Unwritten, Wake, Words, all_wakes, contexts};
 use show_walk::Row;
@@ -9,15 +10,12 @@ use std::fmt::Write as _;
 use std::io::Write;
 use types::{Entry, Event, MOST_THREADS, Outcome, Question};
 
-/// The line of the record that has the first entry.
-const FIRST_ENTRY: u64 = 6;
-
 /// What is shown: a record, the rows of its log, and the module's code.
 #[derive(Clone, Copy)]
-pub struct Shown<'a> {
-    pub record: &'a RecordParts,
-    pub rows: &'a [Option<Row>],
-    pub code: &'a CodeMap<'a>,
+pub struct Shown<'r, 'w, 'c, 'm, 'n> {
+    pub record: &'r RecordParts,
+    pub rows: &'w [Option<Row>],
+    pub code: &'c CodeMap<'m, 'n>,
 }
 
 /// What the log says of its entries beside them.
@@ -42,9 +40,11 @@ impl Story {
     }
 }
 
-impl Shown<'_> {
+impl Shown<'_, '_, '_, '_, '_> {
+    /// The line of the record that has the entry at a place.
     fn line_of(&self, at: usize) -> u64 {
-        FIRST_ENTRY.saturating_add(at as u64)
+        let first = self.record.version.header_lines() + 1;
+        (first as u64).saturating_add(at as u64)
     }
 
     /// How the thread of a leave has ended.
@@ -69,6 +69,16 @@ impl Shown<'_> {
             woken: story.woken_at(at),
             outcome: self.outcome_of(entry),
         }
+    }
+
+    /// Where the entry at a place was made: an answer where its question was asked.
+    fn place_at(&self, story: &Story, at: usize) -> Option<Place> {
+        let made = match story.contexts.get(at) {
+            Some(Context::Asked(_, asked)) => *asked,
+            _ => at,
+        };
+        let row = self.rows.get(made).copied().flatten()?;
+        Some(row.place)
     }
 
     /// The threads that have an entry which is chosen, in the order of their numbers.
@@ -106,8 +116,8 @@ pub fn write_rows<W: Write>(
         place.clear();
         let said = shown.words_at(&story, at, entry);
         write!(words, "{said}")?;
-        if let Some(Some(row)) = shown.rows.get(at) {
-            let spot = shown.code.spot(row.place);
+        if let Some(made) = shown.place_at(&story, at) {
+            let spot = shown.code.spot(made);
             write!(place, "{spot}")?;
         }
         sheet.write_row(out, line, entry.thread, words.as_str(), place.as_str())?;

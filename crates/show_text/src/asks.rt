@@ -42,14 +42,19 @@ fn write_wait<W: Write>(f: &mut Formatter<W>, question: Question, reply: Reply) 
         return Ok(());
     };
     match reply {
-        Reply::Value(loaded) if loaded == expected => {
+        Reply::Value(loaded) if loaded != expected => {
+            write!(f, "wait {addr} while {expected}: has {loaded}")
+        }
+        Reply::Value(_) if timeout == 0 => {
+            write!(f, "wait {addr} while {expected}: no time to sleep")
+        }
+        Reply::Value(_) => {
             write!(f, "sleeps on {addr} while {expected}")?;
-            if timeout >= 0 {
+            if timeout > 0 {
                 write!(f, ", at most {timeout} ns")?;
             }
             Ok(())
         }
-        Reply::Value(loaded) => write!(f, "wait {addr} while {expected}: has {loaded}"),
         _ => write!(f, "wait {addr} while {expected}: out of bounds"),
     }
 }

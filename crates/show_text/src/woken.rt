@@ -65,8 +65,8 @@ fn is_woken(context: Option<&Context>) -> bool {
 
 /// Each thread that a notify of the log woke, by the answers in the log, in the order of the notifies.
 ///
-/// Who times out or sleeps for good isn't woken by a notify; those who are woken at an address fell asleep there the
-/// earliest.
+/// Who times out or sleeps for good isn't woken by a notify, nor is who waits for no time; those who are woken at an
+/// address fell asleep there the earliest.
 pub fn all_wakes(
     alloc: Global,
     log: &[Entry],
@@ -79,8 +79,16 @@ pub fn all_wakes(
     for (at, entry) in log.iter().enumerate() {
         let context = contexts.get(at);
         match entry.event {
-            Event::Ask(Question::Wait { addr, expected, .. }) => {
-                if entry.reply == Reply::Value(expected) && is_woken(context) {
+            Event::Ask(
+                Question::Wait {
+                    addr,
+                    expected,
+                    timeout,
+                    ..
+                },
+            ) => {
+                let sleeps = entry.reply == Reply::Value(expected) && timeout != 0;
+                if sleeps && is_woken(context) {
                     all.sleepers.push(Sleeper {
                         addr,
                         wait: at,
