@@ -1,8 +1,6 @@
-use Rattle.std.proofs.Common.{◌≡◌, ◌∷◌, [], true, Some, ap, subst}
-use Rattle.std.specs.Option.{option_map_or}
-use Rattle.shared_memory.specs.declared.sleeper.Sleeper.{Sleeper}
-use Rattle.shared_memory.specs.WaitQueue.{first_to_end, is_among}
-use Rattle.shared_memory.proofs.Woken.{first_is_among, ended_sleeps}
+use Rattle.std.proofs.Common.{◌≡◌, Some}
+use Rattle.shared_memory.specs.WaitQueue.{first_to_end}
+use Rattle.shared_memory.proofs.Woken.{ended_sleeps}
 use Rattle.waiters.proofs.queue.Queue.settle.Goals as goal
 
 pub wake-requires : goal.wake-requires

@@ -1,5 +1,4 @@
-use Rattle.std.proofs.Common.{◌<◌, arith}
-use Rattle.shared_memory.specs.WaitQueue.{next_id}
+use Rattle.std.proofs.Common.{arith}
 use Rattle.shared_memory.proofs.Soundness.{IsSound-starts}
 use Rattle.shared_memory.proofs.Few.{few_alive}
 use Rattle.waiters.proofs.queue.Queue.spawn.Goals as goal
