@@ -1,3 +1,4 @@
+pub mod Kept
 pub mod Places
 pub mod Shown
 pub mod Starts
