@@ -40,6 +40,31 @@ fn copied<T: Copy>(alloc: Global, items: &[T]) -> Result<Vec<T>, AllocError>
     Ok(all)
 }
 
+impl Kept {
+    ghost use Rattle.interp_state.specs.declared.state.State.{State};
+    ghost use Rattle.interp.specs.Kept.{IsOf};
+
+    /// A copy.
+    ///
+    /// # Errors
+    /// Where memory is refused.
+    pub fn copy(&self, alloc: Global) -> Result<Kept, AllocError>
+        ensures { IfOk result (λ kept. (s : State) → IsOf self.now s → IsOf kept s) }
+    {
+        Ok(Kept {
+            function: self.function,
+            pc: self.pc,
+            base: self.base,
+            operands: self.operands,
+            results: self.results,
+            values: copied(alloc, self.values.as_slice())?,
+            globals: copied(alloc, self.globals.as_slice())?,
+            callers: copied(alloc, self.callers.as_slice())?,
+            progress: self.progress,
+        })
+    }
+}
+
 impl<'m> Thread<'m> {
     ghost use Rattle.std.specs.Prelude.{ℕ, IfOk};
     ghost use Rattle.validate_typing.specs.Tabled.{WithTables};
