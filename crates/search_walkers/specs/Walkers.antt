@@ -1,17 +1,15 @@
 -- Which thread without a budget a walker stands for, and where it comes to rest.
-use Rattle.std.specs.Prelude.{ℕ, ◌≡◌, ◌∷◌, [], Option, Some, None, List}
-use Rattle.types.specs.declared.value.Value.{Value}
-use Rattle.types.specs.declared.value.Value.TheVariants as values
-use Rattle.types.specs.declared.event.Event.{Event}
-use Rattle.types.specs.declared.event.Reply.{Reply}
-use Rattle.types.specs.declared.event.Answer.{Answer}
+use Rattle.std.specs.Prelude.{ℕ, ◌≡◌}
 use Rattle.validate_typing.specs.Tabled.{WithTables}
-use Rattle.schedule.specs.System.{Want.Calls, Want.Awaits}
-use Rattle.schedule.specs.Scheduled.{hears_any}
 use Rattle.schedule.specs.Machine.{Thread.Runs}
 use Rattle.interp_machine.specs.Config.{Config}
 use Rattle.interp_machine.specs.Program.{program_of}
-use Rattle.interp_machine.specs.State.{State, At, Over}
+use Rattle.interp_machine.specs.State.{At, Over}
+use Rattle.interp_trait.specs.declared.turn.Given.{Given}
+use Rattle.interp_trait.specs.declared.turn.Given.TheVariants as given
+use Rattle.interp_trait.specs.Turns.{IsGiven}
+use Rattle.schedule_machine.specs.Threads.{IsMade}
+use Rattle.interp.specs.declared.kept.Kept.{Kept}
 use Rattle.interp.specs.Kept.{IsKept}
 use Rattle.search_threads.specs.Unlimited.{Unlimited.Missing as NoThread, Unlimited.Going as Goes, Unlimited.Leaving as Leaves, Unlimited.Away as Left}
 use Rattle.search_settled.specs.Settled.{Settles}
@@ -37,19 +35,19 @@ pub record RestsAt (w : WithTables) (b : Called) (v : Thread) (s : Standing) : T
   pub settles : Settles (system_of b) v rested
   pub stands : StandsFor w s rested
 
--- A thread after the reply to its event, if it made one, and after an answer, if it was given one.
-abbrev pub after_reply : Called → Thread → Option Reply → Thread
-after_reply b v None = v
-after_reply b v (Some reply) = (system_of b).takes v reply
+-- What a thread without a budget makes of what it is given: the reply to an event that was made, or an answer.
+abbrev pub given_to : Called → Thread → Given → Thread
+given_to b v given.Nothing = v
+given_to b v (given.Reply reply) = (system_of b).takes v reply
+given_to b v (given.Told answer) = (system_of b).hears v answer
 
-abbrev pub moved : Called → Thread → Option Reply → Option Answer → Thread
-moved b v reply answer = hears_any (system_of b) (after_reply b v reply) answer
+abbrev pub IsSomething : Given → Type 0
+IsSomething given.Nothing = ⊥
+IsSomething (given.Reply reply) = IsMade reply
+IsSomething (given.Told answer) = Unit {0}
 
--- A reply is given to who wants an event, and an answer to who awaits it.
-abbrev pub MayTake : Called → Thread → Option Reply → Type 0
-MayTake b v None = Unit {0}
-MayTake b v (Some reply) = (e : Event) × ((system_of b).wants v ≡ Calls e)
-
-abbrev pub MayHear : Called → Thread → Option Answer → Type 0
-MayHear b v None = Unit {0}
-MayHear b v (Some answer) = (system_of b).wants v ≡ Awaits
+-- It is given to a thread that wants an event, or awaits an answer.
+pub record MayBeGiven (w : WithTables) (k : Kept) (fuel : ℕ) (g : Given) (c : Config) : Type 0 where
+  pub kept : IsKept w k c
+  pub given : IsGiven (program_of w.parts) (Runs (At c) fuel) g
+  pub something : IsSomething g

@@ -4,7 +4,10 @@
 #![tactic(auto)]
 
 mod rest;
+mod taking;
 mod walker;
 mod wants;
 
+pub use taking::{hear, take};
 pub use walker::Standing;
+pub use wants::wanted;
