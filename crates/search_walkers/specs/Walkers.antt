@@ -11,7 +11,8 @@ use Rattle.interp_trait.specs.Turns.{IsGiven}
 use Rattle.schedule_machine.specs.Threads.{IsMade}
 use Rattle.interp.specs.declared.kept.Kept.{Kept}
 use Rattle.interp.specs.Kept.{IsKept}
-use Rattle.search_threads.specs.Unlimited.{Unlimited.Missing as NoThread, Unlimited.Going as Goes, Unlimited.Leaving as Leaves, Unlimited.Away as Left}
+use Rattle.search_threads.specs.Unlimited.{Unlimited.Missing as NoThread, Unlimited.Going as Goes}
+use Rattle.search_threads.specs.Unlimited.{Unlimited.Leaving as Leaves, Unlimited.Away as Left}
 use Rattle.search_settled.specs.Settled.{Settles}
 use Rattle.search_runs.specs.Called.{Called, Walker as Thread, system_of}
 use Rattle.search_walkers.specs.declared.walker.Standing.{Standing}
