@@ -71,3 +71,127 @@ limit 100\n\
 end 0 ok i32:6 9\n\
 pages 1\n\
 finish\n";
+
+/// Names of the functions of a module with three, and nothing else; the last one ends in a control character.
+pub const NAMES: &[u8] = b"\
+\x00\x61\x73\x6d\x01\x00\x00\x00\x00\x1d\x04name\x01\x16\x03\x00\x05spawn\x01\x04tell\x02\x06sleep\x1b";
+
+/// A run of a module whose thread 0 spawns thread 1, which falls asleep at 8, and wakes it.
+pub const TOLD: &[u8] = b"wathread-record 1\n\
+invoke 66\n\
+args i32:4294967295\n\
+fuel 1000\n\
+limit 100\n\
+0 spawn 4294967295 = done\n\
+0 told 1 = done\n\
+1 wait 8 4 0 -1 = 0\n\
+0 notify 8 1 = done\n\
+0 told 1 = done\n\
+1 told 0 = done\n\
+0 leave = done\n\
+1 leave = done\n\
+1 told 0 = done\n\
+0 told 0 = done\n\
+end 0 ok i32:1 7\n\
+end 1 ok - 7\n\
+pages 1\n\
+finish\n";
+
+/// The same run in the other version.
+pub const TOLD_2: &[u8] = b"wathread-record 2\n\
+module 116\n\
+threads 2\n\
+max-pages 1\n\
+invoke 66\n\
+args i32:4294967295\n\
+fuel 1000\n\
+limit 100\n\
+0 spawn 4294967295 = done\n\
+0 told 1 = done\n\
+1 wait 8 4 0 -1 = 0\n\
+0 notify 8 1 = done\n\
+0 told 1 = done\n\
+1 told 0 = done\n\
+0 leave = done\n\
+1 leave = done\n\
+1 told 0 = done\n\
+0 told 0 = done\n\
+end 0 ok i32:1 7\n\
+end 1 ok - 7\n\
+pages 1\n\
+finish\n";
+
+/// A run of the same module: thread 1 waits for no time.
+pub const LATE: &[u8] = b"wathread-record 1\n\
+invoke 66\n\
+args i32:0\n\
+fuel 1000\n\
+limit 100\n\
+0 spawn 0 = done\n\
+0 told 1 = done\n\
+1 wait 8 4 0 0 = 0\n\
+0 notify 8 1 = done\n\
+0 told 0 = done\n\
+1 told 2 = done\n\
+1 leave = done\n\
+1 told 0 = done\n\
+0 leave = done\n\
+0 told 0 = done\n\
+end 0 ok i32:0 7\n\
+end 1 ok - 7\n\
+pages 1\n\
+finish\n";
+
+/// Entries of each kind, of no run.
+pub const KINDS: &[u8] = b"wathread-record 1\n\
+invoke 66\n\
+args\n\
+fuel 1000\n\
+limit 100\n\
+0 store 1024 4 1028 9 = done\n\
+0 store 1024 4 1028 9 = done\n\
+0 store 1024 4 1028 9 = done\n\
+0 size = 1\n\
+0 grow 2 = 1\n\
+0 grow 9 = 4294967295\n\
+0 load 0 1 1 = 255\n\
+0 load 8 8 16 = 5\n\
+0 load 65536 4 65540 = out\n\
+0 store 0 2 2 7 = done\n\
+0 store 65536 4 65540 7 = out\n\
+0 rmw add 0 4 1 = 5\n\
+0 rmw sub 0 8 1 = 5\n\
+0 rmw and 0 1 1 = 5\n\
+0 rmw or 0 2 1 = 5\n\
+0 rmw xor 0 4 1 = 5\n\
+0 rmw xchg 65536 4 1 = out\n\
+0 cmpxchg 0 4 5 6 = 5\n\
+0 cmpxchg 0 8 5 6 = 4\n\
+0 cmpxchg 65536 4 5 6 = out\n\
+0 wait 0 4 5 -1 = 4\n\
+0 told 1 = done\n\
+0 wait 65536 4 5 -1 = out\n\
+0 wait 0 8 5 10 = 5\n\
+0 told 2 = done\n\
+0 wait 4 4 5 -1 = 5\n\
+2 wait 4 4 5 0 = 5\n\
+3 wait 4 4 5 -1 = 5\n\
+1 notify 4 4294967295 = done\n\
+1 told 2 = done\n\
+0 told 0 = done\n\
+0 notify 65536 1 = out\n\
+1 spawn 7 = done\n\
+1 told 4294967295 = done\n\
+1 spawn 8 = done\n\
+1 told 4 = done\n\
+1 wait 8 4 0 -1 = 0\n\
+1 told stop = done\n\
+1 leave = done\n\
+1 told 0 = done\n\
+1 told 7 = done\n\
+3 spawn 1 = done\n\
+9 leave = done\n\
+end 0 ok i32:5 9\n\
+end 1 stop 2 4\n\
+pages 1\n\
+finish\n";

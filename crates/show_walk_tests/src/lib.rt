@@ -3,4 +3,6 @@
 
 mod data;
 #[cfg(test)]
+mod listings;
+#[cfg(test)]
 mod walks;

@@ -1,0 +1,256 @@
+//! Rows as they are printed.
+
+use crate::data::{KINDS, LATE, NAMES, RECORD, SMALL, TOLD, TOLD_2};
+use binary::read;
+use interp::Place;
+use replay::replay_watched;
+use replay_text::{Record, read_record};
+use show_rows::{CodeMap, Shown, write_rows};
+use show_text::{Choice, Color, Look, Span};
+use show_walk::{Row, Rows};
+use std::alloc::Global;
+use std::test::Fail;
+use test_modules::TELLING;
+use validate::{ValidModule, validate};
+
+/// A record of a run of a module, with the names of a file, what is chosen of it, and what is printed.
+struct Listing {
+    module: &'static [u8],
+    names: &'static [u8],
+    record: &'static [u8],
+    lines: Option<Span>,
+    threads: &'static [u32],
+    addrs: Option<Span>,
+    width: usize,
+    color: Color,
+    text: &'static str,
+}
+
+const TOLD_WHOLE: Listing = Listing {
+    module: TELLING,
+    names: NAMES,
+    record: TOLD,
+    lines: None,
+    threads: &[],
+    addrs: None,
+    width: 120,
+    color: Color::Never,
+    text: "",
+};
+
+static LISTINGS: [Listing; 5] = [
+    Listing {
+        text: "\
+            \x20     6  t0 spawns t1 (arg 4294967295)                                          tell+0x3\n\
+            \x20     7  t0 spawned t1                                                          tell+0x3\n\
+            \x20     8                              t1 sleeps on 8 while 0                     sleep?+0x8\n\
+            \x20     9  t0 notify 8, at most 1: wakes t1                                       tell+0xa\n\
+            \x20    10  t0 woke 1                                                              tell+0xa\n\
+            \x20    11                              t1 woken                                   sleep?+0x8\n\
+            \x20    12  t0 ends: ok i32:1                                                      tell+0xe\n\
+            \x20    13                              t1 ends: ok                                sleep?+0xd\n\
+            \x20    14                              t1 gone                                    sleep?+0xd\n\
+            \x20    15  t0 gone                                                                tell+0xe\n",
+        ..TOLD_WHOLE
+    },
+    // of the other version
+    Listing {
+        record: TOLD_2,
+        text: "\
+            \x20     9  t0 spawns t1 (arg 4294967295)                                          tell+0x3\n\
+            \x20    10  t0 spawned t1                                                          tell+0x3\n\
+            \x20    11                              t1 sleeps on 8 while 0                     sleep?+0x8\n\
+            \x20    12  t0 notify 8, at most 1: wakes t1                                       tell+0xa\n\
+            \x20    13  t0 woke 1                                                              tell+0xa\n\
+            \x20    14                              t1 woken                                   sleep?+0x8\n\
+            \x20    15  t0 ends: ok i32:1                                                      tell+0xe\n\
+            \x20    16                              t1 ends: ok                                sleep?+0xd\n\
+            \x20    17                              t1 gone                                    sleep?+0xd\n\
+            \x20    18  t0 gone                                                                tell+0xe\n",
+        ..TOLD_WHOLE
+    },
+    // of one thread, with its exports as names
+    Listing {
+        names: TELLING,
+        record: LATE,
+        threads: &[1],
+        width: 60,
+        text: "\
+            \x20     8  t1 wait 8 while 0: no time to sleep  wasi_thread_start+0x8\n\
+            \x20    11  t1 times out                   wasi_thread_start+0x8\n\
+            \x20    12  t1 ends: ok                    wasi_thread_start+0xd\n\
+            \x20    13  t1 gone                        wasi_thread_start+0xd\n",
+        ..TOLD_WHOLE
+    },
+    // of some addresses and some lines, in colors
+    Listing {
+        lines: Some(Span { first: 8, last: 11 }),
+        addrs: Some(Span { first: 0, last: 8 }),
+        width: 90,
+        color: Color::Always,
+        text: "\
+            \x20     8                   \x1b[32mt1 sleeps on 8 while 0\x1b[0m            \x1b[2msleep?+0x8\x1b[0m\n\
+            \x20     9  \x1b[31mt0 notify 8, at most 1: wakes t1\x1b[0m                   \x1b[2mtell+0xa\x1b[0m\n",
+        ..TOLD_WHOLE
+    },
+    // with lines of source
+    Listing {
+        module: SMALL,
+        names: SMALL,
+        record: RECORD,
+        width: 60,
+        text: "\
+            \x20     6  t0 add 1024 +5 = 0             add+0x5 small.c:5\n\
+            \x20     7  t0 atomic load32 1024 = 5      run+0x9 small.c:10\n\
+            \x20     8  t0 ends: ok i32:5              run+0xe small.c:10\n\
+            \x20     9  t0 gone                        run+0xe small.c:10\n",
+        ..TOLD_WHOLE
+    },
+];
+
+/// Each kind of entry, with these rows before some.
+static KIND_ROWS: [Option<Row>; 3] = [
+    Some(Row {
+        place: Place {
+            function: 0,
+            instr: 2,
+        },
+        before: Some(3),
+    }),
+    Some(Row {
+        place: Place {
+            function: 0,
+            instr: 1,
+        },
+        before: Some(3),
+    }),
+    Some(Row {
+        place: Place {
+            function: 7,
+            instr: 0,
+        },
+        before: Some(9),
+    }),
+];
+
+static KINDS_PRINTED: [Listing; 1] = [Listing {
+    module: SMALL,
+    names: SMALL,
+    record: KINDS,
+    text: "\
+            \x20     6  t0 atomic store32 1024 <- 9 (had 3)                                    run+0x9 small.c:10\n\
+            \x20     7  t0 store32 1024 <- 9 (had 3)                                           run+0x7 small.c:10\n\
+            \x20     8  t0 store32 1024 <- 9                                                   func 7\n\
+            \x20     9  t0 size = 1\n\
+            \x20    10  t0 grow +2 = 1\n\
+            \x20    11  t0 grow +9 = refused\n\
+            \x20    12  t0 load8 0 = 255\n\
+            \x20    13  t0 load64 8 = 5\n\
+            \x20    14  t0 load32 65536 = out of bounds\n\
+            \x20    15  t0 store16 0 <- 7\n\
+            \x20    16  t0 store32 65536 <- 7: out of bounds\n\
+            \x20    17  t0 add 0 +1 = 5\n\
+            \x20    18  t0 sub64 0 -1 = 5\n\
+            \x20    19  t0 and8 0 & 1 = 5\n\
+            \x20    20  t0 or16 0 | 1 = 5\n\
+            \x20    21  t0 xor 0 ^ 1 = 5\n\
+            \x20    22  t0 xchg 65536 <- 1 = out of bounds\n\
+            \x20    23  t0 cmpxchg 0 5 -> 6\n\
+            \x20    24  t0 cmpxchg64 0 5 -> 6: has 4\n\
+            \x20    25  t0 cmpxchg 65536 5 -> 6: out of bounds\n\
+            \x20    26  t0 wait 0 while 5: has 4\n\
+            \x20    27  t0 goes on: another value\n\
+            \x20    28  t0 wait 65536 while 5: out of bounds\n\
+            \x20    29  t0 sleeps on 0 while 5, at most 10 ns\n\
+            \x20    30  t0 times out\n\
+            \x20    31  t0 sleeps on 4 while 5\n\
+            \x20    32                    t2 wait 4 while 5: no time to sleep\n\
+            \x20    33                             t3 sleeps on 4 while 5\n\
+            \x20    34           t1 notify 4: wakes t0 t3\n\
+            \x20    35           t1 woke 2\n\
+            \x20    36  t0 woken\n\
+            \x20    37  t0 notify 65536, at most 1: out of bounds\n\
+            \x20    38           t1 spawns nobody: all threads are taken (arg 7)\n\
+            \x20    39           t1 spawned nobody\n\
+            \x20    40           t1 spawns t4 (arg 8)\n\
+            \x20    41           t1 spawned t4\n\
+            \x20    42           t1 sleeps on 8 while 0\n\
+            \x20    43           t1 asleep for good\n\
+            \x20    44           t1 ends: stop asleep for good\n\
+            \x20    45           t1 gone\n\
+            \x20    46           t1 told 7\n\
+            \x20    47                             t3 spawns (arg 1)\n\
+            \x20    48                                      t9 ends\n",
+    ..TOLD_WHOLE
+}];
+
+fn module_of(alloc: Global, bytes: &[u8]) -> Result<ValidModule, Fail> {
+    match validate(alloc, read(alloc, bytes)?) {
+        Ok(valid) => Ok(valid),
+        Err(_) => Err("not valid".into()),
+    }
+}
+
+/// What is printed of a record with these rows.
+fn printed(
+    alloc: Global,
+    listing: &Listing,
+    valid: &ValidModule,
+    record: &Record,
+    rows: &[Option<Row>],
+) -> Result<Vec<u8>, Fail> {
+    let code = CodeMap::read(alloc, valid.parts(), listing.module, listing.names)?;
+    let record = record.parts();
+    let shown = Shown {
+        record,
+        rows,
+        code: &code,
+    };
+    let choice = Choice {
+        lines: listing.lines,
+        threads: listing.threads.to_vec(alloc)?,
+        addrs: listing.addrs,
+    };
+    let look = Look {
+        choice,
+        width: listing.width,
+        color: listing.color,
+    };
+    let mut out = Vec::new(alloc);
+    write_rows(alloc, shown, &look, &mut out)?;
+    Ok(out)
+}
+
+/// What is printed of a record of a run.
+fn replayed(alloc: Global, listing: &Listing) -> Result<Vec<u8>, Fail> {
+    let valid = module_of(alloc, listing.module)?;
+    let record = read_record(alloc, listing.record)?;
+    let mut rows = Rows::new(alloc, record.parts().log.as_slice())?;
+    replay_watched(alloc, &valid, &record, &mut rows)?;
+    printed(alloc, listing, &valid, &record, rows.rows.as_slice())
+}
+
+/// What is printed of a record with rows by hand.
+fn by_hand(alloc: Global, listing: &Listing) -> Result<Vec<u8>, Fail> {
+    let valid = module_of(alloc, listing.module)?;
+    let record = read_record(alloc, listing.record)?;
+    printed(alloc, listing, &valid, &record, &KIND_ROWS)
+}
+
+#[test]
+fn rows_of_runs_are_printed(rt: HostRuntime) -> Result<(), Fail> {
+    for listing in LISTINGS.iter() {
+        let text = replayed(rt.alloc(), listing)?;
+        assert_eq!(rt; str::from_utf8(&text), Ok(listing.text));
+    }
+    Ok(())
+}
+
+#[test]
+fn each_kind_of_entry_has_its_words(rt: HostRuntime) -> Result<(), Fail> {
+    for listing in KINDS_PRINTED.iter() {
+        let text = by_hand(rt.alloc(), listing)?;
+        assert_eq!(rt; str::from_utf8(&text), Ok(listing.text));
+    }
+    Ok(())
+}
