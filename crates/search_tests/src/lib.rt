@@ -1,0 +1,14 @@
+//! Runs along strategies. Run number I of a seed is one run, whose record is accepted by the replay, with the same end. Of a lost
+//! update all endings are met, and nobody waits in a loop for good.
+#![tactic(auto)]
+
+#[cfg(test)]
+mod endings;
+#[cfg(test)]
+mod limits;
+#[cfg(test)]
+mod modules;
+#[cfg(test)]
+mod repeats;
+#[cfg(test)]
+mod runs;
