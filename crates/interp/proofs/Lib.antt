@@ -1,6 +1,8 @@
 pub mod Defined
 pub mod Turned
 pub mod Going
+pub mod Resumed
+pub mod Tables
 pub mod Here
 pub mod Begun
 pub mod Starting

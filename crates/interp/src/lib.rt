@@ -3,9 +3,11 @@
 
 mod dispatch;
 mod entry;
+mod kept;
 mod opening;
 mod place;
 mod thread;
 
+pub use kept::Kept;
 pub use place::Place;
 pub use thread::Thread;

@@ -98,7 +98,7 @@ pub(crate) fn program<'m>(alloc: Global, valid: &'m ValidModule) -> Result<Progr
 }
 
 /// Puts values on top.
-fn push_all(values: &mut Vec<Value>, more: &[Value])
+pub(crate) fn push_all<T: Copy>(values: &mut Vec<T>, more: &[T])
     requires { vec_len values.old + length more.now ≤ vec_capacity values.old }
     ensures items { values.new.items ≡ values.old.items ++ more.now }
     ensures capacity { vec_capacity values.new ≡ vec_capacity values.old }

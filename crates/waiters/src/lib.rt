@@ -1,7 +1,9 @@
 //! Who waits for whom: the wait queue of the threads that share one memory.
 #![tactic(auto)]
 
+mod kept;
 mod queue;
 mod waking;
 
+pub use kept::KeptQueue;
 pub use queue::Queue;

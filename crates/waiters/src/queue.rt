@@ -24,10 +24,10 @@ const NO_THREAD: u32 = 4_294_967_295;
 /// settling are the profile's own.
 #[derive(Drop)]
 pub struct Queue {
-    alive: ArrayVec<u32, MOST_THREADS>,
-    sleepers: ArrayVec<Sleeper, MOST_THREADS>,
-    due: ArrayVec<Option<Answer>, MOST_THREADS>,
-    args: ArrayVec<u32, MOST_SPAWNED>,
+    pub(crate) alive: ArrayVec<u32, MOST_THREADS>,
+    pub(crate) sleepers: ArrayVec<Sleeper, MOST_THREADS>,
+    pub(crate) due: ArrayVec<Option<Answer>, MOST_THREADS>,
+    pub(crate) args: ArrayVec<u32, MOST_SPAWNED>,
 }
 
 impl Model for Queue {
@@ -279,7 +279,7 @@ impl Queue {
 }
 
 /// So many threads, to none of which an answer is due.
-fn no_answers(threads: u32) -> ArrayVec<Option<Answer>, MOST_THREADS>
+pub(crate) fn no_answers(threads: u32) -> ArrayVec<Option<Answer>, MOST_THREADS>
     requires { threads ≤ most_threads }
     ensures { result.items ≡ replicate threads None }
 {

@@ -1,0 +1,141 @@
+//! A thread between two turns, in few bytes, and the thread that goes on from there.
+
+ghost use Rattle.std.specs.Prelude.{◌≡◌, IfOk};
+
+use crate::opening::{program, push_all};
+use crate::thread::Thread;
+use interp_state::{Caller, Progress, State, code_of};
+use std::alloc::{AllocError, Global};
+use types::{MOST_FRAMES, MOST_VALUES, Value};
+use validate::ValidModule;
+
+/// What of a thread that runs two of one module may differ in, their units aside. Equal ones stand for the same
+/// configurations.
+#[derive(PartialEq, Eq, Debug, Drop)]
+pub struct Kept {
+    /// The number of the function that runs, from 0; the imported ones aren't counted.
+    pub function: usize,
+    /// The number of the instruction that comes next.
+    pub pc: usize,
+    /// Where the locals of the function start among the values.
+    pub base: usize,
+    /// Where its operands start.
+    pub operands: usize,
+    /// How many results it has.
+    pub results: usize,
+    /// The locals and the operands of each open function, the outermost first.
+    pub values: Vec<Value>,
+    pub globals: Vec<Value>,
+    /// The calling functions, the outermost first.
+    pub callers: Vec<Caller>,
+    pub progress: Progress,
+}
+
+/// A copy.
+fn copied<T: Copy>(alloc: Global, items: &[T]) -> Result<Vec<T>, AllocError>
+    ensures { IfOk result (λ v. v.items ≡ items.now) }
+{
+    let mut all = Vec::with_capacity(alloc, items.len())?;
+    all.extend_from_slice(items)?;
+    Ok(all)
+}
+
+impl Kept {
+    ghost use Rattle.interp_state.specs.declared.state.State.{State};
+    ghost use Rattle.interp.specs.Kept.{IsOf};
+
+    /// A copy.
+    ///
+    /// # Errors
+    /// Where memory is refused.
+    pub fn copy(&self, alloc: Global) -> Result<Kept, AllocError>
+        ensures { IfOk result (λ kept. (s : State) → IsOf self.now s → IsOf kept s) }
+    {
+        Ok(Kept {
+            function: self.function,
+            pc: self.pc,
+            base: self.base,
+            operands: self.operands,
+            results: self.results,
+            values: copied(alloc, self.values.as_slice())?,
+            globals: copied(alloc, self.globals.as_slice())?,
+            callers: copied(alloc, self.callers.as_slice())?,
+            progress: self.progress,
+        })
+    }
+}
+
+impl<'m> Thread<'m> {
+    ghost use Rattle.std.specs.Prelude.{ℕ, IfOk};
+    ghost use Rattle.validate_typing.specs.Tabled.{WithTables};
+    ghost use Rattle.schedule.specs.Machine.{Thread.Runs};
+    ghost use Rattle.interp_machine.specs.Config.{Config};
+    ghost use Rattle.interp_machine.specs.State.{At};
+    ghost use Rattle.interp.specs.Threads.{StandsFor};
+    ghost use Rattle.interp.specs.Kept.{IsKept, IsResumed, RunsBy};
+
+    /// What of the thread is more than its module and its units.
+    ///
+    /// # Errors
+    /// Where memory is refused.
+    pub fn keep(&self, alloc: Global) -> Result<Kept, AllocError>
+        ensures { IfOk result (λ kept. (w : WithTables) (c : Config) (left : ℕ) → RunsBy w self.now
+            → StandsFor self.now (Runs (At c) left) → IsKept w kept c) }
+    {
+        let state = &self.state;
+        Ok(Kept {
+            function: state.function,
+            pc: state.pc,
+            base: state.base,
+            operands: state.operands,
+            results: state.results,
+            values: copied(alloc, state.values.as_slice())?,
+            globals: copied(alloc, state.globals.as_slice())?,
+            callers: copied(alloc, state.callers.as_slice())?,
+            progress: state.progress,
+        })
+    }
+
+    /// The thread that goes on from there, with a fresh budget.
+    ///
+    /// # Errors
+    /// Where memory is refused.
+    pub fn resume(
+        alloc: Global,
+        valid: &'m ValidModule,
+        kept: &Kept,
+        fuel: u64,
+    ) -> Result<Thread<'m>, AllocError>
+        requires { (c : Config) × IsKept valid.now kept.now c }
+        ensures { IfOk result (IsResumed valid.now kept.now fuel) }
+    {
+        let program = program(alloc, valid)?;
+        let code = code_of(&program, kept.function);
+        let mut values = Vec::with_capacity(alloc, MOST_VALUES)?;
+        push_all(&mut values, kept.values.as_slice());
+        let mut callers = Vec::with_capacity(alloc, MOST_FRAMES)?;
+        push_all(&mut callers, kept.callers.as_slice());
+        let state = State {
+            program,
+            function: kept.function,
+            code: code.code,
+            table: code.table,
+            flats: code.flats,
+            pc: kept.pc,
+            base: kept.base,
+            operands: kept.operands,
+            results: kept.results,
+            values,
+            globals: copied(alloc, kept.globals.as_slice())?,
+            callers,
+            progress: kept.progress,
+        };
+        Ok(Thread {
+            parts: valid.parts(),
+            state,
+            left: fuel,
+            fuel,
+            ended: None,
+        })
+    }
+}

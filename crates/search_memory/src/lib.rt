@@ -1,0 +1,11 @@
+//! The memory of a state of a search: the bytes that differ from the opening memory's.
+//!
+//! Most states of a search differ from the opening memory in a few bytes. `Changes` has these alone, so states take little room and
+//! are compared quickly; an event is made on the memory that they stand for.
+#![tactic(auto)]
+
+mod beside;
+mod stepping;
+
+pub use beside::{Change, Changes, changes_in};
+pub use stepping::{memory, step};

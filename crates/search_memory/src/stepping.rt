@@ -1,0 +1,68 @@
+//! An event on a memory that is given by its changes.
+
+ghost use Rattle.std.specs.Prelude.{◌≡◌, fold, IfOk};
+ghost use Rattle.shared_memory.specs.Events.{IsEvent};
+ghost use Rattle.shared_memory.specs.Memory.{reply_of, state_after};
+ghost use Rattle.shared_memory_sequential.specs.Opening.{IsSized};
+ghost use Rattle.search_memory.specs.Memories.{memory_of, with_change};
+
+use crate::beside::{Change, Changes, changes_in, padded};
+use shared_memory_sequential::{OneMemory, OpenFault};
+use std::alloc::{AllocError, Global};
+use types::{Event, Reply};
+
+/// Makes a change.
+fn change(bytes: &mut [u8], change: Change)
+    ensures { bytes.new ≡ with_change bytes.old change }
+{
+    if change.at < bytes.len() {
+        bytes[change.at] = change.byte;
+    }
+}
+
+/// Makes the changes.
+fn change_all(bytes: &mut [u8], changes: &[Change])
+    ensures { bytes.new ≡ fold with_change bytes.old changes.now }
+{
+    for one in changes {
+        change(bytes, *one);
+    }
+}
+
+/// The memory with these changes.
+///
+/// # Errors
+/// Where memory is refused.
+pub fn memory(alloc: Global, opening: &[u8], changed: &Changes) -> Result<OneMemory, AllocError>
+    requires { IsSized (memory_of opening.now changed.now) }
+    ensures { IfOk result (λ m. m ≡ memory_of opening.now changed.now) }
+{
+    let mut bytes = padded(alloc, opening, changed.len)?;
+    change_all(&mut bytes, changed.changes.as_slice());
+    match OneMemory::open(alloc, bytes.as_slice(), changed.max) {
+        Ok(memory) => Ok(memory),
+        Err(OpenFault::NoMemory) => Err(AllocError),
+        Err(OpenFault::PastLimit) => unreachable!(),
+    }
+}
+
+/// Makes an event on the memory with these changes: the changes after it, and the reply.
+///
+/// # Errors
+/// Where memory is refused.
+pub fn step(
+    alloc: Global,
+    opening: &[u8],
+    changed: &Changes,
+    event: &Event,
+) -> Result<(Changes, Reply), AllocError>
+    requires sized { IsSized (memory_of opening.now changed.now) }
+    requires event { IsEvent event.now }
+    ensures after { IfOk result (λ r. memory_of opening.now r.0 ≡ state_after (memory_of opening.now changed.now) event.now) }
+    ensures sized { IfOk result (λ r. IsSized (memory_of opening.now r.0)) }
+    ensures reply { IfOk result (λ r. r.1 ≡ reply_of (memory_of opening.now changed.now) event.now) }
+{
+    let mut memory = memory(alloc, opening, changed)?;
+    let reply = memory.step(event);
+    Ok((changes_in(alloc, opening, &memory)?, reply))
+}

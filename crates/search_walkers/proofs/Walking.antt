@@ -1,0 +1,148 @@
+-- Turns of a thread with units left are turns of the thread without a budget.
+use Rattle.std.proofs.Common.{◌≡◌, ℕ, zero, suc, ◌<◌, ◌-◌, Some, None, Option, refl, sym, ◌∙◌, ap, subst, arith}
+use Rattle.types.specs.declared.event.Event.{Event}
+use Rattle.types.specs.declared.outcome.Outcome.{Outcome}
+use Rattle.schedule.specs.System.{Want, Want.Turns, Want.Calls, Want.Awaits, Want.Gone}
+use Rattle.schedule.specs.Machine.{Wish, Wish.Goes, Wish.Asks, Wish.Waits, Wish.Ends, wanted, thread_goes}
+use Rattle.schedule.specs.Machine.{Thread.Absent, Thread.Runs, Thread.Over, Thread.Leaves, Thread.Left}
+use Rattle.schedule_threads.specs.Threads.{machine_of, wishes}
+use Rattle.interp_machine.specs.Config.{Config}
+use Rattle.interp_machine.specs.Program.{Program}
+use Rattle.interp_machine.specs.State as states
+use Rattle.interp_machine.specs.State.{State, At}
+use Rattle.interp_trait.specs.declared.turn.Turn.{Turn}
+use Rattle.interp_trait.specs.declared.turn.Turn.TheVariants as turns
+use Rattle.interp_trait.specs.declared.turn.Given.TheVariants as given
+use Rattle.interp_trait.specs.Turns.{Running, wants_of, left_of, outcome_in, outcome_of, after_own, SaysWhy, IsPaused}
+use Rattle.interp_trait.specs.Turns.{answer_by, answer_of, own_turn_if, wanted_before}
+use Rattle.schedule_machine.specs.Threads.{called}
+use Rattle.search_threads.specs.Unlimited.{Unlimited.Going, want_by}
+use Rattle.search_settled.specs.Settled.{ComesTo, Settles}
+use Rattle.search_runs.specs.Called.{Called, Walker, system_of}
+
+wish_same : (p : Program) (r : ℕ) (w : Wish Event Outcome) → wanted (machine_of p) (suc r) w ≡ want_by (machine_of p) w
+wish_same p r Waits = refl
+wish_same p r (Ends o) = refl
+wish_same p r Goes = refl
+wish_same p r (Asks e) = refl
+
+-- with units left it wants what the one without a budget does
+pub same_wants : (b : Called) (x : State) (r : ℕ) → wants_of b.program (Runs x (suc r)) ≡ (system_of b).wants (Going x)
+same_wants b x r = wish_same b.program r (wishes b.program x)
+
+-- one more turn behind others
+pub one_more : (b : Called) (n : ℕ) (v u : Walker) → ComesTo (system_of b) n v u → (system_of b).wants u ≡ Turns
+    → ComesTo (system_of b) (suc n) v ((system_of b).own_turn u)
+one_more b zero v u comes wants = (ap (λ z. (system_of b).wants z) comes ∙ wants, ap (λ z. (system_of b).own_turn z) comes)
+one_more b (suc n) v u comes wants = (comes.0, one_more b n ((system_of b).own_turn v) u comes.1 wants)
+
+-- where it has come to with units left
+pub record Walked (b : Called) (n : ℕ) (x : State) (z : Running) (r : ℕ) : Type 0 where
+  pub state : State
+  pub is : z ≡ Runs state (suc r)
+  pub comes : ComesTo (system_of b) n (Going x) (Going state)
+
+step : (b : Called) (n : ℕ) (x : State) (z : Running) (r : ℕ) → wants_of b.program z ≡ Turns → left_of (thread_goes (machine_of b.program) z) ≡ suc r
+    → ((k : ℕ) → left_of z ≡ suc k → Walked b n x z k) → Walked b (suc n) x (thread_goes (machine_of b.program) z) r
+step b n x Absent r wants left before = absurd (cc wants)
+step b n x (Over o l) r wants left before = absurd (cc wants)
+step b n x (Leaves o l) r wants left before = absurd (cc wants)
+step b n x (Left o l) r wants left before = absurd (cc wants)
+step b n x (Runs c zero) r wants left before = absurd (cc left)
+step b n x (Runs c (suc l)) r wants left before =
+    let walked = before l refl in
+    let same : c ≡ walked.state = cc walked.is in
+    let goes : (system_of b).wants (Going walked.state) ≡ Turns = ap (λ y. (system_of b).wants (Going y)) (sym same) ∙ (sym (same_wants b c l) ∙ wants) in
+    record {
+      state = (machine_of b.program).goes walked.state;
+      is = ap (λ y. Runs ((machine_of b.program).goes y) l) same ∙ ap (Runs ((machine_of b.program).goes walked.state)) left;
+      comes = one_more b n (Going x) (Going walked.state) walked.comes goes;
+    }
+
+pub walked : (b : Called) (n : ℕ) (x : State) (l r : ℕ) → ((k : ℕ) → k < n → wants_of b.program (after_own b.program k (Runs x l)) ≡ Turns)
+    → left_of (after_own b.program n (Runs x l)) ≡ suc r → Walked b n x (after_own b.program n (Runs x l)) r
+walked b zero x l r each left = record { state = x; is = ap (Runs x) left; comes = refl }
+walked b (suc n) x l r each left =
+    step b n x (after_own b.program n (Runs x l)) r (each n (omega arith)) left
+    (λ k here. walked b n x l k (λ j low. each j (omega (arith, low))) here)
+
+-- who says why makes no turn of its own
+pub rests : (b : Called) (x : State) (r : ℕ) (turn : Turn) → SaysWhy b.program (Runs x (suc r)) turn → (system_of b).wants (Going x) ≡ Turns → ⊥
+rests b x r turns.Moved says wants = says
+rests b x r (turns.Wants e) says wants = let w = same_wants b x r in let h = says.1 in cc (w, h, wants)
+rests b x r turns.Awaits says wants = let w = same_wants b x r in let h = says.1 in cc (w, h, wants)
+rests b (At c) r (turns.Ended o) says wants = cc says
+rests b (states.Over u) r (turns.Ended o) says wants = cc wants
+
+-- where it has come to, and why it makes no further turn
+pub record Came (b : Called) (x : State) (turn : Turn) (Stands : Running → Type 0) : Type 0 where
+  pub state : State
+  pub left : ℕ
+  pub settles : Settles (system_of b) (Going x) (Going state)
+  pub stands : Stands (Runs state (suc left))
+  pub says : SaysWhy b.program (Runs state (suc left)) turn
+
+pub came : (b : Called) (p : Program) → p ≡ b.program → (x : State) (l : ℕ) (turn : Turn) (Stands : Running → Type 0) → IsPaused p (Runs x l) turn Stands
+    → ((t : Running) → Stands t → left_of t ≡ suc (left_of t - 1)) → Came b x turn Stands
+came b p same x l turn Stands paused some =
+    let q : IsPaused b.program (Runs x l) turn Stands = subst (λ z. IsPaused z (Runs x l) turn Stands) same paused in
+    let end : Running = after_own b.program q.turns (Runs x l) in
+    let w = walked b q.turns x l (left_of end - 1) q.each (some end q.after) in
+    let says : SaysWhy b.program (Runs w.state (suc (left_of end - 1))) turn = subst (λ z. SaysWhy b.program z turn) w.is q.answer in
+    record {
+      state = w.state;
+      left = left_of end - 1;
+      settles = record { turns = q.turns; comes = w.comes; rests = rests b w.state (left_of end - 1) turn says };
+      stands = subst Stands w.is q.after;
+      says = says;
+    }
+
+pub is_over : (y : State) (o : Outcome) → outcome_in y ≡ Some o → y ≡ states.Over o
+is_over (At c) o h = absurd (cc h)
+is_over (states.Over u) o h = ap states.Over (cc h)
+
+pub is_at : (y : State) → outcome_in y ≡ None → (c : Config) × (y ≡ At c)
+is_at (At c) h = (c, refl)
+is_at (states.Over u) h = absurd (cc h)
+
+pub says_end : (p : Program) (y : State) (r : ℕ) (turn : Turn) (o : Outcome) → turn ≡ turns.Ended o → SaysWhy p (Runs y r) turn → y ≡ states.Over o
+says_end p y r turn o is says = is_over y o (subst (λ t. SaysWhy p (Runs y r) t) is says)
+
+pub says_none : (p : Program) (y : State) (r : ℕ) (turn : Turn) → SaysWhy p (Runs y r) turn → ((o : Outcome) → turn ≡ turns.Ended o → ⊥) → outcome_in y ≡ None
+says_none p y r turns.Moved says other = absurd says
+says_none p y r (turns.Wants e) says other = says.0
+says_none p y r turns.Awaits says other = says.0
+says_none p y r (turns.Ended o) says other = absurd (other o refl)
+
+-- the event of a turn that was given nothing
+abbrev pub event_in : Turn → Option Event
+event_in turns.Moved = None
+event_in (turns.Wants e) = Some e
+event_in turns.Awaits = None
+event_in (turns.Ended o) = None
+
+no_event : (o : Option Outcome) (w : Want Event) → event_in (answer_by o w turns.Moved) ≡ None
+no_event (Some o) w = refl
+no_event None Turns = refl
+no_event None (Calls e) = refl
+no_event None Awaits = refl
+no_event None Gone = refl
+
+event_by : (p : Program) (t : Running) (w : Want Event) → wants_of p t ≡ w → outcome_of t ≡ None
+    → event_in (answer_by (outcome_of (own_turn_if p t w)) (wants_of p (own_turn_if p t w)) (wanted_before given.Nothing w)) ≡ called w
+event_by p t Turns is none = no_event (outcome_of (own_turn_if p t Turns)) (wants_of p (own_turn_if p t Turns))
+event_by p t (Calls e) is none = rw (none, is) refl
+event_by p t Awaits is none = no_event (outcome_of t) (wants_of p t)
+event_by p t Gone is none = no_event (outcome_of t) (wants_of p t)
+
+pub event_said : (b : Called) (c : Config) (r : ℕ) (turn : Turn) → turn ≡ answer_of b.program (Runs (At c) (suc r)) given.Nothing
+    → event_in turn ≡ called ((system_of b).wants (Going (At c)))
+event_said b c r turn is =
+    ap event_in is
+    ∙ (event_by b.program (Runs (At c) (suc r)) (wants_of b.program (Runs (At c) (suc r))) refl refl ∙ ap called (same_wants b (At c) r))
+
+pub no_event_in : (turn : Turn) → ((e : Event) → turn ≡ turns.Wants e → ⊥) → event_in turn ≡ None
+no_event_in turns.Moved other = refl
+no_event_in (turns.Wants e) other = absurd (other e refl)
+no_event_in turns.Awaits other = refl
+no_event_in (turns.Ended o) other = refl

@@ -1,0 +1,13 @@
+//! The threads of a module as a search has them: at rest, in few bytes, and moved one by one.
+//!
+//! `specs/Walkers.antt` says which thread without a budget (crate `search_threads`) a walker stands for, and where it comes to rest.
+#![tactic(auto)]
+
+mod rest;
+mod taking;
+mod walker;
+mod wants;
+
+pub use taking::{hear, take};
+pub use walker::Standing;
+pub use wants::wanted;

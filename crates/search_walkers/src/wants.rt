@@ -1,0 +1,54 @@
+//! What a thread wants.
+
+ghost use Rattle.std.specs.Prelude.{◌≡◌, IfOk, IfSome};
+ghost use Rattle.shared_memory.specs.Events.{IsEvent};
+ghost use Rattle.interp_machine.specs.Config.{Config};
+ghost use Rattle.interp_machine.specs.State.{At};
+ghost use Rattle.interp.specs.Kept.{IsKept};
+ghost use Rattle.schedule_machine.specs.Threads.{called};
+ghost use Rattle.search_threads.specs.Unlimited.{Unlimited.Going};
+ghost use Rattle.search_runs.specs.Called.{Called, Walker, system_of};
+ghost use Rattle.search_walkers.specs.Walkers.{IsOf, StandsFor};
+
+use crate::rest::FUEL;
+use crate::walker::Standing;
+use interp::{Kept, Thread};
+use interp_trait::{Given, TakesTurns, Turn};
+use std::alloc::{AllocError, Global};
+use types::{Event, Question};
+use validate::ValidModule;
+
+/// The event that a thread wants that runs, if it wants one.
+fn wanted_by(alloc: Global, valid: &ValidModule, kept: &Kept) -> Result<Option<Event>, AllocError>
+    requires { (c : Config) × IsKept valid.now kept.now c }
+    ensures wanted { IfOk result (λ o. (b : Called) (c : Config) → IsOf b valid.now → IsKept valid.now kept.now c
+        → o ≡ called ((system_of b).wants (Going (At c)))) }
+    ensures event { IfOk result (λ o. IfSome o IsEvent) }
+{
+    let mut thread = Thread::resume(alloc, valid, kept, FUEL)?;
+    match thread.turn(Given::Nothing) {
+        Turn::Wants(event) => Ok(Some(event)),
+        _ => Ok(None),
+    }
+}
+
+/// The event that a thread wants, if it wants one.
+///
+/// # Errors
+/// Where memory is refused.
+pub fn wanted(
+    alloc: Global,
+    valid: &ValidModule,
+    standing: &Standing,
+) -> Result<Option<Event>, AllocError>
+    requires { (v : Walker) × StandsFor valid.now standing.now v }
+    ensures wanted { IfOk result (λ o. (b : Called) (v : Walker) → IsOf b valid.now → StandsFor valid.now standing.now v
+        → o ≡ called ((system_of b).wants v)) }
+    ensures event { IfOk result (λ o. IfSome o IsEvent) }
+{
+    match standing {
+        Standing::Going(kept) => wanted_by(alloc, valid, kept),
+        Standing::Ended(_) => Ok(Some(Event::Ask(Question::Leave))),
+        _ => Ok(None),
+    }
+}
