@@ -20,7 +20,8 @@ impl Thread<'_> {
 
     /// Where the instruction stands that comes next in it; the one at which it ended, if it has.
     pub fn place(&self) -> Place
-        ensures { (c : Config) (left : ℕ) → StandsFor self.now (Runs (At c) left) → IsAtPlace self.now.parts.now result.function result.instr c }
+        ensures { (c : Config) (left : ℕ) → StandsFor self.now (Runs (At c) left)
+            → IsAtPlace self.now.parts.now result.function result.instr c }
     {
         Place {
             function: self.state.function,

@@ -44,7 +44,8 @@ pub fn a_store_over_two_words_has_two_parts()
         (gone_times 2 (program_with two_word_store) (start_with two_word_store)) replies.Done)
         ≡ Some (Store 8 4 12 287454020) }
     ensures end { gone_times 2 (program_with two_word_store) (replied (program_with two_word_store)
-        (replied (program_with two_word_store) (gone_times 2 (program_with two_word_store) (start_with two_word_store)) replies.Done) replies.Done)
+        (replied (program_with two_word_store)
+        (gone_times 2 (program_with two_word_store) (start_with two_word_store)) replies.Done) replies.Done)
         ≡ Over (Done (Some (I32 0))) }
 {}
 

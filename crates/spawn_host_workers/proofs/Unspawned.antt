@@ -41,19 +41,19 @@ use Rattle.spawn_host_workers.proofs.OneList.{silent_more, report_by, Unpacked, 
 
 -- entries of a thread that spawns nobody
 
-abbrev IsSpawn : Event → Type 0
+abbrev pub IsSpawn : Event → Type 0
 IsSpawn (Ask (Spawn arg)) = Unit {0}
 IsSpawn _ = ⊥
 
-abbrev SpawnsNone : ℕ → List Entry → Type 0
+abbrev pub SpawnsNone : ℕ → List Entry → Type 0
 SpawnsNone n [] = Unit {0}
 SpawnsNone n (e ∷ xs) = (e.thread ≡ n → IsSpawn e.event → ⊥) × SpawnsNone n xs
 
-none_in_both : (n : ℕ) (xs ys : List Entry) → SpawnsNone n xs → SpawnsNone n ys → SpawnsNone n (xs ++ ys)
+pub none_in_both : (n : ℕ) (xs ys : List Entry) → SpawnsNone n xs → SpawnsNone n ys → SpawnsNone n (xs ++ ys)
 none_in_both n [] ys h k = k
 none_in_both n (e ∷ xs) ys h k = (h.0, none_in_both n xs ys h.1 k)
 
-none_of_others : (n : ℕ) (xs : List Entry) → entries_of n xs ≡ [] → SpawnsNone n xs
+pub none_of_others : (n : ℕ) (xs : List Entry) → entries_of n xs ≡ [] → SpawnsNone n xs
 none_of_others n [] apart = tt
 none_of_others n (e ∷ xs) apart =
     cond_both (e.thread == n) (e ∷ entries_of n xs) (entries_of n xs) (λ w. w ≡ [] → SpawnsNone n (e ∷ xs)) (λ is is_none. absurd (cc is_none))
@@ -93,7 +93,7 @@ module _ (p : Program) (alone : p.imported ≡ 0) (loses : Bool) (opening : Memo
         none_of_others n sees.behind sees.apart_behind,
       ))
 
-  run_spawns_none : (steps : List (Step Event Reply Answer)) (t end : Running) (before last : List Entry)
+  pub run_spawns_none : (steps : List (Step Event Reply Answer)) (t end : Running) (before last : List Entry)
       → IsThreadRun (over_memory_and_queue (machine_of p) start fuel) t steps end
       → SeesAll loses opening limit n before steps last → SpawnsNone n before → SpawnsNone n last
   run_spawns_none [] t end before last run sees h = subst (λ w. SpawnsNone n w) sees h
@@ -146,7 +146,7 @@ args_from q (e ∷ xs) sound unspawned legal none =
     args_from (queue_step q e.thread e.event e.reply) xs (IsSound-step q e.thread e.event e.reply legal.0 sound)
     (step_args q e.thread e.event e.reply sound unspawned legal.0 none.0) legal.1 none.1
 
-none_spawned : (history : List Entry) → IsQueueLegal history → SpawnsNone 0 history → WaitQueue.args (queue_after history) ≡ []
+pub none_spawned : (history : List Entry) → IsQueueLegal history → SpawnsNone 0 history → WaitQueue.args (queue_after history) ≡ []
 unfolding queue_after IsQueueLegal first_queue
 none_spawned history legal none = args_from (first_queue most_threads) (of_queue history) IsSound-first refl legal (none_of_queue 0 history none)
 
