@@ -1,8 +1,9 @@
 -- A memory beside the one that was opened.
-use Rattle.std.specs.Prelude.{ℕ, ◌-◌, ◌++◌, List, length, take, replicate, fold, slice_set}
+use Rattle.std.specs.Prelude.{ℕ, ◌-◌, ◌++◌, Bool, nat_lt, List, length, take, replicate, fold, slice_set}
 use Rattle.shared_memory.specs.Memory.{Memory}
 use Rattle.search_memory.specs.declared.beside.Change.{Change}
 use Rattle.search_memory.specs.declared.beside.Changes.{Changes}
+use Rattle.search_memory.specs.declared.looking.Beside.{Beside}
 
 -- So many bytes, which begin as the opening memory's, with zeros behind those.
 abbrev pub padded : List ℕ → ℕ → List ℕ
@@ -11,6 +12,21 @@ padded opening len = take len opening ++ replicate (len - length opening) 0
 abbrev pub with_change : List ℕ → Change → List ℕ
 with_change bytes change = slice_set bytes change.at change.byte
 
+-- The opening memory's first bytes, with these changes.
+abbrev pub changed_bytes : List ℕ → ℕ → List Change → List ℕ
+changed_bytes opening len changes = fold with_change (padded opening len) changes
+
 -- The memory with these changes.
 abbrev pub memory_of : List ℕ → Changes → Memory
-memory_of opening c = record { bytes = fold with_change (padded opening c.len) c.changes.items; max = c.max }
+memory_of opening c = record { bytes = changed_bytes opening c.len c.changes.items; max = c.max }
+
+-- The changes at lower addresses, and those at higher ones.
+abbrev pub is_below : ℕ → Change → Bool
+is_below at change = nat_lt change.at at
+
+abbrev pub is_above : ℕ → Change → Bool
+is_above at change = nat_lt at change.at
+
+-- The memory that is looked at.
+abbrev pub memory_at : Beside → Memory
+memory_at b = memory_of b.opening.now b.changed.now

@@ -24,6 +24,30 @@ pub struct Changes {
     pub changes: Vec<Change>,
 }
 
+/// A copy.
+pub(crate) fn copied(alloc: Global, changes: &[Change]) -> Result<Vec<Change>, AllocError>
+    ensures { IfOk result (λ v. v.items ≡ changes.now) }
+{
+    let mut all = Vec::with_capacity(alloc, changes.len())?;
+    all.extend_from_slice(changes)?;
+    Ok(all)
+}
+
+impl Changes {
+    ghost use Rattle.std.specs.Prelude.{ℕ, List};
+
+    /// A copy.
+    pub(crate) fn copy(&self, alloc: Global) -> Result<Changes, AllocError>
+        ensures { IfOk result (λ c. (opening : List ℕ) → memory_of opening c ≡ memory_of opening self.now) }
+    {
+        Ok(Changes {
+            len: self.len,
+            max: self.max,
+            changes: copied(alloc, self.changes.as_slice())?,
+        })
+    }
+}
+
 /// The opening memory's bytes, with zeros behind them up to this length.
 pub(crate) fn padded(alloc: Global, opening: &[u8], len: usize) -> Result<Vec<u8>, AllocError>
     ensures { IfOk result (λ bytes. bytes.items ≡ padded opening.now len) }

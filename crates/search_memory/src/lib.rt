@@ -1,10 +1,13 @@
 //! The memory of a state of a search: the bytes that differ from the opening memory's.
 //!
 //! Most states of a search differ from the opening memory in a few bytes. `Changes` has these alone, so states take little room and
-//! are compared quickly; an event is made on the memory that they stand for.
+//! are compared quickly; an event reads and changes the bytes that it touches alone, and only `memory.grow` makes the memory that
+//! they stand for.
 #![tactic(auto)]
 
 mod beside;
+mod bytes;
+mod looking;
 mod stepping;
 
 pub use beside::{Change, Changes, changes_in};

@@ -7,7 +7,8 @@ ghost use Rattle.shared_memory_sequential.specs.Opening.{IsSized};
 ghost use Rattle.search_memory.specs.Memories.{memory_of, with_change};
 
 use crate::beside::{Change, Changes, changes_in, padded};
-use shared_memory_sequential::{OneMemory, OpenFault};
+use crate::looking::Beside;
+use shared_memory_sequential::{OneMemory, OpenFault, combine};
 use std::alloc::{AllocError, Global};
 use types::{Event, Reply};
 
@@ -46,6 +47,65 @@ pub fn memory(alloc: Global, opening: &[u8], changed: &Changes) -> Result<OneMem
     }
 }
 
+/// The changes after `memory.grow`, by the whole memory.
+fn grown(
+    alloc: Global,
+    opening: &[u8],
+    changed: &Changes,
+    event: &Event,
+) -> Result<Changes, AllocError>
+    requires sized { IsSized (memory_of opening.now changed.now) }
+    requires event { IsEvent event.now }
+    ensures after { IfOk result (λ c. memory_of opening.now c ≡ state_after (memory_of opening.now changed.now) event.now) }
+    ensures sized { IfOk result (λ c. IsSized (memory_of opening.now c)) }
+{
+    let mut memory = memory(alloc, opening, changed)?;
+    memory.step(event);
+    changes_in(alloc, opening, &memory)
+}
+
+/// The changes after an event.
+fn after(
+    alloc: Global,
+    opening: &[u8],
+    changed: &Changes,
+    event: &Event,
+) -> Result<Changes, AllocError>
+    requires sized { IsSized (memory_of opening.now changed.now) }
+    requires event { IsEvent event.now }
+    ensures after { IfOk result (λ c. memory_of opening.now c ≡ state_after (memory_of opening.now changed.now) event.now) }
+    ensures sized { IfOk result (λ c. IsSized (memory_of opening.now c)) }
+{
+    let beside = Beside { opening, changed };
+    match *event {
+        Event::Store {
+            addr,
+            width,
+            reach,
+            value,
+        } if beside.ends_within(reach) => beside.written(alloc, addr, width, value),
+        Event::Rmw {
+            op,
+            addr,
+            width,
+            value,
+        } if beside.is_within(addr, width) => {
+            let old = beside.number_at(addr, width);
+            beside.written(alloc, addr, width, combine(op, width, old, value))
+        }
+        Event::Cmpxchg {
+            addr,
+            width,
+            expected,
+            replacement,
+        } if beside.is_within(addr, width) && beside.number_at(addr, width) == expected => {
+            beside.written(alloc, addr, width, replacement)
+        }
+        Event::Grow(_) => grown(alloc, opening, changed, event),
+        _ => changed.copy(alloc),
+    }
+}
+
 /// Makes an event on the memory with these changes: the changes after it, and the reply.
 ///
 /// # Errors
@@ -62,7 +122,6 @@ pub fn step(
     ensures sized { IfOk result (λ r. IsSized (memory_of opening.now r.0)) }
     ensures reply { IfOk result (λ r. r.1 ≡ reply_of (memory_of opening.now changed.now) event.now) }
 {
-    let mut memory = memory(alloc, opening, changed)?;
-    let reply = memory.step(event);
-    Ok((changes_in(alloc, opening, &memory)?, reply))
+    let reply = Beside { opening, changed }.reply(event);
+    Ok((after(alloc, opening, changed, event)?, reply))
 }

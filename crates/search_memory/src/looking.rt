@@ -1,0 +1,136 @@
+//! What an event sees of a memory that is given by its changes, and what it writes there.
+
+ghost use Rattle.std.specs.Prelude.{◌≡◌, ◌+◌, ◌^◌, ◌<◌, ◌≤◌, length, nat_le, IfOk};
+ghost use Rattle.shared_memory.specs.Events.{IsEvent, IsQuestion};
+ghost use Rattle.shared_memory.specs.Memory.{loaded, pages, reply_of, reply_to_question, written};
+ghost use Rattle.shared_memory_sequential.specs.Opening.{IsSized};
+ghost use Rattle.search_memory.specs.Memories.{memory_at, memory_of};
+
+use crate::beside::{Changes, copied};
+use crate::bytes::{byte_at, with_byte};
+use std::alloc::{AllocError, Global};
+use types::{Event, PAGE_SIZE, Question, Reply};
+
+/// A memory: what differs, and the opening memory's bytes.
+#[derive(Clone, Copy)]
+pub(crate) struct Beside<'o> {
+    pub(crate) opening: &'o [u8],
+    pub(crate) changed: &'o Changes,
+}
+
+impl Beside<'_> {
+    /// How many bytes there are.
+    #[tactic(auto, using(crate::proofs::Putting::length_memory))]
+    fn len(&self) -> usize
+        ensures { result ≡ length (memory_at self.now).bytes }
+    {
+        self.changed.len
+    }
+
+    /// Whether an access that ends at this address lies within the memory.
+    pub(crate) fn ends_within(&self, end: u64) -> bool
+        ensures { result ≡ nat_le end (length (memory_at self.now).bytes) }
+    {
+        end <= self.len() as u64
+    }
+
+    /// Whether an access of so many bytes lies within the memory. Its end may pass the last address.
+    pub(crate) fn is_within(&self, addr: u64, width: u8) -> bool
+        ensures { result ≡ nat_le (addr + width) (length (memory_at self.now).bytes) }
+    {
+        let length = self.len() as u64;
+        addr <= length && u64::from(width) <= length - addr
+    }
+
+    /// How many pages there are.
+    fn pages(&self) -> u64
+        ensures value { result ≡ pages (memory_at self.now) }
+        ensures few { result < 2 ^ 48 }
+    {
+        (self.len() / PAGE_SIZE) as u64
+    }
+
+    /// The number in `width` bytes at an address, the lowest byte first.
+    pub(crate) fn number_at(&self, addr: u64, width: u8) -> u64
+        requires inside { addr + width ≤ length (memory_at self.now).bytes }
+        requires narrow { width ≤ 8 }
+        ensures { result ≡ loaded (memory_at self.now) addr width }
+    {
+        let len = self.len();
+        let changes = self.changed.changes.as_slice();
+        let mut number = 0;
+        for i in (0..usize::from(width)).rev() {
+            let byte = byte_at(self.opening, len, changes, addr as usize + i);
+            number = number * 256 + u64::from(byte);
+        }
+        number
+    }
+
+    /// The reply to an event.
+    pub(crate) fn reply(&self, event: &Event) -> Reply
+        requires event { IsEvent event.now }
+        ensures { result ≡ reply_of (memory_at self.now) event.now }
+    {
+        match *event {
+            Event::Size => Reply::Value(self.pages()),
+            Event::Grow(more) if self.pages() + u64::from(more) <= u64::from(self.changed.max) => {
+                Reply::Value(self.pages())
+            }
+            Event::Grow(_) => Reply::Value(u64::from(u32::MAX)),
+            Event::Load { addr, width, reach } if self.ends_within(reach) => {
+                Reply::Value(self.number_at(addr, width))
+            }
+            Event::Store { reach, .. } if self.ends_within(reach) => Reply::Done,
+            Event::Rmw { addr, width, .. } | Event::Cmpxchg { addr, width, .. }
+                if self.is_within(addr, width) => { Reply::Value(self.number_at(addr, width)) }
+            Event::Load { .. } | Event::Store { .. } | Event::Rmw { .. } | Event::Cmpxchg { .. } =>
+                { Reply::OutOfBounds }
+            Event::Ask(question) => self.question(question),
+            Event::Told(_) => Reply::Done,
+        }
+    }
+
+    /// The reply to a question.
+    fn question(&self, question: Question) -> Reply
+        requires { IsQuestion question }
+        ensures { result ≡ reply_to_question (memory_at self.now) question }
+    {
+        match question {
+            Question::Wait { addr, width, .. } if self.is_within(addr, width) => {
+                Reply::Value(self.number_at(addr, width))
+            }
+            Question::Notify { addr, .. } if self.is_within(addr, 4) => Reply::Done,
+            Question::Wait { .. } | Question::Notify { .. } => Reply::OutOfBounds,
+            Question::Spawn { .. } | Question::Leave => Reply::Done,
+        }
+    }
+
+    /// The changes once a number is written to `width` bytes at an address.
+    pub(crate) fn written(
+        &self,
+        alloc: Global,
+        addr: u64,
+        width: u8,
+        value: u64,
+    ) -> Result<Changes, AllocError>
+        requires { addr + width ≤ length (memory_at self.now).bytes }
+        ensures written { IfOk result (λ c. memory_of self.now.opening.now c ≡ written (memory_at self.now) addr width value) }
+        ensures sized { IsSized (memory_at self.now) → IfOk result (λ c. IsSized (memory_of self.now.opening.now c)) }
+    {
+        let changed = self.changed;
+        let len = self.len();
+        let mut changes = copied(alloc, changed.changes.as_slice())?;
+        let mut rest = value;
+        for i in 0..usize::from(width) {
+            let at = addr as usize + i;
+            let byte = (rest % 256) as u8;
+            changes = with_byte(alloc, self.opening, len, changes.as_slice(), at, byte)?;
+            rest /= 256;
+        }
+        Ok(Changes {
+            len,
+            max: changed.max,
+            changes,
+        })
+    }
+}
