@@ -1,0 +1,34 @@
+;; A mutex that sleeps: the word at 0 is 0 where it is free, 1 where it is held, and 2 where others may wait for it (Drepper,
+;; "Futexes are tricky"). So many threads each add 1 to the plain number at 4, so many times.
+;; `./wathread search examples/search/mutex.wasm --invoke f --all --dump 8 2 2`
+(module
+  (import "wasi" "thread-spawn" (func $spawn (param i32) (result i32)))
+  (memory 1 1 shared)
+  (func $lock
+    (if (i32.atomic.rmw.cmpxchg (i32.const 0) (i32.const 0) (i32.const 1))
+      (then
+        (loop $again
+          (if (i32.atomic.rmw.xchg (i32.const 0) (i32.const 2))
+            (then
+              (drop (memory.atomic.wait32 (i32.const 0) (i32.const 2) (i64.const -1)))
+              br $again))))))
+  (func $unlock
+    (if (i32.eq (i32.atomic.rmw.xchg (i32.const 0) (i32.const 0)) (i32.const 2))
+      (then (drop (memory.atomic.notify (i32.const 0) (i32.const 1))))))
+  (func $work (param $rounds i32)
+    (loop $next
+      call $lock
+      (i32.store (i32.const 4) (i32.add (i32.load (i32.const 4)) (i32.const 1)))
+      call $unlock
+      (local.set $rounds (i32.sub (local.get $rounds) (i32.const 1)))
+      (br_if $next (local.get $rounds))))
+  (func (export "f") (param $threads i32) (param $rounds i32)
+    (loop $more
+      (local.set $threads (i32.sub (local.get $threads) (i32.const 1)))
+      (if (local.get $threads)
+        (then
+          (drop (call $spawn (local.get $rounds)))
+          br $more)))
+    (call $work (local.get $rounds)))
+  (func (export "wasi_thread_start") (param $id i32) (param $rounds i32)
+    (call $work (local.get $rounds))))
