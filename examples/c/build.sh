@@ -21,11 +21,16 @@
 #                                  module may have one table, named by one zero byte
 #   -mno-multivalue                a block and a function have one result at most
 #
+# Three of them have a bug, and are built with -g, so that `wathread show` says the line of each entry:
+# broken_lock.c, lost_wakeup.c, seqlock.c.
+#
 # Floats are refused, and no switch takes them away: use none.
 set -eu
 cd "$(dirname "$0")"
 for source in *.c; do
-    clang --target=wasm32 -nostdlib -matomics -mbulk-memory -O1 -fno-builtin \
+    lines=()
+    case $source in broken_lock.c | lost_wakeup.c | seqlock.c) lines=(-g "-fdebug-prefix-map=$PWD=.") ;; esac
+    clang --target=wasm32 -nostdlib -matomics -mbulk-memory -O1 -fno-builtin ${lines[@]+"${lines[@]}"} \
         -Wl,--no-entry,--import-memory,--shared-memory,--initial-memory=65536,--max-memory=65536 \
         -Wl,-z,stack-size=512,--stack-first "$source" -o "${source%.c}.wasm"
 done
