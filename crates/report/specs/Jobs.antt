@@ -11,7 +11,7 @@ use Rattle.replay.specs.declared.end.EndState.{EndState}
 use Rattle.replay.specs.Runs.{IsRunOf}
 use Rattle.report_lines.specs.Lines.{functions_line, end_lines}
 use Rattle.report_command.specs.declared.command_line.Job.{Job}
-use Rattle.report_command.specs.declared.command_line.Job.TheVariants.{Check, Run, Replay}
+use Rattle.report_command.specs.declared.command_line.Job.TheVariants.{Check, Run, Replay, Show}
 use Rattle.report.specs.Arguments.{CannotCall}
 use Rattle.report.specs.Prints.{Change, Request, request, PrintsRun, status_of}
 use Rattle.report.specs.declared.replaying.Unfit.{Unfit}
@@ -119,9 +119,33 @@ pub record Replays (bytes saved : List ℕ) (dump : ℕ) (out : Change) (status 
   pub none : status ≡ 4 → IsNoRecordOf bytes saved
   pub statuses : (status ≤ 2) ⊎ (status ≡ 4) ⊎ (status ≡ 5)
 
+-- The bytes are the text of a record of a run of the module.
+pub record IsOfRun (m : Parts) (saved : List ℕ) : Type 0 where
+  pub record_is : RecordParts
+  pub ranges : IsRecord record_is
+  pub text : saved ≡ record_text record_is
+  pub end : EndState
+  pub run : IsRunOf m record_is end
+
+-- The bytes are a valid module's text, and the others that of a record of a run of it.
+pub record IsRecordOf (bytes saved : List ℕ) : Type 0 where
+  pub parts : Parts
+  pub text : IsModuleText bytes parts
+  pub valid : IsValid parts
+  pub run : IsOfRun parts saved
+
+-- What the status of a show says: 0 of a record of a run, 2 of a refused module, 4 of a record of no run. 5 is that memory or a stream
+-- failed.
+pub record Shows (bytes saved : List ℕ) (status : ℕ) : Type 0 where
+  pub shown : status ≡ 0 → IsRecordOf bytes saved
+  pub refused : status ≡ 2 → IsNoValidModule bytes
+  pub none : status ≡ 4 → IsNoRecordOf bytes saved
+  pub statuses : (status ≡ 0) ⊎ (status ≡ 2) ⊎ (status ≡ 4) ⊎ (status ≡ 5)
+
 -- What the status of a job says.
 abbrev pub Performs : Job → List ℕ → List ℕ → Change → Change → ℕ → Type 0
 Performs (Check file) bytes saved out save status = Checks bytes out status
 Performs (Run file invoke on_words fuel limit path dump args) bytes saved out save status =
     Runs bytes (request invoke.now (map (λ text. text.now) args.items) fuel limit on_words (is_some path) dump) out save status
 Performs (Replay file record_path dump) bytes saved out save status = Replays bytes saved dump out status
+Performs (Show file record_path names look) bytes saved out save status = Shows bytes saved status

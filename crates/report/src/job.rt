@@ -15,6 +15,7 @@ ghost use Rattle.report.specs.Troubles.{IsTrouble, request_of};
 use crate::loading::{Refusal, load};
 use crate::replaying::{Unfit, replay_record};
 use crate::running::{Trouble, Wanted, run_module};
+use crate::showing::show_saved;
 use binary_wire::ReadFault;
 use report_command::Job;
 use std::alloc::Global;
@@ -36,7 +37,8 @@ const FAULT: u8 = 5;
 ///
 /// The job's numbers are in their ranges, as those of a job are that `command` gives.
 ///
-/// `saved` has the bytes of the record that a replay reads, and else nothing. `save` takes the record that a run makes, after
+/// `saved` has the bytes of the record that a replay or a show reads, and else nothing. A show takes names from the module
+/// itself (`show_saved` takes them from another file's bytes). `save` takes the record that a run makes, after
 /// the lines.
 ///
 /// Answers the program's status: 0 where the module was accepted or all threads ended well, 1 for a trap or stop, 2
@@ -85,6 +87,7 @@ where
             run(rt, alloc, &wanted, module, out, err, save)
         }
         Job::Replay { dump, .. } => replay_saved(alloc, module, saved, *dump, out, err),
+        Job::Show { look, .. } => show_saved(alloc, module, module, saved, look, out, err),
     }
 }
 
@@ -118,7 +121,7 @@ fn accept<W: Write, E: Write>(functions: usize, out: &mut W, err: &mut E) -> u8
 }
 
 /// Says why a module was refused, and answers the status: 2, or 5 where memory ran out.
-fn refuse<E: Write>(err: &mut E, refusal: Refusal) -> u8
+pub(crate) fn refuse<E: Write>(err: &mut E, refusal: Refusal) -> u8
     ensures status { (result ≡ 2) ⊎ (result ≡ 5) }
     ensures refused { (bytes : List ℕ) → IsRefused bytes refusal → result ≡ 2 → IsNoValidModule bytes }
 {
@@ -245,7 +248,7 @@ pub fn replay_saved<W: Write, E: Write>(
 }
 
 /// Says why a record was refused, or why its lines couldn't be written, and answers the status.
-fn reject<E: Write>(err: &mut E, unfit: Unfit) -> u8
+pub(crate) fn reject<E: Write>(err: &mut E, unfit: Unfit) -> u8
     ensures status { (result ≡ 4) ⊎ (result ≡ 5) }
     ensures unfit { (m : Parts) (saved : List ℕ) → IsUnfit m saved unfit → result ≡ 4 → IsOfNoRun m saved }
 {

@@ -6,9 +6,11 @@ mod job;
 mod loading;
 mod replaying;
 mod running;
+mod showing;
 
 pub use job::{check, perform, replay_saved};
 pub use loading::{Refusal, load};
 pub use report_command::{Job, Usage, command};
 pub use report_first::{FirstFault, first};
 pub use report_runs::{Call, EndState, RecordRunFault, record_run, run_on_words};
+pub use showing::show_saved;

@@ -53,7 +53,7 @@ pub(crate) fn replay_record<W: Write>(
 }
 
 /// What the fault of a replay says of the record's bytes.
-fn misfit(fault: ReplayFault) -> Unfit
+pub(crate) fn misfit(fault: ReplayFault) -> Unfit
     ensures { (m : Parts) (r : RecordParts) (saved : List ℕ) → IsRecord r → saved ≡ record_text r
         → ShowsNoRun m r fault → IsUnfit m saved result }
 {

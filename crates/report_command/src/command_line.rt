@@ -4,8 +4,10 @@ ghost use Rattle.types.specs.Limits.{most_limit, most_fuel};
 ghost use Rattle.report_command.specs.Jobs.{IsInRange, KeepsItsModule};
 ghost use Rattle.report_command.specs.FaultNumbers.{usage_number, IsWrong};
 
+use crate::show::{misread, show_command, show_job};
 use clap::error::ErrorKind;
 use clap::{Arg, ArgMatches, Command, Error, value_parser};
+use show_text::Look;
 use std::alloc::{AllocError, Global};
 use types::{MOST_FUEL, MOST_LIMIT};
 
@@ -51,6 +53,17 @@ pub enum Job<'a> {
         /// How many bytes of the memory are printed, 0 to 4096.
         dump: u32,
     },
+    /// Show the entries of a record in words.
+    Show {
+        /// The path of the module.
+        file: &'a str,
+        /// The path of the record.
+        saved: &'a str,
+        /// The path of another build of the module's code, for names and lines, if one is given.
+        names: Option<&'a str>,
+        /// What is shown, and how.
+        look: Look,
+    },
 }
 
 /// Why the command line is no job.
@@ -94,7 +107,7 @@ impl From<AllocError> for Usage {
 }
 
 /// The module's path, which every command takes.
-fn file_argument<'a>(alloc: Global) -> Arg<'a> {
+pub(crate) fn file_argument<'a>(alloc: Global) -> Arg<'a> {
     Arg::new(alloc, "file")
         .value_name("FILE")
         .help("The module, in the binary format")
@@ -191,7 +204,8 @@ fn commands<'a>(alloc: Global) -> Result<Command<'a>, AllocError> {
         .subcommand_required(true)
         .subcommand(check_command(alloc)?)?
         .subcommand(run_command(alloc)?)?
-        .subcommand(replay_command(alloc)?)
+        .subcommand(replay_command(alloc)?)?
+        .subcommand(show_command(alloc)?)
 }
 
 /// The numbers of a run, where they are there and in range, as the parser sees to.
@@ -261,6 +275,7 @@ fn job_of<'a>(alloc: Global, matches: &ArgMatches<'a>) -> Result<Option<Job<'a>>
     match name {
         "run" => run_job(alloc, matches),
         "replay" => Ok(replay_job(matches)),
+        "show" => show_job(alloc, matches),
         _ => Ok(matches.get_str("file").map(|file| Job::Check { file })),
     }
 }
@@ -276,12 +291,17 @@ pub enum Misuse {
     ReplacesModule,
     /// A number isn't in its range.
     Unreadable,
+    /// The lines of `show` are none.
+    NoLines,
+    /// Its addresses are none.
+    NoAddresses,
 }
 
 impl Misuse {
     fn kind(self) -> ErrorKind {
         match self {
-            Misuse::NotText | Misuse::Unreadable => ErrorKind::InvalidValue,
+            Misuse::NotText | Misuse::Unreadable | Misuse::NoLines | Misuse::NoAddresses =>
+                ErrorKind::InvalidValue,
             Misuse::RecordsWords | Misuse::ReplacesModule => ErrorKind::ArgumentConflict,
         }
     }
@@ -296,6 +316,12 @@ impl Misuse {
                 "the argument '--record <OUT>' cannot be used with the path of <FILE>"
             }
             Misuse::Unreadable => "the command line can't be read",
+            Misuse::NoLines => {
+                "invalid value for '--lines <A-B>': it is one unsigned decimal, or two with the lower one first"
+            }
+            Misuse::NoAddresses => {
+                "invalid value for '--addr <A[-B]>': it is one unsigned decimal, or two with the lower one first"
+            }
         }
     }
 }
@@ -317,6 +343,7 @@ fn error_of(alloc: Global, misuse: Misuse) -> Result<Error, AllocError> {
         Misuse::RecordsWords | Misuse::ReplacesModule => {
             run_command(alloc)?.bin_name("wathread run")?
         }
+        Misuse::NoLines | Misuse::NoAddresses => show_command(alloc)?.bin_name("wathread show")?,
     };
     usage.error(misuse.kind(), misuse.text())
 }
@@ -354,6 +381,9 @@ pub fn command<'a>(alloc: Global, words: &'a [&'a str]) -> Result<Job<'a>, Usage
     ensures kept { IfOk result KeepsItsModule }
 {
     let matches = commands(alloc)?.try_get_matches_from(words)?;
+    if let Some(misuse) = misread(&matches) {
+        return Err(misused(alloc, misuse));
+    }
     let Some(job) = job_of(alloc, &matches)? else {
         return Err(misused(alloc, Misuse::Unreadable));
     };

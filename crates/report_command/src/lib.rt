@@ -2,5 +2,7 @@
 #![tactic(auto)]
 
 mod command_line;
+mod show;
 
 pub use command_line::{Job, Misuse, Usage, command, misused};
+pub use show_text::{Color, Look};

@@ -56,6 +56,7 @@ static LINES: [Line; 13] = [
             \x20 check   Reads a module, and says how many functions of its own it has\n\
             \x20 run     Runs a function of a module, and prints how its threads ended\n\
             \x20 replay  Runs a record again by one thread, and prints what the run printed\n\
+            \x20 show    Shows the entries of a record in words, with the place in the module of each\n\
             \x20 help    Print this message or the help of the given subcommand(s)\n\n\
             Options:\n\
             \x20 -h, --help     Print help\n\
@@ -115,7 +116,7 @@ static LINES: [Line; 13] = [
         module: ADD,
         words: "",
         text: "error: 'wathread' requires a subcommand but one was not provided\n\
-            \x20 [subcommands: check, run, replay, help]\n\n\
+            \x20 [subcommands: check, run, replay, show, help]\n\n\
             Usage: wathread <COMMAND>\n\n\
             For more information, try '--help'.\n",
         status: 3,

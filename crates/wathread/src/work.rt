@@ -3,7 +3,7 @@
 ghost use Rattle.report_command.specs.Jobs.{IsInRange};
 
 use crate::telling::{tell, tell_file_fault, tell_no_memory, tell_usage};
-use report::perform;
+use report::{perform, show_saved};
 use report_command::{Job, Misuse, Usage, misused};
 use report_files::{Noted, Place, SavedFile, Unread, is_one_file, read_module, read_saved};
 use std::alloc::AllocError;
@@ -52,29 +52,45 @@ impl<'a> Stop<'a> {
     }
 }
 
-/// What a job reads: a module, and a record where one is replayed.
+/// What a job reads: a module, a record where one is replayed or shown, and the file that has the names, where it is
+/// another one.
 #[derive(Drop)]
 struct Input {
     module: Vec<u8>,
     saved: Vec<u8>,
+    names: Option<Vec<u8>>,
 }
 
 fn read<'a>(rt: &HostRuntime, job: &Job<'a>) -> Result<Input, Stop<'a>> {
-    let (Job::Check { file } | Job::Run { file, .. } | Job::Replay { file, .. }) = job;
+    let (Job::Check { file }
+    | Job::Run { file, .. }
+    | Job::Replay { file, .. }
+    | Job::Show { file, .. }) = job;
     let module = read_module(rt, file).map_err(|why| Stop::unread(file, why))?;
     let saved = match job {
         Job::Check { .. } | Job::Run { .. } => Vec::new(rt.alloc()),
-        Job::Replay { saved, .. } => {
+        Job::Replay { saved, .. } | Job::Show { saved, .. } => {
             read_saved(rt, saved).map_err(|why| Stop::unread(saved, why))?
         }
     };
-    Ok(Input { module, saved })
+    let names = match job {
+        Job::Show {
+            names: Some(path),
+            ..
+        } => Some(read_module(rt, path).map_err(|why| Stop::unread(path, why))?),
+        _ => None,
+    };
+    Ok(Input {
+        module,
+        saved,
+        names,
+    })
 }
 
 /// The path of the record that a job makes, or none.
 fn record_of<'a>(job: &Job<'a>) -> Option<&'a str> {
     match job {
-        Job::Check { .. } | Job::Replay { .. } => None,
+        Job::Check { .. } | Job::Replay { .. } | Job::Show { .. } => None,
         Job::Run { save, .. } => *save,
     }
 }
@@ -127,15 +143,24 @@ fn attempt<'a, R: Threads + Wait + Sync>(
 {
     let alloc = rt.alloc();
     keep_module(rt, job)?;
-    let Input { module, saved } = read(rt, job)?;
+    let Input {
+        module,
+        saved,
+        names,
+    } = read(rt, job)?;
     let place = place_of(rt, job)?;
     let room = record_of(job).unwrap_or("").len().saturating_add(LINE);
     let mut err = Vec::with_capacity(alloc, room)?;
     let mut out = BufWriter::with_capacity(alloc, OUT, Noted::new(rt.stdout()))?;
     let mut save = BufWriter::with_capacity(alloc, RECORD, SavedFile::new(rt, place))?;
-    let status = perform(
-        threads, alloc, job, &module, &saved, &mut out, &mut err, &mut save,
-    );
+    let status = match (job, &names) {
+        (Job::Show { look, .. }, Some(names)) => {
+            show_saved(alloc, &module, names, &saved, look, &mut out, &mut err)
+        }
+        _ => perform(
+            threads, alloc, job, &module, &saved, &mut out, &mut err, &mut save,
+        ),
+    };
     if !out.get_ref().is_closed() {
         tell(rt, &err);
     }

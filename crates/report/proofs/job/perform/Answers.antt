@@ -26,3 +26,12 @@ returns-in-Replay g c =
       none = c.replay_saved.ensures.none;
       statuses = c.replay_saved.ensures.status;
     })
+
+pub returns-in-Show : goal.returns-in-Show
+returns-in-Show g c =
+    rw c.in-Show.is (record {
+      shown = c.show_saved.ensures.shown;
+      refused = c.show_saved.ensures.refused;
+      none = c.show_saved.ensures.none;
+      statuses = c.show_saved.ensures.status;
+    })

@@ -1,0 +1,141 @@
+//! The command `show`, and its job.
+
+ghost use Rattle.std.specs.Prelude.{IfOk, IfSome};
+ghost use Rattle.report_command.specs.Jobs.{IsInRange};
+
+use crate::command_line::{Job, Misuse, file_argument};
+use clap::{Arg, ArgMatches, Command, value_parser};
+use show_text::{Choice, Color, Look, Span};
+use std::alloc::{AllocError, Global};
+
+/// How many characters a row has room for, at least and at most.
+pub const NARROWEST: u32 = 40;
+
+pub const WIDEST: u32 = 1000;
+
+/// When rows have colors.
+const COLORS: [&str; 3] = ["auto", "always", "never"];
+
+/// Which entries are shown.
+fn with_choice<'a>(alloc: Global, command: Command<'a>) -> Result<Command<'a>, AllocError> {
+    let lines = Arg::new(alloc, "lines")
+        .long("lines")
+        .value_name("A-B")
+        .help("Only the entries on these lines of the record");
+    let thread = Arg::new(alloc, "thread")
+        .long("thread")
+        .value_name("T,..")
+        .help("Only the entries of these threads, 0 to 63")
+        .value_delimiter(',')
+        .value_parser(value_parser!(u32).range(0..64));
+    let addr = Arg::new(alloc, "addr")
+        .long("addr")
+        .value_name("A[-B]")
+        .help("Only the entries at these addresses, unsigned decimals");
+    command.arg(lines)?.arg(thread)?.arg(addr)
+}
+
+/// How they look.
+fn with_look<'a>(alloc: Global, command: Command<'a>) -> Result<Command<'a>, AllocError> {
+    let names = Arg::new(alloc, "names")
+        .long("names")
+        .value_name("FILE2")
+        .help("Names and lines of source from a build of the same code, as one with -g");
+    let width = Arg::new(alloc, "width")
+        .long("width")
+        .value_name("N")
+        .help("How many characters a row has room for, 40 to 1000")
+        .value_parser(value_parser!(u32).range(40..1001))
+        .default_value("120");
+    let color = Arg::new(alloc, "color")
+        .long("color")
+        .value_name("WHEN")
+        .help("Whether threads have colors; auto: on a terminal alone")
+        .value_parser(COLORS.as_slice())
+        .default_value("auto");
+    command.arg(names)?.arg(width)?.arg(color)
+}
+
+/// `show FILE RECORD [--lines A-B] [--thread T,..] [--addr A[-B]] [--names FILE2] [--width N] [--color WHEN]`
+pub(crate) fn show_command<'a>(alloc: Global) -> Result<Command<'a>, AllocError> {
+    let record = Arg::new(alloc, "record")
+        .value_name("RECORD")
+        .help("The record of a run of the module")
+        .required(true);
+    let command = Command::new(alloc, "show")
+        .about("Shows the entries of a record in words, with the place in the module of each")
+        .arg(file_argument(alloc))?
+        .arg(record)?;
+    with_look(alloc, with_choice(alloc, command)?)
+}
+
+/// The span in an argument, if that is given.
+fn span_of(matches: &ArgMatches, name: &str) -> Option<Span> {
+    Span::read(matches.get_str(name)?)
+}
+
+/// Which of the arguments of `show` is no span, if one is.
+pub(crate) fn misread(matches: &ArgMatches) -> Option<Misuse> {
+    let (name, matches) = matches.subcommand()?;
+    if name != "show" {
+        return None;
+    }
+    if matches.get_str("lines").is_some() && span_of(matches, "lines").is_none() {
+        return Some(Misuse::NoLines);
+    }
+    if matches.get_str("addr").is_some() && span_of(matches, "addr").is_none() {
+        return Some(Misuse::NoAddresses);
+    }
+    None
+}
+
+/// What is chosen of the record.
+fn choice_of(alloc: Global, matches: &ArgMatches) -> Result<Choice, AllocError> {
+    let mut threads = Vec::new(alloc);
+    for text in matches.get_strs("thread").unwrap_or(&[]) {
+        if let Ok(thread) = text.parse::<u32>() {
+            threads.push(thread)?;
+        }
+    }
+    Ok(Choice {
+        lines: span_of(matches, "lines"),
+        threads,
+        addrs: span_of(matches, "addr"),
+    })
+}
+
+/// The job of `show`.
+pub(crate) fn show_job<'a>(
+    alloc: Global,
+    matches: &ArgMatches<'a>,
+) -> Result<Option<Job<'a>>, AllocError>
+    ensures { IfOk result (λ job. IfSome job IsInRange) }
+{
+    let (Some(file), Some(saved), Some(width)) = (
+        matches.get_str("file"),
+        matches.get_str("record"),
+        matches.get_one::<u32>("width"),
+    ) else {
+        return Ok(None);
+    };
+    if width < NARROWEST || width > WIDEST {
+        return Ok(None);
+    }
+    let color = match matches.get_str("color") {
+        Some("always") => Color::Always,
+        Some("never") => Color::Never,
+        _ => Color::Auto,
+    };
+    let look = Look {
+        choice: choice_of(alloc, matches)?,
+        width: width as usize,
+        color,
+    };
+    let names = matches.get_str("names");
+    Ok(Some(Job::Show {
+        file,
+        saved,
+        names,
+        look,
+    }))
+}

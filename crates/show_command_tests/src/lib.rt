@@ -1,0 +1,11 @@
+//! The command `show`: its words, what is chosen, whole texts of rows, and records that are refused.
+#![tactic(auto)]
+
+#[cfg(test)]
+mod choices;
+#[cfg(test)]
+mod program;
+#[cfg(test)]
+mod records;
+#[cfg(test)]
+mod usage;
