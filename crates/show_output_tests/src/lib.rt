@@ -1,0 +1,5 @@
+//! Tests of what is written of a record for other programs, and of the lines that explain a refusal.
+#![tactic(auto)]
+
+#[cfg(test)]
+mod reasons;

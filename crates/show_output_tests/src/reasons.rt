@@ -1,0 +1,303 @@
+//! Lines that explain a refusal, by hand.
+
+use binary::read;
+use binary_wire::ReadFault;
+use replay_text::read_record;
+use show_reasons::{Instead, Misfit, Refused, explain};
+use std::alloc::Global;
+use std::test::Fail;
+use test_modules::TELLING;
+use types::{Event, Outcome, RmwOp, Stop};
+use validate::validate;
+
+/// Bytes, and the lines that are said of them.
+struct Case {
+    bytes: &'static [u8],
+    lines: &'static str,
+}
+
+static MODULES: [Case; 14] = [
+    Case {
+        bytes: b"",
+        lines: "the file is empty\n",
+    },
+    Case {
+        bytes: b"(module\n  (func))\n",
+        lines: "the file is a text: `wat2wasm` makes a module of one in the text format\n",
+    },
+    Case {
+        bytes: b"\x7fELF\x02\x01\x01\x00\x00\x00",
+        lines: "the file is a program or an object for this machine; clang: --target=wasm32\n",
+    },
+    Case {
+        bytes: b"\x00asm\x0d\x00\x01\x00",
+        lines: "the file is a component, and no module\n",
+    },
+    Case {
+        bytes: b"\x00asm\x02\x00\x00\x00",
+        lines: "a module begins with the bytes 00 61 73 6d 01 00 00 00\n",
+    },
+    // the body of f: i32.const 0, three times, and memory.fill
+    Case {
+        bytes: b"\x00asm\x01\x00\x00\x00\x01\x04\x01\x60\x00\x00\x03\x02\x01\x00\
+            \x0a\x0d\x01\x0b\x00\x41\x00\x41\x00\x41\x00\xfc\x0b\x00\x0b",
+        lines: "byte fc 0b (memory.fill) at 0x1d in the code section, function 0: unknown byte\n\
+            bulk memory isn't served; clang: -fno-builtin, and copy no large struct\n",
+    },
+    // f32.const
+    Case {
+        bytes: b"\x00asm\x01\x00\x00\x00\x01\x04\x01\x60\x00\x00\x03\x02\x01\x00\
+            \x0a\x0a\x01\x08\x00\x43\x00\x00\x00\x00\x1a\x0b",
+        lines: "byte 43 (f32.const) at 0x17 in the code section, function 0: float type or opcode left out\n\
+            floats aren't served, and no switch of a compiler takes them away: use integers\n",
+    },
+    // a function with a float
+    Case {
+        bytes: b"\x00asm\x01\x00\x00\x00\x01\x05\x01\x60\x01\x7c\x00",
+        lines: "byte 7c (the type f64) at 0xd in the type section: float type or opcode left out\n\
+            floats aren't served, and no switch of a compiler takes them away: use integers\n",
+    },
+    // a count of data segments
+    Case {
+        bytes: b"\x00asm\x01\x00\x00\x00\x0c\x01\x01",
+        lines: "byte 0c (data count) at 0x8 in the data count section: unknown byte\n\
+            bulk memory isn't served, by which wasm-ld fills the static data of a shared memory: \
+            use none, but fixed addresses, as examples/c does\n",
+    },
+    // a memory of 1 to 257 pages
+    Case {
+        bytes: b"\x00asm\x01\x00\x00\x00\x05\x05\x01\x03\x01\x81\x02",
+        lines: "byte 81 at 0xd in the memory section: past a limit\n\
+            a memory has 256 pages at most; wasm-ld: --max-memory=16777216, or less\n",
+    },
+    // an import
+    Case {
+        bytes: b"\x00asm\x01\x00\x00\x00\x01\x04\x01\x60\x00\x00\x02\x09\x01\x03env\x01g\x00\x00",
+        lines: "unknown import\n\
+            the module imports env g\n\
+            there are two imports, each once: the memory env memory, and the function wasi thread-spawn of (i32) -> i32\n",
+    },
+    // a start function
+    Case {
+        bytes: b"\x00asm\x01\x00\x00\x00\x01\x04\x01\x60\x00\x00\x03\x02\x01\x00\x08\x01\x00\x0a\x04\x01\x02\x00\x0b",
+        lines: "start section\n\
+            the start section, function 0\n\
+            export the function and invoke it; where wasm-ld made it, there is static data, which it fills: \
+            use fixed addresses, as examples/c does\n",
+    },
+    // a shared memory without a maximum
+    Case {
+        bytes: b"\x00asm\x01\x00\x00\x00\x05\x03\x01\x02\x01",
+        lines: "byte 02 at 0xb in the memory section: limits flag\na shared memory has a maximum; wasm-ld: --max-memory=16777216, or less\n",
+    },
+    // a drop of nothing
+    Case {
+        bytes: b"\x00asm\x01\x00\x00\x00\x01\x04\x01\x60\x00\x00\x03\x02\x01\x00\
+            \x0a\x05\x01\x03\x00\x1a\x0b\x00\x0b\x04name\x01\x04\x01\x00\x01f",
+        lines: "instruction 0 at 0x17, function 0 (f): type mismatch\n",
+    },
+];
+
+/// Adds the lines on bytes that are refused as a module.
+fn explain_module(alloc: Global, out: &mut String, bytes: &[u8]) -> Result<(), Fail> {
+    match read(alloc, bytes) {
+        Err(ReadFault::Malformed { kind, offset }) => {
+            let refused = Refused::Bytes {
+                bytes,
+                kind,
+                offset,
+            };
+            explain(alloc, out, &refused)?;
+        }
+        Err(fault) => return Err(fault.into()),
+        Ok(module) => {
+            if let Err(fault) = validate(alloc, module) {
+                explain(alloc, out, &Refused::Module(bytes, fault))?;
+            }
+        }
+    }
+    Ok(())
+}
+
+#[test]
+fn refused_modules_are_explained(rt: HostRuntime) -> Result<(), Fail> {
+    for case in MODULES.iter() {
+        let mut lines = String::new(rt.alloc());
+        lines.push_str("before\n")?;
+        explain_module(rt.alloc(), &mut lines, case.bytes)?;
+        assert_eq!(rt; lines.as_str().strip_prefix("before\n"), Some(case.lines));
+    }
+    Ok(())
+}
+
+static TEXTS: [Case; 6] = [
+    Case {
+        bytes: b"wathread-record 9\n",
+        lines: "line 1: the record has wathread-record 9\n\
+            the first line of a record is wathread-record, a space and the version, 1 or 2\n",
+    },
+    Case {
+        bytes: b"wathread-record 1\ninvoke 6\n",
+        lines: "line 2: the record has invoke 6\n\
+            here stands invoke, and the function's name in hexadecimal digits of its bytes, or -\n",
+    },
+    Case {
+        bytes: b"wathread-record 1\ninvoke 66\nargs\nfuel 9\nlimit 9\n0 load 1 = \x1b\n",
+        lines: "line 6: the record has t0 load 1 = ?\n\
+            it is no line that may stand there: an entry, an end, the pages or finish, with one spelling each\n",
+    },
+    Case {
+        bytes: b"wathread-record 1\ninvoke 66\nargs\nfuel 9\nlimit 9\n0 load 0 4 4 = 0\n",
+        lines: "the text ends before the line finish: it may be cut\n",
+    },
+    Case {
+        bytes: b"wathread-record 2\nmodule 9\nthreads 0\n",
+        lines: "line 3: the record has threads 0\n\
+            here stands threads N, how many threads there may be\n",
+    },
+    Case {
+        bytes: b"",
+        lines: "line 1: the record has \n\
+            the first line of a record is wathread-record, a space and the version, 1 or 2\n",
+    },
+];
+
+#[test]
+fn refused_texts_are_explained(rt: HostRuntime) -> Result<(), Fail> {
+    for case in TEXTS.iter() {
+        let mut lines = String::new(rt.alloc());
+        if let Err(fault) = read_record(rt.alloc(), case.bytes) {
+            explain(rt.alloc(), &mut lines, &Refused::Text(case.bytes, fault))?;
+        }
+        assert_eq!(rt; lines.as_str(), case.lines);
+    }
+    Ok(())
+}
+
+const LOG: &[u8] =
+    b"wathread-record 1\ninvoke 66\nargs\nfuel 9\nlimit 9\n4 cmpxchg 1024 4 0 1 = 0\n";
+
+/// A line of `LOG` that doesn't fit, and the lines that are said of it.
+struct Unfit {
+    number: usize,
+    misfit: Option<Misfit<'static>>,
+    lines: &'static str,
+}
+
+static UNFIT: [Unfit; 3] = [
+    Unfit {
+        number: 6,
+        misfit: Some(Misfit {
+            thread: 4,
+            instead: Instead::Wants(Event::Rmw {
+                op: RmwOp::Xchg,
+                addr: 1024,
+                width: 4,
+                value: 2,
+            }),
+            spot: Some("lock+0x9 lock.c:7"),
+        }),
+        lines: "line 6: the record has t4 cmpxchg 1024 4 0 1 = 0\n\
+            t4 would do rmw xchg 1024 4 2, at lock+0x9 lock.c:7\n\
+            no run of this module goes on so: is the record of another module, or of another build of it?\n",
+    },
+    Unfit {
+        number: 6,
+        misfit: Some(Misfit {
+            thread: 4,
+            instead: Instead::Ended(Outcome::Stop(Stop::OutOfFuel)),
+            spot: None,
+        }),
+        lines: "line 6: the record has t4 cmpxchg 1024 4 0 1 = 0\n\
+            t4 has ended: stop out of fuel\n\
+            no run of this module goes on so: is the record of another module, or of another build of it?\n",
+    },
+    Unfit {
+        number: 9,
+        misfit: None,
+        lines: "no run of this module goes on so: is the record of another module, or of another build of it?\n",
+    },
+];
+
+#[test]
+fn lines_that_do_not_fit_are_explained(rt: HostRuntime) -> Result<(), Fail> {
+    for unfit in UNFIT.iter() {
+        let mut lines = String::new(rt.alloc());
+        let refused = Refused::Line {
+            saved: LOG,
+            number: unfit.number,
+            misfit: unfit.misfit,
+        };
+        explain(rt.alloc(), &mut lines, &refused)?;
+        assert_eq!(rt; lines.as_str(), unfit.lines);
+    }
+    Ok(())
+}
+
+/// What a run printed, and the lines that are said of it.
+static ENDS: [(&str, &str); 3] = [
+    (
+        "thread 0: ok\nthread 1: stop record full\npages 1\n",
+        "the record took no further entry: --limit takes up to 1000000, and --memory words has no limit and keeps no \
+            record\n",
+    ),
+    (
+        "thread 0: stop asleep for good\nthread 1: trap unaligned atomic\npages 1\n",
+        "a thread sleeps where nobody is left to wake it: `show` has the line on which it fell asleep\n\
+            an atomic access wants an address that its width divides\n",
+    ),
+    ("thread 0: ok\npages 1\n", ""),
+];
+
+#[test]
+fn ends_are_explained(rt: HostRuntime) -> Result<(), Fail> {
+    for (printed, wanted) in ENDS.iter() {
+        let mut lines = String::new(rt.alloc());
+        explain(rt.alloc(), &mut lines, &Refused::Ends(printed))?;
+        assert_eq!(rt; lines.as_str(), *wanted);
+    }
+    Ok(())
+}
+
+/// A call of `TELLING`, and the lines that are said of it.
+struct Call {
+    name: &'static str,
+    given: usize,
+    lines: &'static str,
+}
+
+static CALLS: [Call; 3] = [
+    Call {
+        name: "f",
+        given: 2,
+        lines: "f is of type (i32) -> (i32); arguments wanted: 1, given: 2\n\
+            an argument is an unsigned decimal that fits its type; -1 of an i32 is 4294967295\n",
+    },
+    Call {
+        name: "f",
+        given: 1,
+        lines: "f is of type (i32) -> (i32)\n\
+            an argument is an unsigned decimal that fits its type; -1 of an i32 is 4294967295\n",
+    },
+    Call {
+        name: "g",
+        given: 0,
+        lines: "there is --invoke f\nthere is --invoke wasi_thread_start\n",
+    },
+];
+
+#[test]
+fn calls_are_explained(rt: HostRuntime) -> Result<(), Fail> {
+    let module = read(rt.alloc(), TELLING)?;
+    for call in CALLS.iter() {
+        let mut lines = String::new(rt.alloc());
+        let refused = Refused::Call {
+            parts: module.parts(),
+            name: call.name,
+            given: call.given,
+        };
+        explain(rt.alloc(), &mut lines, &refused)?;
+        assert_eq!(rt; lines.as_str(), call.lines);
+    }
+    Ok(())
+}
