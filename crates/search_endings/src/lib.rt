@@ -2,9 +2,10 @@
 #![tactic(auto)]
 
 mod ending;
+mod met;
 mod table;
 mod words;
 
 pub use ending::{Ending, ending_of, have_one_ending};
-pub use table::{Met, Table};
+pub use met::{Met, Table};
 pub use words::{has_line_with, lacks_in_thread_0};

@@ -1,0 +1,2 @@
+mod Differing
+pub mod Noting

@@ -1,0 +1,236 @@
+//! The first run with an ending that is looked for.
+ghost use Rattle.std.specs.Prelude.{◌≡◌, ◌+◌, ◌<◌, ◌≤◌, ◌^◌, All, IfOk, OnOk, IfSome, MatchOption};
+ghost use Rattle.search_finds.specs.Finds.{IsFind, IsMet, EndsAsLookedFor};
+
+use crate::sought::Sought;
+use search_endings::{Ending, Table, ending_of};
+use search_scheduled::{Made, SearchFault, run_along};
+use search_strategies::{Along, MOST_DEPTH, Pct, Random, Way};
+use spawn_host::Call;
+use std::alloc::Global;
+use std::thread::{Threads, map_indices};
+use validate::ValidModule;
+
+/// How many runs a job makes before the endings are looked at.
+const PIECE: usize = 128;
+
+/// A run that was found, and its number.
+#[derive(Debug, Drop)]
+pub struct Found {
+    pub run: u64,
+    pub made: Made,
+}
+
+/// The endings that were met, and the run that was found, if one was: the last that was noted.
+#[derive(Debug, Drop)]
+pub struct Searched {
+    pub table: Table,
+    pub found: Option<Found>,
+}
+
+/// A module, the call of a function of it, and what is looked for among the runs by that call.
+#[derive(Clone, Copy)]
+struct Search<'a> {
+    module: &'a ValidModule,
+    call: Call<'a>,
+    sought: Sought<'a>,
+    /// Among how many entries the points lie at which priorities change.
+    entries: u32,
+    ghost some: { 0 < entries },
+}
+
+/// How many entries the run has in which a thread goes on as long as it can: among so many lie the points at which priorities change.
+fn plain_entries(
+    alloc: Global,
+    module: &ValidModule,
+    call: Call,
+    sought: &Sought,
+) -> Result<u32, SearchFault>
+    ensures { IfOk result (λ entries. 0 < entries) }
+{
+    match sought.way {
+        Way::Random => Ok(1),
+        Way::Priorities(_) => {
+            let plain = run_along(alloc, module, call, sought.limit, &mut Along::new(&[]))?;
+            let entries = plain.record.parts().log.as_slice().len();
+            Ok((entries.min(1_000_000) as u32).max(1))
+        }
+    }
+}
+
+impl Search<'_> {
+    /// Makes a run of this number.
+    fn run(&self, alloc: Global, run: u64) -> Result<Made, SearchFault>
+        ensures { IfOk result (IsFind self.now.«module».now.parts self.now.call self.now.sought.limit) }
+    {
+        let sought = &self.sought;
+        match sought.way {
+            Way::Random => {
+                let mut random = Random::new(sought.seed, run);
+                run_along(alloc, self.module, self.call, sought.limit, &mut random)
+            }
+            Way::Priorities(depth) => {
+                let depth = depth.min(MOST_DEPTH);
+                let mut pct = Pct::new(sought.seed, run, depth, self.entries);
+                run_along(alloc, self.module, self.call, sought.limit, &mut pct)
+            }
+        }
+    }
+
+    /// The ending of the run of this number.
+    fn ending(&self, alloc: Global, run: u64) -> Result<Ending, SearchFault>
+        ensures { IfOk result (IsMet self.now.«module».now.parts self.now.call self.now.sought.limit self.now.sought.dump) }
+    {
+        let made = self.run(alloc, run)?;
+        Ok(ending_of(alloc, &made.end, self.sought.dump)?)
+    }
+
+    /// Makes the run of this number, which is given where it ends as is looked for.
+    fn found(&self, alloc: Global, run: u64) -> Result<Option<Found>, SearchFault>
+        ensures { IfOk result (λ found. IfSome found (λ f. IsFind self.now.«module».now.parts self.now.call self.now.sought.limit f.made
+            × EndsAsLookedFor self.now.sought self.now.sought.dump f.made.end)) }
+    {
+        let made = self.run(alloc, run)?;
+        let ending = ending_of(alloc, &made.end, self.sought.dump)?;
+        if self.sought.is_ending(alloc, &ending)? {
+            Ok(Some(Found { run, made }))
+        } else {
+            Ok(None)
+        }
+    }
+
+    /// The endings of runs in a row, the last first.
+    fn endings(&self, alloc: Global, from: u64, count: usize) -> Result<Vec<Ending>, SearchFault>
+        ensures { IfOk result (λ endings. All (IsMet self.now.«module».now.parts self.now.call self.now.sought.limit
+            self.now.sought.dump) endings.items) }
+    {
+        let mut endings = Vec::new(alloc);
+        for n in (0..count).rev() {
+            endings.push(self.ending(alloc, from.saturating_add(n as u64))?)?;
+        }
+        Ok(endings)
+    }
+
+    /// Adds the endings of the last piece, if there is one, and takes it away.
+    fn add(
+        &self,
+        endings: &mut Vec<Ending>,
+        pieces: &mut Vec<Result<Vec<Ending>, SearchFault>>,
+    ) -> Result<(), SearchFault>
+        requires endings { All (IsMet self.now.«module».now.parts self.now.call self.now.sought.limit self.now.sought.dump)
+            endings.old.items }
+        requires pieces { All (λ piece. IfOk piece (λ made. All (IsMet self.now.«module».now.parts self.now.call self.now.sought.limit
+            self.now.sought.dump) made.items)) pieces.old.items }
+        ensures endings { OnOk result (All (IsMet self.now.«module».now.parts self.now.call self.now.sought.limit self.now.sought.dump)
+            endings.new.items) }
+        ensures pieces { OnOk result (All (λ piece. IfOk piece (λ made. All (IsMet self.now.«module».now.parts self.now.call
+            self.now.sought.limit self.now.sought.dump) made.items)) pieces.new.items) }
+    {
+        let Some(piece) = pieces.pop() else {
+            return Ok(());
+        };
+        let mut made = piece?;
+        endings.append(&mut made)?;
+        Ok(())
+    }
+
+    /// The endings of runs in a row, the last first: each job makes as many of them as another, or fewer.
+    fn endings_by<R: Threads + Sync>(
+        &self,
+        rt: &R,
+        alloc: Global,
+        jobs: usize,
+        from: u64,
+        count: u64,
+    ) -> Result<Vec<Ending>, SearchFault>
+        ensures { IfOk result (λ endings. All (IsMet self.now.«module».now.parts self.now.call self.now.sought.limit
+            self.now.sought.dump) endings.items) }
+    {
+        let mut pieces = map_indices(
+            rt,
+            alloc,
+            jobs,
+            &|job| {
+                let first = (job as u64).saturating_mul(PIECE as u64);
+                let left = count.saturating_sub(first).min(PIECE as u64);
+                self.endings(alloc, from.saturating_add(first), left as usize)
+            },
+        )?;
+        let mut endings = Vec::new(alloc);
+        for _ in 0..jobs {
+            self.add(&mut endings, &mut pieces)?;
+        }
+        Ok(endings)
+    }
+
+    /// The ending of the run of this number, with which `left` runs are left: one that was made ahead, or it is made, and others after
+    /// it.
+    fn next_ending<R: Threads + Sync>(
+        &self,
+        rt: &R,
+        alloc: Global,
+        jobs: usize,
+        run: u64,
+        left: u64,
+        ahead: &mut Vec<Ending>,
+    ) -> Result<Ending, SearchFault>
+        requires { All (IsMet self.now.«module».now.parts self.now.call self.now.sought.limit self.now.sought.dump) ahead.old.items }
+        ensures met { IfOk result (IsMet self.now.«module».now.parts self.now.call self.now.sought.limit self.now.sought.dump) }
+        ensures ahead { OnOk result (All (IsMet self.now.«module».now.parts self.now.call self.now.sought.limit self.now.sought.dump)
+            ahead.new.items) }
+    {
+        if let Some(ending) = ahead.pop() {
+            return Ok(ending);
+        }
+        *ahead = self.endings_by(rt, alloc, jobs, run, left)?;
+        match ahead.pop() {
+            Some(ending) => Ok(ending),
+            None => self.ending(alloc, run),
+        }
+    }
+}
+
+/// Makes runs of an exported function of a module in the order of their numbers, by so many threads, and notes the ending of each, up to
+/// the first that is looked for. Run number I of a seed is the same run, whoever makes it, and so is what is found.
+///
+/// Each ending of the table is one of a run of the module by the call, and so is what is found: it ends as is looked for. Where nothing
+/// is found, all runs were made.
+///
+/// # Errors
+/// As of `run_along`.
+pub fn first_found<R: Threads + Sync>(
+    rt: &R,
+    alloc: Global,
+    module: &ValidModule,
+    call: Call,
+    sought: &Sought,
+    jobs: usize,
+) -> Result<Searched, SearchFault>
+    requires { sought.now.from + sought.now.runs < 2 ^ 64 }
+    ensures met { IfOk result (λ s. All (λ met. IsMet «module».now.parts call.entry sought.now.limit sought.now.dump met.ending)
+        s.table.met.items) }
+    ensures found { IfOk result (λ s. MatchOption s.found (s.table.runs ≡ sought.now.runs)
+        (λ f. IsFind «module».now.parts call.entry sought.now.limit f.made × EndsAsLookedFor sought.now sought.now.dump f.made.end)) }
+{
+    let search = Search {
+        module,
+        call,
+        sought: *sought,
+        entries: plain_entries(alloc, module, call, sought)?,
+    };
+    let mut table = Table::new(alloc);
+    let mut ahead = Vec::new(alloc);
+    let end = sought.from + sought.runs;
+    for run in sought.from..end {
+        let ending = search.next_ending(rt, alloc, jobs, run, end - run, &mut ahead)?;
+        let is_sought = sought.is_ending(alloc, &ending)?;
+        table.note(run, ending)?;
+        if is_sought && let Some(found) = search.found(alloc, run)? {
+            return Ok(Searched {
+                table,
+                found: Some(found),
+            });
+        }
+    }
+    Ok(Searched { table, found: None })
+}

@@ -1,0 +1,21 @@
+//! Searching: many runs of a module along schedules that are drawn, the first with an ending that is looked for, and of that one a
+//! run with few switches of threads.
+//!
+//! - `Sought` says which runs are made, and what is looked for.
+//! - `first_found` makes them one by one and notes their endings, up to the first that is looked for.
+//! - `shrunk` tries parts of that run's schedule; a run that ends alike with fewer switches, or with as many and fewer entries, takes
+//!   its place.
+//!
+//! All runs are `search_scheduled::run_along`'s: so what is found, and what becomes of it, is a run of the module (`IsFind`,
+//! specs/Finds.antt).
+#![tactic(auto)]
+
+mod finding;
+mod shrinking;
+mod size;
+mod sought;
+
+pub use finding::{Found, Searched, first_found};
+pub use shrinking::shrunk;
+pub use size::{Size, size_of};
+pub use sought::Sought;
