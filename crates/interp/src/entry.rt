@@ -21,6 +21,7 @@ pub(crate) fn start<'m>(
 ) -> Result<State<'m>, AllocError>
     requires { (t : FuncType) × (body : Body) × IsFunction valid.now.parts own t body × (map type_of args.now ≡ t.params) }
     ensures function { IfOk result (λ s. s.function ≡ own) }
+    ensures tables { IfOk result (λ s. s.program.tables.now ≡ valid.now.tables) }
     ensures stands { IfOk result (StandsAtStart valid.now.parts own args.now) }
 {
     let parts = valid.parts();

@@ -1,6 +1,7 @@
 //! The concrete thread: it runs flat code by its table of branches, and makes its turns as the thread machine does.
 #![tactic(auto)]
 
+mod called;
 mod dispatch;
 mod entry;
 mod kept;

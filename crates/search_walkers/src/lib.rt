@@ -3,11 +3,13 @@
 //! `specs/Walkers.antt` says which thread without a budget (crate `search_threads`) a walker stands for, and where it comes to rest.
 #![tactic(auto)]
 
+mod beginning;
 mod rest;
 mod taking;
 mod walker;
 mod wants;
 
+pub use beginning::begin;
 pub use taking::{hear, take};
 pub use walker::Standing;
 pub use wants::wanted;

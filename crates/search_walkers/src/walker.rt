@@ -1,6 +1,7 @@
 //! A thread at rest.
 
 use interp::Kept;
+use std::alloc::{AllocError, Global};
 use types::Outcome;
 
 /// How far a thread is that makes no turn of its own.
@@ -16,4 +17,27 @@ pub enum Standing {
     Leaving(Outcome),
     /// It has left.
     Away(Outcome),
+}
+
+impl Standing {
+    ghost use Rattle.std.specs.Prelude.{IfOk};
+    ghost use Rattle.validate_typing.specs.Tabled.{WithTables};
+    ghost use Rattle.search_runs.specs.Called.{Walker as Thread};
+    ghost use Rattle.search_walkers.specs.Walkers.{StandsFor};
+
+    /// A copy.
+    ///
+    /// # Errors
+    /// Where memory is refused.
+    pub fn copy(&self, alloc: Global) -> Result<Standing, AllocError>
+        ensures { IfOk result (λ s. (w : WithTables) (v : Thread) → StandsFor w self.now v → StandsFor w s v) }
+    {
+        match self {
+            Standing::Missing => Ok(Standing::Missing),
+            Standing::Going(kept) => Ok(Standing::Going(kept.copy(alloc)?)),
+            Standing::Ended(outcome) => Ok(Standing::Ended(*outcome)),
+            Standing::Leaving(outcome) => Ok(Standing::Leaving(*outcome)),
+            Standing::Away(outcome) => Ok(Standing::Away(*outcome)),
+        }
+    }
 }
