@@ -48,6 +48,7 @@ fn read_groups(
         push_locals(&mut locals, number, val_type)?;
         left -= number;
     }
+    locals.shrink_to_fit();
     Ok(Sequence::from_vec(locals))
 }
 

@@ -27,6 +27,7 @@ pub fn read_expression(reader: &mut Reader, alloc: Global) -> Result<Sequence<In
         let instr = read_instr(reader, alloc, &mut open_blocks)?;
         code.push(instr)?;
         if open_blocks.is_empty() {
+            code.shrink_to_fit();
             return Ok(Sequence::from_vec(code));
         }
     }

@@ -6,3 +6,4 @@ pub mod Codes
 pub mod Blocks
 pub mod Branch
 pub mod Returns
+pub mod Tops

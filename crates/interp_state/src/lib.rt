@@ -8,6 +8,6 @@ mod state;
 mod steps;
 
 pub use functions::{Code, code_of};
-pub use stack::{pop, pop_i32, pop_i64, push, push_zeros};
+pub use stack::{pop, pop_i32, pop_i64, push, push_zeros, replace_top, top, top_i32, top_i64};
 pub use state::{Caller, Program, Progress, State, Step};
 pub use steps::came_to;

@@ -1,6 +1,6 @@
 //! The stack of values.
 
-ghost use Rattle.std.specs.Prelude.{◌≡◌, ◌+◌, ◌<◌, ◌≤◌, [], ◌∷◌, ◌++◌, length, map, reverse, vec_len, vec_capacity};
+ghost use Rattle.std.specs.Prelude.{◌≡◌, ◌+◌, ◌<◌, ◌≤◌, List, [], ◌∷◌, ◌++◌, length, map, reverse, vec_len, vec_capacity};
 ghost use Rattle.types.specs.declared.value.ValType.{ValType};
 ghost use Rattle.types.specs.declared.value.Value.{Value};
 ghost use Rattle.types.specs.Values.{type_of};
@@ -16,10 +16,7 @@ pub fn pop(values: &mut Vec<Value>) -> Value
     ensures value { reverse values.old.items ≡ result ∷ reverse values.new.items }
     ensures capacity { vec_capacity values.new ≡ vec_capacity values.old }
 {
-    match values.pop() {
-        Some(value) => value,
-        None => unreachable!(),
-    }
+    values.take_last()
 }
 
 /// Takes the topmost number of 32 bits.
@@ -29,8 +26,8 @@ pub fn pop_i32(values: &mut Vec<Value>) -> u32
     ensures value { reverse values.old.items ≡ Value.I32 result ∷ reverse values.new.items }
     ensures capacity { vec_capacity values.new ≡ vec_capacity values.old }
 {
-    match values.pop() {
-        Some(Value::I32(number)) => number,
+    match values.take_last() {
+        Value::I32(number) => number,
         _ => unreachable!(),
     }
 }
@@ -42,10 +39,55 @@ pub fn pop_i64(values: &mut Vec<Value>) -> u64
     ensures value { reverse values.old.items ≡ Value.I64 result ∷ reverse values.new.items }
     ensures capacity { vec_capacity values.new ≡ vec_capacity values.old }
 {
-    match values.pop() {
-        Some(Value::I64(number)) => number,
+    match values.take_last() {
+        Value::I64(number) => number,
         _ => unreachable!(),
     }
+}
+
+/// The topmost value.
+#[inline(always)]
+pub fn top(values: &Vec<Value>) -> Value
+    requires { 0 < length values.now.items }
+    ensures { (below : List Value) × (reverse values.now.items ≡ result ∷ reverse below) }
+{
+    values[values.len() - 1]
+}
+
+/// The topmost number of 32 bits.
+#[inline(always)]
+pub fn top_i32(values: &Vec<Value>) -> u32
+    requires { HasOnTop (ValType.I32 ∷ []) (map type_of (reverse values.now.items)) }
+    ensures { (below : List Value) × (reverse values.now.items ≡ Value.I32 result ∷ reverse below) }
+{
+    match values[values.len() - 1] {
+        Value::I32(operand) => operand,
+        Value::I64(_) => unreachable!(),
+    }
+}
+
+/// The topmost number of 64 bits.
+#[inline(always)]
+pub fn top_i64(values: &Vec<Value>) -> u64
+    requires { HasOnTop (ValType.I64 ∷ []) (map type_of (reverse values.now.items)) }
+    ensures { (below : List Value) × (reverse values.now.items ≡ Value.I64 result ∷ reverse below) }
+{
+    match values[values.len() - 1] {
+        Value::I64(operand) => operand,
+        Value::I32(_) => unreachable!(),
+    }
+}
+
+/// Puts a value in the place of the topmost one.
+#[inline(always)]
+pub fn replace_top(values: &mut Vec<Value>, value: Value)
+    requires { 0 < length values.old.items }
+    ensures value { (top : Value) (below : List Value) → reverse values.old.items ≡ top ∷ reverse below
+        → reverse values.new.items ≡ value ∷ reverse below }
+    ensures capacity { vec_capacity values.new ≡ vec_capacity values.old }
+{
+    let last = values.len() - 1;
+    values[last] = value;
 }
 
 /// Puts a value on top.

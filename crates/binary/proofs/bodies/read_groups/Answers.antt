@@ -32,7 +32,7 @@ loop-preserved c = record {
 }
 
 pub returns-clause-gives : goal.returns-clause-gives
-returns-clause-gives c = rw c.from_vec.ensures (groups_done c.loop.locals.items c.args.count c.loop.counter c.loop.left
+returns-clause-gives c = rw (c.from_vec.ensures, c.shrink_to_fit.ensures.items) (groups_done c.loop.locals.items c.args.count c.loop.counter c.loop.left
     c.args.reader.now.bounds c.loop.reader.rest.now
     (groups_at c.args.count c.args.room c.args.reader.now.bounds c.args.reader.now.rest.now) c.loop-test.false
     c.loop.invariant.so_far)

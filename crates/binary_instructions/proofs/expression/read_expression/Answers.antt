@@ -27,7 +27,7 @@ returns-then-is_empty-clause-gives c =
     c.args.reader.now.bounds c.loop.reader.rest.now c.in_ok-instr.instr (reverse c.read_instr.new.open_blocks.items) _
     (code_at c.len-end.result (false ∷ []) c.args.reader.now.bounds c.args.reader.now.rest.now) c.loop-test.true inv.some
     (rw inv.keeps at c.in_ok-instr.ensures.gives) inv.so_far in
-    rw (← inv.top, c.from_vec.ensures, c.in_ok-push-2.ensures.items)
+    rw (← inv.top, c.from_vec.ensures, c.shrink_to_fit.ensures.items, c.in_ok-push-2.ensures.items)
     (code_done (c.loop.code.items ++ c.in_ok-instr.instr ∷ [])
     (c.len-end.result - (c.loop.counter + 1)) c.args.reader.now.bounds c.read_instr.new.reader.rest.now
     (reverse c.read_instr.new.open_blocks.items)

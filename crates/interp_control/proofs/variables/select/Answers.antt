@@ -1,4 +1,4 @@
-use Rattle.std.proofs.Common.{rules, ◌<◌, [], ◌∷◌, length, refl}
+use Rattle.std.proofs.Common.{rules, ◌<◌, [], ◌∷◌, length, reverse, refl}
 use Rattle.std.proofs.lemmas.Option.{slice_get_within}
 use Rattle.interp_control.proofs.Values.{select_ready, selects}
 use Rattle.interp_state.proofs.Views.{tops_below, some_on}
@@ -16,12 +16,12 @@ pop-second-requires c = let t = select_ready c.args.state.now c.requires in
     some_on c.pop_i32-number.new.values.items t.0 (t.0 ∷ [])
     (tops_below _ _ _ _ (t.0 ∷ (t.0 ∷ [])) t.1 c.pop_i32-number.ensures.value)
 
-pub pop-first-requires : goal.pop-first-requires
-pop-first-requires c = let t = select_ready c.args.state.now c.requires in
+pub top-first-requires : goal.top-first-requires
+top-first-requires c = let t = select_ready c.args.state.now c.requires in
     some_on c.pop-second.new.values.items t.0 []
     (tops_below _ _ _ _ (t.0 ∷ []) (tops_below _ _ _ _ (t.0 ∷ (t.0 ∷ [])) t.1 c.pop_i32-number.ensures.value) c.pop-second.ensures.value)
 
 pub returns : goal.returns
-returns c = λ w k v st. selects w c.args.state.now _ k c.pop_i32-number.result c.pop-second.result c.pop-first.result _
-    _ _ _ st c.requires c.pop_i32-number.ensures.value c.pop-second.ensures.value c.pop-first.ensures.value
-    (search rules) c.push.ensures.value refl refl refl refl
+returns c = λ w k v st. selects w c.args.state.now _ k c.pop_i32-number.result c.pop-second.result c.top-first.result _
+    _ _ (reverse c.top-first.ensures.0) st c.requires c.pop_i32-number.ensures.value c.pop-second.ensures.value c.top-first.ensures.1
+    (search rules) (c.replace_top.ensures.value c.top-first.result c.top-first.ensures.0 c.top-first.ensures.1) refl refl refl refl
