@@ -6,7 +6,7 @@ ghost use Rattle.report_command.specs.FaultNumbers.{usage_number, IsWrong};
 
 use crate::show::{misread, show_command, show_job};
 use clap::error::ErrorKind;
-use clap::{Arg, ArgMatches, Command, Error, value_parser};
+use clap::{Arg, ArgAction, ArgMatches, Command, Error, value_parser};
 use show_text::Look;
 use std::alloc::{AllocError, Global};
 use types::{MOST_FUEL, MOST_LIMIT};
@@ -114,11 +114,20 @@ pub(crate) fn file_argument<'a>(alloc: Global) -> Arg<'a> {
         .required(true)
 }
 
-/// `check FILE`
+/// Whether more is said of a refusal.
+fn explain_argument<'a>(alloc: Global) -> Arg<'a> {
+    Arg::new(alloc, "explain")
+        .long("explain")
+        .help("Say on standard error, behind a refusal, where and why it is, and what to do")
+        .action(ArgAction::SetTrue)
+}
+
+/// `check FILE [--explain]`
 fn check_command<'a>(alloc: Global) -> Result<Command<'a>, AllocError> {
     Command::new(alloc, "check")
         .about("Reads a module, and says how many functions of its own it has")
-        .arg(file_argument(alloc))
+        .arg(file_argument(alloc))?
+        .arg(explain_argument(alloc))
 }
 
 /// How many bytes a dump shows.
@@ -163,7 +172,8 @@ fn with_memory<'a>(alloc: Global, command: Command<'a>) -> Result<Command<'a>, A
     command.arg(memory)?.arg(record)
 }
 
-/// `run FILE --invoke NAME [--memory locked|words] [--fuel N] [--limit N] [--record OUT] [--dump N] [ARG..]`
+/// `run FILE --invoke NAME [--memory locked|words] [--fuel N] [--limit N] [--record OUT] [--dump N]
+/// [--explain] [ARG..]`
 fn run_command<'a>(alloc: Global) -> Result<Command<'a>, AllocError> {
     let invoke = Arg::new(alloc, "invoke")
         .long("invoke")
@@ -180,10 +190,11 @@ fn run_command<'a>(alloc: Global) -> Result<Command<'a>, AllocError> {
         .arg(invoke)?;
     with_bounds(alloc, with_memory(alloc, command)?)?
         .arg(dump_argument(alloc))?
+        .arg(explain_argument(alloc))?
         .arg(args)
 }
 
-/// `replay FILE RECORD [--dump N]`
+/// `replay FILE RECORD [--dump N] [--explain]`
 fn replay_command<'a>(alloc: Global) -> Result<Command<'a>, AllocError> {
     let record = Arg::new(alloc, "record")
         .value_name("RECORD")
@@ -193,7 +204,8 @@ fn replay_command<'a>(alloc: Global) -> Result<Command<'a>, AllocError> {
         .about("Runs a record again by one thread, and prints what the run printed")
         .arg(file_argument(alloc))?
         .arg(record)?
-        .arg(dump_argument(alloc))
+        .arg(dump_argument(alloc))?
+        .arg(explain_argument(alloc))
 }
 
 /// The whole command line.
@@ -371,14 +383,43 @@ fn misuse_of(job: &Job) -> Option<Misuse>
     }
 }
 
+/// What the words ask for: a job, and whether more is said where something is refused.
+#[derive(Debug, Drop)]
+pub struct Order<'a> {
+    pub job: Job<'a>,
+    pub explain: bool,
+}
+
+/// Whether more is said of a refusal, by commands that have the option.
+fn explains(matches: &ArgMatches) -> bool {
+    match matches.subcommand() {
+        Some(("check" | "run" | "replay", matches)) => matches.get_flag("explain"),
+        _ => false,
+    }
+}
+
+/// Reads the command line, of which the first word is the program's name.
+///
+/// # Errors
+/// As those of `asked`.
+pub fn command<'a>(alloc: Global, words: &'a [&'a str]) -> Result<Job<'a>, Usage>
+    ensures range { IfOk result IsInRange }
+    ensures kept { IfOk result KeepsItsModule }
+{
+    match asked(alloc, words) {
+        Ok(asked) => Ok(asked.job),
+        Err(usage) => Err(usage),
+    }
+}
+
 /// Reads the command line, of which the first word is the program's name.
 ///
 /// # Errors
 /// `Wrong` where the words are no job, also where a record of a memory of words is wanted, which keeps none, or one at the
 /// path of the module; `Help` where they ask for help or the version; `NoMemory`.
-pub fn command<'a>(alloc: Global, words: &'a [&'a str]) -> Result<Job<'a>, Usage>
-    ensures range { IfOk result IsInRange }
-    ensures kept { IfOk result KeepsItsModule }
+pub fn asked<'a>(alloc: Global, words: &'a [&'a str]) -> Result<Order<'a>, Usage>
+    ensures range { IfOk result (λ asked. IsInRange asked.job) }
+    ensures kept { IfOk result (λ asked. KeepsItsModule asked.job) }
 {
     let matches = commands(alloc)?.try_get_matches_from(words)?;
     if let Some(misuse) = misread(&matches) {
@@ -388,7 +429,10 @@ pub fn command<'a>(alloc: Global, words: &'a [&'a str]) -> Result<Job<'a>, Usage
         return Err(misused(alloc, Misuse::Unreadable));
     };
     match misuse_of(&job) {
-        None => Ok(job),
+        None => Ok(Order {
+            explain: explains(&matches),
+            job,
+        }),
         Some(misuse) => Err(misused(alloc, misuse)),
     }
 }

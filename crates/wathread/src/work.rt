@@ -2,11 +2,13 @@
 
 ghost use Rattle.report_command.specs.Jobs.{IsInRange};
 
+use crate::copied::Copied;
 use crate::telling::{tell, tell_file_fault, tell_no_memory, tell_usage};
 use report::{perform, show_saved};
 use report_command::{Job, Misuse, Usage, misused};
 use report_files::{Noted, Place, SavedFile, Unread, is_one_file, read_module, read_saved};
-use std::alloc::AllocError;
+use report_reasons::{Done, explain_done};
+use std::alloc::{AllocError, Global};
 use std::io::{self, BufWriter, ErrorKind};
 use std::sync::Wait;
 use std::thread::Threads;
@@ -133,11 +135,20 @@ fn finish(rt: &HostRuntime, job: &Job, status: u8, save: SavedFile) -> u8 {
     }
 }
 
+/// Puts behind what is said on standard error why the job came to its status, as far as there is memory.
+fn add_reasons(alloc: Global, job: &Job, done: Done, err: &mut Vec<u8>) {
+    let mut lines = String::new(alloc);
+    if explain_done(alloc, job, done, &mut lines).is_ok() {
+        let _ = err.extend_from_slice(lines.as_bytes());
+    }
+}
+
 /// Does a job whose files can be read, and whose record can be written.
 fn attempt<'a, R: Threads + Wait + Sync>(
     rt: &HostRuntime,
     threads: &R,
     job: &Job<'a>,
+    explain: bool,
 ) -> Result<u8, Stop<'a>>
     requires { IsInRange job.now }
 {
@@ -151,7 +162,8 @@ fn attempt<'a, R: Threads + Wait + Sync>(
     let place = place_of(rt, job)?;
     let room = record_of(job).unwrap_or("").len().saturating_add(LINE);
     let mut err = Vec::with_capacity(alloc, room)?;
-    let mut out = BufWriter::with_capacity(alloc, OUT, Noted::new(rt.stdout()))?;
+    let stdout = Copied::new(alloc, Noted::new(rt.stdout()), explain);
+    let mut out = BufWriter::with_capacity(alloc, OUT, stdout)?;
     let mut save = BufWriter::with_capacity(alloc, RECORD, SavedFile::new(rt, place))?;
     let status = match (job, &names) {
         (Job::Show { look, .. }, Some(names)) => {
@@ -161,18 +173,33 @@ fn attempt<'a, R: Threads + Wait + Sync>(
             threads, alloc, job, &module, &saved, &mut out, &mut err, &mut save,
         ),
     };
-    if !out.get_ref().is_closed() {
+    if let Some(printed) = out.get_ref().copy() {
+        let done = Done {
+            module: &module,
+            saved: &saved,
+            printed,
+            status,
+        };
+        add_reasons(alloc, job, done, &mut err);
+    }
+    if !out.get_ref().stream().is_closed() {
         tell(rt, &err);
     }
     let (save, _) = save.into_parts();
     Ok(finish(rt, job, status, save))
 }
 
-/// Does a job: reads its files, prints its lines in one piece, and keeps its record. Answers the status.
-pub(crate) fn work<R: Threads + Wait + Sync>(rt: &HostRuntime, threads: &R, job: &Job) -> u8
+/// Does a job: reads its files, prints its lines in one piece, and keeps its record. Answers the status. Where it is to explain,
+/// more lines stand on standard error behind a refusal.
+pub(crate) fn work<R: Threads + Wait + Sync>(
+    rt: &HostRuntime,
+    threads: &R,
+    job: &Job,
+    explain: bool,
+) -> u8
     requires { IsInRange job.now }
 {
-    match attempt(rt, threads, job) {
+    match attempt(rt, threads, job, explain) {
         Ok(status) => status,
         Err(Stop::NoMemory) => tell_no_memory(rt),
         Err(Stop::File(path)) => tell_file_fault(rt, path),

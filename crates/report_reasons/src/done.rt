@@ -1,0 +1,143 @@
+//! A job that is done, and why it came to its status.
+
+ghost use Rattle.std.specs.Prelude.{◌≡◌, IfOk, IfErr};
+ghost use Rattle.std.specs.String.{string_bytes};
+ghost use Rattle.show_reasons.specs.Added.{IsAddedTo};
+
+use binary::read;
+use binary_wire::ReadFault;
+use replay::{ReplayFault, replay};
+use replay_text::{Record, RecordFault, read_record};
+use report_command::Job;
+use show_reasons::{Refused, explain};
+use std::alloc::{AllocError, Global};
+use std::str::from_utf8;
+use types::Module;
+use validate::validate;
+use validate_typing::ValidFault;
+
+/// What a job read and printed, and the status that it came to, as `report::perform` answers it.
+#[derive(Clone, Copy)]
+pub struct Done<'a> {
+    /// The module's bytes.
+    pub module: &'a [u8],
+    /// Those of the record that was replayed, or none.
+    pub saved: &'a [u8],
+    /// The lines on standard output.
+    pub printed: &'a [u8],
+    pub status: u8,
+}
+
+/// Adds to a text the lines that explain why a job came to its status: where threads were stopped (1), or its module (2), its
+/// call (3) or its record (4) was refused. Of other statuses there is nothing to say.
+///
+/// # Errors
+/// Where memory is refused; then the text stays as it was.
+pub fn explain_done(
+    alloc: Global,
+    job: &Job,
+    done: Done,
+    out: &mut String,
+) -> Result<(), AllocError>
+    ensures added { IfOk result (λ _. IsAddedTo (string_bytes out.old) (string_bytes out.new)) }
+    ensures kept { IfErr result (λ _. string_bytes out.new ≡ string_bytes out.old) }
+{
+    match done.status {
+        1 => explain_ends(alloc, done.printed, out),
+        2 => explain_module(alloc, done.module, out),
+        3 => explain_call(alloc, job, done.module, out),
+        4 => explain_record(alloc, done, out),
+        _ => Ok(()),
+    }
+}
+
+/// Adds the lines on what a run printed.
+fn explain_ends(alloc: Global, printed: &[u8], out: &mut String) -> Result<(), AllocError>
+    ensures added { IfOk result (λ _. IsAddedTo (string_bytes out.old) (string_bytes out.new)) }
+    ensures kept { IfErr result (λ _. string_bytes out.new ≡ string_bytes out.old) }
+{
+    match from_utf8(printed) {
+        Ok(lines) => explain(alloc, out, &Refused::Ends(lines)),
+        Err(_) => Ok(()),
+    }
+}
+
+/// Adds the lines on a module that is refused.
+fn explain_module(alloc: Global, bytes: &[u8], out: &mut String) -> Result<(), AllocError>
+    ensures added { IfOk result (λ _. IsAddedTo (string_bytes out.old) (string_bytes out.new)) }
+    ensures kept { IfErr result (λ _. string_bytes out.new ≡ string_bytes out.old) }
+{
+    match read(alloc, bytes) {
+        Err(ReadFault::OutOfMemory) => Err(AllocError),
+        Err(ReadFault::Malformed { kind, offset }) => {
+            let refused = Refused::Bytes {
+                bytes,
+                kind,
+                offset,
+            };
+            explain(alloc, out, &refused)
+        }
+        Ok(module) => match fault_of(alloc, module) {
+            None => Ok(()),
+            Some(fault) => explain(alloc, out, &Refused::Module(bytes, fault)),
+        },
+    }
+}
+
+/// Why a module isn't valid, if it isn't.
+fn fault_of(alloc: Global, module: Module) -> Option<ValidFault> {
+    validate(alloc, module).err()
+}
+
+/// Adds the lines on a call that can't be made.
+fn explain_call(
+    alloc: Global,
+    job: &Job,
+    bytes: &[u8],
+    out: &mut String,
+) -> Result<(), AllocError>
+    ensures added { IfOk result (λ _. IsAddedTo (string_bytes out.old) (string_bytes out.new)) }
+    ensures kept { IfErr result (λ _. string_bytes out.new ≡ string_bytes out.old) }
+{
+    let (Job::Run { invoke, args, .. }, Ok(module)) = (job, read(alloc, bytes)) else {
+        return Ok(());
+    };
+    let refused = Refused::Call {
+        parts: module.parts(),
+        name: invoke,
+        given: args.len(),
+    };
+    explain(alloc, out, &refused)
+}
+
+/// Adds the lines on a record that is of no run.
+fn explain_record(alloc: Global, done: Done, out: &mut String) -> Result<(), AllocError>
+    ensures added { IfOk result (λ _. IsAddedTo (string_bytes out.old) (string_bytes out.new)) }
+    ensures kept { IfErr result (λ _. string_bytes out.new ≡ string_bytes out.old) }
+{
+    match read_record(alloc, done.saved) {
+        Err(RecordFault::NoMemory) => Err(AllocError),
+        Err(fault) => explain(alloc, out, &Refused::Text(done.saved, fault)),
+        Ok(record) => match misfit(alloc, done.module, &record) {
+            None => Ok(()),
+            Some(number) => {
+                let refused = Refused::Line {
+                    saved: done.saved,
+                    number: number as usize,
+                    misfit: None,
+                };
+                explain(alloc, out, &refused)
+            }
+        },
+    }
+}
+
+/// The line of a record that doesn't fit the module, if one doesn't.
+fn misfit(alloc: Global, bytes: &[u8], record: &Record) -> Option<u32> {
+    let module = read(alloc, bytes).ok()?;
+    let valid = validate(alloc, module).ok()?;
+    match replay(alloc, &valid, record) {
+        Err(ReplayFault::Line(number) | ReplayFault::EndLine(number)) => Some(number),
+        _ => None,
+    }
+}

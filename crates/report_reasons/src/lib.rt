@@ -1,0 +1,6 @@
+//! The lines that `--explain` asks for: why a job's module, call or record is refused, or its threads were stopped.
+#![tactic(auto)]
+
+mod done;
+
+pub use done::{Done, explain_done};
