@@ -3,11 +3,13 @@
 
 mod digest;
 mod event;
+mod opening;
 mod resting;
 mod shared;
 mod stepping;
 
 pub use event::{Begun, Made};
+pub use opening::{first_common, first_threads};
 pub use resting::rest_after;
 pub use shared::{Common, Walker};
 pub use stepping::make_event;
