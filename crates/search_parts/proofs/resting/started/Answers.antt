@@ -1,0 +1,19 @@
+use Rattle.std.proofs.Common.{sym, subst}
+use Rattle.interp_machine.specs.State.{At}
+use Rattle.search_threads.specs.Unlimited.{Unlimited.Going}
+use Rattle.search_walkers.specs.Walkers.{RestsAt}
+use Rattle.search_parts.specs.Parts.{AreWorkers, IsWorker}
+use Rattle.search_parts.proofs.resting.started.Goals as goal
+
+pub begin-requires : goal.begin-requires
+begin-requires c =
+    let k : IsWorker c.args.valid.now.parts c.requires.0 c.in-Some.own =
+    subst (λ o. AreWorkers c.args.valid.now.parts c.requires.0 o) c.in-Some.is c.requires.1 in
+    (k.func_type, k.body, k.function, sym k.takes)
+
+pub returns : goal.returns
+returns c = λ b of workers.
+    let k : IsWorker c.args.valid.now.parts b.worker c.in-Some.own = subst (λ o. AreWorkers c.args.valid.now.parts b.worker o) c.in-Some.is workers in
+    let rested = rw c.in-Some-2.is at c.in_ok-standing.ensures in
+    subst (λ x. RestsAt c.args.valid.now b (Going (At x)) c.in-Some-2.standing) (sym (k.begins c.args.begun.id c.args.begun.arg))
+    (rested b k.func_type k.body of k.function)

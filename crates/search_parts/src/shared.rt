@@ -1,0 +1,74 @@
+//! A state's parts: what threads share, and a thread at rest.
+
+ghost use Rattle.std.specs.Hash as fed;
+ghost use Rattle.std.specs.Cmp.Rules.{hashing};
+ghost use Rattle.std.proofs.Common.{rules};
+
+use crate::digest::{of_shared, of_standing};
+use search_memory::Changes;
+use search_walkers::Standing;
+use std::hash::{Hash, Hasher};
+use waiters::KeptQueue;
+
+/// What threads share: the memory by its changes, and the queue. The digest alone is hashed; all is compared.
+#[derive(PartialEq, Eq, Debug, Drop)]
+pub struct Common {
+    pub digest: u64,
+    pub memory: Changes,
+    pub queue: KeptQueue,
+}
+
+impl Common {
+    ghost use Rattle.std.specs.Prelude.{◌≡◌};
+
+    pub fn new(memory: Changes, queue: KeptQueue) -> Common
+        ensures memory { result.memory ≡ memory }
+        ensures queue { result.queue ≡ queue }
+    {
+        Common {
+            digest: of_shared(&memory, &queue),
+            memory,
+            queue,
+        }
+    }
+}
+
+impl Hash for Common {
+    ghost hash_input = { λ a. fed.u64 a.digest };
+
+    ghost respects_eq = { Prim.search (hashing, rules) };
+
+    fn hash<H: Hasher>(&self, state: &mut H) {
+        self.digest.hash(state);
+    }
+}
+
+/// A thread at rest. The digest alone is hashed; all is compared.
+#[derive(PartialEq, Eq, Debug, Drop)]
+pub struct Walker {
+    pub digest: u64,
+    pub standing: Standing,
+}
+
+impl Walker {
+    ghost use Rattle.std.specs.Prelude.{◌≡◌};
+
+    pub fn new(standing: Standing) -> Walker
+        ensures { result.standing ≡ standing }
+    {
+        Walker {
+            digest: of_standing(&standing),
+            standing,
+        }
+    }
+}
+
+impl Hash for Walker {
+    ghost hash_input = { λ a. fed.u64 a.digest };
+
+    ghost respects_eq = { Prim.search (hashing, rules) };
+
+    fn hash<H: Hasher>(&self, state: &mut H) {
+        self.digest.hash(state);
+    }
+}

@@ -1,0 +1,54 @@
+//! The event that a thread wants, made.
+
+ghost use Rattle.std.specs.Prelude.{IfOk};
+ghost use Rattle.types.specs.Limits.{most_threads};
+ghost use Rattle.schedule.specs.System.{State};
+ghost use Rattle.schedule_threads.specs.Shared.{Shared};
+ghost use Rattle.search_runs.specs.Called.{Called, Walker as Thread, system_of, first_state};
+ghost use Rattle.search_states.specs.Flat.{IsEventOf};
+ghost use Rattle.search_parts.specs.Parts.{IsThreadIn, IsRested};
+ghost use Rattle.search_parts.specs.Sharing.{Shares, Makes};
+
+use crate::event::{Made, enter, thread_begun};
+use crate::shared::{Common, Walker};
+use search_memory::step;
+use search_walkers::wanted;
+use std::alloc::{AllocError, Global};
+use validate::ValidModule;
+use waiters::Queue;
+
+/// The event that thread n wants to make, if it wants one: what is shared after it, and what it makes.
+///
+/// # Errors
+/// Where memory is refused.
+pub fn make_event(
+    alloc: Global,
+    valid: &ValidModule,
+    opening: &[u8],
+    shared: &Common,
+    thread: &Walker,
+    n: usize,
+) -> Result<Option<(Common, Made)>, AllocError>
+    requires { (b : Called) × (z : State Shared Thread) × IsThreadIn valid.now opening.now shared.now thread.now.standing n b z }
+    ensures { IfOk result (λ o. (b : Called) (z : State Shared Thread)
+        → IsThreadIn valid.now opening.now shared.now thread.now.standing n b z
+        → IsEventOf (system_of b) (first_state b) most_threads (Shares opening.now) (λ (t : Walker). IsRested valid.now b t.standing) Makes
+        z n o) }
+{
+    let Some(event) = wanted(alloc, valid, &thread.standing)? else {
+        return Ok(None);
+    };
+    let (memory, reply) = step(alloc, opening, &shared.memory, &event)?;
+    let mut queue = Queue::resume(&shared.queue);
+    enter(&mut queue, n as u32, &event, reply);
+    let begun = thread_begun(&shared.queue, &event);
+    let after = Common::new(memory, queue.keep(alloc)?);
+    Ok(Some((
+        after,
+        Made {
+            reply,
+            queue,
+            begun,
+        },
+    )))
+}
