@@ -4,6 +4,8 @@
 #[cfg(test)]
 mod choices;
 #[cfg(test)]
+mod moments;
+#[cfg(test)]
 mod program;
 #[cfg(test)]
 mod records;
