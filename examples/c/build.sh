@@ -22,10 +22,16 @@
 #   -mno-multivalue                a block and a function have one result at most
 #
 # Floats are refused, and no switch takes them away: use none.
+#
+# broken_lock, lost_wakeup and torn_read each have a bug, and a record of a run that shows it, for
+#     ./wathread show examples/c/lost_wakeup.wasm examples/c/lost_wakeup.record
+# These are built with -g: a debug section with the lines of source, without the folder in which they were built.
 set -eu
 cd "$(dirname "$0")"
 for source in *.c; do
-    clang --target=wasm32 -nostdlib -matomics -mbulk-memory -O1 -fno-builtin \
+    debug=
+    case "$source" in broken_lock.c | lost_wakeup.c | torn_read.c) debug="-g -gdwarf-4 -fdebug-compilation-dir=." ;; esac
+    clang $debug --target=wasm32 -nostdlib -matomics -mbulk-memory -O1 -fno-builtin \
         -Wl,--no-entry,--import-memory,--shared-memory,--initial-memory=65536,--max-memory=65536 \
         -Wl,-z,stack-size=512,--stack-first "$source" -o "${source%.c}.wasm"
 done

@@ -4,6 +4,10 @@
 #[cfg(test)]
 mod choices;
 #[cfg(test)]
+mod examples;
+#[cfg(test)]
+mod examples_data;
+#[cfg(test)]
 mod moments;
 #[cfg(test)]
 mod program;
