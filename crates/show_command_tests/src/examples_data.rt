@@ -2,8 +2,11 @@
 //! and the rows of twelve entries, whose places are those of `llvm-objdump -d -l`.
 
 /// A module with a debug section, a record of a run of it, the lines that are shown, and their rows.
+#[derive(Clone, Copy)]
 pub(crate) struct Example {
     pub(crate) module: &'static [u8],
+    /// How many bytes stand before its names and its debug section.
+    pub(crate) bare: usize,
     pub(crate) record: &'static str,
     pub(crate) words: &'static str,
     pub(crate) rows: &'static str,
@@ -82,6 +85,7 @@ const BROKEN_LOCK_BYTES: &[u8] = b"\
 /// Both threads find the flag clear, and one of two increments is lost.
 pub(crate) const BROKEN_LOCK: Example = Example {
     module: BROKEN_LOCK_BYTES,
+    bare: 303,
     record: "\
 wathread-record 1\n\
 invoke 66\n\
@@ -196,6 +200,7 @@ const LOST_WAKEUP_BYTES: &[u8] = b"\
 /// The letter comes between the look and the sleep.
 pub(crate) const LOST_WAKEUP: Example = Example {
     module: LOST_WAKEUP_BYTES,
+    bare: 214,
     record: "\
 wathread-record 1\n\
 invoke 66\n\
@@ -305,6 +310,7 @@ const TORN_READ_BYTES: &[u8] = b"\
 /// The writer comes between the two loads of the reader.
 pub(crate) const TORN_READ: Example = Example {
     module: TORN_READ_BYTES,
+    bare: 237,
     record: "\
 wathread-record 1\n\
 invoke 66\n\
