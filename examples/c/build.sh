@@ -21,16 +21,17 @@
 #                                  module may have one table, named by one zero byte
 #   -mno-multivalue                a block and a function have one result at most
 #
-# Three of them have a bug, and are built with -g, so that `wathread show` says the line of each entry:
-# broken_lock.c, lost_wakeup.c, seqlock.c.
-#
 # Floats are refused, and no switch takes them away: use none.
+#
+# broken_lock, lost_wakeup and torn_read each have a bug, and a record of a run that shows it, for
+#     ./wathread show examples/c/lost_wakeup.wasm examples/c/lost_wakeup.record
+# These are built with -g: a debug section with the lines of source, without the folder in which they were built.
 set -eu
 cd "$(dirname "$0")"
 for source in *.c; do
-    lines=()
-    case $source in broken_lock.c | lost_wakeup.c | seqlock.c) lines=(-g "-fdebug-prefix-map=$PWD=.") ;; esac
-    clang --target=wasm32 -nostdlib -matomics -mbulk-memory -O1 -fno-builtin ${lines[@]+"${lines[@]}"} \
+    debug=
+    case "$source" in broken_lock.c | lost_wakeup.c | torn_read.c) debug="-g -gdwarf-4 -fdebug-compilation-dir=." ;; esac
+    clang $debug --target=wasm32 -nostdlib -matomics -mbulk-memory -O1 -fno-builtin \
         -Wl,--no-entry,--import-memory,--shared-memory,--initial-memory=65536,--max-memory=65536 \
         -Wl,-z,stack-size=512,--stack-first "$source" -o "${source%.c}.wasm"
 done

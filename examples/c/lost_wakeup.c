@@ -1,20 +1,22 @@
-/* A lost wake-up: the taker looks whether there is something in the box, and then sleeps until the box changes; but it says
-   that it sleeps by a count of its own, and the giver, which notifies only where somebody is counted, may look at the count
-   before the taker has counted itself. Then the taker sleeps for good. */
+/* A wake-up that is lost: the reader looks whether the box is full, and sleeps on whatever the count of letters is by then.
+   A letter that comes between the two wakes nobody, and the reader sleeps for good. */
 #include "threads.h"
 
-#define BOX ((_Atomic int *)1024)
-#define TAKERS ((_Atomic int *)1028)
+#define FULL ((_Atomic int *)1024)
+#define COUNT ((_Atomic int *)1028)
+#define LETTER ((int *)1032)
 
 static int take(void) {
-    int thing;
-    while (!(thing = *BOX)) {
-        *TAKERS += 1;
-        /* the giver may have come between: it is `*BOX` that should be waited on, and not the count */
-        wait_while(TAKERS, 1);
-        *TAKERS -= 1;
-    }
-    return thing;
+    while (!*FULL)
+        wait_while(COUNT, *COUNT);
+    return *LETTER;
+}
+
+static void put(int letter) {
+    *LETTER = letter;
+    *FULL = 1;
+    *COUNT += 1;
+    notify_all(COUNT);
 }
 
 EXPORT("f") int run(void) {
@@ -22,9 +24,6 @@ EXPORT("f") int run(void) {
     return take();
 }
 
-EXPORT("wasi_thread_start") void thread_start(int id, int thing) {
-    (void)id;
-    *BOX = thing;
-    if (*TAKERS)
-        notify_one(TAKERS);
+EXPORT("wasi_thread_start") void thread_start(int id, int arg) {
+    put(arg);
 }

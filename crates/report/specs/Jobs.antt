@@ -148,4 +148,4 @@ Performs (Check file) bytes saved out save status = Checks bytes out status
 Performs (Run file invoke on_words fuel limit path dump args) bytes saved out save status =
     Runs bytes (request invoke.now (map (λ text. text.now) args.items) fuel limit on_words (is_some path) dump) out save status
 Performs (Replay file record_path dump) bytes saved out save status = Replays bytes saved dump out status
-Performs (Show file record_path names look) bytes saved out save status = Shows bytes saved status
+Performs (Show file record_path names look at) bytes saved out save status = Shows bytes saved status

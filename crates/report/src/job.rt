@@ -87,7 +87,9 @@ where
             run(rt, alloc, &wanted, module, out, err, save)
         }
         Job::Replay { dump, .. } => replay_saved(alloc, module, saved, *dump, out, err),
-        Job::Show { look, .. } => show_saved(alloc, module, module, saved, look, out, err),
+        Job::Show { look, at, .. } => {
+            show_saved(alloc, module, module, saved, look, *at, out, err)
+        }
     }
 }
 

@@ -9,8 +9,9 @@ use crate::job::{refuse, reject};
 use crate::loading::load;
 use crate::replaying::{Unfit, misfit};
 use replay::{ReplayFault, replay_watched};
-use replay_text::{Record, RecordFault, read_record};
-use report_command::Look;
+use replay_text::{Record, RecordFault, RecordParts, read_record};
+use report_command::{At, Look};
+use show_moments::{Bytes, Moment, write_moment};
 use show_rows::{CodeMap, Shown, write_rows};
 use show_text::Unwritten;
 use show_walk::{Row, Rows};
@@ -19,7 +20,8 @@ use std::io::Write;
 use validate::ValidModule;
 
 /// Shows the entries of the record whose text `saved` is: each in words, with its place in the module. `names` are the bytes
-/// that have the names of functions and the lines of source: those of the module, or of another build of its code.
+/// that have the names of functions and the lines of source: those of the module, or of another build of its code. `at` asks
+/// for what threads and memory are like before a line, in place of the entries.
 ///
 /// Answers 0 only where the record is of a run of the module, 4 only where the bytes are the text of no record of a run of it,
 /// 2 for a refused module, and 5 where memory or a stream failed.
@@ -29,6 +31,7 @@ pub fn show_saved<W: Write, E: Write>(
     names: &[u8],
     saved: &[u8],
     look: &Look,
+    at: Option<At>,
     out: &mut W,
     err: &mut E,
 ) -> u8
@@ -41,7 +44,7 @@ pub fn show_saved<W: Write, E: Write>(
         Ok(valid) => valid,
         Err(refusal) => return refuse(err, refusal),
     };
-    match show_record(alloc, &valid, module, names, saved, look, out) {
+    match show_record(alloc, &valid, module, names, saved, look, at, out) {
         Ok(()) => 0,
         Err(unfit) => reject(err, unfit),
     }
@@ -55,13 +58,18 @@ fn show_record<W: Write>(
     names: &[u8],
     saved: &[u8],
     look: &Look,
+    at: Option<At>,
     out: &mut W,
 ) -> Result<(), Unfit>
     ensures shown { IfOk result (λ _. IsOfRun «module».now.parts saved.now) }
     ensures unfit { IfErr result (λ unfit. IsUnfit «module».now.parts saved.now unfit) }
 {
     let seen = rows_of(alloc, module, saved)?;
-    match print_rows(alloc, module, &seen, bytes, names, look, out) {
+    let wrote = match at {
+        None => print_rows(alloc, module, &seen, bytes, names, look, out),
+        Some(at) => print_moment(alloc, module, &seen, bytes, names, at, out),
+    };
+    match wrote {
         Ok(()) => Ok(()),
         Err(unwritten) => Err(unfit_of(unwritten)),
     }
@@ -136,4 +144,51 @@ fn print_rows<W: Write>(
         code: &code,
     };
     write_rows(alloc, shown, look, out)
+}
+
+/// How many entries of a record stand before a line; all of them before a line behind the log.
+fn entries_before(parts: &RecordParts, line: u64) -> usize {
+    let first = parts.version.header_lines().saturating_add(1);
+    let line = usize::try_from(line).unwrap_or(usize::MAX);
+    line.saturating_sub(first).min(parts.log.as_slice().len())
+}
+
+/// The record before a line, seen by a second replay.
+fn moment_of<'r>(
+    alloc: Global,
+    module: &ValidModule,
+    record: &'r Record,
+    at: At,
+) -> Result<Moment<'r>, Unwritten> {
+    let parts = record.parts();
+    let wanted = Bytes {
+        addr: at.addr,
+        count: at.count,
+    };
+    let entries = entries_before(parts, at.line);
+    let mut moment = Moment::new(alloc, parts.log.as_slice(), entries, wanted)?;
+    match replay_watched(alloc, module, record, &mut moment) {
+        Ok(_) => Ok(moment),
+        Err(_) => Err(Unwritten::NoMemory),
+    }
+}
+
+/// Writes what threads and memory are like before a line.
+fn print_moment<W: Write>(
+    alloc: Global,
+    module: &ValidModule,
+    seen: &SeenRun,
+    bytes: &[u8],
+    names: &[u8],
+    at: At,
+    out: &mut W,
+) -> Result<(), Unwritten> {
+    let moment = moment_of(alloc, module, &seen.record, at)?;
+    let code = CodeMap::read(alloc, module.parts(), bytes, names)?;
+    let shown = Shown {
+        record: seen.record.parts(),
+        rows: seen.rows.as_slice(),
+        code: &code,
+    };
+    write_moment(alloc, shown, &moment, out)
 }

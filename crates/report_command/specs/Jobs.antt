@@ -9,11 +9,11 @@ abbrev pub IsInRange : Job → Type 0
 IsInRange (Check file) = Unit {0}
 IsInRange (Run file invoke on_words fuel limit save dump args) = (fuel ≤ most_fuel) × (1 ≤ limit) × (limit ≤ most_limit) × (dump ≤ 4096)
 IsInRange (Replay file saved dump) = dump ≤ 4096
-IsInRange (Show file saved names look) = (40 ≤ look.width) × (look.width ≤ 1000)
+IsInRange (Show file saved names look at) = (40 ≤ look.width) × (look.width ≤ 1000) × IfSome at (λ a. a.count ≤ 4096)
 
 -- A job keeps no record at the path of its module, and none of a memory of words.
 abbrev pub KeepsItsModule : Job → Type 0
 KeepsItsModule (Check file) = Unit {0}
 KeepsItsModule (Run file invoke on_words fuel limit save dump args) = IfSome save (λ path. (path.now ≢ file.now) × (on_words ≡ false))
 KeepsItsModule (Replay file saved dump) = Unit {0}
-KeepsItsModule (Show file saved names look) = Unit {0}
+KeepsItsModule (Show file saved names look at) = Unit {0}

@@ -4,7 +4,7 @@ ghost use Rattle.types.specs.Limits.{most_limit, most_fuel};
 ghost use Rattle.report_command.specs.Jobs.{IsInRange, KeepsItsModule};
 ghost use Rattle.report_command.specs.FaultNumbers.{usage_number, IsWrong};
 
-use crate::show::{misread, show_command, show_job};
+use crate::show::{At, misread, show_command, show_job};
 use clap::error::ErrorKind;
 use clap::{Arg, ArgAction, ArgMatches, Command, Error, value_parser};
 use show_text::Look;
@@ -63,6 +63,8 @@ pub enum Job<'a> {
         names: Option<&'a str>,
         /// What is shown, and how.
         look: Look,
+        /// The line before which threads and memory are shown, in place of rows.
+        at: Option<At>,
     },
 }
 
@@ -307,14 +309,19 @@ pub enum Misuse {
     NoLines,
     /// Its addresses are none.
     NoAddresses,
+    /// The bytes of its dump are none.
+    NoBytes,
 }
 
 impl Misuse {
     fn kind(self) -> ErrorKind {
         match self {
-            Misuse::NotText | Misuse::Unreadable | Misuse::NoLines | Misuse::NoAddresses =>
-                ErrorKind::InvalidValue,
             Misuse::RecordsWords | Misuse::ReplacesModule => ErrorKind::ArgumentConflict,
+            Misuse::NotText
+            | Misuse::Unreadable
+            | Misuse::NoLines
+            | Misuse::NoAddresses
+            | Misuse::NoBytes => ErrorKind::InvalidValue,
         }
     }
 
@@ -333,6 +340,9 @@ impl Misuse {
             }
             Misuse::NoAddresses => {
                 "invalid value for '--addr <A[-B]>': it is one unsigned decimal, or two with the lower one first"
+            }
+            Misuse::NoBytes => {
+                "invalid value for '--dump <A:N>': it is an address and a number of bytes up to 4096"
             }
         }
     }
@@ -355,7 +365,9 @@ fn error_of(alloc: Global, misuse: Misuse) -> Result<Error, AllocError> {
         Misuse::RecordsWords | Misuse::ReplacesModule => {
             run_command(alloc)?.bin_name("wathread run")?
         }
-        Misuse::NoLines | Misuse::NoAddresses => show_command(alloc)?.bin_name("wathread show")?,
+        Misuse::NoLines | Misuse::NoAddresses | Misuse::NoBytes => show_command(alloc)?.bin_name(
+            "wathread show",
+        )?,
     };
     usage.error(misuse.kind(), misuse.text())
 }

@@ -5,4 +5,5 @@ mod command_line;
 mod show;
 
 pub use command_line::{Job, Misuse, Order, Usage, asked, command, misused};
+pub use show::At;
 pub use show_text::{Color, Look};

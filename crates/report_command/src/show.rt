@@ -1,9 +1,9 @@
 //! The command `show`, and its job.
 
-ghost use Rattle.std.specs.Prelude.{IfOk, IfSome};
+ghost use Rattle.std.specs.Prelude.{◌≤◌, IfOk, IfSome};
 ghost use Rattle.report_command.specs.Jobs.{IsInRange};
 
-use crate::command_line::{Job, Misuse, file_argument};
+use crate::command_line::{DUMP_MOST, Job, Misuse, file_argument};
 use clap::{Arg, ArgMatches, Command, value_parser};
 use show_text::{Choice, Color, Look, Span};
 use std::alloc::{AllocError, Global};
@@ -15,6 +15,44 @@ pub const WIDEST: u32 = 1000;
 
 /// When rows have colors.
 const COLORS: [&str; 3] = ["auto", "always", "never"];
+
+/// A line of a record, before which threads and memory are shown.
+#[derive(Clone, Copy, PartialEq, Eq, Debug)]
+pub struct At {
+    pub line: u64,
+    /// The bytes of the memory that are shown: the first one's address, and how many, 0 to 4096.
+    pub addr: u64,
+    pub count: u32,
+}
+
+/// An address and a number of bytes, of a text `A:N`.
+fn bytes_of(text: &str) -> Option<(u64, u32)>
+    ensures { IfSome result (λ bytes. bytes.1 ≤ 4096) }
+{
+    let (addr, count) = text.split_once(':')?;
+    let addr = addr.parse::<u64>().ok()?;
+    let count = count.parse::<u32>().ok()?;
+    if count <= DUMP_MOST {
+        Some((addr, count))
+    } else {
+        None
+    }
+}
+
+/// A moment in place of rows.
+fn with_moment<'a>(alloc: Global, command: Command<'a>) -> Result<Command<'a>, AllocError> {
+    let at = Arg::new(alloc, "at")
+        .long("at")
+        .value_name("LINE")
+        .help("In place of rows, what threads and memory are like before this line of the record")
+        .value_parser(value_parser!(u64).range(1..2_000_001));
+    let dump = Arg::new(alloc, "dump")
+        .long("dump")
+        .value_name("A:N")
+        .help("With --at: print N bytes of the memory from address A on, N up to 4096")
+        .requires_arg("at")?;
+    command.arg(at)?.arg(dump)
+}
 
 /// Which entries are shown.
 fn with_choice<'a>(alloc: Global, command: Command<'a>) -> Result<Command<'a>, AllocError> {
@@ -56,7 +94,8 @@ fn with_look<'a>(alloc: Global, command: Command<'a>) -> Result<Command<'a>, All
     command.arg(names)?.arg(width)?.arg(color)
 }
 
-/// `show FILE RECORD [--lines A-B] [--thread T,..] [--addr A[-B]] [--names FILE2] [--width N] [--color WHEN]`
+/// `show FILE RECORD [--lines A-B] [--thread T,..] [--addr A[-B]] [--names FILE2] [--width N] [--color WHEN]`, and
+/// `show FILE RECORD --at LINE [--dump A:N] [--names FILE2]`
 pub(crate) fn show_command<'a>(alloc: Global) -> Result<Command<'a>, AllocError> {
     let record = Arg::new(alloc, "record")
         .value_name("RECORD")
@@ -66,7 +105,7 @@ pub(crate) fn show_command<'a>(alloc: Global) -> Result<Command<'a>, AllocError>
         .about("Shows the entries of a record in words, with the place in the module of each")
         .arg(file_argument(alloc))?
         .arg(record)?;
-    with_look(alloc, with_choice(alloc, command)?)
+    with_moment(alloc, with_look(alloc, with_choice(alloc, command)?)?)
 }
 
 /// The span in an argument, if that is given.
@@ -86,7 +125,10 @@ pub(crate) fn misread(matches: &ArgMatches) -> Option<Misuse> {
     if matches.get_str("addr").is_some() && span_of(matches, "addr").is_none() {
         return Some(Misuse::NoAddresses);
     }
-    None
+    match matches.get_str("dump") {
+        Some(text) if bytes_of(text).is_none() => Some(Misuse::NoBytes),
+        _ => None,
+    }
 }
 
 /// What is chosen of the record.
@@ -102,6 +144,18 @@ fn choice_of(alloc: Global, matches: &ArgMatches) -> Result<Choice, AllocError> 
         threads,
         addrs: span_of(matches, "addr"),
     })
+}
+
+/// The moment that is asked for, if one is.
+fn moment_of(matches: &ArgMatches) -> Option<At>
+    ensures { IfSome result (λ at. at.count ≤ 4096) }
+{
+    let line = matches.get_one::<u64>("at")?;
+    let (addr, count) = match matches.get_str("dump") {
+        Some(text) => bytes_of(text)?,
+        None => (0, 0),
+    };
+    Some(At { line, addr, count })
 }
 
 /// The job of `show`.
@@ -132,10 +186,12 @@ pub(crate) fn show_job<'a>(
         color,
     };
     let names = matches.get_str("names");
+    let at = moment_of(matches);
     Ok(Some(Job::Show {
         file,
         saved,
         names,
         look,
+        at,
     }))
 }

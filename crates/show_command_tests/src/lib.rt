@@ -4,6 +4,12 @@
 #[cfg(test)]
 mod choices;
 #[cfg(test)]
+mod examples;
+#[cfg(test)]
+mod examples_data;
+#[cfg(test)]
+mod moments;
+#[cfg(test)]
 mod program;
 #[cfg(test)]
 mod records;

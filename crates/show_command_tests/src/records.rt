@@ -5,7 +5,7 @@ use std::test::Fail;
 use test_modules::{Module, TELLING, TWO_WORDS, WAITING, WAITING_FOR_GOOD};
 
 /// Thread 0 spawns thread 1, which falls asleep at 8; thread 0 wakes it.
-const TOLD: &str = "\
+pub(crate) const TOLD: &str = "\
 wathread-record 1\ninvoke 66\nargs i32:4294967295\nfuel 1000\nlimit 100\n\
 0 spawn 4294967295 = done\n0 told 1 = done\n1 wait 8 4 0 -1 = 0\n0 notify 8 1 = done\n1 told 0 = done\n\
 0 told 1 = done\n1 leave = done\n1 told 0 = done\n0 leave = done\n0 told 0 = done\n\

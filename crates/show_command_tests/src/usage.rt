@@ -4,7 +4,7 @@ use crate::program::program;
 use std::test::Fail;
 
 /// Words, and what is written of them; on standard output where the status is 0.
-static LINES: [(&str, &str, u8); 5] = [
+static LINES: [(&str, &str, u8); 7] = [
     (
         "wathread show --help",
         "Shows the entries of a record in words, with the place in the module of each\n\n\
@@ -20,6 +20,8 @@ static LINES: [(&str, &str, u8); 5] = [
             \x20     --width <N>      How many characters a row has room for, 40 to 1000 [default: 120]\n\
             \x20     --color <WHEN>   Whether threads have colors; auto: on a terminal alone [default: auto] \
             [possible values: auto, always, never]\n\
+            \x20     --at <LINE>      In place of rows, what threads and memory are like before this line of the record\n\
+            \x20     --dump <A:N>     With --at: print N bytes of the memory from address A on, N up to 4096\n\
             \x20 -h, --help           Print help\n",
         0,
     ),
@@ -34,6 +36,21 @@ static LINES: [(&str, &str, u8); 5] = [
         "wathread show a.wasm a.record --addr here",
         "error: invalid value for '--addr <A[-B]>': it is one unsigned decimal, or two with the lower one first\n\n\
             Usage: wathread show [OPTIONS] <FILE> <RECORD>\n\n\
+            For more information, try '--help'.\n",
+        3,
+    ),
+    (
+        "wathread show a.wasm a.record --at 7 --dump 0:4097",
+        "error: invalid value for '--dump <A:N>': it is an address and a number of bytes up to 4096\n\n\
+            Usage: wathread show [OPTIONS] <FILE> <RECORD>\n\n\
+            For more information, try '--help'.\n",
+        3,
+    ),
+    (
+        "wathread show a.wasm a.record --dump 0:8",
+        "error: the following required arguments were not provided:\n\
+            \x20 --at <LINE>\n\n\
+            Usage: wathread show --at <LINE> --dump <A:N> <FILE> <RECORD>\n\n\
             For more information, try '--help'.\n",
         3,
     ),

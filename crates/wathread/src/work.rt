@@ -166,9 +166,9 @@ fn attempt<'a, R: Threads + Wait + Sync>(
     let mut out = BufWriter::with_capacity(alloc, OUT, stdout)?;
     let mut save = BufWriter::with_capacity(alloc, RECORD, SavedFile::new(rt, place))?;
     let status = match (job, &names) {
-        (Job::Show { look, .. }, Some(names)) => {
-            show_saved(alloc, &module, names, &saved, look, &mut out, &mut err)
-        }
+        (Job::Show { look, at, .. }, Some(names)) => show_saved(
+            alloc, &module, names, &saved, look, *at, &mut out, &mut err,
+        ),
         _ => perform(
             threads, alloc, job, &module, &saved, &mut out, &mut err, &mut save,
         ),

@@ -1,0 +1,26 @@
+-- What is said of a thread where it stands.
+use Rattle.std.specs.Prelude.{◌≡◌, ℕ, Some, None}
+use Rattle.std.specs.List.{slice_get}
+use Rattle.schedule.specs.Machine.{Thread.Runs}
+use Rattle.interp_machine.specs.Config.{Config}
+use Rattle.interp_machine.specs.State.{At}
+use Rattle.interp.specs.declared.thread.Thread.{Thread}
+use Rattle.interp.specs.Threads.{StandsFor}
+use Rattle.interp.specs.Places.{IsAtPlace, HasCallers}
+use Rattle.show_moments.specs.declared.standing.Standing.{Standing}
+use Rattle.show_moments.specs.declared.moment.Moment.{Moment}
+
+-- The next instruction of each configuration that the thread stands for stands at the place, and these functions called the one that runs.
+pub record StandsAs (thread : Thread) (s : Standing) : Type 0 where
+  pub place : (c : Config) (left : ℕ) → StandsFor thread (Runs (At c) left) → IsAtPlace thread.parts.now s.place.function s.place.instr c
+  pub callers : (c : Config) (left : ℕ) → StandsFor thread (Runs (At c) left) → HasCallers thread.parts.now s.callers.items c
+
+-- What the thread with this number comes to wasn't seen yet.
+abbrev pub IsOpen : Moment → ℕ → Type 0
+IsOpen m n = slice_get m.next.items n ≡ Some None
+
+-- It is seen where the thread stands.
+pub record IsSeen (m : Moment) (n : ℕ) (thread : Thread) : Type 0 where
+  pub standing : Standing
+  pub at : slice_get m.next.items n ≡ Some (Some standing)
+  pub stands : StandsAs thread standing

@@ -1,0 +1,112 @@
+//! Where a thread stands, with the values of its open functions.
+
+ghost use Rattle.std.specs.Prelude.{◌≡◌, IfOk};
+ghost use Rattle.show_moments.specs.Moments.{StandsAs};
+
+use interp::{Kept, Place, Thread};
+use interp_state::{Caller, Progress};
+use std::alloc::{AllocError, Global};
+use types::Value;
+
+/// Where a thread stands: the place of the instruction that comes next, the functions that called the one that runs, the
+/// outermost first, and what they have.
+#[derive(Debug, PartialEq, Eq, Drop)]
+pub struct Standing {
+    pub place: Place,
+    pub callers: Vec<Caller>,
+    pub kept: Kept,
+}
+
+/// An open function of a thread: where it is, its locals, and its operands, the top of the stack last.
+#[derive(Clone, Copy, Debug, PartialEq, Eq)]
+pub struct OpenFunction<'a> {
+    /// The instruction that comes next, or a call or question that hasn't come back.
+    pub place: Place,
+    pub locals: &'a [Value],
+    pub operands: &'a [Value],
+}
+
+/// A copy.
+fn copied<T: Copy>(alloc: Global, items: &[T]) -> Result<Vec<T>, AllocError>
+    ensures { IfOk result (λ v. v.items ≡ items.now) }
+{
+    let mut all = Vec::with_capacity(alloc, items.len())?;
+    all.extend_from_slice(items)?;
+    Ok(all)
+}
+
+/// Where a thread stands.
+///
+/// # Errors
+/// Where memory is refused.
+pub(crate) fn standing_of(alloc: Global, thread: &Thread) -> Result<Standing, AllocError>
+    ensures { IfOk result (StandsAs thread.now) }
+{
+    let open = thread.callers();
+    let callers = copied(alloc, open)?;
+    Ok(Standing {
+        place: thread.place(),
+        callers,
+        kept: thread.keep(alloc)?,
+    })
+}
+
+/// The instruction before a place.
+fn before(place: Place) -> Place {
+    Place {
+        function: place.function,
+        instr: place.instr.saturating_sub(1),
+    }
+}
+
+impl Standing {
+    /// How many functions are open.
+    pub fn depth(&self) -> usize {
+        self.callers.len().saturating_add(1)
+    }
+
+    /// The values from one place up to another.
+    fn values(&self, from: usize, to: usize) -> &[Value] {
+        self.kept.values.as_slice().get(from..to).unwrap_or(&[])
+    }
+
+    /// Where the values of the function end that has this number, the outermost's being 0.
+    fn end_of(&self, number: usize) -> usize {
+        let Some(above) = number.checked_add(1) else {
+            return self.kept.values.len();
+        };
+        match self.callers.get(above) {
+            Some(caller) => caller.base,
+            None if above == self.callers.len() => self.kept.base,
+            None => self.kept.values.len(),
+        }
+    }
+
+    /// The open function that has this number: the outermost one is 0, and the one that runs has the highest.
+    pub fn open_function(&self, number: usize) -> OpenFunction<'_> {
+        let end = self.end_of(number);
+        match self.callers.get(number) {
+            Some(caller) => OpenFunction {
+                place: before(Place {
+                    function: caller.function,
+                    instr: caller.pc,
+                }),
+                locals: self.values(caller.base, caller.operands),
+                operands: self.values(caller.operands, end),
+            },
+            None => OpenFunction {
+                place: self.running_place(),
+                locals: self.values(self.kept.base, self.kept.operands),
+                operands: self.values(self.kept.operands, end),
+            },
+        }
+    }
+
+    /// Where the function is that runs: at its question, as long as no answer came.
+    fn running_place(&self) -> Place {
+        match self.kept.progress {
+            Progress::Asked => before(self.place),
+            _ => self.place,
+        }
+    }
+}
