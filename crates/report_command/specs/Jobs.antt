@@ -2,16 +2,19 @@
 use Rattle.std.specs.Prelude.{◌≤◌, ◌≢◌, IfSome, false, ◌≡◌}
 use Rattle.types.specs.Limits.{most_limit, most_fuel}
 use Rattle.report_command.specs.declared.command_line.Job.{Job}
-use Rattle.report_command.specs.declared.command_line.Job.TheVariants.{Check, Run, Replay}
+use Rattle.report_command.specs.declared.command_line.Job.TheVariants.{Check, Run, Replay, Search}
+use Rattle.report_command.specs.Searches.{IsSearchInRange, SearchKeepsItsModule}
 
 -- The numbers of a job are in their ranges.
 abbrev pub IsInRange : Job → Type 0
 IsInRange (Check file) = Unit {0}
 IsInRange (Run file invoke on_words fuel limit save dump args) = (fuel ≤ most_fuel) × (1 ≤ limit) × (limit ≤ most_limit) × (dump ≤ 4096)
 IsInRange (Replay file saved dump) = dump ≤ 4096
+IsInRange (Search s) = IsSearchInRange s
 
 -- A job keeps no record at the path of its module, and none of a memory of words.
 abbrev pub KeepsItsModule : Job → Type 0
 KeepsItsModule (Check file) = Unit {0}
 KeepsItsModule (Run file invoke on_words fuel limit save dump args) = IfSome save (λ path. (path.now ≢ file.now) × (on_words ≡ false))
 KeepsItsModule (Replay file saved dump) = Unit {0}
+KeepsItsModule (Search s) = SearchKeepsItsModule s

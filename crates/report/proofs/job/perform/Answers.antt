@@ -26,3 +26,12 @@ returns-in-Replay g c =
       none = c.replay_saved.ensures.none;
       statuses = c.replay_saved.ensures.status;
     })
+
+pub returns-in-Search : goal.returns-in-Search
+returns-in-Search g c =
+    rw c.in-Search.is (record {
+      made = c.search.ensures.made;
+      refused = c.search.ensures.refused;
+      cannot = c.search.ensures.cannot;
+      statuses = c.search.ensures.status;
+    })
