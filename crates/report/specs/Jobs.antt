@@ -12,8 +12,11 @@ use Rattle.replay.specs.Runs.{IsRunOf}
 use Rattle.report_lines.specs.Lines.{functions_line, end_lines}
 use Rattle.report_command.specs.declared.command_line.Job.{Job}
 use Rattle.report_command.specs.declared.command_line.Job.TheVariants.{Check, Run, Replay, Show}
+use Rattle.report_command.specs.declared.command_line.Job.TheVariants as jobs
+use Rattle.report_command.specs.declared.search.Search.{Search}
 use Rattle.report.specs.Arguments.{CannotCall}
 use Rattle.report.specs.Prints.{Change, Request, request, PrintsRun, status_of}
+use Rattle.report.specs.Searches.{HasSearched, request_of_search}
 use Rattle.report.specs.declared.replaying.Unfit.{Unfit}
 use Rattle.report.specs.declared.replaying.Unfit.TheVariants.{Unread, Misfit, NoMemory, Output}
 use Rattle.validate_typing.specs.declared.fault.ValidFault.TheVariants.{OutOfMemory as ValidityOutOfMemory, Outside, InBody}
@@ -142,6 +145,14 @@ pub record Shows (bytes saved : List ℕ) (status : ℕ) : Type 0 where
   pub none : status ≡ 4 → IsNoRecordOf bytes saved
   pub statuses : (status ≡ 0) ⊎ (status ≡ 2) ⊎ (status ≡ 4) ⊎ (status ≡ 5)
 
+-- What that of a search says: 0 and 1 of runs that were made, 2 of a refused module, 3 of a call that can't be made. 5 is that memory or a
+-- stream failed.
+pub record Searches (bytes : List ℕ) (s : Search) (save : Change) (status : ℕ) : Type 0 where
+  pub made : status ≤ 1 → HasSearched bytes s save status
+  pub refused : status ≡ 2 → IsNoValidModule bytes
+  pub cannot : status ≡ 3 → HasNoSuchCall bytes (request_of_search s)
+  pub statuses : (status ≤ 3) ⊎ (status ≡ 5)
+
 -- What the status of a job says.
 abbrev pub Performs : Job → List ℕ → List ℕ → Change → Change → ℕ → Type 0
 Performs (Check file) bytes saved out save status = Checks bytes out status
@@ -149,3 +160,4 @@ Performs (Run file invoke on_words fuel limit path dump args) bytes saved out sa
     Runs bytes (request invoke.now (map (λ text. text.now) args.items) fuel limit on_words (is_some path) dump) out save status
 Performs (Replay file record_path dump) bytes saved out save status = Replays bytes saved dump out status
 Performs (Show file record_path names look at) bytes saved out save status = Shows bytes saved status
+Performs (jobs.Search s) bytes saved out save status = Searches bytes s save status

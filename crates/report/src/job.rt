@@ -5,19 +5,22 @@ ghost use Rattle.report_lines.specs.Lines.{functions_line};
 ghost use Rattle.types.specs.declared.parts.Parts.{Parts};
 ghost use Rattle.types.specs.Limits.{most_fuel};
 ghost use Rattle.report_command.specs.Jobs.{IsInRange};
+ghost use Rattle.report_command.specs.Searches.{IsSearchInRange};
 ghost use Rattle.report.specs.Arguments.{CannotCall};
 ghost use Rattle.report.specs.Jobs.{Performs, IsAccepted, HasRun, HasNoSuchCall, IsReplayed, IsNoRecordOf, IsRefused};
 ghost use Rattle.report.specs.Jobs.{IsNoValidModule, IsUnfit, IsOfNoRun};
 ghost use Rattle.report.specs.Prints.{change};
+ghost use Rattle.report.specs.Searches.{HasSearched, request_of_search};
 ghost use Rattle.report.specs.declared.loading.Refusal.{Refusal};
 ghost use Rattle.report.specs.Troubles.{IsTrouble, request_of};
 
 use crate::loading::{Refusal, load};
 use crate::replaying::{Unfit, replay_record};
 use crate::running::{Trouble, Wanted, run_module};
+use crate::searching::search_module;
 use crate::showing::show_saved;
 use binary_wire::ReadFault;
-use report_command::Job;
+use report_command::{Job, Search};
 use std::alloc::Global;
 use std::io::{self, Write};
 use std::sync::Wait;
@@ -38,8 +41,8 @@ const FAULT: u8 = 5;
 /// The job's numbers are in their ranges, as those of a job are that `command` gives.
 ///
 /// `saved` has the bytes of the record that a replay or a show reads, and else nothing. A show takes names from the module
-/// itself (`show_saved` takes them from another file's bytes). `save` takes the record that a run makes, after
-/// the lines.
+/// itself (`show_saved` takes them from another file's bytes). `save` takes the record that a run makes, or that of what a
+/// search found, after the lines.
 ///
 /// Answers the program's status: 0 where the module was accepted or all threads ended well, 1 for a trap or stop, 2
 /// for a refused module, 3 for a refused run, 4 for a refused record, 5 where memory, a thread or a stream failed. A write
@@ -90,6 +93,7 @@ where
         Job::Show { look, at, .. } => {
             show_saved(alloc, module, module, saved, look, *at, out, err)
         }
+        Job::Search(asked) => search(rt, alloc, asked, module, out, err, save),
     }
 }
 
@@ -218,6 +222,37 @@ where
     match run_module(rt, alloc, &valid, wanted, out, save) {
         Ok(status) => status,
         Err(trouble) => complain(err, trouble, wanted.save),
+    }
+}
+
+/// Searches through runs of a module.
+fn search<R, W, E, S>(
+    rt: &R,
+    alloc: Global,
+    asked: &Search,
+    module: &[u8],
+    out: &mut W,
+    err: &mut E,
+    save: &mut S,
+) -> u8
+where
+    R: Threads + Sync,
+    W: Write,
+    E: Write,
+    S: Write,
+    requires { IsSearchInRange asked.now }
+    ensures made { result ≤ 1 → HasSearched «module».now asked.now (change (S.contents save.old) (S.contents save.new)) result }
+    ensures refused { result ≡ 2 → IsNoValidModule «module».now }
+    ensures cannot { result ≡ 3 → HasNoSuchCall «module».now (request_of_search asked.now) }
+    ensures status { (result ≤ 3) ⊎ (result ≡ 5) }
+{
+    let valid = match load(alloc, module) {
+        Ok(valid) => valid,
+        Err(refusal) => return refuse(err, refusal),
+    };
+    match search_module(rt, alloc, &valid, asked, out, save) {
+        Ok(status) => status,
+        Err(trouble) => complain(err, trouble, asked.save),
     }
 }
 

@@ -6,6 +6,7 @@ mod job;
 mod loading;
 mod replaying;
 mod running;
+mod searching;
 mod showing;
 
 pub use job::{check, perform, replay_saved};

@@ -17,6 +17,7 @@ use interp_trait::OpenGate;
 use replay_text::{Record, write_record};
 use report_lines::write_end;
 use report_runs::{Call, EndState, RecordRunFault, record_run, run_on_words};
+use search_scheduled::SearchFault;
 use spawn_host::own_function;
 use spawn_host_workers::RunFault;
 use std::alloc::{AllocError, Global};
@@ -83,6 +84,24 @@ impl From<RecordRunFault> for Trouble {
     }
 }
 
+impl From<SearchFault> for Trouble {
+    ghost from_gives = { λ _ e. e ≡ troubles.NoMemory };
+
+    /// A run of a call that fits, with numbers in their ranges, has no other fault.
+    fn from(_: SearchFault) -> Trouble {
+        Trouble::NoMemory
+    }
+}
+
+impl From<io::Error> for Trouble {
+    ghost from_gives = { λ _ e. e ≡ troubles.Output };
+
+    /// That of standard output.
+    fn from(_: io::Error) -> Trouble {
+        Trouble::Output
+    }
+}
+
 // The exports of a valid module have distinct names (Core specification 1.0, section 3.4.10).
 fn show_distinct(module: &ValidModule)
     ensures { HasDistinctNames «module».now.parts.exports }
@@ -91,7 +110,11 @@ fn show_distinct(module: &ValidModule)
 }
 
 /// The values of the arguments of an exported function.
-fn args_of(alloc: Global, module: &ValidModule, wanted: &Wanted) -> Result<Vec<Value>, Trouble>
+pub(crate) fn args_of(
+    alloc: Global,
+    module: &ValidModule,
+    wanted: &Wanted,
+) -> Result<Vec<Value>, Trouble>
     ensures takes { IfOk result (λ args. AreSpelled (map (λ text. text.now) wanted.now.args.now) args.items
         × Takes «module».now.parts wanted.now.invoke.now args.items) }
     ensures trouble { IfErr result (IsTrouble «module».now.parts wanted.now.invoke.now (map (λ text. text.now) wanted.now.args.now)) }
@@ -155,7 +178,7 @@ pub(crate) fn print<W: Write>(out: &mut W, end: &EndState, dump: u32) -> Result<
 }
 
 /// Whether a thread ended well.
-fn is_done(outcome: Outcome) -> bool
+pub(crate) fn is_done(outcome: Outcome) -> bool
     ensures { result ≡ specified.is_done outcome }
 {
     matches!(outcome, Outcome::Done(_))
@@ -169,7 +192,7 @@ fn all_done(reports: &[ThreadReport]) -> bool
 }
 
 /// Writes a record to its file, where it is wanted.
-fn keep<S: Write>(record: &Record, is_wanted: bool, save: &mut S) -> Result<(), Trouble>
+pub(crate) fn keep<S: Write>(record: &Record, is_wanted: bool, save: &mut S) -> Result<(), Trouble>
     ensures kept { OnOk result (is_wanted ≡ true → Appends (S.contents save.old) (S.contents save.new) (record_text «record».now)) }
     ensures save { IfErr result (λ trouble. trouble ≡ troubles.Save) }
 {

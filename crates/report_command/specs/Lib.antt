@@ -1,2 +1,3 @@
+pub mod Searches
 pub mod Jobs
 pub mod FaultNumbers

@@ -4,6 +4,7 @@ ghost use Rattle.types.specs.Limits.{most_limit, most_fuel};
 ghost use Rattle.report_command.specs.Jobs.{IsInRange, KeepsItsModule};
 ghost use Rattle.report_command.specs.FaultNumbers.{usage_number, IsWrong};
 
+use crate::search::{Search, search_command, search_job};
 use crate::show::{At, misread, show_command, show_job};
 use clap::error::ErrorKind;
 use clap::{Arg, ArgAction, ArgMatches, Command, Error, value_parser};
@@ -66,6 +67,8 @@ pub enum Job<'a> {
         /// The line before which threads and memory are shown, in place of rows.
         at: Option<At>,
     },
+    /// Run a function of a module again and again along schedules that are drawn, and print how the runs end.
+    Search(Search<'a>),
 }
 
 /// Why the command line is no job.
@@ -133,7 +136,7 @@ fn check_command<'a>(alloc: Global) -> Result<Command<'a>, AllocError> {
 }
 
 /// How many bytes a dump shows.
-fn dump_argument<'a>(alloc: Global) -> Arg<'a> {
+pub(crate) fn dump_argument<'a>(alloc: Global) -> Arg<'a> {
     Arg::new(alloc, "dump")
         .long("dump")
         .value_name("N")
@@ -142,8 +145,28 @@ fn dump_argument<'a>(alloc: Global) -> Arg<'a> {
         .default_value("0")
 }
 
+/// The function that is called.
+pub(crate) fn invoke_argument<'a>(alloc: Global) -> Arg<'a> {
+    Arg::new(alloc, "invoke")
+        .long("invoke")
+        .value_name("NAME")
+        .help("The exported function that thread 0 runs")
+        .required(true)
+}
+
+/// Its arguments.
+pub(crate) fn args_argument<'a>(alloc: Global) -> Arg<'a> {
+    Arg::new(alloc, "args")
+        .value_name("ARG")
+        .help("The function's arguments, unsigned decimals")
+        .num_args(0..)
+}
+
 /// How much a run may take.
-fn with_bounds<'a>(alloc: Global, command: Command<'a>) -> Result<Command<'a>, AllocError> {
+pub(crate) fn with_bounds<'a>(
+    alloc: Global,
+    command: Command<'a>,
+) -> Result<Command<'a>, AllocError> {
     let fuel = Arg::new(alloc, "fuel")
         .long("fuel")
         .value_name("N")
@@ -177,23 +200,14 @@ fn with_memory<'a>(alloc: Global, command: Command<'a>) -> Result<Command<'a>, A
 /// `run FILE --invoke NAME [--memory locked|words] [--fuel N] [--limit N] [--record OUT] [--dump N]
 /// [--explain] [ARG..]`
 fn run_command<'a>(alloc: Global) -> Result<Command<'a>, AllocError> {
-    let invoke = Arg::new(alloc, "invoke")
-        .long("invoke")
-        .value_name("NAME")
-        .help("The exported function that thread 0 runs")
-        .required(true);
-    let args = Arg::new(alloc, "args")
-        .value_name("ARG")
-        .help("The function's arguments, unsigned decimals")
-        .num_args(0..);
     let command = Command::new(alloc, "run")
         .about("Runs a function of a module, and prints how its threads ended")
         .arg(file_argument(alloc))?
-        .arg(invoke)?;
+        .arg(invoke_argument(alloc))?;
     with_bounds(alloc, with_memory(alloc, command)?)?
         .arg(dump_argument(alloc))?
         .arg(explain_argument(alloc))?
-        .arg(args)
+        .arg(args_argument(alloc))
 }
 
 /// `replay FILE RECORD [--dump N] [--explain]`
@@ -219,11 +233,12 @@ fn commands<'a>(alloc: Global) -> Result<Command<'a>, AllocError> {
         .subcommand(check_command(alloc)?)?
         .subcommand(run_command(alloc)?)?
         .subcommand(replay_command(alloc)?)?
-        .subcommand(show_command(alloc)?)
+        .subcommand(show_command(alloc)?)?
+        .subcommand(search_command(alloc)?)
 }
 
 /// The numbers of a run, where they are there and in range, as the parser sees to.
-fn bounds_of(matches: &ArgMatches) -> Option<(u64, u32, u32)>
+pub(crate) fn bounds_of(matches: &ArgMatches) -> Option<(u64, u32, u32)>
     ensures { IfSome result (λ n. (n.0 ≤ most_fuel) × (1 ≤ n.1) × (n.1 ≤ most_limit) × (n.2 ≤ 4096)) }
 {
     let fuel = matches.get_one::<u64>("fuel")?;
@@ -233,6 +248,17 @@ fn bounds_of(matches: &ArgMatches) -> Option<(u64, u32, u32)>
         Some((fuel, limit, dump))
     } else {
         None
+    }
+}
+
+/// The arguments as they were written.
+pub(crate) fn args_of<'a>(
+    alloc: Global,
+    matches: &ArgMatches<'a>,
+) -> Result<Vec<&'a str>, AllocError> {
+    match matches.get_strs("args") {
+        Some(texts) => Vec::from_slice(alloc, texts),
+        None => Ok(Vec::new(alloc)),
     }
 }
 
@@ -249,10 +275,7 @@ fn run_job<'a>(alloc: Global, matches: &ArgMatches<'a>) -> Result<Option<Job<'a>
     };
     let on_words = matches.get_str("memory") == Some("words");
     let save = matches.get_str("record");
-    let args = match matches.get_strs("args") {
-        Some(texts) => Vec::from_slice(alloc, texts)?,
-        None => Vec::new(alloc),
-    };
+    let args = args_of(alloc, matches)?;
     Ok(Some(Job::Run {
         file,
         invoke,
@@ -290,6 +313,10 @@ fn job_of<'a>(alloc: Global, matches: &ArgMatches<'a>) -> Result<Option<Job<'a>>
         "run" => run_job(alloc, matches),
         "replay" => Ok(replay_job(matches)),
         "show" => show_job(alloc, matches),
+        "search" => match search_job(alloc, matches)? {
+            Some(search) => Ok(Some(Job::Search(search))),
+            None => Ok(None),
+        },
         _ => Ok(matches.get_str("file").map(|file| Job::Check { file })),
     }
 }
@@ -311,17 +338,27 @@ pub enum Misuse {
     NoAddresses,
     /// The bytes of its dump are none.
     NoBytes,
+    /// A record is wanted of what is found, and nothing is looked for.
+    RecordsNothing,
+    /// The record of what is found would take the place of the module.
+    FindReplacesModule,
+    /// The strategy is none.
+    Strategy,
 }
 
 impl Misuse {
     fn kind(self) -> ErrorKind {
         match self {
-            Misuse::RecordsWords | Misuse::ReplacesModule => ErrorKind::ArgumentConflict,
+            Misuse::RecordsWords | Misuse::ReplacesModule | Misuse::FindReplacesModule => {
+                ErrorKind::ArgumentConflict
+            }
+            Misuse::RecordsNothing => ErrorKind::MissingRequiredArgument,
             Misuse::NotText
             | Misuse::Unreadable
             | Misuse::NoLines
             | Misuse::NoAddresses
-            | Misuse::NoBytes => ErrorKind::InvalidValue,
+            | Misuse::NoBytes
+            | Misuse::Strategy => ErrorKind::InvalidValue,
         }
     }
 
@@ -331,8 +368,11 @@ impl Misuse {
             Misuse::RecordsWords => {
                 "the argument '--record <OUT>' cannot be used with '--memory words'"
             }
-            Misuse::ReplacesModule => {
+            Misuse::ReplacesModule | Misuse::FindReplacesModule => {
                 "the argument '--record <OUT>' cannot be used with the path of <FILE>"
+            }
+            Misuse::RecordsNothing => {
+                "'--record <OUT>' and '--shrink' are for what '--find <WORDS>' or '--expect <WORDS>' finds"
             }
             Misuse::Unreadable => "the command line can't be read",
             Misuse::NoLines => {
@@ -343,6 +383,9 @@ impl Misuse {
             }
             Misuse::NoBytes => {
                 "invalid value for '--dump <A:N>': it is an address and a number of bytes up to 4096"
+            }
+            Misuse::Strategy => {
+                "invalid value for '--strategy <WAY>': it is random, or pct:D with a D of 1 to 32"
             }
         }
     }
@@ -368,6 +411,9 @@ fn error_of(alloc: Global, misuse: Misuse) -> Result<Error, AllocError> {
         Misuse::NoLines | Misuse::NoAddresses | Misuse::NoBytes => show_command(alloc)?.bin_name(
             "wathread show",
         )?,
+        Misuse::RecordsNothing | Misuse::FindReplacesModule | Misuse::Strategy => {
+            search_command(alloc)?.bin_name("wathread search")?
+        }
     };
     usage.error(misuse.kind(), misuse.text())
 }
@@ -387,6 +433,15 @@ fn misuse_of(job: &Job) -> Option<Misuse>
                 Some(Misuse::RecordsWords)
             } else if *path == *file {
                 Some(Misuse::ReplacesModule)
+            } else {
+                None
+            }
+        }
+        Job::Search(search) => {
+            if search.keeps_nothing() {
+                Some(Misuse::RecordsNothing)
+            } else if search.save == Some(search.file) {
+                Some(Misuse::FindReplacesModule)
             } else {
                 None
             }
@@ -424,6 +479,14 @@ pub fn command<'a>(alloc: Global, words: &'a [&'a str]) -> Result<Job<'a>, Usage
     }
 }
 
+/// Why words that the parser takes name no job: its parser sees to all but the strategy of a search.
+fn unreadable(matches: &ArgMatches) -> Misuse {
+    match matches.subcommand() {
+        Some(("search", _)) => Misuse::Strategy,
+        _ => Misuse::Unreadable,
+    }
+}
+
 /// Reads the command line, of which the first word is the program's name.
 ///
 /// # Errors
@@ -438,7 +501,7 @@ pub fn asked<'a>(alloc: Global, words: &'a [&'a str]) -> Result<Order<'a>, Usage
         return Err(misused(alloc, misuse));
     }
     let Some(job) = job_of(alloc, &matches)? else {
-        return Err(misused(alloc, Misuse::Unreadable));
+        return Err(misused(alloc, unreadable(&matches)));
     };
     match misuse_of(&job) {
         None => Ok(Order {

@@ -2,8 +2,11 @@
 #![tactic(auto)]
 
 mod command_line;
+mod search;
 mod show;
 
 pub use command_line::{Job, Misuse, Order, Usage, asked, command, misused};
+pub use search::Search;
+pub use search_strategies::Way;
 pub use show::At;
 pub use show_text::{Color, Look};

@@ -46,6 +46,41 @@ static TOGETHER: [Line; 5] = [
     },
 ];
 
+/// Words of a search that are wrong.
+static SEARCHES: [Line; 4] = [
+    Line {
+        module: ADD,
+        words: "search a.wasm --invoke f --strategy pct:33",
+        text: "error: invalid value for '--strategy <WAY>': it is random, or pct:D with a D of 1 to 32\n\n\
+            Usage: wathread search [OPTIONS] --invoke <NAME> <FILE> [ARG]...\n\n\
+            For more information, try '--help'.\n",
+        status: 3,
+    },
+    Line {
+        module: ADD,
+        words: "search a.wasm --invoke f --record b.record",
+        text: "error: '--record <OUT>' and '--shrink' are for what '--find <WORDS>' or '--expect <WORDS>' finds\n\n\
+            Usage: wathread search [OPTIONS] --invoke <NAME> <FILE> [ARG]...\n\n\
+            For more information, try '--help'.\n",
+        status: 3,
+    },
+    Line {
+        module: ADD,
+        words: "search a.wasm --invoke f --find trap --record a.wasm",
+        text: "error: the argument '--record <OUT>' cannot be used with the path of <FILE>\n\n\
+            Usage: wathread search [OPTIONS] --invoke <NAME> <FILE> [ARG]...\n\n\
+            For more information, try '--help'.\n",
+        status: 3,
+    },
+    Line {
+        module: ADD,
+        words: "search a.wasm --invoke f --runs 0",
+        text: "error: invalid value '0' for '--runs <N>': 0 is not in 1..=1000000000000\n\n\
+            For more information, try '--help'.\n",
+        status: 3,
+    },
+];
+
 static LINES: [Line; 13] = [
     Line {
         module: ADD,
@@ -57,6 +92,7 @@ static LINES: [Line; 13] = [
             \x20 run     Runs a function of a module, and prints how its threads ended\n\
             \x20 replay  Runs a record again by one thread, and prints what the run printed\n\
             \x20 show    Shows the entries of a record in words, with the place in the module of each\n\
+            \x20 search  Runs a function of a module on one thread along many schedules, and prints how the runs end\n\
             \x20 help    Print this message or the help of the given subcommand(s)\n\n\
             Options:\n\
             \x20 -h, --help     Print help\n\
@@ -116,7 +152,7 @@ static LINES: [Line; 13] = [
         module: ADD,
         words: "",
         text: "error: 'wathread' requires a subcommand but one was not provided\n\
-            \x20 [subcommands: check, run, replay, show, help]\n\n\
+            \x20 [subcommands: check, run, replay, show, search, help]\n\n\
             Usage: wathread <COMMAND>\n\n\
             For more information, try '--help'.\n",
         status: 3,
@@ -177,6 +213,15 @@ static LINES: [Line; 13] = [
         status: 3,
     },
 ];
+
+#[test]
+fn tells_of_wrong_searches(rt: HostRuntime) -> Result<(), Fail> {
+    for line in SEARCHES.iter() {
+        let words = line.words;
+        assert!(rt; is_said(&rt, rt.alloc(), line)?, "{words}");
+    }
+    Ok(())
+}
 
 #[test]
 fn tells_of_usage(rt: HostRuntime) -> Result<(), Fail> {

@@ -5,7 +5,7 @@ ghost use Rattle.report_command.specs.Jobs.{IsInRange};
 use crate::copied::Copied;
 use crate::telling::{tell, tell_file_fault, tell_no_memory, tell_usage};
 use report::{perform, show_saved};
-use report_command::{Job, Misuse, Usage, misused};
+use report_command::{Job, Misuse, Search, Usage, misused};
 use report_files::{Noted, Place, SavedFile, Unread, is_one_file, read_module, read_saved};
 use report_reasons::{Done, explain_done};
 use std::alloc::{AllocError, Global};
@@ -67,10 +67,11 @@ fn read<'a>(rt: &HostRuntime, job: &Job<'a>) -> Result<Input, Stop<'a>> {
     let (Job::Check { file }
     | Job::Run { file, .. }
     | Job::Replay { file, .. }
-    | Job::Show { file, .. }) = job;
+    | Job::Show { file, .. }
+    | Job::Search(Search { file, .. })) = job;
     let module = read_module(rt, file).map_err(|why| Stop::unread(file, why))?;
     let saved = match job {
-        Job::Check { .. } | Job::Run { .. } => Vec::new(rt.alloc()),
+        Job::Check { .. } | Job::Run { .. } | Job::Search(_) => Vec::new(rt.alloc()),
         Job::Replay { saved, .. } | Job::Show { saved, .. } => {
             read_saved(rt, saved).map_err(|why| Stop::unread(saved, why))?
         }
@@ -93,7 +94,7 @@ fn read<'a>(rt: &HostRuntime, job: &Job<'a>) -> Result<Input, Stop<'a>> {
 fn record_of<'a>(job: &Job<'a>) -> Option<&'a str> {
     match job {
         Job::Check { .. } | Job::Replay { .. } | Job::Show { .. } => None,
-        Job::Run { save, .. } => *save,
+        Job::Run { save, .. } | Job::Search(Search { save, .. }) => *save,
     }
 }
 
@@ -118,6 +119,15 @@ fn keep_module<'a>(rt: &HostRuntime, job: &Job<'a>) -> Result<(), Stop<'a>> {
             ..
         } if is_one_file(rt, file, path) => {
             Err(Stop::Usage(misused(rt.alloc(), Misuse::ReplacesModule)))
+        }
+        Job::Search(
+            Search {
+                file,
+                save: Some(path),
+                ..
+            },
+        ) if is_one_file(rt, file, path) => {
+            Err(Stop::Usage(misused(rt.alloc(), Misuse::FindReplacesModule)))
         }
         _ => Ok(()),
     }

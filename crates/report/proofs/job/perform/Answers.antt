@@ -35,3 +35,12 @@ returns-in-Show g c =
       none = c.show_saved.ensures.none;
       statuses = c.show_saved.ensures.status;
     })
+
+pub returns-in-Search : goal.returns-in-Search
+returns-in-Search g c =
+    rw c.in-Search.is (record {
+      made = c.search.ensures.made;
+      refused = c.search.ensures.refused;
+      cannot = c.search.ensures.cannot;
+      statuses = c.search.ensures.status;
+    })

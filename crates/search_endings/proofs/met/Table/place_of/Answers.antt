@@ -23,4 +23,5 @@ loop-place-preserved c =
     c.is_same.ensures.1 (subst (λ (m : Met). AreOneEnding m.ending c.args.ending.now) (sym (at d)) same) in absurd (cc))
 
 pub returns : goal.returns
-returns c = λ k d within same. c.loop-place.invariant k (let n : length c.deref-met-items.result.now ≡ length c.args.self.now.met.items = ap length c.deref-met-items.ensures.value in omega arith) d same
+returns c = λ k d within same. c.loop-place.invariant k
+    (let n : length c.deref-met-items.result.now ≡ length c.args.self.now.met.items = ap length c.deref-met-items.ensures.value in omega arith) d same

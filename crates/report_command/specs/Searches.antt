@@ -1,0 +1,21 @@
+-- The searches of the command line.
+use Rattle.std.specs.Prelude.{◌≤◌, ◌≢◌, ℕ, IfSome}
+use Rattle.types.specs.Limits.{most_limit, most_fuel}
+use Rattle.report_command.specs.declared.search.Search.{Search}
+
+-- The most runs that a search makes, and the highest number of a first run.
+abbrev pub most_runs : ℕ
+most_runs = 1000000000000
+
+-- The numbers of a search are in their ranges.
+pub record IsSearchInRange (s : Search) : Type 0 where
+  pub runs : s.runs ≤ most_runs
+  pub from : s.from ≤ most_runs
+  pub fuel : s.fuel ≤ most_fuel
+  pub limit_low : 1 ≤ s.limit
+  pub limit : s.limit ≤ most_limit
+  pub dump : s.dump ≤ 4096
+
+-- It keeps no record at the path of its module.
+abbrev pub SearchKeepsItsModule : Search → Type 0
+SearchKeepsItsModule s = IfSome s.save (λ path. path.now ≢ s.file.now)

@@ -1,0 +1,197 @@
+//! The command line of a search.
+ghost use Rattle.std.specs.Prelude.{◌≤◌, IfOk, IfSome};
+ghost use Rattle.report_command.specs.Searches.{IsSearchInRange, most_runs};
+
+use crate::command_line::{
+    args_argument, args_of, bounds_of, dump_argument, file_argument, invoke_argument, with_bounds,
+};
+use clap::{Arg, ArgAction, ArgMatches, Command, value_parser};
+use search_strategies::{MOST_DEPTH, Way};
+use std::alloc::{AllocError, Global};
+
+/// A search through runs of a function of a module.
+#[derive(PartialEq, Eq, Debug, Drop)]
+pub struct Search<'a> {
+    /// The path of the module.
+    pub file: &'a str,
+    /// The name under which the function is exported.
+    pub invoke: &'a str,
+    /// Who goes on.
+    pub way: Way,
+    /// How many runs are made at most, 1 to 1,000,000,000,000.
+    pub runs: u64,
+    /// The number of the first run, 1 to 1,000,000,000,000.
+    pub from: u64,
+    /// The seed: it and its number say which run it is.
+    pub seed: u64,
+    /// The words of a thread's line by which a run is found.
+    pub find: Option<&'a str>,
+    /// The words without which thread 0's line is found.
+    pub expect: Option<&'a str>,
+    /// Whether of what is found a run with few switches of threads is looked for.
+    pub shrink: bool,
+    /// How many threads make runs; without a number as many as there are processors.
+    pub jobs: Option<u32>,
+    /// How many units each thread may spend, 0 to 1,000,000,000,000.
+    pub fuel: u64,
+    /// How many entries the log takes, 1 to 1,000,000.
+    pub limit: u32,
+    /// The path of the record of what is found, if one is wanted.
+    pub save: Option<&'a str>,
+    /// How many bytes of the memory are printed, and told apart, 0 to 4096.
+    pub dump: u32,
+    /// The arguments as they were written.
+    pub args: Vec<&'a str>,
+}
+
+impl Search<'_> {
+    /// Whether a record or a smaller run is wanted, and nothing is looked for.
+    pub(crate) fn keeps_nothing(&self) -> bool {
+        (self.save.is_some() || self.shrink) && self.find.is_none() && self.expect.is_none()
+    }
+}
+
+/// The most runs that a search makes, and the highest number of a first run.
+const MOST_RUNS: u64 = 1_000_000_000_000;
+
+/// Which runs are made.
+fn with_runs<'a>(alloc: Global, command: Command<'a>) -> Result<Command<'a>, AllocError> {
+    let runs = Arg::new(alloc, "runs")
+        .long("runs")
+        .value_name("N")
+        .help("How many runs are made at most")
+        .value_parser(value_parser!(u64).range(1..1_000_000_000_001))
+        .default_value("1000");
+    let from = Arg::new(alloc, "from")
+        .long("from")
+        .value_name("I")
+        .help("The number of the first run")
+        .value_parser(value_parser!(u64).range(1..1_000_000_000_001))
+        .default_value("1");
+    let seed = Arg::new(alloc, "seed")
+        .long("seed")
+        .value_name("S")
+        .help("The seed: run I of a seed is the same on every machine")
+        .value_parser(value_parser!(u64).range(0..1_000_000_000_000_000_001))
+        .default_value("1");
+    let strategy = Arg::new(alloc, "strategy")
+        .long("strategy")
+        .value_name("WAY")
+        .help(
+            "Who goes on: random, or pct:D for priorities that change at D - 1 points, D of 1 to 32",
+        )
+        .default_value("random");
+    let jobs = Arg::new(alloc, "jobs")
+        .long("jobs")
+        .value_name("N")
+        .help("How many threads make runs, 1 to 256; without it as many as there are processors")
+        .value_parser(value_parser!(u32).range(1..257));
+    command
+        .arg(runs)?
+        .arg(from)?
+        .arg(seed)?
+        .arg(strategy)?
+        .arg(jobs)
+}
+
+/// What is looked for, and what becomes of it.
+fn with_wishes<'a>(alloc: Global, command: Command<'a>) -> Result<Command<'a>, AllocError> {
+    let find = Arg::new(alloc, "find")
+        .long("find")
+        .value_name("WORDS")
+        .help("Stop at the first run with a thread's line that has these words");
+    let expect = Arg::new(alloc, "expect")
+        .long("expect")
+        .value_name("WORDS")
+        .help("Stop at the first run whose line of thread 0 hasn't these words");
+    let record = Arg::new(alloc, "record")
+        .long("record")
+        .value_name("OUT")
+        .help("Write a record of the run that was found to this file");
+    let shrink = Arg::new(alloc, "shrink")
+        .long("shrink")
+        .help("Look for a run that ends as the one that was found, with few switches of threads")
+        .action(ArgAction::SetTrue);
+    command.arg(find)?.arg(expect)?.arg(record)?.arg(shrink)
+}
+
+/// `search FILE --invoke NAME [--runs N] [--from I] [--seed S] [--strategy random|pct:D] [--find WORDS] [--expect WORDS]
+/// [--record OUT] [--shrink] [--jobs N] [--fuel N] [--limit N] [--dump N] [ARG..]`
+pub(crate) fn search_command<'a>(alloc: Global) -> Result<Command<'a>, AllocError> {
+    let command = Command::new(alloc, "search")
+        .about(
+            "Runs a function of a module on one thread along many schedules, and prints how the runs end",
+        )
+        .arg(file_argument(alloc))?
+        .arg(invoke_argument(alloc))?;
+    let command = with_wishes(alloc, with_runs(alloc, command)?)?;
+    with_bounds(alloc, command)?
+        .arg(dump_argument(alloc))?
+        .arg(args_argument(alloc))
+}
+
+/// The strategy that a word names: `random`, or `pct:` with a depth of 1 to 32.
+fn way_of(word: &str) -> Option<Way> {
+    if word == "random" {
+        return Some(Way::Random);
+    }
+    let depth = word.strip_prefix("pct:")?.parse::<u32>().ok()?;
+    if depth == 0 || depth > MOST_DEPTH {
+        return None;
+    }
+    Some(Way::Priorities(depth))
+}
+
+/// How many runs are made and which is the first, where these are there and in range, as the parser sees to.
+fn runs_of(matches: &ArgMatches) -> Option<(u64, u64)>
+    ensures { IfSome result (λ n. (n.0 ≤ most_runs) × (n.1 ≤ most_runs)) }
+{
+    let runs = matches.get_one::<u64>("runs")?;
+    let from = matches.get_one::<u64>("from")?;
+    if runs <= MOST_RUNS && from <= MOST_RUNS {
+        Some((runs, from))
+    } else {
+        None
+    }
+}
+
+/// The search that the words ask for, where its numbers are there and in range, as the parser sees to, and its strategy is one.
+pub(crate) fn search_job<'a>(
+    alloc: Global,
+    matches: &ArgMatches<'a>,
+) -> Result<Option<Search<'a>>, AllocError>
+    ensures { IfOk result (λ search. IfSome search IsSearchInRange) }
+{
+    let (Some(file), Some(invoke), Some((fuel, limit, dump)), Some(word)) = (
+        matches.get_str("file"),
+        matches.get_str("invoke"),
+        bounds_of(matches),
+        matches.get_str("strategy"),
+    ) else {
+        return Ok(None);
+    };
+    let (Some(way), Some((runs, from)), Some(seed)) = (
+        way_of(word),
+        runs_of(matches),
+        matches.get_one::<u64>("seed"),
+    ) else {
+        return Ok(None);
+    };
+    Ok(Some(Search {
+        file,
+        invoke,
+        way,
+        runs,
+        from,
+        seed,
+        find: matches.get_str("find"),
+        expect: matches.get_str("expect"),
+        shrink: matches.get_flag("shrink"),
+        jobs: matches.get_one::<u32>("jobs"),
+        fuel,
+        limit,
+        save: matches.get_str("record"),
+        dump,
+        args: args_of(alloc, matches)?,
+    }))
+}

@@ -1,0 +1,202 @@
+//! The endings of runs that are drawn.
+
+use crate::modules::{LOOKING, LOST_UPDATE};
+use crate::runs::{FUEL, LIMIT, Trouble, WAYS, ending_drawn, load, run};
+use interp_trait::OpenGate;
+use report_runs::record_run;
+use search_endings::{Ending, Table, ending_of, has_line_with, lacks_in_thread_0};
+use search_strategies::{Along, Way};
+use spawn_host::Call;
+use std::alloc::Global;
+use std::process::Abort;
+use std::sync::Wait;
+use std::test::Fail;
+use std::thread::Threads;
+use test_modules::{SLEEPERS, TELLING};
+use types::{Outcome, Stop, Trap, Value};
+use validate::ValidModule;
+
+/// The endings of so many runs of a seed.
+fn endings_of(
+    alloc: Global,
+    valid: &ValidModule,
+    args: &[Value],
+    way: Way,
+    runs: u64,
+) -> Result<Table, Trouble> {
+    let mut table = Table::new(alloc);
+    for number in 0..runs {
+        let ending = ending_drawn(alloc, valid, args, way, 1, number)?;
+        if table.runs < 1000 {
+            table.note(number, ending)?;
+        }
+    }
+    Ok(table)
+}
+
+/// In how many runs the threads ended so, with this byte at 0.
+fn times_of(table: &Table, outcomes: &[Outcome], byte: u8) -> u64 {
+    table
+        .met
+        .iter()
+        .filter(|met| {
+            met.ending.outcomes.as_slice() == outcomes && met.ending.bytes.first() == Some(&byte)
+        })
+        .map(|met| met.times)
+        .sum()
+}
+
+/// What thread 0 answers and what is stored in the end: thread 0 comes first, or thread 1, or an update is lost.
+static UPDATES: [(i32, u8); 3] = [(1, 2), (2, 2), (1, 1)];
+
+fn check_updates<R: Abort>(rt: &R, alloc: Global) -> Result<(), Trouble> {
+    let valid = load(alloc, LOST_UPDATE)?;
+    for way in WAYS {
+        let table = endings_of(alloc, &valid, &[], way, 300)?;
+        assert!(rt;
+            table.runs == 300 && table.met.len() == 3,
+            "{way:?}: {table:?}"
+        );
+        for (answer, byte) in UPDATES {
+            let ends = [
+                Outcome::Done(Some(Value::I32(answer as u32))),
+                Outcome::Done(None),
+            ];
+            assert!(rt;
+                times_of(&table, &ends, byte) > 0,
+                "{way:?}: {answer} {byte}"
+            );
+        }
+    }
+    Ok(())
+}
+
+#[test]
+fn a_lost_update_has_three_endings(rt: HostRuntime) -> Result<(), Fail> {
+    check_updates(&rt, rt.alloc())?;
+    Ok(())
+}
+
+/// Whether runs by threads of the machine end as some that were drawn do.
+fn is_met<R: Threads + Wait + Sync>(
+    rt: &R,
+    alloc: Global,
+    valid: &ValidModule,
+    table: &Table,
+) -> Result<bool, Trouble> {
+    let call = Call {
+        name: "f",
+        args: &[],
+        fuel: FUEL,
+    };
+    let Ok((_, end)) = record_run(rt, alloc, valid, call, LIMIT, &OpenGate) else {
+        return Ok(false);
+    };
+    let ending = ending_of(alloc, &end, 4)?;
+    Ok(table.met.iter().any(|met| met.ending.is_same(&ending)))
+}
+
+fn check_real<R: Abort + Threads + Wait + Sync>(rt: &R, alloc: Global) -> Result<(), Trouble> {
+    let valid = load(alloc, LOST_UPDATE)?;
+    let table = endings_of(alloc, &valid, &[], Way::Random, 300)?;
+    for run in 0..50 {
+        assert!(rt; is_met(rt, alloc, &valid, &table)?, "{run}");
+    }
+    Ok(())
+}
+
+#[test]
+fn runs_of_the_machine_end_as_drawn_ones(rt: HostRuntime) -> Result<(), Fail> {
+    check_real(&rt, rt.alloc())?;
+    Ok(())
+}
+
+/// Thread 0 loads, thread 1 makes its event and leaves, and thread 0 goes on.
+fn check_lost<R: Abort>(rt: &R, alloc: Global) -> Result<(), Trouble> {
+    let valid = load(alloc, LOST_UPDATE)?;
+    let made = run(alloc, &valid, &[], &mut Along::new(&[0, 0, 1, 1, 1, 0]))?;
+    assert!(rt; made.end.bytes.first() == Some(&1), "{made:?}");
+    let made = run(alloc, &valid, &[], &mut Along::new(&[0, 0, 0, 1, 1, 1, 0]))?;
+    assert!(rt; made.end.bytes.first() == Some(&2), "{made:?}");
+    Ok(())
+}
+
+#[test]
+fn a_schedule_loses_the_update(rt: HostRuntime) -> Result<(), Fail> {
+    check_lost(&rt, rt.alloc())?;
+    Ok(())
+}
+
+/// Threads that sleep without a timeout are asleep for good in each run.
+#[rattlefmt::skip]
+static ASLEEP: [Outcome; 5] = [
+    Outcome::Trap(Trap::DivideByZero),
+    Outcome::Stop(Stop::AsleepForGood), Outcome::Trap(Trap::Unreachable),
+    Outcome::Stop(Stop::AsleepForGood), Outcome::Trap(Trap::OutOfBounds),
+];
+
+fn check_sleepers<R: Abort>(rt: &R, alloc: Global) -> Result<(), Trouble> {
+    let valid = load(alloc, SLEEPERS)?;
+    for way in WAYS {
+        let table = endings_of(alloc, &valid, &[], way, 50)?;
+        assert!(rt; times_of(&table, &ASLEEP, 0) == 50, "{way:?}: {table:?}");
+    }
+    Ok(())
+}
+
+#[test]
+fn sleepers_sleep_for_good(rt: HostRuntime) -> Result<(), Fail> {
+    check_sleepers(&rt, rt.alloc())?;
+    Ok(())
+}
+
+/// Whether thread 1 sleeps for good exactly where thread 0 has woken nobody.
+fn is_told_rightly(alloc: Global, ending: &Ending) -> Result<bool, Trouble> {
+    let sleeps = has_line_with(alloc, ending, "asleep")?;
+    let woke_nobody = lacks_in_thread_0(alloc, ending, "i32:1")?;
+    Ok(sleeps == woke_nobody)
+}
+
+fn check_telling<R: Abort>(rt: &R, alloc: Global) -> Result<(), Trouble> {
+    let valid = load(alloc, TELLING)?;
+    for way in WAYS {
+        let table = endings_of(alloc, &valid, &[Value::I32(u32::MAX)], way, 200)?;
+        assert!(rt; table.met.len() == 2, "{way:?}: {table:?}");
+        for met in &table.met {
+            assert!(rt; is_told_rightly(alloc, &met.ending)?, "{way:?}: {met:?}");
+        }
+        let table = endings_of(alloc, &valid, &[Value::I32(1)], way, 200)?;
+        for met in &table.met {
+            assert!(rt;
+                !has_line_with(alloc, &met.ending, "asleep")?,
+                "{way:?}: {met:?}"
+            );
+        }
+    }
+    Ok(())
+}
+
+#[test]
+fn a_sleeper_is_woken_in_some_runs(rt: HostRuntime) -> Result<(), Fail> {
+    check_telling(&rt, rt.alloc())?;
+    Ok(())
+}
+
+/// Nobody waits in a loop for good: thread 1 comes to its store in each run.
+fn check_looking<R: Abort>(rt: &R, alloc: Global) -> Result<(), Trouble> {
+    let valid = load(alloc, LOOKING)?;
+    let ends = [Outcome::Done(Some(Value::I32(7))), Outcome::Done(None)];
+    for way in WAYS {
+        let table = endings_of(alloc, &valid, &[], way, 100)?;
+        assert!(rt; times_of(&table, &ends, 1) == 100, "{way:?}: {table:?}");
+    }
+    let made = run(alloc, &valid, &[], &mut Along::new(&[]))?;
+    assert!(rt; made.record.parts().log.as_slice().len() < 300, "{made:?}");
+    Ok(())
+}
+
+#[test]
+fn nobody_looks_for_good(rt: HostRuntime) -> Result<(), Fail> {
+    check_looking(&rt, rt.alloc())?;
+    Ok(())
+}

@@ -1,0 +1,208 @@
+//! What is found is one run on any number of jobs. Its record is replayed, and what it is shrunk to ends alike.
+
+use crate::modules::LOST_UPDATE;
+use crate::runs::{FUEL, LIMIT, Trouble, load};
+use replay::replay;
+use search_endings::{Met, Table, have_one_ending};
+use search_finds::{Found, Searched, Sought, first_found, shrunk, size_of};
+use search_strategies::Way;
+use spawn_host::Call;
+use std::alloc::Global;
+use std::process::Abort;
+use std::test::Fail;
+use std::thread::Threads;
+use test_modules::{BROKEN_LOCK, SLEEPERS};
+use validate::ValidModule;
+
+/// The call of each module here.
+const CALL: Call = Call {
+    name: "f",
+    args: &[],
+    fuel: FUEL,
+};
+
+/// What is looked for: the strategy, the first run and how many, the words, and those that are expected.
+struct Wish {
+    module: &'static [u8],
+    way: Way,
+    from: u64,
+    runs: u64,
+    find: Option<&'static str>,
+    expect: Option<&'static str>,
+    /// Whether a run is found.
+    is_found: bool,
+}
+
+static WISHES: [Wish; 6] = [
+    Wish {
+        module: LOST_UPDATE,
+        way: Way::Random,
+        from: 1,
+        runs: 200,
+        find: None,
+        expect: Some("i32:2"),
+        is_found: true,
+    },
+    Wish {
+        module: LOST_UPDATE,
+        way: Way::Priorities(2),
+        from: 1,
+        runs: 200,
+        find: Some("i32:1"),
+        expect: None,
+        is_found: true,
+    },
+    Wish {
+        module: LOST_UPDATE,
+        way: Way::Random,
+        from: 77,
+        runs: 200,
+        find: Some("trap"),
+        expect: None,
+        is_found: false,
+    },
+    Wish {
+        module: LOST_UPDATE,
+        way: Way::Random,
+        from: 77,
+        runs: 1,
+        find: Some("thread 0: ok"),
+        expect: None,
+        is_found: true,
+    },
+    Wish {
+        module: SLEEPERS,
+        way: Way::Random,
+        from: 1,
+        runs: 200,
+        find: Some("asleep for good"),
+        expect: None,
+        is_found: true,
+    },
+    Wish {
+        module: BROKEN_LOCK,
+        way: Way::Random,
+        from: 1,
+        runs: 5,
+        find: None,
+        expect: Some("i32:600"),
+        is_found: true,
+    },
+];
+
+static JOBS: [usize; 2] = [2, 3];
+
+fn sought_by(wish: &Wish) -> Sought<'static> {
+    Sought {
+        way: wish.way,
+        seed: 1,
+        from: wish.from,
+        runs: wish.runs,
+        limit: LIMIT,
+        dump: 4,
+        find: wish.find,
+        expect: wish.expect,
+    }
+}
+
+fn searched<R: Threads + Sync>(
+    rt: &R,
+    alloc: Global,
+    wish: &Wish,
+    jobs: usize,
+) -> Result<Searched, Trouble> {
+    let valid = load(alloc, wish.module)?;
+    let sought = sought_by(wish);
+    if sought.from > 1000 || sought.runs > 1000 {
+        return Err(Trouble::Refused);
+    }
+    Ok(first_found(rt, alloc, &valid, CALL, &sought, jobs)?)
+}
+
+fn are_one_row(one: &Met, other: &Met) -> bool {
+    one.times == other.times && one.first == other.first && one.ending.is_same(&other.ending)
+}
+
+fn are_one_table(one: &Table, other: &Table) -> bool {
+    one.runs == other.runs
+        && one.met.len() == other.met.len()
+        && one
+            .met
+            .iter()
+            .zip(other.met.iter())
+            .all(|(row, to)| are_one_row(row, to))
+}
+
+fn are_one_find(one: &Option<Found>, other: &Option<Found>) -> bool {
+    match (one, other) {
+        (Some(one), Some(other)) => {
+            one.run == other.run
+                && one.made.record.parts() == other.made.record.parts()
+                && one.made.end == other.made.end
+        }
+        (None, None) => true,
+        _ => false,
+    }
+}
+
+/// Whether a search by so many jobs comes to what one by one job does.
+fn is_one_by<R: Threads + Sync>(
+    rt: &R,
+    alloc: Global,
+    wish: &Wish,
+    jobs: usize,
+) -> Result<bool, Trouble> {
+    let alone = searched(rt, alloc, wish, 1)?;
+    let other = searched(rt, alloc, wish, jobs)?;
+    Ok(
+        alone.found.is_some() == wish.is_found
+            && are_one_table(&alone.table, &other.table)
+            && are_one_find(&alone.found, &other.found),
+    )
+}
+
+fn check_jobs<R: Abort + Threads + Sync>(rt: &R, alloc: Global) -> Result<(), Trouble> {
+    for (place, wish) in WISHES.iter().enumerate() {
+        for jobs in JOBS {
+            assert!(rt; is_one_by(rt, alloc, wish, jobs)?, "{place}: {jobs} jobs");
+        }
+    }
+    Ok(())
+}
+
+#[test]
+fn a_find_is_one_on_any_number_of_jobs(rt: HostRuntime) -> Result<(), Fail> {
+    check_jobs(&rt, rt.alloc())?;
+    Ok(())
+}
+
+/// Whether the records of a run and of what it is shrunk to are replayed with their ends, which are alike, and the second is no larger.
+fn shrinks(alloc: Global, valid: &ValidModule, found: Found) -> Result<bool, Trouble> {
+    let before = replay(alloc, valid, &found.made.record)?;
+    let size = size_of(&found.made.record);
+    let ends_so = before == found.made.end;
+    let small = shrunk(alloc, valid, CALL, LIMIT, 4, found.made)?;
+    let after = replay(alloc, valid, &small.record)?;
+    Ok(
+        ends_so
+            && after == small.end
+            && have_one_ending(&before, &after, 4)
+            && size_of(&small.record) <= size,
+    )
+}
+
+fn check_shrinks<R: Abort + Threads + Sync>(rt: &R, alloc: Global) -> Result<(), Trouble> {
+    for (place, wish) in WISHES.iter().enumerate().take(5) {
+        let valid = load(alloc, wish.module)?;
+        if let Some(found) = searched(rt, alloc, wish, 2)?.found {
+            assert!(rt; shrinks(alloc, &valid, found)?, "{place}");
+        }
+    }
+    Ok(())
+}
+
+#[test]
+fn a_find_is_replayed_and_shrunk(rt: HostRuntime) -> Result<(), Fail> {
+    check_shrinks(&rt, rt.alloc())?;
+    Ok(())
+}
