@@ -6,5 +6,5 @@ mod listing;
 mod spot;
 
 pub use code::CodeMap;
-pub use listing::{Shown, write_rows};
+pub use listing::{Shown, Story, write_rows};
 pub use spot::Spot;

@@ -20,13 +20,15 @@ pub struct Shown<'r, 'w, 'c, 'm, 'n> {
 
 /// What the log says of its entries beside them.
 #[derive(Drop)]
-struct Story {
-    contexts: Vec<Context>,
-    wakes: Vec<Wake>,
+pub struct Story {
+    pub contexts: Vec<Context>,
+    /// In the order of the notifies.
+    pub wakes: Vec<Wake>,
 }
 
 impl Story {
-    fn new(alloc: Global, log: &[Entry]) -> Result<Story, AllocError> {
+    /// What a log says, whatever it is.
+    pub fn new(alloc: Global, log: &[Entry]) -> Result<Story, AllocError> {
         let contexts = contexts(alloc, log, MOST_THREADS)?;
         let wakes = all_wakes(alloc, log, &contexts)?;
         Ok(Story { contexts, wakes })
@@ -42,7 +44,7 @@ impl Story {
 
 impl Shown<'_, '_, '_, '_, '_> {
     /// The line of the record that has the entry at a place.
-    fn line_of(&self, at: usize) -> u64 {
+    pub fn line_of(&self, at: usize) -> u64 {
         let first = self.record.version.header_lines() + 1;
         (first as u64).saturating_add(at as u64)
     }
@@ -59,7 +61,7 @@ impl Shown<'_, '_, '_, '_, '_> {
     }
 
     /// The entry at a place in words.
-    fn words_at<'s>(&self, story: &'s Story, at: usize, entry: &Entry) -> Words<'s> {
+    pub fn words_at<'s>(&self, story: &'s Story, at: usize, entry: &Entry) -> Words<'s> {
         let row = self.rows.get(at).copied().flatten();
         Words {
             entry: *entry,
@@ -72,7 +74,7 @@ impl Shown<'_, '_, '_, '_, '_> {
     }
 
     /// Where the entry at a place was made: an answer where its question was asked.
-    fn place_at(&self, story: &Story, at: usize) -> Option<Place> {
+    pub fn place_at(&self, story: &Story, at: usize) -> Option<Place> {
         let made = match story.contexts.get(at) {
             Some(Context::Asked(_, asked)) => *asked,
             _ => at,
@@ -82,7 +84,7 @@ impl Shown<'_, '_, '_, '_, '_> {
     }
 
     /// The threads that have an entry which is chosen, in the order of their numbers.
-    fn threads(&self, alloc: Global, look: &Look) -> Result<Vec<u32>, AllocError> {
+    pub fn threads(&self, alloc: Global, look: &Look) -> Result<Vec<u32>, AllocError> {
         let mut threads = Vec::new(alloc);
         for (at, entry) in self.record.log.as_slice().iter().enumerate() {
             if look.choice.has(self.line_of(at), entry) && !threads.contains(&entry.thread) {
