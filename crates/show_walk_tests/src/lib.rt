@@ -1,7 +1,7 @@
 //! Tests of rows: where each entry of a record was made, with its function's name and its line of source.
 #![tactic(auto)]
 
-mod data;
+pub mod data;
 #[cfg(test)]
 mod listings;
 #[cfg(test)]
