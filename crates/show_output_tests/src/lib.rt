@@ -2,4 +2,6 @@
 #![tactic(auto)]
 
 #[cfg(test)]
+mod outputs;
+#[cfg(test)]
 mod reasons;

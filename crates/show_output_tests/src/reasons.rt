@@ -184,28 +184,40 @@ struct Unfit {
     lines: &'static str,
 }
 
-static UNFIT: [Unfit; 3] = [
+static UNFIT: [Unfit; 4] = [
     Unfit {
         number: 6,
         misfit: Some(Misfit {
             thread: 4,
-            instead: Instead::Wants(Event::Rmw {
-                op: RmwOp::Xchg,
-                addr: 1024,
-                width: 4,
-                value: 2,
-            }),
-            spot: Some("lock+0x9 lock.c:7"),
+            instead: None,
+            spot: Some("lock+0x9"),
         }),
         lines: "line 6: the record has t4 cmpxchg 1024 4 0 1 = 0\n\
-            t4 would do rmw xchg 1024 4 2, at lock+0x9 lock.c:7\n\
+            t4 stands at lock+0x9 before it\n\
             no run of this module goes on so: is the record of another module, or of another build of it?\n",
     },
     Unfit {
         number: 6,
         misfit: Some(Misfit {
             thread: 4,
-            instead: Instead::Ended(Outcome::Stop(Stop::OutOfFuel)),
+            instead: Some(Instead::Wants(Event::Rmw {
+                op: RmwOp::Xchg,
+                addr: 1024,
+                width: 4,
+                value: 2,
+            })),
+            spot: Some("lock+0x9 lock.c:7"),
+        }),
+        lines: "line 6: the record has t4 cmpxchg 1024 4 0 1 = 0\n\
+            t4 would do rmw xchg 1024 4 2\n\
+            t4 stands at lock+0x9 lock.c:7 before it\n\
+            no run of this module goes on so: is the record of another module, or of another build of it?\n",
+    },
+    Unfit {
+        number: 6,
+        misfit: Some(Misfit {
+            thread: 4,
+            instead: Some(Instead::Ended(Outcome::Stop(Stop::OutOfFuel))),
             spot: None,
         }),
         lines: "line 6: the record has t4 cmpxchg 1024 4 0 1 = 0\n\

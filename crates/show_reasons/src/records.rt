@@ -101,20 +101,23 @@ pub(crate) fn add_misfit(
     )
 }
 
-/// Adds what a thread does in place of the record's line.
+/// Adds what a thread does in place of the record's line, and where it stands.
 fn add_instead(out: &mut String, misfit: Misfit) -> Result<(), AllocError> {
     let thread = misfit.thread;
     match misfit.instead {
-        Instead::Wants(event) => {
+        Some(Instead::Wants(event)) => {
             let words = EventWords(event);
-            write!(out, "t{thread} would do {words}")?;
+            write!(out, "t{thread} would do {words}\n")?;
         }
-        Instead::Awaits => write!(out, "t{thread} waits for an answer")?,
-        Instead::Ended(outcome) => write!(out, "t{thread} has ended: {outcome}")?,
+        Some(Instead::Awaits) => write!(out, "t{thread} waits for an answer\n")?,
+        Some(Instead::Ended(outcome)) => write!(out, "t{thread} has ended: {outcome}\n")?,
+        None => {}
     }
-    if let Some(spot) = misfit.spot {
-        let spot = Plain(spot);
-        write!(out, ", at {spot}")?;
+    match misfit.spot {
+        Some(spot) => {
+            let spot = Plain(spot);
+            write!(out, "t{thread} stands at {spot} before it\n")
+        }
+        None => Ok(()),
     }
-    out.push('\n')
 }

@@ -49,8 +49,9 @@ pub enum Refused<'a> {
 #[derive(Clone, Copy, Debug, PartialEq, Eq)]
 pub struct Misfit<'a> {
     pub thread: u32,
-    pub instead: Instead,
-    /// Where it stands, as it is printed.
+    /// What it does in place of the line, where that is known.
+    pub instead: Option<Instead>,
+    /// Where it stands behind its last entry, as it is printed.
     pub spot: Option<&'a str>,
 }
 

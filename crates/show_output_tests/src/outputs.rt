@@ -1,0 +1,127 @@
+//! Traces and pages, by hand.
+
+use binary::read;
+use replay::replay_watched;
+use replay_text::read_record;
+use show_events::write_trace;
+use show_page::write_page;
+use show_rows::{CodeMap, Shown};
+use show_text::{Choice, Color, Look};
+use show_walk::Rows;
+use show_walk_tests::data::TOLD;
+use std::alloc::Global;
+use std::test::Fail;
+use test_modules::TELLING;
+use validate::{ValidModule, validate};
+
+/// A name of function 1, by which a page's script would end.
+const NAMES: &[u8] = b"\
+\x00\x61\x73\x6d\x01\x00\x00\x00\x00\x13\x04name\x01\x0c\x01\x01\x09</script>";
+
+const WHOLE: &str = r#"{"displayTimeUnit":"ns","traceEvents":
+[{"ph":"M","name":"process_name","ts":0,"pid":1,"tid":0,"args":{"name":"wathread"}}
+,{"ph":"M","name":"thread_name","ts":0,"pid":1,"tid":0,"args":{"name":"t0"}}
+,{"ph":"M","name":"thread_name","ts":0,"pid":1,"tid":1,"args":{"name":"t1"}}
+,{"ph":"X","name":"spawns t1 (arg 4294967295)","cat":"entry","ts":0,"dur":1,"pid":1,"tid":0,"args":{"line":6,"place":"\u003c/script>+0x3"}}
+,{"ph":"X","name":"spawned t1","cat":"entry","ts":1,"dur":1,"pid":1,"tid":0,"args":{"line":7,"place":"\u003c/script>+0x3"}}
+,{"ph":"X","name":"sleeps on 8 while 0","cat":"entry","ts":2,"dur":3,"pid":1,"tid":1,"args":{"line":8,"place":"wasi_thread_start+0x8"}}
+,{"ph":"X","name":"notify 8, at most 1: wakes t1","cat":"entry","ts":3,"dur":1,"pid":1,"tid":0,"args":{"line":9,"place":"\u003c/script>+0xa"}}
+,{"ph":"X","name":"woke 1","cat":"entry","ts":4,"dur":1,"pid":1,"tid":0,"args":{"line":10,"place":"\u003c/script>+0xa"}}
+,{"ph":"X","name":"woken","cat":"entry","ts":5,"dur":1,"pid":1,"tid":1,"args":{"line":11,"place":"wasi_thread_start+0x8"}}
+,{"ph":"X","name":"ends: ok i32:1","cat":"entry","ts":6,"dur":1,"pid":1,"tid":0,"args":{"line":12,"place":"\u003c/script>+0xe"}}
+,{"ph":"X","name":"ends: ok","cat":"entry","ts":7,"dur":1,"pid":1,"tid":1,"args":{"line":13,"place":"wasi_thread_start+0xd"}}
+,{"ph":"X","name":"gone","cat":"entry","ts":8,"dur":1,"pid":1,"tid":1,"args":{"line":14,"place":"wasi_thread_start+0xd"}}
+,{"ph":"X","name":"gone","cat":"entry","ts":9,"dur":1,"pid":1,"tid":0,"args":{"line":15,"place":"\u003c/script>+0xe"}}
+,{"ph":"s","name":"wakes","cat":"flow","id":0,"ts":3,"pid":1,"tid":0}
+,{"ph":"f","name":"wakes","cat":"flow","id":0,"bp":"e","ts":5,"pid":1,"tid":1}
+,{"ph":"s","name":"spawns","cat":"flow","id":1,"ts":0,"pid":1,"tid":0}
+,{"ph":"f","name":"spawns","cat":"flow","id":1,"bp":"e","ts":2,"pid":1,"tid":1}
+]
+}
+"#;
+
+const OF_ONE: &str = r#"{"displayTimeUnit":"ns","traceEvents":
+[{"ph":"M","name":"process_name","ts":0,"pid":1,"tid":0,"args":{"name":"wathread"}}
+,{"ph":"M","name":"thread_name","ts":0,"pid":1,"tid":1,"args":{"name":"t1"}}
+,{"ph":"X","name":"sleeps on 8 while 0","cat":"entry","ts":2,"dur":3,"pid":1,"tid":1,"args":{"line":8,"place":"wasi_thread_start+0x8"}}
+,{"ph":"X","name":"woken","cat":"entry","ts":5,"dur":1,"pid":1,"tid":1,"args":{"line":11,"place":"wasi_thread_start+0x8"}}
+,{"ph":"X","name":"ends: ok","cat":"entry","ts":7,"dur":1,"pid":1,"tid":1,"args":{"line":13,"place":"wasi_thread_start+0xd"}}
+,{"ph":"X","name":"gone","cat":"entry","ts":8,"dur":1,"pid":1,"tid":1,"args":{"line":14,"place":"wasi_thread_start+0xd"}}
+]
+}
+"#;
+
+/// The threads that are chosen, all if none is named, and the trace.
+static TRACES: [(&[u32], &str); 2] = [(&[], WHOLE), (&[1], OF_ONE)];
+
+fn module_of(alloc: Global) -> Result<ValidModule, Fail> {
+    match validate(alloc, read(alloc, TELLING)?) {
+        Ok(valid) => Ok(valid),
+        Err(_) => Err("not valid".into()),
+    }
+}
+
+fn look_at(alloc: Global, threads: &[u32]) -> Result<Look, Fail> {
+    let choice = Choice {
+        lines: None,
+        threads: threads.to_vec(alloc)?,
+        addrs: None,
+    };
+    Ok(Look {
+        choice,
+        width: 100,
+        color: Color::Never,
+    })
+}
+
+/// The trace and the page of a run, with the entries of these threads.
+fn written(alloc: Global, threads: &[u32]) -> Result<(Vec<u8>, Vec<u8>), Fail> {
+    let valid = module_of(alloc)?;
+    let record = read_record(alloc, TOLD)?;
+    let mut rows = Rows::new(alloc, record.parts().log.as_slice())?;
+    replay_watched(alloc, &valid, &record, &mut rows)?;
+    let code = CodeMap::read(alloc, valid.parts(), TELLING, NAMES)?;
+    let shown = Shown {
+        record: record.parts(),
+        rows: rows.rows.as_slice(),
+        code: &code,
+    };
+    let look = look_at(alloc, threads)?;
+    let mut trace = Vec::new(alloc);
+    write_trace(alloc, shown, &look, &mut trace)?;
+    let mut page = Vec::new(alloc);
+    write_page(alloc, shown, &look, &mut page)?;
+    Ok((trace, page))
+}
+
+#[test]
+fn traces_have_an_event_for_each_entry(rt: HostRuntime) -> Result<(), Fail> {
+    for (threads, text) in TRACES.iter() {
+        let (trace, _) = written(rt.alloc(), threads)?;
+        assert_eq!(rt; str::from_utf8(&trace), Ok(*text));
+    }
+    Ok(())
+}
+
+/// The events in a page, and what stands behind them up to the next tag.
+fn events_in(page: &str) -> Option<(&str, &str)> {
+    let (_, data) = page.split_once("<script type=\"application/json\" id=\"events\">")?;
+    let (events, behind) = data.split_once('<')?;
+    let (tag, _) = behind.split_once('>')?;
+    Some((events, tag))
+}
+
+#[test]
+fn pages_have_the_events_of_the_trace(rt: HostRuntime) -> Result<(), Fail> {
+    let (_, page) = written(rt.alloc(), &[])?;
+    let events = WHOLE
+        .strip_prefix("{\"displayTimeUnit\":\"ns\",\"traceEvents\":\n")
+        .and_then(|text| text.strip_suffix("}\n"));
+    let found = match str::from_utf8(&page) {
+        Ok(page) => events_in(page),
+        Err(_) => None,
+    };
+    assert_eq!(rt; found.map(|found| found.0), events);
+    assert_eq!(rt; found.map(|found| found.1), Some("/script"));
+    Ok(())
+}
