@@ -42,7 +42,7 @@ const FAULT: u8 = 5;
 ///
 /// `saved` has the bytes of the record that a replay or a show reads, and else nothing. A show takes names from the module
 /// itself (`show_saved` takes them from another file's bytes). `save` takes the record that a run makes, or that of what a
-/// search found, after the lines.
+/// search found, after the lines; or the file that a show makes.
 ///
 /// Answers the program's status: 0 where the module was accepted or all threads ended well, 1 for a trap or stop, 2
 /// for a refused module, 3 for a refused run, 4 for a refused record, 5 where memory, a thread or a stream failed. A write
@@ -90,8 +90,11 @@ where
             run(rt, alloc, &wanted, module, out, err, save)
         }
         Job::Replay { dump, .. } => replay_saved(alloc, module, saved, *dump, out, err),
-        Job::Show { look, at, .. } => {
-            show_saved(alloc, module, module, saved, look, *at, out, err)
+        Job::Show { look, view, .. } if view.path().is_some() => {
+            show_saved(alloc, module, module, saved, look, *view, save, err)
+        }
+        Job::Show { look, view, .. } => {
+            show_saved(alloc, module, module, saved, look, *view, out, err)
         }
         Job::Search(asked) => search(rt, alloc, asked, module, out, err, save),
     }

@@ -10,8 +10,10 @@ use crate::loading::load;
 use crate::replaying::{Unfit, misfit};
 use replay::{ReplayFault, replay_watched};
 use replay_text::{Record, RecordFault, RecordParts, read_record};
-use report_command::{At, Look};
+use report_command::{At, Look, View};
+use show_events::write_trace;
 use show_moments::{Bytes, Moment, write_moment};
+use show_page::write_page;
 use show_rows::{CodeMap, Shown, write_rows};
 use show_text::Unwritten;
 use show_walk::{Row, Rows};
@@ -20,8 +22,8 @@ use std::io::Write;
 use validate::ValidModule;
 
 /// Shows the entries of the record whose text `saved` is: each in words, with its place in the module. `names` are the bytes
-/// that have the names of functions and the lines of source: those of the module, or of another build of its code. `at` asks
-/// for what threads and memory are like before a line, in place of the entries.
+/// that have the names of functions and the lines of source: those of the module, or of another build of its code. `view` may
+/// ask for what threads and memory are like before a line, for a page or for a trace, in place of rows.
 ///
 /// Answers 0 only where the record is of a run of the module, 4 only where the bytes are the text of no record of a run of it,
 /// 2 for a refused module, and 5 where memory or a stream failed.
@@ -31,7 +33,7 @@ pub fn show_saved<W: Write, E: Write>(
     names: &[u8],
     saved: &[u8],
     look: &Look,
-    at: Option<At>,
+    view: View,
     out: &mut W,
     err: &mut E,
 ) -> u8
@@ -44,7 +46,7 @@ pub fn show_saved<W: Write, E: Write>(
         Ok(valid) => valid,
         Err(refusal) => return refuse(err, refusal),
     };
-    match show_record(alloc, &valid, module, names, saved, look, at, out) {
+    match show_record(alloc, &valid, module, names, saved, look, view, out) {
         Ok(()) => 0,
         Err(unfit) => reject(err, unfit),
     }
@@ -58,16 +60,16 @@ fn show_record<W: Write>(
     names: &[u8],
     saved: &[u8],
     look: &Look,
-    at: Option<At>,
+    view: View,
     out: &mut W,
 ) -> Result<(), Unfit>
     ensures shown { IfOk result (λ _. IsOfRun «module».now.parts saved.now) }
     ensures unfit { IfErr result (λ unfit. IsUnfit «module».now.parts saved.now unfit) }
 {
     let seen = rows_of(alloc, module, saved)?;
-    let wrote = match at {
-        None => print_rows(alloc, module, &seen, bytes, names, look, out),
-        Some(at) => print_moment(alloc, module, &seen, bytes, names, at, out),
+    let wrote = match view {
+        View::Moment(at) => print_moment(alloc, module, &seen, bytes, names, at, out),
+        _ => print_rows(alloc, module, &seen, bytes, names, look, view, out),
     };
     match wrote {
         Ok(()) => Ok(()),
@@ -127,7 +129,7 @@ fn watched(
     }
 }
 
-/// Writes the rows, with the names and lines in `names`.
+/// Writes the rows, or the page or trace that has them, with the names and lines in `names`.
 fn print_rows<W: Write>(
     alloc: Global,
     module: &ValidModule,
@@ -135,6 +137,7 @@ fn print_rows<W: Write>(
     bytes: &[u8],
     names: &[u8],
     look: &Look,
+    view: View,
     out: &mut W,
 ) -> Result<(), Unwritten> {
     let code = CodeMap::read(alloc, module.parts(), bytes, names)?;
@@ -143,7 +146,11 @@ fn print_rows<W: Write>(
         rows: seen.rows.as_slice(),
         code: &code,
     };
-    write_rows(alloc, shown, look, out)
+    match view {
+        View::Page(_) => write_page(alloc, shown, look, out),
+        View::Trace(_) => write_trace(alloc, shown, look, out),
+        View::Rows | View::Moment(_) => write_rows(alloc, shown, look, out),
+    }
 }
 
 /// How many entries of a record stand before a line; all of them before a line behind the log.

@@ -1,3 +1,4 @@
 pub mod Searches
+pub mod Views
 pub mod Jobs
 pub mod FaultNumbers

@@ -5,7 +5,7 @@ ghost use Rattle.report_command.specs.Jobs.{IsInRange, KeepsItsModule};
 ghost use Rattle.report_command.specs.FaultNumbers.{usage_number, IsWrong};
 
 use crate::search::{Search, search_command, search_job};
-use crate::show::{At, misread, show_command, show_job};
+use crate::show::{View, misread, show_command, show_job};
 use clap::error::ErrorKind;
 use clap::{Arg, ArgAction, ArgMatches, Command, Error, value_parser};
 use show_text::Look;
@@ -64,8 +64,8 @@ pub enum Job<'a> {
         names: Option<&'a str>,
         /// What is shown, and how.
         look: Look,
-        /// The line before which threads and memory are shown, in place of rows.
-        at: Option<At>,
+        /// What is made of the record.
+        view: View<'a>,
     },
     /// Run a function of a module again and again along schedules that are drawn, and print how the runs end.
     Search(Search<'a>),
@@ -338,6 +338,8 @@ pub enum Misuse {
     NoAddresses,
     /// The bytes of its dump are none.
     NoBytes,
+    /// What it makes would take the place of a file that it reads.
+    ReplacesRead,
     /// A record is wanted of what is found, and nothing is looked for.
     RecordsNothing,
     /// The record of what is found would take the place of the module.
@@ -349,9 +351,10 @@ pub enum Misuse {
 impl Misuse {
     fn kind(self) -> ErrorKind {
         match self {
-            Misuse::RecordsWords | Misuse::ReplacesModule | Misuse::FindReplacesModule => {
-                ErrorKind::ArgumentConflict
-            }
+            Misuse::RecordsWords
+            | Misuse::ReplacesModule
+            | Misuse::FindReplacesModule
+            | Misuse::ReplacesRead => ErrorKind::ArgumentConflict,
             Misuse::RecordsNothing => ErrorKind::MissingRequiredArgument,
             Misuse::NotText
             | Misuse::Unreadable
@@ -370,6 +373,9 @@ impl Misuse {
             }
             Misuse::ReplacesModule | Misuse::FindReplacesModule => {
                 "the argument '--record <OUT>' cannot be used with the path of <FILE>"
+            }
+            Misuse::ReplacesRead => {
+                "'--html <OUT>' and '--trace <OUT>' cannot be used with the path of <FILE> or <RECORD>"
             }
             Misuse::RecordsNothing => {
                 "'--record <OUT>' and '--shrink' are for what '--find <WORDS>' or '--expect <WORDS>' finds"
@@ -408,9 +414,8 @@ fn error_of(alloc: Global, misuse: Misuse) -> Result<Error, AllocError> {
         Misuse::RecordsWords | Misuse::ReplacesModule => {
             run_command(alloc)?.bin_name("wathread run")?
         }
-        Misuse::NoLines | Misuse::NoAddresses | Misuse::NoBytes => show_command(alloc)?.bin_name(
-            "wathread show",
-        )?,
+        Misuse::NoLines | Misuse::NoAddresses | Misuse::NoBytes | Misuse::ReplacesRead =>
+            show_command(alloc)?.bin_name("wathread show")?,
         Misuse::RecordsNothing | Misuse::FindReplacesModule | Misuse::Strategy => {
             search_command(alloc)?.bin_name("wathread search")?
         }
@@ -437,6 +442,15 @@ fn misuse_of(job: &Job) -> Option<Misuse>
                 None
             }
         }
+        Job::Show {
+            file,
+            saved,
+            view,
+            ..
+        } => match view.path() {
+            Some(path) if path == *file || path == *saved => Some(Misuse::ReplacesRead),
+            _ => None,
+        },
         Job::Search(search) => {
             if search.keeps_nothing() {
                 Some(Misuse::RecordsNothing)

@@ -8,5 +8,5 @@ mod show;
 pub use command_line::{Job, Misuse, Order, Usage, asked, command, misused};
 pub use search::Search;
 pub use search_strategies::Way;
-pub use show::At;
+pub use show::{At, View};
 pub use show_text::{Color, Look};

@@ -1,7 +1,8 @@
 //! The command `show`, and its job.
 
-ghost use Rattle.std.specs.Prelude.{◌≤◌, IfOk, IfSome};
+ghost use Rattle.std.specs.Prelude.{◌≡◌, ◌≤◌, IfOk, IfSome};
 ghost use Rattle.report_command.specs.Jobs.{IsInRange};
+ghost use Rattle.report_command.specs.Views.{IsViewInRange, path_of};
 
 use crate::command_line::{DUMP_MOST, Job, Misuse, file_argument};
 use clap::{Arg, ArgMatches, Command, value_parser};
@@ -23,6 +24,31 @@ pub struct At {
     /// The bytes of the memory that are shown: the first one's address, and how many, 0 to 4096.
     pub addr: u64,
     pub count: u32,
+}
+
+/// What is made of a record.
+#[derive(Clone, Copy, PartialEq, Eq, Debug)]
+pub enum View<'a> {
+    /// Rows on standard output.
+    Rows,
+    /// What threads and memory are like before a line, on standard output.
+    Moment(At),
+    /// A page of HTML in the file at this path.
+    Page(&'a str),
+    /// A text in the Trace Event Format in the file at this path.
+    Trace(&'a str),
+}
+
+impl<'a> View<'a> {
+    /// The path of the file that is made, if one is.
+    pub fn path(&self) -> Option<&'a str>
+        ensures { result ≡ path_of self.now }
+    {
+        match self {
+            View::Rows | View::Moment(_) => None,
+            View::Page(path) | View::Trace(path) => Some(*path),
+        }
+    }
 }
 
 /// An address and a number of bytes, of a text `A:N`.
@@ -52,6 +78,22 @@ fn with_moment<'a>(alloc: Global, command: Command<'a>) -> Result<Command<'a>, A
         .help("With --at: print N bytes of the memory from address A on, N up to 4096")
         .requires_arg("at")?;
     command.arg(at)?.arg(dump)
+}
+
+/// A file in place of rows.
+fn with_files<'a>(alloc: Global, command: Command<'a>) -> Result<Command<'a>, AllocError> {
+    let html = Arg::new(alloc, "html")
+        .long("html")
+        .value_name("OUT")
+        .help("In place of rows, write the entries as a page of HTML to this file")
+        .conflicts_with("at")?;
+    let trace = Arg::new(alloc, "trace")
+        .long("trace")
+        .value_name("OUT")
+        .help("In place of rows, write the entries in the Trace Event Format to this file")
+        .conflicts_with("at")?
+        .conflicts_with("html")?;
+    command.arg(html)?.arg(trace)
 }
 
 /// Which entries are shown.
@@ -94,8 +136,8 @@ fn with_look<'a>(alloc: Global, command: Command<'a>) -> Result<Command<'a>, All
     command.arg(names)?.arg(width)?.arg(color)
 }
 
-/// `show FILE RECORD [--lines A-B] [--thread T,..] [--addr A[-B]] [--names FILE2] [--width N] [--color WHEN]`, and
-/// `show FILE RECORD --at LINE [--dump A:N] [--names FILE2]`
+/// `show FILE RECORD [--lines A-B] [--thread T,..] [--addr A[-B]] [--names FILE2] [--width N] [--color WHEN] [--html OUT]
+/// [--trace OUT]`, and `show FILE RECORD --at LINE [--dump A:N] [--names FILE2]`
 pub(crate) fn show_command<'a>(alloc: Global) -> Result<Command<'a>, AllocError> {
     let record = Arg::new(alloc, "record")
         .value_name("RECORD")
@@ -105,7 +147,8 @@ pub(crate) fn show_command<'a>(alloc: Global) -> Result<Command<'a>, AllocError>
         .about("Shows the entries of a record in words, with the place in the module of each")
         .arg(file_argument(alloc))?
         .arg(record)?;
-    with_moment(alloc, with_look(alloc, with_choice(alloc, command)?)?)
+    let command = with_look(alloc, with_choice(alloc, command)?)?;
+    with_files(alloc, with_moment(alloc, command)?)
 }
 
 /// The span in an argument, if that is given.
@@ -158,6 +201,22 @@ fn moment_of(matches: &ArgMatches) -> Option<At>
     Some(At { line, addr, count })
 }
 
+/// What is to be made of the record.
+fn view_of<'a>(matches: &ArgMatches<'a>) -> View<'a>
+    ensures { IsViewInRange result }
+{
+    if let Some(path) = matches.get_str("html") {
+        return View::Page(path);
+    }
+    if let Some(path) = matches.get_str("trace") {
+        return View::Trace(path);
+    }
+    match moment_of(matches) {
+        Some(at) => View::Moment(at),
+        None => View::Rows,
+    }
+}
+
 /// The job of `show`.
 pub(crate) fn show_job<'a>(
     alloc: Global,
@@ -186,12 +245,12 @@ pub(crate) fn show_job<'a>(
         color,
     };
     let names = matches.get_str("names");
-    let at = moment_of(matches);
+    let view = view_of(matches);
     Ok(Some(Job::Show {
         file,
         saved,
         names,
         look,
-        at,
+        view,
     }))
 }

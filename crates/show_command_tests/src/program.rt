@@ -49,7 +49,7 @@ pub(crate) fn program(
         Ok(job) => job,
         Err(usage) => return tell(alloc, &usage),
     };
-    let Job::Show { look, at, .. } = &job else {
+    let Job::Show { look, view, .. } = &job else {
         return Ok(Gave {
             out: String::new(alloc),
             err: String::new(alloc),
@@ -57,7 +57,7 @@ pub(crate) fn program(
         });
     };
     let (mut out, mut err) = (Vec::new(alloc), Vec::new(alloc));
-    let status = show_saved(alloc, module, names, saved, look, *at, &mut out, &mut err);
+    let status = show_saved(alloc, module, names, saved, look, *view, &mut out, &mut err);
     Ok(Gave {
         out: text_of(alloc, &out)?,
         err: text_of(alloc, &err)?,

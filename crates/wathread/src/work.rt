@@ -90,10 +90,11 @@ fn read<'a>(rt: &HostRuntime, job: &Job<'a>) -> Result<Input, Stop<'a>> {
     })
 }
 
-/// The path of the record that a job makes, or none.
+/// The path of the file that a job makes, a record, a page or a trace, or none.
 fn record_of<'a>(job: &Job<'a>) -> Option<&'a str> {
     match job {
-        Job::Check { .. } | Job::Replay { .. } | Job::Show { .. } => None,
+        Job::Check { .. } | Job::Replay { .. } => None,
+        Job::Show { view, .. } => view.path(),
         Job::Run { save, .. } | Job::Search(Search { save, .. }) => *save,
     }
 }
@@ -110,7 +111,7 @@ fn place_of<'a>(rt: &HostRuntime, job: &Job<'a>) -> Result<Option<Place>, Stop<'
     }
 }
 
-/// Refuses a record that would take the place of the module.
+/// Refuses a file that would take the place of one that is read.
 fn keep_module<'a>(rt: &HostRuntime, job: &Job<'a>) -> Result<(), Stop<'a>> {
     match job {
         Job::Run {
@@ -129,11 +130,22 @@ fn keep_module<'a>(rt: &HostRuntime, job: &Job<'a>) -> Result<(), Stop<'a>> {
         ) if is_one_file(rt, file, path) => {
             Err(Stop::Usage(misused(rt.alloc(), Misuse::FindReplacesModule)))
         }
+        Job::Show {
+            file,
+            saved,
+            view,
+            ..
+        } => match view.path() {
+            Some(path) if is_one_file(rt, file, path) || is_one_file(rt, saved, path) => {
+                Err(Stop::Usage(misused(rt.alloc(), Misuse::ReplacesRead)))
+            }
+            _ => Ok(()),
+        },
         _ => Ok(()),
     }
 }
 
-/// Gives the record its path where the job made all of it, and else takes away what there is of it. Answers the job's status.
+/// Gives the file its path where the job made all of it, and else takes away what there is of it. Answers the job's status.
 fn finish(rt: &HostRuntime, job: &Job, status: u8, save: SavedFile) -> u8 {
     if status > 1 {
         save.give_up();
@@ -176,8 +188,11 @@ fn attempt<'a, R: Threads + Wait + Sync>(
     let mut out = BufWriter::with_capacity(alloc, OUT, stdout)?;
     let mut save = BufWriter::with_capacity(alloc, RECORD, SavedFile::new(rt, place))?;
     let status = match (job, &names) {
-        (Job::Show { look, at, .. }, Some(names)) => show_saved(
-            alloc, &module, names, &saved, look, *at, &mut out, &mut err,
+        (Job::Show { look, view, .. }, Some(names)) if view.path().is_some() => show_saved(
+            alloc, &module, names, &saved, look, *view, &mut save, &mut err,
+        ),
+        (Job::Show { look, view, .. }, Some(names)) => show_saved(
+            alloc, &module, names, &saved, look, *view, &mut out, &mut err,
         ),
         _ => perform(
             threads, alloc, job, &module, &saved, &mut out, &mut err, &mut save,

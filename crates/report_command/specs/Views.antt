@@ -1,0 +1,19 @@
+-- What is made of a record.
+use Rattle.std.specs.Prelude.{◌≤◌, ◌≢◌, List, ℕ, Option, Some, None, IfSome}
+use Rattle.std.specs.Borrow.{Bor}
+use Rattle.report_command.specs.declared.show.View.{View}
+use Rattle.report_command.specs.declared.show.View.TheVariants.{Rows, Moment, Page, Trace}
+
+-- A moment shows 4,096 bytes at most.
+abbrev pub IsViewInRange : View → Type 0
+IsViewInRange (Moment at) = at.count ≤ 4096
+IsViewInRange Rows = Unit {0}
+IsViewInRange (Page path) = Unit {0}
+IsViewInRange (Trace path) = Unit {0}
+
+-- The path of the file that is made, if one is.
+abbrev pub path_of : View → Option (Bor (List ℕ))
+path_of Rows = None
+path_of (Moment at) = None
+path_of (Page path) = Some path
+path_of (Trace path) = Some path
