@@ -109,11 +109,12 @@ static LINES: [Line; 13] = [
         module: ADD,
         words: "check --help",
         text: "Reads a module, and says how many functions of its own it has\n\n\
-            Usage: wathread check <FILE>\n\n\
+            Usage: wathread check [OPTIONS] <FILE>\n\n\
             Arguments:\n\
             \x20 <FILE>  The module, in the binary format\n\n\
             Options:\n\
-            \x20 -h, --help  Print help\n",
+            \x20     --explain  Say on standard error, behind a refusal, where and why it is, and what to do\n\
+            \x20 -h, --help     Print help\n",
         status: 0,
     },
     Line {
@@ -132,6 +133,7 @@ static LINES: [Line; 13] = [
             \x20     --fuel <N>       How many units each thread may spend, 0 to 1000000000000 [default: 1000000000]\n\
             \x20     --limit <N>      How many entries the log takes, 1 to 1000000 [default: 100000]\n\
             \x20     --dump <N>       Print the first N bytes of the memory, 0 to 4096 [default: 0]\n\
+            \x20     --explain        Say on standard error, behind a refusal, where and why it is, and what to do\n\
             \x20 -h, --help           Print help\n",
         status: 0,
     },
@@ -145,6 +147,7 @@ static LINES: [Line; 13] = [
             \x20 <RECORD>  The record of a run of the module\n\n\
             Options:\n\
             \x20     --dump <N>  Print the first N bytes of the memory, 0 to 4096 [default: 0]\n\
+            \x20     --explain   Say on standard error, behind a refusal, where and why it is, and what to do\n\
             \x20 -h, --help      Print help\n",
         status: 0,
     },

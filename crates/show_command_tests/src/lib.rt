@@ -12,6 +12,8 @@ mod moments;
 #[cfg(test)]
 mod program;
 #[cfg(test)]
+mod reasons;
+#[cfg(test)]
 mod records;
 #[cfg(test)]
 mod usage;

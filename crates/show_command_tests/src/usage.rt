@@ -4,7 +4,7 @@ use crate::program::program;
 use std::test::Fail;
 
 /// Words, and what is written of them; on standard output where the status is 0.
-static LINES: [(&str, &str, u8); 7] = [
+static LINES: [(&str, &str, u8); 8] = [
     (
         "wathread show --help",
         "Shows the entries of a record in words, with the place in the module of each\n\n\
@@ -22,6 +22,8 @@ static LINES: [(&str, &str, u8); 7] = [
             [possible values: auto, always, never]\n\
             \x20     --at <LINE>      In place of rows, what threads and memory are like before this line of the record\n\
             \x20     --dump <A:N>     With --at: print N bytes of the memory from address A on, N up to 4096\n\
+            \x20     --html <OUT>     In place of rows, write the entries as a page of HTML to this file\n\
+            \x20     --trace <OUT>    In place of rows, write the entries in the Trace Event Format to this file\n\
             \x20 -h, --help           Print help\n",
         0,
     ),
@@ -51,6 +53,13 @@ static LINES: [(&str, &str, u8); 7] = [
         "error: the following required arguments were not provided:\n\
             \x20 --at <LINE>\n\n\
             Usage: wathread show --at <LINE> --dump <A:N> <FILE> <RECORD>\n\n\
+            For more information, try '--help'.\n",
+        3,
+    ),
+    (
+        "wathread show a.wasm a.record --trace a.record",
+        "error: '--html <OUT>' and '--trace <OUT>' cannot be used with the path of <FILE> or <RECORD>\n\n\
+            Usage: wathread show [OPTIONS] <FILE> <RECORD>\n\n\
             For more information, try '--help'.\n",
         3,
     ),
