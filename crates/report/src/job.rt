@@ -7,7 +7,7 @@ ghost use Rattle.types.specs.Limits.{most_fuel};
 ghost use Rattle.report_command.specs.Jobs.{IsInRange};
 ghost use Rattle.report_command.specs.Searches.{IsSearchInRange};
 ghost use Rattle.report.specs.Arguments.{CannotCall};
-ghost use Rattle.report.specs.Jobs.{Performs, IsAccepted, HasRun, HasNoSuchCall, IsReplayed, IsNoRecordOf, IsRefused};
+ghost use Rattle.report.specs.Jobs.{Performs, IsAccepted, HasRun, HasNoSuchCall, IsReplayed, IsRecordOf, IsNoRecordOf, IsRefused};
 ghost use Rattle.report.specs.Jobs.{IsNoValidModule, IsUnfit, IsOfNoRun};
 ghost use Rattle.report.specs.Prints.{change};
 ghost use Rattle.report.specs.Searches.{HasSearched, request_of_search};
@@ -20,7 +20,7 @@ use crate::running::{Trouble, Wanted, run_module};
 use crate::searching::search_module;
 use crate::showing::show_saved;
 use binary_wire::ReadFault;
-use report_command::{Job, Search};
+use report_command::{Job, Look, Search, View};
 use std::alloc::Global;
 use std::io::{self, Write};
 use std::sync::Wait;
@@ -90,12 +90,7 @@ where
             run(rt, alloc, &wanted, module, out, err, save)
         }
         Job::Replay { dump, .. } => replay_saved(alloc, module, saved, *dump, out, err),
-        Job::Show { look, view, .. } if view.path().is_some() => {
-            show_saved(alloc, module, module, saved, look, *view, save, err)
-        }
-        Job::Show { look, view, .. } => {
-            show_saved(alloc, module, module, saved, look, *view, out, err)
-        }
+        Job::Show { look, view, .. } => show(alloc, module, saved, look, *view, out, err, save),
         Job::Search(asked) => search(rt, alloc, asked, module, out, err, save),
     }
 }
@@ -113,6 +108,28 @@ pub fn check<W: Write, E: Write>(alloc: Global, bytes: &[u8], out: &mut W, err: 
         Ok(found) => accept(found.parts().functions.len(), out, err),
         Err(refusal) => refuse(err, refusal),
     }
+}
+
+/// Shows a record on standard output, or in the file that the view makes.
+fn show<W: Write, E: Write, S: Write>(
+    alloc: Global,
+    module: &[u8],
+    saved: &[u8],
+    look: &Look,
+    view: View,
+    out: &mut W,
+    err: &mut E,
+    save: &mut S,
+) -> u8
+    ensures shown { result ≡ 0 → IsRecordOf «module».now saved.now }
+    ensures refused { result ≡ 2 → IsNoValidModule «module».now }
+    ensures none { result ≡ 4 → IsNoRecordOf «module».now saved.now }
+    ensures status { (result ≡ 0) ⊎ (result ≡ 2) ⊎ (result ≡ 4) ⊎ (result ≡ 5) }
+{
+    if view.path().is_some() {
+        return show_saved(alloc, module, module, saved, look, view, save, err);
+    }
+    show_saved(alloc, module, module, saved, look, view, out, err)
 }
 
 /// Writes the line of an accepted module, and answers the status: 0, or 5 where the stream failed.

@@ -36,14 +36,13 @@ fn endings_of(
 
 /// In how many runs the threads ended so, with this byte at 0.
 fn times_of(table: &Table, outcomes: &[Outcome], byte: u8) -> u64 {
-    table
-        .met
-        .iter()
-        .filter(|met| {
-            met.ending.outcomes.as_slice() == outcomes && met.ending.bytes.first() == Some(&byte)
-        })
-        .map(|met| met.times)
-        .sum()
+    let mut times = 0u64;
+    for met in table.met.iter() {
+        if met.ending.outcomes.as_slice() == outcomes && met.ending.bytes.first() == Some(&byte) {
+            times = times.saturating_add(met.times);
+        }
+    }
+    times
 }
 
 /// What thread 0 answers and what is stored in the end: thread 0 comes first, or thread 1, or an update is lost.

@@ -12,7 +12,6 @@ use std::process::Abort;
 use std::test::Fail;
 use std::thread::Threads;
 use test_modules::{BROKEN_LOCK, SLEEPERS};
-use validate::ValidModule;
 
 /// The call of each module here.
 const CALL: Call = Call {
@@ -176,13 +175,24 @@ fn a_find_is_one_on_any_number_of_jobs(rt: HostRuntime) -> Result<(), Fail> {
     Ok(())
 }
 
-/// Whether the records of a run and of what it is shrunk to are replayed with their ends, which are alike, and the second is no larger.
-fn shrinks(alloc: Global, valid: &ValidModule, found: Found) -> Result<bool, Trouble> {
-    let before = replay(alloc, valid, &found.made.record)?;
-    let size = size_of(&found.made.record);
-    let ends_so = before == found.made.end;
-    let small = shrunk(alloc, valid, CALL, LIMIT, 4, found.made)?;
-    let after = replay(alloc, valid, &small.record)?;
+/// Whether the records of what is found and of what it is shrunk to are replayed with their ends, which are alike, and the
+/// second is no larger.
+fn shrinks<R: Threads + Sync>(rt: &R, alloc: Global, wish: &Wish) -> Result<bool, Trouble> {
+    let valid = load(alloc, wish.module)?;
+    let sought = sought_by(wish);
+    if sought.from > 1000 || sought.runs > 1000 {
+        return Err(Trouble::Refused);
+    }
+    let Searched { found, .. } = first_found(rt, alloc, &valid, CALL, &sought, 2)?;
+    let Some(found) = found else {
+        return Ok(!wish.is_found);
+    };
+    let made = found.made;
+    let before = replay(alloc, &valid, &made.record)?;
+    let size = size_of(&made.record);
+    let ends_so = before == made.end;
+    let small = shrunk(alloc, &valid, CALL, sought.limit, 4, made)?;
+    let after = replay(alloc, &valid, &small.record)?;
     Ok(
         ends_so
             && after == small.end
@@ -193,10 +203,7 @@ fn shrinks(alloc: Global, valid: &ValidModule, found: Found) -> Result<bool, Tro
 
 fn check_shrinks<R: Abort + Threads + Sync>(rt: &R, alloc: Global) -> Result<(), Trouble> {
     for (place, wish) in WISHES.iter().enumerate().take(5) {
-        let valid = load(alloc, wish.module)?;
-        if let Some(found) = searched(rt, alloc, wish, 2)?.found {
-            assert!(rt; shrinks(alloc, &valid, found)?, "{place}");
-        }
+        assert!(rt; shrinks(rt, alloc, wish)?, "{place}");
     }
     Ok(())
 }

@@ -30,10 +30,10 @@ returns-in-Replay g c =
 pub returns-in-Show : goal.returns-in-Show
 returns-in-Show g c =
     rw c.in-Show.is (record {
-      shown = c.show_saved.ensures.shown;
-      refused = c.show_saved.ensures.refused;
-      none = c.show_saved.ensures.none;
-      statuses = c.show_saved.ensures.status;
+      shown = c.show.ensures.shown;
+      refused = c.show.ensures.refused;
+      none = c.show.ensures.none;
+      statuses = c.show.ensures.status;
     })
 
 pub returns-in-Search : goal.returns-in-Search
