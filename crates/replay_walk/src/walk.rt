@@ -61,13 +61,20 @@ impl<T: TakesTurns> Walk<T> {
     {
         match entry.event {
             Event::Told(answer) => self.take_told(entry.thread, answer),
-            Event::Ask(Question::Leave) => self.take_leave(entry, at, limit, fuel),
+            Event::Ask(Question::Leave) => self.take_leave(entry, at, limit, fuel, watch),
             _ => self.take_event(entry, at, limit, fuel, watch),
         }
     }
 
     /// A leave: the thread has ended, or it wants another event and the log is full.
-    fn take_leave(&mut self, entry: &Entry, at: usize, limit: u32, fuel: u64) -> bool
+    fn take_leave<W: Watch<T>>(
+        &mut self,
+        entry: &Entry,
+        at: usize,
+        limit: u32,
+        fuel: u64,
+        watch: &mut W,
+    ) -> bool
         requires entry { IsEntry most_threads entry.now }
         requires kind { entry.now.event ≡ events.Ask Leave }
         requires standing { (s : Standing) × WalkStands T.meaning s self.old × (s.memory ≡ self.old.memory) × (s.budget ≡ fuel) }
@@ -81,7 +88,9 @@ impl<T: TakesTurns> Walk<T> {
         if !self.stage.is_going::<T>(n) {
             return false;
         }
-        let outcome = match settle_at(&mut self.threads, n as usize, fuel) {
+        let turn = settle_at(&mut self.threads, n as usize, fuel);
+        watch.settled(n, turn);
+        let outcome = match turn {
             Turn::Ended(outcome) => outcome,
             Turn::Wants(_) => {
                 if at < limit as usize {
@@ -123,7 +132,9 @@ impl<T: TakesTurns> Walk<T> {
             return false;
         }
         let threads = self.threads.as_mut_slice();
-        let Turn::Wants(wanted) = settle_at(threads, n as usize, fuel) else {
+        let turn = settle_at(threads, n as usize, fuel);
+        watch.settled(n, turn);
+        let Turn::Wants(wanted) = turn else {
             return false;
         };
         if !is_same_event(wanted, event) {

@@ -6,7 +6,7 @@ ghost use Rattle.interp_trait.specs.Turns.{Running, WantsEvent};
 ghost use Rattle.replay_walk.specs.Walked.{Run, WalkCame};
 
 use crate::walk::Walk;
-use interp_trait::TakesTurns;
+use interp_trait::{TakesTurns, Turn};
 use shared_memory_sequential::OneMemory;
 use types::Entry;
 
@@ -20,6 +20,10 @@ pub trait Watch<T: TakesTurns> {
     /// The thread wants the event of this entry. The memory is as it is before it.
     fn event(&mut self, entry: &Entry, thread: &T, memory: &OneMemory)
         requires { (t : Running) × WantsEvent (T.meaning thread.now) entry.now.event t };
+
+    /// The thread of the next entry has made its turns of its own, and comes to this, whether the entry fits or not. It isn't
+    /// asked where the entry is an answer, or the thread is owed one or is gone.
+    fn settled(&mut self, thread: u32, turn: Turn);
 }
 
 /// Nobody looks on.
@@ -30,6 +34,8 @@ impl<T: TakesTurns> Watch<T> for Unwatched {
     fn came(&mut self, _entries: usize, _walk: &Walk<T>) {}
 
     fn event(&mut self, _entry: &Entry, _thread: &T, _memory: &OneMemory) {}
+
+    fn settled(&mut self, _thread: u32, _turn: Turn) {}
 }
 
 /// Shows the event that is wanted by the thread of an entry.

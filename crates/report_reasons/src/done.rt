@@ -4,12 +4,12 @@ ghost use Rattle.std.specs.Prelude.{◌≡◌, IfOk, IfErr};
 ghost use Rattle.std.specs.String.{string_bytes};
 ghost use Rattle.show_reasons.specs.Added.{IsAddedTo};
 
+use crate::misfit::{Unfit, unfit_in};
 use binary::read;
 use binary_wire::ReadFault;
-use replay::{ReplayFault, replay};
-use replay_text::{Record, RecordFault, read_record};
+use replay_text::{RecordFault, read_record};
 use report_command::Job;
-use show_reasons::{Refused, explain};
+use show_reasons::{Misfit, Refused, explain};
 use std::alloc::{AllocError, Global};
 use std::str::from_utf8;
 use types::Module;
@@ -90,12 +90,7 @@ fn fault_of(alloc: Global, module: Module) -> Option<ValidFault> {
 }
 
 /// Adds the lines on a call that can't be made.
-fn explain_call(
-    alloc: Global,
-    job: &Job,
-    bytes: &[u8],
-    out: &mut String,
-) -> Result<(), AllocError>
+fn explain_call(alloc: Global, job: &Job, bytes: &[u8], out: &mut String) -> Result<(), AllocError>
     ensures added { IfOk result (λ _. IsAddedTo (string_bytes out.old) (string_bytes out.new)) }
     ensures kept { IfErr result (λ _. string_bytes out.new ≡ string_bytes out.old) }
 {
@@ -118,26 +113,40 @@ fn explain_record(alloc: Global, done: Done, out: &mut String) -> Result<(), All
     match read_record(alloc, done.saved) {
         Err(RecordFault::NoMemory) => Err(AllocError),
         Err(fault) => explain(alloc, out, &Refused::Text(done.saved, fault)),
-        Ok(record) => match misfit(alloc, done.module, &record) {
+        Ok(record) => match unfit_in(alloc, done.module, &record)? {
             None => Ok(()),
-            Some(number) => {
-                let refused = Refused::Line {
-                    saved: done.saved,
-                    number: number as usize,
-                    misfit: None,
-                };
-                explain(alloc, out, &refused)
-            }
+            Some(unfit) => explain_line(alloc, done.saved, &unfit, out),
         },
     }
 }
 
-/// The line of a record that doesn't fit the module, if one doesn't.
-fn misfit(alloc: Global, bytes: &[u8], record: &Record) -> Option<u32> {
-    let module = read(alloc, bytes).ok()?;
-    let valid = validate(alloc, module).ok()?;
-    match replay(alloc, &valid, record) {
-        Err(ReplayFault::Line(number) | ReplayFault::EndLine(number)) => Some(number),
-        _ => None,
-    }
+/// Adds the lines on a record's line that doesn't fit.
+fn explain_line(
+    alloc: Global,
+    saved: &[u8],
+    unfit: &Unfit,
+    out: &mut String,
+) -> Result<(), AllocError>
+    ensures added { IfOk result (λ _. IsAddedTo (string_bytes out.old) (string_bytes out.new)) }
+    ensures kept { IfErr result (λ _. string_bytes out.new ≡ string_bytes out.old) }
+{
+    let spot = match &unfit.spot {
+        Some(spot) => Some(spot.as_str()),
+        None => None,
+    };
+    let misfit = if unfit.instead.is_some() || spot.is_some() {
+        Some(Misfit {
+            thread: unfit.thread,
+            instead: unfit.instead,
+            spot,
+        })
+    } else {
+        None
+    };
+    let refused = Refused::Line {
+        saved,
+        number: unfit.number as usize,
+        misfit,
+    };
+    explain(alloc, out, &refused)
 }

@@ -2,5 +2,6 @@
 #![tactic(auto)]
 
 mod done;
+mod misfit;
 
 pub use done::{Done, explain_done};

@@ -5,6 +5,7 @@ ghost use Rattle.show_moments.specs.Moments.{IsOpen, IsSeen};
 
 use crate::standing::{Standing, standing_of};
 use interp::Thread;
+use interp_trait::Turn;
 use replay_walk::{Walk, Watch};
 use shared_memory_sequential::OneMemory;
 use std::alloc::{AllocError, Global};
@@ -152,4 +153,6 @@ impl<'a, 'm> Watch<Thread<'m>> for Moment<'a> {
             self.see(entry.thread, thread);
         }
     }
+
+    fn settled(&mut self, _thread: u32, _turn: Turn) {}
 }

@@ -6,6 +6,7 @@ ghost use Rattle.show_walk.specs.declared.rows.Row.{Row};
 ghost use Rattle.show_walk.specs.Rows.{StandsThere};
 
 use interp::{Place, Thread};
+use interp_trait::Turn;
 use replay_walk::{Walk, Watch};
 use shared_memory_sequential::OneMemory;
 use std::alloc::{AllocError, Global};
@@ -113,4 +114,6 @@ impl<'a, 'm> Watch<Thread<'m>> for Rows<'a> {
             *row = Some(row_of(thread, number_before(memory.bytes(), entry.event)));
         }
     }
+
+    fn settled(&mut self, _thread: u32, _turn: Turn) {}
 }

@@ -33,16 +33,16 @@ returns-then-at-limit-clause-refused g c = λ no s st same.
           (λ free. w.is_going.ensures.gone w.if-not-is_going.true s c.args.self.now.threads.items st free)
     ])
 
-pub settle_at-requires-clause-within : goal.settle_at-requires-clause-within
-settle_at-requires-clause-within g c =
+pub settle_at-turn-requires-clause-within : goal.settle_at-turn-requires-clause-within
+settle_at-turn-requires-clause-within g c =
     let s = c.requires.standing.0 in let st = c.requires.standing.1 in
     let going = c.is_going.ensures.going c.if-not-is_going.false s c.args.self.now.threads.items st in
     within g.T.TakesTurns.meaning s c.args.self.now.threads.items c.args.self.now.stage.queue
     c.args.self.now.stage.started c.args.self.now.stage.ends st c.args.entry.now.thread going
     c.as_mut_slice-threads.result.now c.as_mut_slice-threads.ensures.value
 
-pub settle_at-requires-clause-here : goal.settle_at-requires-clause-here
-settle_at-requires-clause-here g c =
+pub settle_at-turn-requires-clause-here : goal.settle_at-turn-requires-clause-here
+settle_at-turn-requires-clause-here g c =
     let s = c.requires.standing.0 in let st = c.requires.standing.1 in
     let going = c.is_going.ensures.going c.if-not-is_going.false s c.args.self.now.threads.items st in
     ready g.T.TakesTurns.meaning s c.args.self.now.threads.items c.args.self.now.stage.queue
@@ -55,11 +55,11 @@ returns-in_default-clause-refused g c = λ no s st same.
     let going = c.is_going.ensures.going c.if-not-is_going.false s c.args.self.now.threads.items st in
     let d = settled g.T.TakesTurns.meaning s c.args.self.now.threads.items c.args.self.now.stage.queue
     c.args.self.now.stage.started c.args.self.now.stage.ends st c.args.entry.now.thread going
-    c.as_mut_slice-threads.result.now c.as_mut_slice-threads.ensures.value c.settle_at.result c.settle_at.new.threads c.settle_at.ensures.settled in
+    c.as_mut_slice-threads.result.now c.as_mut_slice-threads.ensures.value c.settle_at-turn.result c.settle_at-turn.new.threads c.settle_at-turn.ensures.settled in
     subst (λ (a : Act Event Reply Answer). IsRefused s c.args.limit c.args.at c.args.entry.now.thread a) (sym act)
     (refused_other g.T.TakesTurns.meaning s c.args.self.now.threads.items c.args.self.now.stage.queue
     c.args.self.now.stage.started c.args.self.now.stage.ends st c.args.entry.now.thread c.args.limit
-    c.args.at going c.settle_at.result c.settle_at.new.threads d c.args.entry.now.event c.args.entry.now.reply
+    c.args.at going c.settle_at-turn.result c.settle_at-turn.new.threads d c.args.entry.now.event c.args.entry.now.reply
     c.requires.kind (λ is. c.in_default.not-Wants c.args.entry.now.event is))
 
 pub returns-then-not-is_same_event-clause-refused : goal.returns-then-not-is_same_event-clause-refused
@@ -68,11 +68,11 @@ returns-then-not-is_same_event-clause-refused g c = λ no s st same.
     let going = c.is_going.ensures.going c.if-not-is_going.false s c.args.self.now.threads.items st in
     let d = settled g.T.TakesTurns.meaning s c.args.self.now.threads.items c.args.self.now.stage.queue
     c.args.self.now.stage.started c.args.self.now.stage.ends st c.args.entry.now.thread going
-    c.as_mut_slice-threads.result.now c.as_mut_slice-threads.ensures.value c.settle_at.result c.settle_at.new.threads c.settle_at.ensures.settled in
+    c.as_mut_slice-threads.result.now c.as_mut_slice-threads.ensures.value c.settle_at-turn.result c.settle_at-turn.new.threads c.settle_at-turn.ensures.settled in
     subst (λ (a : Act Event Reply Answer). IsRefused s c.args.limit c.args.at c.args.entry.now.thread a) (sym act)
     (refused_other g.T.TakesTurns.meaning s c.args.self.now.threads.items c.args.self.now.stage.queue
     c.args.self.now.stage.started c.args.self.now.stage.ends st c.args.entry.now.thread c.args.limit
-    c.args.at going c.settle_at.result c.settle_at.new.threads d c.args.entry.now.event c.args.entry.now.reply c.requires.kind
+    c.args.at going c.settle_at-turn.result c.settle_at-turn.new.threads d c.args.entry.now.event c.args.entry.now.reply c.requires.kind
     (λ is. let apart : c.in-Wants.wanted ≡ c.args.entry.now.event = cc (is, c.in-Wants.is) in c.is_same_event.ensures.other c.if-not-is_same_event.true apart))
 
 pub show_event-requires-clause-within : goal.show_event-requires-clause-within
@@ -82,7 +82,7 @@ show_event-requires-clause-within g c =
     let before = within g.T.TakesTurns.meaning s c.args.self.now.threads.items c.args.self.now.stage.queue
     c.args.self.now.stage.started c.args.self.now.stage.ends st c.args.entry.now.thread going
     c.as_mut_slice-threads.result.now c.as_mut_slice-threads.ensures.value in
-    omega (arith, before, c.settle_at.ensures.count)
+    omega (arith, before, c.settle_at-turn.ensures.count)
 
 pub show_event-requires-clause-wants : goal.show_event-requires-clause-wants
 show_event-requires-clause-wants g c = λ x at.
@@ -90,10 +90,10 @@ show_event-requires-clause-wants g c = λ x at.
     let going = c.is_going.ensures.going c.if-not-is_going.false s c.args.self.now.threads.items st in
     let d = settled g.T.TakesTurns.meaning s c.args.self.now.threads.items c.args.self.now.stage.queue
     c.args.self.now.stage.started c.args.self.now.stage.ends st c.args.entry.now.thread going
-    c.as_mut_slice-threads.result.now c.as_mut_slice-threads.ensures.value c.settle_at.result c.settle_at.new.threads c.settle_at.ensures.settled in
+    c.as_mut_slice-threads.result.now c.as_mut_slice-threads.ensures.value c.settle_at-turn.result c.settle_at-turn.new.threads c.settle_at-turn.ensures.settled in
     let same : c.in-Wants.wanted ≡ c.args.entry.now.event = c.is_same_event.ensures.same c.if-not-is_same_event.false in
     let says = subst (λ (t : Turn). Says s.program d.thread t) (c.in-Wants.is ∙ ap (λ (e : Event). turns.Wants e) same) d.says in
-    wants_at g.T.TakesTurns.meaning s c.settle_at.new.threads c.args.self.now.stage.queue c.args.self.now.stage.started
+    wants_at g.T.TakesTurns.meaning s c.settle_at-turn.new.threads c.args.self.now.stage.queue c.args.self.now.stage.started
     c.args.self.now.stage.ends c.args.entry.now.thread d.thread d.on c.args.entry.now.event says.0 says.1 x at
 
 pub make-requires-clause-event : goal.make-requires-clause-event
@@ -108,10 +108,10 @@ make-requires-clause-room g c = λ arg is.
     let going = c.is_going.ensures.going c.if-not-is_going.false s c.args.self.now.threads.items st in
     let d = settled g.T.TakesTurns.meaning s c.args.self.now.threads.items c.args.self.now.stage.queue
     c.args.self.now.stage.started c.args.self.now.stage.ends st c.args.entry.now.thread going
-    c.as_mut_slice-threads.result.now c.as_mut_slice-threads.ensures.value c.settle_at.result c.settle_at.new.threads c.settle_at.ensures.settled in
+    c.as_mut_slice-threads.result.now c.as_mut_slice-threads.ensures.value c.settle_at-turn.result c.settle_at-turn.new.threads c.settle_at-turn.ensures.settled in
     let same : c.in-Wants.wanted ≡ c.args.entry.now.event = c.is_same_event.ensures.same c.if-not-is_same_event.false in
     let says = subst (λ (t : Turn). Says s.program d.thread t) (c.in-Wants.is ∙ ap (λ (e : Event). turns.Wants e) same) d.says in
-    c.settle_at.ensures.count ∙ (ap (λ (l : List g.row.T.Denot). length l) c.as_mut_slice-threads.ensures.value
+    c.settle_at-turn.ensures.count ∙ (ap (λ (l : List g.row.T.Denot). length l) c.as_mut_slice-threads.ensures.value
     ∙ room_for s.program (length c.args.self.now.threads.items) d.thread arg c.requires.standing.4 (says.1 ∙ ap (λ (e : Event). Calls e) is))
 
 pub make-requires-clause-settled : goal.make-requires-clause-settled
@@ -120,7 +120,7 @@ make-requires-clause-settled g c =
     let going = c.is_going.ensures.going c.if-not-is_going.false s c.args.self.now.threads.items st in
     let d = settled g.T.TakesTurns.meaning s c.args.self.now.threads.items c.args.self.now.stage.queue
     c.args.self.now.stage.started c.args.self.now.stage.ends st c.args.entry.now.thread going
-    c.as_mut_slice-threads.result.now c.as_mut_slice-threads.ensures.value c.settle_at.result c.settle_at.new.threads c.settle_at.ensures.settled in
+    c.as_mut_slice-threads.result.now c.as_mut_slice-threads.ensures.value c.settle_at-turn.result c.settle_at-turn.new.threads c.settle_at-turn.ensures.settled in
     let same : c.in-Wants.wanted ≡ c.args.entry.now.event = c.is_same_event.ensures.same c.if-not-is_same_event.false in
     let says = subst (λ (t : Turn). Says s.program d.thread t) (c.in-Wants.is ∙ ap (λ (e : Event). turns.Wants e) same) d.says in
     (s, d.thread, d.on, c.requires.standing.2, says.0, says.1)
@@ -131,16 +131,16 @@ returns-clause-taken g c = λ yes s st same.
     let going = c.is_going.ensures.going c.if-not-is_going.false s c.args.self.now.threads.items st in
     let d = settled g.T.TakesTurns.meaning s c.args.self.now.threads.items c.args.self.now.stage.queue
     c.args.self.now.stage.started c.args.self.now.stage.ends st c.args.entry.now.thread going
-    c.as_mut_slice-threads.result.now c.as_mut_slice-threads.ensures.value c.settle_at.result c.settle_at.new.threads c.settle_at.ensures.settled in
+    c.as_mut_slice-threads.result.now c.as_mut_slice-threads.ensures.value c.settle_at-turn.result c.settle_at-turn.new.threads c.settle_at-turn.ensures.settled in
     let alike : c.in-Wants.wanted ≡ c.args.entry.now.event = c.is_same_event.ensures.same c.if-not-is_same_event.false in
     let says = subst (λ (t : Turn). Says s.program d.thread t) (c.in-Wants.is ∙ ap (λ (e : Event). turns.Wants e) alike) d.says in
     let made = c.make.ensures.made yes s d.thread d.on same says.0 says.1 in
-    let can = can_event g.T.TakesTurns.meaning s c.settle_at.new.threads c.args.self.now.stage.queue
+    let can = can_event g.T.TakesTurns.meaning s c.settle_at-turn.new.threads c.args.self.now.stage.queue
     c.args.self.now.stage.started c.args.self.now.stage.ends c.args.entry.now.thread d.thread d.on
     d.settles c.args.limit c.args.at c.args.entry.now.event c.args.entry.now.reply c.requires.kind made.0 says.1 c.if-at-limit.false in
     took_as g.T.TakesTurns.meaning s c.args.limit c.args.at c.args.entry.now.thread c.args.entry.now.event
     c.args.entry.now.reply d.thread can (act_of c.args.entry.now) act _ c.make.new.threads
-    (take_at c.make.new.threads _ c.args.self.now.threads.len (c.make.ensures.count ∙ (c.settle_at.ensures.count ∙ c.as_mut_slice-threads.ensures.len)))
+    (take_at c.make.new.threads _ c.args.self.now.threads.len (c.make.ensures.count ∙ (c.settle_at-turn.ensures.count ∙ c.as_mut_slice-threads.ensures.len)))
     c.make.new.memory c.make.new.self.queue c.make.new.self.started c.make.new.self.ends
     (ap (λ (m : Memory). state_after m c.args.entry.now.event) same ∙ sym c.make.ensures.memory) made.1
 

@@ -29,16 +29,16 @@ returns-then-not-is_going-clause-refused g c = λ no s st.
     c.args.self.now.stage.started c.args.self.now.stage.ends st c.args.entry.now.thread c.args.limit
     c.args.at (events.Ask Leave) Done (λ free. c.is_going.ensures.gone c.if-not-is_going.true s c.args.self.now.threads.items st free))
 
-pub settle_at-requires-clause-within : goal.settle_at-requires-clause-within
-settle_at-requires-clause-within g c =
+pub settle_at-turn-requires-clause-within : goal.settle_at-turn-requires-clause-within
+settle_at-turn-requires-clause-within g c =
     let s = c.requires.standing.0 in let st = c.requires.standing.1 in
     let going = c.is_going.ensures.going c.if-not-is_going.false s c.args.self.now.threads.items st in
     within g.T.TakesTurns.meaning s c.args.self.now.threads.items c.args.self.now.stage.queue
     c.args.self.now.stage.started c.args.self.now.stage.ends st c.args.entry.now.thread going
     c.deref_mut.result.now c.deref_mut.ensures.value
 
-pub settle_at-requires-clause-here : goal.settle_at-requires-clause-here
-settle_at-requires-clause-here g c =
+pub settle_at-turn-requires-clause-here : goal.settle_at-turn-requires-clause-here
+settle_at-turn-requires-clause-here g c =
     let s = c.requires.standing.0 in let st = c.requires.standing.1 in
     let going = c.is_going.ensures.going c.if-not-is_going.false s c.args.self.now.threads.items st in
     ready g.T.TakesTurns.meaning s c.args.self.now.threads.items c.args.self.now.stage.queue
@@ -51,11 +51,11 @@ returns-then-at-limit-clause-refused g c = λ no s st.
     let going = c.is_going.ensures.going c.if-not-is_going.false s c.args.self.now.threads.items st in
     let d = settled g.T.TakesTurns.meaning s c.args.self.now.threads.items c.args.self.now.stage.queue
     c.args.self.now.stage.started c.args.self.now.stage.ends st c.args.entry.now.thread going
-    c.deref_mut.result.now c.deref_mut.ensures.value c.settle_at.result c.settle_at.new.threads c.settle_at.ensures.settled in
+    c.deref_mut.result.now c.deref_mut.ensures.value c.settle_at-turn.result c.settle_at-turn.new.threads c.settle_at-turn.ensures.settled in
     subst (λ (a : Act Event Reply Answer). IsRefused s c.args.limit c.args.at c.args.entry.now.thread a) (sym act)
     (refused_leave g.T.TakesTurns.meaning s c.args.self.now.threads.items c.args.self.now.stage.queue
     c.args.self.now.stage.started c.args.self.now.stage.ends st c.args.entry.now.thread c.args.limit
-    c.args.at going c.settle_at.result c.settle_at.new.threads d (λ o is. cc (is, c.in-Wants.is)) (λ e is. c.if-at-limit.true))
+    c.args.at going c.settle_at-turn.result c.settle_at-turn.new.threads d (λ o is. cc (is, c.in-Wants.is)) (λ e is. c.if-at-limit.true))
 
 pub returns-in_default-clause-refused : goal.returns-in_default-clause-refused
 returns-in_default-clause-refused g c = λ no s st.
@@ -63,11 +63,11 @@ returns-in_default-clause-refused g c = λ no s st.
     let going = c.is_going.ensures.going c.if-not-is_going.false s c.args.self.now.threads.items st in
     let d = settled g.T.TakesTurns.meaning s c.args.self.now.threads.items c.args.self.now.stage.queue
     c.args.self.now.stage.started c.args.self.now.stage.ends st c.args.entry.now.thread going
-    c.deref_mut.result.now c.deref_mut.ensures.value c.settle_at.result c.settle_at.new.threads c.settle_at.ensures.settled in
+    c.deref_mut.result.now c.deref_mut.ensures.value c.settle_at-turn.result c.settle_at-turn.new.threads c.settle_at-turn.ensures.settled in
     subst (λ (a : Act Event Reply Answer). IsRefused s c.args.limit c.args.at c.args.entry.now.thread a) (sym act)
     (refused_leave g.T.TakesTurns.meaning s c.args.self.now.threads.items c.args.self.now.stage.queue
     c.args.self.now.stage.started c.args.self.now.stage.ends st c.args.entry.now.thread c.args.limit
-    c.args.at going c.settle_at.result c.settle_at.new.threads d (λ o is. c.in_default.not-Ended o is) (λ e is. absurd (c.in_default.not-Wants e is)))
+    c.args.at going c.settle_at-turn.result c.settle_at-turn.new.threads d (λ o is. c.in_default.not-Ended o is) (λ e is. absurd (c.in_default.not-Wants e is)))
 
 pub leave-requires-clause-free : goal.leave-requires-clause-free
 leave-requires-clause-free g c =
@@ -75,8 +75,8 @@ leave-requires-clause-free g c =
     let going = c.is_going.ensures.going c.if-not-is_going.false s c.args.self.now.threads.items st in
     let d = settled g.T.TakesTurns.meaning s c.args.self.now.threads.items c.args.self.now.stage.queue
     c.args.self.now.stage.started c.args.self.now.stage.ends st c.args.entry.now.thread going
-    c.deref_mut.result.now c.deref_mut.ensures.value c.settle_at.result c.settle_at.new.threads c.settle_at.ensures.settled in
-    is_free g.T.TakesTurns.meaning s c.settle_at.new.threads c.args.self.now.stage.queue c.args.self.now.stage.started
+    c.deref_mut.result.now c.deref_mut.ensures.value c.settle_at-turn.result c.settle_at-turn.new.threads c.settle_at-turn.ensures.settled in
+    is_free g.T.TakesTurns.meaning s c.settle_at-turn.new.threads c.args.self.now.stage.queue c.args.self.now.stage.started
     c.args.self.now.stage.ends c.args.entry.now.thread d.thread d.on
 
 pub leave-requires-clause-number : goal.leave-requires-clause-number
@@ -91,30 +91,30 @@ returns-clause-taken g c = λ yes s st same.
     let going = c.is_going.ensures.going c.if-not-is_going.false s c.args.self.now.threads.items st in
     let d = settled g.T.TakesTurns.meaning s c.args.self.now.threads.items c.args.self.now.stage.queue
     c.args.self.now.stage.started c.args.self.now.stage.ends st c.args.entry.now.thread going
-    c.deref_mut.result.now c.deref_mut.ensures.value c.settle_at.result c.settle_at.new.threads c.settle_at.ensures.settled in
-    let l : Leaves g.T.TakesTurns.meaning s c.settle_at.new.threads c.args.self.now.stage.queue
+    c.deref_mut.result.now c.deref_mut.ensures.value c.settle_at-turn.result c.settle_at-turn.new.threads c.settle_at-turn.ensures.settled in
+    let l : Leaves g.T.TakesTurns.meaning s c.settle_at-turn.new.threads c.args.self.now.stage.queue
     c.args.self.now.stage.started c.args.self.now.stage.ends c.args.entry.now.thread d.thread d.on d.settles
-    c.args.limit c.args.at c.match-settle_at.outcome =
-    elim c.match-settle_at.branch [
-      | in-Ended w ↦ subst (λ (o : Outcome). Leaves g.T.TakesTurns.meaning s c.settle_at.new.threads
+    c.args.limit c.args.at c.match-turn.outcome =
+    elim c.match-turn.branch [
+      | in-Ended w ↦ subst (λ (o : Outcome). Leaves g.T.TakesTurns.meaning s c.settle_at-turn.new.threads
           c.args.self.now.stage.queue c.args.self.now.stage.started c.args.self.now.stage.ends
           c.args.entry.now.thread d.thread d.on d.settles c.args.limit c.args.at o) (sym w.outcome-is)
-          (leaves_ended g.T.TakesTurns.meaning s c.settle_at.new.threads c.args.self.now.stage.queue
+          (leaves_ended g.T.TakesTurns.meaning s c.settle_at-turn.new.threads c.args.self.now.stage.queue
           c.args.self.now.stage.started c.args.self.now.stage.ends c.args.entry.now.thread d.thread d.on
           d.settles c.args.limit c.args.at w.in-Ended.outcome
           (subst (λ (t : Turn). Says s.program d.thread t) w.in-Ended.is d.says))
       | in-Wants+else-at-limit w ↦
           (let says = subst (λ (t : Turn). Says s.program d.thread t) w.in-Wants.is d.says in
-          subst (λ (o : Outcome). Leaves g.T.TakesTurns.meaning s c.settle_at.new.threads c.args.self.now.stage.queue
+          subst (λ (o : Outcome). Leaves g.T.TakesTurns.meaning s c.settle_at-turn.new.threads c.args.self.now.stage.queue
           c.args.self.now.stage.started c.args.self.now.stage.ends c.args.entry.now.thread
           d.thread d.on d.settles c.args.limit c.args.at o) (sym w.outcome-is)
-          (leaves_full g.T.TakesTurns.meaning s c.settle_at.new.threads c.args.self.now.stage.queue
+          (leaves_full g.T.TakesTurns.meaning s c.settle_at-turn.new.threads c.args.self.now.stage.queue
           c.args.self.now.stage.started c.args.self.now.stage.ends c.args.entry.now.thread d.thread d.on
           d.settles c.args.limit c.args.at w.in-Wants.field-0 says.1 says.0 w.if-at-limit.false))
     ] in
     took_as g.T.TakesTurns.meaning s c.args.limit c.args.at c.args.entry.now.thread (events.Ask Leave) Done l.thread
-    l.can (act_of c.args.entry.now) act _ c.settle_at.new.threads
-    (take_at c.settle_at.new.threads _ c.args.self.now.threads.len (c.settle_at.ensures.count ∙ c.deref_mut.ensures.len))
+    l.can (act_of c.args.entry.now) act _ c.settle_at-turn.new.threads
+    (take_at c.settle_at-turn.new.threads _ c.args.self.now.threads.len (c.settle_at-turn.ensures.count ∙ c.deref_mut.ensures.len))
     c.args.self.now.memory c.leave.new.self.queue c.leave.new.self.started
     c.leave.new.self.ends same
-    (c.leave.ensures.stands s d.thread l.thread c.settle_at.new.threads d.on (l.can).wants l.ended l.left l.here)
+    (c.leave.ensures.stands s d.thread l.thread c.settle_at-turn.new.threads d.on (l.can).wants l.ended l.left l.here)
