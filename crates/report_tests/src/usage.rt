@@ -9,7 +9,7 @@ static TOGETHER: [Line; 5] = [
         module: ADD,
         words: "check a.wasm b.wasm",
         text: "error: unexpected argument 'b.wasm' found\n\n\
-            Usage: wathread check <FILE>\n\n\
+            Usage: wathread check [OPTIONS] <FILE>\n\n\
             For more information, try '--help'.\n",
         status: 3,
     },
