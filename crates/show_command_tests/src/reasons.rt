@@ -58,7 +58,7 @@ static CASES: [Case; 6] = [
         status: 4,
         lines: "line 6: the record has t0 size = 1\n\
             t0 has ended: ok i64:6\n\
-            t0 stands at fac before it\n\
+            t0 stands at fac+0x3 before it\n\
             no run of this module goes on so: is the record of another module, or of another build of it?\n",
     },
     Case {
