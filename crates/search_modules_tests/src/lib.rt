@@ -1,0 +1,5 @@
+//! Small modules, gone through.
+#![tactic(auto)]
+
+#[cfg(test)]
+mod tests;
