@@ -31,7 +31,7 @@ pub struct Moment<'a> {
     pub came: usize,
     /// Where each thread stands as it comes to its first entry from here on.
     pub next: Vec<Option<Standing>>,
-    /// Where each thread stood here, with turns of its own before it.
+    /// Where each thread stood here behind its last entry, without the turns of its own that follow.
     pub here: Vec<Option<Standing>>,
     pub queue: Option<KeptQueue>,
     /// Those of the bytes that lie in memory.
