@@ -15,24 +15,20 @@ use Rattle.shared_memory.specs.WaitQueue.{WaitQueue, IsFree, answer_due, next_id
 use Rattle.shared_memory.specs.History.{queue_step}
 use Rattle.schedule.specs.System.{Want, Want.Turns, Want.Calls, Want.Awaits, Want.Gone, put}
 use Rattle.schedule.specs.System as systems
-use Rattle.schedule.specs.Machine.{Thread.Absent, Thread.Runs, Thread.Leaves, Thread.Left, wanted}
-use Rattle.schedule.specs.Machine.{Wish, Wish.Asks, Wish.Ends, Wish.Goes, Wish.Waits}
 use Rattle.schedule.proofs.Basics.{put-same, put-other, same_or_not, same_is, other_is}
 use Rattle.schedule_threads.specs.Shared.{Shared, queue_by, is_question}
-use Rattle.schedule_threads.specs.Threads.{machine_of, wishes}
+use Rattle.schedule_threads.specs.Threads.{machine_of}
 use Rattle.schedule_threads.proofs.Asking.{machine_laws, wants_no_answer}
-use Rattle.interp_machine.specs.Program.{Program}
 use Rattle.interp_machine.specs.State.{State}
-use Rattle.interp_trait.specs.Turns.{Running, wants_of, spawned_in}
+use Rattle.interp_trait.specs.Turns.{Running, spawned_in}
 use Rattle.schedule_machine.specs.Threads.{IsMade, called}
 use Rattle.schedule_machine.proofs.Orderly.{free_asker, nothing_due}
 use Rattle.schedule_machine.proofs.Accesses.{memory_made}
-use Rattle.search_threads.specs.Unlimited.{Unlimited.Missing, Unlimited.Going, Unlimited.Leaving, Unlimited.Away, unlimited_wants, want_by}
 use Rattle.search_runs.specs.Called.{Called, Walker, system_of, begun_at, begun_by, reply_by, shared_by, answer_by}
 use Rattle.search_threads.proofs.Laws.{unlimited_threads_keep_the_laws}
 use Rattle.schedule.specs.ThreadRun.{Laws}
 use Rattle.search_runs.specs.Theorems.{CanReach}
-use Rattle.search_runs.proofs.Tame.{orderly, tame}
+use Rattle.search_runs.proofs.Tame.{orderly, tame, given, given_wants}
 use Rattle.search_parts.specs.Sharing.{begun_in}
 use Rattle.search_parts.specs.declared.event.Begun.{Begun}
 
@@ -48,44 +44,26 @@ no_call (Calls d) e h is = absurd (cc h)
 no_call Awaits e h is = absurd (cc is)
 no_call Gone e h is = absurd (cc is)
 
--- with one unit it wants what it does without a budget
-abbrev with_unit : Walker → Running
-with_unit Missing = Absent
-with_unit (Going c) = Runs c 1
-with_unit (Leaving o) = Leaves o 1
-with_unit (Away o) = Left o 1
-
-wish_same : (p : Program) (w : Wish Event Outcome) → wanted (machine_of p) 1 w ≡ want_by (machine_of p) w
-wish_same p Waits = refl
-wish_same p (Ends o) = refl
-wish_same p Goes = refl
-wish_same p (Asks e) = refl
-
-unit_wants : (p : Program) (v : Walker) → wants_of p (with_unit v) ≡ unlimited_wants (machine_of p) v
-unit_wants p Missing = refl
-unit_wants p (Going c) = wish_same p (wishes p c)
-unit_wants p (Leaving o) = refl
-unit_wants p (Away o) = refl
-
+-- threads with one unit each want what they do without a budget
 module _ (b : Called) (z : systems.State Shared Walker) (reached : CanReach b z) where
   pub sound : IsSound z.shared.queue
   sound = (orderly b z reached).sound
 
   abbrev threads : ℕ → Running
-  threads m = with_unit (z.threads m)
+  threads m = given (z.threads m)
 
   pub dues : length z.shared.queue.due ≡ most_threads
   dues = (orderly b z reached).dues
 
   module _ (n : ℕ) (e : Event) (calls : (system_of b).wants (z.threads n) ≡ Calls e) where
     pub free : IsFree z.shared.queue n
-    free = free_asker b.program z.shared.queue threads n e (orderly b z reached) (unit_wants b.program (z.threads n) ∙ calls)
+    free = free_asker b.program z.shared.queue threads n e (orderly b z reached) (given_wants b.program (z.threads n) ∙ calls)
 
     pub known : n < most_threads
     known = let k = sound.named n free.alive in let few = sound.few in let d = dues in omega (arith, k, few, d)
 
     pub untold : (answer : Answer) → e ≡ events.Told answer → ⊥
-    untold answer is = wants_no_answer b.program (threads n) answer (unit_wants b.program (z.threads n) ∙ (calls ∙ ap Calls is))
+    untold answer is = wants_no_answer b.program (threads n) answer (given_wants b.program (z.threads n) ∙ (calls ∙ ap Calls is))
 
 -- whom an event starts
 

@@ -66,7 +66,7 @@ scheduled b w reach =
 
 -- a thread without a budget is given one unit
 
-abbrev given : Walker → Running
+abbrev pub given : Walker → Running
 given Missing = Absent
 given (Going c) = Runs c 1
 given (Leaving o) = Leaves o 1
@@ -103,7 +103,7 @@ wish_same p (Ends o) = refl
 wish_same p Goes = refl
 wish_same p (Asks e) = refl
 
-given_wants : (p : Program) (v : Walker) → wants_of p (given v) ≡ unlimited_wants (machine_of p) v
+pub given_wants : (p : Program) (v : Walker) → wants_of p (given v) ≡ unlimited_wants (machine_of p) v
 given_wants p Missing = refl
 given_wants p (Going c) = wish_same p (wishes p c)
 given_wants p (Leaving o) = refl
