@@ -1,6 +1,8 @@
 #!/bin/bash
 # How many runs a second and core `search` makes of a lock that isn't one, with two threads and five rounds, beside a loop of processes
 # that run it. The first counts the processor's time of one job, user and system; the second has malloc keep what is given back.
+# And how long `search --all` takes to go through every order of some locks, and how much memory it takes a state: wanted within a
+# minute and 2 GiB each.
 set -e
 . "$(dirname "$0")/common.sh"
 file=$(module search/broken_lock)
@@ -17,4 +19,21 @@ start=$(date +%s%N)
 for _ in $(seq "$loops"); do "$program" run "$file" --invoke run > /dev/null || true; done
 took=$(( $(date +%s%N) - start ))
 echo "a loop of processes: $(( loops * 1000000000 / took )) runs a second"
+gone_through() {
+    local name=$1 out user system kib states
+    shift
+    out=$(/usr/bin/time -f '%U %S %M' -o "$work/took" "$program" search "$top/examples/search/$name.wasm" --invoke f --all \
+        --states 1000000000 "$@" | tail -n 1)
+    read -r user system kib < <(tail -n 1 "$work/took")
+    states=$(sed -n 's/^all: .* endings, \([0-9]*\) states$/\1/p' <<< "$out")
+    awk -v what="$name $*" -v said="$out" -v n="${states:-0}" -v t="$user" -v u="$system" -v kib="$kib" 'BEGIN {
+        s = t + u; if (s <= 0) s = 0.01
+        if (!n) { print what ": " said; exit }
+        printf "%s: %s; %.1f s, %.0f states a second, %d MiB, %.0f bytes a state\n", what, said, s, n / s, kib / 1024, kib * 1024 / n
+    }'
+}
+gone_through peterson 20
+gone_through mutex 3 3
+gone_through tickets 3 4
+gone_through queue 1
 machine

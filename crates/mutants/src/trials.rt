@@ -63,6 +63,7 @@ fn give<R: Threads + Wait + Sync>(
         &mut gave.out,
         &mut gave.err,
         &mut gave.record,
+        &mut (),
     );
     gave
 }

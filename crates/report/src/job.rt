@@ -14,13 +14,14 @@ ghost use Rattle.report.specs.Searches.{HasSearched, request_of_search};
 ghost use Rattle.report.specs.declared.loading.Refusal.{Refusal};
 ghost use Rattle.report.specs.Troubles.{IsTrouble, request_of};
 
-use crate::loading::{Refusal, load};
+use crate::loading::{Refusal, load, load_checked};
 use crate::replaying::{Unfit, replay_record};
 use crate::running::{Trouble, Wanted, run_module};
 use crate::searching::search_module;
 use crate::showing::show_saved;
 use binary_wire::ReadFault;
 use report_command::{Job, Look, Search, View};
+use search_reach::Follows;
 use std::alloc::Global;
 use std::io::{self, Write};
 use std::sync::Wait;
@@ -42,12 +43,12 @@ const FAULT: u8 = 5;
 ///
 /// `saved` has the bytes of the record that a replay or a show reads, and else nothing. A show takes names from the module
 /// itself (`show_saved` takes them from another file's bytes). `save` takes the record that a run makes, or that of what a
-/// search found, after the lines; or the file that a show makes.
+/// search found, after the lines; or the file that a show makes. `follower` hears how far a search came.
 ///
 /// Answers the program's status: 0 where the module was accepted or all threads ended well, 1 for a trap or stop, 2
 /// for a refused module, 3 for a refused run, 4 for a refused record, 5 where memory, a thread or a stream failed. A write
 /// to `err` that fails doesn't change it.
-pub fn perform<R, W, E, S>(
+pub fn perform<R, W, E, S, F>(
     rt: &R,
     alloc: Global,
     job: &Job,
@@ -56,12 +57,14 @@ pub fn perform<R, W, E, S>(
     out: &mut W,
     err: &mut E,
     save: &mut S,
+    follower: &mut F,
 ) -> u8
 where
     R: Threads + Wait + Sync,
     W: Write,
     E: Write,
     S: Write,
+    F: Follows,
     requires { IsInRange job.now }
     ensures { Performs job.now «module».now saved.now (change (W.contents out.old) (W.contents out.new))
         (change (S.contents save.old) (S.contents save.new)) result }
@@ -91,7 +94,7 @@ where
         }
         Job::Replay { dump, .. } => replay_saved(alloc, module, saved, *dump, out, err),
         Job::Show { look, view, .. } => show(alloc, module, saved, look, *view, out, err, save),
-        Job::Search(asked) => search(rt, alloc, asked, module, out, err, save),
+        Job::Search(asked) => search(rt, alloc, asked, module, out, err, save, follower),
     }
 }
 
@@ -104,7 +107,7 @@ pub fn check<W: Write, E: Write>(alloc: Global, bytes: &[u8], out: &mut W, err: 
     ensures refused { result ≡ 2 → IsNoValidModule bytes.now }
     ensures status { (result ≡ 0) ⊎ (result ≡ 2) ⊎ (result ≡ 5) }
 {
-    match load(alloc, bytes) {
+    match load_checked(alloc, bytes) {
         Ok(found) => accept(found.parts().functions.len(), out, err),
         Err(refusal) => refuse(err, refusal),
     }
@@ -246,7 +249,7 @@ where
 }
 
 /// Searches through runs of a module.
-fn search<R, W, E, S>(
+fn search<R, W, E, S, F>(
     rt: &R,
     alloc: Global,
     asked: &Search,
@@ -254,12 +257,14 @@ fn search<R, W, E, S>(
     out: &mut W,
     err: &mut E,
     save: &mut S,
+    follower: &mut F,
 ) -> u8
 where
     R: Threads + Sync,
     W: Write,
     E: Write,
     S: Write,
+    F: Follows,
     requires { IsSearchInRange asked.now }
     ensures made { result ≤ 1 → HasSearched «module».now asked.now (change (S.contents save.old) (S.contents save.new)) result }
     ensures refused { result ≡ 2 → IsNoValidModule «module».now }
@@ -270,7 +275,7 @@ where
         Ok(valid) => valid,
         Err(refusal) => return refuse(err, refusal),
     };
-    match search_module(rt, alloc, &valid, asked, out, save) {
+    match search_module(rt, alloc, &valid, asked, follower, out, save) {
         Ok(status) => status,
         Err(trouble) => complain(err, trouble, asked.save),
     }

@@ -1,6 +1,7 @@
 //! What the program does, as a library: the command line as a job, and the lines that a job prints.
 #![tactic(auto)]
 
+mod all;
 mod args;
 mod job;
 mod loading;

@@ -12,11 +12,13 @@ ghost use Rattle.report.specs.Searches.{Finds, IsFindKept, IsOfSystem, sought_of
 ghost use Rattle.report.specs.Prints.{change};
 ghost use Rattle.report.specs.Troubles.{IsTrouble};
 
+use crate::all::search_all_orders;
 use crate::running::{Trouble, Wanted, args_of, is_done, keep, print};
 use report_command::Search;
 use report_runs::Call;
-use search_endings::{Met, Table};
+use search_endings::{Ending, Met, Table};
 use search_finds::{Found, Searched, Size, Sought, first_found, shrunk, size_of};
+use search_reach::Follows;
 use search_scheduled::Made;
 use std::alloc::Global;
 use std::io::{self, Write};
@@ -24,7 +26,7 @@ use std::thread::{self, Threads};
 use validate::ValidModule;
 
 /// What a search asks of the library.
-fn sought_by<'a>(search: &Search<'a>) -> Sought<'a>
+pub(crate) fn sought_by<'a>(search: &Search<'a>) -> Sought<'a>
     ensures { result ≡ sought_of search.now }
 {
     Sought {
@@ -40,7 +42,7 @@ fn sought_by<'a>(search: &Search<'a>) -> Sought<'a>
 }
 
 /// The call of a search, as that of a run.
-fn wanted_by<'a>(search: &'a Search<'a>) -> Wanted<'a>
+pub(crate) fn wanted_by<'a>(search: &'a Search<'a>) -> Wanted<'a>
     ensures { (result.invoke.now ≡ search.now.invoke.now) × (result.args.now ≡ search.now.args.items) }
 {
     Wanted {
@@ -62,23 +64,28 @@ fn jobs_of<R: Threads>(rt: &R, search: &Search) -> usize {
     }
 }
 
+/// What an ending is, to the end of its line.
+pub(crate) fn write_ending<W: Write>(out: &mut W, ending: &Ending) -> io::Result<()> {
+    for (thread, outcome) in ending.outcomes.iter().enumerate() {
+        write!(out, "thread {thread}: {outcome}; ")?;
+    }
+    let pages = ending.pages;
+    write!(out, "pages {pages}")?;
+    if !ending.bytes.is_empty() {
+        write!(out, "; bytes")?;
+    }
+    for byte in ending.bytes.iter() {
+        write!(out, " {byte:02x}")?;
+    }
+    write!(out, "\n")
+}
+
 /// The line of an ending: how often it was met and first when, and what it is.
 fn write_met<W: Write>(out: &mut W, met: &Met, runs: u64) -> io::Result<()> {
     let times = met.times;
     let first = met.first;
-    write!(out, "{times} of {runs}, first in run {first}:")?;
-    for (thread, outcome) in met.ending.outcomes.iter().enumerate() {
-        write!(out, " thread {thread}: {outcome};")?;
-    }
-    let pages = met.ending.pages;
-    write!(out, " pages {pages}")?;
-    if !met.ending.bytes.is_empty() {
-        write!(out, "; bytes")?;
-    }
-    for byte in met.ending.bytes.iter() {
-        write!(out, " {byte:02x}")?;
-    }
-    write!(out, "\n")
+    write!(out, "{times} of {runs}, first in run {first}: ")?;
+    write_ending(out, &met.ending)
 }
 
 /// The table of the endings, in the order of their first runs.
@@ -105,11 +112,12 @@ fn write_sizes<W: Write>(out: &mut W, before: Size, after: Size) -> io::Result<(
 
 /// Makes the runs that a search asks for, prints the table of their endings, and of a run that was found its lines; and writes its
 /// record, where one is wanted. Answers the status: 1 where a run was found or an ending has a trap or a stop, and else 0.
-pub(crate) fn search_module<R: Threads + Sync, W: Write, S: Write>(
+fn search_drawn<R: Threads + Sync, F: Follows, W: Write, S: Write>(
     rt: &R,
     alloc: Global,
     module: &ValidModule,
     search: &Search,
+    follower: &mut F,
     out: &mut W,
     save: &mut S,
 ) -> Result<u8, Trouble>
@@ -125,13 +133,34 @@ pub(crate) fn search_module<R: Threads + Sync, W: Write, S: Write>(
     };
     let jobs = jobs_of(rt, search);
     let sought = sought_by(search);
-    let Searched { table, found } = first_found(rt, alloc, module, call, &sought, jobs)?;
+    let Searched { table, found } = first_found(rt, alloc, module, call, &sought, jobs, follower)?;
+    follower.end();
     write_table(out, &table)?;
     let Some(found) = found else {
         return Ok(u8::from(has_failed(&table)));
     };
     tell_found(alloc, module, call, search, found, out, save)?;
     Ok(1)
+}
+
+/// Searches as is asked for: through drawn runs, or through every order of entries. Answers the status.
+pub(crate) fn search_module<R: Threads + Sync, F: Follows, W: Write, S: Write>(
+    rt: &R,
+    alloc: Global,
+    module: &ValidModule,
+    search: &Search,
+    follower: &mut F,
+    out: &mut W,
+    save: &mut S,
+) -> Result<u8, Trouble>
+    requires { IsSearchInRange search.now }
+    ensures finds { IfOk result (Finds «module».now.parts search.now (change (S.contents save.old) (S.contents save.new))) }
+    ensures trouble { IfErr result (IsTrouble «module».now.parts search.now.invoke.now (map (λ text. text.now) search.now.args.items)) }
+{
+    match search.all {
+        Some(most) => search_all_orders(alloc, module, search, most, follower, out, save),
+        None => search_drawn(rt, alloc, module, search, follower, out, save),
+    }
 }
 
 /// The run that was found, or where that is asked for a smaller one that ends alike, of which the sizes are printed.
@@ -157,7 +186,30 @@ fn shrunk_if_asked<W: Write>(
     Ok(made)
 }
 
-/// Prints the lines of a run that was found, or of a smaller one that ends alike, and writes its record.
+/// Prints the lines of a run that ends as is looked for, or of a smaller one that ends alike, and writes its record.
+pub(crate) fn tell_made<W: Write, S: Write>(
+    alloc: Global,
+    module: &ValidModule,
+    call: Call,
+    search: &Search,
+    made: Made,
+    out: &mut W,
+    save: &mut S,
+) -> Result<(), Trouble>
+    requires find { IsFind «module».now.parts call search.now.limit made }
+    requires call { (call.name.now ≡ search.now.invoke.now) × (call.fuel ≡ search.now.fuel) }
+    requires spelled { AreSpelled (map (λ text. text.now) search.now.args.items) call.args.now }
+    requires ends { EndsAsLookedFor (sought_of search.now) search.now.dump made.end }
+    ensures kept { IfOk result (λ _. IsFindKept «module».now.parts search.now (change (S.contents save.old) (S.contents save.new))) }
+    ensures trouble { IfErr result IsOfSystem }
+{
+    let kept = shrunk_if_asked(alloc, module, call, search, made, out)?;
+    print(out, &kept.end, search.dump)?;
+    keep(&kept.record, search.save.is_some(), save)?;
+    Ok(())
+}
+
+/// Prints the number of a run that was found, and tells of it.
 fn tell_found<W: Write, S: Write>(
     alloc: Global,
     module: &ValidModule,
@@ -176,8 +228,5 @@ fn tell_found<W: Write, S: Write>(
 {
     let Found { run, made } = found;
     write!(out, "found in run {run}\n")?;
-    let kept = shrunk_if_asked(alloc, module, call, search, made, out)?;
-    print(out, &kept.end, search.dump)?;
-    keep(&kept.record, search.save.is_some(), save)?;
-    Ok(())
+    tell_made(alloc, module, call, search, made, out, save)
 }

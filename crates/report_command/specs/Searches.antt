@@ -7,10 +7,15 @@ use Rattle.report_command.specs.declared.search.Search.{Search}
 abbrev pub most_runs : ℕ
 most_runs = 1000000000000
 
+-- The most states that a search through every order of entries may meet.
+abbrev pub most_states : ℕ
+most_states = 1000000000
+
 -- The numbers of a search are in their ranges.
 pub record IsSearchInRange (s : Search) : Type 0 where
   pub runs : s.runs ≤ most_runs
   pub from : s.from ≤ most_runs
+  pub all : IfSome s.all (λ states. (1 ≤ states) × (states ≤ most_states))
   pub fuel : s.fuel ≤ most_fuel
   pub limit_low : 1 ≤ s.limit
   pub limit : s.limit ≤ most_limit

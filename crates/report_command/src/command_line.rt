@@ -111,6 +111,22 @@ impl From<AllocError> for Usage {
     }
 }
 
+/// An option of this name, which takes a value.
+pub(crate) fn option<'a>(alloc: Global, name: &'a str, value: &'a str, help: &'a str) -> Arg<'a> {
+    Arg::new(alloc, name)
+        .long(name)
+        .value_name(value)
+        .help(help)
+}
+
+/// An option of this name without a value.
+pub(crate) fn flag<'a>(alloc: Global, name: &'a str, help: &'a str) -> Arg<'a> {
+    Arg::new(alloc, name)
+        .long(name)
+        .help(help)
+        .action(ArgAction::SetTrue)
+}
+
 /// The module's path, which every command takes.
 pub(crate) fn file_argument<'a>(alloc: Global) -> Arg<'a> {
     Arg::new(alloc, "file")
@@ -121,10 +137,11 @@ pub(crate) fn file_argument<'a>(alloc: Global) -> Arg<'a> {
 
 /// Whether more is said of a refusal.
 fn explain_argument<'a>(alloc: Global) -> Arg<'a> {
-    Arg::new(alloc, "explain")
-        .long("explain")
-        .help("Say on standard error, behind a refusal, where and why it is, and what to do")
-        .action(ArgAction::SetTrue)
+    flag(
+        alloc,
+        "explain",
+        "Say on standard error, behind a refusal, where and why it is, and what to do",
+    )
 }
 
 /// `check FILE [--explain]`
@@ -137,21 +154,25 @@ fn check_command<'a>(alloc: Global) -> Result<Command<'a>, AllocError> {
 
 /// How many bytes a dump shows.
 pub(crate) fn dump_argument<'a>(alloc: Global) -> Arg<'a> {
-    Arg::new(alloc, "dump")
-        .long("dump")
-        .value_name("N")
-        .help("Print the first N bytes of the memory, 0 to 4096")
-        .value_parser(value_parser!(u32).range(0..4097))
-        .default_value("0")
+    option(
+        alloc,
+        "dump",
+        "N",
+        "Print the first N bytes of the memory, 0 to 4096",
+    )
+    .value_parser(value_parser!(u32).range(0..4097))
+    .default_value("0")
 }
 
 /// The function that is called.
 pub(crate) fn invoke_argument<'a>(alloc: Global) -> Arg<'a> {
-    Arg::new(alloc, "invoke")
-        .long("invoke")
-        .value_name("NAME")
-        .help("The exported function that thread 0 runs")
-        .required(true)
+    option(
+        alloc,
+        "invoke",
+        "NAME",
+        "The exported function that thread 0 runs",
+    )
+    .required(true)
 }
 
 /// Its arguments.
@@ -167,33 +188,41 @@ pub(crate) fn with_bounds<'a>(
     alloc: Global,
     command: Command<'a>,
 ) -> Result<Command<'a>, AllocError> {
-    let fuel = Arg::new(alloc, "fuel")
-        .long("fuel")
-        .value_name("N")
-        .help("How many units each thread may spend, 0 to 1000000000000")
-        .value_parser(value_parser!(u64).range(0..1_000_000_000_001))
-        .default_value("1000000000");
-    let limit = Arg::new(alloc, "limit")
-        .long("limit")
-        .value_name("N")
-        .help("How many entries the log takes, 1 to 1000000")
-        .value_parser(value_parser!(u32).range(1..1_000_001))
-        .default_value("100000");
+    let fuel = option(
+        alloc,
+        "fuel",
+        "N",
+        "How many units each thread may spend, 0 to 1000000000000",
+    )
+    .value_parser(value_parser!(u64).range(0..1_000_000_000_001))
+    .default_value("1000000000");
+    let limit = option(
+        alloc,
+        "limit",
+        "N",
+        "How many entries the log takes, 1 to 1000000",
+    )
+    .value_parser(value_parser!(u32).range(1..1_000_001))
+    .default_value("100000");
     command.arg(fuel)?.arg(limit)
 }
 
 /// Where a run happens, and where its record goes.
 fn with_memory<'a>(alloc: Global, command: Command<'a>) -> Result<Command<'a>, AllocError> {
-    let memory = Arg::new(alloc, "memory")
-        .long("memory")
-        .value_name("KIND")
-        .help("Which memory: one behind a lock, which records, or a row of atomic words")
-        .value_parser(MEMORIES.as_slice())
-        .default_value("locked");
-    let record = Arg::new(alloc, "record")
-        .long("record")
-        .value_name("OUT")
-        .help("Write a record of the run to this file; not with words");
+    let memory = option(
+        alloc,
+        "memory",
+        "KIND",
+        "Which memory: one behind a lock, which records, or a row of atomic words",
+    )
+    .value_parser(MEMORIES.as_slice())
+    .default_value("locked");
+    let record = option(
+        alloc,
+        "record",
+        "OUT",
+        "Write a record of the run to this file; not with words",
+    );
     command.arg(memory)?.arg(record)
 }
 

@@ -1,11 +1,12 @@
 //! The command line of a search.
 ghost use Rattle.std.specs.Prelude.{◌≤◌, IfOk, IfSome};
-ghost use Rattle.report_command.specs.Searches.{IsSearchInRange, most_runs};
+ghost use Rattle.report_command.specs.Searches.{IsSearchInRange, most_runs, most_states};
 
 use crate::command_line::{
-    args_argument, args_of, bounds_of, dump_argument, file_argument, invoke_argument, with_bounds,
+    args_argument, args_of, bounds_of, dump_argument, file_argument, flag, invoke_argument, option,
+    with_bounds,
 };
-use clap::{Arg, ArgAction, ArgMatches, Command, value_parser};
+use clap::{Arg, ArgMatches, Command, value_parser};
 use search_strategies::{MOST_DEPTH, Way};
 use std::alloc::{AllocError, Global};
 
@@ -32,6 +33,8 @@ pub struct Search<'a> {
     pub shrink: bool,
     /// How many threads make runs; without a number as many as there are processors.
     pub jobs: Option<u32>,
+    /// Where every order of entries is gone through in place of drawn runs: how many states are met at most, 1 to 1,000,000,000.
+    pub all: Option<u32>,
     /// How many units each thread may spend, 0 to 1,000,000,000,000.
     pub fuel: u64,
     /// How many entries the log takes, 1 to 1,000,000.
@@ -54,69 +57,132 @@ impl Search<'_> {
 /// The most runs that a search makes, and the highest number of a first run.
 const MOST_RUNS: u64 = 1_000_000_000_000;
 
+/// The most states that a search through every order of entries may meet, and how many it meets where nobody says so.
+const MOST_STATES: u32 = 1_000_000_000;
+
+const STATES: u32 = 1_000_000;
+
+/// How many runs.
+fn runs_argument<'a>(alloc: Global) -> Arg<'a> {
+    option(alloc, "runs", "N", "How many runs are made at most")
+        .value_parser(value_parser!(u64).range(1..1_000_000_000_001))
+        .default_value("1000")
+}
+
+/// The first run.
+fn from_argument<'a>(alloc: Global) -> Arg<'a> {
+    option(alloc, "from", "I", "The number of the first run")
+        .value_parser(value_parser!(u64).range(1..1_000_000_000_001))
+        .default_value("1")
+}
+
+/// The seed.
+fn seed_argument<'a>(alloc: Global) -> Arg<'a> {
+    option(
+        alloc,
+        "seed",
+        "S",
+        "The seed: run I of a seed is the same on every machine",
+    )
+    .value_parser(value_parser!(u64).range(0..1_000_000_000_000_000_001))
+    .default_value("1")
+}
+
+/// Who goes on.
+fn strategy_argument<'a>(alloc: Global) -> Arg<'a> {
+    option(
+        alloc,
+        "strategy",
+        "WAY",
+        "Who goes on: random, or pct:D for priorities that change at D - 1 points, D of 1 to 32",
+    )
+    .default_value("random")
+}
+
+/// How many threads make runs.
+fn jobs_argument<'a>(alloc: Global) -> Arg<'a> {
+    option(
+        alloc,
+        "jobs",
+        "N",
+        "How many threads make runs, 1 to 256; without it as many as there are processors",
+    )
+    .value_parser(value_parser!(u32).range(1..257))
+}
+
 /// Which runs are made.
 fn with_runs<'a>(alloc: Global, command: Command<'a>) -> Result<Command<'a>, AllocError> {
-    let runs = Arg::new(alloc, "runs")
-        .long("runs")
-        .value_name("N")
-        .help("How many runs are made at most")
-        .value_parser(value_parser!(u64).range(1..1_000_000_000_001))
-        .default_value("1000");
-    let from = Arg::new(alloc, "from")
-        .long("from")
-        .value_name("I")
-        .help("The number of the first run")
-        .value_parser(value_parser!(u64).range(1..1_000_000_000_001))
-        .default_value("1");
-    let seed = Arg::new(alloc, "seed")
-        .long("seed")
-        .value_name("S")
-        .help("The seed: run I of a seed is the same on every machine")
-        .value_parser(value_parser!(u64).range(0..1_000_000_000_000_000_001))
-        .default_value("1");
-    let strategy = Arg::new(alloc, "strategy")
-        .long("strategy")
-        .value_name("WAY")
-        .help(
-            "Who goes on: random, or pct:D for priorities that change at D - 1 points, D of 1 to 32",
-        )
-        .default_value("random");
-    let jobs = Arg::new(alloc, "jobs")
-        .long("jobs")
-        .value_name("N")
-        .help("How many threads make runs, 1 to 256; without it as many as there are processors")
-        .value_parser(value_parser!(u32).range(1..257));
     command
-        .arg(runs)?
-        .arg(from)?
-        .arg(seed)?
-        .arg(strategy)?
-        .arg(jobs)
+        .arg(runs_argument(alloc))?
+        .arg(from_argument(alloc))?
+        .arg(seed_argument(alloc))?
+        .arg(strategy_argument(alloc))?
+        .arg(jobs_argument(alloc))
+}
+
+/// Every order in place of drawn runs.
+fn all_argument<'a>(alloc: Global) -> Result<Arg<'a>, AllocError> {
+    flag(
+        alloc,
+        "all",
+        "In place of drawn runs, go through every order of the threads' entries, by each state once",
+    )
+    .conflicts_with("runs")?
+    .conflicts_with("from")?
+    .conflicts_with("seed")?
+    .conflicts_with("strategy")?
+    .conflicts_with("jobs")
+}
+
+/// How many states.
+fn states_argument<'a>(alloc: Global) -> Result<Arg<'a>, AllocError> {
+    option(
+        alloc,
+        "states",
+        "N",
+        "With --all: how many states are met at most, 1 to 1000000000; without it 1000000",
+    )
+    .value_parser(value_parser!(u32).range(1..1_000_000_001))
+    .requires_arg("all")
+}
+
+/// Every order in place of drawn runs.
+fn with_all<'a>(alloc: Global, command: Command<'a>) -> Result<Command<'a>, AllocError> {
+    command
+        .arg(all_argument(alloc)?)?
+        .arg(states_argument(alloc)?)
 }
 
 /// What is looked for, and what becomes of it.
 fn with_wishes<'a>(alloc: Global, command: Command<'a>) -> Result<Command<'a>, AllocError> {
-    let find = Arg::new(alloc, "find")
-        .long("find")
-        .value_name("WORDS")
-        .help("Stop at the first run with a thread's line that has these words");
-    let expect = Arg::new(alloc, "expect")
-        .long("expect")
-        .value_name("WORDS")
-        .help("Stop at the first run whose line of thread 0 hasn't these words");
-    let record = Arg::new(alloc, "record")
-        .long("record")
-        .value_name("OUT")
-        .help("Write a record of the run that was found to this file");
-    let shrink = Arg::new(alloc, "shrink")
-        .long("shrink")
-        .help("Look for a run that ends as the one that was found, with few switches of threads")
-        .action(ArgAction::SetTrue);
-    command.arg(find)?.arg(expect)?.arg(record)?.arg(shrink)
+    command
+        .arg(option(
+            alloc,
+            "find",
+            "WORDS",
+            "Stop at the first run with a thread's line that has these words",
+        ))?
+        .arg(option(
+            alloc,
+            "expect",
+            "WORDS",
+            "Stop at the first run whose line of thread 0 hasn't these words",
+        ))?
+        .arg(option(
+            alloc,
+            "record",
+            "OUT",
+            "Write a record of the run that was found to this file",
+        ))?
+        .arg(flag(
+            alloc,
+            "shrink",
+            "Look for a run that ends as the one that was found, with few switches of threads",
+        ))
 }
 
-/// `search FILE --invoke NAME [--runs N] [--from I] [--seed S] [--strategy random|pct:D] [--find WORDS] [--expect WORDS]
-/// [--record OUT] [--shrink] [--jobs N] [--fuel N] [--limit N] [--dump N] [ARG..]`
+/// `search FILE --invoke NAME [--runs N] [--from I] [--seed S] [--strategy random|pct:D] [--jobs N] [--all [--states N]]
+/// [--find WORDS] [--expect WORDS] [--record OUT] [--shrink] [--fuel N] [--limit N] [--dump N] [ARG..]`
 pub(crate) fn search_command<'a>(alloc: Global) -> Result<Command<'a>, AllocError> {
     let command = Command::new(alloc, "search")
         .about(
@@ -124,7 +190,8 @@ pub(crate) fn search_command<'a>(alloc: Global) -> Result<Command<'a>, AllocErro
         )
         .arg(file_argument(alloc))?
         .arg(invoke_argument(alloc))?;
-    let command = with_wishes(alloc, with_runs(alloc, command)?)?;
+    let command = with_all(alloc, with_runs(alloc, command)?)?;
+    let command = with_wishes(alloc, command)?;
     with_bounds(alloc, command)?
         .arg(dump_argument(alloc))?
         .arg(args_argument(alloc))
@@ -153,6 +220,17 @@ fn runs_of(matches: &ArgMatches) -> Option<(u64, u64)>
     } else {
         None
     }
+}
+
+/// How many states are met at most, where every order is gone through.
+fn all_of(matches: &ArgMatches) -> Option<u32>
+    ensures { IfSome result (λ states. (1 ≤ states) × (states ≤ most_states)) }
+{
+    if !matches.get_flag("all") {
+        return None;
+    }
+    let states = matches.get_one::<u32>("states").unwrap_or(STATES);
+    Some(states.clamp(1, MOST_STATES))
 }
 
 /// The search that the words ask for, where its numbers are there and in range, as the parser sees to, and its strategy is one.
@@ -188,6 +266,7 @@ pub(crate) fn search_job<'a>(
         expect: matches.get_str("expect"),
         shrink: matches.get_flag("shrink"),
         jobs: matches.get_one::<u32>("jobs"),
+        all: all_of(matches),
         fuel,
         limit,
         save: matches.get_str("record"),

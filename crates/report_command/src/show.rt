@@ -4,7 +4,7 @@ ghost use Rattle.std.specs.Prelude.{◌≡◌, ◌≤◌, IfOk, IfSome};
 ghost use Rattle.report_command.specs.Jobs.{IsInRange};
 ghost use Rattle.report_command.specs.Views.{IsViewInRange, path_of};
 
-use crate::command_line::{DUMP_MOST, Job, Misuse, file_argument};
+use crate::command_line::{DUMP_MOST, Job, Misuse, file_argument, option};
 use clap::{Arg, ArgMatches, Command, value_parser};
 use show_text::{Choice, Color, Look, Span};
 use std::alloc::{AllocError, Global};
@@ -65,75 +65,128 @@ fn bytes_of(text: &str) -> Option<(u64, u32)>
     }
 }
 
+/// The line of the moment.
+fn at_argument<'a>(alloc: Global) -> Arg<'a> {
+    option(
+        alloc,
+        "at",
+        "LINE",
+        "In place of rows, what threads and memory are like before this line of the record",
+    )
+    .value_parser(value_parser!(u64).range(1..2_000_001))
+}
+
+/// The bytes that are shown of it.
+fn dump_argument<'a>(alloc: Global) -> Result<Arg<'a>, AllocError> {
+    option(
+        alloc,
+        "dump",
+        "A:N",
+        "With --at: print N bytes of the memory from address A on, N up to 4096",
+    )
+    .requires_arg("at")
+}
+
 /// A moment in place of rows.
 fn with_moment<'a>(alloc: Global, command: Command<'a>) -> Result<Command<'a>, AllocError> {
-    let at = Arg::new(alloc, "at")
-        .long("at")
-        .value_name("LINE")
-        .help("In place of rows, what threads and memory are like before this line of the record")
-        .value_parser(value_parser!(u64).range(1..2_000_001));
-    let dump = Arg::new(alloc, "dump")
-        .long("dump")
-        .value_name("A:N")
-        .help("With --at: print N bytes of the memory from address A on, N up to 4096")
-        .requires_arg("at")?;
-    command.arg(at)?.arg(dump)
+    command.arg(at_argument(alloc))?.arg(dump_argument(alloc)?)
+}
+
+/// The page.
+fn html_argument<'a>(alloc: Global) -> Result<Arg<'a>, AllocError> {
+    option(
+        alloc,
+        "html",
+        "OUT",
+        "In place of rows, write the entries as a page of HTML to this file",
+    )
+    .conflicts_with("at")
+}
+
+/// The trace.
+fn trace_argument<'a>(alloc: Global) -> Result<Arg<'a>, AllocError> {
+    option(
+        alloc,
+        "trace",
+        "OUT",
+        "In place of rows, write the entries in the Trace Event Format to this file",
+    )
+    .conflicts_with("at")?
+    .conflicts_with("html")
 }
 
 /// A file in place of rows.
 fn with_files<'a>(alloc: Global, command: Command<'a>) -> Result<Command<'a>, AllocError> {
-    let html = Arg::new(alloc, "html")
-        .long("html")
-        .value_name("OUT")
-        .help("In place of rows, write the entries as a page of HTML to this file")
-        .conflicts_with("at")?;
-    let trace = Arg::new(alloc, "trace")
-        .long("trace")
-        .value_name("OUT")
-        .help("In place of rows, write the entries in the Trace Event Format to this file")
-        .conflicts_with("at")?
-        .conflicts_with("html")?;
-    command.arg(html)?.arg(trace)
+    command
+        .arg(html_argument(alloc)?)?
+        .arg(trace_argument(alloc)?)
+}
+
+/// The threads of which entries are shown.
+fn thread_argument<'a>(alloc: Global) -> Arg<'a> {
+    option(
+        alloc,
+        "thread",
+        "T,..",
+        "Only the entries of these threads, 0 to 63",
+    )
+    .value_delimiter(',')
+    .value_parser(value_parser!(u32).range(0..64))
 }
 
 /// Which entries are shown.
 fn with_choice<'a>(alloc: Global, command: Command<'a>) -> Result<Command<'a>, AllocError> {
-    let lines = Arg::new(alloc, "lines")
-        .long("lines")
-        .value_name("A-B")
-        .help("Only the entries on these lines of the record");
-    let thread = Arg::new(alloc, "thread")
-        .long("thread")
-        .value_name("T,..")
-        .help("Only the entries of these threads, 0 to 63")
-        .value_delimiter(',')
-        .value_parser(value_parser!(u32).range(0..64));
-    let addr = Arg::new(alloc, "addr")
-        .long("addr")
-        .value_name("A[-B]")
-        .help("Only the entries at these addresses, unsigned decimals");
-    command.arg(lines)?.arg(thread)?.arg(addr)
+    command
+        .arg(option(
+            alloc,
+            "lines",
+            "A-B",
+            "Only the entries on these lines of the record",
+        ))?
+        .arg(thread_argument(alloc))?
+        .arg(option(
+            alloc,
+            "addr",
+            "A[-B]",
+            "Only the entries at these addresses, unsigned decimals",
+        ))
+}
+
+/// The width of a row.
+fn width_argument<'a>(alloc: Global) -> Arg<'a> {
+    option(
+        alloc,
+        "width",
+        "N",
+        "How many characters a row has room for, 40 to 1000",
+    )
+    .value_parser(value_parser!(u32).range(40..1001))
+    .default_value("120")
+}
+
+/// When threads have colors.
+fn color_argument<'a>(alloc: Global) -> Arg<'a> {
+    option(
+        alloc,
+        "color",
+        "WHEN",
+        "Whether threads have colors; auto: on a terminal alone",
+    )
+    .value_parser(COLORS.as_slice())
+    .default_value("auto")
 }
 
 /// How they look.
 fn with_look<'a>(alloc: Global, command: Command<'a>) -> Result<Command<'a>, AllocError> {
-    let names = Arg::new(alloc, "names")
-        .long("names")
-        .value_name("FILE2")
-        .help("Names and lines of source from a build of the same code, as one with -g");
-    let width = Arg::new(alloc, "width")
-        .long("width")
-        .value_name("N")
-        .help("How many characters a row has room for, 40 to 1000")
-        .value_parser(value_parser!(u32).range(40..1001))
-        .default_value("120");
-    let color = Arg::new(alloc, "color")
-        .long("color")
-        .value_name("WHEN")
-        .help("Whether threads have colors; auto: on a terminal alone")
-        .value_parser(COLORS.as_slice())
-        .default_value("auto");
-    command.arg(names)?.arg(width)?.arg(color)
+    command
+        .arg(option(
+            alloc,
+            "names",
+            "FILE2",
+            "Names and lines of source from a build of the same code, as one with -g",
+        ))?
+        .arg(width_argument(alloc))?
+        .arg(color_argument(alloc))
 }
 
 /// `show FILE RECORD [--lines A-B] [--thread T,..] [--addr A[-B]] [--names FILE2] [--width N] [--color WHEN] [--html OUT]

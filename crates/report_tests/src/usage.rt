@@ -47,7 +47,7 @@ static TOGETHER: [Line; 5] = [
 ];
 
 /// Words of a search that are wrong.
-static SEARCHES: [Line; 4] = [
+static SEARCHES: [Line; 7] = [
     Line {
         module: ADD,
         words: "search a.wasm --invoke f --strategy pct:33",
@@ -76,6 +76,30 @@ static SEARCHES: [Line; 4] = [
         module: ADD,
         words: "search a.wasm --invoke f --runs 0",
         text: "error: invalid value '0' for '--runs <N>': 0 is not in 1..=1000000000000\n\n\
+            For more information, try '--help'.\n",
+        status: 3,
+    },
+    Line {
+        module: ADD,
+        words: "search a.wasm --invoke f --all --states 0",
+        text: "error: invalid value '0' for '--states <N>': 0 is not in 1..=1000000000\n\n\
+            For more information, try '--help'.\n",
+        status: 3,
+    },
+    Line {
+        module: ADD,
+        words: "search a.wasm --invoke f --states 5",
+        text: "error: the following required arguments were not provided:\n\
+            \x20 --all\n\n\
+            Usage: wathread search --invoke <NAME> --all --states <N> <FILE> [ARG]...\n\n\
+            For more information, try '--help'.\n",
+        status: 3,
+    },
+    Line {
+        module: ADD,
+        words: "search a.wasm --invoke f --all --runs 5",
+        text: "error: the argument '--all' cannot be used with '--runs <N>'\n\n\
+            Usage: wathread search --invoke <NAME> --all <FILE> [ARG]...\n\n\
             For more information, try '--help'.\n",
         status: 3,
     },

@@ -75,7 +75,15 @@ fn run_narrow<R: Threads + Wait + Sync>(
     let mut save = Narrow::new(alloc, record, at_once);
     let mut err = Vec::new(alloc);
     let status = perform(
-        rt, alloc, &job, ATOMIC_ADD, b"", &mut lines, &mut err, &mut save,
+        rt,
+        alloc,
+        &job,
+        ATOMIC_ADD,
+        b"",
+        &mut lines,
+        &mut err,
+        &mut save,
+        &mut (),
     );
     if lines.has_front(OUT) && save.has_front(if out < OUT.len() { "" } else { ADDED_TWO }) {
         Ok(Some((err, status)))

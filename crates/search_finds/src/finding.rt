@@ -1,10 +1,13 @@
 //! The first run with an ending that is looked for.
 ghost use Rattle.std.specs.Prelude.{◌≡◌, ◌+◌, ◌<◌, ◌≤◌, ◌^◌, All, IfOk, OnOk, IfSome, MatchOption};
+ghost use Rattle.interp.specs.Threads.{meaning_in};
+ghost use Rattle.search_scheduled.specs.SpareThreads.{AreSpares};
 ghost use Rattle.search_finds.specs.Finds.{IsFind, IsMet, EndsAsLookedFor};
 
 use crate::sought::Sought;
 use search_endings::{Ending, Table, ending_of};
-use search_scheduled::{Made, SearchFault, run_along};
+use search_reach::Follows;
+use search_scheduled::{Made, SearchFault, Spares, run_along, run_with_spares};
 use search_strategies::{Along, MOST_DEPTH, Pct, Random, Way};
 use spawn_host::Call;
 use std::alloc::Global;
@@ -58,30 +61,53 @@ fn plain_entries(
     }
 }
 
-impl Search<'_> {
-    /// Makes a run of this number.
-    fn run(&self, alloc: Global, run: u64) -> Result<Made, SearchFault>
-        ensures { IfOk result (IsFind self.now.«module».now.parts self.now.call self.now.sought.limit) }
+impl<'a> Search<'a> {
+    /// Makes a run of this number, with the threads that the runs before it didn't start.
+    fn run(&self, alloc: Global, run: u64, spares: &mut Spares<'a>) -> Result<Made, SearchFault>
+        requires { AreSpares meaning_in self.now.«module».now.parts self.now.call.fuel spares.old.threads.items }
+        ensures find { IfOk result (IsFind self.now.«module».now.parts self.now.call self.now.sought.limit) }
+        ensures spares { OnOk result (AreSpares meaning_in self.now.«module».now.parts self.now.call.fuel spares.new.threads.items) }
     {
         let sought = &self.sought;
         match sought.way {
             Way::Random => {
                 let mut random = Random::new(sought.seed, run);
-                run_along(alloc, self.module, self.call, sought.limit, &mut random)
+                run_with_spares(
+                    alloc,
+                    self.module,
+                    self.call,
+                    sought.limit,
+                    &mut random,
+                    spares,
+                )
             }
             Way::Priorities(depth) => {
                 let depth = depth.min(MOST_DEPTH);
                 let mut pct = Pct::new(sought.seed, run, depth, self.entries);
-                run_along(alloc, self.module, self.call, sought.limit, &mut pct)
+                run_with_spares(
+                    alloc,
+                    self.module,
+                    self.call,
+                    sought.limit,
+                    &mut pct,
+                    spares,
+                )
             }
         }
     }
 
-    /// The ending of the run of this number.
-    fn ending(&self, alloc: Global, run: u64) -> Result<Ending, SearchFault>
-        ensures { IfOk result (IsMet self.now.«module».now.parts self.now.call self.now.sought.limit self.now.sought.dump) }
+    /// The ending of the run of this number, with the threads that the runs before it didn't start.
+    fn ending(
+        &self,
+        alloc: Global,
+        run: u64,
+        spares: &mut Spares<'a>,
+    ) -> Result<Ending, SearchFault>
+        requires { AreSpares meaning_in self.now.«module».now.parts self.now.call.fuel spares.old.threads.items }
+        ensures met { IfOk result (IsMet self.now.«module».now.parts self.now.call self.now.sought.limit self.now.sought.dump) }
+        ensures spares { OnOk result (AreSpares meaning_in self.now.«module».now.parts self.now.call.fuel spares.new.threads.items) }
     {
-        let made = self.run(alloc, run)?;
+        let made = self.run(alloc, run, spares)?;
         Ok(ending_of(alloc, &made.end, self.sought.dump)?)
     }
 
@@ -90,7 +116,7 @@ impl Search<'_> {
         ensures { IfOk result (λ found. IfSome found (λ f. IsFind self.now.«module».now.parts self.now.call self.now.sought.limit f.made
             × EndsAsLookedFor self.now.sought self.now.sought.dump f.made.end)) }
     {
-        let made = self.run(alloc, run)?;
+        let made = self.run(alloc, run, &mut Spares::new(alloc))?;
         let ending = ending_of(alloc, &made.end, self.sought.dump)?;
         if self.sought.is_ending(alloc, &ending)? {
             Ok(Some(Found { run, made }))
@@ -105,8 +131,10 @@ impl Search<'_> {
             self.now.sought.dump) endings.items) }
     {
         let mut endings = Vec::new(alloc);
+        let mut spares = Spares::new(alloc);
         for n in (0..count).rev() {
-            endings.push(self.ending(alloc, from.saturating_add(n as u64))?)?;
+            let run = from.saturating_add(n as u64);
+            endings.push(self.ending(alloc, run, &mut spares)?)?;
         }
         Ok(endings)
     }
@@ -185,26 +213,28 @@ impl Search<'_> {
         *ahead = self.endings_by(rt, alloc, jobs, run, left)?;
         match ahead.pop() {
             Some(ending) => Ok(ending),
-            None => self.ending(alloc, run),
+            None => self.ending(alloc, run, &mut Spares::new(alloc)),
         }
     }
 }
 
 /// Makes runs of an exported function of a module in the order of their numbers, by so many threads, and notes the ending of each, up to
-/// the first that is looked for. Run number I of a seed is the same run, whoever makes it, and so is what is found.
+/// the first that is looked for. Run number I of a seed is the same run, whoever makes it, and so is what is found. The follower hears
+/// of each how many were made, with how many endings.
 ///
 /// Each ending of the table is one of a run of the module by the call, and so is what is found: it ends as is looked for. Where nothing
 /// is found, all runs were made.
 ///
 /// # Errors
 /// As of `run_along`.
-pub fn first_found<R: Threads + Sync>(
+pub fn first_found<R: Threads + Sync, F: Follows>(
     rt: &R,
     alloc: Global,
     module: &ValidModule,
     call: Call,
     sought: &Sought,
     jobs: usize,
+    follower: &mut F,
 ) -> Result<Searched, SearchFault>
     requires { sought.now.from + sought.now.runs < 2 ^ 64 }
     ensures met { IfOk result (λ s. All (λ met. IsMet «module».now.parts call.entry sought.now.limit sought.now.dump met.ending)
@@ -225,6 +255,7 @@ pub fn first_found<R: Threads + Sync>(
         let ending = search.next_ending(rt, alloc, jobs, run, end - run, &mut ahead)?;
         let is_sought = sought.is_ending(alloc, &ending)?;
         table.note(run, ending)?;
+        follower.runs(table.runs, table.met.len());
         if is_sought && let Some(found) = search.found(alloc, run)? {
             return Ok(Searched {
                 table,

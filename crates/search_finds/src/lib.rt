@@ -5,17 +5,20 @@
 //! - `first_found` makes them one by one and notes their endings, up to the first that is looked for.
 //! - `shrunk` tries parts of that run's schedule; a run that ends alike with fewer switches, or with as many and fewer entries, takes
 //!   its place.
+//! - `run_to` follows choices to an ending: it answers a run only where that ends so.
 //!
 //! All runs are `search_scheduled::run_along`'s: so what is found, and what becomes of it, is a run of the module (`IsFind`,
 //! specs/Finds.antt).
 #![tactic(auto)]
 
 mod finding;
+mod following;
 mod shrinking;
 mod size;
 mod sought;
 
 pub use finding::{Found, Searched, first_found};
+pub use following::run_to;
 pub use shrinking::shrunk;
 pub use size::{Size, size_of};
 pub use sought::Sought;

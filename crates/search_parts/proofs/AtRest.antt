@@ -1,13 +1,13 @@
 -- Who is at rest stays there, and who awaits an answer is at rest.
-use Rattle.std.specs.Prelude.{ℕ, zero, suc, ◌≡◌, Option, Some, None}
-use Rattle.std.proofs.Common.{refl, sym, subst}
+use Rattle.std.specs.Prelude.{ℕ, zero, suc, ◌≡◌, ◌<◌, Option, Some, None}
+use Rattle.std.proofs.Common.{refl, sym, subst, arith}
 use Rattle.validate_typing.specs.Tabled.{WithTables}
 use Rattle.types.specs.declared.event.Answer.{Answer}
 use Rattle.schedule.specs.System.{Want.Turns, Want.Awaits}
 use Rattle.schedule.specs.Scheduled.{hears_any}
-use Rattle.search_settled.specs.Settled.{ComesTo, Settles}
+use Rattle.search_settled.specs.Settled.{ComesTo, Settles, MakesTurns}
 use Rattle.search_runs.specs.Called.{Called, Walker, system_of}
-use Rattle.search_walkers.specs.Walkers.{RestsAt}
+use Rattle.search_walkers.specs.Walkers.{RestsAt, patience}
 use Rattle.search_walkers.specs.declared.walker.Standing.{Standing}
 use Rattle.search_parts.specs.Parts.{IsRested}
 
@@ -45,3 +45,27 @@ joined w b v own s at None awaits then = record {
 }
 joined w b v own s at (Some a) awaits then =
     subst (λ (u : Walker). RestsAt w b ((system_of b).hears u a) s) (sym (stays b v at.rested at.settles (awaits a refl))) then
+
+-- who makes turns of its own wants one, so it is given no answer
+turns_at_once : (b : Called) (count : ℕ) (v : Walker) → 0 < count → MakesTurns (system_of b) count v → (system_of b).wants v ≡ Turns
+turns_at_once b zero v some makes = absurd (omega (arith, some))
+turns_at_once b (suc count) v some makes = makes.comes.0
+
+some_patience : 0 < patience
+unfolding patience
+some_patience = omega arith
+
+pub never_told : (b : Called) (v : Walker) (o : Option Answer) → ((a : Answer) → o ≡ Some a → (system_of b).wants v ≡ Awaits)
+    → MakesTurns (system_of b) patience v → MakesTurns (system_of b) patience (hears_any (system_of b) v o)
+never_told b v None awaits makes = makes
+never_told b v (Some a) awaits makes =
+    let turns = turns_at_once b patience v some_patience makes in
+    let waits = awaits a refl in absurd (cc (turns, waits))
+
+-- who came to rest, and makes so many turns with the answer that it is given, makes them from the first
+pub joined_turns : (w : WithTables) (b : Called) (v : Walker) (own : Standing) (at : RestsAt w b v own) (o : Option Answer)
+    → ((a : Answer) → o ≡ Some a → (system_of b).wants v ≡ Awaits) → MakesTurns (system_of b) patience (hears_any (system_of b) at.rested o)
+    → MakesTurns (system_of b) patience (hears_any (system_of b) v o)
+joined_turns w b v own at None awaits makes = absurd (at.settles.rests (turns_at_once b patience at.rested some_patience makes))
+joined_turns w b v own at (Some a) awaits makes =
+    subst (λ (u : Walker). MakesTurns (system_of b) patience ((system_of b).hears u a)) (sym (stays b v at.rested at.settles (awaits a refl))) makes

@@ -2,3 +2,5 @@ pub mod Bounds
 pub mod Events
 pub mod AtRest
 pub mod Opened
+pub mod Leaving
+pub mod Untouching

@@ -1,10 +1,10 @@
 -- The opening memory without changes, and the first queue without answers.
 use Rattle.std.specs.Prelude.{ℕ, ◌≡◌, ◌-◌, ◌++◌, List, [], length, take, replicate, fold, Option, None}
-use Rattle.std.proofs.Common.{refl, sym, ap, ◌∙◌, arith}
+use Rattle.std.proofs.Common.{ap, ◌∙◌, arith}
 use Rattle.std.proofs.lemmas.List.{take_all, append-nil, length-replicate}
 use Rattle.types.specs.declared.event.Answer.{Answer}
 use Rattle.shared_memory.specs.Memory.{Memory}
-use Rattle.shared_memory.specs.WaitQueue.{WaitQueue, first_queue}
+use Rattle.shared_memory.specs.WaitQueue.{first_queue}
 use Rattle.waiters.specs.Kept.{without_answers}
 use Rattle.search_memory.specs.declared.beside.Change.{Change}
 use Rattle.search_memory.specs.Memories.{padded, with_change}

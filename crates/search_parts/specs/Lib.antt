@@ -1,2 +1,5 @@
 pub mod Sharing
 pub mod Parts
+pub mod Endings
+pub mod Equal
+pub mod Untouched

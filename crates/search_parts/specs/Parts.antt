@@ -1,5 +1,5 @@
 -- Threads at rest, and what comes of one after an event of another.
-use Rattle.std.specs.Prelude.{ℕ, ◌≡◌, List, [], ◌∷◌, Option, Some, None}
+use Rattle.std.specs.Prelude.{ℕ, ◌≡◌, ◌⊎◌, List, [], ◌∷◌, Option, Some, None}
 use Rattle.types.specs.declared.value.ValType.TheVariants as types
 use Rattle.types.specs.declared.value.Value.{Value}
 use Rattle.types.specs.declared.value.Value.TheVariants as values
@@ -13,9 +13,12 @@ use Rattle.schedule.specs.System as systems
 use Rattle.schedule_threads.specs.Shared.{Shared}
 use Rattle.interp_machine.specs.Config.{Config}
 use Rattle.interp.specs.Starts.{IsFunction, start_of}
+use Rattle.interp_trait.specs.Turns.{spawned_in}
+use Rattle.search_threads.specs.Unlimited.{Unlimited.Going}
+use Rattle.search_settled.specs.Settled.{MakesTurns}
 use Rattle.search_runs.specs.Called.{Called, Walker as Thread, system_of}
 use Rattle.search_runs.specs.Theorems.{CanReach}
-use Rattle.search_walkers.specs.Walkers.{IsOf, StandsFor}
+use Rattle.search_walkers.specs.Walkers.{IsOf, StandsFor, patience}
 use Rattle.search_walkers.specs.declared.walker.Standing.{Standing}
 use Rattle.search_parts.specs.Sharing.{Shares, Makes}
 use Rattle.search_parts.specs.declared.shared.Common.{Common}
@@ -56,3 +59,9 @@ pub record IsAfter (w : WithTables) (worker : Option ℕ) (made : Made) (n : ℕ
   pub calls : (system_of b).wants (z.threads n) ≡ Calls e
   pub makes : Makes made z.shared n e
   pub rested : IsRested w b s (z.threads m)
+
+-- Nothing can be told of thread m: it makes a million turns of its own, or it begins and no function is known that it calls.
+abbrev pub IsLost : Option ℕ → Called → systems.State Shared Thread → ℕ → Type 0
+IsLost worker b z m =
+    MakesTurns (system_of b) patience (z.threads m)
+    ⊎ ((worker ≡ None) × (arg : ℕ) × (z.threads m ≡ Going (spawned_in b.worker m arg)))

@@ -1,15 +1,22 @@
-//! The parts of a state of a search: what a module's threads share, and each of them at rest; and what an event makes of them.
+//! The parts of a state of a search: what a module's threads share, and each of them at rest; what an event makes of them, and how
+//! they have ended.
 #![tactic(auto)]
 
 mod digest;
+mod ended;
 mod event;
 mod opening;
 mod resting;
 mod shared;
+mod shared_walker;
 mod stepping;
+mod untouched;
 
+pub use ended::{Ending, ending_of, equal_endings_are_the_same};
 pub use event::{Begun, Made};
 pub use opening::{first_common, first_threads};
 pub use resting::rest_after;
 pub use shared::{Common, Walker};
+pub use shared_walker::SharedWalker;
 pub use stepping::make_event;
+pub use untouched::is_untouched;

@@ -9,8 +9,10 @@ ghost use Rattle.types.specs.Values.{type_of};
 ghost use Rattle.shared_memory.specs.WaitQueue.{first_queue};
 ghost use Rattle.shared_memory_sequential.specs.Opening.{IsSized};
 ghost use Rattle.search_parts.specs.Sharing.{Shares};
+ghost use Rattle.search_parts.specs.declared.shared.Walker.{Walker};
 
-use crate::shared::{Common, Walker};
+use crate::shared::Common;
+use crate::shared_walker::SharedWalker;
 use search_memory::Changes;
 use search_walkers::Standing;
 use std::alloc::{AllocError, Global};
@@ -18,13 +20,14 @@ use types::{MOST_SPAWNED, MOST_THREADS};
 use waiters::Queue;
 
 /// The threads that weren't started.
-fn missing_threads(alloc: Global) -> Result<Vec<Walker>, AllocError>
+fn missing_threads(alloc: Global) -> Result<Vec<SharedWalker>, AllocError>
     ensures count { IfOk result (λ v. vec_len v + 1 ≡ most_threads) }
     ensures missing { IfOk result (λ v. All (λ (t : Walker). t.standing ≡ Standing.Missing) v.items) }
 {
+    let missing = SharedWalker::new(alloc, Standing::Missing)?;
     let mut threads = Vec::new(alloc);
     for _ in 0..MOST_SPAWNED {
-        threads.push(Walker::new(Standing::Missing))?;
+        threads.push(missing.share()?)?;
     }
     Ok(threads)
 }
@@ -33,13 +36,13 @@ fn missing_threads(alloc: Global) -> Result<Vec<Walker>, AllocError>
 ///
 /// # Errors
 /// Where memory is refused.
-pub fn first_threads(alloc: Global, main: Standing) -> Result<Vec<Walker>, AllocError>
+pub fn first_threads(alloc: Global, main: Standing) -> Result<Vec<SharedWalker>, AllocError>
     ensures count { IfOk result (λ v. vec_len v ≡ most_threads) }
     ensures first { IfOk result (λ v. (t : Walker) → slice_get v.items 0 ≡ Some t → t.standing ≡ main) }
     ensures others { IfOk result (λ v. (m : ℕ) (t : Walker) → slice_get v.items (suc m) ≡ Some t → t.standing ≡ Standing.Missing) }
 {
     let mut threads = missing_threads(alloc)?;
-    threads.insert(0, Walker::new(main))?;
+    threads.insert(0, SharedWalker::new(alloc, main)?)?;
     Ok(threads)
 }
 

@@ -1,6 +1,6 @@
 //! Where a thread comes to rest after an event of another, or of its own.
 
-ghost use Rattle.std.specs.Prelude.{◌≡◌, ◌<◌, ℕ, List, Some, IfOk, IfSome};
+ghost use Rattle.std.specs.Prelude.{◌≡◌, ◌<◌, ◌⊎◌, ℕ, List, Some, None, IfOk, IfSome};
 ghost use Rattle.types.specs.declared.event.Event.{Event};
 ghost use Rattle.types.specs.declared.value.Value as numbers;
 ghost use Rattle.types.specs.declared.event.Answer as answers;
@@ -11,9 +11,10 @@ ghost use Rattle.schedule_threads.specs.Shared.{Shared};
 ghost use Rattle.interp_machine.specs.Config.{Config};
 ghost use Rattle.interp_trait.specs.Turns.{spawned_in};
 ghost use Rattle.search_threads.specs.Unlimited.{Unlimited.Going};
+ghost use Rattle.search_settled.specs.Settled.{MakesTurns};
 ghost use Rattle.search_runs.specs.Called.{Called, Walker as Thread, system_of, reply_by};
-ghost use Rattle.search_walkers.specs.Walkers.{IsOf, RestsAt};
-ghost use Rattle.search_parts.specs.Parts.{AreWorkers, IsRested, IsAfter};
+ghost use Rattle.search_walkers.specs.Walkers.{IsOf, RestsAt, patience};
+ghost use Rattle.search_parts.specs.Parts.{AreWorkers, IsRested, IsAfter, IsLost};
 
 use crate::event::{Begun, Made};
 use search_walkers::{Standing, begin, hear, take};
@@ -21,7 +22,8 @@ use std::alloc::{AllocError, Global};
 use types::{Answer, Value};
 use validate::ValidModule;
 
-/// Where a thread that a spawn starts first comes to rest, or nothing where that can't be told.
+/// Where a thread that a spawn starts first comes to rest, or nothing where it makes more turns of its own than there is patience
+/// for, or no function is known for it.
 fn started(
     alloc: Global,
     valid: &ValidModule,
@@ -29,8 +31,10 @@ fn started(
     begun: Begun,
 ) -> Result<Option<Standing>, AllocError>
     requires { (f : List numbers.Value → Config) × AreWorkers valid.now.parts f worker }
-    ensures { IfOk result (λ o. IfSome o (λ s. (b : Called) → IsOf b valid.now → AreWorkers valid.now.parts b.worker worker
+    ensures rests { IfOk result (λ o. IfSome o (λ s. (b : Called) → IsOf b valid.now → AreWorkers valid.now.parts b.worker worker
         → RestsAt valid.now b (Going (spawned_in b.worker begun.id begun.arg)) s)) }
+    ensures gives_up { IfOk result (λ o. o ≡ None → (b : Called) → IsOf b valid.now → AreWorkers valid.now.parts b.worker worker
+        → MakesTurns (system_of b) patience (Going (spawned_in b.worker begun.id begun.arg)) ⊎ (worker ≡ None)) }
 {
     let Some(own) = worker else {
         return Ok(None);
@@ -42,7 +46,8 @@ fn started(
     Ok(Some(standing))
 }
 
-/// Where a thread at rest comes to rest with the answer that it is given, if it is given one.
+/// Where a thread at rest comes to rest with the answer that it is given, if it is given one; or nothing where it makes more turns of
+/// its own then than there is patience for.
 fn told(
     alloc: Global,
     valid: &ValidModule,
@@ -51,9 +56,12 @@ fn told(
 ) -> Result<Option<Standing>, AllocError>
     requires { (b : Called) × (v : Thread) × IsOf b valid.now × IsRested valid.now b standing v
         × ((a : answers.Answer) → answer ≡ Some a → (system_of b).wants v ≡ Awaits) }
-    ensures { IfOk result (λ o. IfSome o (λ s. (b : Called) (v : Thread) → IsOf b valid.now → IsRested valid.now b standing v
+    ensures rests { IfOk result (λ o. IfSome o (λ s. (b : Called) (v : Thread) → IsOf b valid.now → IsRested valid.now b standing v
         → ((a : answers.Answer) → answer ≡ Some a → (system_of b).wants v ≡ Awaits)
         → RestsAt valid.now b (hears_any (system_of b) v answer) s)) }
+    ensures gives_up { IfOk result (λ o. o ≡ None → (b : Called) (v : Thread) → IsOf b valid.now → IsRested valid.now b standing v
+        → ((a : answers.Answer) → answer ≡ Some a → (system_of b).wants v ≡ Awaits)
+        → MakesTurns (system_of b) patience (hears_any (system_of b) v answer)) }
 {
     let Some(answer) = answer else {
         return Ok(Some(standing));
@@ -64,7 +72,8 @@ fn told(
     Ok(Some(after))
 }
 
-/// Where thread m comes to rest with the reply to the event of thread n, if it is its own.
+/// Where thread m comes to rest with the reply to the event of thread n, if it is its own; or nothing where it makes more turns of
+/// its own then than there is patience for.
 fn replied(
     alloc: Global,
     valid: &ValidModule,
@@ -75,9 +84,12 @@ fn replied(
     m: usize,
 ) -> Result<Option<Standing>, AllocError>
     requires { (b : Called) × (z : State Shared Thread) × (e : Event) × IsAfter valid.now worker made.now n standing.now m b z e }
-    ensures { IfOk result (λ o. IfSome o (λ s. (b : Called) (z : State Shared Thread) (e : Event)
+    ensures rests { IfOk result (λ o. IfSome o (λ s. (b : Called) (z : State Shared Thread) (e : Event)
         → IsAfter valid.now worker made.now n standing.now m b z e
         → RestsAt valid.now b (put z.threads n ((system_of b).takes (z.threads n) (reply_by z.shared n e)) m) s)) }
+    ensures gives_up { IfOk result (λ o. o ≡ None → (b : Called) (z : State Shared Thread) (e : Event)
+        → IsAfter valid.now worker made.now n standing.now m b z e
+        → MakesTurns (system_of b) patience (put z.threads n ((system_of b).takes (z.threads n) (reply_by z.shared n e)) m)) }
 {
     if n == m {
         let Some(taken) = take(alloc, valid, standing, made.reply)? else {
@@ -88,8 +100,8 @@ fn replied(
     Ok(Some(standing.copy(alloc)?))
 }
 
-/// Where thread m comes to rest after an event of thread n, or nothing where that can't be told: since it has spent its units
-/// before, or since it begins and no function is known for that.
+/// Where thread m comes to rest after an event of thread n; or nothing where it makes more turns of its own then than there is
+/// patience for, or where it begins and no function is known for that.
 ///
 /// # Errors
 /// Where memory is refused.
@@ -104,9 +116,12 @@ pub fn rest_after(
 ) -> Result<Option<Standing>, AllocError>
     requires after { (b : Called) × (z : State Shared Thread) × (e : Event) × IsAfter valid.now worker made.now n standing.now m b z e }
     requires few { m < most_threads }
-    ensures { IfOk result (λ o. IfSome o (λ s. (b : Called) (z : State Shared Thread) (e : Event)
+    ensures rests { IfOk result (λ o. IfSome o (λ s. (b : Called) (z : State Shared Thread) (e : Event)
         → IsAfter valid.now worker made.now n standing.now m b z e
         → RestsAt valid.now b ((after_event (system_of b) z n e).threads m) s)) }
+    ensures gives_up { IfOk result (λ o. o ≡ None → (b : Called) (z : State Shared Thread) (e : Event)
+        → IsAfter valid.now worker made.now n standing.now m b z e
+        → IsLost worker b (after_event (system_of b) z n e) m) }
 {
     if let Some(begun) = made.begun {
         if begun.id as usize == m {

@@ -1,7 +1,7 @@
 -- How the endings are gathered.
-use Rattle.std.specs.Prelude.{◌≡◌, ◌+◌, ◌<◌, ◌⊎◌, ℕ, Bool, true, false, List, [], ◌∷◌, ◌++◌, length, take, get_or, Contains, Option, Some, None, refl, if◌then◌else◌}
+use Rattle.std.specs.Prelude.{◌≡◌, ◌+◌, ◌<◌, ◌≤◌, ◌⊎◌, ℕ, Bool, true, false, List, [], ◌∷◌, ◌++◌, length, take, get_or, Contains, Option, Some, None, refl, if◌then◌else◌}
 use Rattle.std.proofs.Common.{ap, subst, sym, ◌∙◌, inl, inr}
-use Rattle.std.proofs.lemmas.List.{take_more}
+use Rattle.std.proofs.lemmas.List.{take_more, take_all}
 use Rattle.std.proofs.lemmas.List.Elements.{Contains-push, Contains-push_cases}
 use Rattle.std.proofs.lemmas.Option.{none-some}
 use Rattle.std.specs.List.{list_any}
@@ -66,6 +66,10 @@ module _ {E : Type 0} (eq : E → E → Bool) (self : (e : E) → eq e e ≡ tru
       all = all-more ks i s es es h is d.all (Begins-self es) (λ w e t x. absurd (none-some e (sym q ∙ n.all w e t x)));
       sound = d.sound;
     })
+
+    -- The last one was looked at.
+    pub ended-all : (ks : List S) (i : ℕ) (es : List E) → Goes-on ks i es → length ks ≤ i → AllEnds stands ends eq ks es
+    ended-all ks i es d h s c = d.all s (subst (λ l. Contains l s) (sym (take_all i ks h)) c)
 
 module _ {S W E : Type 0} (stands : S → W → Type 0) (steps : W → W → Type 0) (begins : W → Type 0) (ends : W → E → Type 0) (eq : E → E → Bool) where
   -- The endings of all states are all.

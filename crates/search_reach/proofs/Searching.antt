@@ -9,7 +9,7 @@ use Rattle.std.proofs.lemmas.Option.{slice_get_within, get_or_from_slice_get, no
 use Rattle.std.specs.List.{list_any}
 use Rattle.indexmap.specs.IndexSet.{insert_key, insert_all}
 use Rattle.search_reach.specs.Paths.{Goes}
-use Rattle.search_reach.specs.Search.{Covers, AreNext, IsFirst, IsMet, IsAll, Explored}
+use Rattle.search_reach.specs.Search.{Covers, AreNext, IsFirst, IsMet, IsAll, Explored, GetsStuck, CanGetStuck}
 use Rattle.search_reach.proofs.Paths.{stays, onward}
 
 outside : {S : Type 0} (ks : List S) (i : ℕ) → i < length ks → slice_get ks i ≡ None → ⊥
@@ -198,3 +198,15 @@ module _ {S W : Type 0} (stands : S → W → Type 0) (steps : W → W → Type 
   -- What it takes up was met.
   pub explored-is_met : (ks : List S) (i : ℕ) (s : S) → Explored stands steps begins ks i → slice_get ks i ≡ Some s → IsMet stands steps begins s
   explored-is_met ks i s e at = e.sound s (i, slice_get_within ks i s at, get_or_from_slice_get ks i s s at)
+
+  -- Where nothing can be told of what one of them stands for.
+  pub explored-stuck : (stuck : W → Type 0) (ks : List S) (i : ℕ) (s : S) → Explored stands steps begins ks i → slice_get ks i ≡ Some s
+      → ((w : W) → stands s w → GetsStuck steps stuck w) → CanGetStuck steps stuck begins
+  explored-stuck stuck ks i s e at gives_up =
+      let met = explored-is_met ks i s e at in
+      let gets = gives_up met.comes.end met.comes.is in
+      record {
+        from = met.from;
+        begun = met.begun;
+        gets = record { end = gets.end; path = onward steps met.from met.comes.end gets.end met.comes.path gets.path; is = gets.is };
+      }

@@ -16,6 +16,19 @@ module _ {W E : Type 0} (steps : W → W → Type 0) (ends : W → E → Type 0)
     pub path : Reaches steps w end
     pub is : ends end e
 
+module _ {W : Type 0} (steps : W → W → Type 0) (stuck : W → Type 0) where
+  -- Something that can be reached from w is one of which nothing can be told.
+  pub record GetsStuck (w : W) : Type 0 where
+    pub end : W
+    pub path : Reaches steps w end
+    pub is : stuck end
+
+  -- Something that can be reached is.
+  pub record CanGetStuck (begins : W → Type 0) : Type 0 where
+    pub from : W
+    pub begun : begins from
+    pub gets : GetsStuck from
+
 module _ {S W : Type 0} (stands : S → W → Type 0) (steps : W → W → Type 0) where
   -- The state stands for something that can be reached from w.
   pub record Comes (w : W) (s : S) : Type 0 where

@@ -1,29 +1,58 @@
 //! How the states that were met have ended.
-ghost use Rattle.std.specs.Prelude.{◌≡◌, IfOk};
-ghost use Rattle.search_reach.specs.Search.{IsSound, AllEnds, AreEnds, HasAllEnds};
+ghost use Rattle.std.specs.Prelude.{◌≡◌, ◌<◌, IfOk, OnOk, length, vec_len};
+ghost use Rattle.indexmap.specs.IndexSet.{index_set_len, insert_key};
+ghost use Rattle.search_reach.specs.Search.{IsSound, AllEnds, AreEnds, HasAllEnds, CanGetStuck};
 
-use crate::{Explores, Verdict, reach_all};
+use crate::path::paths_to;
+use crate::{Explores, Follows, Verdict, reach_all};
 use indexmap::IndexSet;
 use std::alloc::{AllocError, Global};
 use std::hash::Hash;
+
+/// The endings of states, each once, and for each the index of the first state that has ended so.
+#[derive(Drop)]
+pub struct Listed<E: Eq + Hash> {
+    pub endings: IndexSet<E>,
+    pub firsts: Vec<usize>,
+}
+
+/// Adds the ending of the state of this index, and notes that index where the ending is new.
+fn add_ending<E: Eq + Hash + Drop>(
+    endings: &mut IndexSet<E>,
+    firsts: &mut Vec<usize>,
+    at: usize,
+    ending: E,
+) -> Result<(), AllocError>
+    requires { vec_len firsts.old ≡ index_set_len endings.old }
+    ensures added { OnOk result (endings.new.keys ≡ insert_key E.eq endings.old.keys ending) }
+    ensures firsts { OnOk result (vec_len firsts.new ≡ index_set_len endings.new) }
+{
+    let is_new = endings.insert(ending)?;
+    if is_new {
+        firsts.push(at)?;
+    }
+    Ok(())
+}
 
 /// The endings of these states, each once, in the order of their first states.
 pub fn endings<T: Explores>(
     alloc: Global,
     system: &T,
     met: &[T::State],
-) -> Result<IndexSet<T::Ending>, AllocError>
+) -> Result<Listed<T::Ending>, AllocError>
     requires { IsSound (T.stands system.now) (T.steps system.now) (T.begins system.now) met.now }
-    ensures all { IfOk result (λ es. AllEnds (T.stands system.now) (T.ends system.now) T.Ending.eq met.now es.keys) }
-    ensures sound { IfOk result (λ es. AreEnds (T.steps system.now) (T.begins system.now) (T.ends system.now) es.keys) }
+    ensures all { IfOk result (λ r. AllEnds (T.stands system.now) (T.ends system.now) T.Ending.eq met.now r.endings.keys) }
+    ensures sound { IfOk result (λ r. AreEnds (T.steps system.now) (T.begins system.now) (T.ends system.now) r.endings.keys) }
+    ensures firsts { IfOk result (λ r. vec_len r.firsts ≡ index_set_len r.endings) }
 {
-    let mut all = IndexSet::new(alloc);
-    for state in met {
+    let mut endings = IndexSet::new(alloc);
+    let mut firsts = Vec::new(alloc);
+    for (at, state) in met.iter().enumerate() {
         if let Some(ending) = system.ending(alloc, state)? {
-            all.insert(ending)?;
+            add_ending(&mut endings, &mut firsts, at, ending)?;
         }
     }
-    Ok(all)
+    Ok(Listed { endings, firsts })
 }
 
 /// What was found of a system's endings.
@@ -31,6 +60,9 @@ pub fn endings<T: Explores>(
 pub struct Ended<E: Eq + Hash> {
     /// The endings, each once.
     pub endings: IndexSet<E>,
+    /// For each ending a way to it from the first state: which of the next states of each is the next one. No clause says that it
+    /// leads there: it is a hint, to be judged by whoever follows it.
+    pub paths: Vec<Vec<usize>>,
     /// How many states were met.
     pub states: usize,
     /// Whether these are all.
@@ -38,19 +70,26 @@ pub struct Ended<E: Eq + Hash> {
 }
 
 /// The endings of a system, of which it meets no more than `most` states and a few.
-pub fn all_endings<T: Explores>(
+pub fn all_endings<T: Explores, F: Follows>(
     alloc: Global,
     system: &T,
     most: usize,
+    follower: &mut F,
 ) -> Result<Ended<T::Ending>, AllocError>
     ensures all { IfOk result (λ r. r.verdict ≡ Verdict.All
         → HasAllEnds (T.steps system.now) (T.begins system.now) (T.ends system.now) T.Ending.eq r.endings.keys) }
     ensures sound { IfOk result (λ r. AreEnds (T.steps system.now) (T.begins system.now) (T.ends system.now) r.endings.keys) }
+    ensures paths { IfOk result (λ r. vec_len r.paths ≡ index_set_len r.endings) }
+    ensures bound { IfOk result (λ r. r.verdict ≡ Verdict.TooMany → most < r.states) }
+    ensures gives_up { IfOk result (λ r. r.verdict ≡ Verdict.CannotTell
+        → CanGetStuck (T.steps system.now) (T.stuck system.now) (T.begins system.now)) }
 {
-    let found = reach_all(alloc, system, most)?;
-    let endings = endings(alloc, system, found.met.as_slice())?;
+    let found = reach_all(alloc, system, most, follower)?;
+    let listed = endings(alloc, system, found.met.as_slice())?;
+    let paths = paths_to(alloc, found.from.as_slice(), listed.firsts.as_slice())?;
     Ok(Ended {
-        endings,
+        endings: listed.endings,
+        paths,
         states: found.met.len(),
         verdict: found.verdict,
     })

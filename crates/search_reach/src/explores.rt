@@ -1,6 +1,6 @@
 //! A system whose states can be gone through.
-ghost use Rattle.std.specs.Prelude.{◌≡◌, true, Option, IfOk, IfSome};
-ghost use Rattle.search_reach.specs.Search.{AreNext, IsFirst, IsMet, IsEnding};
+ghost use Rattle.std.specs.Prelude.{◌≡◌, true, Option, None, IfOk, IfSome};
+ghost use Rattle.search_reach.specs.Search.{AreNext, IsFirst, IsMet, IsEnding, GetsStuck, CanGetStuck};
 
 use std::alloc::{AllocError, Global};
 use std::hash::Hash;
@@ -28,9 +28,13 @@ pub trait Explores {
     /// How an abstract state has ended.
     ghost ends: { Self → World → Self.Ending → Type 0 };
 
+    /// Of which abstract states it cannot tell what comes of them.
+    ghost stuck: { Self → World → Type 0 };
+
     /// The first state, or nothing where it cannot tell it.
     fn first(&self, alloc: Global) -> Result<Option<Self::State>, AllocError>
-        ensures { IfOk result (λ o. IfSome o (IsFirst (stands self.now) (steps self.now) (begins self.now))) };
+        ensures first { IfOk result (λ o. IfSome o (IsFirst (stands self.now) (steps self.now) (begins self.now))) }
+        ensures gives_up { IfOk result (λ o. o ≡ None → CanGetStuck (steps self.now) (stuck self.now) (begins self.now)) };
 
     /// The next states of a state, or nothing where it cannot tell them.
     fn next(
@@ -39,7 +43,9 @@ pub trait Explores {
         state: &Self::State,
     ) -> Result<Option<Vec<Self::State>>, AllocError>
         requires { IsMet (stands self.now) (steps self.now) (begins self.now) state.now }
-        ensures { IfOk result (λ o. IfSome o (λ v. AreNext (stands self.now) (steps self.now) state.now v.items)) };
+        ensures next { IfOk result (λ o. IfSome o (λ v. AreNext (stands self.now) (steps self.now) state.now v.items)) }
+        ensures gives_up { IfOk result (λ o. o ≡ None → (w : World) → stands self.now state.now w
+            → GetsStuck (steps self.now) (stuck self.now) w) };
 
     /// How a state has ended, where it has.
     fn ending(&self, alloc: Global, state: &Self::State) -> Result<Option<Self::Ending>, AllocError>

@@ -1,9 +1,9 @@
 //! The search.
 ghost use Rattle.std.specs.Prelude.{◌≡◌, ◌<◌, IfOk, OnOk, vec_len};
 ghost use Rattle.indexmap.specs.IndexSet.{index_set_len, insert_all};
-ghost use Rattle.search_reach.specs.Search.{IsAll, IsSound};
+ghost use Rattle.search_reach.specs.Search.{IsAll, IsSound, CanGetStuck};
 
-use crate::Explores;
+use crate::{Explores, Follows};
 use indexmap::IndexSet;
 use std::alloc::{AllocError, Global};
 use std::hash::Hash;
@@ -19,22 +19,29 @@ pub enum Verdict {
     CannotTell,
 }
 
+/// How a state was met first: from the state of which index, and which of its next ones it was.
+#[derive(Clone, Copy, PartialEq, Eq, Debug)]
+pub struct Step {
+    pub state: usize,
+    pub choice: usize,
+}
+
 /// What a search found.
 #[derive(Drop)]
 pub struct Found<S: Eq + Hash> {
     /// The states that it met, each once, in the order of their meeting.
     pub met: IndexSet<S>,
-    /// For each, the index of the one from which it was met first. No clause says so: it is a hint at a path, to be judged by
-    /// whoever follows it.
-    pub from: Vec<usize>,
+    /// For each how it was met first; for the first one two zeros. No clause says so: it is a hint at a path, to be judged by whoever
+    /// follows it.
+    pub from: Vec<Step>,
     /// Whether these are all.
     pub verdict: Verdict,
 }
 
-/// Adds states that were reached from the one of this index, and notes so of each that is new.
+/// Adds the next states of the one of this index, and notes of each that is new how it was met.
 fn add_all<S: Eq + Hash + Drop>(
     met: &mut IndexSet<S>,
-    from: &mut Vec<usize>,
+    from: &mut Vec<Step>,
     at: usize,
     after: Vec<S>,
 ) -> Result<(), AllocError>
@@ -42,26 +49,32 @@ fn add_all<S: Eq + Hash + Drop>(
     ensures met { OnOk result (met.new.keys ≡ insert_all S.eq met.old.keys after.items) }
     ensures from { OnOk result (vec_len from.new ≡ index_set_len met.new) }
 {
+    let mut choice: usize = 0;
     for state in after {
         let is_new = met.insert(state)?;
         if is_new {
-            from.push(at)?;
+            from.push(Step { state: at, choice })?;
         }
+        choice = choice.saturating_add(1);
     }
     Ok(())
 }
 
-/// Goes through the states of a system, until there are no more or it has met more than `most`.
-pub fn reach_all<T: Explores>(
+/// Goes through the states of a system, until there are no more or it has met more than `most`. The follower hears of each how many
+/// were met.
+pub fn reach_all<T: Explores, F: Follows>(
     alloc: Global,
     system: &T,
     most: usize,
+    follower: &mut F,
 ) -> Result<Found<T::State>, AllocError>
     ensures all { IfOk result (λ f. f.verdict ≡ Verdict.All
         → IsAll (T.stands system.now) (T.steps system.now) (T.begins system.now) f.met.keys) }
     ensures sound { IfOk result (λ f. IsSound (T.stands system.now) (T.steps system.now) (T.begins system.now) f.met.keys) }
     ensures from { IfOk result (λ f. vec_len f.from ≡ index_set_len f.met) }
     ensures bound { IfOk result (λ f. f.verdict ≡ Verdict.TooMany → most < index_set_len f.met) }
+    ensures gives_up { IfOk result (λ f. f.verdict ≡ Verdict.CannotTell
+        → CanGetStuck (T.steps system.now) (T.stuck system.now) (T.begins system.now)) }
 {
     let mut met = IndexSet::new(alloc);
     let mut from = Vec::new(alloc);
@@ -73,7 +86,10 @@ pub fn reach_all<T: Explores>(
         });
     };
     met.insert(first)?;
-    from.push(0)?;
+    from.push(Step {
+        state: 0,
+        choice: 0,
+    })?;
     let mut at: usize = 0;
     while let Some(state) = met.get_index(at) {
         if most < met.len() {
@@ -91,6 +107,7 @@ pub fn reach_all<T: Explores>(
             });
         };
         add_all(&mut met, &mut from, at, after)?;
+        follower.states(met.len());
         at += 1;
     }
     Ok(Found {

@@ -1,1 +1,4 @@
 pub mod Rebased
+pub mod SpareLaws
+pub mod Beginnings
+pub mod Unused

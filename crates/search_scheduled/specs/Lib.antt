@@ -1,1 +1,3 @@
 pub mod Headers
+pub mod SpareThreads
+pub mod Faults

@@ -1,11 +1,13 @@
 //! What a course has come to.
-ghost use Rattle.std.specs.Prelude.{◌≡◌, IfOk};
+ghost use Rattle.std.specs.Prelude.{◌≡◌, drop, IfOk, IfErr, All};
 ghost use Rattle.shared_memory.specs.Memory.{Memory};
 ghost use Rattle.replay_text.specs.declared.parts.RecordParts.{RecordParts};
 ghost use Rattle.replay_rules.specs.Recorded.{IsRecordedRun};
 ghost use Rattle.replay_walk.specs.Walked.{Run, start};
 ghost use Rattle.search_walk.specs.Courses.{CameAlong};
+ghost use Rattle.search_scheduled.specs.Faults.{IsLater};
 ghost use Rattle.search_scheduled.specs.Headers.{HasHeaderOf, Concludes};
+ghost use Rattle.search_scheduled.specs.SpareThreads.{IsUnused};
 
 use crate::fault::SearchFault;
 use interp_trait::TakesTurns;
@@ -13,11 +15,21 @@ use replay::{EndState, first_wrong_end};
 use replay_text::RecordParts;
 use replay_walk::Walk;
 use search_walk::Course;
-use std::alloc::Global;
+use std::alloc::{AllocError, Global};
 use types::{Sequence, ThreadReport};
 
+/// What a course has come to: the parts of its record, how its run ended, and the threads that it didn't start.
+#[derive(Drop)]
+pub(crate) struct Concluded<T> {
+    pub parts: RecordParts,
+    pub end: EndState,
+    pub unused: Vec<T>,
+}
+
 /// How the threads of a walk have ended that were started, in order.
-fn ends_of<T: TakesTurns>(alloc: Global, walk: &Walk<T>) -> Result<Vec<ThreadReport>, SearchFault> {
+fn ends_of<T: TakesTurns>(alloc: Global, walk: &Walk<T>) -> Result<Vec<ThreadReport>, SearchFault>
+    ensures { IfErr result IsLater }
+{
     let mut ends = Vec::new(alloc);
     for n in 0..walk.stage.started as usize {
         let (Some(Some(outcome)), Some(thread)) = (walk.stage.ends.get(n), walk.threads.get(n))
@@ -32,7 +44,19 @@ fn ends_of<T: TakesTurns>(alloc: Global, walk: &Walk<T>) -> Result<Vec<ThreadRep
     Ok(ends)
 }
 
-/// The record's parts and the end of a run that has come to its end, under the header of other parts.
+/// The threads behind those that were started.
+fn unused_of<T: Drop>(alloc: Global, threads: Vec<T>, started: u32) -> Result<Vec<T>, AllocError>
+    ensures { IfOk result (λ unused. unused.items ≡ drop started threads.items) }
+{
+    let mut threads = threads;
+    let used = started as usize;
+    if threads.len() <= used {
+        return Ok(Vec::new(alloc));
+    }
+    threads.split_off(used)
+}
+
+/// What a course has come to whose run has come to its end, under the header of other parts.
 ///
 /// # Errors
 /// `NoEnd` where a thread hasn't left yet; `NoMemory`.
@@ -40,10 +64,12 @@ pub(crate) fn conclude<T: TakesTurns + Drop>(
     alloc: Global,
     course: Course<T>,
     header: RecordParts,
-) -> Result<(RecordParts, EndState), SearchFault>
-    ensures header { IfOk result (λ r. HasHeaderOf header r.0) }
-    ensures concludes { IfOk result (λ r. (run : Run) → CameAlong T.meaning run course → run.threads ≡ header.threads
-        → run.budget ≡ header.fuel → run.limit ≡ header.limit → Concludes (start run) r.0 r.1) }
+) -> Result<Concluded<T>, SearchFault>
+    ensures header { IfOk result (λ c. HasHeaderOf header c.parts) }
+    ensures concludes { IfOk result (λ c. (run : Run) → CameAlong T.meaning run course → run.threads ≡ header.threads
+        → run.budget ≡ header.fuel → run.limit ≡ header.limit → Concludes (start run) c.parts c.end) }
+    ensures unused { IfOk result (λ c. (run : Run) → CameAlong T.meaning run course → All (IsUnused T.meaning run) c.unused.items) }
+    ensures fault { IfErr result IsLater }
 {
     let ends = ends_of(alloc, &course.walk)?;
     let threads = Vec::from_slice(alloc, &ends)?;
@@ -57,13 +83,14 @@ pub(crate) fn conclude<T: TakesTurns + Drop>(
     };
     match first_wrong_end(&walk.threads, &walk.stage, pages, &parts) {
         Some(_) => Err(SearchFault::NoEnd),
-        None => Ok((
+        None => Ok(Concluded {
             parts,
-            EndState {
+            end: EndState {
                 threads,
                 pages,
                 bytes: walk.memory.into_bytes(),
             },
-        )),
+            unused: unused_of(alloc, walk.threads, walk.stage.started)?,
+        }),
     }
 }

@@ -1,7 +1,9 @@
 //! Why there is no run.
+ghost use Rattle.std.specs.Prelude.{◌≡◌};
+ghost use Rattle.search_scheduled.specs.declared.fault.SearchFault.TheVariants.{NoMemory};
+ghost use Rattle.search_scheduled.specs.Faults.{IsLater};
 
 use search_walk::CourseFault;
-use spawn_host_workers::RunFault;
 use std::alloc::{AllocError, AllocFailed};
 use thiserror::Error;
 
@@ -23,28 +25,24 @@ pub enum SearchFault {
 }
 
 impl From<AllocError> for SearchFault {
+    ghost from_gives = { λ _ e. e ≡ NoMemory };
+
     fn from(_: AllocError) -> SearchFault {
         SearchFault::NoMemory
     }
 }
 
 impl<T: Drop> From<AllocFailed<T>> for SearchFault {
+    ghost from_gives = { λ _ e. e ≡ NoMemory };
+
     fn from(_: AllocFailed<T>) -> SearchFault {
         SearchFault::NoMemory
     }
 }
 
-impl From<RunFault> for SearchFault {
-    fn from(fault: RunFault) -> SearchFault {
-        match fault {
-            RunFault::UnknownExport => SearchFault::UnknownExport,
-            RunFault::WrongArguments => SearchFault::WrongArguments,
-            RunFault::NoMemory | RunFault::NoThread => SearchFault::NoMemory,
-        }
-    }
-}
-
 impl From<CourseFault> for SearchFault {
+    ghost from_gives = { λ _ e. IsLater e };
+
     fn from(fault: CourseFault) -> SearchFault {
         match fault {
             CourseFault::NoMemory => SearchFault::NoMemory,

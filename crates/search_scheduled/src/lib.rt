@@ -11,4 +11,5 @@ mod running;
 mod threads;
 
 pub use fault::SearchFault;
-pub use running::{Made, run_along};
+pub use running::{Made, run_along, run_with_spares};
+pub use threads::Spares;

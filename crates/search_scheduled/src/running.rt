@@ -1,13 +1,18 @@
 //! A run of a module along a strategy.
-ghost use Rattle.std.specs.Prelude.{◌≡◌, IfOk};
-ghost use Rattle.types.specs.Limits.{most_pages};
+ghost use Rattle.std.specs.Prelude.{◌≡◌, IfOk, IfErr, OnOk};
+ghost use Rattle.types.specs.Limits.{most_pages, most_threads};
+ghost use Rattle.validate_typing.specs.Validity.{HasDistinctNames};
 ghost use Rattle.validate.specs.Pages.{HasPagesWithin};
+ghost use Rattle.interp.specs.Threads.{meaning_in};
 ghost use Rattle.replay.specs.Runs.{IsRunOf};
+ghost use Rattle.search_scheduled.specs.Faults.{IsFaultOf};
 ghost use Rattle.search_scheduled.specs.Headers.{IsOfCall};
+ghost use Rattle.search_scheduled.specs.SpareThreads.{AreSpares, HasBegun};
 
-use crate::concluding::conclude;
+use crate::concluding::{Concluded, conclude};
 use crate::fault::SearchFault;
-use crate::threads::{opening, threads_of};
+use crate::threads::{Spares, opening, threads_of};
+use interp::Thread;
 use replay::EndState;
 use replay_text::{Record, RecordParts, Version};
 use search_strategies::Strategy;
@@ -27,6 +32,13 @@ pub struct Made {
 /// A valid module's memory has no more pages than any may have. It does nothing else.
 fn show_pages_fit(module: &ValidModule)
     ensures { HasPagesWithin most_pages «module».now.parts }
+{
+    let _parts = module.parts();
+}
+
+/// No two exports of a valid module have one name. It does nothing else.
+fn show_distinct_names(module: &ValidModule)
+    ensures { HasDistinctNames «module».now.parts.exports }
 {
     let _parts = module.parts();
 }
@@ -75,14 +87,63 @@ pub fn run_along<S: Strategy>(
     ensures call { IfOk result (λ made. IsOfCall «module».now.parts call.entry.name.now call.entry.args.now call.entry.fuel limit
         made.record) }
     ensures run { IfOk result (λ made. IsRunOf «module».now.parts made.record made.end) }
+    ensures fault { IfErr result (IsFaultOf «module».now.parts call.entry.name.now call.entry.args.now) }
+{
+    run_with_spares(
+        alloc,
+        module,
+        call,
+        limit,
+        strategy,
+        &mut Spares::new(alloc),
+    )
+}
+
+/// A course before the first turn, by the header of a record of version 2.
+fn course_of<'m>(
+    alloc: Global,
+    module: &'m ValidModule,
+    header: &RecordParts,
+    spares: &mut Spares<'m>,
+) -> Result<Course<Thread<'m>>, SearchFault>
+    requires spares { AreSpares meaning_in «module».now.parts header.now.fuel spares.old.threads.items }
+    requires threads { header.now.threads ≡ most_threads }
+    requires pages { header.now.max_pages ≡ most_pages }
+    ensures begun { IfOk result (HasBegun meaning_in «module».now.parts header.now) }
+    ensures spares { OnOk result (AreSpares meaning_in «module».now.parts header.now.fuel spares.new.threads.items) }
+    ensures fault { IfErr result (IsFaultOf «module».now.parts header.now.invoke header.now.args) }
+{
+    show_distinct_names(module);
+    let threads = threads_of(alloc, module, header, spares)?;
+    let memory = opening(alloc, module)?;
+    Ok(Course::new(alloc, threads, memory, header.fuel, header.limit))
+}
+
+/// `run_along` with the threads that the runs before it didn't start: those of this run that aren't started are given back.
+///
+/// # Errors
+/// As of `run_along`.
+pub fn run_with_spares<'m, S: Strategy>(
+    alloc: Global,
+    module: &'m ValidModule,
+    call: Call,
+    limit: u32,
+    strategy: &mut S,
+    spares: &mut Spares<'m>,
+) -> Result<Made, SearchFault>
+    requires spares { AreSpares meaning_in «module».now.parts call.fuel spares.old.threads.items }
+    ensures call { IfOk result (λ made. IsOfCall «module».now.parts call.entry.name.now call.entry.args.now call.entry.fuel limit
+        made.record) }
+    ensures run { IfOk result (λ made. IsRunOf «module».now.parts made.record made.end) }
+    ensures fault { IfErr result (IsFaultOf «module».now.parts call.entry.name.now call.entry.args.now) }
+    ensures spares { OnOk result (AreSpares meaning_in «module».now.parts call.entry.fuel spares.new.threads.items) }
 {
     show_pages_fit(module);
     let header = header_of(alloc, module, call, limit)?;
-    let threads = threads_of(alloc, module, &header)?;
-    let memory = opening(alloc, module)?;
-    let mut course = Course::new(alloc, threads, memory, header.fuel, limit);
+    let mut course = course_of(alloc, module, &header, spares)?;
     course.go(strategy)?;
-    let (parts, end) = conclude(alloc, course, header)?;
+    let Concluded { parts, end, unused } = conclude(alloc, course, header)?;
+    spares.take_back(module, unused)?;
     match Record::new(parts) {
         Ok(record) => Ok(Made { record, end }),
         Err(_) => Err(SearchFault::NoEnd),

@@ -1,34 +1,102 @@
 //! What a run begins with: its threads before their first turn, and the memory.
-ghost use Rattle.std.specs.Prelude.{◌≡◌, IfOk};
+ghost use Rattle.std.specs.Prelude.{◌≡◌, ℕ, [], length, IfOk, IfErr, OnOk};
+ghost use Rattle.types.specs.declared.parts.Parts.{Parts};
+ghost use Rattle.types.specs.Limits.{most_spawned};
 ghost use Rattle.interp.specs.Threads.{meaning_in};
+ghost use Rattle.spawn_host.specs.Entries.{StartsThreads};
+ghost use Rattle.spawn_host.specs.Threads.{IsFirst};
 ghost use Rattle.spawn_host.specs.Runs.{opening_memory};
-ghost use Rattle.replay.specs.Threads.{AreThreads, AreOthers};
+ghost use Rattle.search_scheduled.specs.Faults.{IsFaultOf, IsLater};
+ghost use Rattle.search_scheduled.specs.SpareThreads.{AreSpares, AreOthers, AreThreads};
 
 use crate::fault::SearchFault;
 use interp::Thread;
 use replay_text::RecordParts;
 use shared_memory_sequential::OneMemory;
 use spawn_host::{Call, first_thread, spawnable_threads};
-use std::alloc::Global;
+use spawn_host_workers::RunFault;
+use std::alloc::{AllocError, Global};
+use types::MOST_SPAWNED;
 use validate::ValidModule;
 
-/// Thread 0, and behind it the 63 that can be spawned where the module can start threads. The record's header says which call it is.
-pub(crate) fn threads_of<'m>(
+/// Threads of a module that can be spawned and that no run has started, for one run after another. A run takes 63 of them, and those
+/// that it didn't start come back: so that hardly more threads are made than are started.
+#[derive(Drop)]
+pub struct Spares<'m> {
+    pub threads: Vec<Thread<'m>>,
+}
+
+impl<'m> Spares<'m> {
+    /// None yet.
+    pub fn new(alloc: Global) -> Spares<'m>
+        ensures none { result.threads.items ≡ [] }
+        ensures spares { (m : Parts) (budget : ℕ) → AreSpares meaning_in m budget result.threads.items }
+    {
+        Spares {
+            threads: Vec::new(alloc),
+        }
+    }
+
+    /// Takes 63 of them. Where there are fewer, 63 more are made before.
+    fn take(
+        &mut self,
+        alloc: Global,
+        module: &'m ValidModule,
+        fuel: u64,
+    ) -> Result<Vec<Thread<'m>>, AllocError>
+        requires starts { StartsThreads «module».now.parts }
+        requires spares { AreSpares meaning_in «module».now.parts fuel self.old.threads.items }
+        ensures count { IfOk result (λ taken. length taken.items ≡ most_spawned) }
+        ensures taken { IfOk result (λ taken. AreSpares meaning_in «module».now.parts fuel taken.items) }
+        ensures left { OnOk result (AreSpares meaning_in «module».now.parts fuel self.new.threads.items) }
+    {
+        if self.threads.len() < MOST_SPAWNED {
+            let mut more = spawnable_threads(alloc, module, fuel)?;
+            self.threads.append(&mut more)?;
+        }
+        let kept = self.threads.len() - MOST_SPAWNED;
+        self.threads.split_off(kept)
+    }
+
+    /// Takes back the threads that a run of the module didn't start.
+    pub(crate) fn take_back(
+        &mut self,
+        module: &ValidModule,
+        unused: Vec<Thread<'m>>,
+    ) -> Result<(), AllocError>
+        ensures { (budget : ℕ) → AreSpares meaning_in «module».now.parts budget self.old.threads.items
+            → (StartsThreads «module».now.parts → AreSpares meaning_in «module».now.parts budget unused.entry.items)
+            → OnOk result (AreSpares meaning_in «module».now.parts budget self.new.threads.items) }
+    {
+        if !module.starts_threads() {
+            return Ok(());
+        }
+        let mut unused = unused;
+        self.threads.append(&mut unused)?;
+        Ok(())
+    }
+}
+
+/// Thread 0: it is about to call the exported function with the record's arguments.
+fn first_of<'m>(
     alloc: Global,
     module: &'m ValidModule,
     parts: &RecordParts,
-) -> Result<Vec<Thread<'m>>, SearchFault>
-    ensures { IfOk result (λ threads. AreThreads meaning_in «module».now.parts parts.now threads.items) }
+) -> Result<Thread<'m>, SearchFault>
+    ensures first { IfOk result (λ thread. IsFirst meaning_in «module».now.parts parts.now.invoke parts.now.args parts.now.fuel thread) }
+    ensures fault { IfErr result (IsFaultOf «module».now.parts parts.now.invoke parts.now.args) }
 {
     let call = Call {
         name: parts.invoke.as_str(),
         args: parts.args.as_slice(),
         fuel: parts.fuel,
     };
-    let first = first_thread(alloc, module, call)?;
-    let mut threads = others_of(alloc, module, parts.fuel)?;
-    threads.insert(0, first)?;
-    Ok(threads)
+    match first_thread(alloc, module, call) {
+        Ok(thread) => Ok(thread),
+        Err(RunFault::UnknownExport) => Err(SearchFault::UnknownExport),
+        Err(RunFault::WrongArguments) => Err(SearchFault::WrongArguments),
+        Err(RunFault::NoMemory | RunFault::NoThread) => Err(SearchFault::NoMemory),
+    }
 }
 
 /// The threads that can be spawned, where the module can start threads, and else none.
@@ -36,19 +104,40 @@ fn others_of<'m>(
     alloc: Global,
     module: &'m ValidModule,
     fuel: u64,
-) -> Result<Vec<Thread<'m>>, SearchFault>
-    ensures { IfOk result (λ others. AreOthers meaning_in «module».now.parts fuel others.items) }
+    spares: &mut Spares<'m>,
+) -> Result<Vec<Thread<'m>>, AllocError>
+    requires { AreSpares meaning_in «module».now.parts fuel spares.old.threads.items }
+    ensures others { IfOk result (λ others. AreOthers meaning_in «module».now.parts fuel others.items) }
+    ensures spares { OnOk result (AreSpares meaning_in «module».now.parts fuel spares.new.threads.items) }
 {
     if module.starts_threads() {
-        let threads = spawnable_threads(alloc, module, fuel)?;
-        return Ok(threads);
+        return spares.take(alloc, module, fuel);
     }
     Ok(Vec::new(alloc))
 }
 
+/// Thread 0, and behind it those that can be spawned. The record's header says which call it is.
+pub(crate) fn threads_of<'m>(
+    alloc: Global,
+    module: &'m ValidModule,
+    parts: &RecordParts,
+    spares: &mut Spares<'m>,
+) -> Result<Vec<Thread<'m>>, SearchFault>
+    requires { AreSpares meaning_in «module».now.parts parts.now.fuel spares.old.threads.items }
+    ensures threads { IfOk result (λ threads. AreThreads meaning_in «module».now.parts parts.now threads.items) }
+    ensures spares { OnOk result (AreSpares meaning_in «module».now.parts parts.now.fuel spares.new.threads.items) }
+    ensures fault { IfErr result (IsFaultOf «module».now.parts parts.now.invoke parts.now.args) }
+{
+    let first = first_of(alloc, module, parts)?;
+    let mut threads = others_of(alloc, module, parts.fuel, spares)?;
+    threads.insert(0, first)?;
+    Ok(threads)
+}
+
 /// The memory of a module before the first instruction.
 pub(crate) fn opening(alloc: Global, module: &ValidModule) -> Result<OneMemory, SearchFault>
-    ensures { IfOk result (λ memory. memory ≡ opening_memory «module».now.parts) }
+    ensures memory { IfOk result (λ memory. memory ≡ opening_memory «module».now.parts) }
+    ensures fault { IfErr result IsLater }
 {
     let image = module.image(alloc)?;
     match OneMemory::open(alloc, &image, module.pages_max()) {

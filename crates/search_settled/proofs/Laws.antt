@@ -4,10 +4,10 @@ use Rattle.std.specs.Prelude.{Result, IfOk, IfSome}
 use Rattle.std.proofs.lemmas.Result.{IfOk-weaker}
 use Rattle.schedule.specs.System.{System, State}
 use Rattle.schedule.specs.Scheduled.{after_event}
-use Rattle.search_reach.specs.Search.{Covers, Comes, AreNext, IsFirst, IsMet, IsEnding}
+use Rattle.search_reach.specs.Search.{Covers, Comes, AreNext, IsFirst, IsMet, IsEnding, GetsStuck, CanGetStuck}
 use Rattle.search_reach.proofs.Paths.{stays, one_step, onward}
 use Rattle.search_settled.specs.Settled.{ComesToRest, StepsBy, IsReached, AreTame}
-use Rattle.search_settled.specs.Next.{StandsFor, IsBeginning, IsAt, IsSomewhere, HasNext, HasEnded, NobodyTurns, IsFirstOf}
+use Rattle.search_settled.specs.Next.{StandsFor, IsBeginning, IsAt, IsSomewhere, IsStuckAfter, HasNext, HasEnded, NobodyTurns, IsFirstOf}
 use Rattle.search_settled.proofs.Resting.{resting_same}
 use Rattle.search_settled.proofs.Reaching.{to_rest, by_event}
 use Rattle.search_settled.proofs.Stepping.{LeadsOn, by_turn}
@@ -16,6 +16,10 @@ use Rattle.search_settled.proofs.Stepping.{LeadsOn, by_turn}
 pub if-some : {S : Type 0} (P Q : S → Type 0) → ((x : S) → P x → Q x) → (o : Option S) → IfSome o P → IfSome o Q
 if-some P Q f None h = tt
 if-some P Q f (Some x) h = f x h
+
+-- what holds where there is nothing
+pub where-none : {B F : Type 0} (P Q : Type 0) → (P → Q) → (r : Result (Option B) F) → IfOk r (λ o. o ≡ None → P) → IfOk r (λ o. o ≡ None → Q)
+where-none P Q f r h = IfOk-weaker r (λ o. o ≡ None → P) (λ o. o ≡ None → Q) (λ o k none. f (k none)) h
 
 module _ {X T E V A S : Type 0} (s : System X T E V A) (first : State X T) (is : S → State X T → Type 0) where
   abbrev Stands : S → State X T → Type 0
@@ -29,6 +33,9 @@ module _ {X T E V A S : Type 0} (s : System X T E V A) (first : State X T) (is :
     begun = refl;
   }
 
+  pub stuck-first : (stuck : State X T → Type 0) → stuck first → CanGetStuck (StepsBy s) stuck (IsFirstOf first)
+  stuck-first stuck is-stuck = record { from = first; begun = refl; gets = record { end = first; path = stays (StepsBy s) first; is = is-stuck } }
+
   module _ (count : ℕ) (tame : AreTame s first count) where
     at_settled : (c : S) (w : State X T) (st : Stands c w) → IsAt s first is c st.settled
     at_settled c w st = record {
@@ -38,6 +45,14 @@ module _ {X T E V A S : Type 0} (s : System X T E V A) (first : State X T) (is :
 
     pub somewhere : (c : S) → IsMet Stands (StepsBy s) (IsFirstOf first) c → IsSomewhere s first is c
     somewhere c met = (met.comes.is.settled, at_settled c met.comes.end met.comes.is)
+
+    -- what comes to rest where it is stuck after an event gets stuck
+    pub gets-stuck : (stuck : State X T → Type 0) (c : S) → IsStuckAfter s first is stuck c → (w : State X T) → Stands c w → GetsStuck (StepsBy s) stuck w
+    gets-stuck stuck c after w st =
+        let a = after st.settled (at_settled c w st) in
+        let made = after_event s st.settled a.0 a.1 in
+        let there = to_rest s count w st.settled (tame.few w st.reached) st.rest in
+        record { end = made; path = onward (StepsBy s) w st.settled made there (by_event s st.settled a.0 a.1 a.2); is = a.3 }
 
     module _ (c : S) (xs : List S) (next : HasNext s first is c xs) where
       all : (w y : State X T) → Stands c w → StepsBy s w y → Stands c y ⊎ Covers Stands xs y

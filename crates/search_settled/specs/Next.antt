@@ -33,6 +33,11 @@ module _ {X T E V A S : Type 0} (s : System X T E V A) (first : State X T) (is :
     pub rest : ComesToRest s (after_event s z n e) settled
     pub settled_is : is x settled
 
+  -- There is an event after which it is stuck.
+  abbrev pub IsStuckAfter : (State X T → Type 0) → S → Type 0
+  IsStuckAfter stuck c =
+      (z : State X T) → IsAt c z → (n : ℕ) × (e : E) × (s.wants (z.threads n) ≡ Calls e) × stuck (after_event s z n e)
+
   -- For each thread that wants an event there is one of these, and each of these is of such a thread.
   pub record HasNext (c : S) (xs : List S) : Type 0 where
     pub all : (z : State X T) → IsAt c z → (n : ℕ) (e : E) → s.wants (z.threads n) ≡ Calls e

@@ -10,6 +10,11 @@ module _ {X T E V A : Type 0} (s : System X T E V A) where
   ComesTo zero t u = t ≡ u
   ComesTo (suc count) t u = (s.wants t ≡ Turns) × ComesTo count (s.own_turn t) u
 
+  -- It makes so many turns of its own, whatever it makes then.
+  pub record MakesTurns (count : ℕ) (t : T) : Type 0 where
+    pub last : T
+    pub comes : ComesTo count t last
+
   -- It comes to one that wants no turn of its own.
   pub record Settles (t u : T) : Type 0 where
     pub turns : ℕ

@@ -1,8 +1,8 @@
 //! A system of threads that is gone through by its settled states.
-ghost use Rattle.std.specs.Prelude.{◌≡◌, true, ℕ, IfOk, IfSome};
+ghost use Rattle.std.specs.Prelude.{◌≡◌, true, ℕ, None, IfOk, IfSome};
 ghost use Rattle.schedule.specs.System.{System, State};
 ghost use Rattle.search_settled.specs.Settled.{AreTame};
-ghost use Rattle.search_settled.specs.Next.{IsBeginning, IsSomewhere, HasNext, HasEnded, NobodyTurns};
+ghost use Rattle.search_settled.specs.Next.{IsBeginning, IsSomewhere, IsStuckAfter, HasNext, HasEnded, NobodyTurns};
 
 use std::alloc::{AllocError, Global};
 use std::hash::Hash;
@@ -40,9 +40,13 @@ pub trait SettledStates {
     /// Only threads below this number make turns of their own.
     ghost count: { Self → ℕ };
 
+    /// Of which states it cannot tell where all threads come to rest.
+    ghost stuck: { Self → State Shared Thread → Type 0 };
+
     /// Where all threads come to rest in the beginning, or nothing where it cannot tell that.
     fn first(&self, alloc: Global) -> Result<Option<Self::Settled>, AllocError>
-        ensures { IfOk result (λ o. IfSome o (IsBeginning (system self.now) (beginning self.now) (is self.now))) };
+        ensures first { IfOk result (λ o. IfSome o (IsBeginning (system self.now) (beginning self.now) (is self.now))) }
+        ensures gives_up { IfOk result (λ o. o ≡ None → stuck self.now (beginning self.now)) };
 
     /// Where all come to rest after one thread's event, of each thread that wants one; or nothing where it cannot tell that.
     fn next(
@@ -51,7 +55,9 @@ pub trait SettledStates {
         settled: &Self::Settled,
     ) -> Result<Option<Vec<Self::Settled>>, AllocError>
         requires { IsSomewhere (system self.now) (beginning self.now) (is self.now) settled.now }
-        ensures { IfOk result (λ o. IfSome o (λ v. HasNext (system self.now) (beginning self.now) (is self.now) settled.now v.items)) };
+        ensures next { IfOk result (λ o. IfSome o (λ v. HasNext (system self.now) (beginning self.now) (is self.now) settled.now v.items)) }
+        ensures gives_up { IfOk result (λ o. o ≡ None
+            → IsStuckAfter (system self.now) (beginning self.now) (is self.now) (stuck self.now) settled.now) };
 
     /// How a settled state has ended, where it has.
     fn ending(

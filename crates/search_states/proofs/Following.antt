@@ -8,7 +8,7 @@ use Rattle.schedule.specs.System.{Want.Calls, Want.Gone, System, State, put}
 use Rattle.schedule.specs.Scheduled.{after_event, hears_any, or_started}
 use Rattle.schedule.proofs.Basics.{put-other}
 use Rattle.search_settled.specs.Settled.{Settles, IsReached}
-use Rattle.search_settled.specs.Next.{IsAt, IsNextBy, IsSomewhere, HasNext}
+use Rattle.search_settled.specs.Next.{IsAt, IsNextBy, IsSomewhere, IsStuckAfter, HasNext}
 use Rattle.search_states.specs.declared.flat.Flat.{Flat}
 use Rattle.search_states.specs.Flat.{AreBounded, IsFlat, IsThreadOf, IsEventOf, IsMadeBy, RestsAfter, AreThreads, AllComeAfter, HasNextBelow}
 
@@ -143,6 +143,19 @@ module _ {X T E V A G H M : Type 0} (s : System X T E V A) (first : State X T) (
   abbrev Answers : Flat G H → H → ℕ → Option (G × M) → Type 0
   Answers c t n o = (z : State X T) → IsThreadOf s first count shares is_thread makes c.shared t n z
       → IsEventOf s first count shares is_thread makes z n o
+
+  -- where it cannot tell what comes of the threads after the event of one
+  pub stuck-by : (stuck : State X T → Type 0) (c : Flat G H) (n : ℕ) (t : H) → slice_get c.threads.items n ≡ Some t → (p : G × M) (threads : List H)
+      → threads ≡ c.threads.items → Answers c t n (Some p)
+      → ((z : State X T) (e : E) → IsMadeBy s first count shares is_thread makes p.1 z n e → AreThreads s first count shares is_thread makes threads z
+      → stuck (after_event s z n e)) → IsStuckAfter s first Is stuck c
+  stuck-by stuck c n t h p threads same answers gives_up z at =
+      let a = answers z (thread-at c z at n t h) in (
+        n,
+        a.0,
+        a.1,
+        gives_up z a.0 (record { reached = at.reached; wants = a.1; is = a.3 }) (λ m u k. (at.settled_is).each m u (ap (λ l. slice_get l m) (sym same) ∙ k)),
+      )
 
   split : (n i : ℕ) → n < i + 1 → (n < i) ⊎ (n ≡ i)
   split n i low = elim (cases_lt n i) [ inl h ↦ inl h | inr h ↦ inr (omega (arith, h, low)) ]

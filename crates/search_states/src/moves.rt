@@ -1,6 +1,7 @@
 //! Threads that are moved one by one.
-ghost use Rattle.std.specs.Prelude.{◌≡◌, ◌<◌, ℕ, true, IfOk, IfSome};
+ghost use Rattle.std.specs.Prelude.{◌≡◌, ◌<◌, ℕ, true, None, IfOk, IfSome};
 ghost use Rattle.schedule.specs.System.{System, State, Want.Gone};
+ghost use Rattle.schedule.specs.Scheduled.{after_event};
 ghost use Rattle.search_settled.specs.Settled.{AreTame};
 ghost use Rattle.search_settled.specs.Next.{IsBeginning, IsSomewhere, HasEnded, NobodyTurns};
 ghost use Rattle.search_states.specs.Flat.{AreBounded, IsFlat, IsThreadOf, IsEventOf, IsMadeBy, ComesAfter};
@@ -51,10 +52,14 @@ pub trait Moves {
 
     ghost makes: { Self → Self.Made → X → ℕ → E → Type 0 };
 
+    /// Of which states it cannot tell where all threads come to rest.
+    ghost stuck: { Self → State X T → Type 0 };
+
     /// Where all threads come to rest in the beginning, or nothing where it cannot tell that.
     fn first(&self, alloc: Global) -> Result<Option<Flat<Self::Shared, Self::Thread>>, AllocError>
-        ensures { IfOk result (λ o. IfSome o (IsBeginning (system self.now) (beginning self.now)
-            (IsFlat (system self.now) (beginning self.now) (count self.now) (shares self.now) (is_thread self.now) (makes self.now)))) };
+        ensures first { IfOk result (λ o. IfSome o (IsBeginning (system self.now) (beginning self.now)
+            (IsFlat (system self.now) (beginning self.now) (count self.now) (shares self.now) (is_thread self.now) (makes self.now)))) }
+        ensures gives_up { IfOk result (λ o. o ≡ None → stuck self.now (beginning self.now)) };
 
     /// The event that thread n wants to make, if it wants one.
     fn event(
@@ -83,8 +88,11 @@ pub trait Moves {
     ) -> Result<Option<Self::Thread>, AllocError>
         requires { (z : State X T) × (e : E) × IsMadeBy (system self.now) (beginning self.now) (count self.now) (shares self.now)
             (is_thread self.now) (makes self.now) made.now z n e × is_thread self.now thread.now (z.threads m) × (m < count self.now) }
-        ensures { IfOk result (λ o. IfSome o (ComesAfter (system self.now) (beginning self.now) (count self.now) (shares self.now)
-            (is_thread self.now) (makes self.now) made.now n thread.now m)) };
+        ensures rests { IfOk result (λ o. IfSome o (ComesAfter (system self.now) (beginning self.now) (count self.now) (shares self.now)
+            (is_thread self.now) (makes self.now) made.now n thread.now m)) }
+        ensures gives_up { IfOk result (λ o. o ≡ None → (z : State X T) (e : E) → IsMadeBy (system self.now) (beginning self.now)
+            (count self.now) (shares self.now) (is_thread self.now) (makes self.now) made.now z n e
+            → is_thread self.now thread.now (z.threads m) → stuck self.now (after_event (system self.now) z n e)) };
 
     /// How a settled state has ended, where it has.
     fn ending(

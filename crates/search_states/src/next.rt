@@ -1,8 +1,9 @@
 //! The next states: of each thread that wants an event, what comes of it.
-ghost use Rattle.std.specs.Prelude.{◌≡◌, ◌+◌, ℕ, length, true, Some, IfOk, IfSome};
+ghost use Rattle.std.specs.Prelude.{◌≡◌, ◌+◌, ℕ, length, true, false, Some, None, IfOk, IfSome};
 ghost use Rattle.std.specs.List.{slice_get};
 ghost use Rattle.schedule.specs.System.{State};
-ghost use Rattle.search_settled.specs.Next.{IsSomewhere, HasNext};
+ghost use Rattle.schedule.specs.Scheduled.{after_event};
+ghost use Rattle.search_settled.specs.Next.{IsSomewhere, IsStuckAfter, HasNext};
 ghost use Rattle.search_states.specs.Flat.{IsFlat, IsMadeBy, AreThreads, AllComeAfter, HasNextBelow};
 
 use crate::{Flat, Moves};
@@ -21,9 +22,13 @@ fn threads_after<M: Moves>(
         (M.is_thread system.now) (M.makes system.now) made.now z n e × AreThreads (M.system system.now) (M.beginning system.now)
         (M.count system.now) (M.shares system.now) (M.is_thread system.now) (M.makes system.now) threads.now z
         × (length threads.now ≡ M.count system.now) }
-    ensures { IfOk result (λ o. IfSome o (λ v. AllComeAfter (M.system system.now) (M.beginning system.now) (M.count system.now)
+    ensures rests { IfOk result (λ o. IfSome o (λ v. AllComeAfter (M.system system.now) (M.beginning system.now) (M.count system.now)
         (M.shares system.now)
         (M.is_thread system.now) (M.makes system.now) made.now n threads.now v.items)) }
+    ensures gives_up { IfOk result (λ o. o ≡ None → (z : State M.X M.T) (e : M.E) → IsMadeBy (M.system system.now)
+        (M.beginning system.now) (M.count system.now) (M.shares system.now) (M.is_thread system.now) (M.makes system.now) made.now z n e
+        → AreThreads (M.system system.now) (M.beginning system.now) (M.count system.now) (M.shares system.now) (M.is_thread system.now)
+        (M.makes system.now) threads.now z → M.stuck system.now (after_event (M.system system.now) z n e)) }
 {
     let mut after = Vec::new(alloc);
     let mut m: usize = 0;
@@ -50,10 +55,13 @@ fn put_next<M: Moves>(
     requires somewhere { IsSomewhere (M.system system.now) (M.beginning system.now) (IsFlat (M.system system.now) (M.beginning system.now)
         (M.count system.now) (M.shares system.now) (M.is_thread system.now) (M.makes system.now)) flat.now }
     requires thread { slice_get flat.now.threads.items n ≡ Some thread.now }
-    ensures { IfOk result (λ told. told ≡ true → HasNextBelow (M.system system.now) (M.beginning system.now)
+    ensures next { IfOk result (λ told. told ≡ true → HasNextBelow (M.system system.now) (M.beginning system.now)
         (M.count system.now) (M.shares system.now) (M.is_thread system.now) (M.makes system.now) flat.now n all.old.items
         → HasNextBelow (M.system system.now) (M.beginning system.now)
         (M.count system.now) (M.shares system.now) (M.is_thread system.now) (M.makes system.now) flat.now (n + 1) all.new.items) }
+    ensures gives_up { IfOk result (λ told. told ≡ false → IsStuckAfter (M.system system.now) (M.beginning system.now)
+        (IsFlat (M.system system.now) (M.beginning system.now) (M.count system.now) (M.shares system.now) (M.is_thread system.now)
+        (M.makes system.now)) (M.stuck system.now) flat.now) }
 {
     let Some((shared, made)) = system.event(alloc, &flat.shared, thread, n)? else {
         return Ok(true);
@@ -73,9 +81,12 @@ pub(crate) fn next_states<M: Moves>(
 ) -> Result<Option<Vec<Flat<M::Shared, M::Thread>>>, AllocError>
     requires { IsSomewhere (M.system system.now) (M.beginning system.now) (IsFlat (M.system system.now) (M.beginning system.now)
         (M.count system.now) (M.shares system.now) (M.is_thread system.now) (M.makes system.now)) flat.now }
-    ensures { IfOk result (λ o. IfSome o (λ v. HasNext (M.system system.now) (M.beginning system.now)
+    ensures next { IfOk result (λ o. IfSome o (λ v. HasNext (M.system system.now) (M.beginning system.now)
         (IsFlat (M.system system.now) (M.beginning system.now)
         (M.count system.now) (M.shares system.now) (M.is_thread system.now) (M.makes system.now)) flat.now v.items)) }
+    ensures gives_up { IfOk result (λ o. o ≡ None → IsStuckAfter (M.system system.now) (M.beginning system.now)
+        (IsFlat (M.system system.now) (M.beginning system.now) (M.count system.now) (M.shares system.now) (M.is_thread system.now)
+        (M.makes system.now)) (M.stuck system.now) flat.now) }
 {
     let mut all = Vec::new(alloc);
     let mut n: usize = 0;

@@ -5,12 +5,14 @@
 #![tactic(auto)]
 
 mod along;
+mod chosen;
 mod draws;
 mod pct;
 mod random;
 mod strategy;
 
 pub use along::Along;
+pub use chosen::Chosen;
 pub use draws::Draws;
 pub use pct::{MOST_DEPTH, Pct};
 pub use random::Random;

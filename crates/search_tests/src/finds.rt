@@ -115,7 +115,7 @@ fn searched<R: Threads + Sync>(
     if sought.from > 1000 || sought.runs > 1000 {
         return Err(Trouble::Refused);
     }
-    Ok(first_found(rt, alloc, &valid, CALL, &sought, jobs)?)
+    Ok(first_found(rt, alloc, &valid, CALL, &sought, jobs, &mut ())?)
 }
 
 fn are_one_row(one: &Met, other: &Met) -> bool {
@@ -183,7 +183,7 @@ fn shrinks<R: Threads + Sync>(rt: &R, alloc: Global, wish: &Wish) -> Result<bool
     if sought.from > 1000 || sought.runs > 1000 {
         return Err(Trouble::Refused);
     }
-    let Searched { found, .. } = first_found(rt, alloc, &valid, CALL, &sought, 2)?;
+    let Searched { found, .. } = first_found(rt, alloc, &valid, CALL, &sought, 2, &mut ())?;
     let Some(found) = found else {
         return Ok(!wish.is_found);
     };

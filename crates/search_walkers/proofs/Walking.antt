@@ -1,5 +1,5 @@
 -- Turns of a thread with units left are turns of the thread without a budget.
-use Rattle.std.proofs.Common.{◌≡◌, ℕ, zero, suc, ◌<◌, ◌-◌, Some, None, Option, refl, sym, ◌∙◌, ap, subst, arith}
+use Rattle.std.proofs.Common.{◌≡◌, ◌⊎◌, inl, inr, ℕ, zero, suc, ◌<◌, ◌-◌, Some, None, Option, refl, sym, ◌∙◌, ap, subst, arith}
 use Rattle.types.specs.declared.event.Event.{Event}
 use Rattle.types.specs.declared.outcome.Outcome.{Outcome}
 use Rattle.schedule.specs.System.{Want, Want.Turns, Want.Calls, Want.Awaits, Want.Gone}
@@ -17,7 +17,7 @@ use Rattle.interp_trait.specs.Turns.{Running, wants_of, left_of, outcome_in, out
 use Rattle.interp_trait.specs.Turns.{answer_by, answer_of, own_turn_if, wanted_before}
 use Rattle.schedule_machine.specs.Threads.{called}
 use Rattle.search_threads.specs.Unlimited.{Unlimited.Going, want_by}
-use Rattle.search_settled.specs.Settled.{ComesTo, Settles}
+use Rattle.search_settled.specs.Settled.{ComesTo, Settles, MakesTurns}
 use Rattle.search_runs.specs.Called.{Called, Walker, system_of}
 
 wish_same : (p : Program) (r : ℕ) (w : Wish Event Outcome) → wanted (machine_of p) (suc r) w ≡ want_by (machine_of p) w
@@ -96,6 +96,39 @@ came b p same x l turn Stands paused some =
       stands = subst Stands w.is q.after;
       says = says;
     }
+
+-- who has no units left has made as many turns as it had units
+first_own : (p : Program) (n : ℕ) (t : Running) → after_own p n (thread_goes (machine_of p) t) ≡ after_own p (suc n) t
+first_own p zero t = refl
+first_own p (suc n) t = ap (thread_goes (machine_of p)) (first_own p n t)
+
+spends : (b : Called) (l n : ℕ) (x : State) → ((k : ℕ) → k < n → wants_of b.program (after_own b.program k (Runs x l)) ≡ Turns)
+    → left_of (after_own b.program n (Runs x l)) ≡ 0 → MakesTurns (system_of b) l (Going x)
+spends b zero n x each none = record { last = Going x; comes = refl }
+spends b (suc l) zero x each none = absurd (cc none)
+spends b (suc l) (suc n) x each none =
+    let start : Running = Runs x (suc l) in
+    let k = spends b l n ((machine_of b.program).goes x)
+    (λ j low. ap (wants_of b.program) (first_own b.program j start) ∙ each (suc j) (omega (arith, low)))
+    (ap left_of (first_own b.program n start) ∙ none) in
+    record { last = k.last; comes = (sym (same_wants b x l) ∙ each 0 (omega arith), k.comes) }
+
+pub spent_all : (b : Called) (p : Program) → p ≡ b.program → (x : State) (l : ℕ) (turn : Turn) (Stands : Running → Type 0) → IsPaused p (Runs x l) turn Stands
+    → ((t : Running) → Stands t → left_of t ≡ 0) → MakesTurns (system_of b) l (Going x)
+spent_all b p same x l turn Stands paused none =
+    let q : IsPaused b.program (Runs x l) turn Stands = subst (λ z. IsPaused z (Runs x l) turn Stands) same paused in
+    spends b l q.turns x q.each (none (after_own b.program q.turns (Runs x l)) q.after)
+
+-- and as many as it had but for one
+pub fewer : (b : Called) (n : ℕ) (t : Walker) → MakesTurns (system_of b) (suc n) t → MakesTurns (system_of b) n t
+fewer b zero t m = record { last = t; comes = refl }
+fewer b (suc n) t m =
+    let k = fewer b n ((system_of b).own_turn t) (record { last = m.last; comes = m.comes.1 }) in
+    record { last = k.last; comes = (m.comes.0, k.comes) }
+
+pub enough : (b : Called) (n l : ℕ) (t : Walker) → (l ≡ n) ⊎ (l ≡ suc n) → MakesTurns (system_of b) l t → MakesTurns (system_of b) n t
+enough b n l t (inl is) m = subst (λ k. MakesTurns (system_of b) k t) is m
+enough b n l t (inr is) m = fewer b n t (subst (λ k. MakesTurns (system_of b) k t) is m)
 
 pub is_over : (y : State) (o : Outcome) → outcome_in y ≡ Some o → y ≡ states.Over o
 is_over (At c) o h = absurd (cc h)

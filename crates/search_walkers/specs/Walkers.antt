@@ -18,6 +18,10 @@ use Rattle.search_runs.specs.Called.{Called, Walker as Thread, system_of}
 use Rattle.search_walkers.specs.declared.walker.Standing.{Standing}
 use Rattle.search_walkers.specs.declared.walker.Standing.TheVariants.{Missing, Going, Ended, Leaving, Away}
 
+-- How many turns of its own a thread makes from one event to the next before it is given up.
+unfoldable pub patience : ℕ
+patience = 1000000
+
 -- It stands for a thread of a module with its tables.
 abbrev pub StandsFor : WithTables → Standing → Thread → Type 0
 StandsFor w Missing v = v ≡ NoThread

@@ -1,13 +1,14 @@
 //! Where a thread comes to rest.
 
-ghost use Rattle.std.specs.Prelude.{◌≡◌, ◌<◌, ℕ, IfOk, IfSome};
+ghost use Rattle.std.specs.Prelude.{◌≡◌, ◌<◌, ℕ, None, IfOk, IfSome};
 ghost use Rattle.validate_typing.specs.Tabled.{WithTables};
 ghost use Rattle.schedule.specs.Machine.{Thread.Runs};
 ghost use Rattle.interp_machine.specs.State.{State};
 ghost use Rattle.interp.specs.Kept.{RunsBy};
 ghost use Rattle.interp.specs.Threads.{StandsFor, meaning_in};
 ghost use Rattle.search_threads.specs.Unlimited.{Unlimited.Going};
-ghost use Rattle.search_runs.specs.Called.{Called};
+ghost use Rattle.search_settled.specs.Settled.{MakesTurns};
+ghost use Rattle.search_runs.specs.Called.{Called, system_of};
 ghost use Rattle.search_walkers.specs.Walkers.{IsOf, RestsAt};
 
 use crate::walker::Standing;
@@ -15,15 +16,19 @@ use interp::Thread;
 use interp_trait::{OpenGate, TakesTurns, Turn};
 use std::alloc::{AllocError, Global};
 
-/// How many units a thread has from one event to the next.
-pub(crate) const FUEL: u64 = 1_000_000;
+/// How many units a thread has from one event to the next: a million for turns of its own, `patience` of `specs/Walkers.antt`, and
+/// one for the reply before them.
+pub(crate) const FUEL: u64 = 1_000_001;
 
-/// Where a thread comes to rest by turns of its own, or nothing where it has spent all its units before.
+/// Where a thread comes to rest by turns of its own, or nothing where it has spent all its units: then it makes as many turns of its
+/// own as it had units left.
 pub(crate) fn rest(alloc: Global, thread: Thread) -> Result<Option<Standing>, AllocError>
     requires fuel { thread.fuel ≡ FUEL }
     requires stands { (x : State) × (left : ℕ) × StandsFor thread (Runs x left) }
-    ensures { IfOk result (λ o. IfSome o (λ s. (w : WithTables) (b : Called) (x : State) (left : ℕ) → IsOf b w → RunsBy w thread.entry
-        → StandsFor thread.entry (Runs x left) → RestsAt w b (Going x) s)) }
+    ensures rests { IfOk result (λ o. IfSome o (λ s. (w : WithTables) (b : Called) (x : State) (left : ℕ) → IsOf b w
+        → RunsBy w thread.entry → StandsFor thread.entry (Runs x left) → RestsAt w b (Going x) s)) }
+    ensures gives_up { IfOk result (λ o. o ≡ None → (w : WithTables) (b : Called) (x : State) (left : ℕ) → IsOf b w
+        → RunsBy w thread.entry → StandsFor thread.entry (Runs x left) → MakesTurns (system_of b) left (Going x)) }
 {
     let mut thread = thread;
     let turn = thread.own_turns(0, &OpenGate);

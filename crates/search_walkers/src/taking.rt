@@ -1,14 +1,15 @@
 //! A thread takes a reply, or hears an answer, and comes to rest.
 
-ghost use Rattle.std.specs.Prelude.{◌≡◌, IfOk, IfSome};
+ghost use Rattle.std.specs.Prelude.{◌≡◌, None, IfOk, IfSome};
 ghost use Rattle.types.specs.declared.event.Event.{Event};
 ghost use Rattle.schedule.specs.System.{Want.Calls, Want.Awaits};
 ghost use Rattle.interp_machine.specs.Config.{Config};
 ghost use Rattle.interp_machine.specs.State.{At};
 ghost use Rattle.schedule_machine.specs.Threads.{IsMade};
 ghost use Rattle.search_threads.specs.Unlimited.{Unlimited.Going};
+ghost use Rattle.search_settled.specs.Settled.{MakesTurns};
 ghost use Rattle.search_runs.specs.Called.{Called, Walker, system_of};
-ghost use Rattle.search_walkers.specs.Walkers.{IsOf, RestsAt, StandsFor, MayBeGiven, given_to};
+ghost use Rattle.search_walkers.specs.Walkers.{IsOf, RestsAt, StandsFor, MayBeGiven, given_to, patience};
 
 use crate::rest::{FUEL, rest};
 use crate::walker::Standing;
@@ -18,7 +19,8 @@ use std::alloc::{AllocError, Global};
 use types::{Answer, Reply};
 use validate::ValidModule;
 
-/// Where a thread that runs comes to rest after it was given something, or nothing where it has spent all its units before.
+/// Where a thread that runs comes to rest after it was given something, or nothing where it makes more turns of its
+/// own then than there is patience for.
 fn after_given(
     alloc: Global,
     valid: &ValidModule,
@@ -26,8 +28,10 @@ fn after_given(
     given: Given,
 ) -> Result<Option<Standing>, AllocError>
     requires { (c : Config) × MayBeGiven valid.now kept.now FUEL given c }
-    ensures { IfOk result (λ o. IfSome o (λ s. (b : Called) (c : Config) → IsOf b valid.now → MayBeGiven valid.now kept.now FUEL given c
+    ensures rests { IfOk result (λ o. IfSome o (λ s. (b : Called) (c : Config) → IsOf b valid.now → MayBeGiven valid.now kept.now FUEL given c
         → RestsAt valid.now b (given_to b (Going (At c)) given) s)) }
+    ensures gives_up { IfOk result (λ o. o ≡ None → (b : Called) (c : Config) → IsOf b valid.now
+        → MayBeGiven valid.now kept.now FUEL given c → MakesTurns (system_of b) patience (given_to b (Going (At c)) given)) }
 {
     let mut thread = Thread::resume(alloc, valid, kept, FUEL)?;
     if let Turn::Ended(outcome) = thread.turn(given) {
@@ -39,8 +43,8 @@ fn after_given(
     Ok(Some(standing))
 }
 
-/// Where a thread comes to rest after the reply to the event that it wants, which was made; or nothing where that can't be told,
-/// since it has spent its units before.
+/// Where a thread comes to rest after the reply to the event that it wants, which was made; or nothing where it makes more turns of
+/// its own then than there is patience for.
 ///
 /// # Errors
 /// Where memory is refused.
@@ -53,9 +57,12 @@ pub fn take(
     requires made { IsMade reply }
     requires wants { (b : Called) × (v : Walker) × IsOf b valid.now × StandsFor valid.now standing.now v
         × (e : Event) × ((system_of b).wants v ≡ Calls e) }
-    ensures { IfOk result (λ o. IfSome o (λ s. (b : Called) (v : Walker) (e : Event) → IsOf b valid.now
+    ensures rests { IfOk result (λ o. IfSome o (λ s. (b : Called) (v : Walker) (e : Event) → IsOf b valid.now
         → StandsFor valid.now standing.now v → (system_of b).wants v ≡ Calls e
         → RestsAt valid.now b ((system_of b).takes v reply) s)) }
+    ensures gives_up { IfOk result (λ o. o ≡ None → (b : Called) (v : Walker) (e : Event) → IsOf b valid.now
+        → StandsFor valid.now standing.now v → (system_of b).wants v ≡ Calls e
+        → MakesTurns (system_of b) patience ((system_of b).takes v reply)) }
 {
     match standing {
         Standing::Going(kept) => {
@@ -69,8 +76,8 @@ pub fn take(
     }
 }
 
-/// Where a thread comes to rest after the answer to its question; or nothing where that can't be told, since it has spent its
-/// units before.
+/// Where a thread comes to rest after the answer to its question; or nothing where it makes more turns of its own then than there
+/// is patience for.
 ///
 /// # Errors
 /// Where memory is refused.
@@ -81,9 +88,12 @@ pub fn hear(
     answer: Answer,
 ) -> Result<Option<Standing>, AllocError>
     requires { (b : Called) × (v : Walker) × IsOf b valid.now × StandsFor valid.now standing.now v × ((system_of b).wants v ≡ Awaits) }
-    ensures { IfOk result (λ o. IfSome o (λ s. (b : Called) (v : Walker) → IsOf b valid.now
+    ensures rests { IfOk result (λ o. IfSome o (λ s. (b : Called) (v : Walker) → IsOf b valid.now
         → StandsFor valid.now standing.now v → (system_of b).wants v ≡ Awaits
         → RestsAt valid.now b ((system_of b).hears v answer) s)) }
+    ensures gives_up { IfOk result (λ o. o ≡ None → (b : Called) (v : Walker) → IsOf b valid.now
+        → StandsFor valid.now standing.now v → (system_of b).wants v ≡ Awaits
+        → MakesTurns (system_of b) patience ((system_of b).hears v answer)) }
 {
     match standing {
         Standing::Going(kept) => {

@@ -3,8 +3,9 @@
 //! and the memory's maximum.
 #![tactic(auto)]
 
+mod alone;
 mod check;
 mod image;
 mod valid_module;
 
-pub use valid_module::{ValidModule, validate};
+pub use valid_module::{ValidModule, check_module, validate};

@@ -17,6 +17,7 @@ ghost use Rattle.validate_typing.specs.Validity.{IsValid};
 ghost use Rattle.validate_typing.specs.Faults.{fault_kind};
 ghost use Rattle.validate_typing.specs.declared.fault.Fault.TheVariants as faults;
 
+use crate::alone::check_alone;
 use crate::check::check_parts;
 use crate::image::opening_image;
 use std::alloc::{AllocError, Global};
@@ -216,4 +217,19 @@ pub fn validate(alloc: Global, module: Module) -> Result<ValidModule, ValidFault
         }),
         Err(fault) => Err(fault),
     }
+}
+
+/// Checks whether a module is valid, as `validate` does, but makes none of what a run of it wants. It has memory for the
+/// table of one body at a time.
+///
+/// # Errors
+/// Those of `validate`.
+pub fn check_module(alloc: Global, module: &Module) -> Result<(), ValidFault>
+    ensures valid { IfOk result (λ _. IsValid «module».now) }
+    ensures refused { IfErr result (IsRefused «module».now) }
+    ensures complete { IsValid «module».now → IsOkUnless result ValidFault.OutOfMemory }
+    ensures memory { IfErr result (λ fault. fault_kind fault ≡ faults.OutOfMemory → fault ≡ ValidFault.OutOfMemory) }
+    ensures outside { IfSome (fault_outside «module».now) (λ kind. IsErrAnd result (λ fault. IsRefusal kind fault)) }
+{
+    check_alone(alloc, module.parts())
 }

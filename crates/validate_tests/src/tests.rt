@@ -11,18 +11,13 @@ use std::alloc::Global;
 use std::process::Abort;
 use std::test::Fail;
 use types::{Limits, MOST_PAGES, PAGE_SIZE};
-use validate::{ValidModule, validate};
+use validate::{ValidModule, check_module, validate};
 use validate_typing::{Fault, Target, ValidFault};
 
-/// What is answered of a module's bytes.
-fn answer(alloc: Global, bytes: &[u8]) -> Result<Answer, Fail> {
-    let module = match read(alloc, bytes) {
-        Ok(module) => module,
-        Err(ReadFault::OutOfMemory) => return Err("no memory to read".into()),
-        Err(ReadFault::Malformed { .. }) => return Ok(Answer::Unread),
-    };
-    match validate(alloc, module) {
-        Ok(_) => Ok(Answer::Valid),
+/// What a validation answers.
+fn answer_of(outcome: Result<(), ValidFault>) -> Result<Answer, Fail> {
+    match outcome {
+        Ok(()) => Ok(Answer::Valid),
         Err(ValidFault::OutOfMemory) => Err("no memory to validate".into()),
         Err(ValidFault::Outside(kind)) => Ok(Answer::Outside(kind)),
         Err(
@@ -33,6 +28,18 @@ fn answer(alloc: Global, bytes: &[u8]) -> Result<Answer, Fail> {
             },
         ) => Ok(Answer::InBody(kind, function, instruction)),
     }
+}
+
+/// What is answered of a module's bytes, by a check that keeps no tables and by one that does.
+fn answers(alloc: Global, bytes: &[u8]) -> Result<[Answer; 2], Fail> {
+    let module = match read(alloc, bytes) {
+        Ok(module) => module,
+        Err(ReadFault::OutOfMemory) => return Err("no memory to read".into()),
+        Err(ReadFault::Malformed { .. }) => return Ok([Answer::Unread, Answer::Unread]),
+    };
+    let checked = answer_of(check_module(alloc, &module))?;
+    let validated = answer_of(validate(alloc, module).map(|_| ()))?;
+    Ok([checked, validated])
 }
 
 /// The bytes of a module of the table.
@@ -50,8 +57,9 @@ fn valid(alloc: Global, number: usize) -> Result<ValidModule, Fail> {
 #[test]
 fn answers_as_the_table_says(rt: HostRuntime) -> Result<(), Fail> {
     for (number, case) in CASES.iter().enumerate() {
-        let found = answer(rt.alloc(), bytes_of(case)?)?;
-        assert_eq!(rt; found, case.answer, "module {number}");
+        let [checked, validated] = answers(rt.alloc(), bytes_of(case)?)?;
+        assert_eq!(rt; checked, case.answer, "module {number}");
+        assert_eq!(rt; validated, case.answer, "module {number}");
     }
     Ok(())
 }

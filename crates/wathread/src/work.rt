@@ -3,11 +3,13 @@
 ghost use Rattle.report_command.specs.Jobs.{IsInRange};
 
 use crate::copied::Copied;
+use crate::progress::Progress;
 use crate::telling::{tell, tell_file_fault, tell_no_memory, tell_usage};
 use report::{perform, show_saved};
 use report_command::{Job, Misuse, Search, Usage, misused};
 use report_files::{Noted, Place, SavedFile, Unread, is_one_file, read_module, read_saved};
 use report_reasons::{Done, explain_done};
+use search_reach::Follows;
 use std::alloc::{AllocError, Global};
 use std::io::{self, BufWriter, ErrorKind};
 use std::sync::Wait;
@@ -187,6 +189,7 @@ fn attempt<'a, R: Threads + Wait + Sync>(
     let stdout = Copied::new(alloc, Noted::new(rt.stdout()), explain);
     let mut out = BufWriter::with_capacity(alloc, OUT, stdout)?;
     let mut save = BufWriter::with_capacity(alloc, RECORD, SavedFile::new(rt, place))?;
+    let mut progress = Progress::new(rt);
     let status = match (job, &names) {
         (Job::Show { look, view, .. }, Some(names)) if view.path().is_some() => show_saved(
             alloc, &module, names, &saved, look, *view, &mut save, &mut err,
@@ -195,9 +198,18 @@ fn attempt<'a, R: Threads + Wait + Sync>(
             alloc, &module, names, &saved, look, *view, &mut out, &mut err,
         ),
         _ => perform(
-            threads, alloc, job, &module, &saved, &mut out, &mut err, &mut save,
+            threads,
+            alloc,
+            job,
+            &module,
+            &saved,
+            &mut out,
+            &mut err,
+            &mut save,
+            &mut progress,
         ),
     };
+    progress.end();
     if let Some(printed) = out.get_ref().copy() {
         let done = Done {
             module: &module,

@@ -8,11 +8,11 @@ use Rattle.report.proofs.job.check.Goals as goal
 pub returns-in-Ok-clause-accepted : goal.returns-in-Ok-clause-accepted
 returns-in-Ok-clause-accepted g c =
     let Line : ℕ → Type 0 = λ n. Appends (g.W.Write.contents c.args.out.now) (g.W.Write.contents c.accept.new.out) (functions_line n) in
-    let count : c.len.result ≡ length c.in-Ok.found.parts.functions = c.len.ensures ∙ ap (λ (p : Parts). length p.functions) c.parts.ensures.parts in
+    let count : c.len.result ≡ length c.in-Ok.found.functions = c.len.ensures ∙ ap (λ (p : Parts). length p.functions) c.parts.ensures.parts in
     λ zero. record {
-      parts = c.in-Ok.found.parts;
+      parts = c.in-Ok.found;
       text = c.in-Ok.ensures.ok.0;
-      valid = c.in-Ok.ensures.ok.1.valid;
+      valid = c.in-Ok.ensures.ok.1;
       line = subst Line count (c.accept.ensures.written zero);
     }
 

@@ -1,6 +1,5 @@
 use Rattle.std.proofs.Common.{◌≡◌, All, vec_len}
 use Rattle.search_parts.specs.declared.shared.Walker.{Walker}
-use Rattle.search_walkers.specs.declared.walker.Standing.{Standing}
 use Rattle.search_walkers.specs.declared.walker.Standing.TheVariants as standings
 use Rattle.search_parts.proofs.opening.missing_threads.Given as goal
 

@@ -1,5 +1,6 @@
 use Rattle.std.proofs.Common.{refl, sym, ◌∙◌}
 use Rattle.replay.proofs.Deciding.{is_recorded}
+use Rattle.search_scheduled.proofs.Unused.{unused_are}
 use Rattle.search_scheduled.proofs.concluding.conclude.Goals as goal
 
 pub returns-clause-concludes : goal.returns-clause-concludes
@@ -11,3 +12,6 @@ returns-clause-concludes g c = λ run came most budget limit. record {
   pages = refl;
   bytes = c.into_bytes.ensures;
 }
+
+pub returns-clause-unused : goal.returns-clause-unused
+returns-clause-unused g c = λ run came. unused_are g.T.TakesTurns.meaning run c.args.course came _ c.in_ok-unused_of-in-None.ensures

@@ -19,9 +19,14 @@ loop-thread-preserved g c =
     (one-more (g.M.Moves.system c.args.system.now) (g.M.Moves.beginning c.args.system.now) (g.M.Moves.count c.args.system.now)
     (g.M.Moves.shares c.args.system.now) (g.M.Moves.is_thread c.args.system.now) (g.M.Moves.makes c.args.system.now)
     c.args.made.now c.args.n c.args.threads.now c.loop-thread.m c.loop-thread.after.items c.in-Some.thread.now c.in-Some-2.rested c.loop-thread.invariant at
-    (slice_get_within c.args.threads.now c.loop-thread.m c.in-Some.thread.now at) (if-some-at _ _ _ c.in-Some-2.is c.in_ok-rested.ensures))
+    (slice_get_within c.args.threads.now c.loop-thread.m c.in-Some.thread.now at) (if-some-at _ _ _ c.in-Some-2.is c.in_ok-rested.ensures.rests))
 
-pub returns : goal.returns
-returns g c = all-done (g.M.Moves.system c.args.system.now) (g.M.Moves.beginning c.args.system.now) (g.M.Moves.count c.args.system.now)
+pub returns-clause-rests : goal.returns-clause-rests
+returns-clause-rests g c = all-done (g.M.Moves.system c.args.system.now) (g.M.Moves.beginning c.args.system.now) (g.M.Moves.count c.args.system.now)
     (g.M.Moves.shares c.args.system.now) (g.M.Moves.is_thread c.args.system.now) (g.M.Moves.makes c.args.system.now)
     c.args.made.now c.args.n c.args.threads.now c.loop-thread.m c.loop-thread.after.items c.loop-thread.invariant c.in_default.ensures.lookup.3
+
+pub returns-in_default-2-clause-gives_up : goal.returns-in_default-2-clause-gives_up
+returns-in_default-2-clause-gives_up g c _ = λ z e by are.
+    let at = at-get c.args.threads.now c.loop-thread.m c.in-Some.thread.now c.in-Some.ensures.lookup.3.0 c.in-Some.ensures.lookup.1 in
+    c.in_ok-rested.ensures.gives_up c.in_default-2.is z e by (are c.loop-thread.m c.in-Some.thread.now at)

@@ -6,14 +6,25 @@ use Rattle.interp_trait.specs.Turns.{Running, left_of}
 use Rattle.interp.specs.Kept.{RunsBy}
 use Rattle.interp.specs.Threads.{StandsFor}
 use Rattle.search_threads.specs.Unlimited.{Unlimited.Going}
-use Rattle.search_walkers.proofs.Walking.{came, is_at, says_end, says_none}
+use Rattle.search_walkers.proofs.Walking.{came, spent_all, is_at, says_end, says_none}
 use Rattle.search_walkers.proofs.rest.rest.Goals as goal
 
 pub own_turns-turn-requires : goal.own_turns-turn-requires
 own_turns-turn-requires c = (Runs c.requires.stands.0 c.requires.stands.1, c.requires.stands.2, tt)
 
-pub returns-in-Ended : goal.returns-in-Ended
-returns-in-Ended c = λ w b x left of by s.
+pub returns-then-spent-ge-FUEL-clause-gives_up : goal.returns-then-spent-ge-FUEL-clause-gives_up
+returns-then-spent-ge-FUEL-clause-gives_up c _ = λ w b x left of by s.
+    let n = c.own_turns-turn.new.self in
+    let none : (t : Running) → StandsFor n t → left_of t ≡ 0 = λ t st.
+    let spent = c.spent.ensures t st in
+    let same = c.own_turns-turn.ensures.stays.fuel in
+    let budget = c.requires.fuel in
+    let high = c.if-spent-ge-FUEL.true in omega (arith, spent, same, budget, high) in
+    spent_all b (program_of c.args.thread.parts.now) (ap program_of by.parts ∙ sym of) x left _ (StandsFor n)
+    (c.own_turns-turn.ensures.turned (Runs x left) s tt) none
+
+pub returns-in-Ended-clause-rests : goal.returns-in-Ended-clause-rests
+returns-in-Ended-clause-rests c = λ w b x left of by s.
     let n = c.own_turns-turn.new.self in
     let some : (t : Running) → StandsFor n t → left_of t ≡ suc (left_of t - 1) = λ t st.
     let spent = c.spent.ensures t st in
@@ -28,8 +39,8 @@ returns-in-Ended c = λ w b x left of by s.
       stands = ap Going (says_end b.program k.state (suc k.left) _ c.in-Ended.outcome c.in-Ended.is k.says);
     }
 
-pub returns : goal.returns
-returns c = λ w b x left of by s.
+pub returns-clause-rests : goal.returns-clause-rests
+returns-clause-rests c = λ w b x left of by s.
     let n = c.own_turns-turn.new.self in
     let some : (t : Running) → StandsFor n t → left_of t ≡ suc (left_of t - 1) = λ t st.
     let spent = c.spent.ensures t st in

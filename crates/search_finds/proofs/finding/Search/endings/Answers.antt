@@ -6,6 +6,8 @@ use Rattle.search_finds.proofs.finding.Search.endings.Goals as goal
 
 pub loop-n-preserved : goal.loop-n-preserved
 loop-n-preserved c =
-    let s = c.args.self.now in
-    subst (λ (l : List Ending). All (IsMet s.module.now.parts s.call s.sought.limit s.sought.dump) l) (sym {A = List Ending} c.in_ok-push.ensures.items)
-    (All-push (IsMet s.module.now.parts s.call s.sought.limit s.sought.dump) _ _ c.loop-n.invariant c.in_ok-ending.ensures)
+    let s = c.args.self.now in (
+      subst (λ (l : List Ending). All (IsMet s.module.now.parts s.call s.sought.limit s.sought.dump) l) (sym {A = List Ending} c.in_ok-push.ensures.items)
+          (All-push (IsMet s.module.now.parts s.call s.sought.limit s.sought.dump) _ _ c.loop-n.invariant.0 c.in_ok-ending.ensures.met),
+      c.in_ok-ending.ensures.spares,
+    )

@@ -1,0 +1,37 @@
+//! The run to an ending.
+ghost use Rattle.std.specs.Prelude.{IfOk, IfSome};
+ghost use Rattle.search_endings.specs.Endings.{IsEndingOf};
+ghost use Rattle.search_finds.specs.Finds.{IsFind};
+
+use search_endings::{Ending, ending_of};
+use search_scheduled::{Made, SearchFault, run_along};
+use search_strategies::Chosen;
+use spawn_host::Call;
+use std::alloc::Global;
+use validate::ValidModule;
+
+/// The run in which the threads that can go on are chosen so, where it ends as is said, by so many bytes of the memory.
+///
+/// # Errors
+/// As of `run_along`.
+#[tactic(auto, using(crate::proofs::Alike::ends_as))]
+pub fn run_to(
+    alloc: Global,
+    module: &ValidModule,
+    call: Call,
+    limit: u32,
+    dump: u32,
+    choices: &[usize],
+    ending: &Ending,
+) -> Result<Option<Made>, SearchFault>
+    ensures find { IfOk result (λ o. IfSome o (IsFind «module».now.parts call.entry limit)) }
+    ensures ending { IfOk result (λ o. IfSome o (λ made. IsEndingOf dump made.end ending.now)) }
+{
+    let made = run_along(alloc, module, call, limit, &mut Chosen::new(choices))?;
+    let end = ending_of(alloc, &made.end, dump)?;
+    if end.is_same(ending) {
+        Ok(Some(made))
+    } else {
+        Ok(None)
+    }
+}

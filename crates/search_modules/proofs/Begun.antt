@@ -1,0 +1,79 @@
+-- Where all threads come to rest in the beginning.
+use Rattle.std.specs.Prelude.{ℕ, zero, suc, ◌≡◌, ◌≢◌, List, length, Option, Some, None}
+use Rattle.std.proofs.Common.{refl, sym, ap, ◌∙◌, subst, arith, inl, inr}
+use Rattle.std.specs.List.{slice_get}
+use Rattle.types.specs.Limits.{most_threads}
+use Rattle.validate_typing.specs.Tabled.{WithTables}
+use Rattle.schedule.specs.System.{put}
+use Rattle.schedule.proofs.Basics.{put-same, put-other, same_or_not}
+use Rattle.interp_machine.specs.State.{State, At}
+use Rattle.search_threads.specs.Unlimited.{Unlimited.Missing, Unlimited.Going}
+use Rattle.search_threads.specs.Budgets.{first_without}
+use Rattle.search_settled.specs.Settled.{Settles}
+use Rattle.search_settled.specs.Next.{IsBeginning}
+use Rattle.search_runs.specs.Called.{Called, Walker as Thread, system_of, first_state, first_shared}
+use Rattle.search_states.specs.Flat.{IsFlat}
+use Rattle.search_states.specs.declared.flat.Flat.{Flat}
+use Rattle.search_walkers.specs.Walkers.{RestsAt}
+use Rattle.search_walkers.specs.declared.walker.Standing.{Standing}
+use Rattle.search_walkers.specs.declared.walker.Standing.TheVariants as standings
+use Rattle.search_parts.specs.Sharing.{Shares, Makes}
+use Rattle.search_parts.specs.Parts.{IsRested}
+use Rattle.search_parts.specs.declared.shared.Common.{Common}
+use Rattle.search_parts.specs.declared.shared.Walker.{Walker}
+use Rattle.search_parts.proofs.AtRest.{rested_so}
+
+-- thread 0 begins in its call
+pub first_at : (b : Called) → (first_state b).threads 0 ≡ Going (At b.main)
+first_at b = ap first_without (put-same {B = Option State} (λ (m : ℕ). None) 0 (Some (At b.main)))
+
+missing_rests : (w : WithTables) (b : Called) → IsRested w b standings.Missing Missing
+missing_rests w b = record { stands = refl; rests = λ turns. absurd (cc turns) }
+
+module _ (w : WithTables) (b : Called) (opening : List ℕ) (main : Standing) (at : RestsAt w b (Going (At b.main)) main) where
+  -- thread 0 alone is there
+  abbrev threads : ℕ → Thread
+  threads = put (λ (m : ℕ). Missing) 0 at.rested
+
+  other_at : (m : ℕ) → m ≢ 0 → (first_state b).threads m ≡ Missing
+  other_at m apart = ap first_without (put-other {B = Option State} (λ (m : ℕ). None) 0 (Some (At b.main)) m apart)
+
+  first_is : threads 0 ≡ at.rested
+  first_is = put-same {B = Thread} (λ (m : ℕ). Missing) 0 at.rested
+
+  other_is : (m : ℕ) → m ≢ 0 → threads m ≡ Missing
+  other_is m apart = put-other {B = Thread} (λ (m : ℕ). Missing) 0 at.rested m apart
+
+  settles : (m : ℕ) → Settles (system_of b) ((first_state b).threads m) (threads m)
+  settles m = elim (same_or_not m 0) [
+    | inl same ↦ subst (λ k. Settles (system_of b) ((first_state b).threads k) (threads k)) (sym same)
+        (subst (λ (u : Thread). Settles (system_of b) u (threads 0)) (sym (first_at b))
+        (subst (λ (u : Thread). Settles (system_of b) (Going (At b.main)) u) (sym first_is) at.settles))
+    | inr apart ↦ record {
+      turns = 0;
+      comes = other_at m apart ∙ sym (other_is m apart);
+      rests = λ turns. (missing_rests w b).rests (sym (ap (λ (u : Thread). (system_of b).wants u) (other_is m apart)) ∙ turns);
+    }
+  ]
+
+  pub begun : (c : Flat Common Walker) → Shares opening c.shared (first_shared b) → length c.threads.items ≡ most_threads
+      → ((t : Walker) → slice_get c.threads.items 0 ≡ Some t → t.standing ≡ main)
+      → ((m : ℕ) (t : Walker) → slice_get c.threads.items (suc m) ≡ Some t → t.standing ≡ standings.Missing)
+      → IsBeginning (system_of b) (first_state b)
+      (IsFlat (system_of b) (first_state b) most_threads (Shares opening) (λ t v. IsRested w b t.standing v) Makes) c
+  begun c shared len first others = record {
+    settled = record { shared = first_shared b; threads = threads };
+    rest = record { shared = refl; each = settles };
+    settled_is = record {
+      shared = shared;
+      len = len;
+      each = each;
+      others = λ m past. ap (λ (u : Thread). (system_of b).wants u) (other_is m (λ same. absurd (omega (arith, past, same))));
+    };
+  }
+    where
+      each : (m : ℕ) (t : Walker) → slice_get c.threads.items m ≡ Some t → IsRested w b t.standing (threads m)
+      each zero t h = subst (λ (s : Standing). IsRested w b s (threads 0)) (sym (first t h))
+          (subst (λ (v : Thread). IsRested w b main v) (sym first_is) (rested_so w b main (Going (At b.main)) at))
+      each (suc m) t h = subst (λ (s : Standing). IsRested w b s (threads (suc m))) (sym (others m t h))
+          (subst (λ (v : Thread). IsRested w b standings.Missing v) (sym (other_is (suc m) (λ same. absurd (omega (arith, same))))) (missing_rests w b))

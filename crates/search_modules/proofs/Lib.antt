@@ -1,0 +1,6 @@
+pub mod Callable
+pub mod Begun
+pub mod Following
+pub mod Told
+pub mod Entries
+pub mod Finding

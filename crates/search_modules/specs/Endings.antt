@@ -1,0 +1,62 @@
+-- How the runs of a module by a call end, and how its threads can end.
+use Rattle.std.specs.Prelude.{ℕ, ◌≡◌, ◌⊎◌, Bool, List, Contains, Option, Some, None}
+use Rattle.types.specs.declared.value.Value.{Value}
+use Rattle.types.specs.declared.event.Entry.{Entry}
+use Rattle.types.specs.declared.parts.FuncType.{FuncType}
+use Rattle.types.specs.declared.parts.Body.{Body}
+use Rattle.types.specs.declared.parts.Parts.{Parts}
+use Rattle.schedule.specs.System.{State}
+use Rattle.schedule_threads.specs.Shared.{Shared}
+use Rattle.spawn_host.specs.Entries.{StartsThreads, IsThreadStart}
+use Rattle.replay.specs.declared.end.EndState.{EndState}
+use Rattle.report_runs.specs.Ends.{EndsRun}
+use Rattle.interp_trait.specs.Turns.{spawned_in}
+use Rattle.search_threads.specs.Unlimited.{Unlimited.Going}
+use Rattle.search_settled.specs.Settled.{MakesTurns}
+use Rattle.search_walkers.specs.Walkers.{patience}
+use Rattle.search_runs.specs.Called.{Called, Walker as Thread, system_of}
+use Rattle.search_runs.specs.Ends.{Ending, HasEndedSo}
+use Rattle.search_runs.specs.Theorems.{CanReach, IsScheduled}
+use Rattle.search_ends.specs.Returned.{IsCall, AllHadEnough, ending_of}
+
+-- Every run of the module by this call, over a memory that loses tries or not, with a log or without one, and whatever its budget:
+-- where all its threads had units and room enough, its ending is there, with so many first bytes.
+abbrev pub HasEveryEnding : Parts → List ℕ → List Value → ℕ → List Ending → Type 0
+HasEveryEnding m entry args dump endings =
+    (fuel : ℕ) (loses : Bool) (limit : Option ℕ) (history : List Entry) (end : EndState)
+    → EndsRun m entry args fuel loses limit history end → AllHadEnough end → Contains endings (ending_of dump end)
+
+-- Threads of the module without budgets can end so by this call, and the machine of a run comes there too, along some turns and with
+-- some budget.
+pub record CanEndSo (m : Parts) (entry : List ℕ) (args : List Value) (dump : ℕ) (e : Ending) : Type 0 where
+  pub called : Called
+  pub call : IsCall m entry args called
+  pub end : State Shared Thread
+  pub reached : CanReach called end
+  pub scheduled : IsScheduled called end
+  pub ended : HasEndedSo dump end e
+
+abbrev pub AllCanEndSo : Parts → List ℕ → List Value → ℕ → List Ending → Type 0
+AllCanEndSo m entry args dump endings = (e : Ending) → Contains endings e → CanEndSo m entry args dump e
+
+-- The number of the function that spawned threads call, where the module can start some.
+abbrev pub IsWorkerOf : Parts → Option ℕ → Type 0
+IsWorkerOf m None = StartsThreads m → ⊥
+IsWorkerOf m (Some own) = StartsThreads m × (func_type : FuncType) × (body : Body) × IsThreadStart m own func_type body
+
+-- A thread makes a million turns of its own without coming to rest.
+abbrev pub RunsOn : Called → Thread → Type 0
+RunsOn b v = MakesTurns (system_of b) patience v
+
+-- Thread n stands where a spawned one begins, in a module that can start none, so that no function is known for that.
+abbrev pub BeginsUnknown : Parts → Called → ℕ → Thread → Type 0
+BeginsUnknown m b n v = (StartsThreads m → ⊥) × (arg : ℕ) × (v ≡ Going (spawned_in b.worker n arg))
+
+-- Threads of the module without budgets can come by this call to where nothing can be told of one of them.
+pub record CanBeLost (m : Parts) (entry : List ℕ) (args : List Value) : Type 0 where
+  pub called : Called
+  pub call : IsCall m entry args called
+  pub state : State Shared Thread
+  pub reached : CanReach called state
+  pub thread : ℕ
+  pub lost : RunsOn called (state.threads thread) ⊎ BeginsUnknown m called thread (state.threads thread)

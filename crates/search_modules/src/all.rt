@@ -1,0 +1,52 @@
+//! All endings of a call.
+
+ghost use Rattle.std.specs.Prelude.{◌≡◌, ◌<◌, IfOk, IfErr, vec_len};
+ghost use Rattle.indexmap.specs.IndexSet.{index_set_len};
+ghost use Rattle.spawn_host.specs.Faults.{IsFaultOf};
+ghost use Rattle.search_modules.specs.Endings.{HasEveryEnding, AllCanEndSo, CanBeLost};
+
+use crate::calling::searched;
+use search_parts::Ending;
+use search_reach::{Ended, Follows, Verdict};
+use search_states::search_all;
+use spawn_host::Call;
+use spawn_host_workers::RunFault;
+use std::alloc::Global;
+use validate::ValidModule;
+
+/// All endings of a call of an exported function, each with so many first bytes of the memory: its threads are gone through in every
+/// order of their events, until there are no more states or more than `most_states` were met.
+///
+/// At `Verdict::All` the list has the ending of every run of the module by this call, over either memory, whatever its budget and its
+/// log, in which no thread stopped for want of units or for a full log (`HasEveryEnding`). Whatever the verdict, threads can end by
+/// this call as each of the list says, and the machine of a run comes there along some turns, with some budget
+/// (`search_runs::every_end_is_scheduled`). Beside each stands a path, a hint that `search_finds::run_to` judges. It says `Verdict::TooMany` only where it met more than `most_states` states, and
+/// `Verdict::CannotTell` only where threads can come by this call to where one makes a million turns of its own without coming to rest,
+/// or stands where a spawned one begins in a module that can start none (`CanBeLost`).
+///
+/// # Errors
+/// `UnknownExport` where no function of the module itself is exported under the name. `WrongArguments` where one is, and the
+/// arguments don't fit it. `NoMemory` where memory is refused.
+pub fn all_endings<F: Follows>(
+    alloc: Global,
+    valid: &ValidModule,
+    call: Call,
+    most_states: usize,
+    dump: usize,
+    follower: &mut F,
+) -> Result<Ended<Ending>, RunFault>
+    ensures all { IfOk result (λ r. r.verdict ≡ Verdict.All
+        → HasEveryEnding valid.now.parts call.entry.name.now call.entry.args.now dump r.endings.keys) }
+    ensures sound { IfOk result (λ r. AllCanEndSo valid.now.parts call.entry.name.now call.entry.args.now dump r.endings.keys) }
+    ensures paths { IfOk result (λ r. vec_len r.paths ≡ index_set_len r.endings) }
+    ensures bound { IfOk result (λ r. r.verdict ≡ Verdict.TooMany → most_states < r.states) }
+    ensures cannot_tell { IfOk result (λ r. r.verdict ≡ Verdict.CannotTell
+        → CanBeLost valid.now.parts call.entry.name.now call.entry.args.now) }
+    ensures fault { IfErr result (IsFaultOf valid.now.parts call.entry.name.now call.entry.args.now) }
+{
+    let searched = searched(alloc, valid, call, dump)?;
+    match search_all(alloc, &searched, most_states, follower) {
+        Ok(ended) => Ok(ended),
+        Err(_) => Err(RunFault::NoMemory),
+    }
+}

@@ -1,0 +1,32 @@
+//! Where the threads of a call come to rest in the beginning.
+
+ghost use Rattle.std.specs.Prelude.{◌≡◌, None, IfOk, IfSome};
+ghost use Rattle.search_settled.specs.Next.{IsBeginning};
+ghost use Rattle.search_runs.specs.Called.{system_of, first_state};
+ghost use Rattle.search_modules.specs.Moved.{called, IsState, IsStuck};
+
+use crate::called::Searched;
+use search_parts::{Common, SharedWalker, first_common, first_threads};
+use search_states::Flat;
+use search_walkers::begin;
+use std::alloc::{AllocError, Global};
+
+/// Where all threads come to rest in the beginning, or nothing where that can't be told, since thread 0 has spent its units before.
+///
+/// # Errors
+/// Where memory is refused.
+pub(crate) fn first_flat(
+    alloc: Global,
+    searched: &Searched,
+) -> Result<Option<Flat<Common, SharedWalker>>, AllocError>
+    ensures first { IfOk result (λ o. IfSome o (IsBeginning (system_of (called searched.now)) (first_state (called searched.now))
+        (IsState searched.now))) }
+    ensures gives_up { IfOk result (λ o. o ≡ None → IsStuck searched.now (first_state (called searched.now))) }
+{
+    let Some(main) = begin(alloc, searched.valid, searched.main, searched.args)? else {
+        return Ok(None);
+    };
+    let shared = first_common(alloc, searched.opening.as_slice(), searched.max)?;
+    let threads = first_threads(alloc, main)?;
+    Ok(Some(Flat { shared, threads }))
+}

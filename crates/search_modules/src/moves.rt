@@ -1,0 +1,106 @@
+//! The threads of a module, moved one by one.
+
+use crate::after::thread_after;
+use crate::beginning::first_flat;
+use crate::called::Searched;
+use search_parts::{Common, Ending, Made, SharedWalker, ending_of, make_event};
+use search_states::{Flat, Moves};
+use std::alloc::{AllocError, Global};
+
+impl Moves for Searched<'_> {
+    ghost use Rattle.types.specs.declared.event.Event.{Event};
+    ghost use Rattle.types.specs.declared.event.Reply.{Reply};
+    ghost use Rattle.types.specs.declared.event.Answer.{Answer};
+    ghost use Rattle.types.specs.Limits.{most_threads};
+    ghost use Rattle.schedule_threads.specs.Shared.{Shared};
+    ghost use Rattle.search_runs.specs.Called.{Walker as Thread, system_of, first_state};
+    ghost use Rattle.search_runs.specs.Ends.{HasEndedSo};
+    ghost use Rattle.search_parts.specs.Sharing.{Shares, Makes};
+    ghost use Rattle.search_modules.specs.Moved.{called, IsThread, IsStuck};
+    ghost use Rattle.search_runs.proofs.Tame.{tame};
+    ghost use Rattle.search_parts.proofs.Bounds.{bounded, over, same_shared, same_thread};
+
+    type Shared = Common;
+
+    type Thread = SharedWalker;
+
+    type Made = Made;
+
+    type Ending = Ending;
+
+    ghost X = { Shared };
+
+    ghost T = { Thread };
+
+    ghost E = { Event };
+
+    ghost V = { Reply };
+
+    ghost A = { Answer };
+
+    ghost system = { λ t. system_of (called t) };
+
+    ghost beginning = { λ t. first_state (called t) };
+
+    ghost ends = { λ t. HasEndedSo t.dump };
+
+    ghost count = { λ t. most_threads };
+
+    ghost shares = { λ t. Shares t.opening.items };
+
+    ghost is_thread = { IsThread };
+
+    ghost makes = { λ t. Makes };
+
+    ghost stuck = { IsStuck };
+
+    ghost tame = { λ t. tame (called t) };
+
+    ghost bounded = { λ t. bounded (called t) };
+
+    ghost over = { λ t. over (called t) t.dump };
+
+    ghost same_shared = { λ t. same_shared t.opening.items };
+
+    ghost same_thread = { λ t. same_thread t.valid.now (called t) };
+
+    fn first(&self, alloc: Global) -> Result<Option<Flat<Common, SharedWalker>>, AllocError> {
+        first_flat(alloc, self)
+    }
+
+    fn event(
+        &self,
+        alloc: Global,
+        shared: &Common,
+        thread: &SharedWalker,
+        n: usize,
+    ) -> Result<Option<(Common, Made)>, AllocError> {
+        make_event(
+            alloc,
+            self.valid,
+            self.opening.as_slice(),
+            shared,
+            thread.walker(),
+            n,
+        )
+    }
+
+    fn after(
+        &self,
+        alloc: Global,
+        made: &Made,
+        n: usize,
+        thread: &SharedWalker,
+        m: usize,
+    ) -> Result<Option<SharedWalker>, AllocError> {
+        thread_after(alloc, self, made, n, thread, m)
+    }
+
+    fn ending(
+        &self,
+        alloc: Global,
+        flat: &Flat<Common, SharedWalker>,
+    ) -> Result<Option<Ending>, AllocError> {
+        ending_of(alloc, self.opening.as_slice(), flat, self.dump)
+    }
+}

@@ -1,0 +1,52 @@
+-- How the threads of a state have left, and when two endings are the same.
+use Rattle.std.specs.Prelude.{ℕ, ◌≡◌, Bool, true, List, Contains, map, Option, Some, None, nat_eq}
+use Rattle.std.specs.Ordering.{on, eq_of_both}
+use Rattle.std.specs.Cmp.Lexicographic.{pointwise}
+use Rattle.types.specs.Limits.{most_threads}
+use Rattle.types.specs.declared.outcome.Outcome.{Outcome}
+use Rattle.types.specs.contracts.outcome.OutcomePartialEq.TheImpl as outcomes
+use Rattle.validate_typing.specs.Tabled.{WithTables}
+use Rattle.schedule.specs.System.{State}
+use Rattle.schedule_threads.specs.Shared.{Shared}
+use Rattle.search_states.specs.declared.flat.Flat.{Flat}
+use Rattle.search_states.specs.Flat.{IsFlat}
+use Rattle.search_runs.specs.Called.{Called, Walker as Thread, system_of, first_state}
+use Rattle.search_runs.specs.Ends.{Ending}
+use Rattle.search_walkers.specs.declared.walker.Standing.{Standing}
+use Rattle.search_walkers.specs.declared.walker.Standing.TheVariants.{Missing, Going, Ended, Leaving, Away}
+use Rattle.search_parts.specs.Sharing.{Shares, Makes}
+use Rattle.search_parts.specs.Parts.{IsRested}
+use Rattle.search_parts.specs.declared.shared.Common.{Common}
+use Rattle.search_parts.specs.declared.shared.Walker.{Walker}
+
+-- The outcome of a thread that has left.
+abbrev pub outcome_away : Standing → Option Outcome
+outcome_away Missing = None
+outcome_away (Going k) = None
+outcome_away (Ended o) = None
+outcome_away (Leaving o) = None
+outcome_away (Away o) = Some o
+
+abbrev pub outcome_at : Walker → Option Outcome
+outcome_at t = outcome_away t.standing
+
+-- All of these threads have left, with these outcomes.
+abbrev pub HaveLeft : List Walker → List Outcome → Type 0
+HaveLeft threads outcomes = map outcome_at threads ≡ map (λ o. Some o) outcomes
+
+-- One of them hasn't.
+abbrev pub IsOneHere : List Walker → Type 0
+IsOneHere threads = (t : Walker) × Contains threads t × (outcome_at t ≡ None)
+
+-- This is a settled state of a call, part by part.
+abbrev pub IsStateOf : WithTables → Called → List ℕ → Flat Common Walker → State Shared Thread → Type 0
+IsStateOf w b opening =
+    IsFlat (system_of b) (first_state b) most_threads (Shares opening) (λ (t : Walker). IsRested w b t.standing) Makes
+
+-- Endings are compared by all that they say.
+abbrev pub is_same_ending : Ending → Ending → Bool
+is_same_ending = eq_of_both (on (λ e. e.pages) nat_eq)
+    (eq_of_both (on (λ e. e.outcomes) (pointwise outcomes.eq-value.it)) (on (λ e. e.bytes) (pointwise nat_eq)))
+
+abbrev pub EqualEndingsAreTheSame : Type 0
+EqualEndingsAreTheSame = (x y : Ending) → is_same_ending x y ≡ true → x ≡ y
