@@ -31,6 +31,8 @@ mod replays;
 #[cfg(test)]
 mod round_trips;
 #[cfg(test)]
+mod searches;
+#[cfg(test)]
 mod text;
 #[cfg(test)]
 mod threaded;

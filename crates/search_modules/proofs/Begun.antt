@@ -1,8 +1,8 @@
 -- Where all threads come to rest in the beginning.
-use Rattle.std.specs.Prelude.{ℕ, zero, suc, ◌≡◌, ◌≢◌, List, length, Option, Some, None}
+use Rattle.std.specs.Prelude.{ℕ, zero, suc, ◌≡◌, ◌≢◌, List, [], ◌∷◌, length, Option, Some, None}
 use Rattle.std.proofs.Common.{refl, sym, ap, ◌∙◌, subst, arith, inl, inr}
 use Rattle.std.specs.List.{slice_get}
-use Rattle.types.specs.Limits.{most_threads}
+use Rattle.shared_memory.specs.WaitQueue.{first_queue}
 use Rattle.validate_typing.specs.Tabled.{WithTables}
 use Rattle.schedule.specs.System.{put}
 use Rattle.schedule.proofs.Basics.{put-same, put-other, same_or_not}
@@ -17,7 +17,7 @@ use Rattle.search_states.specs.declared.flat.Flat.{Flat}
 use Rattle.search_walkers.specs.Walkers.{RestsAt}
 use Rattle.search_walkers.specs.declared.walker.Standing.{Standing}
 use Rattle.search_walkers.specs.declared.walker.Standing.TheVariants as standings
-use Rattle.search_parts.specs.Sharing.{Shares, Makes}
+use Rattle.search_parts.specs.Sharing.{Shares, Makes, started_in}
 use Rattle.search_parts.specs.Parts.{IsRested}
 use Rattle.search_parts.specs.declared.shared.Common.{Common}
 use Rattle.search_parts.specs.declared.shared.Walker.{Walker}
@@ -27,7 +27,7 @@ use Rattle.search_parts.proofs.AtRest.{rested_so}
 pub first_at : (b : Called) → (first_state b).threads 0 ≡ Going (At b.main)
 first_at b = ap first_without (put-same {B = Option State} (λ (m : ℕ). None) 0 (Some (At b.main)))
 
-missing_rests : (w : WithTables) (b : Called) → IsRested w b standings.Missing Missing
+pub missing_rests : (w : WithTables) (b : Called) → IsRested w b standings.Missing Missing
 missing_rests w b = record { stands = refl; rests = λ turns. absurd (cc turns) }
 
 module _ (w : WithTables) (b : Called) (opening : List ℕ) (main : Standing) (at : RestsAt w b (Going (At b.main)) main) where
@@ -56,24 +56,25 @@ module _ (w : WithTables) (b : Called) (opening : List ℕ) (main : Standing) (a
     }
   ]
 
-  pub begun : (c : Flat Common Walker) → Shares opening c.shared (first_shared b) → length c.threads.items ≡ most_threads
-      → ((t : Walker) → slice_get c.threads.items 0 ≡ Some t → t.standing ≡ main)
-      → ((m : ℕ) (t : Walker) → slice_get c.threads.items (suc m) ≡ Some t → t.standing ≡ standings.Missing)
+  pub begun : (c : Flat Common Walker) → Shares opening c.shared (first_shared b)
+      → (t : Walker) × (c.threads.items ≡ t ∷ []) × (t.standing ≡ main)
       → IsBeginning (system_of b) (first_state b)
-      (IsFlat (system_of b) (first_state b) most_threads (Shares opening) (λ t v. IsRested w b t.standing v) Makes) c
-  begun c shared len first others = record {
+      (IsFlat (system_of b) (first_state b) started_in (Shares opening) (λ t v. IsRested w b t.standing v) Makes) c
+  unfolding first_queue
+  begun c shared first = record {
     settled = record { shared = first_shared b; threads = threads };
     rest = record { shared = refl; each = settles };
     settled_is = record {
       shared = shared;
-      len = len;
-      each = each;
+      len = ap length first.1;
+      each = λ m t h. each m t (ap (λ l. slice_get l m) (sym first.1) ∙ h);
       others = λ m past. ap (λ (u : Thread). (system_of b).wants u) (other_is m (λ same. absurd (omega (arith, past, same))));
     };
   }
     where
-      each : (m : ℕ) (t : Walker) → slice_get c.threads.items m ≡ Some t → IsRested w b t.standing (threads m)
-      each zero t h = subst (λ (s : Standing). IsRested w b s (threads 0)) (sym (first t h))
+      each : (m : ℕ) (t : Walker) → slice_get (first.0 ∷ []) m ≡ Some t → IsRested w b t.standing (threads m)
+      each zero t h =
+          let same : first.0 ≡ t = cc h in
+          subst (λ (s : Standing). IsRested w b s (threads 0)) (sym first.2 ∙ ap (λ (u : Walker). u.standing) same)
           (subst (λ (v : Thread). IsRested w b main v) (sym first_is) (rested_so w b main (Going (At b.main)) at))
-      each (suc m) t h = subst (λ (s : Standing). IsRested w b s (threads (suc m))) (sym (others m t h))
-          (subst (λ (v : Thread). IsRested w b standings.Missing v) (sym (other_is (suc m) (λ same. absurd (omega (arith, same))))) (missing_rests w b))
+      each (suc m) t h = absurd (cc h)

@@ -1,5 +1,5 @@
 -- A call of an exported function, with arguments that fit it, can be searched, and is what a run of the module calls.
-use Rattle.std.specs.Prelude.{ℕ, ◌≡◌, ◌&&◌, true, List, [], ◌∷◌, length, map, Option, Some, None, codes}
+use Rattle.std.specs.Prelude.{ℕ, ◌≡◌, ◌&&◌, true, List, [], ◌∷◌, map, Option, Some, None, codes}
 use Rattle.std.proofs.Common.{refl, sym, ap, ◌∙◌, subst, arith}
 use Rattle.std.specs.List.{slice_get}
 use Rattle.std.specs.Cmp.Lexicographic.{pointwise}
@@ -18,17 +18,14 @@ use Rattle.types.specs.Modules.{IsModule}
 use Rattle.validate_typing.specs.Image.{opening_image, pages_max_of}
 use Rattle.validate_typing.specs.Validity.{IsValid, IsThreaded}
 use Rattle.validate_module_rules.specs.Exported.{IsExported}
-use Rattle.shared_memory_sequential.specs.Opening.{can_open}
-use Rattle.interp_machine.specs.Config.{Config}
-use Rattle.interp_machine.specs.State.{State, At}
+use Rattle.interp_machine.specs.State.{At}
 use Rattle.interp_machine.specs.Program.{program_of}
 use Rattle.interp_trait.specs.Turns.{spawned_in}
 use Rattle.interp.specs.Starts.{IsFunction, start_of}
-use Rattle.spawn_host.specs.Entries.{StartsThreads, IsThreadStart, CallsThreadStart, Takes}
-use Rattle.spawn_host.specs.Runs.{Beginning, start_by}
+use Rattle.spawn_host.specs.Entries.{StartsThreads, CallsThreadStart, Takes}
+use Rattle.spawn_host.specs.Runs.{Beginning}
 use Rattle.spawn_host.proofs.Calling.{is_there}
 use Rattle.report_runs.proofs.Openable.{module_opens}
-use Rattle.search_runs.specs.Called.{with_fuel}
 use Rattle.search_ends.specs.Returned.{IsCall}
 use Rattle.search_modules.specs.Searching.{type_at, call_by, call_of, takes, can_call, can_spawn, worker_of, called_of, is_callable}
 use Rattle.search_modules.specs.Endings.{IsWorkerOf}

@@ -19,7 +19,7 @@ use Rattle.search_ends.proofs.Returning.{what_runs_return_is_reached}
 use Rattle.search_parts.specs.Endings.{is_same_ending}
 use Rattle.search_parts.specs.Equal.{equal_ones}
 use Rattle.search_parts.specs.Parts.{IsLost}
-use Rattle.search_modules.specs.Endings.{HasEveryEnding, CanEndSo, AllCanEndSo, IsWorkerOf, RunsOn, BeginsUnknown, CanBeLost}
+use Rattle.search_modules.specs.Endings.{HasEveryEnding, AllCanEndSo, IsWorkerOf, RunsOn, BeginsUnknown, CanBeLost}
 
 module _ (m : Parts) (entry : List ℕ) (args : List Value) (b : Called) (call : IsCall m entry args b) (dump : ℕ) (endings : List Ending) where
   every : HasDistinctNames m.exports

@@ -1,31 +1,30 @@
 -- Where a thread of a search comes to rest after an event.
-use Rattle.std.specs.Prelude.{ℕ, ◌≡◌}
+use Rattle.std.specs.Prelude.{ℕ, ◌≤◌}
 use Rattle.std.proofs.Common.{refl, sym, subst}
 use Rattle.types.specs.declared.event.Event.{Event}
-use Rattle.types.specs.Limits.{most_threads}
 use Rattle.schedule.specs.System.{State}
 use Rattle.schedule.specs.Scheduled.{after_event}
 use Rattle.schedule_threads.specs.Shared.{Shared}
-use Rattle.search_runs.specs.Called.{Called, Walker as Thread, system_of, first_state}
-use Rattle.search_states.specs.Flat.{IsMadeBy, ComesAfter}
+use Rattle.search_runs.specs.Called.{Walker as Thread, system_of, first_state}
+use Rattle.search_runs.proofs.Tame.{missing}
+use Rattle.search_states.specs.Flat.{RestsAfter, ComesAfter, BeginsAfter}
 use Rattle.search_walkers.specs.Walkers.{RestsAt}
 use Rattle.search_walkers.specs.declared.walker.Standing.{Standing}
-use Rattle.search_parts.specs.Sharing.{Shares, Makes}
+use Rattle.search_walkers.specs.declared.walker.Standing.TheVariants as standings
+use Rattle.search_parts.specs.Sharing.{Shares, Makes, started_in}
 use Rattle.search_parts.specs.Parts.{IsRested, IsAfter}
 use Rattle.search_parts.specs.declared.event.Made.{Made}
 use Rattle.search_parts.specs.declared.shared.Walker.{Walker}
 use Rattle.search_parts.proofs.AtRest.{rested_so}
-use Rattle.search_modules.specs.Moved.{called, IsThread}
+use Rattle.search_modules.specs.Moved.{called, IsThread, IsMade}
 use Rattle.search_modules.specs.declared.called.Searched.{Searched}
+use Rattle.search_modules.proofs.Begun.{missing_rests}
 use Rattle.search_modules.proofs.Callable.{workers}
 
-module _ (s : Searched) (made : Made) (n : ℕ) (before : Walker) (m : ℕ) where
-  abbrev IsMade : State Shared Thread → Event → Type 0
-  IsMade z e = IsMadeBy (system_of (called s)) (first_state (called s)) most_threads (Shares s.opening.items) (IsThread s) Makes made z n e
-
-  pub is_after : (z : State Shared Thread) (e : Event) → IsMade z e → IsThread s before (z.threads m)
-      → IsAfter s.valid.now s.worker made n before.standing m (called s) z e
-  is_after z e by is = record {
+module _ (s : Searched) (made : Made) (n m : ℕ) where
+  pub is_after : (standing : Standing) (z : State Shared Thread) (e : Event) → IsMade s made n z e
+      → IsRested s.valid.now (called s) standing (z.threads m) → IsAfter s.valid.now s.worker made n standing m (called s) z e
+  is_after standing z e by is = record {
     of = refl;
     workers = workers s.valid.now.parts s.opening.items s.max s.main s.args.now s.worker s.callable;
     reached = by.reached;
@@ -34,20 +33,32 @@ module _ (s : Searched) (made : Made) (n : ℕ) (before : Walker) (m : ℕ) wher
     rested = is;
   }
 
-  pub comes_after : (after : Walker) (standing : Standing) → after.standing ≡ standing
-      → ((b : Called) (z : State Shared Thread) (e : Event) → IsAfter s.valid.now s.worker made n before.standing m b z e
-      → RestsAt s.valid.now b ((after_event (system_of b) z n e).threads m) standing)
-      → ComesAfter (system_of (called s)) (first_state (called s)) most_threads (Shares s.opening.items) (IsThread s) Makes made n before m after
-  comes_after after standing same rests z e by is =
-      let at = rests (called s) z e (is_after z e by is) in
+  -- who wasn't started is missing
+  pub is_new : (z : State Shared Thread) (e : Event) → IsMade s made n z e → started_in z.shared ≤ m
+      → IsAfter s.valid.now s.worker made n standings.Missing m (called s) z e
+  is_new z e by past = is_after standings.Missing z e by
+      (subst (λ (v : Thread). IsRested s.valid.now (called s) standings.Missing v) (sym (missing (called s) z by.reached m past))
+      (missing_rests s.valid.now (called s)))
+
+  abbrev Rests : Standing → Standing → Type 0
+  Rests before standing = (z : State Shared Thread) (e : Event) → IsAfter s.valid.now s.worker made n before m (called s) z e
+      → RestsAt s.valid.now (called s) ((after_event (system_of (called s)) z n e).threads m) standing
+
+  rests_after : (before : Standing) (after : Walker) → Rests before after.standing → (z : State Shared Thread) (e : Event)
+      → IsAfter s.valid.now s.worker made n before m (called s) z e
+      → RestsAfter (system_of (called s)) (first_state (called s)) started_in (Shares s.opening.items) (IsThread s) Makes z n e m after
+  rests_after before after rests z e is =
+      let at = rests z e is in
       record {
         settled = at.rested;
         rests = at.settles;
-        is = subst (λ x. IsRested s.valid.now (called s) x at.rested) (sym same)
-            (rested_so s.valid.now (called s) standing ((after_event (system_of (called s)) z n e).threads m) at);
+        is = rested_so s.valid.now (called s) after.standing ((after_event (system_of (called s)) z n e).threads m) at;
       }
 
--- a thread that is read elsewhere is the same
-pub after_so : (s : Searched) (made : Made) (n m : ℕ) (t u : Walker) → t ≡ u → (b : Called) (z : State Shared Thread) (e : Event)
-    → IsAfter s.valid.now s.worker made n t.standing m b z e → IsAfter s.valid.now s.worker made n u.standing m b z e
-after_so s made n m t u same b z e after = subst (λ (x : Walker). IsAfter s.valid.now s.worker made n x.standing m b z e) same after
+  pub comes_after : (before after : Walker) → Rests before.standing after.standing
+      → ComesAfter (system_of (called s)) (first_state (called s)) started_in (Shares s.opening.items) (IsThread s) Makes made n before m after
+  comes_after before after rests z e by is = rests_after before.standing after rests z e (is_after before.standing z e by is)
+
+  pub begins_after : (new : Walker) → Rests standings.Missing new.standing
+      → BeginsAfter (system_of (called s)) (first_state (called s)) started_in (Shares s.opening.items) (IsThread s) Makes made n m new
+  begins_after new rests z e by past = rests_after standings.Missing new rests z e (is_new z e by past)

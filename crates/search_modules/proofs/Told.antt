@@ -1,7 +1,6 @@
 -- What the parts of a state tell, read as of the states of one search.
 use Rattle.std.specs.Prelude.{ℕ, ◌≡◌, List, Option, Result, Ok, Err, IfOk}
 use Rattle.std.proofs.Common.{refl, sym, subst}
-use Rattle.types.specs.Limits.{most_threads}
 use Rattle.schedule.specs.System.{State}
 use Rattle.schedule_threads.specs.Shared.{Shared}
 use Rattle.validate_typing.specs.Tabled.{WithTables}
@@ -11,7 +10,7 @@ use Rattle.search_runs.specs.Ends.{Ending, HasEndedSo}
 use Rattle.search_states.specs.Flat.{IsThreadOf, IsEventOf}
 use Rattle.search_states.specs.declared.flat.Flat.{Flat}
 use Rattle.search_parts.specs.Endings.{IsStateOf}
-use Rattle.search_parts.specs.Sharing.{Shares, Makes}
+use Rattle.search_parts.specs.Sharing.{Shares, Makes, started_in}
 use Rattle.search_parts.specs.Parts.{IsRested, IsThreadIn}
 use Rattle.search_parts.specs.declared.event.Made.{Made}
 use Rattle.search_parts.specs.declared.shared.Common.{Common}
@@ -27,12 +26,12 @@ module _ (s : Searched) where
   -- of an event
   abbrev EventBy : List ℕ → Common → Walker → ℕ → Option (Common × Made) → Type 0
   EventBy opening shared thread n o = (b : Called) (z : State Shared Thread) → IsThreadIn s.valid.now opening shared thread.standing n b z
-      → IsEventOf (system_of b) (first_state b) most_threads (Shares opening) (λ (t : Walker). IsRested s.valid.now b t.standing) Makes z n o
+      → IsEventOf (system_of b) (first_state b) started_in (Shares opening) (λ (t : Walker). IsRested s.valid.now b t.standing) Makes z n o
 
   abbrev EventTold : Common → Walker → ℕ → Option (Common × Made) → Type 0
   EventTold shared thread n o = (z : State Shared Thread)
-      → IsThreadOf (system_of (called s)) (first_state (called s)) most_threads (Shares s.opening.items) (IsThread s) Makes shared thread n z
-      → IsEventOf (system_of (called s)) (first_state (called s)) most_threads (Shares s.opening.items) (IsThread s) Makes z n o
+      → IsThreadOf (system_of (called s)) (first_state (called s)) started_in (Shares s.opening.items) (IsThread s) Makes shared thread n z
+      → IsEventOf (system_of (called s)) (first_state (called s)) started_in (Shares s.opening.items) (IsThread s) Makes z n o
 
   pub event_told : {E : Type 0} (opening : List ℕ) → opening ≡ s.opening.items → (shared : Common) (read thread : Walker) → read ≡ thread
       → (n : ℕ) (r : Result (Option (Common × Made)) E) → IfOk r (EventBy opening shared read n) → IfOk r (EventTold shared thread n)

@@ -1,13 +1,14 @@
 -- The states of a search: what is shared and each thread at rest, of a module's threads.
 use Rattle.std.specs.Prelude.{ℕ}
-use Rattle.types.specs.Limits.{most_threads}
+use Rattle.types.specs.declared.event.Event.{Event}
 use Rattle.schedule.specs.System.{State}
 use Rattle.schedule_threads.specs.Shared.{Shared}
 use Rattle.search_runs.specs.Called.{Called, Walker as Thread, system_of, first_state}
-use Rattle.search_states.specs.Flat.{IsFlat}
+use Rattle.search_states.specs.Flat.{IsFlat, IsMadeBy}
 use Rattle.search_states.specs.declared.flat.Flat.{Flat}
-use Rattle.search_parts.specs.Sharing.{Shares, Makes}
+use Rattle.search_parts.specs.Sharing.{Shares, Makes, started_in}
 use Rattle.search_parts.specs.Parts.{IsRested, IsLost}
+use Rattle.search_parts.specs.declared.event.Made.{Made}
 use Rattle.search_parts.specs.declared.shared.Common.{Common}
 use Rattle.search_parts.specs.declared.shared.Walker.{Walker}
 use Rattle.search_modules.specs.Searching.{called_of}
@@ -23,7 +24,12 @@ IsThread s t v = IsRested s.valid.now (called s) t.standing v
 
 -- One of its states, settled.
 abbrev pub IsState : Searched → Flat Common Walker → State Shared Thread → Type 0
-IsState s = IsFlat (system_of (called s)) (first_state (called s)) most_threads (Shares s.opening.items) (IsThread s) Makes
+IsState s = IsFlat (system_of (called s)) (first_state (called s)) started_in (Shares s.opening.items) (IsThread s) Makes
+
+-- Thread n made an event in one of its states.
+abbrev pub IsMade : Searched → Made → ℕ → State Shared Thread → Event → Type 0
+IsMade s made n z e =
+    IsMadeBy (system_of (called s)) (first_state (called s)) started_in (Shares s.opening.items) (IsThread s) Makes made z n e
 
 -- Nothing can be told of one of the threads: it makes a million turns of its own, or it begins and no function is known for that.
 abbrev pub IsStuck : Searched → State Shared Thread → Type 0

@@ -20,9 +20,10 @@ use validate::ValidModule;
 /// At `Verdict::All` the list has the ending of every run of the module by this call, over either memory, whatever its budget and its
 /// log, in which no thread stopped for want of units or for a full log (`HasEveryEnding`). Whatever the verdict, threads can end by
 /// this call as each of the list says, and the machine of a run comes there along some turns, with some budget
-/// (`search_runs::every_end_is_scheduled`). Beside each stands a path, a hint that `search_finds::run_to` judges. It says `Verdict::TooMany` only where it met more than `most_states` states, and
-/// `Verdict::CannotTell` only where threads can come by this call to where one makes a million turns of its own without coming to rest,
-/// or stands where a spawned one begins in a module that can start none (`CanBeLost`).
+/// (`search_runs::every_end_is_scheduled`). Beside each stands a path, a hint that `search_finds::run_to` judges. It says
+/// `Verdict::TooMany` only where it met more than `most_states` states, and `Verdict::CannotTell` only where threads can come by this
+/// call to where one makes a million turns of its own without coming to rest, or stands where a spawned one begins in a module that
+/// can start none (`CanBeLost`).
 ///
 /// # Errors
 /// `UnknownExport` where no function of the module itself is exported under the name. `WrongArguments` where one is, and the

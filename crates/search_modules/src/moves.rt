@@ -1,6 +1,6 @@
 //! The threads of a module, moved one by one.
 
-use crate::after::thread_after;
+use crate::after::{begun_after, thread_after};
 use crate::beginning::first_flat;
 use crate::called::Searched;
 use search_parts::{Common, Ending, Made, SharedWalker, ending_of, make_event};
@@ -15,7 +15,7 @@ impl Moves for Searched<'_> {
     ghost use Rattle.schedule_threads.specs.Shared.{Shared};
     ghost use Rattle.search_runs.specs.Called.{Walker as Thread, system_of, first_state};
     ghost use Rattle.search_runs.specs.Ends.{HasEndedSo};
-    ghost use Rattle.search_parts.specs.Sharing.{Shares, Makes};
+    ghost use Rattle.search_parts.specs.Sharing.{Shares, Makes, started_in};
     ghost use Rattle.search_modules.specs.Moved.{called, IsThread, IsStuck};
     ghost use Rattle.search_runs.proofs.Tame.{tame};
     ghost use Rattle.search_parts.proofs.Bounds.{bounded, over, same_shared, same_thread};
@@ -44,7 +44,9 @@ impl Moves for Searched<'_> {
 
     ghost ends = { λ t. HasEndedSo t.dump };
 
-    ghost count = { λ t. most_threads };
+    ghost count = { λ t. started_in };
+
+    ghost most = { λ t. most_threads };
 
     ghost shares = { λ t. Shares t.opening.items };
 
@@ -66,6 +68,10 @@ impl Moves for Searched<'_> {
 
     fn first(&self, alloc: Global) -> Result<Option<Flat<Common, SharedWalker>>, AllocError> {
         first_flat(alloc, self)
+    }
+
+    fn started(&self, shared: &Common) -> usize {
+        shared.started()
     }
 
     fn event(
@@ -94,6 +100,16 @@ impl Moves for Searched<'_> {
         m: usize,
     ) -> Result<Option<SharedWalker>, AllocError> {
         thread_after(alloc, self, made, n, thread, m)
+    }
+
+    fn first_after(
+        &self,
+        alloc: Global,
+        made: &Made,
+        n: usize,
+        m: usize,
+    ) -> Result<Option<SharedWalker>, AllocError> {
+        begun_after(alloc, self, made, n, m)
     }
 
     fn ending(

@@ -1,25 +1,29 @@
 -- What holds of all threads of a module: who is there, and what is equal is the same.
-use Rattle.std.specs.Prelude.{ℕ, zero, suc, [], ◌∷◌, ◌≡◌, ◌&&◌, ◌==◌, ◌<◌, ◌≤◌, true, false, List, length, cond, nat_lt, Option, Some, None, nat_eq, slice_index_or}
+use Rattle.std.specs.Prelude.{ℕ, zero, suc, [], ◌∷◌, ◌≡◌, ◌&&◌, ◌<◌, ◌≤◌, true, List, length, Option, Some, None, nat_eq}
 use Rattle.std.proofs.Common.{refl, sym, ap, ◌∙◌, subst, arith, inl, inr}
 use Rattle.std.specs.List.{slice_get}
 use Rattle.std.specs.Cmp.{first_so, second_so}
-use Rattle.std.proofs.lemmas.Bool.{cases_lt, le-ltb}
+use Rattle.std.proofs.lemmas.Bool.{cases_lt}
 use Rattle.types.specs.declared.event.Event.{Event}
-use Rattle.types.specs.declared.event.Event.TheVariants as events
-use Rattle.types.specs.declared.event.Question.TheVariants as questions
 use Rattle.shared_memory.specs.Memory.{reply_of}
-use Rattle.shared_memory.specs.WaitQueue.{next_id}
-use Rattle.shared_memory.proofs.Lengths.{due_length_step}
+use Rattle.shared_memory.specs.WaitQueue.{WaitQueue, next_id}
 use Rattle.types.specs.Limits.{most_threads}
-use Rattle.schedule_threads.specs.Shared.{Shared, queue_by}
+use Rattle.schedule.specs.System.{Want.Calls, State}
+use Rattle.schedule.specs.Scheduled.{after_event, or_started}
+use Rattle.schedule_threads.specs.Shared.{Shared}
 use Rattle.schedule_threads.specs.Threads.{machine_of}
-use Rattle.interp_trait.specs.Turns.{spawned_in}
+use Rattle.schedule_runs.proofs.Idle.{next_along}
+use Rattle.interp_machine.specs.State as states
 use Rattle.search_threads.specs.Unlimited.{Unlimited.Missing, Unlimited.Away, unlimited_wants}
 use Rattle.search_threads.specs.Budgets.{started_without}
-use Rattle.search_runs.proofs.Tame.{orderly}
+use Rattle.search_reach.proofs.Paths.{onward}
+use Rattle.search_settled.specs.Settled.{StepsBy}
+use Rattle.search_settled.proofs.Reaching.{by_event}
+use Rattle.search_runs.proofs.Tame.{orderly, missing}
+use Rattle.search_runs.specs.Theorems.{CanReach}
 use Rattle.search_settled.specs.Next.{NobodyTurns}
 use Rattle.search_states.specs.Flat.{AreBounded}
-use Rattle.search_runs.specs.Called.{Called, Walker, system_of, first_state, begun_at}
+use Rattle.search_runs.specs.Called.{Called, Walker, system_of, first_state, shared_by, begun_by}
 use Rattle.search_runs.specs.Ends.{HasEndedSo}
 use Rattle.validate_typing.specs.Tabled.{WithTables}
 use Rattle.search_memory.specs.contracts.beside.ChangesPartialEq.TheImpl as memories
@@ -28,7 +32,7 @@ use Rattle.search_walkers.specs.contracts.walker.StandingPartialEq.TheImpl as st
 use Rattle.search_same.proofs.Standings.{same_standing}
 use Rattle.search_same.proofs.SharedParts.{same_memory, same_queue}
 use Rattle.search_parts.specs.Parts.{IsRested}
-use Rattle.search_parts.specs.Sharing.{Shares}
+use Rattle.search_parts.specs.Sharing.{Shares, started_in}
 use Rattle.search_parts.specs.declared.shared.Common.{Common}
 use Rattle.search_parts.specs.declared.shared.Walker as walkers
 use Rattle.search_parts.specs.contracts.shared.CommonPartialEq.TheImpl as common_eq
@@ -55,34 +59,35 @@ same_shared opening x y e w sh =
       sized = subst IsSized memory sh.sized;
     }
 
--- beyond the places of the answers due nobody is given one, and nobody starts
-none_at : {A : Type 0} (xs : List (Option A)) (m : ℕ) → length xs ≤ m → slice_index_or xs m None ≡ None
-none_at [] m past = refl
-none_at (x ∷ xs) zero past = absurd (omega (arith, past))
-none_at (x ∷ xs) (suc m) past = none_at xs m (omega (arith, past))
+-- the threads that were started are counted, and an event takes none back
+module _ (b : Called) where
+  few : (w : State Shared Walker) → CanReach b w → started_in w.shared ≤ most_threads
+  few w reach =
+      let o = orderly b w reach in
+      let low : length (WaitQueue.args w.shared.queue) < length (WaitQueue.due w.shared.queue) = o.sound.few in
+      let dues : length (WaitQueue.due w.shared.queue) ≡ most_threads = o.dues in
+      omega (arith, low, dues)
 
-nobody_starts : (b : Called) (x : Shared) (e : Event) (m : ℕ) → nat_lt m (length x.queue.due) ≡ false → begun_at b x e m ≡ None
-nobody_starts b x events.Size m past = refl
-nobody_starts b x (events.Grow more) m past = refl
-nobody_starts b x (events.Load addr width reach) m past = refl
-nobody_starts b x (events.Store addr width reach value) m past = refl
-nobody_starts b x (events.Rmw op addr width value) m past = refl
-nobody_starts b x (events.Cmpxchg addr width expected replacement) m past = refl
-nobody_starts b x (events.Ask (questions.Wait addr width expected timeout)) m past = refl
-nobody_starts b x (events.Ask (questions.Notify addr count)) m past = refl
-nobody_starts b x (events.Ask (questions.Spawn arg)) m past =
-    ap (λ t. cond (t && (m == next_id x.queue)) (Some (spawned_in b.worker m arg)) None) past
-nobody_starts b x (events.Ask questions.Leave) m past = refl
-nobody_starts b x (events.Told answer) m past = refl
+  more : (w : State Shared Walker) → CanReach b w → (n : ℕ) (e : Event) → started_in w.shared ≤ started_in (shared_by w.shared n e)
+  more w reach n e = next_along w.shared.queue (record { thread = n; event = e; reply = reply_of w.shared.memory e } ∷ [])
 
-pub bounded : (b : Called) → AreBounded (system_of b) (first_state b) most_threads
-bounded b w reach n m e past =
-    let dues = (orderly b w reach).dues in
-    let after = due_length_step w.shared.queue n e (reply_of w.shared.memory e) in
-    let starts = nobody_starts b w.shared e m (le-ltb m (length w.shared.queue.due) (omega (arith, dues, past))) in (
-      ap started_without starts,
-      none_at (queue_by w.shared n e).due m (omega (arith, dues, after, past)),
-    )
+  -- who isn't counted wasn't started
+  abbrev new_thread : Option states.State → Option Walker
+  new_thread o = started_without o
+
+  started_none : (o : Option states.State) (t : Walker) → or_started (new_thread o) t ≡ Missing → new_thread o ≡ None
+  started_none None t h = refl
+  started_none (Some c) t h = absurd (cc h)
+
+  none : (w : State Shared Walker) → CanReach b w → (n m : ℕ) (e : Event) → (system_of b).wants (w.threads n) ≡ Calls e
+      → started_in (shared_by w.shared n e) ≤ m → new_thread (begun_by b w.shared n e m) ≡ None
+  none w reach n m e wants past =
+      let after = after_event (system_of b) w n e in
+      let reached = onward (StepsBy (system_of b)) (first_state b) w after reach (by_event (system_of b) w n e wants) in
+      started_none (begun_by b w.shared n e m) _ (missing b after reached m past)
+
+  pub bounded : AreBounded (system_of b) (first_state b) started_in most_threads
+  bounded = record { few = few; more = more; none = none }
 
 -- a place within a list
 is_there : {A : Type 0} (xs : List A) (n : ℕ) → n < length xs → (x : A) × (slice_get xs n ≡ Some x)

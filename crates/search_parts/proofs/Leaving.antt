@@ -1,12 +1,10 @@
 -- Threads that have left with their outcomes are how a state has ended, and nothing else is.
-use Rattle.std.specs.Prelude.{ℕ, zero, suc, ◌≡◌, ◌<◌, ◌≤◌, ◌+◌, List, [], ◌∷◌, length, take, Some, None, slice_index_or}
+use Rattle.std.specs.Prelude.{ℕ, zero, suc, ◌≡◌, ◌<◌, List, [], ◌∷◌, length, take, Some, None, slice_index_or}
 use Rattle.std.specs.List.{slice_get}
 use Rattle.std.proofs.Common.{refl, sym, ap, ◌∙◌, arith}
-use Rattle.std.proofs.lemmas.List.{length-map, length-take-le}
+use Rattle.std.proofs.lemmas.List.{length-map}
 use Rattle.types.specs.declared.outcome.Outcome.{Outcome}
-use Rattle.types.specs.Limits.{most_threads}
 use Rattle.shared_memory.specs.Memory.{Memory, pages}
-use Rattle.shared_memory.specs.WaitQueue.{WaitQueue, next_id}
 use Rattle.validate_typing.specs.Tabled.{WithTables}
 use Rattle.schedule.specs.System as systems
 use Rattle.schedule_threads.specs.Shared.{Shared}
@@ -16,7 +14,7 @@ use Rattle.search_settled.specs.Next.{IsAt}
 use Rattle.search_states.specs.declared.flat.Flat.{Flat}
 use Rattle.search_runs.specs.Called.{Called, Walker as Thread, system_of, first_state}
 use Rattle.search_runs.specs.Ends.{Ending, HasEndedSo}
-use Rattle.search_runs.proofs.Tame.{orderly, missing}
+use Rattle.search_runs.proofs.Tame.{missing}
 use Rattle.search_walkers.specs.Walkers.{StandsFor}
 use Rattle.search_walkers.specs.declared.walker.Standing.{Standing}
 use Rattle.search_walkers.specs.declared.walker.Standing.TheVariants.{Missing, Going, Ended, Leaving, Away}
@@ -35,12 +33,6 @@ same_at (x ∷ xs) (y ∷ ys) len each =
     let head = each 0 x y refl refl in
     let tail = same_at xs ys (omega (arith, len)) (λ m a b p q. each (suc m) a b p q) in
     λ i. head i ∷ tail i
-
-taken_at : {A : Type 0} (n : ℕ) (xs : List A) (m : ℕ) (x : A) → slice_get (take n xs) m ≡ Some x → (m < n) × (slice_get xs m ≡ Some x)
-taken_at zero xs m x h = absurd (cc h)
-taken_at (suc n) [] m x h = absurd (cc h)
-taken_at (suc n) (y ∷ xs) zero x h = (omega arith, h)
-taken_at (suc n) (y ∷ xs) (suc m) x h = let rest = taken_at n xs m x h in (let low = rest.0 in omega (arith, low), rest.1)
 
 contained_at : {A : Type 0} (xs : List A) (x : A) (k : ℕ) → k < length xs → slice_index_or xs k x ≡ x → slice_get xs k ≡ Some x
 contained_at [] x k low is = absurd (omega (arith, low))
@@ -95,30 +87,8 @@ one_ending dump z x y one other =
 
 module _ (w : WithTables) (b : Called) (opening : List ℕ) (flat : Flat Common Walker) (z : systems.State Shared Thread)
     (at : IsAt (system_of b) (first_state b) (IsStateOf w b opening) flat z) where
-  abbrev started : ℕ
-  started = length flat.shared.queue.args.items + 1
-
-  started_is : started ≡ next_id z.shared.queue
-  started_is = ap (λ q. next_id q) at.settled_is.shared.queue
-
-  within : started ≤ length flat.threads.items
-  within =
-      let o = orderly b z at.reached in
-      let few : length (WaitQueue.args z.shared.queue) < length (WaitQueue.due z.shared.queue) = o.sound.few in
-      let dues : length (WaitQueue.due z.shared.queue) ≡ most_threads = o.dues in
-      let is : started ≡ next_id z.shared.queue = started_is in
-      let len : length flat.threads.items ≡ most_threads = at.settled_is.len in
-      omega (arith, few, dues, is, len)
-
   abbrev threads : List Walker
-  threads = take started flat.threads.items
-
-  threads_count : length threads ≡ started
-  threads_count = let long = within in length-take-le started flat.threads.items long
-
-  -- so many first ones of these threads
-  pub front_long : (n : ℕ) (xs : List Walker) → n ≡ started → xs ≡ flat.threads.items → n ≡ length (take n xs)
-  front_long n xs is same = let long = within in let len = ap length same in sym (length-take-le n xs (omega (arith, long, is, len)))
+  threads = flat.threads.items
 
   stood : (m : ℕ) (t : Walker) → slice_get flat.threads.items m ≡ Some t → StandsFor w t.standing (z.threads m)
   stood m t is = (at.settled_is.each m t is).stands
@@ -128,9 +98,9 @@ module _ (w : WithTables) (b : Called) (opening : List ℕ) (flat : Flat Common 
   ended dump e m have is pages_so bytes_so =
       let memory : m ≡ z.shared.memory = is ∙ at.settled_is.shared.memory in
       record {
-        count = left_count threads e.outcomes have ∙ (threads_count ∙ started_is);
+        count = left_count threads e.outcomes have ∙ at.settled_is.len;
         left = λ k o there. (let l = left_at threads e.outcomes have k o there in
-            away w l.0.standing (z.threads k) (stood k l.0 (taken_at started flat.threads.items k l.0 l.1).1) o l.2);
+            away w l.0.standing (z.threads k) (stood k l.0 l.1) o l.2);
         others = λ k past. missing b z at.reached k past;
         pages_are = pages_so ∙ ap pages memory;
         bytes_are = bytes_so ∙ ap (λ (n : Memory). take dump n.bytes) memory;
@@ -140,12 +110,11 @@ module _ (w : WithTables) (b : Called) (opening : List ℕ) (flat : Flat Common 
   not_ended dump one e end =
       let t = one.0 in
       let place = one.1.0 in
-      let taken = taken_at started flat.threads.items place t (contained_at threads t place one.1.1 one.1.2) in
-      let low = taken.0 in
-      let is = started_is in
+      let low = one.1.1 in
+      let len = at.settled_is.len in
       let count = end.count in
-      let left = is_there e.outcomes place (omega (arith, low, is, count)) in
-      here w t.standing (z.threads place) (stood place t taken.1) one.2 left.0 (end.left place left.0 left.1)
+      let left = is_there e.outcomes place (omega (arith, low, len, count)) in
+      here w t.standing (z.threads place) (stood place t (contained_at threads t place low one.1.2)) one.2 left.0 (end.left place left.0 left.1)
     where
       is_there : {A : Type 0} (xs : List A) (n : ℕ) → n < length xs → (x : A) × (slice_get xs n ≡ Some x)
       is_there [] n lt = absurd (omega (arith, lt))

@@ -2,7 +2,6 @@
 use Rattle.std.specs.Prelude.{ℕ, ◌≡◌, Bool, true, List, Contains, map, Option, Some, None, nat_eq}
 use Rattle.std.specs.Ordering.{on, eq_of_both}
 use Rattle.std.specs.Cmp.Lexicographic.{pointwise}
-use Rattle.types.specs.Limits.{most_threads}
 use Rattle.types.specs.declared.outcome.Outcome.{Outcome}
 use Rattle.types.specs.contracts.outcome.OutcomePartialEq.TheImpl as outcomes
 use Rattle.validate_typing.specs.Tabled.{WithTables}
@@ -14,7 +13,7 @@ use Rattle.search_runs.specs.Called.{Called, Walker as Thread, system_of, first_
 use Rattle.search_runs.specs.Ends.{Ending}
 use Rattle.search_walkers.specs.declared.walker.Standing.{Standing}
 use Rattle.search_walkers.specs.declared.walker.Standing.TheVariants.{Missing, Going, Ended, Leaving, Away}
-use Rattle.search_parts.specs.Sharing.{Shares, Makes}
+use Rattle.search_parts.specs.Sharing.{Shares, Makes, started_in}
 use Rattle.search_parts.specs.Parts.{IsRested}
 use Rattle.search_parts.specs.declared.shared.Common.{Common}
 use Rattle.search_parts.specs.declared.shared.Walker.{Walker}
@@ -41,7 +40,7 @@ IsOneHere threads = (t : Walker) × Contains threads t × (outcome_at t ≡ None
 -- This is a settled state of a call, part by part.
 abbrev pub IsStateOf : WithTables → Called → List ℕ → Flat Common Walker → State Shared Thread → Type 0
 IsStateOf w b opening =
-    IsFlat (system_of b) (first_state b) most_threads (Shares opening) (λ (t : Walker). IsRested w b t.standing) Makes
+    IsFlat (system_of b) (first_state b) started_in (Shares opening) (λ (t : Walker). IsRested w b t.standing) Makes
 
 -- Endings are compared by all that they say.
 abbrev pub is_same_ending : Ending → Ending → Bool

@@ -19,6 +19,10 @@ pub record Shares (opening : List ℕ) (c : Common) (x : Shared) : Type 0 where
   pub queue : queue_of c.queue ≡ x.queue
   pub sized : IsSized (memory_of opening c.memory)
 
+-- How many threads were started, thread 0 among them.
+abbrev pub started_in : Shared → ℕ
+started_in x = next_id x.queue
+
 -- The thread that an event starts: a spawn starts the one with the next number, while there is room.
 abbrev pub begun_in : WaitQueue → Event → Option Begun
 begun_in q (events.Ask (questions.Spawn arg)) = cond (nat_lt (next_id q) (length q.due)) (Some (record { id = next_id q; arg = arg })) None

@@ -145,8 +145,7 @@ pub fn ending_of(
     ensures { IfOk result (λ o. (w : WithTables) (b : Called)
         → HasEnded (system_of b) (first_state b) (IsStateOf w b opening.now) (HasEndedSo dump) flat.now o) }
 {
-    let started = flat.shared.queue.args.len() + 1;
-    let Some(outcomes) = outcomes_of(alloc, &flat.threads[..started])? else {
+    let Some(outcomes) = outcomes_of(alloc, flat.threads.as_slice())? else {
         return Ok(None);
     };
     let memory = memory(alloc, opening, &flat.shared.memory)?;

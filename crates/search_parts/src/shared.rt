@@ -20,6 +20,8 @@ pub struct Common {
 
 impl Common {
     ghost use Rattle.std.specs.Prelude.{◌≡◌};
+    ghost use Rattle.shared_memory.specs.WaitQueue.{next_id};
+    ghost use Rattle.waiters.specs.Kept.{queue_of};
 
     pub fn new(memory: Changes, queue: KeptQueue) -> Common
         ensures memory { result.memory ≡ memory }
@@ -30,6 +32,13 @@ impl Common {
             memory,
             queue,
         }
+    }
+
+    /// How many threads were started, thread 0 among them.
+    pub fn started(&self) -> usize
+        ensures { result ≡ next_id (queue_of self.now.queue) }
+    {
+        self.queue.args.len() + 1
     }
 }
 

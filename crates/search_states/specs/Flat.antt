@@ -7,20 +7,21 @@ use Rattle.search_settled.specs.Settled.{Settles, IsReached}
 use Rattle.search_settled.specs.Next.{IsAt, IsNextBy}
 use Rattle.search_states.specs.declared.flat.Flat.{Flat}
 
--- Beyond a number an event starts no thread and gives no answer.
-abbrev pub AreBounded : {X T E V A : Type 0} → System X T E V A → State X T → ℕ → Type 0
-AreBounded s first count =
-    (w : State _ _) → IsReached s first w → (n m : ℕ) (e : _) → count ≤ m
-    → (s.starts w.shared n e m ≡ None) × (s.gives w.shared n e m ≡ None)
+-- So many threads were started, and no more than can be: an event takes none back, and starts none but those that are counted then.
+pub record AreBounded {X T E V A : Type 0} (s : System X T E V A) (first : State X T) (count : X → ℕ) (most : ℕ) : Type 0 where
+  pub few : (w : State X T) → IsReached s first w → count w.shared ≤ most
+  pub more : (w : State X T) → IsReached s first w → (n : ℕ) (e : E) → count w.shared ≤ count (s.after w.shared n e)
+  pub none : (w : State X T) → IsReached s first w → (n m : ℕ) (e : E) → s.wants (w.threads n) ≡ Calls e
+      → count (s.after w.shared n e) ≤ m → s.starts w.shared n e m ≡ None
 
-module _ {X T E V A G H M : Type 0} (s : System X T E V A) (first : State X T) (count : ℕ)
+module _ {X T E V A G H M : Type 0} (s : System X T E V A) (first : State X T) (count : X → ℕ)
     (shares : G → X → Type 0) (is_thread : H → T → Type 0) (makes : M → X → ℕ → E → Type 0) where
-  -- Each of so many threads is the state's, and no other thread is there.
+  -- Each thread that was started is the state's, and no other thread is there.
   pub record IsFlat (c : Flat G H) (z : State X T) : Type 0 where
     pub shared : shares c.shared z.shared
-    pub len : length c.threads.items ≡ count
+    pub len : length c.threads.items ≡ count z.shared
     pub each : (m : ℕ) (t : H) → slice_get c.threads.items m ≡ Some t → is_thread t (z.threads m)
-    pub others : (m : ℕ) → count ≤ m → s.wants (z.threads m) ≡ Gone
+    pub others : (m : ℕ) → count z.shared ≤ m → s.wants (z.threads m) ≡ Gone
 
   -- Thread n of a state that can be reached.
   abbrev pub IsThreadOf : G → H → ℕ → State X T → Type 0
@@ -47,14 +48,22 @@ module _ {X T E V A G H M : Type 0} (s : System X T E V A) (first : State X T) (
   ComesAfter made n before m after =
       (z : State X T) (e : E) → IsMadeBy made z n e → is_thread before (z.threads m) → RestsAfter z n e m after
 
-  abbrev pub AreThreads : List H → State X T → Type 0
-  AreThreads threads z = (m : ℕ) (t : H) → slice_get threads m ≡ Some t → is_thread t (z.threads m)
+  -- Thread m, which it starts, comes to rest after it.
+  abbrev pub BeginsAfter : M → ℕ → ℕ → H → Type 0
+  BeginsAfter made n m new = (z : State X T) (e : E) → IsMadeBy made z n e → count z.shared ≤ m → RestsAfter z n e m new
 
-  -- So do they all.
-  pub record AllComeAfter (made : M) (n : ℕ) (threads after : List H) : Type 0 where
-    pub len : length after ≡ length threads
-    pub each : (z : State X T) (e : E) → IsMadeBy made z n e → AreThreads threads z
-        → (m : ℕ) (t : H) → slice_get after m ≡ Some t → RestsAfter z n e m t
+  -- Thread n of these threads made an event, and this is shared after it.
+  pub record IsMove (after : G) (made : M) (n : ℕ) (threads : List H) (z : State X T) (e : E) : Type 0 where
+    pub made_by : IsMadeBy made z n e
+    pub shared : shares after (s.after z.shared n e)
+    pub len : length threads ≡ count z.shared
+    pub each : (m : ℕ) (t : H) → slice_get threads m ≡ Some t → is_thread t (z.threads m)
+
+  -- All come to rest after it, and so do those that it starts.
+  pub record AllComeAfter (after : G) (made : M) (n : ℕ) (threads rested : List H) : Type 0 where
+    pub len : (z : State X T) (e : E) → IsMove after made n threads z e → length rested ≡ count (s.after z.shared n e)
+    pub each : (z : State X T) (e : E) → IsMove after made n threads z e
+        → (m : ℕ) (t : H) → slice_get rested m ≡ Some t → RestsAfter z n e m t
 
   -- The next states by the events of the threads below a number.
   pub record HasNextBelow (c : Flat G H) (i : ℕ) (xs : List (Flat G H)) : Type 0 where

@@ -27,7 +27,7 @@ module _ {H : Type 0} (eq : H → H → Bool) where
   one_at (x ∷ xs) (z ∷ ys) (suc m) y e at = one_at xs ys m y (second_so (eq x z) (pointwise eq xs ys) e) at
 
 pub flat_alike : {X T E V A G H M : Type 0} (eq_shared : G → G → Bool) (eq_thread : H → H → Bool)
-    (s : System X T E V A) (first : State X T) (count : ℕ)
+    (s : System X T E V A) (first : State X T) (count : X → ℕ)
     (shares : G → X → Type 0) (is_thread : H → T → Type 0) (makes : M → X → ℕ → E → Type 0)
     → ((x y : G) → eq_shared x y ≡ true → (w : X) → shares x w → shares y w)
     → ((x y : H) → eq_thread x y ≡ true → (w : T) → is_thread x w → is_thread y w)

@@ -1,10 +1,10 @@
 //! Threads that are moved one by one.
-ghost use Rattle.std.specs.Prelude.{◌≡◌, ◌<◌, ℕ, true, None, IfOk, IfSome};
+ghost use Rattle.std.specs.Prelude.{◌≡◌, ◌<◌, ◌≤◌, ℕ, true, None, IfOk, IfSome};
 ghost use Rattle.schedule.specs.System.{System, State, Want.Gone};
 ghost use Rattle.schedule.specs.Scheduled.{after_event};
 ghost use Rattle.search_settled.specs.Settled.{AreTame};
 ghost use Rattle.search_settled.specs.Next.{IsBeginning, IsSomewhere, HasEnded, NobodyTurns};
-ghost use Rattle.search_states.specs.Flat.{AreBounded, IsFlat, IsThreadOf, IsEventOf, IsMadeBy, ComesAfter};
+ghost use Rattle.search_states.specs.Flat.{AreBounded, IsFlat, IsThreadOf, IsEventOf, IsMadeBy, ComesAfter, BeginsAfter};
 
 use crate::Flat;
 use std::alloc::{AllocError, Global};
@@ -42,8 +42,10 @@ pub trait Moves {
 
     ghost ends: { Self → State X T → Self.Ending → Type 0 };
 
-    /// There are threads below this number alone.
-    ghost count: { Self → ℕ };
+    /// How many threads were started, and how many can be.
+    ghost count: { Self → X → ℕ };
+
+    ghost most: { Self → ℕ };
 
     /// What is shared, a thread, and what an event of a thread makes.
     ghost shares: { Self → Self.Shared → X → Type 0 };
@@ -60,6 +62,10 @@ pub trait Moves {
         ensures first { IfOk result (λ o. IfSome o (IsBeginning (system self.now) (beginning self.now)
             (IsFlat (system self.now) (beginning self.now) (count self.now) (shares self.now) (is_thread self.now) (makes self.now)))) }
         ensures gives_up { IfOk result (λ o. o ≡ None → stuck self.now (beginning self.now)) };
+
+    /// How many threads were started.
+    fn started(&self, shared: &Self::Shared) -> usize
+        ensures { (x : X) → shares self.now shared.now x → result ≡ count self.now x };
 
     /// The event that thread n wants to make, if it wants one.
     fn event(
@@ -87,12 +93,28 @@ pub trait Moves {
         m: usize,
     ) -> Result<Option<Self::Thread>, AllocError>
         requires { (z : State X T) × (e : E) × IsMadeBy (system self.now) (beginning self.now) (count self.now) (shares self.now)
-            (is_thread self.now) (makes self.now) made.now z n e × is_thread self.now thread.now (z.threads m) × (m < count self.now) }
+            (is_thread self.now) (makes self.now) made.now z n e × is_thread self.now thread.now (z.threads m) × (m < most self.now) }
         ensures rests { IfOk result (λ o. IfSome o (ComesAfter (system self.now) (beginning self.now) (count self.now) (shares self.now)
             (is_thread self.now) (makes self.now) made.now n thread.now m)) }
         ensures gives_up { IfOk result (λ o. o ≡ None → (z : State X T) (e : E) → IsMadeBy (system self.now) (beginning self.now)
             (count self.now) (shares self.now) (is_thread self.now) (makes self.now) made.now z n e
             → is_thread self.now thread.now (z.threads m) → stuck self.now (after_event (system self.now) z n e)) };
+
+    /// Where thread m first comes to rest, which an event of thread n starts, or nothing where it cannot tell that.
+    fn first_after(
+        &self,
+        alloc: Global,
+        made: &Self::Made,
+        n: usize,
+        m: usize,
+    ) -> Result<Option<Self::Thread>, AllocError>
+        requires { (z : State X T) × (e : E) × IsMadeBy (system self.now) (beginning self.now) (count self.now) (shares self.now)
+            (is_thread self.now) (makes self.now) made.now z n e × (count self.now z.shared ≤ m) × (m < most self.now) }
+        ensures rests { IfOk result (λ o. IfSome o (BeginsAfter (system self.now) (beginning self.now) (count self.now) (shares self.now)
+            (is_thread self.now) (makes self.now) made.now n m)) }
+        ensures gives_up { IfOk result (λ o. o ≡ None → (z : State X T) (e : E) → IsMadeBy (system self.now) (beginning self.now)
+            (count self.now) (shares self.now) (is_thread self.now) (makes self.now) made.now z n e
+            → count self.now z.shared ≤ m → stuck self.now (after_event (system self.now) z n e)) };
 
     /// How a settled state has ended, where it has.
     fn ending(
@@ -107,10 +129,10 @@ pub trait Moves {
             (IsFlat (system self.now) (beginning self.now) (count self.now) (shares self.now) (is_thread self.now) (makes self.now))
             (ends self.now) flat.now) };
 
-    /// Answers go to who awaits them, and threads alone of these numbers are there.
-    ghost tame: { (t : Self) → AreTame (system t) (beginning t) (count t) };
+    /// Answers go to who awaits them, and no more threads are there than can be.
+    ghost tame: { (t : Self) → AreTame (system t) (beginning t) (most t) };
 
-    ghost bounded: { (t : Self) → AreBounded (system t) (beginning t) (count t) };
+    ghost bounded: { (t : Self) → AreBounded (system t) (beginning t) (count t) (most t) };
 
     /// Nobody makes turns in the end.
     ghost over: { (t : Self) → NobodyTurns (system t) (ends t) };

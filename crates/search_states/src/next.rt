@@ -1,45 +1,49 @@
 //! The next states: of each thread that wants an event, what comes of it.
-ghost use Rattle.std.specs.Prelude.{◌≡◌, ◌+◌, ℕ, length, true, false, Some, None, IfOk, IfSome};
+ghost use Rattle.std.specs.Prelude.{◌≡◌, ◌+◌, ℕ, true, false, Some, None, IfOk, IfSome};
 ghost use Rattle.std.specs.List.{slice_get};
 ghost use Rattle.schedule.specs.System.{State};
 ghost use Rattle.schedule.specs.Scheduled.{after_event};
 ghost use Rattle.search_settled.specs.Next.{IsSomewhere, IsStuckAfter, HasNext};
-ghost use Rattle.search_states.specs.Flat.{IsFlat, IsMadeBy, AreThreads, AllComeAfter, HasNextBelow};
+ghost use Rattle.search_states.specs.Flat.{IsFlat, IsMove, AllComeAfter, HasNextBelow};
 
 use crate::{Flat, Moves};
 use std::alloc::{AllocError, Global};
 
-/// Where all threads come to rest after an event of thread n.
+/// Where all threads come to rest after an event of thread n, those that it starts too.
 fn threads_after<M: Moves>(
     alloc: Global,
     system: &M,
+    shared: &M::Shared,
     made: &M::Made,
     n: usize,
     threads: &[M::Thread],
 ) -> Result<Option<Vec<M::Thread>>, AllocError>
-    requires { (z : State M.X M.T) × (e : M.E) × IsMadeBy (M.system system.now) (M.beginning system.now) (M.count system.now)
-        (M.shares system.now)
-        (M.is_thread system.now) (M.makes system.now) made.now z n e × AreThreads (M.system system.now) (M.beginning system.now)
-        (M.count system.now) (M.shares system.now) (M.is_thread system.now) (M.makes system.now) threads.now z
-        × (length threads.now ≡ M.count system.now) }
+    requires { (z : State M.X M.T) × (e : M.E) × IsMove (M.system system.now) (M.beginning system.now) (M.count system.now)
+        (M.shares system.now) (M.is_thread system.now) (M.makes system.now) shared.now made.now n threads.now z e }
     ensures rests { IfOk result (λ o. IfSome o (λ v. AllComeAfter (M.system system.now) (M.beginning system.now) (M.count system.now)
-        (M.shares system.now)
-        (M.is_thread system.now) (M.makes system.now) made.now n threads.now v.items)) }
-    ensures gives_up { IfOk result (λ o. o ≡ None → (z : State M.X M.T) (e : M.E) → IsMadeBy (M.system system.now)
-        (M.beginning system.now) (M.count system.now) (M.shares system.now) (M.is_thread system.now) (M.makes system.now) made.now z n e
-        → AreThreads (M.system system.now) (M.beginning system.now) (M.count system.now) (M.shares system.now) (M.is_thread system.now)
-        (M.makes system.now) threads.now z → M.stuck system.now (after_event (M.system system.now) z n e)) }
+        (M.shares system.now) (M.is_thread system.now) (M.makes system.now) shared.now made.now n threads.now v.items)) }
+    ensures gives_up { IfOk result (λ o. o ≡ None → (z : State M.X M.T) (e : M.E) → IsMove (M.system system.now)
+        (M.beginning system.now) (M.count system.now) (M.shares system.now) (M.is_thread system.now) (M.makes system.now)
+        shared.now made.now n threads.now z e → M.stuck system.now (after_event (M.system system.now) z n e)) }
 {
-    let mut after = Vec::new(alloc);
+    let count = system.started(shared);
+    let mut rested = Vec::with_capacity(alloc, count)?;
     let mut m: usize = 0;
     while let Some(thread) = threads.get(m) {
-        let Some(rested) = system.after(alloc, made, n, thread, m)? else {
+        let Some(old) = system.after(alloc, made, n, thread, m)? else {
             return Ok(None);
         };
-        after.push(rested)?;
+        rested.push(old)?;
         m += 1;
     }
-    Ok(Some(after))
+    while m < count {
+        let Some(new) = system.first_after(alloc, made, n, m)? else {
+            return Ok(None);
+        };
+        rested.push(new)?;
+        m += 1;
+    }
+    Ok(Some(rested))
 }
 
 /// Puts the next state by the event of thread n, if it wants one, behind those of the threads before it. It answers no where it
@@ -66,7 +70,8 @@ fn put_next<M: Moves>(
     let Some((shared, made)) = system.event(alloc, &flat.shared, thread, n)? else {
         return Ok(true);
     };
-    let Some(threads) = threads_after(alloc, system, &made, n, flat.threads.as_slice())? else {
+    let Some(threads) = threads_after(alloc, system, &shared, &made, n, flat.threads.as_slice())?
+    else {
         return Ok(false);
     };
     all.push(Flat { shared, threads })?;

@@ -44,7 +44,7 @@ impl<M: Moves> SettledStates for States<'_, M> {
 
     ghost ends = { λ t. M.ends t.system.now };
 
-    ghost count = { λ t. M.count t.system.now };
+    ghost count = { λ t. M.most t.system.now };
 
     ghost tame = { λ t. M.tame t.system.now };
 

@@ -1,4 +1,4 @@
-use Rattle.std.proofs.Common.{◌≡◌, refl, sym, subst, length, arith, inl}
+use Rattle.std.proofs.Common.{refl, sym, subst, inl}
 use Rattle.types.specs.Limits.{most_threads}
 use Rattle.shared_memory.specs.WaitQueue.{first_queue}
 use Rattle.shared_memory_sequential.specs.Opening.{IsSized}
@@ -34,11 +34,8 @@ returns-clause-first c =
     let at = subst (λ x. RestsAt s.valid.now b (Going (At x)) c.in-Some.main) (sym (f.calls s.args.now)) (rested b f.func_type f.body refl f.function) in
     let shared = subst (λ l. Shares l c.in_ok-shared.shared (record { memory = record { bytes = l; max = s.max }; queue = first_queue most_threads }))
     c.as_slice.ensures.value c.in_ok-shared.ensures in
-    let threads = c.in_ok-threads.threads in
-    let count = c.in_ok-threads.ensures.count in
-    let long : length threads.items ≡ most_threads = omega (arith, threads.ok, count) in
-    begun s.valid.now b s.opening.items c.in-Some.main at (record { shared = c.in_ok-shared.shared; threads = threads })
-    shared long c.in_ok-threads.ensures.first c.in_ok-threads.ensures.others
+    begun s.valid.now b s.opening.items c.in-Some.main at (record { shared = c.in_ok-shared.shared; threads = c.in_ok-threads.threads })
+    shared c.in_ok-threads.ensures
 
 pub returns-in_default-clause-gives_up : goal.returns-in_default-clause-gives_up
 returns-in_default-clause-gives_up c none =

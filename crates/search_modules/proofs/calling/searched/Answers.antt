@@ -1,5 +1,4 @@
-use Rattle.std.proofs.Common.{◌≡◌, ℕ, sym}
-use Rattle.spawn_host.specs.Entries.{Takes}
+use Rattle.std.proofs.Common.{◌≡◌}
 use Rattle.search_modules.proofs.Entries.{same_number, callable_so, call_so}
 use Rattle.search_modules.proofs.calling.searched.Goals as goal
 

@@ -11,5 +11,5 @@ put_next-requires-clause-thread g c = ap (λ l. slice_get l c.loop-thread.n) (sy
 pub returns-clause-next : goal.returns-clause-next
 returns-clause-next g c = below-all (g.M.Moves.system c.args.system.now) (g.M.Moves.beginning c.args.system.now) (g.M.Moves.count c.args.system.now)
     (g.M.Moves.shares c.args.system.now) (g.M.Moves.is_thread c.args.system.now) (g.M.Moves.makes c.args.system.now)
-    (g.met.M.Moves.bounded c.args.system.now) c.args.flat.now c.loop-thread.n c.loop-thread.all.items c.loop-thread.invariant
+    c.args.flat.now c.loop-thread.n c.loop-thread.all.items c.loop-thread.invariant
     (at-end c.deref.result.now c.args.flat.now.threads.items c.loop-thread.n c.deref.ensures.value c.in_default.ensures.lookup.3)
