@@ -1,10 +1,14 @@
 //! What is found is one run on any number of jobs. Its record is replayed, and what it is shrunk to ends alike.
 
+ghost use Rattle.std.specs.Prelude.{IfOk, IfSome};
+ghost use Rattle.search_finds.specs.Finds.{IsFind};
+
 use crate::modules::LOST_UPDATE;
 use crate::runs::{FUEL, LIMIT, Trouble, load};
-use replay::replay;
+use replay::{EndState, replay};
 use search_endings::{Met, Table, have_one_ending};
-use search_finds::{Found, Searched, Sought, first_found, shrunk, size_of};
+use search_finds::{Found, Searched, Size, Sought, first_found, shrunk, size_of};
+use search_scheduled::Made;
 use search_strategies::Way;
 use spawn_host::Call;
 use std::alloc::Global;
@@ -12,6 +16,7 @@ use std::process::Abort;
 use std::test::Fail;
 use std::thread::Threads;
 use test_modules::{BROKEN_LOCK, SLEEPERS};
+use validate::ValidModule;
 
 /// The call of each module here.
 const CALL: Call = Call {
@@ -104,6 +109,19 @@ fn sought_by(wish: &Wish) -> Sought<'static> {
     }
 }
 
+fn searched_by<R: Threads + Sync>(
+    rt: &R,
+    alloc: Global,
+    valid: &ValidModule,
+    sought: &Sought,
+    jobs: usize,
+) -> Result<Searched, Trouble> {
+    if sought.from > 1000 || sought.runs > 1000 {
+        return Err(Trouble::Refused);
+    }
+    Ok(first_found(rt, alloc, valid, CALL, sought, jobs, &mut ())?)
+}
+
 fn searched<R: Threads + Sync>(
     rt: &R,
     alloc: Global,
@@ -111,11 +129,7 @@ fn searched<R: Threads + Sync>(
     jobs: usize,
 ) -> Result<Searched, Trouble> {
     let valid = load(alloc, wish.module)?;
-    let sought = sought_by(wish);
-    if sought.from > 1000 || sought.runs > 1000 {
-        return Err(Trouble::Refused);
-    }
-    Ok(first_found(rt, alloc, &valid, CALL, &sought, jobs, &mut ())?)
+    searched_by(rt, alloc, &valid, &sought_by(wish), jobs)
 }
 
 fn are_one_row(one: &Met, other: &Met) -> bool {
@@ -175,30 +189,77 @@ fn a_find_is_one_on_any_number_of_jobs(rt: HostRuntime) -> Result<(), Fail> {
     Ok(())
 }
 
-/// Whether the records of what is found and of what it is shrunk to are replayed with their ends, which are alike, and the
-/// second is no larger.
-fn shrinks<R: Threads + Sync>(rt: &R, alloc: Global, wish: &Wish) -> Result<bool, Trouble> {
-    let valid = load(alloc, wish.module)?;
-    let sought = sought_by(wish);
+/// The end of a run to which its record is replayed too.
+fn replayed(alloc: Global, valid: &ValidModule, made: &Made) -> Result<Option<EndState>, Trouble> {
+    let end = replay(alloc, valid, &made.record)?;
+    if end == made.end {
+        Ok(Some(end))
+    } else {
+        Ok(None)
+    }
+}
+
+/// Whether the record of a run is replayed to an end like this one, and is no larger than so.
+fn is_small(
+    alloc: Global,
+    valid: &ValidModule,
+    made: &Made,
+    before: &EndState,
+    size: Size,
+) -> Result<bool, Trouble> {
+    let Some(after) = replayed(alloc, valid, made)? else {
+        return Ok(false);
+    };
+    Ok(have_one_ending(before, &after, 4) && size_of(&made.record) <= size)
+}
+
+/// The run that is found by two jobs, if one is.
+fn found_by<R: Threads + Sync>(
+    rt: &R,
+    alloc: Global,
+    valid: &ValidModule,
+    call: Call,
+    sought: &Sought,
+) -> Result<Option<Made>, Trouble>
+    ensures { IfOk result (λ o. IfSome o (IsFind valid.now.parts call.entry sought.now.limit)) }
+{
     if sought.from > 1000 || sought.runs > 1000 {
         return Err(Trouble::Refused);
     }
-    let Searched { found, .. } = first_found(rt, alloc, &valid, CALL, &sought, 2, &mut ())?;
+    let Searched { found, .. } = first_found(rt, alloc, valid, call, sought, 2, &mut ())?;
     let Some(found) = found else {
-        return Ok(!wish.is_found);
+        return Ok(None);
     };
-    let made = found.made;
-    let before = replay(alloc, &valid, &made.record)?;
+    Ok(Some(found.made))
+}
+
+/// Whether the records of a run and of what it is shrunk to are replayed with their ends, which are alike, and the second is no
+/// larger.
+fn shrinks_well(
+    alloc: Global,
+    valid: &ValidModule,
+    call: Call,
+    limit: u32,
+    made: Made,
+) -> Result<bool, Trouble>
+    requires { IsFind valid.now.parts call limit made }
+{
+    let Some(before) = replayed(alloc, valid, &made)? else {
+        return Ok(false);
+    };
     let size = size_of(&made.record);
-    let ends_so = before == made.end;
-    let small = shrunk(alloc, &valid, CALL, sought.limit, 4, made)?;
-    let after = replay(alloc, &valid, &small.record)?;
-    Ok(
-        ends_so
-            && after == small.end
-            && have_one_ending(&before, &after, 4)
-            && size_of(&small.record) <= size,
-    )
+    let small = shrunk(alloc, valid, call, limit, 4, made)?;
+    is_small(alloc, valid, &small, &before, size)
+}
+
+/// Whether what is found is shrunk well.
+fn shrinks<R: Threads + Sync>(rt: &R, alloc: Global, wish: &Wish) -> Result<bool, Trouble> {
+    let valid = load(alloc, wish.module)?;
+    let sought = sought_by(wish);
+    match found_by(rt, alloc, &valid, CALL, &sought)? {
+        Some(made) => shrinks_well(alloc, &valid, CALL, sought.limit, made),
+        None => Ok(!wish.is_found),
+    }
 }
 
 fn check_shrinks<R: Abort + Threads + Sync>(rt: &R, alloc: Global) -> Result<(), Trouble> {
