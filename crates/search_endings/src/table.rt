@@ -21,7 +21,8 @@ impl Table {
     /// Where an ending stands that was met before.
     fn place_of(&self, ending: &Ending) -> Option<usize>
         ensures { MatchOption result (All (λ m. AreOneEnding m.ending ending.now → ⊥) self.now.met.items)
-            (λ place. (place < length self.now.met.items) × (m : Met) × (slice_index_or self.now.met.items place m ≡ m) × AreOneEnding m.ending ending.now) }
+            (λ place. (place < length self.now.met.items)
+            × (m : Met) × (slice_index_or self.now.met.items place m ≡ m) × AreOneEnding m.ending ending.now) }
     {
         for (place, met) in self.met.iter().enumerate() {
             if met.ending.is_same(ending) {

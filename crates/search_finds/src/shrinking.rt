@@ -61,7 +61,8 @@ fn tried(
     best: &Made,
     cut: Cut,
 ) -> Result<Option<Made>, SearchFault>
-    ensures { IfOk result (λ o. IfSome o (λ made. IsFind «module».now.parts call.entry limit made × HaveOneEnding dump best.now.end made.end)) }
+    ensures { IfOk result (λ o. IfSome o (λ made. IsFind «module».now.parts call.entry limit made
+        × HaveOneEnding dump best.now.end made.end)) }
 {
     let schedule = schedule_of(alloc, &best.record)?;
     let rest = without(alloc, &schedule, cut)?;

@@ -28,8 +28,8 @@ fn after_given(
     given: Given,
 ) -> Result<Option<Standing>, AllocError>
     requires { (c : Config) × MayBeGiven valid.now kept.now FUEL given c }
-    ensures rests { IfOk result (λ o. IfSome o (λ s. (b : Called) (c : Config) → IsOf b valid.now → MayBeGiven valid.now kept.now FUEL given c
-        → RestsAt valid.now b (given_to b (Going (At c)) given) s)) }
+    ensures rests { IfOk result (λ o. IfSome o (λ s. (b : Called) (c : Config) → IsOf b valid.now
+        → MayBeGiven valid.now kept.now FUEL given c → RestsAt valid.now b (given_to b (Going (At c)) given) s)) }
     ensures gives_up { IfOk result (λ o. o ≡ None → (b : Called) (c : Config) → IsOf b valid.now
         → MayBeGiven valid.now kept.now FUEL given c → MakesTurns (system_of b) patience (given_to b (Going (At c)) given)) }
 {
