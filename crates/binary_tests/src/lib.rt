@@ -6,4 +6,6 @@ mod instructions;
 #[cfg(test)]
 mod modules;
 #[cfg(test)]
+mod put_together;
+#[cfg(test)]
 mod wire;

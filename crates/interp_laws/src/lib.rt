@@ -5,9 +5,6 @@
 //! `proofs/Steps.antt` shows that a typed configuration goes on, and to typed ones.
 #![tactic(auto)]
 
-#[cfg(test)]
-mod tests;
-
 ghost use Rattle.interp_laws.specs.NeverStuck.{ValidModulesAreNeverStuck};
 
 /// No thread of a valid module is ever stuck. It calls any function of the module itself with arguments of its type, and

@@ -2,12 +2,8 @@
 #![tactic(auto)]
 
 mod convert;
-#[cfg(test)]
-mod expected;
 mod laws;
 mod narrow;
-#[cfg(test)]
-mod tests;
 mod wide;
 
 pub use convert::{i32_wrap_i64, i64_extend_i32_s, i64_extend_i32_u, sign_extended};

@@ -5,8 +5,6 @@
 
 mod laws;
 mod range;
-#[cfg(test)]
-mod tests;
 mod word;
 
 pub use laws::{lane_elsewhere, lane_of_with_lane};

@@ -5,8 +5,6 @@
 mod compare;
 mod conditions;
 mod events;
-#[cfg(test)]
-mod tests;
 
 pub use compare::{agree, make, replay};
 pub use conditions::is_of_memory;

@@ -5,6 +5,8 @@
 #[cfg(test)]
 mod adding;
 #[cfg(test)]
+mod lanes;
+#[cfg(test)]
 mod laws;
 #[cfg(test)]
 mod recorder;
@@ -12,6 +14,8 @@ mod recorder;
 mod row;
 #[cfg(test)]
 mod row_alone;
+#[cfg(test)]
+mod script;
 #[cfg(test)]
 mod sequential;
 #[cfg(test)]

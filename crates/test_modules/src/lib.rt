@@ -5,8 +5,6 @@ mod examples;
 mod large;
 mod module;
 mod small;
-#[cfg(test)]
-mod tests;
 mod threads;
 
 pub use examples::{

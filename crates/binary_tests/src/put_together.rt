@@ -1,7 +1,7 @@
 //! What is put together from code is what another tool made of the text.
 
-use crate::{ADDING, ATOMIC_ADD};
 use std::test::Fail;
+use test_modules::{ADDING, ATOMIC_ADD};
 
 #[test]
 fn puts_a_module_together(rt: HostRuntime) -> Result<(), Fail> {

@@ -2,8 +2,7 @@
 
 ghost use Rattle.std.specs.Prelude.{◌<◌, ◌≤◌};
 
-use crate::range::{Part, parts};
-use crate::word::{lane, with_lane};
+use shared_memory_lanes::{Part, lane, parts, with_lane};
 use std::test::Fail;
 
 const WORD: u64 = 0x1122_3344_5566_7788;

@@ -4,7 +4,7 @@ use crate::expected::{
     EXTEND_S, EXTEND_U, I32_BINARY, I32_COMPARE, I32_EQZ, I32_SIGN_EXTEND, I32_UNARY, I64_BINARY,
     I64_COMPARE, I64_EQZ, I64_SIGN_EXTEND, I64_UNARY, WRAP,
 };
-use crate::{
+use interp_numeric::{
     i32_binary, i32_compare, i32_eqz, i32_unary, i32_wrap_i64, i64_binary, i64_compare, i64_eqz,
     i64_extend_i32_s, i64_extend_i32_u, i64_unary, sign_extended,
 };

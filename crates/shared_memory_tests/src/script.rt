@@ -1,6 +1,6 @@
 //! The script, and what is told apart.
-use crate::{is_of_memory, replay, script};
 use shared_memory::is_event;
+use shared_memory_script::{is_of_memory, replay, script};
 use shared_memory_sequential::OneMemory;
 use std::test::Fail;
 use types::{Answer, Entry, Event, PAGE_SIZE, Question, Reply};
