@@ -116,8 +116,9 @@ fn write_sizes<W: Write>(out: &mut W, before: Size, after: Size) -> io::Result<(
     )
 }
 
-/// Makes the runs that a search asks for, prints the table of their endings, and of a run that was found its lines, or that it was told
-/// to end; and writes the record of what was found, where one is wanted. Answers the status: 1 where a run was found or an ending has a trap or a stop, and else 0.
+/// Makes the runs that a search asks for, prints the table of their endings, and of a run that was found its lines, or that
+/// it was told to end; and writes the record of what was found, where one is wanted. Answers the status: 1 where a run was
+/// found or an ending has a trap or a stop, and else 0.
 fn search_drawn<R: Threads + Sync, F: Follows, W: Write, S: Write>(
     rt: &R,
     alloc: Global,
