@@ -1,5 +1,6 @@
 //! Traces and pages, by hand.
 
+use crate::asserts::{equal, is_text};
 use replay_text::Record;
 use show_events::write_trace;
 use show_page::write_page;
@@ -11,7 +12,6 @@ use std::process::Abort;
 use std::test::Fail;
 use test_modules::TELLING;
 use test_runs::{module_of, record_of, rows_of};
-use testing::{equal, is_text};
 use validate::ValidModule;
 
 /// A name of function 1, by which a page's script would end.

@@ -1,5 +1,6 @@
 //! Lines that explain a refusal, by hand.
 
+use crate::asserts::same_text;
 use binary::read;
 use binary_wire::ReadFault;
 use replay_text::read_record;
@@ -8,7 +9,6 @@ use std::alloc::Global;
 use std::process::Abort;
 use std::test::Fail;
 use test_modules::TELLING;
-use testing::same_text;
 use types::{Event, Outcome, Parts, RmwOp, Stop};
 use validate::validate;
 

@@ -1,5 +1,6 @@
 //! Rows as they are printed.
 
+use crate::asserts::is_text;
 use crate::data::{KINDS, LATE, NAMES, RECORD, SMALL, TOLD, TOLD_2};
 use interp::Place;
 use replay_text::Record;
@@ -11,7 +12,6 @@ use std::process::Abort;
 use std::test::Fail;
 use test_modules::TELLING;
 use test_runs::{module_of, record_of, rows_of};
-use testing::is_text;
 use validate::ValidModule;
 
 /// A record of a run of a module, with the names of a file, what is chosen of it, and what is printed.

@@ -1,5 +1,6 @@
 //! Rows of a replay.
 
+use crate::asserts::same_text;
 use crate::data::{OTHER, RECORD, SMALL};
 use replay::ReplayFault;
 use show_lines::{DebugSections, LineTable, read_lines};
@@ -12,7 +13,6 @@ use std::fmt::Write;
 use std::process::Abort;
 use std::test::Fail;
 use test_runs::{module_of, record_of, rows_of};
-use testing::same_text;
 use types::{Export, Sequence};
 use validate::ValidModule;
 

@@ -1,9 +1,9 @@
 //! Faults with the number of their instruction, and rows of the table, worked out by hand.
+use crate::equal::equal;
 use crate::sections::{func_type, one_function};
 use std::alloc::{AllocError, Global as Alloc};
 use std::process::Abort;
 use std::test::Fail;
-use testing::equal_in;
 use types::{
     AccessWidth, AtomicOp, BinaryOp, Body, CompareOp, ConvertOp, FuncType, Global, GlobalType,
     Instr, Limits, LoadOp, MemArg, Module, NarrowWidth, NumericInstr, PlainInstr, RmwOp, Sequence,
@@ -356,7 +356,7 @@ fn check_faults<R: Abort>(
 ) -> Result<(), Fail> {
     for (text, kind, instruction) in cases {
         let fault = in_body(*kind, *instruction);
-        equal_in(rt, *text, &fault_of(alloc, text, limits)?, &Some(fault));
+        equal(rt, *text, &fault_of(alloc, text, limits)?, &Some(fault));
     }
     Ok(())
 }
@@ -439,7 +439,7 @@ static ACCEPTED: [&str; 14] = [
 
 fn check_accepted<R: Abort>(rt: &R, alloc: Alloc, texts: &[&'static str]) -> Result<(), Fail> {
     for text in texts {
-        equal_in(rt, *text, &fault_of(alloc, text, &[LIMITS])?, &None);
+        equal(rt, *text, &fault_of(alloc, text, &[LIMITS])?, &None);
     }
     Ok(())
 }
@@ -543,7 +543,7 @@ fn check_targets<R: Abort>(rt: &R, alloc: Alloc, cases: &[TargetCase]) -> Result
             carried,
         });
         let found = target_in(alloc, text, *instruction, *which)?;
-        equal_in(rt, *text, &found, &Ok(target));
+        equal(rt, *text, &found, &Ok(target));
     }
     Ok(())
 }
@@ -563,9 +563,9 @@ fn fault_with_locals(alloc: Alloc, text: &str) -> Result<Option<ValidFault>, Fai
 #[test]
 fn counts_a_thousand_locals(rt: HostRuntime) -> Result<(), Fail> {
     let last = fault_with_locals(rt.alloc(), "local.get:999 wrap")?;
-    equal_in(&rt, "last", &last, &None);
+    equal(&rt, "last", &last, &None);
     let past = fault_with_locals(rt.alloc(), "local.get:1000 wrap")?;
-    equal_in(&rt, "past", &past, &Some(in_body(Fault::UnknownLocal, 0)));
+    equal(&rt, "past", &past, &Some(in_body(Fault::UnknownLocal, 0)));
     Ok(())
 }
 
@@ -589,7 +589,7 @@ fn checks_sixty_thousand_instructions(rt: HostRuntime) -> Result<(), Fail> {
         Ok(table) => table.target(59_998, 0),
         Err(_) => None,
     };
-    equal_in(
+    equal(
         &rt,
         "last branch",
         &target.map(|target| target.to),

@@ -1,10 +1,10 @@
 //! Each public function that the other tests don't call, with answers worked out by hand.
 
+use crate::equal::equal;
 use crate::sections::with_exports;
 use std::alloc::{AllocError, Global as Alloc};
 use std::process::Abort;
 use std::test::Fail;
-use testing::equal_in;
 use types::{Instr, NumericInstr, PlainInstr, Value};
 use validate_module_rules::{IndexSpaces, exported_function, fault_outside_bodies, offset};
 use validate_typing::{Fault, Place, Table, Target, ValidFault, expression_stands_for_one_nesting};
@@ -35,7 +35,7 @@ static NUMBERS: [(Fault, u8); 20] = [
 
 fn check_numbers<R: Abort>(rt: &R, cases: &[(Fault, u8)]) {
     for (kind, number) in cases {
-        equal_in(rt, *number, &kind.number(), number);
+        equal(rt, *number, &kind.number(), number);
     }
 }
 
@@ -66,7 +66,7 @@ static PLACES: [(ValidFault, Fault, Option<Place>); 3] = [
 fn check_places<R: Abort>(rt: &R, cases: &[(ValidFault, Fault, Option<Place>)]) {
     for (fault, kind, place) in cases {
         let found = (fault.kind(), fault.place());
-        equal_in(rt, kind.number(), &found, &(*kind, *place));
+        equal(rt, kind.number(), &found, &(*kind, *place));
     }
 }
 
@@ -104,8 +104,8 @@ fn keeps_rows(rt: HostRuntime) -> Result<(), Fail> {
         row_length(&table, 1),
         row_length(&table, 2),
     );
-    equal_in(&rt, "lengths", &lengths, &(Some(2), Some(0), None));
-    equal_in(&rt, "target", &table.target(0, 1), &Some(target(8)));
+    equal(&rt, "lengths", &lengths, &(Some(2), Some(0), None));
+    equal(&rt, "target", &table.target(0, 1), &Some(target(8)));
     expression_stands_for_one_nesting();
     Ok(())
 }
@@ -120,14 +120,14 @@ fn offset_of(alloc: Alloc, value: Value) -> Result<u32, AllocError> {
 
 #[test]
 fn reads_offsets(rt: HostRuntime) -> Result<(), Fail> {
-    equal_in(
+    equal(
         &rt,
         "i32",
         &offset_of(rt.alloc(), Value::I32(70_000))?,
         &70_000,
     );
-    equal_in(&rt, "i64", &offset_of(rt.alloc(), Value::I64(70_000))?, &0);
-    equal_in(&rt, "no code", &offset(&[]), &0);
+    equal(&rt, "i64", &offset_of(rt.alloc(), Value::I64(70_000))?, &0);
+    equal(&rt, "no code", &offset(&[]), &0);
     Ok(())
 }
 
@@ -141,8 +141,8 @@ fn outside(alloc: Alloc, names: u32) -> Result<Option<Fault>, Fail> {
 
 #[test]
 fn tells_faults_outside_bodies(rt: HostRuntime) -> Result<(), Fail> {
-    equal_in(&rt, "two names", &outside(rt.alloc(), 2)?, &None);
-    equal_in(
+    equal(&rt, "two names", &outside(rt.alloc(), 2)?, &None);
+    equal(
         &rt,
         "one name",
         &outside(rt.alloc(), 1)?,
@@ -160,6 +160,6 @@ fn function_named(alloc: Alloc, name: &str) -> Result<Option<usize>, Fail> {
 
 #[test]
 fn a_memory_is_no_function(rt: HostRuntime) -> Result<(), Fail> {
-    equal_in(&rt, "0", &function_named(rt.alloc(), "0")?, &None);
+    equal(&rt, "0", &function_named(rt.alloc(), "0")?, &None);
     Ok(())
 }

@@ -1,10 +1,10 @@
 //! Large bodies and modules, and that they are valid.
 
+use crate::equal::equal;
 use crate::sections::{empty, fault_of, func_type};
 use std::alloc::{AllocError, Global as Alloc};
 use std::process::Abort;
 use std::test::Fail;
-use testing::equal_in;
 use types::{
     Body, ElementSegment, Export, ExportDesc, Global, GlobalType, Instr, Limits, Name,
     NumericInstr, Parts, PlainInstr, Sequence, ValType, Value,
@@ -184,7 +184,7 @@ static LARGE: [(&str, Sizes); 9] = [
 
 fn check_large<R: Abort>(rt: &R, alloc: Alloc, cases: &[(&str, Sizes)]) -> Result<(), Fail> {
     for (text, sizes) in cases {
-        equal_in(rt, *text, &fault_of(alloc, large(alloc, *sizes)?)?, &None);
+        equal(rt, *text, &fault_of(alloc, large(alloc, *sizes)?)?, &None);
     }
     Ok(())
 }

@@ -1,10 +1,10 @@
 //! Modules made from parts: the nesting of blocks, and the final `end`.
 
+use crate::equal::equal;
 use crate::sections::one_function;
 use std::alloc::{AllocError, Global};
 use std::process::Abort;
 use std::test::Fail;
-use testing::equal_in;
 use types::{Body, Instr, MOST_NESTED, Module, Sequence};
 
 /// So many blocks in one another, and so many ends.
@@ -66,8 +66,8 @@ fn counted(module: Module) -> (usize, usize) {
 #[test]
 fn gives_the_parts_again(rt: HostRuntime) -> Result<(), Fail> {
     let module = module_of(rt.alloc(), 2, 3)?.ok_or("no module")?;
-    equal_in(&rt, "parts", &counted(module), &(1, 1));
+    equal(&rt, "parts", &counted(module), &(1, 1));
     let code = Sequence::from_vec(blocks(rt.alloc(), 2, 3)?);
-    equal_in(&rt, "instructions", &code.into_vec().len(), &5);
+    equal(&rt, "instructions", &code.into_vec().len(), &5);
     Ok(())
 }

@@ -1,4 +1,5 @@
 use crate::bytes::bytes;
+use crate::equal::equal;
 use crate::sections::{
     empty, fault_of, with_exports, with_imported_memory, with_memory, with_table,
 };
@@ -10,7 +11,6 @@ use binary_wire::ReadFault;
 use std::alloc::Global;
 use std::process::Abort;
 use std::test::Fail;
-use testing::equal_in;
 use types::{Limits, MOST_PAGES, Module, PAGE_SIZE};
 use validate::{ValidModule, check_module, validate};
 use validate_typing::{Fault, Target, ValidFault};
@@ -78,7 +78,7 @@ fn valid(alloc: Global, number: usize) -> Result<ValidModule, Fail> {
 fn check_answers<R: Abort>(rt: &R, alloc: Global, cases: &[Case]) -> Result<(), Fail> {
     for (number, case) in cases.iter().enumerate() {
         let found = answers(alloc, bytes_of(case)?)?;
-        equal_in(rt, number, &found, &[case.answer, case.answer]);
+        equal(rt, number, &found, &[case.answer, case.answer]);
     }
     Ok(())
 }
@@ -97,9 +97,9 @@ fn a_shared_memory_has_a_maximum(rt: HostRuntime) -> Result<(), Fail> {
     };
     let fault = Some(Fault::SharedWithoutMaximum);
     let own = fault_of(rt.alloc(), with_memory(rt.alloc(), limits)?)?;
-    equal_in(&rt, "own memory", &own, &fault);
+    equal(&rt, "own memory", &own, &fault);
     let imported = fault_of(rt.alloc(), with_imported_memory(rt.alloc(), limits)?)?;
-    equal_in(&rt, "imported memory", &imported, &fault);
+    equal(&rt, "imported memory", &imported, &fault);
     Ok(())
 }
 
@@ -111,7 +111,7 @@ fn a_table_is_not_shared(rt: HostRuntime) -> Result<(), Fail> {
         shared: true,
     };
     let parts = with_table(rt.alloc(), limits)?;
-    equal_in(
+    equal(
         &rt,
         "table",
         &fault_of(rt.alloc(), parts)?,
@@ -123,10 +123,10 @@ fn a_table_is_not_shared(rt: HostRuntime) -> Result<(), Fail> {
 #[test]
 fn takes_1000_exports(rt: HostRuntime) -> Result<(), Fail> {
     let parts = with_exports(rt.alloc(), 1000, 1000)?;
-    equal_in(&rt, "1000 names", &fault_of(rt.alloc(), parts)?, &None);
+    equal(&rt, "1000 names", &fault_of(rt.alloc(), parts)?, &None);
     let parts = with_exports(rt.alloc(), 1000, 999)?;
     let fault = fault_of(rt.alloc(), parts)?;
-    equal_in(&rt, "999 names", &fault, &Some(Fault::DuplicateExport));
+    equal(&rt, "999 names", &fault, &Some(Fault::DuplicateExport));
     Ok(())
 }
 
@@ -143,41 +143,41 @@ fn image(alloc: Global, number: usize) -> Result<Vec<u8>, Fail> {
 }
 
 fn check_image<R: Abort>(rt: &R, image: &[u8]) {
-    equal_in(rt, "length", &image.len(), &PAGE_SIZE);
-    equal_in(
+    equal(rt, "length", &image.len(), &PAGE_SIZE);
+    equal(
         rt,
         "start",
         &image.get(..8),
         &Some(b"\0\0abXY\0\0".as_slice()),
     );
-    equal_in(rt, "end", &image.last().copied(), &Some(b'z'));
+    equal(rt, "end", &image.last().copied(), &Some(b'z'));
 }
 
 #[test]
 fn writes_segments_over_one_another(rt: HostRuntime) -> Result<(), Fail> {
     check_image(&rt, &image(rt.alloc(), DATA_OVER_DATA)?);
-    equal_in(&rt, "pages", &pages_max(rt.alloc(), DATA_OVER_DATA)?, &3);
+    equal(&rt, "pages", &pages_max(rt.alloc(), DATA_OVER_DATA)?, &3);
     Ok(())
 }
 
 #[test]
 fn a_memory_has_64_pages_at_most(rt: HostRuntime) -> Result<(), Fail> {
-    equal_in(
+    equal(
         &rt,
         "no maximum",
         &pages_max(rt.alloc(), DATA_TO_THE_END)?,
         &MOST_PAGES,
     );
-    equal_in(&rt, "no memory", &pages_max(rt.alloc(), GLOBALS)?, &0);
-    equal_in(&rt, "image", &image(rt.alloc(), GLOBALS)?.len(), &0);
+    equal(&rt, "no memory", &pages_max(rt.alloc(), GLOBALS)?, &0);
+    equal(&rt, "image", &image(rt.alloc(), GLOBALS)?.len(), &0);
     Ok(())
 }
 
 #[test]
 fn a_module_without_functions_has_no_tables(rt: HostRuntime) -> Result<(), Fail> {
     let module = valid(rt.alloc(), DATA_OVER_DATA)?;
-    equal_in(&rt, "pages", &module.opening_pages(), &1);
-    equal_in(&rt, "tables", &module.tables().len(), &0);
+    equal(&rt, "pages", &module.opening_pages(), &1);
+    equal(&rt, "tables", &module.tables().len(), &0);
     Ok(())
 }
 
@@ -216,19 +216,19 @@ fn tells_where_branches_lead(rt: HostRuntime) -> Result<(), Fail> {
 /// What a module that starts threads says of its own function.
 fn check_own_function<R: Abort>(rt: &R, module: &ValidModule) {
     let instructions = module.body(0).map(|body| body.code.len());
-    equal_in(rt, "instructions", &instructions, &Some(4));
+    equal(rt, "instructions", &instructions, &Some(4));
     let params = module.func_type(0).map(|func_type| func_type.params.len());
-    equal_in(rt, "parameters", &params, &Some(2));
+    equal(rt, "parameters", &params, &Some(2));
     assert!(rt; module.table(1).is_none());
-    equal_in(rt, "target", &module.target(0, 0, 0), &None);
+    equal(rt, "target", &module.target(0, 0, 0), &None);
 }
 
 /// What a module that starts threads says of its functions.
 fn check_functions<R: Abort>(rt: &R, module: &ValidModule) {
     assert!(rt; module.starts_threads());
-    equal_in(rt, "imported", &module.imported_functions(), &1);
-    equal_in(rt, "entry", &module.exported("wasi_thread_start"), &Some(0));
-    equal_in(rt, "memory", &module.exported("memory"), &None);
+    equal(rt, "imported", &module.imported_functions(), &1);
+    equal(rt, "entry", &module.exported("wasi_thread_start"), &Some(0));
+    equal(rt, "memory", &module.exported("memory"), &None);
 }
 
 #[test]
@@ -241,7 +241,7 @@ fn counts_imported_functions(rt: HostRuntime) -> Result<(), Fail> {
 
 #[test]
 fn an_empty_module_is_valid(rt: HostRuntime) -> Result<(), Fail> {
-    equal_in(
+    equal(
         &rt,
         "empty",
         &fault_of(rt.alloc(), empty(rt.alloc()))?,
