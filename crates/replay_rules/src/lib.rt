@@ -17,9 +17,6 @@
 //!   that doesn't agree. `specs/Telling.antt` joins it to the runs of real threads, `specs/Ranges.antt` to the ranges of records.
 #![tactic(auto)]
 
-#[cfg(test)]
-mod tests;
-
 ghost use Rattle.replay_rules.specs.Telling.{RunsAreRecorded};
 ghost use Rattle.replay_rules.specs.Ranges.{RunsAreInRange};
 ghost use Rattle.replay_rules.specs.Theorems.{WalksAreMade, EndsAreTheSame, StopsAreMisfits};

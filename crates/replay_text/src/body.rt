@@ -10,7 +10,8 @@ use crate::end::EndLine;
 use crate::entry::EntryLine;
 use crate::fault::RecordFault;
 use crate::header::Scale;
-use replay_forms::{after, number_then, several};
+use crate::number::u32_then;
+use replay_forms::{after, several};
 use std::alloc::Global;
 use types::{Entry, Sequence, ThreadReport};
 
@@ -44,8 +45,8 @@ fn pages_at(max_pages: u32, bytes: &[u8]) -> Option<(u32, &[u8])>
     ensures { Reads (λ r. (r.0, r.1.now)) result (pages_at max_pages bytes.now) }
 {
     let rest = after(b"pages ", bytes)?;
-    let (pages, rest) = number_then(max_pages as u64, b"\n", rest)?;
-    Some((pages as u32, rest))
+    let (pages, rest) = u32_then(max_pages, b"\n", rest)?;
+    Some((pages, rest))
 }
 
 /// The end lines, of so many threads at most, and the two lines behind them. The first is the line of this number.

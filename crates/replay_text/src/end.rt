@@ -1,7 +1,8 @@
 //! Reading the ends of threads.
 
-ghost use Rattle.std.specs.Prelude.{◌≡◌, codes};
-ghost use Rattle.replay_forms.specs.Reading.{Reads, behind};
+ghost use Rattle.std.specs.Prelude.{◌≡◌, [], ◌∷◌, codes};
+ghost use Rattle.types.specs.Limits.{most_fuel};
+ghost use Rattle.replay_forms.specs.Reading.{Reads, behind, both, number_then};
 ghost use Rattle.replay_text.specs.Reading.{trap_of, stop_of, result_at, trap_at, stop_at, outcome_at, end_at};
 
 use crate::value::value_at;
@@ -79,6 +80,15 @@ fn outcome_at(bytes: &[u8]) -> Option<(Outcome, &[u8])>
     stop_at(bytes)
 }
 
+/// How a thread ended and what it spent, up to the end of its line.
+fn report_at(bytes: &[u8]) -> Option<(ThreadReport, &[u8])>
+    ensures { Reads (λ r. ((r.0.outcome, r.0.spent), r.1.now)) result (both outcome_at (number_then most_fuel (10 ∷ [])) bytes.now) }
+{
+    let (outcome, rest) = outcome_at(bytes)?;
+    let (spent, rest) = number_then(MOST_FUEL, b"\n", rest)?;
+    Some((ThreadReport { outcome, spent }, rest))
+}
+
 /// The line of this thread's end.
 #[tactic(auto, unfolding(crate::specs::Reading::end_at))]
 fn end_at(thread: usize, bytes: &[u8]) -> Option<(ThreadReport, &[u8])>
@@ -86,10 +96,9 @@ fn end_at(thread: usize, bytes: &[u8]) -> Option<(ThreadReport, &[u8])>
 {
     let rest = after(b"end ", bytes)?;
     let (number, rest) = number_then(MOST_SPAWNED as u64, b" ", rest)?;
-    let (outcome, rest) = outcome_at(rest)?;
-    let (spent, rest) = number_then(MOST_FUEL, b"\n", rest)?;
+    let (report, rest) = report_at(rest)?;
     if number as usize == thread {
-        Some((ThreadReport { outcome, spent }, rest))
+        Some((report, rest))
     } else {
         None
     }

@@ -1,9 +1,11 @@
 //! Reading events.
 
-ghost use Rattle.replay_forms.specs.Reading.{Reads, behind};
+ghost use Rattle.std.specs.Prelude.{[], ◌∷◌};
+ghost use Rattle.replay_forms.specs.Reading.{Reads, behind, both, signed_then, word_for};
 ghost use Rattle.replay_text.specs.Reading.{u8_at, u32_at, u64_at, op_at, load_at, store_at, rmw_at};
 ghost use Rattle.replay_text.specs.Reading.{cmpxchg_at, wait_at, notify_at, access_at, plain_at, event_at};
 
+use crate::number::u32_then;
 use replay_forms::{after, number_then, signed_then};
 use types::{Answer, Event, Question, RmwOp};
 
@@ -17,36 +19,53 @@ fn u8_at(bytes: &[u8]) -> Option<(u8, &[u8])>
 fn u32_at(bytes: &[u8]) -> Option<(u32, &[u8])>
     ensures { Reads (λ r. (r.0, r.1.now)) result (u32_at bytes.now) }
 {
-    let (n, rest) = number_then(4294967295, b" ", bytes)?;
-    Some((n as u32, rest))
+    let (n, rest) = u32_then(u32::MAX, b" ", bytes)?;
+    Some((n, rest))
 }
 
 fn u64_at(bytes: &[u8]) -> Option<(u64, &[u8])>
     ensures { Reads (λ r. (r.0, r.1.now)) result (u64_at bytes.now) }
 {
-    number_then(u64::MAX, b" ", bytes)
+    let (n, rest) = number_then(u64::MAX, b" ", bytes)?;
+    Some((n, rest))
+}
+
+/// Two numbers of 64 bits.
+fn pair_at(bytes: &[u8]) -> Option<((u64, u64), &[u8])>
+    ensures { Reads (λ r. (r.0, r.1.now)) result (both u64_at u64_at bytes.now) }
+{
+    let (first, rest) = u64_at(bytes)?;
+    let (second, rest) = u64_at(rest)?;
+    Some(((first, second), rest))
+}
+
+/// An operator, where its word stands there.
+fn op_for<'a>(op: RmwOp, word: &[u8], bytes: &'a [u8]) -> Option<(RmwOp, &'a [u8])>
+    ensures { Reads (λ r. (r.0, r.1.now)) result (word_for op word.now bytes.now) }
+{
+    let rest = after(word, bytes)?;
+    Some((op, rest))
 }
 
 fn op_at(bytes: &[u8]) -> Option<(RmwOp, &[u8])>
     ensures { Reads (λ r. (r.0, r.1.now)) result (op_at bytes.now) }
 {
-    if let Some(rest) = after(b"add ", bytes) {
-        return Some((RmwOp::Add, rest));
+    if let Some(found) = op_for(RmwOp::Add, b"add ", bytes) {
+        return Some(found);
     }
-    if let Some(rest) = after(b"sub ", bytes) {
-        return Some((RmwOp::Sub, rest));
+    if let Some(found) = op_for(RmwOp::Sub, b"sub ", bytes) {
+        return Some(found);
     }
-    if let Some(rest) = after(b"and ", bytes) {
-        return Some((RmwOp::And, rest));
+    if let Some(found) = op_for(RmwOp::And, b"and ", bytes) {
+        return Some(found);
     }
-    if let Some(rest) = after(b"or ", bytes) {
-        return Some((RmwOp::Or, rest));
+    if let Some(found) = op_for(RmwOp::Or, b"or ", bytes) {
+        return Some(found);
     }
-    if let Some(rest) = after(b"xor ", bytes) {
-        return Some((RmwOp::Xor, rest));
+    if let Some(found) = op_for(RmwOp::Xor, b"xor ", bytes) {
+        return Some(found);
     }
-    let rest = after(b"xchg ", bytes)?;
-    Some((RmwOp::Xchg, rest))
+    op_for(RmwOp::Xchg, b"xchg ", bytes)
 }
 
 fn load_at(bytes: &[u8]) -> Option<(Event, &[u8])>
@@ -65,8 +84,7 @@ fn store_at(bytes: &[u8]) -> Option<(Event, &[u8])>
     let rest = after(b"store ", bytes)?;
     let (addr, rest) = u64_at(rest)?;
     let (width, rest) = u8_at(rest)?;
-    let (reach, rest) = u64_at(rest)?;
-    let (value, rest) = u64_at(rest)?;
+    let ((reach, value), rest) = pair_at(rest)?;
     Some((
         Event::Store {
             addr,
@@ -103,8 +121,7 @@ fn cmpxchg_at(bytes: &[u8]) -> Option<(Event, &[u8])>
     let rest = after(b"cmpxchg ", bytes)?;
     let (addr, rest) = u64_at(rest)?;
     let (width, rest) = u8_at(rest)?;
-    let (expected, rest) = u64_at(rest)?;
-    let (replacement, rest) = u64_at(rest)?;
+    let ((expected, replacement), rest) = pair_at(rest)?;
     Some((
         Event::Cmpxchg {
             addr,
@@ -116,14 +133,22 @@ fn cmpxchg_at(bytes: &[u8]) -> Option<(Event, &[u8])>
     ))
 }
 
+/// What a wait expects, and for how long it sleeps.
+fn sleep_at(bytes: &[u8]) -> Option<((u64, i64), &[u8])>
+    ensures { Reads (λ r. (r.0, r.1.now)) result (both u64_at (signed_then (32 ∷ [])) bytes.now) }
+{
+    let (expected, rest) = u64_at(bytes)?;
+    let (timeout, rest) = signed_then(b" ", rest)?;
+    Some(((expected, timeout), rest))
+}
+
 fn wait_at(bytes: &[u8]) -> Option<(Event, &[u8])>
     ensures { Reads (λ r. (r.0, r.1.now)) result (wait_at bytes.now) }
 {
     let rest = after(b"wait ", bytes)?;
     let (addr, rest) = u64_at(rest)?;
     let (width, rest) = u8_at(rest)?;
-    let (expected, rest) = u64_at(rest)?;
-    let (timeout, rest) = signed_then(b" ", rest)?;
+    let ((expected, timeout), rest) = sleep_at(rest)?;
     Some((
         Event::Ask(Question::Wait {
             addr,
@@ -149,7 +174,8 @@ fn numbered_at<'a>(word: &[u8], bytes: &'a [u8]) -> Option<(u32, &'a [u8])>
     ensures { Reads (λ r. (r.0, r.1.now)) result (behind word.now u32_at bytes.now) }
 {
     let rest = after(word, bytes)?;
-    u32_at(rest)
+    let (n, rest) = u32_at(rest)?;
+    Some((n, rest))
 }
 
 /// The events that have an address.

@@ -7,6 +7,7 @@ ghost use Rattle.replay_text.specs.Faults.{Gives};
 ghost use Rattle.replay_text.specs.Reading.{named, count_at, module_at, scale_at, invoke_at, args_at, fuel_at, limit_at, header_at};
 
 use crate::fault::RecordFault;
+use crate::number::u32_then;
 use crate::value::Argument;
 use crate::version::{FIRST_PAGES, FIRST_THREADS, Version};
 use replay_forms::{HexByte, after, number_then, several};
@@ -40,19 +41,19 @@ fn count_at<'a>(word: &[u8], max: u32, bytes: &'a [u8]) -> Option<(u32, &'a [u8]
     ensures within { IfSome result (λ r. r.0 ≤ max) }
 {
     let rest = after(word, bytes)?;
-    let (number, rest) = number_then(max as u64, b"\n", rest)?;
+    let (number, rest) = u32_then(max, b"\n", rest)?;
     if number == 0 {
         return None;
     }
-    Some((number as u32, rest))
+    Some((number, rest))
 }
 
 fn module_at(bytes: &[u8]) -> Option<(u32, &[u8])>
     ensures { Reads (λ r. (r.0, r.1.now)) result (module_at bytes.now) }
 {
     let rest = after(b"module ", bytes)?;
-    let (length, rest) = number_then(MOST_MODULE_BYTES as u64, b"\n", rest)?;
-    Some((length as u32, rest))
+    let (length, rest) = u32_then(MOST_MODULE_BYTES as u32, b"\n", rest)?;
+    Some((length, rest))
 }
 
 /// The first line, and in version 2 the three behind it.

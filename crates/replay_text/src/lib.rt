@@ -8,6 +8,7 @@ mod entry;
 mod event;
 mod fault;
 mod header;
+mod number;
 mod parts;
 mod ranges;
 mod read;

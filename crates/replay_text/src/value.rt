@@ -3,6 +3,7 @@
 ghost use Rattle.replay_forms.specs.Reading.{Reads};
 ghost use Rattle.replay_text.specs.Reading.{i32_at, i64_at, value_at};
 
+use crate::number::u32_within;
 use replay_forms::{Item, after, number_within};
 use types::Value;
 
@@ -10,8 +11,8 @@ fn i32_at(bytes: &[u8]) -> Option<(Value, &[u8])>
     ensures { Reads (λ r. (r.0, r.1.now)) result (i32_at bytes.now) }
 {
     let rest = after(b"i32:", bytes)?;
-    let (n, rest) = number_within(4294967295, rest)?;
-    Some((Value::I32(n as u32), rest))
+    let (n, rest) = u32_within(u32::MAX, rest)?;
+    Some((Value::I32(n), rest))
 }
 
 fn i64_at(bytes: &[u8]) -> Option<(Value, &[u8])>
@@ -44,6 +45,7 @@ impl Item for Argument {
 
     fn read<'a>(&self, _place: usize, bytes: &'a [u8]) -> Option<(Value, &'a [u8])> {
         let rest = after(b" ", bytes)?;
-        value_at(rest)
+        let (value, rest) = value_at(rest)?;
+        Some((value, rest))
     }
 }

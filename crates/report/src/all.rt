@@ -75,6 +75,10 @@ fn write_verdict<W: Write>(out: &mut W, all: &All, most: u32) -> io::Result<()> 
             out,
             "not all: a thread spends its units without an entry; {endings} endings so far\n"
         ),
+        Verdict::Told => write!(
+            out,
+            "not all: told to end; {endings} endings, {states} states so far\n"
+        ),
     }
 }
 

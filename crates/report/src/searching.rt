@@ -17,7 +17,7 @@ use crate::running::{Trouble, Wanted, args_of, is_done, keep, print};
 use report_command::Search;
 use report_runs::Call;
 use search_endings::{Ending, Met, Table};
-use search_finds::{Found, Searched, Size, Sought, first_found, shrunk, size_of};
+use search_finds::{Found, Halt, Searched, Size, Sought, first_found, shrunk, size_of};
 use search_reach::Follows;
 use search_scheduled::Made;
 use std::alloc::Global;
@@ -96,6 +96,12 @@ fn write_table<W: Write>(out: &mut W, table: &Table) -> io::Result<()> {
     out.flush()
 }
 
+/// The line of a search that was told to end: how many of its runs were made.
+fn write_told<W: Write>(out: &mut W, made: u64, runs: u64) -> io::Result<()> {
+    write!(out, "told to end: {made} of {runs} runs\n")?;
+    out.flush()
+}
+
 /// Whether some ending of a table has a trap or a stop.
 fn has_failed(table: &Table) -> bool {
     table.met.iter().any(|met| met.ending.outcomes.iter().any(|outcome| !is_done(*outcome)))
@@ -110,8 +116,9 @@ fn write_sizes<W: Write>(out: &mut W, before: Size, after: Size) -> io::Result<(
     )
 }
 
-/// Makes the runs that a search asks for, prints the table of their endings, and of a run that was found its lines; and writes its
-/// record, where one is wanted. Answers the status: 1 where a run was found or an ending has a trap or a stop, and else 0.
+/// Makes the runs that a search asks for, prints the table of their endings, and of a run that was found its lines, or that
+/// it was told to end; and writes the record of what was found, where one is wanted. Answers the status: 1 where a run was
+/// found or an ending has a trap or a stop, and else 0.
 fn search_drawn<R: Threads + Sync, F: Follows, W: Write, S: Write>(
     rt: &R,
     alloc: Global,
@@ -133,14 +140,18 @@ fn search_drawn<R: Threads + Sync, F: Follows, W: Write, S: Write>(
     };
     let jobs = jobs_of(rt, search);
     let sought = sought_by(search);
-    let Searched { table, found } = first_found(rt, alloc, module, call, &sought, jobs, follower)?;
+    let Searched { table, halt } = first_found(rt, alloc, module, call, &sought, jobs, follower)?;
     follower.end();
     write_table(out, &table)?;
-    let Some(found) = found else {
-        return Ok(u8::from(has_failed(&table)));
-    };
-    tell_found(alloc, module, call, search, found, out, save)?;
-    Ok(1)
+    match halt {
+        Halt::Found(found) => {
+            tell_found(alloc, module, call, search, found, out, save)?;
+            return Ok(1);
+        }
+        Halt::AllMade => {}
+        Halt::Told => write_told(out, table.runs, search.runs)?,
+    }
+    Ok(u8::from(has_failed(&table)))
 }
 
 /// Searches as is asked for: through drawn runs, or through every order of entries. Answers the status.

@@ -35,6 +35,8 @@ pub struct Search<'a> {
     pub jobs: Option<u32>,
     /// Where every order of entries is gone through in place of drawn runs: how many states are met at most, 1 to 1,000,000,000.
     pub all: Option<u32>,
+    /// The path of the file at which the search ends, if there is one.
+    pub until: Option<&'a str>,
     /// How many units each thread may spend, 0 to 1,000,000,000,000.
     pub fuel: u64,
     /// How many entries the log takes, 1 to 1,000,000.
@@ -61,6 +63,10 @@ const MOST_RUNS: u64 = 1_000_000_000_000;
 const MOST_STATES: u32 = 1_000_000_000;
 
 const STATES: u32 = 1_000_000;
+
+/// What the option is for that ends a search.
+const UNTIL: &str =
+    "With --until PATH it ends once there is a file with this path, and prints what it met so far.";
 
 /// How many runs.
 fn runs_argument<'a>(alloc: Global) -> Arg<'a> {
@@ -181,17 +187,24 @@ fn with_wishes<'a>(alloc: Global, command: Command<'a>) -> Result<Command<'a>, A
         ))
 }
 
+/// The file that ends it. The launcher adds this option to the words of every search: what is said of words that are wrong is the same
+/// with it and without, since usage lines leave it out. So does the list of options, and the help's last line has it.
+fn until_argument<'a>(alloc: Global) -> Arg<'a> {
+    option(alloc, "until", "PATH", UNTIL).hide(true)
+}
+
 /// `search FILE --invoke NAME [--runs N] [--from I] [--seed S] [--strategy random|pct:D] [--jobs N] [--all [--states N]]
-/// [--find WORDS] [--expect WORDS] [--record OUT] [--shrink] [--fuel N] [--limit N] [--dump N] [ARG..]`
+/// [--find WORDS] [--expect WORDS] [--record OUT] [--shrink] [--until PATH] [--fuel N] [--limit N] [--dump N] [ARG..]`
 pub(crate) fn search_command<'a>(alloc: Global) -> Result<Command<'a>, AllocError> {
     let command = Command::new(alloc, "search")
         .about(
             "Runs a function of a module on one thread along many schedules, and prints how the runs end",
         )
+        .after_help(UNTIL)
         .arg(file_argument(alloc))?
         .arg(invoke_argument(alloc))?;
     let command = with_all(alloc, with_runs(alloc, command)?)?;
-    let command = with_wishes(alloc, command)?;
+    let command = with_wishes(alloc, command)?.arg(until_argument(alloc))?;
     with_bounds(alloc, command)?
         .arg(dump_argument(alloc))?
         .arg(args_argument(alloc))
@@ -267,6 +280,7 @@ pub(crate) fn search_job<'a>(
         shrink: matches.get_flag("shrink"),
         jobs: matches.get_one::<u32>("jobs"),
         all: all_of(matches),
+        until: matches.get_str("until"),
         fuel,
         limit,
         save: matches.get_str("record"),

@@ -37,6 +37,8 @@ mod text;
 #[cfg(test)]
 mod threaded;
 #[cfg(test)]
+mod told;
+#[cfg(test)]
 mod usage;
 #[cfg(test)]
 mod versions;

@@ -3,6 +3,7 @@
 ghost use Rattle.report_command.specs.Jobs.{IsInRange};
 
 use report::{Job, Usage, command, perform};
+use search_reach::Follows;
 use std::alloc::{AllocError, Global};
 use std::process::Abort;
 use std::sync::Wait;
@@ -39,13 +40,14 @@ fn nothing(alloc: Global) -> Gave {
     }
 }
 
-/// Does a job on a module's bytes, with the bytes of the record that it reads.
-fn give<R: Threads + Wait + Sync>(
+/// Does a job on a module's bytes, with the bytes of the record that it reads, and the follower of a search.
+fn give<R: Threads + Wait + Sync, F: Follows>(
     rt: &R,
     alloc: Global,
     job: &Job,
     module: &[u8],
     saved: &[u8],
+    follower: &mut F,
 ) -> Gave
     requires { IsInRange job.now }
 {
@@ -59,7 +61,7 @@ fn give<R: Threads + Wait + Sync>(
         &mut gave.out,
         &mut gave.err,
         &mut gave.record,
-        &mut (),
+        follower,
     );
     gave
 }
@@ -102,9 +104,21 @@ pub(crate) fn program<R: Threads + Wait + Sync>(
     module: &[u8],
     saved: &[u8],
 ) -> Result<Gave, AllocError> {
+    heard_program(rt, alloc, texts, module, saved, &mut ())
+}
+
+/// The same, where somebody hears of a search.
+pub(crate) fn heard_program<R: Threads + Wait + Sync, F: Follows>(
+    rt: &R,
+    alloc: Global,
+    texts: [&str; 3],
+    module: &[u8],
+    saved: &[u8],
+    follower: &mut F,
+) -> Result<Gave, AllocError> {
     let words = words_of(alloc, texts)?;
     match command(alloc, &words) {
-        Ok(job) => Ok(give(rt, alloc, &job, module, saved)),
+        Ok(job) => Ok(give(rt, alloc, &job, module, saved, follower)),
         Err(usage) => tell(alloc, &usage),
     }
 }

@@ -88,7 +88,7 @@ static SEARCHES: [Line; 7] = [
     },
     Line {
         module: ADD,
-        words: "search a.wasm --invoke f --states 5",
+        words: "search a.wasm --invoke f --until b --states 5",
         text: "error: the following required arguments were not provided:\n\
             \x20 --all\n\n\
             Usage: wathread search --invoke <NAME> --all --states <N> <FILE> [ARG]...\n\n\

@@ -14,9 +14,6 @@
 //! - and, for the clauses on lost tries and on a limit, what each thread saw of the history at each of its steps.
 #![tactic(auto)]
 
-#[cfg(test)]
-mod tests;
-
 ghost use Rattle.schedule.specs.Theorems.{OneSchedule, ScheduleFollows, EveryOtherGivesTheSame};
 ghost use Rattle.schedule.specs.Theorems.{ThreadsWithBudgetsKeepTheLaws, ThreadsLeaveLast};
 ghost use Rattle.schedule.specs.Theorems.{ActsAndLossesFixTheEnd, ScheduledRunsGoOn};

@@ -1,12 +1,13 @@
 //! The first run with an ending that is looked for.
-ghost use Rattle.std.specs.Prelude.{◌≡◌, ◌+◌, ◌<◌, ◌≤◌, ◌^◌, All, IfOk, OnOk, IfSome, MatchOption};
+ghost use Rattle.std.specs.Prelude.{◌≡◌, ◌+◌, ◌<◌, ◌≤◌, ◌^◌, All, IfOk, OnOk, IfSome};
 ghost use Rattle.interp.specs.Threads.{meaning_in};
 ghost use Rattle.search_scheduled.specs.SpareThreads.{AreSpares};
 ghost use Rattle.search_finds.specs.Finds.{IsFind, IsMet, EndsAsLookedFor};
+ghost use Rattle.search_finds.specs.Halts.{IfFound};
 
 use crate::sought::Sought;
 use search_endings::{Ending, Table, ending_of};
-use search_reach::Follows;
+use search_reach::{Follows, Wish};
 use search_scheduled::{Made, SearchFault, Spares, run_along, run_with_spares};
 use search_strategies::{Along, MOST_DEPTH, Pct, Random, Way};
 use spawn_host::Call;
@@ -24,11 +25,22 @@ pub struct Found {
     pub made: Made,
 }
 
-/// The endings that were met, and the run that was found, if one was: the last that was noted.
+/// Why no further run was made.
+#[derive(Debug, Drop)]
+pub enum Halt {
+    /// The last that was noted is the one that is looked for.
+    Found(Found),
+    /// All were made, and none was found.
+    AllMade,
+    /// The follower told it to end, and none was found.
+    Told,
+}
+
+/// The endings that were met, and why no further run was made.
 #[derive(Debug, Drop)]
 pub struct Searched {
     pub table: Table,
-    pub found: Option<Found>,
+    pub halt: Halt,
 }
 
 /// A module, the call of a function of it, and what is looked for among the runs by that call.
@@ -219,11 +231,11 @@ impl<'a> Search<'a> {
 }
 
 /// Makes runs of an exported function of a module in the order of their numbers, by so many threads, and notes the ending of each, up to
-/// the first that is looked for. Run number I of a seed is the same run, whoever makes it, and so is what is found. The follower hears
-/// of each how many were made, with how many endings.
+/// the first that is looked for, or behind which the follower tells it to end. Run number I of a seed is the same run, whoever makes it,
+/// and so is what is found. The follower hears of each how many were made, with how many endings.
 ///
 /// Each ending of the table is one of a run of the module by the call, and so is what is found: it ends as is looked for. Where nothing
-/// is found, all runs were made.
+/// is found, all runs were made, or the follower's last wish is that it ends.
 ///
 /// # Errors
 /// As of `run_along`.
@@ -239,8 +251,10 @@ pub fn first_found<R: Threads + Sync, F: Follows>(
     requires { sought.now.from + sought.now.runs < 2 ^ 64 }
     ensures met { IfOk result (λ s. All (λ met. IsMet «module».now.parts call.entry sought.now.limit sought.now.dump met.ending)
         s.table.met.items) }
-    ensures found { IfOk result (λ s. MatchOption s.found (s.table.runs ≡ sought.now.runs)
-        (λ f. IsFind «module».now.parts call.entry sought.now.limit f.made × EndsAsLookedFor sought.now sought.now.dump f.made.end)) }
+    ensures found { IfOk result (λ s. IfFound s.halt (λ f. IsFind «module».now.parts call.entry sought.now.limit f.made
+        × EndsAsLookedFor sought.now sought.now.dump f.made.end)) }
+    ensures all_made { IfOk result (λ s. s.halt ≡ Halt.AllMade → s.table.runs ≡ sought.now.runs) }
+    ensures told { IfOk result (λ s. s.halt ≡ Halt.Told → F.wish follower.new ≡ Wish.End) }
 {
     let search = Search {
         module,
@@ -255,13 +269,16 @@ pub fn first_found<R: Threads + Sync, F: Follows>(
         let ending = search.next_ending(rt, alloc, jobs, run, end - run, &mut ahead)?;
         let is_sought = sought.is_ending(alloc, &ending)?;
         table.note(run, ending)?;
-        follower.runs(table.runs, table.met.len());
+        let wish = follower.runs(table.runs, table.met.len());
         if is_sought && let Some(found) = search.found(alloc, run)? {
-            return Ok(Searched {
-                table,
-                found: Some(found),
-            });
+            let halt = Halt::Found(found);
+            return Ok(Searched { table, halt });
+        }
+        if let Wish::End = wish {
+            let halt = Halt::Told;
+            return Ok(Searched { table, halt });
         }
     }
-    Ok(Searched { table, found: None })
+    let halt = Halt::AllMade;
+    Ok(Searched { table, halt })
 }

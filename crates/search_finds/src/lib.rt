@@ -2,7 +2,8 @@
 //! run with few switches of threads.
 //!
 //! - `Sought` says which runs are made, and what is looked for.
-//! - `first_found` makes them one by one and notes their endings, up to the first that is looked for.
+//! - `first_found` makes them one by one and notes their endings, up to the first that is looked for, or until it is told to end; `Halt`
+//!   says which.
 //! - `shrunk` tries parts of that run's schedule; a run that ends alike with fewer switches, or with as many and fewer entries, takes
 //!   its place.
 //! - `run_to` follows choices to an ending: it answers a run only where that ends so.
@@ -17,7 +18,7 @@ mod shrinking;
 mod size;
 mod sought;
 
-pub use finding::{Found, Searched, first_found};
+pub use finding::{Found, Halt, Searched, first_found};
 pub use following::run_to;
 pub use shrinking::shrunk;
 pub use size::{Size, size_of};

@@ -7,7 +7,7 @@ ghost use Rattle.search_modules.specs.Endings.{HasEveryEnding, AllCanEndSo, CanB
 
 use crate::calling::searched;
 use search_parts::Ending;
-use search_reach::{Ended, Follows, Verdict};
+use search_reach::{Ended, Follows, Verdict, Wish};
 use search_states::search_all;
 use spawn_host::Call;
 use spawn_host_workers::RunFault;
@@ -15,7 +15,7 @@ use std::alloc::Global;
 use validate::ValidModule;
 
 /// All endings of a call of an exported function, each with so many first bytes of the memory: its threads are gone through in every
-/// order of their events, until there are no more states or more than `most_states` were met.
+/// order of their events, until there are no more states, more than `most_states` were met, or the follower tells it to end.
 ///
 /// At `Verdict::All` the list has the ending of every run of the module by this call, over either memory, whatever its budget and its
 /// log, in which no thread stopped for want of units or for a full log (`HasEveryEnding`). Whatever the verdict, threads can end by
@@ -23,7 +23,7 @@ use validate::ValidModule;
 /// (`search_runs::every_end_is_scheduled`). Beside each stands a path, a hint that `search_finds::run_to` judges. It says
 /// `Verdict::TooMany` only where it met more than `most_states` states, and `Verdict::CannotTell` only where threads can come by this
 /// call to where one makes a million turns of its own without coming to rest, or stands where a spawned one begins in a module that
-/// can start none (`CanBeLost`).
+/// can start none (`CanBeLost`), and `Verdict::Told` only where the follower's last wish is that it ends.
 ///
 /// # Errors
 /// `UnknownExport` where no function of the module itself is exported under the name. `WrongArguments` where one is, and the
@@ -43,6 +43,7 @@ pub fn all_endings<F: Follows>(
     ensures bound { IfOk result (λ r. r.verdict ≡ Verdict.TooMany → most_states < r.states) }
     ensures cannot_tell { IfOk result (λ r. r.verdict ≡ Verdict.CannotTell
         → CanBeLost valid.now.parts call.entry.name.now call.entry.args.now) }
+    ensures told { IfOk result (λ r. r.verdict ≡ Verdict.Told → F.wish follower.new ≡ Wish.End) }
     ensures fault { IfErr result (IsFaultOf valid.now.parts call.entry.name.now call.entry.args.now) }
 {
     let searched = searched(alloc, valid, call, dump)?;

@@ -4,7 +4,7 @@ ghost use Rattle.indexmap.specs.IndexSet.{index_set_len, insert_key};
 ghost use Rattle.search_reach.specs.Search.{IsSound, AllEnds, AreEnds, HasAllEnds, CanGetStuck};
 
 use crate::path::paths_to;
-use crate::{Explores, Follows, Verdict, reach_all};
+use crate::{Explores, Follows, Verdict, Wish, reach_all};
 use indexmap::IndexSet;
 use std::alloc::{AllocError, Global};
 use std::hash::Hash;
@@ -69,7 +69,7 @@ pub struct Ended<E: Eq + Hash> {
     pub verdict: Verdict,
 }
 
-/// The endings of a system, of which it meets no more than `most` states and a few.
+/// The endings of a system, of which it meets no more than `most` states and a few, and those before it is told to end.
 pub fn all_endings<T: Explores, F: Follows>(
     alloc: Global,
     system: &T,
@@ -83,6 +83,7 @@ pub fn all_endings<T: Explores, F: Follows>(
     ensures bound { IfOk result (λ r. r.verdict ≡ Verdict.TooMany → most < r.states) }
     ensures gives_up { IfOk result (λ r. r.verdict ≡ Verdict.CannotTell
         → CanGetStuck (T.steps system.now) (T.stuck system.now) (T.begins system.now)) }
+    ensures told { IfOk result (λ r. r.verdict ≡ Verdict.Told → F.wish follower.new ≡ Wish.End) }
 {
     let found = reach_all(alloc, system, most, follower)?;
     let listed = endings(alloc, system, found.met.as_slice())?;

@@ -3,7 +3,7 @@ ghost use Rattle.std.specs.Prelude.{◌≡◌, ◌<◌, IfOk, OnOk, vec_len};
 ghost use Rattle.indexmap.specs.IndexSet.{index_set_len, insert_all};
 ghost use Rattle.search_reach.specs.Search.{IsAll, IsSound, CanGetStuck};
 
-use crate::{Explores, Follows};
+use crate::{Explores, Follows, Wish};
 use indexmap::IndexSet;
 use std::alloc::{AllocError, Global};
 use std::hash::Hash;
@@ -17,6 +17,8 @@ pub enum Verdict {
     TooMany,
     /// It met one whose next states cannot be told, or the first one cannot.
     CannotTell,
+    /// It was told to end.
+    Told,
 }
 
 /// How a state was met first: from the state of which index, and which of its next ones it was.
@@ -60,8 +62,8 @@ fn add_all<S: Eq + Hash + Drop>(
     Ok(())
 }
 
-/// Goes through the states of a system, until there are no more or it has met more than `most`. The follower hears of each how many
-/// were met.
+/// Goes through the states of a system, until there are no more, it has met more than `most`, or it is told to end. The follower hears
+/// of each how many were met.
 pub fn reach_all<T: Explores, F: Follows>(
     alloc: Global,
     system: &T,
@@ -75,6 +77,7 @@ pub fn reach_all<T: Explores, F: Follows>(
     ensures bound { IfOk result (λ f. f.verdict ≡ Verdict.TooMany → most < index_set_len f.met) }
     ensures gives_up { IfOk result (λ f. f.verdict ≡ Verdict.CannotTell
         → CanGetStuck (T.steps system.now) (T.stuck system.now) (T.begins system.now)) }
+    ensures told { IfOk result (λ f. f.verdict ≡ Verdict.Told → F.wish follower.new ≡ Wish.End) }
 {
     let mut met = IndexSet::new(alloc);
     let mut from = Vec::new(alloc);
@@ -107,7 +110,13 @@ pub fn reach_all<T: Explores, F: Follows>(
             });
         };
         add_all(&mut met, &mut from, at, after)?;
-        follower.states(met.len());
+        if let Wish::End = follower.states(met.len()) {
+            return Ok(Found {
+                met,
+                from,
+                verdict: Verdict::Told,
+            });
+        }
         at += 1;
     }
     Ok(Found {

@@ -6,7 +6,7 @@ ghost use Rattle.search_settled.specs.Settled.{StepsBy};
 ghost use Rattle.search_settled.specs.Next.{IsFirstOf};
 
 use crate::SettledStates;
-use search_reach::{Ended, Explores, Follows, Verdict, all_endings};
+use search_reach::{Ended, Explores, Follows, Verdict, Wish, all_endings};
 use std::alloc::{AllocError, Global};
 
 /// The turns of a system of threads, in any order, gone through by its settled states.
@@ -57,7 +57,8 @@ impl<M: SettledStates> Explores for Turns<'_, M> {
     }
 }
 
-/// The endings of all runs of threads, whatever the order of their turns; it meets no more than `most` settled states and a few.
+/// The endings of all runs of threads, whatever the order of their turns; it meets no more than `most` settled states and a few, and
+/// those before it is told to end.
 pub fn endings_of_turns<M: SettledStates, F: Follows>(
     alloc: Global,
     system: &M,
@@ -72,6 +73,7 @@ pub fn endings_of_turns<M: SettledStates, F: Follows>(
     ensures bound { IfOk result (λ r. r.verdict ≡ Verdict.TooMany → most < r.states) }
     ensures gives_up { IfOk result (λ r. r.verdict ≡ Verdict.CannotTell
         → CanGetStuck (StepsBy (M.system system.now)) (M.stuck system.now) (IsFirstOf (M.beginning system.now))) }
+    ensures told { IfOk result (λ r. r.verdict ≡ Verdict.Told → F.wish follower.new ≡ Wish.End) }
 {
     let turns = Turns { system };
     all_endings(alloc, &turns, most, follower)

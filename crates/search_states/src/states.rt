@@ -7,7 +7,7 @@ ghost use Rattle.search_settled.specs.Next.{IsFirstOf};
 
 use crate::next::next_states;
 use crate::{Flat, Moves};
-use search_reach::{Ended, Follows, Verdict};
+use search_reach::{Ended, Follows, Verdict, Wish};
 use search_settled::{SettledStates, endings_of_turns};
 use std::alloc::{AllocError, Global};
 
@@ -77,7 +77,8 @@ impl<M: Moves> SettledStates for States<'_, M> {
     }
 }
 
-/// The endings of all runs of threads, whatever the order of their turns; it meets no more than `most` settled states and a few.
+/// The endings of all runs of threads, whatever the order of their turns; it meets no more than `most` settled states and a few, and
+/// those before it is told to end.
 pub fn search_all<M: Moves, F: Follows>(
     alloc: Global,
     system: &M,
@@ -92,6 +93,7 @@ pub fn search_all<M: Moves, F: Follows>(
     ensures bound { IfOk result (λ r. r.verdict ≡ Verdict.TooMany → most < r.states) }
     ensures gives_up { IfOk result (λ r. r.verdict ≡ Verdict.CannotTell
         → CanGetStuck (StepsBy (M.system system.now)) (M.stuck system.now) (IsFirstOf (M.beginning system.now))) }
+    ensures told { IfOk result (λ r. r.verdict ≡ Verdict.Told → F.wish follower.new ≡ Wish.End) }
 {
     let states = States { system };
     endings_of_turns(alloc, &states, most, follower)

@@ -48,31 +48,38 @@ fn times_of(table: &Table, outcomes: &[Outcome], byte: u8) -> u64 {
 /// What thread 0 answers and what is stored in the end: thread 0 comes first, or thread 1, or an update is lost.
 static UPDATES: [(i32, u8); 3] = [(1, 2), (2, 2), (1, 1)];
 
-fn check_updates<R: Abort>(rt: &R, alloc: Global) -> Result<(), Trouble> {
+/// Whether thread 0 answers so and this byte is stored in some run.
+fn has_update(table: &Table, answer: i32, byte: u8) -> bool {
+    let ends = [
+        Outcome::Done(Some(Value::I32(answer as u32))),
+        Outcome::Done(None),
+    ];
+    times_of(table, &ends, byte) > 0
+}
+
+/// Whether each of these endings was met, and no other.
+fn has_updates(table: &Table, updates: &[(i32, u8)]) -> bool {
+    table.met.len() == updates.len()
+        && updates
+            .iter()
+            .all(|(answer, byte)| has_update(table, *answer, *byte))
+}
+
+fn check_updates<R: Abort>(rt: &R, alloc: Global, way: Way) -> Result<(), Trouble> {
     let valid = load(alloc, LOST_UPDATE)?;
-    for way in WAYS {
-        let table = endings_of(alloc, &valid, &[], way, 300)?;
-        assert!(rt;
-            table.runs == 300 && table.met.len() == 3,
-            "{way:?}: {table:?}"
-        );
-        for (answer, byte) in UPDATES {
-            let ends = [
-                Outcome::Done(Some(Value::I32(answer as u32))),
-                Outcome::Done(None),
-            ];
-            assert!(rt;
-                times_of(&table, &ends, byte) > 0,
-                "{way:?}: {answer} {byte}"
-            );
-        }
-    }
+    let table = endings_of(alloc, &valid, &[], way, 300)?;
+    assert!(rt;
+        table.runs == 300 && has_updates(&table, &UPDATES),
+        "{way:?}: {table:?}"
+    );
     Ok(())
 }
 
 #[test]
 fn a_lost_update_has_three_endings(rt: HostRuntime) -> Result<(), Fail> {
-    check_updates(&rt, rt.alloc())?;
+    for way in WAYS {
+        check_updates(&rt, rt.alloc(), way)?;
+    }
     Ok(())
 }
 
@@ -110,19 +117,20 @@ fn runs_of_the_machine_end_as_drawn_ones(rt: HostRuntime) -> Result<(), Fail> {
     Ok(())
 }
 
-/// Thread 0 loads, thread 1 makes its event and leaves, and thread 0 goes on.
-fn check_lost<R: Abort>(rt: &R, alloc: Global) -> Result<(), Trouble> {
+/// The byte at 0 after the run along a schedule.
+fn first_byte(alloc: Global, schedule: &[u32]) -> Result<Option<u8>, Trouble> {
     let valid = load(alloc, LOST_UPDATE)?;
-    let made = run(alloc, &valid, &[], &mut Along::new(&[0, 0, 1, 1, 1, 0]))?;
-    assert!(rt; made.end.bytes.first() == Some(&1), "{made:?}");
-    let made = run(alloc, &valid, &[], &mut Along::new(&[0, 0, 0, 1, 1, 1, 0]))?;
-    assert!(rt; made.end.bytes.first() == Some(&2), "{made:?}");
-    Ok(())
+    let made = run(alloc, &valid, &[], &mut Along::new(schedule))?;
+    Ok(made.end.bytes.first().copied())
 }
 
+/// Thread 0 loads, thread 1 makes its event and leaves, and thread 0 goes on; or thread 0 has stored before.
 #[test]
 fn a_schedule_loses_the_update(rt: HostRuntime) -> Result<(), Fail> {
-    check_lost(&rt, rt.alloc())?;
+    let lost = first_byte(rt.alloc(), &[0, 0, 1, 1, 1, 0])?;
+    assert!(rt; lost == Some(1), "{lost:?}");
+    let kept = first_byte(rt.alloc(), &[0, 0, 0, 1, 1, 1, 0])?;
+    assert!(rt; kept == Some(2), "{kept:?}");
     Ok(())
 }
 
@@ -134,18 +142,18 @@ static ASLEEP: [Outcome; 5] = [
     Outcome::Stop(Stop::AsleepForGood), Outcome::Trap(Trap::OutOfBounds),
 ];
 
-fn check_sleepers<R: Abort>(rt: &R, alloc: Global) -> Result<(), Trouble> {
+fn check_sleepers<R: Abort>(rt: &R, alloc: Global, way: Way) -> Result<(), Trouble> {
     let valid = load(alloc, SLEEPERS)?;
-    for way in WAYS {
-        let table = endings_of(alloc, &valid, &[], way, 50)?;
-        assert!(rt; times_of(&table, &ASLEEP, 0) == 50, "{way:?}: {table:?}");
-    }
+    let table = endings_of(alloc, &valid, &[], way, 50)?;
+    assert!(rt; times_of(&table, &ASLEEP, 0) == 50, "{way:?}: {table:?}");
     Ok(())
 }
 
 #[test]
 fn sleepers_sleep_for_good(rt: HostRuntime) -> Result<(), Fail> {
-    check_sleepers(&rt, rt.alloc())?;
+    for way in WAYS {
+        check_sleepers(&rt, rt.alloc(), way)?;
+    }
     Ok(())
 }
 
@@ -156,46 +164,57 @@ fn is_told_rightly(alloc: Global, ending: &Ending) -> Result<bool, Trouble> {
     Ok(sleeps == woke_nobody)
 }
 
-fn check_telling<R: Abort>(rt: &R, alloc: Global) -> Result<(), Trouble> {
+fn check_telling<R: Abort>(rt: &R, alloc: Global, way: Way) -> Result<(), Trouble> {
     let valid = load(alloc, TELLING)?;
-    for way in WAYS {
-        let table = endings_of(alloc, &valid, &[Value::I32(u32::MAX)], way, 200)?;
-        assert!(rt; table.met.len() == 2, "{way:?}: {table:?}");
-        for met in &table.met {
-            assert!(rt; is_told_rightly(alloc, &met.ending)?, "{way:?}: {met:?}");
-        }
-        let table = endings_of(alloc, &valid, &[Value::I32(1)], way, 200)?;
-        for met in &table.met {
-            assert!(rt;
-                !has_line_with(alloc, &met.ending, "asleep")?,
-                "{way:?}: {met:?}"
-            );
-        }
+    let table = endings_of(alloc, &valid, &[Value::I32(u32::MAX)], way, 200)?;
+    assert!(rt; table.met.len() == 2, "{way:?}: {table:?}");
+    for met in &table.met {
+        assert!(rt; is_told_rightly(alloc, &met.ending)?, "{way:?}: {met:?}");
+    }
+    Ok(())
+}
+
+fn check_woken<R: Abort>(rt: &R, alloc: Global, way: Way) -> Result<(), Trouble> {
+    let valid = load(alloc, TELLING)?;
+    let table = endings_of(alloc, &valid, &[Value::I32(1)], way, 200)?;
+    for met in &table.met {
+        let is_asleep = has_line_with(alloc, &met.ending, "asleep")?;
+        assert!(rt; !is_asleep, "{way:?}: {met:?}");
     }
     Ok(())
 }
 
 #[test]
 fn a_sleeper_is_woken_in_some_runs(rt: HostRuntime) -> Result<(), Fail> {
-    check_telling(&rt, rt.alloc())?;
+    for way in WAYS {
+        check_telling(&rt, rt.alloc(), way)?;
+        check_woken(&rt, rt.alloc(), way)?;
+    }
     Ok(())
 }
 
 /// Nobody waits in a loop for good: thread 1 comes to its store in each run.
-fn check_looking<R: Abort>(rt: &R, alloc: Global) -> Result<(), Trouble> {
+fn check_looking<R: Abort>(rt: &R, alloc: Global, way: Way) -> Result<(), Trouble> {
     let valid = load(alloc, LOOKING)?;
     let ends = [Outcome::Done(Some(Value::I32(7))), Outcome::Done(None)];
-    for way in WAYS {
-        let table = endings_of(alloc, &valid, &[], way, 100)?;
-        assert!(rt; times_of(&table, &ends, 1) == 100, "{way:?}: {table:?}");
-    }
-    let made = run(alloc, &valid, &[], &mut Along::new(&[]))?;
-    assert!(rt; made.record.parts().log.as_slice().len() < 300, "{made:?}");
+    let table = endings_of(alloc, &valid, &[], way, 100)?;
+    assert!(rt; times_of(&table, &ends, 1) == 100, "{way:?}: {table:?}");
     Ok(())
+}
+
+/// How many entries the run has in which thread 0 goes on as long as it can.
+fn entries_alone(alloc: Global) -> Result<usize, Trouble> {
+    let valid = load(alloc, LOOKING)?;
+    let made = run(alloc, &valid, &[], &mut Along::new(&[]))?;
+    Ok(made.record.parts().log.as_slice().len())
 }
 
 #[test]
 fn nobody_looks_for_good(rt: HostRuntime) -> Result<(), Fail> {
-    check_looking(&rt, rt.alloc())?;
+    for way in WAYS {
+        check_looking(&rt, rt.alloc(), way)?;
+    }
+    let entries = entries_alone(rt.alloc())?;
+    assert!(rt; entries < 300, "{entries}");
     Ok(())
 }

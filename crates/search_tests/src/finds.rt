@@ -7,7 +7,7 @@ use crate::modules::LOST_UPDATE;
 use crate::runs::{FUEL, LIMIT, Trouble, load};
 use replay::{EndState, replay};
 use search_endings::{Met, Table, have_one_ending};
-use search_finds::{Found, Searched, Size, Sought, first_found, shrunk, size_of};
+use search_finds::{Halt, Searched, Size, Sought, first_found, shrunk, size_of};
 use search_scheduled::Made;
 use search_strategies::Way;
 use spawn_host::Call;
@@ -146,14 +146,14 @@ fn are_one_table(one: &Table, other: &Table) -> bool {
             .all(|(row, to)| are_one_row(row, to))
 }
 
-fn are_one_find(one: &Option<Found>, other: &Option<Found>) -> bool {
+fn are_one_halt(one: &Halt, other: &Halt) -> bool {
     match (one, other) {
-        (Some(one), Some(other)) => {
+        (Halt::Found(one), Halt::Found(other)) => {
             one.run == other.run
                 && one.made.record.parts() == other.made.record.parts()
                 && one.made.end == other.made.end
         }
-        (None, None) => true,
+        (Halt::AllMade, Halt::AllMade) => true,
         _ => false,
     }
 }
@@ -168,24 +168,29 @@ fn is_one_by<R: Threads + Sync>(
     let alone = searched(rt, alloc, wish, 1)?;
     let other = searched(rt, alloc, wish, jobs)?;
     Ok(
-        alone.found.is_some() == wish.is_found
+        matches!(&alone.halt, Halt::Found(_)) == wish.is_found
             && are_one_table(&alone.table, &other.table)
-            && are_one_find(&alone.found, &other.found),
+            && are_one_halt(&alone.halt, &other.halt),
     )
 }
 
-fn check_jobs<R: Abort + Threads + Sync>(rt: &R, alloc: Global) -> Result<(), Trouble> {
-    for (place, wish) in WISHES.iter().enumerate() {
-        for jobs in JOBS {
-            assert!(rt; is_one_by(rt, alloc, wish, jobs)?, "{place}: {jobs} jobs");
-        }
+fn check_jobs<R: Abort + Threads + Sync>(
+    rt: &R,
+    alloc: Global,
+    wishes: &[Wish],
+    jobs: usize,
+) -> Result<(), Trouble> {
+    for (place, wish) in wishes.iter().enumerate() {
+        assert!(rt; is_one_by(rt, alloc, wish, jobs)?, "{place}: {jobs} jobs");
     }
     Ok(())
 }
 
 #[test]
 fn a_find_is_one_on_any_number_of_jobs(rt: HostRuntime) -> Result<(), Fail> {
-    check_jobs(&rt, rt.alloc())?;
+    for jobs in JOBS {
+        check_jobs(&rt, rt.alloc(), &WISHES, jobs)?;
+    }
     Ok(())
 }
 
@@ -226,8 +231,8 @@ fn found_by<R: Threads + Sync>(
     if sought.from > 1000 || sought.runs > 1000 {
         return Err(Trouble::Refused);
     }
-    let Searched { found, .. } = first_found(rt, alloc, valid, call, sought, 2, &mut ())?;
-    let Some(found) = found else {
+    let Searched { halt, .. } = first_found(rt, alloc, valid, call, sought, 2, &mut ())?;
+    let Halt::Found(found) = halt else {
         return Ok(None);
     };
     Ok(Some(found.made))
@@ -262,8 +267,12 @@ fn shrinks<R: Threads + Sync>(rt: &R, alloc: Global, wish: &Wish) -> Result<bool
     }
 }
 
-fn check_shrinks<R: Abort + Threads + Sync>(rt: &R, alloc: Global) -> Result<(), Trouble> {
-    for (place, wish) in WISHES.iter().enumerate().take(5) {
+fn check_shrinks<R: Abort + Threads + Sync>(
+    rt: &R,
+    alloc: Global,
+    wishes: &[Wish],
+) -> Result<(), Trouble> {
+    for (place, wish) in wishes.iter().enumerate() {
         assert!(rt; shrinks(rt, alloc, wish)?, "{place}");
     }
     Ok(())
@@ -271,6 +280,6 @@ fn check_shrinks<R: Abort + Threads + Sync>(rt: &R, alloc: Global) -> Result<(),
 
 #[test]
 fn a_find_is_replayed_and_shrunk(rt: HostRuntime) -> Result<(), Fail> {
-    check_shrinks(&rt, rt.alloc())?;
+    check_shrinks(&rt, rt.alloc(), &WISHES[..5])?;
     Ok(())
 }

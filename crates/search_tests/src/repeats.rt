@@ -63,25 +63,48 @@ fn repeats(
     Ok(are_one(&made, &again) && are_one(&made, &along))
 }
 
-fn check_repeats<R: Abort>(rt: &R, alloc: Global) -> Result<(), Trouble> {
-    for (place, (module, runs)) in MODULES.iter().enumerate() {
-        let valid = load(alloc, module)?;
-        for way in WAYS {
-            for seed in SEEDS {
-                for number in 0..*runs {
-                    assert!(rt;
-                        repeats(alloc, &valid, way, seed, number)?,
-                        "{place}: {way:?} {seed} {number}"
-                    );
-                }
-            }
+/// The first of so many runs of a seed that isn't the same again, if there is one.
+fn first_other(
+    alloc: Global,
+    valid: &ValidModule,
+    way: Way,
+    seed: u64,
+    runs: u64,
+) -> Result<Option<u64>, Trouble> {
+    for number in 0..runs {
+        if !repeats(alloc, valid, way, seed, number)? {
+            return Ok(Some(number));
         }
+    }
+    Ok(None)
+}
+
+/// Runs of each seed by both ways.
+fn check_module<R: Abort>(
+    rt: &R,
+    alloc: Global,
+    valid: &ValidModule,
+    runs: u64,
+) -> Result<(), Trouble> {
+    for way in WAYS {
+        for seed in SEEDS {
+            let other = first_other(alloc, valid, way, seed, runs)?;
+            assert!(rt; other.is_none(), "{way:?} {seed} {other:?}");
+        }
+    }
+    Ok(())
+}
+
+fn check_repeats<R: Abort>(rt: &R, alloc: Global, modules: &[(&[u8], u64)]) -> Result<(), Trouble> {
+    for (module, runs) in modules {
+        let valid = load(alloc, module)?;
+        check_module(rt, alloc, &valid, *runs)?;
     }
     Ok(())
 }
 
 #[test]
 fn a_run_is_one_whenever_it_is_made(rt: HostRuntime) -> Result<(), Fail> {
-    check_repeats(&rt, rt.alloc())?;
+    check_repeats(&rt, rt.alloc(), &MODULES)?;
     Ok(())
 }

@@ -1,18 +1,18 @@
 //! Traces and pages, by hand.
 
-use binary::read;
-use replay::replay_watched;
-use replay_text::read_record;
+use crate::asserts::{equal, is_text};
+use replay_text::Record;
 use show_events::write_trace;
 use show_page::write_page;
 use show_rows::{CodeMap, Shown};
 use show_text::{Choice, Color, Look};
-use show_walk::Rows;
 use show_walk_tests::data::TOLD;
 use std::alloc::Global;
+use std::process::Abort;
 use std::test::Fail;
 use test_modules::TELLING;
-use validate::{ValidModule, validate};
+use test_runs::{module_of, record_of, rows_of};
+use validate::ValidModule;
 
 /// A name of function 1, by which a page's script would end.
 const NAMES: &[u8] = b"\
@@ -54,13 +54,6 @@ const OF_ONE: &str = r#"{"displayTimeUnit":"ns","traceEvents":
 /// The threads that are chosen, all if none is named, and the trace.
 static TRACES: [(&[u32], &str); 2] = [(&[], WHOLE), (&[1], OF_ONE)];
 
-fn module_of(alloc: Global) -> Result<ValidModule, Fail> {
-    match validate(alloc, read(alloc, TELLING)?) {
-        Ok(valid) => Ok(valid),
-        Err(_) => Err("not valid".into()),
-    }
-}
-
 fn look_at(alloc: Global, threads: &[u32]) -> Result<Look, Fail> {
     let choice = Choice {
         lines: None,
@@ -74,33 +67,64 @@ fn look_at(alloc: Global, threads: &[u32]) -> Result<Look, Fail> {
     })
 }
 
-/// The trace and the page of a run, with the entries of these threads.
-fn written(alloc: Global, threads: &[u32]) -> Result<(Vec<u8>, Vec<u8>), Fail> {
-    let valid = module_of(alloc)?;
-    let record = read_record(alloc, TOLD)?;
-    let mut rows = Rows::new(alloc, record.parts().log.as_slice())?;
-    replay_watched(alloc, &valid, &record, &mut rows)?;
+/// What is written of a record.
+#[derive(Clone, Copy)]
+enum Output {
+    Trace,
+    Page,
+}
+
+/// What is written of the entries of these threads.
+fn written_of(
+    alloc: Global,
+    shown: Shown,
+    threads: &[u32],
+    output: Output,
+) -> Result<Vec<u8>, Fail> {
+    let look = look_at(alloc, threads)?;
+    let mut out = Vec::new(alloc);
+    match output {
+        Output::Trace => write_trace(alloc, shown, &look, &mut out)?,
+        Output::Page => write_page(alloc, shown, &look, &mut out)?,
+    }
+    Ok(out)
+}
+
+/// What is written of a record of a run.
+fn written_by(
+    alloc: Global,
+    valid: &ValidModule,
+    record: &Record,
+    threads: &[u32],
+    output: Output,
+) -> Result<Vec<u8>, Fail> {
+    let (rows, _) = rows_of(alloc, valid, record)?;
     let code = CodeMap::read(alloc, valid.parts(), TELLING, NAMES)?;
     let shown = Shown {
         record: record.parts(),
         rows: rows.rows.as_slice(),
         code: &code,
     };
-    let look = look_at(alloc, threads)?;
-    let mut trace = Vec::new(alloc);
-    write_trace(alloc, shown, &look, &mut trace)?;
-    let mut page = Vec::new(alloc);
-    write_page(alloc, shown, &look, &mut page)?;
-    Ok((trace, page))
+    written_of(alloc, shown, threads, output)
+}
+
+/// What is written of `TOLD`.
+fn written(alloc: Global, threads: &[u32], output: Output) -> Result<Vec<u8>, Fail> {
+    let valid = module_of(alloc, TELLING).ok_or("not valid")?;
+    let record = record_of(alloc, TOLD).ok_or("no record")?;
+    written_by(alloc, &valid, &record, threads, output)
+}
+
+fn check_traces<R: Abort>(rt: &R, alloc: Global, traces: &[(&[u32], &str)]) -> Result<(), Fail> {
+    for (threads, text) in traces {
+        is_text(rt, &written(alloc, threads, Output::Trace)?, text);
+    }
+    Ok(())
 }
 
 #[test]
 fn traces_have_an_event_for_each_entry(rt: HostRuntime) -> Result<(), Fail> {
-    for (threads, text) in TRACES.iter() {
-        let (trace, _) = written(rt.alloc(), threads)?;
-        assert_eq!(rt; str::from_utf8(&trace), Ok(*text));
-    }
-    Ok(())
+    check_traces(&rt, rt.alloc(), &TRACES)
 }
 
 /// The events in a page, and what stands behind them up to the next tag.
@@ -111,17 +135,24 @@ fn events_in(page: &str) -> Option<(&str, &str)> {
     Some((events, tag))
 }
 
-#[test]
-fn pages_have_the_events_of_the_trace(rt: HostRuntime) -> Result<(), Fail> {
-    let (_, page) = written(rt.alloc(), &[])?;
-    let events = WHOLE
-        .strip_prefix("{\"displayTimeUnit\":\"ns\",\"traceEvents\":\n")
-        .and_then(|text| text.strip_suffix("}\n"));
-    let found = match str::from_utf8(&page) {
+/// The events of a trace, without what stands around them.
+fn events_of(trace: &str) -> Option<&str> {
+    let (_, events) = trace.split_once("\"traceEvents\":\n")?;
+    events.strip_suffix("}\n")
+}
+
+fn check_page<R: Abort>(rt: &R, page: &[u8], trace: &str) {
+    let found = match str::from_utf8(page) {
         Ok(page) => events_in(page),
         Err(_) => None,
     };
-    assert_eq!(rt; found.map(|found| found.0), events);
-    assert_eq!(rt; found.map(|found| found.1), Some("/script"));
+    let wanted = events_of(trace).map(|events| (events, "/script"));
+    equal(rt, &found, &wanted);
+}
+
+#[test]
+fn pages_have_the_events_of_the_trace(rt: HostRuntime) -> Result<(), Fail> {
+    let page = written(rt.alloc(), &[], Output::Page)?;
+    check_page(&rt, &page, WHOLE);
     Ok(())
 }

@@ -1,13 +1,15 @@
 //! Lines that explain a refusal, by hand.
 
+use crate::asserts::same_text;
 use binary::read;
 use binary_wire::ReadFault;
 use replay_text::read_record;
 use show_reasons::{Instead, Misfit, Refused, explain};
 use std::alloc::Global;
+use std::process::Abort;
 use std::test::Fail;
 use test_modules::TELLING;
-use types::{Event, Outcome, RmwOp, Stop};
+use types::{Event, Outcome, Parts, RmwOp, Stop};
 use validate::validate;
 
 /// Bytes, and the lines that are said of them.
@@ -119,15 +121,25 @@ fn explain_module(alloc: Global, out: &mut String, bytes: &[u8]) -> Result<(), F
     Ok(())
 }
 
-#[test]
-fn refused_modules_are_explained(rt: HostRuntime) -> Result<(), Fail> {
-    for case in MODULES.iter() {
-        let mut lines = String::new(rt.alloc());
-        lines.push_str("before\n")?;
-        explain_module(rt.alloc(), &mut lines, case.bytes)?;
-        assert_eq!(rt; lines.as_str().strip_prefix("before\n"), Some(case.lines));
+/// What is said of bytes that are refused as a module, behind a line that was there before.
+fn said_of_module(alloc: Global, bytes: &[u8]) -> Result<String, Fail> {
+    let mut lines = String::new(alloc);
+    lines.push_str("before\n")?;
+    explain_module(alloc, &mut lines, bytes)?;
+    Ok(lines)
+}
+
+fn check_modules<R: Abort>(rt: &R, alloc: Global, cases: &[Case]) -> Result<(), Fail> {
+    for case in cases {
+        let lines = said_of_module(alloc, case.bytes)?;
+        same_text(rt, lines.strip_prefix("before\n").unwrap_or(""), case.lines);
     }
     Ok(())
+}
+
+#[test]
+fn refused_modules_are_explained(rt: HostRuntime) -> Result<(), Fail> {
+    check_modules(&rt, rt.alloc(), &MODULES)
 }
 
 static TEXTS: [Case; 6] = [
@@ -162,16 +174,31 @@ static TEXTS: [Case; 6] = [
     },
 ];
 
-#[test]
-fn refused_texts_are_explained(rt: HostRuntime) -> Result<(), Fail> {
-    for case in TEXTS.iter() {
-        let mut lines = String::new(rt.alloc());
-        if let Err(fault) = read_record(rt.alloc(), case.bytes) {
-            explain(rt.alloc(), &mut lines, &Refused::Text(case.bytes, fault))?;
-        }
-        assert_eq!(rt; lines.as_str(), case.lines);
+/// What is said of a refusal.
+fn said_of(alloc: Global, refused: &Refused) -> Result<String, Fail> {
+    let mut lines = String::new(alloc);
+    explain(alloc, &mut lines, refused)?;
+    Ok(lines)
+}
+
+/// What is said of bytes that are refused as a record.
+fn said_of_text(alloc: Global, bytes: &[u8]) -> Result<String, Fail> {
+    match read_record(alloc, bytes) {
+        Err(fault) => said_of(alloc, &Refused::Text(bytes, fault)),
+        Ok(_) => Err("a record".into()),
+    }
+}
+
+fn check_texts<R: Abort>(rt: &R, alloc: Global, cases: &[Case]) -> Result<(), Fail> {
+    for case in cases {
+        same_text(rt, &said_of_text(alloc, case.bytes)?, case.lines);
     }
     Ok(())
+}
+
+#[test]
+fn refused_texts_are_explained(rt: HostRuntime) -> Result<(), Fail> {
+    check_texts(&rt, rt.alloc(), &TEXTS)
 }
 
 const LOG: &[u8] =
@@ -231,19 +258,21 @@ static UNFIT: [Unfit; 4] = [
     },
 ];
 
-#[test]
-fn lines_that_do_not_fit_are_explained(rt: HostRuntime) -> Result<(), Fail> {
-    for unfit in UNFIT.iter() {
-        let mut lines = String::new(rt.alloc());
+fn check_lines<R: Abort>(rt: &R, alloc: Global, saved: &[u8], cases: &[Unfit]) -> Result<(), Fail> {
+    for unfit in cases {
         let refused = Refused::Line {
-            saved: LOG,
+            saved,
             number: unfit.number,
             misfit: unfit.misfit,
         };
-        explain(rt.alloc(), &mut lines, &refused)?;
-        assert_eq!(rt; lines.as_str(), unfit.lines);
+        same_text(rt, &said_of(alloc, &refused)?, unfit.lines);
     }
     Ok(())
+}
+
+#[test]
+fn lines_that_do_not_fit_are_explained(rt: HostRuntime) -> Result<(), Fail> {
+    check_lines(&rt, rt.alloc(), LOG, &UNFIT)
 }
 
 /// What a run printed, and the lines that are said of it.
@@ -261,14 +290,16 @@ static ENDS: [(&str, &str); 3] = [
     ("thread 0: ok\npages 1\n", ""),
 ];
 
-#[test]
-fn ends_are_explained(rt: HostRuntime) -> Result<(), Fail> {
-    for (printed, wanted) in ENDS.iter() {
-        let mut lines = String::new(rt.alloc());
-        explain(rt.alloc(), &mut lines, &Refused::Ends(printed))?;
-        assert_eq!(rt; lines.as_str(), *wanted);
+fn check_ends<R: Abort>(rt: &R, alloc: Global, cases: &[(&str, &str)]) -> Result<(), Fail> {
+    for (printed, wanted) in cases {
+        same_text(rt, &said_of(alloc, &Refused::Ends(printed))?, wanted);
     }
     Ok(())
+}
+
+#[test]
+fn ends_are_explained(rt: HostRuntime) -> Result<(), Fail> {
+    check_ends(&rt, rt.alloc(), &ENDS)
 }
 
 /// A call of `TELLING`, and the lines that are said of it.
@@ -298,18 +329,20 @@ static CALLS: [Call; 3] = [
     },
 ];
 
-#[test]
-fn calls_are_explained(rt: HostRuntime) -> Result<(), Fail> {
-    let module = read(rt.alloc(), TELLING)?;
-    for call in CALLS.iter() {
-        let mut lines = String::new(rt.alloc());
+fn check_calls<R: Abort>(rt: &R, alloc: Global, parts: &Parts, calls: &[Call]) -> Result<(), Fail> {
+    for call in calls {
         let refused = Refused::Call {
-            parts: module.parts(),
+            parts,
             name: call.name,
             given: call.given,
         };
-        explain(rt.alloc(), &mut lines, &refused)?;
-        assert_eq!(rt; lines.as_str(), call.lines);
+        same_text(rt, &said_of(alloc, &refused)?, call.lines);
     }
     Ok(())
+}
+
+#[test]
+fn calls_are_explained(rt: HostRuntime) -> Result<(), Fail> {
+    let module = read(rt.alloc(), TELLING)?;
+    check_calls(&rt, rt.alloc(), module.parts(), &CALLS)
 }

@@ -1,17 +1,18 @@
 //! Rows as they are printed.
 
+use crate::asserts::is_text;
 use crate::data::{KINDS, LATE, NAMES, RECORD, SMALL, TOLD, TOLD_2};
-use binary::read;
 use interp::Place;
-use replay::replay_watched;
-use replay_text::{Record, read_record};
+use replay_text::Record;
 use show_rows::{CodeMap, Shown, write_rows};
 use show_text::{Choice, Color, Look, Span};
-use show_walk::{Row, Rows};
+use show_walk::Row;
 use std::alloc::Global;
+use std::process::Abort;
 use std::test::Fail;
 use test_modules::TELLING;
-use validate::{ValidModule, validate};
+use test_runs::{module_of, record_of, rows_of};
+use validate::ValidModule;
 
 /// A record of a run of a module, with the names of a file, what is chosen of it, and what is printed.
 struct Listing {
@@ -133,7 +134,7 @@ static KIND_ROWS: [Option<Row>; 3] = [
     }),
 ];
 
-static KINDS_PRINTED: [Listing; 1] = [Listing {
+static KINDS_PRINTED: Listing = Listing {
     module: SMALL,
     names: SMALL,
     record: KINDS,
@@ -182,13 +183,28 @@ static KINDS_PRINTED: [Listing; 1] = [Listing {
             \x20    47                             t3 spawns (arg 1)\n\
             \x20    48                                      t9 ends\n",
     ..TOLD_WHOLE
-}];
+};
 
-fn module_of(alloc: Global, bytes: &[u8]) -> Result<ValidModule, Fail> {
-    match validate(alloc, read(alloc, bytes)?) {
-        Ok(valid) => Ok(valid),
-        Err(_) => Err("not valid".into()),
-    }
+/// How a listing is looked at.
+fn look_of(alloc: Global, listing: &Listing) -> Result<Look, Fail> {
+    let choice = Choice {
+        lines: listing.lines,
+        threads: listing.threads.to_vec(alloc)?,
+        addrs: listing.addrs,
+    };
+    Ok(Look {
+        choice,
+        width: listing.width,
+        color: listing.color,
+    })
+}
+
+/// What is printed of what is shown.
+fn lines_of(alloc: Global, listing: &Listing, shown: Shown) -> Result<Vec<u8>, Fail> {
+    let look = look_of(alloc, listing)?;
+    let mut out = Vec::new(alloc);
+    write_rows(alloc, shown, &look, &mut out)?;
+    Ok(out)
 }
 
 /// What is printed of a record with these rows.
@@ -200,57 +216,52 @@ fn printed(
     rows: &[Option<Row>],
 ) -> Result<Vec<u8>, Fail> {
     let code = CodeMap::read(alloc, valid.parts(), listing.module, listing.names)?;
-    let record = record.parts();
     let shown = Shown {
-        record,
+        record: record.parts(),
         rows,
         code: &code,
     };
-    let choice = Choice {
-        lines: listing.lines,
-        threads: listing.threads.to_vec(alloc)?,
-        addrs: listing.addrs,
-    };
-    let look = Look {
-        choice,
-        width: listing.width,
-        color: listing.color,
-    };
-    let mut out = Vec::new(alloc);
-    write_rows(alloc, shown, &look, &mut out)?;
-    Ok(out)
+    lines_of(alloc, listing, shown)
 }
 
 /// What is printed of a record of a run.
 fn replayed(alloc: Global, listing: &Listing) -> Result<Vec<u8>, Fail> {
-    let valid = module_of(alloc, listing.module)?;
-    let record = read_record(alloc, listing.record)?;
-    let mut rows = Rows::new(alloc, record.parts().log.as_slice())?;
-    replay_watched(alloc, &valid, &record, &mut rows)?;
+    let valid = module_of(alloc, listing.module).ok_or("not valid")?;
+    let record = record_of(alloc, listing.record).ok_or("no record")?;
+    let (rows, _) = rows_of(alloc, &valid, &record)?;
     printed(alloc, listing, &valid, &record, rows.rows.as_slice())
 }
 
 /// What is printed of a record with rows by hand.
-fn by_hand(alloc: Global, listing: &Listing) -> Result<Vec<u8>, Fail> {
-    let valid = module_of(alloc, listing.module)?;
-    let record = read_record(alloc, listing.record)?;
-    printed(alloc, listing, &valid, &record, &KIND_ROWS)
+fn by_hand(alloc: Global, listing: &Listing, rows: &[Option<Row>]) -> Result<Vec<u8>, Fail> {
+    let valid = module_of(alloc, listing.module).ok_or("not valid")?;
+    let record = record_of(alloc, listing.record).ok_or("no record")?;
+    printed(alloc, listing, &valid, &record, rows)
+}
+
+fn check_runs<R: Abort>(rt: &R, alloc: Global, listings: &[Listing]) -> Result<(), Fail> {
+    for listing in listings {
+        is_text(rt, &replayed(alloc, listing)?, listing.text);
+    }
+    Ok(())
 }
 
 #[test]
 fn rows_of_runs_are_printed(rt: HostRuntime) -> Result<(), Fail> {
-    for listing in LISTINGS.iter() {
-        let text = replayed(rt.alloc(), listing)?;
-        assert_eq!(rt; str::from_utf8(&text), Ok(listing.text));
-    }
+    check_runs(&rt, rt.alloc(), &LISTINGS)
+}
+
+fn check_by_hand<R: Abort>(
+    rt: &R,
+    alloc: Global,
+    listing: &Listing,
+    rows: &[Option<Row>],
+) -> Result<(), Fail> {
+    is_text(rt, &by_hand(alloc, listing, rows)?, listing.text);
     Ok(())
 }
 
 #[test]
 fn each_kind_of_entry_has_its_words(rt: HostRuntime) -> Result<(), Fail> {
-    for listing in KINDS_PRINTED.iter() {
-        let text = by_hand(rt.alloc(), listing)?;
-        assert_eq!(rt; str::from_utf8(&text), Ok(listing.text));
-    }
-    Ok(())
+    check_by_hand(&rt, rt.alloc(), &KINDS_PRINTED, &KIND_ROWS)
 }

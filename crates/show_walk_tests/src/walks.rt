@@ -1,27 +1,20 @@
 //! Rows of a replay.
 
+use crate::asserts::same_text;
 use crate::data::{OTHER, RECORD, SMALL};
-use binary::read;
-use replay::{ReplayFault, replay_watched};
-use replay_text::{Record, read_record};
+use replay::ReplayFault;
 use show_lines::{DebugSections, LineTable, read_lines};
 use show_names::{Named, function_name, read_names};
 use show_places::{BodyPlaces, code_places};
 use show_sections::section_of;
-use show_walk::{Row, Rows};
+use show_walk::Row;
 use std::alloc::{AllocError, Global};
 use std::fmt::Write;
+use std::process::Abort;
 use std::test::Fail;
+use test_runs::{module_of, record_of, rows_of};
 use types::{Export, Sequence};
-use validate::{ValidModule, validate};
-
-fn module_of(alloc: Global) -> Result<ValidModule, Fail> {
-    let module = read(alloc, SMALL)?;
-    match validate(alloc, module) {
-        Ok(valid) => Ok(valid),
-        Err(_) => Err("not valid".into()),
-    }
-}
+use validate::ValidModule;
 
 /// What is known of the module's code.
 #[derive(Drop)]
@@ -63,51 +56,68 @@ fn write_row(
     }
 }
 
-/// The rows of a record in words, and whether it was refused.
-fn shown(alloc: Global, bytes: &[u8]) -> Result<(String, Option<ReplayFault>), Fail> {
-    let valid = module_of(alloc)?;
-    let record: Record = read_record(alloc, bytes)?;
-    let mut rows = Rows::new(alloc, record.parts().log.as_slice())?;
-    let fault = replay_watched(alloc, &valid, &record, &mut rows).err();
+/// The rows in words.
+fn text_of(alloc: Global, valid: &ValidModule, rows: &[Option<Row>]) -> Result<String, Fail> {
     let known = read_known(alloc)?;
     let mut text = String::new(alloc);
-    for row in &rows.rows {
+    for row in rows {
         match row {
             Some(row) => write_row(&mut text, &known, valid.parts().exports.as_slice(), *row)?,
-            None => writeln!(text, "-")?,
+            None => text.push_str("-\n")?,
         }
     }
-    Ok((text, fault))
+    Ok(text)
+}
+
+/// The rows of a record in words, and whether it was refused.
+fn shown(alloc: Global, bytes: &[u8]) -> Result<(String, Option<ReplayFault>), Fail> {
+    let valid = module_of(alloc, SMALL).ok_or("not valid")?;
+    let record = record_of(alloc, bytes).ok_or("no record")?;
+    let (rows, fault) = rows_of(alloc, &valid, &record)?;
+    Ok((text_of(alloc, &valid, &rows.rows)?, fault))
+}
+
+fn check<R: Abort>(
+    rt: &R,
+    alloc: Global,
+    bytes: &[u8],
+    wanted: &str,
+    wanted_fault: Option<ReplayFault>,
+) -> Result<(), Fail> {
+    let (text, fault) = shown(alloc, bytes)?;
+    assert!(rt; fault == wanted_fault);
+    same_text(rt, &text, wanted);
+    Ok(())
 }
 
 #[test]
 fn each_entry_has_its_function_and_its_line(rt: HostRuntime) -> Result<(), Fail> {
-    let (text, fault) = shown(rt.alloc(), RECORD)?;
-    assert!(rt; fault.is_none());
-    assert_eq!(rt;
-        text.as_str(),
+    check(
+        &rt,
+        rt.alloc(),
+        RECORD,
         "\
         add+0x5 small.c:5 had 0\n\
         run+0x9 small.c:10 had 5\n\
         run+0xe small.c:10\n\
-        run+0xe small.c:10\n"
-    );
-    Ok(())
+        run+0xe small.c:10\n",
+        None,
+    )
 }
 
 #[test]
 fn a_record_of_no_run_has_rows_up_to_the_entry_that_does_not_fit(
     rt: HostRuntime,
 ) -> Result<(), Fail> {
-    let (text, fault) = shown(rt.alloc(), OTHER)?;
-    assert!(rt; fault == Some(ReplayFault::Line(7)));
-    assert_eq!(rt;
-        text.as_str(),
+    check(
+        &rt,
+        rt.alloc(),
+        OTHER,
         "\
         add+0x5 small.c:5 had 0\n\
         run+0x9 small.c:10 had 5\n\
         -\n\
-        -\n"
-    );
-    Ok(())
+        -\n",
+        Some(ReplayFault::Line(7)),
+    )
 }

@@ -81,8 +81,10 @@ pub struct Case {
 """
 consts = "".join(f"pub const {name.upper()}: usize = {numbers[name]};\n\n" for name in NAMED)
 literal = ", ".join(f"0x{b:02x}" for b in all_bytes)
-(here / "../src/table.rt").write_text(head + consts + f"pub static CASES: [Case; {len(cases)}] = [\n" + "".join(lines) + "];\n")
+(here / "../src/table.rt").write_text(head + consts + f"static CASES: [Case; {len(cases)}] = [\n" + "".join(lines) + "];\n"
+    + "\n/// The modules of the table.\npub fn cases() -> &'static [Case] {\n    &CASES\n}\n")
 (here / "../src/bytes.rt").write_text(
     "//! The bytes of the modules of the table. Written by modules/generate.py from modules/modules.txt.\n\n"
-    + f"/// The modules one behind another.\npub static BYTES: [u8; {len(all_bytes)}] = [{literal}];\n")
+    + f"static BYTES: [u8; {len(all_bytes)}] = [{literal}];\n"
+    + "\n/// The modules one behind another.\npub fn bytes() -> &'static [u8] {\n    &BYTES\n}\n")
 print(len(cases), "modules")

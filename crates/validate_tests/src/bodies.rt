@@ -1,6 +1,8 @@
 //! Faults with the number of their instruction, and rows of the table, worked out by hand.
+use crate::equal::equal;
 use crate::sections::{func_type, one_function};
 use std::alloc::{AllocError, Global as Alloc};
+use std::process::Abort;
 use std::test::Fail;
 use types::{
     AccessWidth, AtomicOp, BinaryOp, Body, CompareOp, ConvertOp, FuncType, Global, GlobalType,
@@ -38,69 +40,126 @@ fn block_type(text: &str) -> Option<ValType> {
     }
 }
 
-/// An instruction with an index or an alignment.
-fn indexed(name: &str, index: u32) -> PlainInstr {
-    let arg = MemArg {
-        align: index,
-        offset: 0,
-    };
-    let whole = AccessWidth::Whole(I32);
-    let far = MemArg {
-        align: index,
-        offset: u32::MAX,
-    };
+/// An instruction with an index.
+fn indexed(name: &str, index: u32) -> Option<PlainInstr> {
     match name {
-        "br" => PlainInstr::Br(index),
-        "br_if" => PlainInstr::BrIf(index),
-        "call" => PlainInstr::Call(index),
-        "call_indirect" => PlainInstr::CallIndirect(index),
-        "local.get" => PlainInstr::LocalGet(index),
-        "local.set" => PlainInstr::LocalSet(index),
-        "local.tee" => PlainInstr::LocalTee(index),
-        "global.get" => PlainInstr::GlobalGet(index),
-        "global.set" => PlainInstr::GlobalSet(index),
-        "load" => PlainInstr::Load(LoadOp::ZeroExtend(whole), arg),
-        "load16" => PlainInstr::Load(LoadOp::SignExtend(NarrowWidth::I64Bits16), arg),
-        "store" => PlainInstr::Store(whole, arg),
-        "store64" => PlainInstr::Store(AccessWidth::Whole(I64), arg),
-        "notify" => PlainInstr::Atomic(AtomicOp::Notify, arg),
-        "wait64" => PlainInstr::Atomic(AtomicOp::Wait(I64), arg),
-        "atomic.load" => PlainInstr::Atomic(AtomicOp::Load(whole), arg),
-        "atomic.load.far" => PlainInstr::Atomic(AtomicOp::Load(whole), far),
-        "atomic.store" => PlainInstr::Atomic(AtomicOp::Store(whole), arg),
-        "rmw.add" => PlainInstr::Atomic(AtomicOp::Rmw(RmwOp::Add, whole), arg),
-        "cmpxchg" => PlainInstr::Atomic(AtomicOp::Cmpxchg(whole), arg),
-        _ => PlainInstr::Nop,
+        "br" => Some(PlainInstr::Br(index)),
+        "br_if" => Some(PlainInstr::BrIf(index)),
+        "call" => Some(PlainInstr::Call(index)),
+        "call_indirect" => Some(PlainInstr::CallIndirect(index)),
+        "local.get" => Some(PlainInstr::LocalGet(index)),
+        "local.set" => Some(PlainInstr::LocalSet(index)),
+        "local.tee" => Some(PlainInstr::LocalTee(index)),
+        "global.get" => Some(PlainInstr::GlobalGet(index)),
+        "global.set" => Some(PlainInstr::GlobalSet(index)),
+        _ => None,
     }
+}
+
+const WHOLE: AccessWidth = AccessWidth::Whole(I32);
+
+/// A load or a store with an alignment.
+fn access(name: &str, arg: MemArg) -> Option<PlainInstr> {
+    match name {
+        "load" => Some(PlainInstr::Load(LoadOp::ZeroExtend(WHOLE), arg)),
+        "load16" => Some(PlainInstr::Load(LoadOp::SignExtend(NarrowWidth::I64Bits16), arg)),
+        "store" => Some(PlainInstr::Store(WHOLE, arg)),
+        "store64" => Some(PlainInstr::Store(AccessWidth::Whole(I64), arg)),
+        _ => None,
+    }
+}
+
+/// What an atomic instruction does.
+fn atomic(name: &str) -> Option<AtomicOp> {
+    match name {
+        "notify" => Some(AtomicOp::Notify),
+        "wait64" => Some(AtomicOp::Wait(I64)),
+        "atomic.load" | "atomic.load.far" => Some(AtomicOp::Load(WHOLE)),
+        "atomic.store" => Some(AtomicOp::Store(WHOLE)),
+        "rmw.add" => Some(AtomicOp::Rmw(RmwOp::Add, WHOLE)),
+        "cmpxchg" => Some(AtomicOp::Cmpxchg(WHOLE)),
+        _ => None,
+    }
+}
+
+/// An instruction with an index or an alignment.
+fn with_number(name: &str, number: u32) -> PlainInstr {
+    if let Some(instr) = indexed(name, number) {
+        return instr;
+    }
+    let offset = if name == "atomic.load.far" {
+        u32::MAX
+    } else {
+        0
+    };
+    let arg = MemArg {
+        align: number,
+        offset,
+    };
+    if let Some(op) = atomic(name) {
+        return PlainInstr::Atomic(op, arg);
+    }
+    access(name, arg).unwrap_or(PlainInstr::Nop)
+}
+
+fn numeric(name: &str) -> Option<NumericInstr> {
+    match name {
+        "i32" => Some(NumericInstr::Const(Value::I32(1))),
+        "i64" => Some(NumericInstr::Const(Value::I64(1))),
+        "add" => Some(NumericInstr::Binary(I32, BinaryOp::Add)),
+        "lt64" => Some(NumericInstr::Compare(I64, CompareOp::LtS)),
+        "eqz64" => Some(NumericInstr::Test(I64)),
+        "wrap" => Some(NumericInstr::Convert(ConvertOp::WrapI64)),
+        "extend" => Some(NumericInstr::Convert(ConvertOp::ExtendI32U)),
+        _ => None,
+    }
+}
+
+/// An instruction that is its name alone, without those that make a number.
+fn bare(name: &str) -> Option<PlainInstr> {
+    match name {
+        "unreachable" => Some(PlainInstr::Unreachable),
+        "return" => Some(PlainInstr::Return),
+        "drop" => Some(PlainInstr::Drop),
+        "select" => Some(PlainInstr::Select),
+        "size" => Some(PlainInstr::MemorySize),
+        "grow" => Some(PlainInstr::MemoryGrow),
+        "fence" => Some(PlainInstr::Fence),
+        _ => None,
+    }
+}
+
+fn control(name: &str, text: &str) -> Option<Instr> {
+    match name {
+        "block" => Some(Instr::Block(block_type(text))),
+        "loop" => Some(Instr::Loop(block_type(text))),
+        "if" => Some(Instr::If(block_type(text))),
+        "else" => Some(Instr::Else),
+        "end" => Some(Instr::End),
+        _ => None,
+    }
+}
+
+fn plain(alloc: Alloc, name: &str, text: &str) -> Result<PlainInstr, Fail> {
+    if name == "br_table" {
+        return br_table(alloc, text);
+    }
+    if let Some(numeric) = numeric(name) {
+        return Ok(PlainInstr::Numeric(numeric));
+    }
+    if let Some(instr) = bare(name) {
+        return Ok(instr);
+    }
+    Ok(with_number(name, text.parse::<u32>().unwrap_or(0)))
 }
 
 /// An instruction of a text like `br:1`.
 fn instr_of(alloc: Alloc, word: &str) -> Result<Instr, Fail> {
     let (name, text) = word.split_once(':').unwrap_or((word, ""));
-    let numeric = |numeric| Instr::Plain(PlainInstr::Numeric(numeric));
-    Ok(match name {
-        "block" => Instr::Block(block_type(text)),
-        "loop" => Instr::Loop(block_type(text)),
-        "if" => Instr::If(block_type(text)),
-        "else" => Instr::Else,
-        "end" => Instr::End,
-        "unreachable" => Instr::Plain(PlainInstr::Unreachable),
-        "return" => Instr::Plain(PlainInstr::Return),
-        "drop" => Instr::Plain(PlainInstr::Drop),
-        "select" => Instr::Plain(PlainInstr::Select),
-        "size" => Instr::Plain(PlainInstr::MemorySize),
-        "grow" => Instr::Plain(PlainInstr::MemoryGrow),
-        "fence" => Instr::Plain(PlainInstr::Fence),
-        "i32" => numeric(NumericInstr::Const(Value::I32(1))),
-        "i64" => numeric(NumericInstr::Const(Value::I64(1))),
-        "add" => numeric(NumericInstr::Binary(I32, BinaryOp::Add)),
-        "lt64" => numeric(NumericInstr::Compare(I64, CompareOp::LtS)),
-        "eqz64" => numeric(NumericInstr::Test(I64)),
-        "wrap" => numeric(NumericInstr::Convert(ConvertOp::WrapI64)),
-        "extend" => numeric(NumericInstr::Convert(ConvertOp::ExtendI32U)),
-        "br_table" => Instr::Plain(br_table(alloc, text)?),
-        _ => Instr::Plain(indexed(name, text.parse::<u32>().unwrap_or(0))),
-    })
+    match control(name, text) {
+        Some(instr) => Ok(instr),
+        None => Ok(Instr::Plain(plain(alloc, name, text)?)),
+    }
 }
 
 /// The code of a text, with its final end.
@@ -131,6 +190,14 @@ fn func_types(alloc: Alloc) -> Result<Vec<FuncType>, AllocError> {
     Ok(types)
 }
 
+/// A constant global and one that isn't.
+fn two_globals(alloc: Alloc) -> Result<Vec<Global>, AllocError> {
+    let mut globals = Vec::new(alloc);
+    globals.push(global(alloc, false))?;
+    globals.push(global(alloc, true))?;
+    Ok(globals)
+}
+
 /// A module with one body: this code, and so many locals of type `i64`.
 fn module_of(alloc: Alloc, code: Vec<Instr>, locals: usize) -> Result<Option<Module>, AllocError> {
     let body = Body {
@@ -153,7 +220,7 @@ fn checked(
         return Ok(Err(ValidFault::Outside(Fault::Limits)));
     };
     let types = func_types(alloc)?;
-    let globals = [global(alloc, false), global(alloc, true)];
+    let globals = two_globals(alloc)?;
     let declared = Declared {
         types: &types,
         functions: &[0, 1],
@@ -181,9 +248,11 @@ fn fault_of(alloc: Alloc, text: &str, limits: &[Limits]) -> Result<Option<ValidF
     Ok(checked(alloc, code_of(alloc, text)?, 1, limits)?.err())
 }
 
-/// Faults at their instructions.
-static FAULTS: [(&str, Fault, usize); 57] = [
-    // the result of the function, of a block, of the arms of an if
+/// A text, the kind of its fault and the instruction.
+type FaultCase = (&'static str, Fault, usize);
+
+/// Faults of the result of the function, of a block, of the arms of an if.
+static RESULTS: [FaultCase; 11] = [
     ("", Fault::TypeMismatch, 0),
     ("i64", Fault::TypeMismatch, 1),
     ("i32 i32", Fault::TypeMismatch, 2),
@@ -195,7 +264,10 @@ static FAULTS: [(&str, Fault, usize); 57] = [
     ("i32 if:i32 i64 else i32 end", Fault::TypeMismatch, 3),
     ("i32 if:i32 i32 i32 else i32 end", Fault::TypeMismatch, 4),
     ("i32 if:i32 i32 else end", Fault::TypeMismatch, 4),
-    // operands
+];
+
+/// Faults of operands.
+static OPERANDS: [FaultCase; 14] = [
     ("add", Fault::TypeMismatch, 0),
     ("i32 i64 add", Fault::TypeMismatch, 2),
     ("i32 i32 block add end", Fault::TypeMismatch, 3), // they lie below the block
@@ -210,7 +282,10 @@ static FAULTS: [(&str, Fault, usize); 57] = [
     ("i32 i32 store64:3", Fault::TypeMismatch, 2),
     ("i32 i64 wait64:3", Fault::TypeMismatch, 2),
     ("i32 drop drop i32", Fault::TypeMismatch, 2),
-    // what branches carry
+];
+
+/// Faults of what branches carry.
+static CARRIED: [FaultCase; 8] = [
     ("br:0", Fault::TypeMismatch, 0),
     ("return", Fault::TypeMismatch, 0),
     ("block i64 br:1 end i32", Fault::TypeMismatch, 2),
@@ -223,11 +298,17 @@ static FAULTS: [(&str, Fault, usize); 57] = [
         Fault::TypeMismatch,
         3,
     ),
-    // where operands are free
+];
+
+/// Faults where operands are free.
+static FREE: [FaultCase; 3] = [
     ("unreachable i64", Fault::TypeMismatch, 2),
     ("unreachable i32 i64 add", Fault::TypeMismatch, 3),
     ("unreachable block:i32 end", Fault::TypeMismatch, 2),
-    // unknown indices, before operands
+];
+
+/// Unknown indices, which are told before operands.
+static UNKNOWN: [FaultCase; 15] = [
     ("br:1", Fault::UnknownLabel, 0),
     ("block br_if:2 end i32", Fault::UnknownLabel, 1),
     ("i32 br_table:0,1,0", Fault::UnknownLabel, 1),
@@ -247,7 +328,10 @@ static FAULTS: [(&str, Fault, usize); 57] = [
     ("call_indirect:9", Fault::UnknownType, 0),
     ("global.set:0", Fault::ConstantGlobal, 0),
     ("i64 global.set:0", Fault::ConstantGlobal, 1),
-    // alignments
+];
+
+/// Faults of alignments.
+static ALIGNMENTS: [FaultCase; 6] = [
     ("i32 load:3", Fault::Alignment, 1),
     ("load16:2", Fault::Alignment, 0),
     ("i32 store:4294967295", Fault::Alignment, 1),
@@ -256,25 +340,40 @@ static FAULTS: [(&str, Fault, usize); 57] = [
     ("wait64:2", Fault::Alignment, 0),
 ];
 
-#[test]
-fn tells_faults_at_their_instructions(rt: HostRuntime) -> Result<(), Fail> {
-    for (text, kind, instruction) in &FAULTS {
-        let fault = ValidFault::InBody {
-            kind: *kind,
-            function: 7,
-            instruction: *instruction,
-        };
-        assert_eq!(rt;
-            fault_of(rt.alloc(), text, &[LIMITS])?,
-            Some(fault),
-            "{text}"
-        );
+fn in_body(kind: Fault, instruction: usize) -> ValidFault {
+    ValidFault::InBody {
+        kind,
+        function: 7,
+        instruction,
+    }
+}
+
+fn check_faults<R: Abort>(
+    rt: &R,
+    alloc: Alloc,
+    cases: &[FaultCase],
+    limits: &[Limits],
+) -> Result<(), Fail> {
+    for (text, kind, instruction) in cases {
+        let fault = in_body(*kind, *instruction);
+        equal(rt, *text, &fault_of(alloc, text, limits)?, &Some(fault));
     }
     Ok(())
 }
 
+#[test]
+fn tells_faults_at_their_instructions(rt: HostRuntime) -> Result<(), Fail> {
+    check_faults(&rt, rt.alloc(), &RESULTS, &[LIMITS])?;
+    check_faults(&rt, rt.alloc(), &OPERANDS, &[LIMITS])?;
+    check_faults(&rt, rt.alloc(), &CARRIED, &[LIMITS])?;
+    check_faults(&rt, rt.alloc(), &FREE, &[LIMITS])?;
+    check_faults(&rt, rt.alloc(), &UNKNOWN, &[LIMITS])?;
+    check_faults(&rt, rt.alloc(), &ALIGNMENTS, &[LIMITS])?;
+    Ok(())
+}
+
 /// Faults where there is neither a table nor a memory.
-static FAULTS_WITHOUT: [(&str, Fault, usize); 8] = [
+static FAULTS_WITHOUT: [FaultCase; 8] = [
     ("i32 call_indirect:0", Fault::UnknownTable, 1),
     ("call_indirect:9", Fault::UnknownTable, 0),
     ("i32 load:2", Fault::UnknownMemory, 1),
@@ -287,22 +386,11 @@ static FAULTS_WITHOUT: [(&str, Fault, usize); 8] = [
 
 #[test]
 fn tells_what_is_not_there(rt: HostRuntime) -> Result<(), Fail> {
-    for (text, kind, instruction) in &FAULTS_WITHOUT {
-        let fault = ValidFault::InBody {
-            kind: *kind,
-            function: 7,
-            instruction: *instruction,
-        };
-        assert_eq!(rt; fault_of(rt.alloc(), text, &[])?, Some(fault), "{text}");
-    }
-    Ok(())
+    check_faults(&rt, rt.alloc(), &FAULTS_WITHOUT, &[])
 }
 
-/// Each shape of instruction, and each control shape where nothing runs.
-static ACCEPTED: [&str; 36] = [
-    "local.get:0",
-    "nop i32 return",
-    "i32 return i64 drop",
+/// Each control shape where nothing runs.
+static ACCEPTED_UNREACHED: [&str; 9] = [
     "unreachable",
     "unreachable add",
     "unreachable select",
@@ -310,12 +398,30 @@ static ACCEPTED: [&str; 36] = [
     "unreachable i64 i32 select wrap",
     "unreachable block:i64 loop br:0 end i32 if else end i32 if end i32 if:i64 i64 else unreachable end end drop",
     "unreachable call:1 drop i32 br_if:0 i32 br_table:0,0 local.set:1 global.set:1",
+    "unreachable drop",
+    "unreachable local.tee:0",
+];
+
+/// Each shape of control.
+static ACCEPTED_BRANCHES: [&str; 13] = [
+    "nop i32 return",
+    "i32 return i64 drop",
     "i32 i32 br_if:0",
     "i32 i32 br_table:0,0",
     "block:i32 i32 br:0 end",
     "loop:i32 i32 br:0 end",
     "block:i32 block i32 i32 br_table:1,1 end unreachable end",
     "i32 if:i32 i32 else i32 end",
+    "size grow i32 notify:2",
+    "i32 i32 br_table:0", // no labels beside the default
+    "i32 block i64 block i32 br_table:0,1,0 end drop end",
+    "i32 block i64 block i32 br_table:1,0,1 end drop end",
+    "i32 if br:0 end i32",
+];
+
+/// Each other shape of instruction.
+static ACCEPTED: [&str; 14] = [
+    "local.get:0",
     "i32 i64 call:1 wrap",
     "i32 call:0",
     "i32 i32 call_indirect:0",
@@ -325,29 +431,31 @@ static ACCEPTED: [&str; 36] = [
     "i64 eqz64 extend wrap",
     "i32 i32 store:2 i32 load16:1 wrap",
     "i32 i64 store64:0 i32 load:0",
-    "size grow i32 notify:2",
     "i32 i64 i64 wait64:3",
     "fence i32 i32 atomic.store:2 i32 atomic.load:2 i32 rmw.add:2",
     "i32 i32 i32 cmpxchg:2",
-    "unreachable drop",
-    "unreachable local.tee:0",
-    "i32 i32 br_table:0", // no labels beside the default
-    "i32 block i64 block i32 br_table:0,1,0 end drop end",
-    "i32 block i64 block i32 br_table:1,0,1 end drop end",
-    "i32 if br:0 end i32",
     "i32 atomic.load.far:2",
 ];
 
-#[test]
-fn accepts_each_shape(rt: HostRuntime) -> Result<(), Fail> {
-    for text in &ACCEPTED {
-        assert_eq!(rt; fault_of(rt.alloc(), text, &[LIMITS])?, None, "{text}");
+fn check_accepted<R: Abort>(rt: &R, alloc: Alloc, texts: &[&'static str]) -> Result<(), Fail> {
+    for text in texts {
+        equal(rt, *text, &fault_of(alloc, text, &[LIMITS])?, &None);
     }
     Ok(())
 }
 
-/// Of an instruction the target with a number: where it leads, the height and what is carried.
-static TARGETS: [(&str, usize, usize, Option<(usize, usize, usize)>); 21] = [
+#[test]
+fn accepts_each_shape(rt: HostRuntime) -> Result<(), Fail> {
+    check_accepted(&rt, rt.alloc(), &ACCEPTED_UNREACHED)?;
+    check_accepted(&rt, rt.alloc(), &ACCEPTED_BRANCHES)?;
+    check_accepted(&rt, rt.alloc(), &ACCEPTED)
+}
+
+/// A text, the instruction, which of its targets, and that: where it leads, the height and what is carried.
+type TargetCase = (&'static str, usize, usize, Option<(usize, usize, usize)>);
+
+/// Of an instruction the target with a number, where there are ifs.
+static TARGETS_OF_IFS: [TargetCase; 10] = [
     ("i32 if nop else nop end i32", 0, 0, None),
     ("i32 if nop else nop end i32", 1, 0, Some((4, 0, 0))),
     ("i32 if nop else nop end i32", 1, 1, None),
@@ -356,20 +464,12 @@ static TARGETS: [(&str, usize, usize, Option<(usize, usize, usize)>); 21] = [
     ("i32 if nop end i32", 1, 0, Some((3, 0, 0))),
     ("i32 i32 if:i32 i32 else i32 end add", 2, 0, Some((5, 1, 0))),
     ("i32 i32 if:i32 i32 else i32 end add", 4, 0, Some((7, 1, 1))),
-    ("i32 br:0", 1, 0, Some((3, 0, 1))), // the function's own label
-    ("i32 loop br:0 end", 2, 0, Some((2, 1, 0))),
-    (
-        "i32 block:i32 i32 i32 br_if:0 end add",
-        4,
-        0,
-        Some((6, 1, 1)),
-    ),
-    (
-        "i32 loop:i32 i32 i32 br_if:1 end add",
-        4,
-        0,
-        Some((8, 0, 1)),
-    ),
+    ("unreachable i32 if else end", 2, 0, Some((4, 0, 0))),
+    ("unreachable i32 if else end", 3, 0, Some((5, 0, 0))),
+];
+
+/// The same of tables of labels.
+static TARGETS_OF_TABLES: [TargetCase; 6] = [
     (
         "block block i32 br_table:0,1,1,0 end end i32",
         3,
@@ -401,57 +501,99 @@ static TARGETS: [(&str, usize, usize, Option<(usize, usize, usize)>); 21] = [
         0,
         Some((6, 0, 0)),
     ),
-    ("unreachable block br:0 end", 2, 0, Some((4, 0, 0))),
-    ("unreachable i32 if else end", 2, 0, Some((4, 0, 0))),
-    ("unreachable i32 if else end", 3, 0, Some((5, 0, 0))),
 ];
 
-#[test]
-fn makes_the_table_of_branches(rt: HostRuntime) -> Result<(), Fail> {
-    for (text, instruction, which, target) in &TARGETS {
-        let code = code_of(rt.alloc(), text)?;
+/// The same of other branches.
+static TARGETS: [TargetCase; 5] = [
+    ("i32 br:0", 1, 0, Some((3, 0, 1))), // the function's own label
+    ("i32 loop br:0 end", 2, 0, Some((2, 1, 0))),
+    (
+        "i32 block:i32 i32 i32 br_if:0 end add",
+        4,
+        0,
+        Some((6, 1, 1)),
+    ),
+    (
+        "i32 loop:i32 i32 i32 br_if:1 end add",
+        4,
+        0,
+        Some((8, 0, 1)),
+    ),
+    ("unreachable block br:0 end", 2, 0, Some((4, 0, 0))),
+];
+
+/// The target of an instruction with this number, or the fault of the text.
+fn target_in(
+    alloc: Alloc,
+    text: &str,
+    instruction: usize,
+    which: usize,
+) -> Result<Result<Option<Target>, ValidFault>, Fail> {
+    match checked(alloc, code_of(alloc, text)?, 1, &[])? {
+        Ok(table) => Ok(Ok(table.target(instruction, which))),
+        Err(fault) => Ok(Err(fault)),
+    }
+}
+
+fn check_targets<R: Abort>(rt: &R, alloc: Alloc, cases: &[TargetCase]) -> Result<(), Fail> {
+    for (text, instruction, which, target) in cases {
         let target = target.map(|(to, height, carried)| Target {
             to,
             height,
             carried,
         });
-        match checked(rt.alloc(), code, 1, &[])? {
-            Ok(table) => {
-                assert_eq!(rt; table.target(*instruction, *which), target, "{text}");
-            }
-            Err(fault) => assert_eq!(rt; Some(fault), None, "{text}"),
-        }
+        let found = target_in(alloc, text, *instruction, *which)?;
+        equal(rt, *text, &found, &Ok(target));
     }
     Ok(())
 }
 
 #[test]
-fn counts_a_thousand_locals(rt: HostRuntime) -> Result<(), Fail> {
-    let last = code_of(rt.alloc(), "local.get:999 wrap")?;
-    assert!(rt; checked(rt.alloc(), last, 999, &[])?.is_ok());
-    let past = code_of(rt.alloc(), "local.get:1000 wrap")?;
-    let fault = ValidFault::InBody {
-        kind: Fault::UnknownLocal,
-        function: 7,
-        instruction: 0,
-    };
-    assert_eq!(rt; checked(rt.alloc(), past, 999, &[])?.err(), Some(fault));
-    Ok(())
+fn makes_the_table_of_branches(rt: HostRuntime) -> Result<(), Fail> {
+    check_targets(&rt, rt.alloc(), &TARGETS_OF_IFS)?;
+    check_targets(&rt, rt.alloc(), &TARGETS_OF_TABLES)?;
+    check_targets(&rt, rt.alloc(), &TARGETS)
+}
+
+/// The fault of a body with 999 locals, if it has one.
+fn fault_with_locals(alloc: Alloc, text: &str) -> Result<Option<ValidFault>, Fail> {
+    Ok(checked(alloc, code_of(alloc, text)?, 999, &[])?.err())
 }
 
 #[test]
-fn checks_sixty_thousand_instructions(rt: HostRuntime) -> Result<(), Fail> {
-    let mut code = Vec::new(rt.alloc());
-    for _ in 0..20_000_u32 {
+fn counts_a_thousand_locals(rt: HostRuntime) -> Result<(), Fail> {
+    let last = fault_with_locals(rt.alloc(), "local.get:999 wrap")?;
+    equal(&rt, "last", &last, &None);
+    let past = fault_with_locals(rt.alloc(), "local.get:1000 wrap")?;
+    equal(&rt, "past", &past, &Some(in_body(Fault::UnknownLocal, 0)));
+    Ok(())
+}
+
+/// So many blocks one behind another, each with a branch out of it, and the result.
+fn many_branches(alloc: Alloc, count: u32) -> Result<Vec<Instr>, AllocError> {
+    let mut code = Vec::new(alloc);
+    for _ in 0..count {
         code.push(Instr::Block(None))?;
         code.push(Instr::Plain(PlainInstr::Br(0)))?;
         code.push(Instr::End)?;
     }
     code.push(Instr::Plain(PlainInstr::LocalGet(0)))?;
     code.push(Instr::End)?;
-    let target = checked(rt.alloc(), code, 1, &[])?
-        .ok()
-        .and_then(|table| table.target(59_998, 0));
-    assert_eq!(rt; target.map(|target| target.to), Some(60_000));
+    Ok(code)
+}
+
+#[test]
+fn checks_sixty_thousand_instructions(rt: HostRuntime) -> Result<(), Fail> {
+    let code = many_branches(rt.alloc(), 20_000)?;
+    let target = match checked(rt.alloc(), code, 1, &[])? {
+        Ok(table) => table.target(59_998, 0),
+        Err(_) => None,
+    };
+    equal(
+        &rt,
+        "last branch",
+        &target.map(|target| target.to),
+        &Some(60_000),
+    );
     Ok(())
 }

@@ -1,7 +1,9 @@
 //! Each public function that the other tests don't call, with answers worked out by hand.
 
+use crate::equal::equal;
 use crate::sections::with_exports;
 use std::alloc::{AllocError, Global as Alloc};
+use std::process::Abort;
 use std::test::Fail;
 use types::{Instr, NumericInstr, PlainInstr, Value};
 use validate_module_rules::{IndexSpaces, exported_function, fault_outside_bodies, offset};
@@ -31,11 +33,15 @@ static NUMBERS: [(Fault, u8); 20] = [
     (Fault::OutOfMemory, 20),
 ];
 
+fn check_numbers<R: Abort>(rt: &R, cases: &[(Fault, u8)]) {
+    for (kind, number) in cases {
+        equal(rt, *number, &kind.number(), number);
+    }
+}
+
 #[test]
 fn numbers_the_kinds(rt: HostRuntime) -> Result<(), Fail> {
-    for (kind, number) in NUMBERS {
-        assert_eq!(rt; kind.number(), number);
-    }
+    check_numbers(&rt, &NUMBERS);
     Ok(())
 }
 
@@ -57,12 +63,16 @@ static PLACES: [(ValidFault, Fault, Option<Place>); 3] = [
     (IN_BODY, Fault::Alignment, Some(PLACE)),
 ];
 
+fn check_places<R: Abort>(rt: &R, cases: &[(ValidFault, Fault, Option<Place>)]) {
+    for (fault, kind, place) in cases {
+        let found = (fault.kind(), fault.place());
+        equal(rt, kind.number(), &found, &(*kind, *place));
+    }
+}
+
 #[test]
 fn tells_kinds_and_places(rt: HostRuntime) -> Result<(), Fail> {
-    for (fault, kind, place) in PLACES {
-        assert_eq!(rt; fault.kind(), kind);
-        assert_eq!(rt; fault.place(), place);
-    }
+    check_places(&rt, &PLACES);
     Ok(())
 }
 
@@ -82,13 +92,20 @@ fn two_rows(alloc: Alloc) -> Result<Table, Fail> {
     Ok(table)
 }
 
+fn row_length(table: &Table, instruction: usize) -> Option<usize> {
+    table.row(instruction).map(|row| row.len())
+}
+
 #[test]
 fn keeps_rows(rt: HostRuntime) -> Result<(), Fail> {
     let table = two_rows(rt.alloc())?;
-    assert_eq!(rt; table.row(0).map(|row| row.len()), Some(2));
-    assert_eq!(rt; table.row(1).map(|row| row.len()), Some(0));
-    assert_eq!(rt; table.row(2).map(|row| row.len()), None);
-    assert_eq!(rt; table.target(0, 1), Some(target(8)));
+    let lengths = (
+        row_length(&table, 0),
+        row_length(&table, 1),
+        row_length(&table, 2),
+    );
+    equal(&rt, "lengths", &lengths, &(Some(2), Some(0), None));
+    equal(&rt, "target", &table.target(0, 1), &Some(target(8)));
     expression_stands_for_one_nesting();
     Ok(())
 }
@@ -103,9 +120,14 @@ fn offset_of(alloc: Alloc, value: Value) -> Result<u32, AllocError> {
 
 #[test]
 fn reads_offsets(rt: HostRuntime) -> Result<(), Fail> {
-    assert_eq!(rt; offset_of(rt.alloc(), Value::I32(70_000))?, 70_000);
-    assert_eq!(rt; offset_of(rt.alloc(), Value::I64(70_000))?, 0);
-    assert_eq!(rt; offset(&[]), 0);
+    equal(
+        &rt,
+        "i32",
+        &offset_of(rt.alloc(), Value::I32(70_000))?,
+        &70_000,
+    );
+    equal(&rt, "i64", &offset_of(rt.alloc(), Value::I64(70_000))?, &0);
+    equal(&rt, "no code", &offset(&[]), &0);
     Ok(())
 }
 
@@ -119,8 +141,13 @@ fn outside(alloc: Alloc, names: u32) -> Result<Option<Fault>, Fail> {
 
 #[test]
 fn tells_faults_outside_bodies(rt: HostRuntime) -> Result<(), Fail> {
-    assert_eq!(rt; outside(rt.alloc(), 2)?, None);
-    assert_eq!(rt; outside(rt.alloc(), 1)?, Some(Fault::DuplicateExport));
+    equal(&rt, "two names", &outside(rt.alloc(), 2)?, &None);
+    equal(
+        &rt,
+        "one name",
+        &outside(rt.alloc(), 1)?,
+        &Some(Fault::DuplicateExport),
+    );
     Ok(())
 }
 
@@ -133,6 +160,6 @@ fn function_named(alloc: Alloc, name: &str) -> Result<Option<usize>, Fail> {
 
 #[test]
 fn a_memory_is_no_function(rt: HostRuntime) -> Result<(), Fail> {
-    assert_eq!(rt; function_named(rt.alloc(), "0")?, None);
+    equal(&rt, "0", &function_named(rt.alloc(), "0")?, &None);
     Ok(())
 }

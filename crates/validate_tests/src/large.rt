@@ -1,7 +1,9 @@
 //! Large bodies and modules, and that they are valid.
 
+use crate::equal::equal;
 use crate::sections::{empty, fault_of, func_type};
 use std::alloc::{AllocError, Global as Alloc};
+use std::process::Abort;
 use std::test::Fail;
 use types::{
     Body, ElementSegment, Export, ExportDesc, Global, GlobalType, Instr, Limits, Name,
@@ -123,23 +125,42 @@ fn elements(alloc: Alloc, items: usize) -> Result<Sequence<ElementSegment>, Allo
     Ok(Sequence::from_vec(vec![in alloc; segment]?))
 }
 
-/// A module of such sizes.
-fn large(alloc: Alloc, sizes: Sizes) -> Result<Parts, AllocError> {
+/// The functions of a module of such sizes, and their one type.
+fn functions(alloc: Alloc, sizes: Sizes) -> Result<Parts, AllocError> {
     let params = vec![in alloc; I32; sizes.params as usize]?;
+    let types = Sequence::from_vec(vec![in alloc; func_type(alloc, &params, &[])?]?);
+    let functions = Sequence::from_vec(vec![in alloc; 0; sizes.bodies]?);
+    let bodies = bodies(alloc, sizes)?;
+    Ok(Parts {
+        types,
+        functions,
+        bodies,
+        ..empty(alloc)
+    })
+}
+
+/// A table of 1,000 elements.
+fn tables(alloc: Alloc) -> Result<Sequence<Limits>, AllocError> {
     let table = Limits {
         min: 1000,
         max: None,
         shared: false,
     };
+    Ok(Sequence::from_vec(vec![in alloc; table]?))
+}
+
+/// A module of such sizes.
+fn large(alloc: Alloc, sizes: Sizes) -> Result<Parts, AllocError> {
+    let tables = tables(alloc)?;
+    let globals = globals(alloc, sizes.globals)?;
+    let exports = Sequence::from_vec(vec![in alloc; export(alloc, sizes.name)?]?);
+    let elements = elements(alloc, sizes.items)?;
     Ok(Parts {
-        types: Sequence::from_vec(vec![in alloc; func_type(alloc, &params, &[])?]?),
-        functions: Sequence::from_vec(vec![in alloc; 0; sizes.bodies]?),
-        tables: Sequence::from_vec(vec![in alloc; table]?),
-        globals: globals(alloc, sizes.globals)?,
-        exports: Sequence::from_vec(vec![in alloc; export(alloc, sizes.name)?]?),
-        elements: elements(alloc, sizes.items)?,
-        bodies: bodies(alloc, sizes)?,
-        ..empty(alloc)
+        tables,
+        globals,
+        exports,
+        elements,
+        ..functions(alloc, sizes)?
     })
 }
 
@@ -161,11 +182,14 @@ static LARGE: [(&str, Sizes); 9] = [
     ("a block at height 65", Sizes { below: 65, ..ONE }),
 ];
 
-#[test]
-fn accepts_large_modules(rt: HostRuntime) -> Result<(), Fail> {
-    for (text, sizes) in &LARGE {
-        let parts = large(rt.alloc(), *sizes)?;
-        assert_eq!(rt; fault_of(rt.alloc(), parts)?, None, "{text}");
+fn check_large<R: Abort>(rt: &R, alloc: Alloc, cases: &[(&str, Sizes)]) -> Result<(), Fail> {
+    for (text, sizes) in cases {
+        equal(rt, *text, &fault_of(alloc, large(alloc, *sizes)?)?, &None);
     }
     Ok(())
+}
+
+#[test]
+fn accepts_large_modules(rt: HostRuntime) -> Result<(), Fail> {
+    check_large(&rt, rt.alloc(), &LARGE)
 }

@@ -8,6 +8,8 @@ mod bytes;
 #[cfg(test)]
 mod calls;
 #[cfg(test)]
+mod equal;
+#[cfg(test)]
 mod large;
 #[cfg(test)]
 mod parts;

@@ -1,7 +1,9 @@
 //! Modules made from parts: the nesting of blocks, and the final `end`.
 
+use crate::equal::equal;
 use crate::sections::one_function;
 use std::alloc::{AllocError, Global};
+use std::process::Abort;
 use std::test::Fail;
 use types::{Body, Instr, MOST_NESTED, Module, Sequence};
 
@@ -36,16 +38,22 @@ static MODULES: [(usize, usize, bool); 6] = [
     (0, 0, false),
 ];
 
-#[test]
-fn takes_nested_blocks_with_their_ends(rt: HostRuntime) -> Result<(), Fail> {
-    for (depth, ends, made) in MODULES {
-        assert_eq!(rt;
-            module_of(rt.alloc(), depth, ends)?.is_some(),
-            made,
-            "{depth}, {ends}"
-        );
+/// A module of so many blocks and ends is made, or not.
+fn check_nesting<R: Abort>(
+    rt: &R,
+    alloc: Global,
+    cases: &[(usize, usize, bool)],
+) -> Result<(), Fail> {
+    for (depth, ends, made) in cases {
+        let found = module_of(alloc, *depth, *ends)?.is_some();
+        assert!(rt; found == *made, "{depth}, {ends}");
     }
     Ok(())
+}
+
+#[test]
+fn takes_nested_blocks_with_their_ends(rt: HostRuntime) -> Result<(), Fail> {
+    check_nesting(&rt, rt.alloc(), &MODULES)
 }
 
 /// How many bodies a module has, and how many types its parts have again.
@@ -58,8 +66,8 @@ fn counted(module: Module) -> (usize, usize) {
 #[test]
 fn gives_the_parts_again(rt: HostRuntime) -> Result<(), Fail> {
     let module = module_of(rt.alloc(), 2, 3)?.ok_or("no module")?;
-    assert_eq!(rt; counted(module), (1, 1));
+    equal(&rt, "parts", &counted(module), &(1, 1));
     let code = Sequence::from_vec(blocks(rt.alloc(), 2, 3)?);
-    assert_eq!(rt; code.into_vec().len(), 5);
+    equal(&rt, "instructions", &code.into_vec().len(), &5);
     Ok(())
 }

@@ -33,7 +33,7 @@ pub const TABLE_OF_LABELS: usize = 90;
 
 pub const SPAWNS: usize = 74;
 
-pub static CASES: [Case; 146] = [
+static CASES: [Case; 146] = [
     Case {
         answer: Answer::Valid, // empty
         start: 0,
@@ -765,3 +765,8 @@ pub static CASES: [Case; 146] = [
         end: 5006,
     },
 ];
+
+/// The modules of the table.
+pub fn cases() -> &'static [Case] {
+    &CASES
+}

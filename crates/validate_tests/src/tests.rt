@@ -1,67 +1,91 @@
-use crate::bytes::BYTES;
+use crate::bytes::bytes;
+use crate::equal::equal;
 use crate::sections::{
     empty, fault_of, with_exports, with_imported_memory, with_memory, with_table,
 };
 use crate::table::{
-    Answer, CASES, Case, DATA_OVER_DATA, DATA_TO_THE_END, GLOBALS, SPAWNS, TABLE_OF_LABELS,
+    Answer, Case, DATA_OVER_DATA, DATA_TO_THE_END, GLOBALS, SPAWNS, TABLE_OF_LABELS, cases,
 };
 use binary::read;
 use binary_wire::ReadFault;
 use std::alloc::Global;
 use std::process::Abort;
 use std::test::Fail;
-use types::{Limits, MOST_PAGES, PAGE_SIZE};
+use types::{Limits, MOST_PAGES, Module, PAGE_SIZE};
 use validate::{ValidModule, check_module, validate};
 use validate_typing::{Fault, Target, ValidFault};
 
-/// What a validation answers.
-fn answer_of(outcome: Result<(), ValidFault>) -> Result<Answer, Fail> {
-    match outcome {
-        Ok(()) => Ok(Answer::Valid),
-        Err(ValidFault::OutOfMemory) => Err("no memory to validate".into()),
-        Err(ValidFault::Outside(kind)) => Ok(Answer::Outside(kind)),
-        Err(
-            ValidFault::InBody {
-                kind,
-                function,
-                instruction,
-            },
-        ) => Ok(Answer::InBody(kind, function, instruction)),
+/// What a validation answers that finds this fault.
+fn answer_of(fault: ValidFault) -> Result<Answer, Fail> {
+    match fault {
+        ValidFault::OutOfMemory => Err("no memory to validate".into()),
+        ValidFault::Outside(kind) => Ok(Answer::Outside(kind)),
+        ValidFault::InBody {
+            kind,
+            function,
+            instruction,
+        } => Ok(Answer::InBody(kind, function, instruction)),
     }
+}
+
+/// What is answered by a check that keeps no tables.
+fn checked(alloc: Global, module: &Module) -> Result<Answer, Fail> {
+    match check_module(alloc, module) {
+        Ok(()) => Ok(Answer::Valid),
+        Err(fault) => answer_of(fault),
+    }
+}
+
+/// What is answered by a check that keeps tables.
+fn validated(alloc: Global, module: Module) -> Result<Answer, Fail> {
+    match validate(alloc, module) {
+        Ok(_) => Ok(Answer::Valid),
+        Err(fault) => answer_of(fault),
+    }
+}
+
+fn both(alloc: Global, module: Module) -> Result<[Answer; 2], Fail> {
+    let checked = checked(alloc, &module)?;
+    Ok([checked, validated(alloc, module)?])
 }
 
 /// What is answered of a module's bytes, by a check that keeps no tables and by one that does.
 fn answers(alloc: Global, bytes: &[u8]) -> Result<[Answer; 2], Fail> {
-    let module = match read(alloc, bytes) {
-        Ok(module) => module,
-        Err(ReadFault::OutOfMemory) => return Err("no memory to read".into()),
-        Err(ReadFault::Malformed { .. }) => return Ok([Answer::Unread, Answer::Unread]),
-    };
-    let checked = answer_of(check_module(alloc, &module))?;
-    let validated = answer_of(validate(alloc, module).map(|_| ()))?;
-    Ok([checked, validated])
+    match read(alloc, bytes) {
+        Ok(module) => both(alloc, module),
+        Err(ReadFault::OutOfMemory) => Err("no memory to read".into()),
+        Err(ReadFault::Malformed { .. }) => Ok([Answer::Unread, Answer::Unread]),
+    }
 }
 
 /// The bytes of a module of the table.
 fn bytes_of(case: &Case) -> Result<&'static [u8], Fail> {
-    Ok(BYTES.get(case.start..case.end).ok_or("no such bytes")?)
+    Ok(bytes().get(case.start..case.end).ok_or("no such bytes")?)
+}
+
+/// The module with this number in the table.
+fn module(alloc: Global, number: usize) -> Result<Module, Fail> {
+    let case = cases().get(number).ok_or("no such module")?;
+    Ok(read(alloc, bytes_of(case)?)?)
 }
 
 /// The valid module with this number in the table.
 fn valid(alloc: Global, number: usize) -> Result<ValidModule, Fail> {
-    let case = CASES.get(number).ok_or("no such module")?;
-    let module = read(alloc, bytes_of(case)?)?;
+    let module = module(alloc, number)?;
     Ok(validate(alloc, module)?)
+}
+
+fn check_answers<R: Abort>(rt: &R, alloc: Global, cases: &[Case]) -> Result<(), Fail> {
+    for (number, case) in cases.iter().enumerate() {
+        let found = answers(alloc, bytes_of(case)?)?;
+        equal(rt, number, &found, &[case.answer, case.answer]);
+    }
+    Ok(())
 }
 
 #[test]
 fn answers_as_the_table_says(rt: HostRuntime) -> Result<(), Fail> {
-    for (number, case) in CASES.iter().enumerate() {
-        let [checked, validated] = answers(rt.alloc(), bytes_of(case)?)?;
-        assert_eq!(rt; checked, case.answer, "module {number}");
-        assert_eq!(rt; validated, case.answer, "module {number}");
-    }
-    Ok(())
+    check_answers(&rt, rt.alloc(), cases())
 }
 
 #[test]
@@ -72,14 +96,10 @@ fn a_shared_memory_has_a_maximum(rt: HostRuntime) -> Result<(), Fail> {
         shared: true,
     };
     let fault = Some(Fault::SharedWithoutMaximum);
-    assert_eq!(rt;
-        fault_of(rt.alloc(), with_memory(rt.alloc(), limits)?)?,
-        fault
-    );
-    assert_eq!(rt;
-        fault_of(rt.alloc(), with_imported_memory(rt.alloc(), limits)?)?,
-        fault
-    );
+    let own = fault_of(rt.alloc(), with_memory(rt.alloc(), limits)?)?;
+    equal(&rt, "own memory", &own, &fault);
+    let imported = fault_of(rt.alloc(), with_imported_memory(rt.alloc(), limits)?)?;
+    equal(&rt, "imported memory", &imported, &fault);
     Ok(())
 }
 
@@ -91,16 +111,22 @@ fn a_table_is_not_shared(rt: HostRuntime) -> Result<(), Fail> {
         shared: true,
     };
     let parts = with_table(rt.alloc(), limits)?;
-    assert_eq!(rt; fault_of(rt.alloc(), parts)?, Some(Fault::Limits));
+    equal(
+        &rt,
+        "table",
+        &fault_of(rt.alloc(), parts)?,
+        &Some(Fault::Limits),
+    );
     Ok(())
 }
 
 #[test]
 fn takes_1000_exports(rt: HostRuntime) -> Result<(), Fail> {
     let parts = with_exports(rt.alloc(), 1000, 1000)?;
-    assert_eq!(rt; fault_of(rt.alloc(), parts)?, None);
+    equal(&rt, "1000 names", &fault_of(rt.alloc(), parts)?, &None);
     let parts = with_exports(rt.alloc(), 1000, 999)?;
-    assert_eq!(rt; fault_of(rt.alloc(), parts)?, Some(Fault::DuplicateExport));
+    let fault = fault_of(rt.alloc(), parts)?;
+    equal(&rt, "999 names", &fault, &Some(Fault::DuplicateExport));
     Ok(())
 }
 
@@ -116,29 +142,42 @@ fn image(alloc: Global, number: usize) -> Result<Vec<u8>, Fail> {
     Ok(module.image(alloc)?)
 }
 
+fn check_image<R: Abort>(rt: &R, image: &[u8]) {
+    equal(rt, "length", &image.len(), &PAGE_SIZE);
+    equal(
+        rt,
+        "start",
+        &image.get(..8),
+        &Some(b"\0\0abXY\0\0".as_slice()),
+    );
+    equal(rt, "end", &image.last().copied(), &Some(b'z'));
+}
+
 #[test]
 fn writes_segments_over_one_another(rt: HostRuntime) -> Result<(), Fail> {
-    let image = image(rt.alloc(), DATA_OVER_DATA)?;
-    assert_eq!(rt; image.len(), PAGE_SIZE);
-    assert_eq!(rt; image.get(..8), Some(b"\0\0abXY\0\0".as_slice()));
-    assert_eq!(rt; image.last().copied(), Some(b'z'));
-    assert_eq!(rt; pages_max(rt.alloc(), DATA_OVER_DATA)?, 3);
+    check_image(&rt, &image(rt.alloc(), DATA_OVER_DATA)?);
+    equal(&rt, "pages", &pages_max(rt.alloc(), DATA_OVER_DATA)?, &3);
     Ok(())
 }
 
 #[test]
 fn a_memory_has_64_pages_at_most(rt: HostRuntime) -> Result<(), Fail> {
-    assert_eq!(rt; pages_max(rt.alloc(), DATA_TO_THE_END)?, MOST_PAGES);
-    assert_eq!(rt; pages_max(rt.alloc(), GLOBALS)?, 0);
-    assert_eq!(rt; image(rt.alloc(), GLOBALS)?.len(), 0);
+    equal(
+        &rt,
+        "no maximum",
+        &pages_max(rt.alloc(), DATA_TO_THE_END)?,
+        &MOST_PAGES,
+    );
+    equal(&rt, "no memory", &pages_max(rt.alloc(), GLOBALS)?, &0);
+    equal(&rt, "image", &image(rt.alloc(), GLOBALS)?.len(), &0);
     Ok(())
 }
 
 #[test]
 fn a_module_without_functions_has_no_tables(rt: HostRuntime) -> Result<(), Fail> {
     let module = valid(rt.alloc(), DATA_OVER_DATA)?;
-    assert_eq!(rt; module.opening_pages(), 1);
-    assert_eq!(rt; module.tables().len(), 0);
+    equal(&rt, "pages", &module.opening_pages(), &1);
+    equal(&rt, "tables", &module.tables().len(), &0);
     Ok(())
 }
 
@@ -153,14 +192,14 @@ static TARGETS: [(usize, usize, usize, Option<usize>); 6] = [
 ];
 
 /// Whether branches lead where the table says.
-fn leads_so(module: &ValidModule) -> bool {
-    for (function, instruction, which, to) in TARGETS {
+fn leads_so(module: &ValidModule, cases: &[(usize, usize, usize, Option<usize>)]) -> bool {
+    for (function, instruction, which, to) in cases {
         let target = to.map(|to| Target {
             to,
             height: 0,
             carried: 0,
         });
-        if module.target(function, instruction, which) != target {
+        if module.target(*function, *instruction, *which) != target {
             return false;
         }
     }
@@ -170,35 +209,43 @@ fn leads_so(module: &ValidModule) -> bool {
 #[test]
 fn tells_where_branches_lead(rt: HostRuntime) -> Result<(), Fail> {
     let module = valid(rt.alloc(), TABLE_OF_LABELS)?;
-    assert!(rt; leads_so(&module));
+    assert!(rt; leads_so(&module, &TARGETS));
     Ok(())
 }
 
-/// What a module that starts threads says of its functions.
-fn check_functions(rt: &impl Abort, module: &ValidModule) {
-    assert!(rt; module.starts_threads());
-    assert_eq!(rt; module.imported_functions(), 1);
-    assert_eq!(rt; module.exported("wasi_thread_start"), Some(0));
-    assert_eq!(rt; module.exported("memory"), None);
-    assert!(rt; module.body(0).is_some_and(|body| body.code.len() == 4));
-    assert!(rt;
-        module
-            .func_type(0)
-            .is_some_and(|func_type| func_type.params.len() == 2)
-    );
+/// What a module that starts threads says of its own function.
+fn check_own_function<R: Abort>(rt: &R, module: &ValidModule) {
+    let instructions = module.body(0).map(|body| body.code.len());
+    equal(rt, "instructions", &instructions, &Some(4));
+    let params = module.func_type(0).map(|func_type| func_type.params.len());
+    equal(rt, "parameters", &params, &Some(2));
     assert!(rt; module.table(1).is_none());
-    assert_eq!(rt; module.target(0, 0, 0), None);
+    equal(rt, "target", &module.target(0, 0, 0), &None);
+}
+
+/// What a module that starts threads says of its functions.
+fn check_functions<R: Abort>(rt: &R, module: &ValidModule) {
+    assert!(rt; module.starts_threads());
+    equal(rt, "imported", &module.imported_functions(), &1);
+    equal(rt, "entry", &module.exported("wasi_thread_start"), &Some(0));
+    equal(rt, "memory", &module.exported("memory"), &None);
 }
 
 #[test]
 fn counts_imported_functions(rt: HostRuntime) -> Result<(), Fail> {
     let module = valid(rt.alloc(), SPAWNS)?;
     check_functions(&rt, &module);
+    check_own_function(&rt, &module);
     Ok(())
 }
 
 #[test]
 fn an_empty_module_is_valid(rt: HostRuntime) -> Result<(), Fail> {
-    assert_eq!(rt; fault_of(rt.alloc(), empty(rt.alloc()))?, None);
+    equal(
+        &rt,
+        "empty",
+        &fault_of(rt.alloc(), empty(rt.alloc()))?,
+        &None,
+    );
     Ok(())
 }

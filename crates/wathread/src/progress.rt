@@ -1,20 +1,27 @@
-//! How far a search came, on one line of a terminal.
+//! How far a search came, on one line of a terminal, and whether it is told to end.
 
-use search_reach::Follows;
+use search_reach::{Follows, Wish};
+use std::fs;
 use std::io::IsTerminal;
 use std::time::{Duration, Instant};
 
-/// How many milliseconds a line stands before another takes its place.
+/// How many milliseconds a line stands before another takes its place, and the file that ends the search isn't looked for again.
 const PAUSE: u64 = 250;
 
-/// The line of a search that is on its way, on standard error where that is a terminal: how much it did, how much in a second, and how
-/// many endings it met.
+/// Follows a search that is on its way. Where standard error is a terminal, a line there has how much it did, how much in a second, and
+/// how many endings it met. Where a path is given, it ends once there is a file with it.
 #[derive(Drop)]
 pub(crate) struct Progress<'a> {
     rt: &'a HostRuntime,
-    /// When the search began and when the line was written last; none where nobody looks.
+    /// When the search began and when it was last time for a line and a look; none where there is neither.
     times: Option<(Instant, Instant)>,
+    /// The path of the file at which it ends.
+    until: Option<&'a str>,
+    /// Whether lines are written.
+    is_shown: bool,
+    /// Whether one stands there.
     is_written: bool,
+    wish: Wish,
 }
 
 /// How many in a second, where so many took so long.
@@ -25,8 +32,9 @@ fn in_a_second(count: u64, took: Duration) -> u64 {
 
 impl<'a> Progress<'a> {
     /// No line is written yet, and none ever where standard error is no terminal.
-    pub(crate) fn new(rt: &'a HostRuntime) -> Progress<'a> {
-        let now = if rt.stderr().is_terminal() {
+    pub(crate) fn new(rt: &'a HostRuntime, until: Option<&'a str>) -> Progress<'a> {
+        let is_shown = rt.stderr().is_terminal();
+        let now = if is_shown || until.is_some() {
             Instant::now(rt).ok()
         } else {
             None
@@ -34,11 +42,14 @@ impl<'a> Progress<'a> {
         Progress {
             rt,
             times: now.map(|now| (now, now)),
+            until,
+            is_shown,
             is_written: false,
+            wish: Wish::GoOn,
         }
     }
 
-    /// How long the search takes by now, where it is time for another line.
+    /// How long the search takes by now, where it is time for another line and another look.
     fn due(&mut self) -> Option<Duration> {
         let (began, last) = self.times?;
         let now = Instant::now(self.rt).ok()?;
@@ -46,26 +57,49 @@ impl<'a> Progress<'a> {
             return None;
         }
         self.times = Some((began, now));
-        self.is_written = true;
         Some(now.duration_since(began))
+    }
+
+    /// Wishes that the search ends, where there is the file that ends it.
+    fn look(&mut self) {
+        if let Some(path) = self.until
+            && fs::exists(self.rt, path).unwrap_or(false)
+        {
+            self.wish = Wish::End;
+        }
+    }
+
+    /// Looks for the file that ends the search, and answers how long it takes by now, where it is time and a line is to be written.
+    fn line_due(&mut self) -> Option<Duration> {
+        let took = self.due()?;
+        self.look();
+        if !self.is_shown {
+            return None;
+        }
+        self.is_written = true;
+        Some(took)
     }
 }
 
 impl Follows for Progress<'_> {
-    fn runs(&mut self, made: u64, endings: usize) {
-        if let Some(took) = self.due() {
+    ghost wish = { λ p. p.wish };
+
+    fn runs(&mut self, made: u64, endings: usize) -> Wish {
+        if let Some(took) = self.line_due() {
             let rate = in_a_second(made, took);
             let _ = eprint!(self.rt;
                 "\r\x1b[K{made} runs, {rate} a second, {endings} endings so far"
             );
         }
+        self.wish
     }
 
-    fn states(&mut self, met: usize) {
-        if let Some(took) = self.due() {
+    fn states(&mut self, met: usize) -> Wish {
+        if let Some(took) = self.line_due() {
             let rate = in_a_second(met as u64, took);
             let _ = eprint!(self.rt; "\r\x1b[K{met} states, {rate} a second");
         }
+        self.wish
     }
 
     /// Takes the line away, where one is written.

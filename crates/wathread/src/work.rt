@@ -101,6 +101,14 @@ fn record_of<'a>(job: &Job<'a>) -> Option<&'a str> {
     }
 }
 
+/// The path of the file at which a job ends, or none.
+fn until_of<'a>(job: &Job<'a>) -> Option<&'a str> {
+    match job {
+        Job::Search(Search { until, .. }) => *until,
+        _ => None,
+    }
+}
+
 /// Where a job's record goes, if it makes one.
 fn place_of<'a>(rt: &HostRuntime, job: &Job<'a>) -> Result<Option<Place>, Stop<'a>> {
     let Some(path) = record_of(job) else {
@@ -189,7 +197,7 @@ fn attempt<'a, R: Threads + Wait + Sync>(
     let stdout = Copied::new(alloc, Noted::new(rt.stdout()), explain);
     let mut out = BufWriter::with_capacity(alloc, OUT, stdout)?;
     let mut save = BufWriter::with_capacity(alloc, RECORD, SavedFile::new(rt, place))?;
-    let mut progress = Progress::new(rt);
+    let mut progress = Progress::new(rt, until_of(job));
     let status = match (job, &names) {
         (Job::Show { look, view, .. }, Some(names)) if view.path().is_some() => show_saved(
             alloc, &module, names, &saved, look, *view, &mut save, &mut err,

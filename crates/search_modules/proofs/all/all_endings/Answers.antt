@@ -22,6 +22,9 @@ returns-in-Ok-clause-paths g c = c.in-Ok.ensures.paths
 pub returns-in-Ok-clause-bound : goal.returns-in-Ok-clause-bound
 returns-in-Ok-clause-bound g c = c.in-Ok.ensures.bound
 
+pub returns-in-Ok-clause-told : goal.returns-in-Ok-clause-told
+returns-in-Ok-clause-told g c = c.in-Ok.ensures.told
+
 pub returns-in-Ok-clause-cannot_tell : goal.returns-in-Ok-clause-cannot_tell
 returns-in-Ok-clause-cannot_tell g c = λ verdict.
     let s = c.in_ok-searched.searched in

@@ -16,6 +16,14 @@ loop-state-preserved g c = record {
   from = c.in_ok-add_all.ensures.from;
 }
 
+pub returns-in-End-clause-sound : goal.returns-in-End-clause-sound
+returns-in-End-clause-sound g c =
+    (explored-next g.T.State.PartialEq.eq (g.T.Explores.stands c.args.system.now) (g.met.T.Explores.same c.args.system.now)
+    (g.T.Explores.steps c.args.system.now) (g.T.Explores.begins c.args.system.now)
+    c.loop-state.met.keys c.add_all.new.met.keys c.in-Some-2.after.items c.loop-state.at c.in-Some-get_index.state.now
+    c.loop-state.invariant.explored (sym c.in-Some-get_index.ensures.key) (if_some_at _ _ _ c.in-Some-2.is c.in_ok-after.ensures.next)
+    c.in_ok-add_all.ensures.met).sound
+
 pub returns-clause-all : goal.returns-clause-all
 returns-clause-all g c _ =
     explored-end (g.T.Explores.stands c.args.system.now) (g.T.Explores.steps c.args.system.now) (g.T.Explores.begins c.args.system.now)

@@ -1,5 +1,5 @@
 //! Each law once: those of walks at one choice of types; and the laws of threads, on which they stand.
-use crate::{
+use replay_rules::{
     ends_are_the_same, runs_are_in_range, runs_are_recorded, stops_are_misfits, walks_are_made,
 };
 use schedule_runs::{
