@@ -1,5 +1,5 @@
 -- The rule of the recorder's one word, and what its steps tell.
-use Rattle.std.specs.Prelude.{ℕ, ◌+◌, ◌^◌, ◌<◌, ◌≡◌, true, List, [], ◌∷◌, ◌++◌, length, map}
+use Rattle.std.specs.Prelude.{ℕ, ◌≡◌, true, List, [], ◌∷◌, ◌++◌, map}
 use Rattle.atomic_table.specs.Table.{Me}
 use Rattle.types.specs.declared.event.Entry.{Entry}
 use Rattle.types.specs.declared.event.Event.TheVariants.{Size}
@@ -10,9 +10,9 @@ use Rattle.shared_memory_on_table.specs.declared.view.Caller.{Caller}
 use Rattle.shared_memory_on_table.specs.declared.view.View.{View}
 use Rattle.shared_memory_on_table.specs.Callers.{AllGoOn, seeing}
 
--- The one word is the length of the log.
-abbrev pub counts : List Entry → List ℕ → Type 0
-counts log words = words ≡ length log ∷ []
+-- The one word is 0, whatever the log.
+abbrev pub is_zero : List Entry → List ℕ → Type 0
+is_zero log words = words ≡ 0 ∷ []
 
 -- The keeper's log, longer by an entry.
 abbrev pub log_with : Entry → View → List Entry
@@ -32,9 +32,9 @@ Enters e before after = (after.0 ≡ entered e before.0) × (after.1 ≡ before.
 abbrev pub Learns : Me ℕ View → Me ℕ View → Type 0
 Learns before after = (after.0 ≡ learned before.0) × (after.1 ≡ before.1) × AllGoOn before.0.callers before.0.log
 
--- The entry is the caller's, of the queue only with the queue right, and the word can count it.
-abbrev pub MayMake : List Entry → Caller → Entry → Type 0
-MayMake log c e = (length log + 1 < 2 ^ 64) × (e.thread ≡ c.name) × (is_of_queue e.event ≡ true → c.has_queue_right ≡ true)
+-- The entry is the caller's, and of the queue only with the queue right.
+abbrev pub MayMake : Caller → Entry → Type 0
+MayMake c e = (e.thread ≡ c.name) × (is_of_queue e.event ≡ true → c.has_queue_right ≡ true)
 
 -- Of nothing.
 abbrev pub no_entry : Entry

@@ -1,7 +1,7 @@
 //! A shared memory behind a lock, which records every entry.
 //!
-//! The memory and the log of its entries lie under one lock; one word of a table counts the entries, and each seat is
-//! a seat of that table. An access takes the lock, enters its event by one atomic step, and answers. A meeting of two
+//! The memory and the log of its entries lie under one lock; each seat is a seat of a table of one
+//! word. An access takes the lock, enters its event by one step on that word, a load, and answers. A meeting of two
 //! seats takes no lock.
 #![tactic(auto)]
 

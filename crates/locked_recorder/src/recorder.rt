@@ -8,7 +8,7 @@ ghost use Rattle.locked_recorder.specs.Promises.{Begins, IsRecord, IsBounded};
 use crate::LockedSeat;
 use crate::keeper::{Finished, Keeper, check_all};
 use crate::prepared::Prepared;
-use crate::rule::{Board, LogLength};
+use crate::rule::{Board, Unmoved};
 use shared_memory::SharedMemory;
 use shared_memory_on_table::{Naming, meet, take_seats};
 use shared_memory_sequential::OpenFault;
@@ -57,7 +57,7 @@ impl<B: Naming, W: Wait + Drop> LockedRecorder<B, W> {
             log,
         } = prepared;
         let pages_max = memory.max();
-        let Ok(seats) = take_seats::<B, (), LogLength>(alloc, &board.shared, &mut desk) else {
+        let Ok(seats) = take_seats::<B, (), Unmoved>(alloc, &board.shared, &mut desk) else {
             return Err(OpenFault::NoMemory);
         };
         let keeper = Keeper {

@@ -1,19 +1,19 @@
-//! The rule of the one word, which counts the entries, and its steps.
+//! The rule of the one word, which stays as it is, and its steps: each loads it.
 use atomic_table::{Play, Table};
 use shared_memory_on_table::{History, OneHistory, View};
 use std::alloc::Global;
 use std::marker::{Brand, PhantomData};
 
-/// The one word is the length of the history, which a keeper knows: its log.
-pub struct LogLength;
+/// The one word says nothing of the history. A keeper knows that: its log.
+pub struct Unmoved;
 
-impl History<()> for LogLength {
+impl History<()> for Unmoved {
     ghost use Rattle.std.specs.Prelude.{true};
-    ghost use Rattle.locked_recorder.specs.Rule.{counts};
+    ghost use Rattle.locked_recorder.specs.Rule.{is_zero};
 
     ghost has_keeper = { true };
 
-    ghost agree = { λ _. counts };
+    ghost agree = { λ _. is_zero };
 }
 
 /// Which entry a step makes. Each call picks it.
@@ -48,7 +48,7 @@ impl Play<u8, View> for Learn {
 }
 
 /// The word and its seats, as all threads share them.
-pub type Row = shared_memory_on_table::Row<(), LogLength>;
+pub type Row = shared_memory_on_table::Row<(), Unmoved>;
 
 /// The word and its seats, as their owner has them.
-pub type Board = Table<u8, View, (), OneHistory<LogLength>, Global>;
+pub type Board = Table<u8, View, (), OneHistory<Unmoved>, Global>;

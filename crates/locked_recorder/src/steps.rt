@@ -15,11 +15,11 @@ fn enter<M: Making>(row: &Row, desk: &mut Place, entry: &Entry)
     requires own { desk.old.table_id ≡ row.now.table_id }
     requires entry { M.entry ≡ entry.now }
     requires guest { desk.old.me.0 ≡ keeper desk.old.me.0.log (caller_in desk.old.me.0 ∷ []) }
-    requires may { MayMake desk.old.me.0.log (caller_in desk.old.me.0) entry.now }
+    requires may { MayMake (caller_in desk.old.me.0) entry.now }
     ensures desk { (desk.new.table_id ≡ desk.old.table_id) × (desk.new.me ≡ (entered entry.now desk.old.me.0, desk.old.me.1)) }
     ensures goes_on { AllGoOn desk.old.me.0.callers desk.old.me.0.log }
 {
-    row.fetch_add::<Enter<M>>(desk, 0, 1);
+    row.load::<Enter<M>>(desk, 0);
 }
 
 /// The caller's entry is made: its view goes to the keeper's seat, grows there with the log, and comes back.
@@ -28,7 +28,7 @@ pub fn record(row: &Row, desk: &mut Place, caller: &mut Place, entry: &Entry)
     requires own { (desk.old.table_id ≡ row.now.table_id) × (caller.old.table_id ≡ row.now.table_id) }
     requires desk { IsKeeper desk.old.me }
     requires caller { IsOne caller.old.me }
-    requires may { MayMake desk.old.me.0.log (caller_in caller.old.me.0) entry.now }
+    requires may { MayMake (caller_in caller.old.me.0) entry.now }
     ensures desk { (desk.new.table_id ≡ desk.old.table_id) × (desk.new.me ≡ (keeper (log_with entry.now desk.old.me.0) [], [])) }
     ensures caller { (caller.new.table_id ≡ caller.old.table_id) × (caller.new.me ≡ sees (log_with entry.now desk.old.me.0) caller.old.me) }
     ensures goes_on { GoesOn (caller_in caller.old.me.0) desk.old.me.0.log }

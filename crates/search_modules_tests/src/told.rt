@@ -35,12 +35,12 @@ impl Follows for Few {
 fn check_told<R: Abort>(rt: &R, alloc: Global, gone: &Gone) -> Result<(), Fail> {
     let valid = load(alloc, gone.module)?;
     let mut few = Few {
-        most: 50,
+        most: 10,
         wish: Wish::GoOn,
     };
     let all = all_endings(alloc, &valid, call_of(gone), MOST, DUMP as usize, &mut few)?;
     assert_eq!(rt; all.verdict, Verdict::Told);
-    assert!(rt; 50 <= all.states && all.states < gone.states);
+    assert!(rt; 10 <= all.states && all.states < gone.states);
     Ok(())
 }
 

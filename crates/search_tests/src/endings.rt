@@ -46,19 +46,19 @@ fn times_of(table: &Table, outcomes: &[Outcome], byte: u8) -> u64 {
 }
 
 /// What thread 0 answers and what is stored in the end: thread 0 comes first, or thread 1, or an update is lost.
-static UPDATES: [(i32, u8); 3] = [(1, 2), (2, 2), (1, 1)];
+static UPDATES: [(u32, u8); 3] = [(1, 2), (2, 2), (1, 1)];
 
 /// Whether thread 0 answers so and this byte is stored in some run.
-fn has_update(table: &Table, answer: i32, byte: u8) -> bool {
+fn has_update(table: &Table, answer: u32, byte: u8) -> bool {
     let ends = [
-        Outcome::Done(Some(Value::I32(answer as u32))),
+        Outcome::Done(Some(Value::I32(answer))),
         Outcome::Done(None),
     ];
     times_of(table, &ends, byte) > 0
 }
 
 /// Whether each of these endings was met, and no other.
-fn has_updates(table: &Table, updates: &[(i32, u8)]) -> bool {
+fn has_updates(table: &Table, updates: &[(u32, u8)]) -> bool {
     table.met.len() == updates.len()
         && updates
             .iter()

@@ -1,12 +1,6 @@
 //! The assertions of these tests, each proved once.
 
-use std::fmt::Debug;
 use std::process::Abort;
-
-/// Stops the test where two values differ, and says both.
-pub(crate) fn equal<R: Abort, T: PartialEq + Debug>(rt: &R, found: &T, wanted: &T) {
-    assert_eq!(rt; found, wanted);
-}
 
 /// Stops the test where two texts differ, and says both.
 pub(crate) fn same_text<R: Abort>(rt: &R, found: &str, wanted: &str) {

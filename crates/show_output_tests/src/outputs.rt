@@ -1,6 +1,6 @@
 //! Traces and pages, by hand.
 
-use crate::asserts::{equal, is_text};
+use crate::asserts::is_text;
 use replay_text::Record;
 use show_events::write_trace;
 use show_page::write_page;
@@ -147,7 +147,7 @@ fn check_page<R: Abort>(rt: &R, page: &[u8], trace: &str) {
         Err(_) => None,
     };
     let wanted = events_of(trace).map(|events| (events, "/script"));
-    equal(rt, &found, &wanted);
+    assert_eq!(rt; found, wanted);
 }
 
 #[test]

@@ -5,10 +5,10 @@ use Rattle.locked_recorder.specs.Rule.{MayMake}
 use Rattle.locked_recorder.proofs.Moves.{enters}
 use Rattle.locked_recorder.proofs.steps.enter.Goals as goal
 
-pub fetch_add-requires : goal.fetch_add-requires
-fetch_add-requires g c =
+pub load-requires : goal.load-requires
+load-requires g c =
     let desk = c.args.desk.now in
-    let may = subst (λ (e : Entry). MayMake desk.me.0.log (caller_in desk.me.0) e) (sym c.requires.entry) c.requires.may in (
+    let may = subst (λ (e : Entry). MayMake (caller_in desk.me.0) e) (sym c.requires.entry) c.requires.may in (
       c.requires.own,
       c.requires.row,
       enters c.args.row.now.table_id.slots desk.id desk.me desk.me.0.log
