@@ -50,10 +50,7 @@ static UPDATES: [(u32, u8); 3] = [(1, 2), (2, 2), (1, 1)];
 
 /// Whether thread 0 answers so and this byte is stored in some run.
 fn has_update(table: &Table, answer: u32, byte: u8) -> bool {
-    let ends = [
-        Outcome::Done(Some(Value::I32(answer))),
-        Outcome::Done(None),
-    ];
+    let ends = [Outcome::Done(Some(Value::I32(answer))), Outcome::Done(None)];
     times_of(table, &ends, byte) > 0
 }
 
