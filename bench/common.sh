@@ -6,9 +6,6 @@ trap 'rm -rf "$work"' EXIT
 program=${PROGRAM:-$top/crates/wathread/out/wathread}
 [ -n "${PROGRAM-}" ] || "$top/wathread" --version >/dev/null
 
-# As the launcher has it: large blocks in huge pages.
-export GLIBC_TUNABLES=${GLIBC_TUNABLES-glibc.malloc.hugetlb=1}
-
 # How often each command runs; the least time counts.
 rounds=${ROUNDS:-15}
 
