@@ -108,10 +108,7 @@ fn read_br_table(reader: &mut Reader, alloc: Global) -> Result<Instr, ReadFault>
 {
     let labels = read_vector::<IndexItem>(reader, alloc, u32::MAX)?;
     let default = reader.read_u32()?;
-    Ok(Instr::Plain(PlainInstr::BrTable(
-        Labels::new(alloc, labels)?,
-        default,
-    )))
+    Ok(Instr::Plain(PlainInstr::BrTable(Labels::new(alloc, labels)?, default)))
 }
 
 /// The type of `call_indirect` and its reserved byte (Core specification 1.0, section 5.4.1).

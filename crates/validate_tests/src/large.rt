@@ -6,8 +6,8 @@ use std::alloc::{AllocError, Global as Alloc};
 use std::process::Abort;
 use std::test::Fail;
 use types::{
-    Body, ElementSegment, Export, ExportDesc, Global, GlobalType, Instr, Limits, Name,
-    Parts, PlainInstr, Sequence, ValType, Value,
+    Body, ElementSegment, Export, ExportDesc, Global, GlobalType, Instr, Limits, Name, Parts,
+    PlainInstr, Sequence, ValType, Value,
 };
 
 const I32: ValType = ValType::I32;
