@@ -38,4 +38,4 @@ index_instr index.GlobalGet n = plain.GlobalGet n
 index_instr index.GlobalSet n = plain.GlobalSet n
 
 abbrev pub const_instr : Value → Instr
-const_instr v = instrs.Plain (plain.Numeric (numeric.Const v))
+const_instr v = instrs.Plain (plain.Const v)

@@ -11,7 +11,7 @@ use crate::opcodes::{
 };
 use binary_wire::{Fault, IndexItem, ReadFault, Reader, Refusal, read_vector};
 use std::alloc::Global;
-use types::{BlockType, Instr, NumericInstr, PlainInstr, ValType, Value};
+use types::{BlockType, Instr, Labels, PlainInstr, ValType, Value};
 
 fn opening_of(op: Opener, block_type: BlockType) -> Instr
     ensures { result ≡ opening op block_type }
@@ -97,7 +97,7 @@ fn read_const(reader: &mut Reader, val_type: ValType) -> Result<Instr, Refusal>
         ValType::I32 => Value::I32(reader.read_s32()?),
         ValType::I64 => Value::I64(reader.read_s64()?),
     };
-    Ok(Instr::Plain(PlainInstr::Numeric(NumericInstr::Const(value))))
+    Ok(Instr::Plain(PlainInstr::Const(value)))
 }
 
 /// The labels of `br_table`, and its default label (Core specification 1.0, section 5.4.1).
@@ -108,7 +108,7 @@ fn read_br_table(reader: &mut Reader, alloc: Global) -> Result<Instr, ReadFault>
 {
     let labels = read_vector::<IndexItem>(reader, alloc, u32::MAX)?;
     let default = reader.read_u32()?;
-    Ok(Instr::Plain(PlainInstr::BrTable(labels, default)))
+    Ok(Instr::Plain(PlainInstr::BrTable(Labels::new(alloc, labels)?, default)))
 }
 
 /// The type of `call_indirect` and its reserved byte (Core specification 1.0, section 5.4.1).

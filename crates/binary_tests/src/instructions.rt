@@ -5,8 +5,8 @@ use binary_wire::{Fault, ReadFault, Reader, Refusal};
 use std::alloc::Global;
 use std::test::Fail;
 use types::{
-    AccessWidth, AtomicOp, BinaryOp, CompareOp, ConvertOp, Instr, LoadOp, MemArg, NarrowWidth,
-    NumericInstr, PlainInstr, RmwOp, Sequence, UnaryOp, ValType, Value,
+    AccessWidth, AtomicOp, BinaryOp, CompareOp, ConvertOp, Instr, Labels, LoadOp, MemArg,
+    NarrowWidth, NumericInstr, PlainInstr, RmwOp, Sequence, UnaryOp, ValType, Value,
 };
 
 static NUMERIC: [(u8, NumericInstr); 66] = [
@@ -583,7 +583,7 @@ static CONSTANTS: [(&[u8], Value); 4] = [
 #[test]
 fn reads_constants(rt: HostRuntime) -> Result<(), Fail> {
     for (bytes, value) in CONSTANTS {
-        let constant = PlainInstr::Numeric(NumericInstr::Const(value));
+        let constant = PlainInstr::Const(value);
         assert!(rt; is_plain(rt.alloc(), bytes, constant)?, "{value}");
     }
     Ok(())
@@ -614,6 +614,7 @@ fn reads_blocks(rt: HostRuntime) -> Result<(), Fail> {
 #[test]
 fn reads_labels_of_a_table(rt: HostRuntime) -> Result<(), Fail> {
     let labels = Sequence::from_vec(Vec::from_slice(rt.alloc(), &[4, 5])?);
+    let labels = Labels::new(rt.alloc(), labels)?;
     assert!(rt;
         is_plain(
             rt.alloc(),

@@ -10,7 +10,7 @@ ghost use Rattle.interp_state.specs.Stands.{IsProgram};
 
 use interp_state::{Program, push_zeros};
 use std::alloc::{AllocError, Global};
-use types::{Instr, MOST_VALUES, NumericInstr, Parts, PlainInstr, ValType, Value};
+use types::{Instr, MOST_VALUES, Parts, PlainInstr, ValType, Value};
 use validate::ValidModule;
 use validate_module_rules::{IndexSpaces, offset};
 
@@ -22,7 +22,7 @@ fn constant(code: &[Instr]) -> Value
         return Value::I32(0);
     };
     match first {
-        Instr::Plain(PlainInstr::Numeric(NumericInstr::Const(value))) => *value,
+        Instr::Plain(PlainInstr::Const(value)) => *value,
         _ => Value::I32(0),
     }
 }

@@ -39,7 +39,6 @@ use Rattle.interp_machine.specs.Config.{Config, Progress, Fresh, Halfway, Asked,
 use Rattle.interp_machine.specs.Program.{zero_of, program_of, function_of_body, opening_table}
 use Rattle.interp_machine.specs.Step.{on_some, branches, with_rest, waits, enters, opens, calls_own, calls_spawn, calls, calls_place, same_type}
 use Rattle.interp_machine.specs.Step.{half, loads, stores, atomics, computes, chosen, does, runs, limited, hears, next_by, next}
-use Rattle.interp_control.specs.Numbers.{IsOperator}
 use Rattle.interp_control.proofs.Numbers.{Fine, Fault, works}
 use Rattle.interp_state.specs.Stands.{due}
 use Rattle.interp_state.proofs.Places.{Slot, slot_of}
@@ -232,21 +231,12 @@ module _ (m : Parts) (v : IsValid m) (whole : length m.functions ≡ length m.bo
 
   -- ---- Numbers and accesses
 
-  operator : (rest : Code) (ops : List Value) (below middle : List ValType) (n : NumericInstr) → IsOperator n → HasType x labels rest middle ends →
+  numeric_instr : (rest : Code) (ops : List Value) (below middle : List ValType) (n : NumericInstr) → HasType x labels rest middle ends →
       map type_of ops ≡ numeric_takes n ++ below → middle ≡ numeric_gives n ∷ below → IsGood m (computes c rest (numeric_result n ops))
-  operator rest ops below middle n o r h g = elim (works n ops [] below o h) as (λ _. IsGood m (computes c rest (numeric_result n ops))) [
+  numeric_instr rest ops below middle n r h g = elim (works n ops [] below h) as (λ _. IsGood m (computes c rest (numeric_result n ops))) [
     | Fine u left e f i j k ↦ rw e (on rest middle r (u ∷ left) (on_top_of u left (numeric_gives n) below i j ∙ sym g))
     | Fault t e f ↦ rw e tt
   ]
-
-  numeric_instr : (rest : Code) (ops : List Value) (below middle : List ValType) (n : NumericInstr) → HasType x labels rest middle ends →
-      map type_of ops ≡ numeric_takes n ++ below → middle ≡ numeric_gives n ∷ below → IsGood m (computes c rest (numeric_result n ops))
-  numeric_instr rest ops below middle (numeric.Const u) r h g = on rest middle r (u ∷ ops) (ap (λ (ts : List ValType). type_of u ∷ ts) h ∙ sym g)
-  numeric_instr rest ops below middle (numeric.Unary t op) r h g = operator rest ops below middle (numeric.Unary t op) tt r h g
-  numeric_instr rest ops below middle (numeric.Binary t op) r h g = operator rest ops below middle (numeric.Binary t op) tt r h g
-  numeric_instr rest ops below middle (numeric.Test t) r h g = operator rest ops below middle (numeric.Test t) tt r h g
-  numeric_instr rest ops below middle (numeric.Compare t op) r h g = operator rest ops below middle (numeric.Compare t op) tt r h g
-  numeric_instr rest ops below middle (numeric.Convert op) r h g = operator rest ops below middle (numeric.Convert op) tt r h g
 
   module _ (here : HasType x labels c.frame.code (map type_of c.frame.operands) ends) where
     halved : (n : ℕ) → IsTyped m (half c n)
@@ -370,6 +360,8 @@ module _ (m : Parts) (v : IsValid m) (whole : length m.functions ≡ length m.bo
         let y = global_slot i f.0 f.1 in
         top m f.0.val_type f.3.0 c.frame.operands _ f.3.1 (λ u below a d. some m _ y.value _ y.is
         (goes_behind rest below c.frame.locals (slice_set c.globals i u) (at_types rest middle r (map type_of below) (d ∙ sym f.3.2)) locals (y.keeps u a ∙ globals)))
+    doing (plain.Const u) rest middle f r =
+        on rest middle r (u ∷ c.frame.operands) (ap (λ (ts : List ValType). type_of u ∷ ts) f.1 ∙ sym f.2)
     doing (plain.Numeric n) rest middle f r = numeric_instr rest c.frame.operands f.0 middle n r f.1 f.2
     doing (plain.Load op arg) rest middle f r =
         number m types.I32 f.2.0 c.frame.operands _ f.2.1 (λ base below d. loading op (base + arg.offset) rest below f.2.0 middle r d f.2.2 c.progress)

@@ -2,7 +2,6 @@
 use Rattle.std.specs.Prelude.{ℕ, [], ◌∷◌, Some, None, false, true}
 use Rattle.types.specs.declared.value.ValType.TheVariants.{I32, I64}
 use Rattle.types.specs.declared.value.Value.TheVariants as values
-use Rattle.types.specs.declared.operators.NumericInstr.TheVariants as numeric
 use Rattle.types.specs.declared.operators.AccessWidth.TheVariants as access
 use Rattle.types.specs.declared.operators.MemArg.{MemArg}
 use Rattle.types.specs.declared.instr.PlainInstr.{PlainInstr}
@@ -13,7 +12,7 @@ use Rattle.interp_machine.specs.Program.{Program, Function}
 use Rattle.interp_machine.specs.State.{State, At, start_in}
 
 abbrev pub const : ℕ → PlainInstr
-const n = plain.Numeric (numeric.Const (values.I32 n))
+const n = plain.Const (values.I32 n)
 
 -- A program of one function without parameters, with one result of type i32, and its start.
 abbrev pub one_type : FuncType
@@ -57,7 +56,7 @@ no_offset = record { align = 3; offset = 0 }
 
 abbrev pub two_word_store : Code
 two_word_store =
-    Then (const 4) (Then (plain.Numeric (numeric.Const (values.I64 0x1122334455667788)))
+    Then (const 4) (Then (plain.Const (values.I64 0x1122334455667788))
     (Then (plain.Store (access.Whole I64) no_offset) (Then (const 0) Empty)))
 
 -- A program of three functions, of which the second gives 42 and the third has another type, and a table of three places: the second

@@ -84,7 +84,6 @@ on_two n t u answer is meaning operands low below h =
     a.typed)
 
 pub works : (n : NumericInstr) (operands low : List Value) (below : List ValType) → map type_of operands ≡ numeric_takes n ++ below → Works n operands low below
-works (instrs.Const v) operands low below h = Leaves v operands refl refl refl h
 works (instrs.Unary t op) operands low below h =
     on_one (instrs.Unary t op) t (λ i. value_of t (unary_result (width t) op i)) (λ operands. refl)
     (λ i. type_of-value_of t _) operands low below h

@@ -9,7 +9,6 @@ use Rattle.types.specs.declared.event.Event.TheVariants as events
 use Rattle.types.specs.declared.event.Entry.{Entry}
 use Rattle.types.specs.declared.event.Reply.{Reply}
 use Rattle.types.specs.declared.event.Reply.TheVariants as replies
-use Rattle.types.specs.declared.operators.NumericInstr.TheVariants as numeric
 use Rattle.types.specs.declared.operators.AccessWidth.TheVariants as access
 use Rattle.types.specs.declared.operators.AtomicOp.TheVariants as atomic
 use Rattle.types.specs.declared.instr.PlainInstr.TheVariants as plain
@@ -40,7 +39,7 @@ module _ (a v : ℕ) where
   add = Then (plain.Atomic (atomic.Rmw ops.Add (access.Whole types.I32)) whole_word) Empty
 
   abbrev second : Code
-  second = Then (plain.Numeric (numeric.Const (values.I32 v))) add
+  second = Then (plain.Const (values.I32 v)) add
 
   -- before the first turn, behind each constant, and behind the add
   abbrev pub c0 : Config

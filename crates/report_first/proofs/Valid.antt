@@ -4,7 +4,6 @@ use Rattle.std.proofs.lemmas.List.Elements.{All-nil, All-cons}
 use Rattle.types.specs.declared.value.ValType.TheVariants.{I32}
 use Rattle.types.specs.declared.value.Value.TheVariants as values
 use Rattle.types.specs.declared.event.RmwOp.TheVariants as ops
-use Rattle.types.specs.declared.operators.NumericInstr.TheVariants as numeric
 use Rattle.types.specs.declared.operators.AccessWidth.TheVariants as access
 use Rattle.types.specs.declared.operators.AtomicOp.TheVariants as atomic
 use Rattle.types.specs.declared.instr.PlainInstr.TheVariants as plain
@@ -26,7 +25,7 @@ module _ (a v : ℕ) where
   context = in_function (context_of m) first_type (first_body a v)
 
   nested : Code
-  nested = Then (plain.Numeric (numeric.Const (values.I32 a))) (Then (plain.Numeric (numeric.Const (values.I32 v)))
+  nested = Then (plain.Const (values.I32 a)) (Then (plain.Const (values.I32 v))
       (Then (plain.Atomic (atomic.Rmw ops.Add (access.Whole I32)) whole_word) Empty))
 
   has_memory : HasMemory context

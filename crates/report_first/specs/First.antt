@@ -5,7 +5,6 @@ use Rattle.std.specs.List.{splice}
 use Rattle.types.specs.declared.value.ValType.TheVariants as types
 use Rattle.types.specs.declared.value.Value.TheVariants as values
 use Rattle.types.specs.declared.event.RmwOp.TheVariants as ops
-use Rattle.types.specs.declared.operators.NumericInstr.TheVariants as numeric
 use Rattle.types.specs.declared.operators.AccessWidth.TheVariants as access
 use Rattle.types.specs.declared.operators.AtomicOp.TheVariants as atomic
 use Rattle.types.specs.declared.operators.MemArg.{MemArg}
@@ -52,7 +51,7 @@ whole_word = record { align = 2; offset = 0 }
 -- Two constants, the add, and the function's end.
 abbrev pub first_code : ℕ → ℕ → List Instr
 first_code address addend =
-    instrs.Plain (plain.Numeric (numeric.Const (values.I32 address))) ∷ instrs.Plain (plain.Numeric (numeric.Const (values.I32 addend)))
+    instrs.Plain (plain.Const (values.I32 address)) ∷ instrs.Plain (plain.Const (values.I32 addend))
     ∷ instrs.Plain (plain.Atomic (atomic.Rmw ops.Add (access.Whole types.I32)) whole_word) ∷ instrs.End ∷ []
 
 abbrev pub first_body : ℕ → ℕ → Body

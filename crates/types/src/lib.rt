@@ -31,5 +31,5 @@ pub use parts::{
     Body, DataSegment, ElementSegment, Export, ExportDesc, FuncType, Global, GlobalType, Import,
     ImportDesc, Limits, Parts,
 };
-pub use sequence::{Name, Sequence};
+pub use sequence::{Labels, Name, Sequence};
 pub use value::{ValType, Value};

@@ -4,7 +4,7 @@ ghost use Rattle.std.specs.Prelude.{◌≡◌};
 ghost use Rattle.types.specs.Widths.{narrow_type, narrow_bytes, access_type, access_bytes, load_type, load_bytes, atomic_bytes};
 
 use crate::event::RmwOp;
-use crate::value::{ValType, Value};
+use crate::value::ValType;
 
 /// An operator on one operand (Core specification 1.0, section 2.4.1, `iunop`).
 #[derive(Clone, Copy, PartialEq, Eq, Debug)]
@@ -63,11 +63,10 @@ pub enum ConvertOp {
     SignExtend(NarrowWidth),
 }
 
-/// A numeric instruction (Core specification 1.0, section 2.4.1): it takes operands from the stack and puts
-/// its result there, and does nothing else.
+/// A numeric instruction (Core specification 1.0, section 2.4.1) but a constant: it takes operands from the stack and
+/// puts its result there, and does nothing else.
 #[derive(Clone, Copy, PartialEq, Eq, Debug)]
 pub enum NumericInstr {
-    Const(Value),
     Unary(ValType, UnaryOp),
     Binary(ValType, BinaryOp),
     /// `eqz`, the one test.

@@ -1,6 +1,7 @@
 //! Vectors and names as contracts see them: lists.
-ghost use Rattle.std.specs.Prelude.{◌≡◌, length};
+ghost use Rattle.std.specs.Prelude.{◌≡◌, length, IfOk};
 
+use std::alloc::{AllocError, Global};
 use std::marker::Model;
 
 /// A vector (Core specification 1.0, section 2.1.2). In contracts it is the list of its items, so that two
@@ -65,6 +66,60 @@ impl<T: Eq> Eq for Sequence<T> {
     ghost use Rattle.std.specs.Cmp.Lexicographic.{lists_equiv};
 
     ghost laws = { lists_equiv T.Eq.laws };
+}
+
+/// The labels of a `br_table` by index (Core specification 1.0, section 2.4.5), in 8 bytes of an instruction. In
+/// contracts it is their list.
+#[derive(Drop, Debug)]
+pub struct Labels {
+    items: Box<Sequence<u32>>,
+}
+
+impl Model for Labels {
+    ghost use Rattle.std.specs.Prelude.{List, ℕ};
+
+    ghost Value = { List ℕ };
+
+    ghost view = { λ l. l.items.value };
+}
+
+impl Labels {
+    /// A sequence as labels.
+    pub fn new(alloc: Global, items: Sequence<u32>) -> Result<Labels, AllocError>
+        ensures { IfOk result (λ labels. labels ≡ items) }
+    {
+        Ok(Labels {
+            items: Box::new(alloc, items)?,
+        })
+    }
+
+    /// The labels as a slice.
+    pub fn as_slice(&self) -> &[u32]
+        ensures { result.now ≡ self.now }
+    {
+        self.items.as_slice()
+    }
+}
+
+/// Equal labels in equal number.
+impl PartialEq for Labels {
+    ghost use Rattle.std.specs.Prelude.{nat_eq};
+    ghost use Rattle.std.specs.Cmp.{partial_equiv_from_equiv};
+    ghost use Rattle.std.specs.Cmp.Lexicographic.{pointwise, nat_list_eq_equiv};
+
+    ghost eq = { λ x y. pointwise nat_eq x y };
+
+    ghost laws = { partial_equiv_from_equiv nat_list_eq_equiv };
+
+    fn eq(&self, other: &Self) -> bool {
+        self.as_slice() == other.as_slice()
+    }
+}
+
+impl Eq for Labels {
+    ghost use Rattle.std.specs.Cmp.Lexicographic.{nat_list_eq_equiv};
+
+    ghost laws = { nat_list_eq_equiv };
 }
 
 /// A name: a text in UTF-8 (Core specification 1.0, section 2.2.4). In contracts it is the list of its bytes.

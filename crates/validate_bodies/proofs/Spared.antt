@@ -54,6 +54,7 @@ plain_spared c labels (plain.LocalSet x) = lacking_spared (slice_get c.locals x)
 plain_spared c labels (plain.LocalTee x) = lacking_spared (slice_get c.locals x) faults.UnknownLocal (λ e. cc)
 plain_spared c labels (plain.GlobalGet x) = lacking_spared (slice_get c.globals x) faults.UnknownGlobal (λ e. cc)
 plain_spared c labels (plain.GlobalSet x) = written_spared (slice_get c.globals x)
+plain_spared c labels (plain.Const v) = λ e. cc
 plain_spared c labels (plain.Numeric n) = λ e. cc
 plain_spared c labels (plain.Load op arg) = access_spared (slice_get c.memories 0) _
 plain_spared c labels (plain.Store w arg) = access_spared (slice_get c.memories 0) _

@@ -56,6 +56,7 @@ kind_of c labels (plain.LocalSet x) = lacking (slice_get c.locals x) UnknownLoca
 kind_of c labels (plain.LocalTee x) = lacking (slice_get c.locals x) UnknownLocal
 kind_of c labels (plain.GlobalGet x) = lacking (slice_get c.globals x) UnknownGlobal
 kind_of c labels (plain.GlobalSet x) = written_kind (slice_get c.globals x)
+kind_of c labels (plain.Const v) = TypeMismatch
 kind_of c labels (plain.Numeric n) = TypeMismatch
 kind_of c labels (plain.Load op arg) = access_kind (slice_get c.memories 0) (nat_le (2 ^ arg.align) (load_bytes op))
 kind_of c labels (plain.Store w arg) = access_kind (slice_get c.memories 0) (nat_le (2 ^ arg.align) (access_bytes w))

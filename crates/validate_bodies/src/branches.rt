@@ -14,7 +14,7 @@ use crate::block::{BlockLabel, Flow, OpenBlock};
 use crate::operands::{put_result, take_one, take_result};
 use crate::problem::Problem;
 use crate::scope::Scope;
-use types::{Sequence, ValType};
+use types::{Labels, ValType};
 use validate_typing::{Fault, Target};
 
 /// The label with this index: of the innermost block, or of one around it.
@@ -138,7 +138,7 @@ pub fn check_br_table(
     scope: &Scope,
     block: &mut OpenBlock,
     outer: &[OpenBlock],
-    indices: &Sequence<u32>,
+    indices: &Labels,
     default_index: u32,
     row: &mut Vec<Target>,
 ) -> Result<(), Problem>

@@ -2,13 +2,14 @@
 
 ghost use Rattle.std.specs.Prelude.{[], ◌∷◌, MatchResult};
 ghost use Rattle.validate_typing.specs.Typing.{numeric_takes, numeric_gives};
+ghost use Rattle.types.specs.Values.{type_of};
 ghost use Rattle.types.specs.declared.instr.PlainInstr.TheVariants as plain;
 ghost use Rattle.validate_bodies.specs.Blocks.{Moved, CantMove, ChecksAnywhere};
 
 use crate::block::OpenBlock;
 use crate::operands::replace;
 use crate::problem::Problem;
-use types::{ConvertOp, NumericInstr, ValType};
+use types::{ConvertOp, NumericInstr, ValType, Value};
 
 /// The operands of a numeric instruction and its result.
 fn replace_numbers(block: &mut OpenBlock, instr: NumericInstr) -> Result<(), Problem>
@@ -16,7 +17,6 @@ fn replace_numbers(block: &mut OpenBlock, instr: NumericInstr) -> Result<(), Pro
         (CantMove (numeric_takes instr) block.old) }
 {
     match instr {
-        NumericInstr::Const(value) => replace(block, &[], Some(value.val_type())),
         NumericInstr::Unary(t, _) => replace(block, &[t], Some(t)),
         NumericInstr::Binary(t, _) => replace(block, &[t, t], Some(t)),
         NumericInstr::Test(t) => replace(block, &[t], Some(ValType::I32)),
@@ -39,7 +39,21 @@ fn replace_numbers(block: &mut OpenBlock, instr: NumericInstr) -> Result<(), Pro
     }
 }
 
-/// A numeric instruction.
+/// The result of a constant.
+fn put_constant(block: &mut OpenBlock, value: Value) -> Result<(), Problem>
+    ensures { MatchResult result (λ _. Moved [] (type_of value ∷ []) block.old block.new) (CantMove [] block.old) }
+{
+    replace(block, &[], Some(value.val_type()))
+}
+
+/// `i32.const` and `i64.const`
+pub fn check_const(block: &mut OpenBlock, value: Value) -> Result<(), Problem>
+    ensures { ChecksAnywhere (plain.Const value) block.old block.new result }
+{
+    put_constant(block, value)
+}
+
+/// Any other numeric instruction.
 pub fn check_numeric(block: &mut OpenBlock, instr: NumericInstr) -> Result<(), Problem>
     ensures { ChecksAnywhere (plain.Numeric instr) block.old block.new result }
 {

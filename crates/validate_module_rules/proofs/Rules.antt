@@ -10,7 +10,6 @@ use Rattle.std.proofs.lemmas.Slice.Eq.{bytes_eq-Decides}
 use Rattle.types.specs.declared.value.ValType.{ValType}
 use Rattle.types.specs.declared.value.ValType.TheVariants.{I32}
 use Rattle.types.specs.declared.value.Value.{Value}
-use Rattle.types.specs.declared.operators.NumericInstr.TheVariants as numeric
 use Rattle.types.specs.declared.instr.PlainInstr.TheVariants as plain
 use Rattle.types.specs.declared.instr.Instr.{Instr}
 use Rattle.types.specs.declared.instr.Instr.TheVariants as instrs
@@ -133,8 +132,8 @@ Tells-memories memories =
 -- globals
 
 constant_is : (code : List Instr) (v : Value) → constant_in code ≡ Some v → IsConstant code v
-constant_is (instrs.Plain (plain.Numeric (numeric.Const w)) ∷ (instrs.End ∷ [])) v h =
-    ap (λ x. instrs.Plain (plain.Numeric (numeric.Const x)) ∷ (instrs.End ∷ [])) (let e : w ≡ v = cc in e)
+constant_is (instrs.Plain (plain.Const w) ∷ (instrs.End ∷ [])) v h =
+    ap (λ x. instrs.Plain (plain.Const x) ∷ (instrs.End ∷ [])) (let e : w ≡ v = cc in e)
 constant_is _ v h = cc
 
 constant_at : (code : List Instr) (v : Value) → IsConstant code v → constant_in code ≡ Some v

@@ -4,7 +4,7 @@ ghost use Rattle.std.specs.Prelude.{◌≡◌};
 ghost use Rattle.validate_typing.specs.Image.{offset_of};
 ghost use Rattle.validate_module_rules.specs.Faults.{constant_in, constant_fault, global_fault, first_of};
 
-use types::{Global, Instr, NumericInstr, PlainInstr, ValType, Value};
+use types::{Global, Instr, PlainInstr, ValType, Value};
 use validate_typing::Fault;
 
 /// The value of an expression that is exactly one integer constant and `end` (Core specification 1.0, section 3.3.7).
@@ -12,10 +12,7 @@ fn constant(code: &[Instr]) -> Option<Value>
     ensures { result ≡ constant_in code.now }
 {
     match code {
-        [
-            Instr::Plain(PlainInstr::Numeric(NumericInstr::Const(value))),
-            Instr::End,
-        ] => Some(*value),
+        [Instr::Plain(PlainInstr::Const(value)), Instr::End] => Some(*value),
         _ => None,
     }
 }
@@ -39,7 +36,7 @@ pub fn offset(code: &[Instr]) -> u32
         return 0;
     };
     match first {
-        Instr::Plain(PlainInstr::Numeric(NumericInstr::Const(Value::I32(number)))) => *number,
+        Instr::Plain(PlainInstr::Const(Value::I32(number))) => *number,
         _ => 0,
     }
 }

@@ -6,8 +6,8 @@ use std::process::Abort;
 use std::test::Fail;
 use types::{
     AccessWidth, AtomicOp, BinaryOp, Body, CompareOp, ConvertOp, FuncType, Global, GlobalType,
-    Instr, Limits, LoadOp, MemArg, Module, NarrowWidth, NumericInstr, PlainInstr, RmwOp, Sequence,
-    ValType, Value,
+    Instr, Labels, Limits, LoadOp, MemArg, Module, NarrowWidth, NumericInstr, PlainInstr, RmwOp,
+    Sequence, ValType, Value,
 };
 use validate_bodies::{Declared, check_body};
 use validate_typing::{Fault, Table, Target, ValidFault};
@@ -29,7 +29,8 @@ fn br_table(alloc: Alloc, text: &str) -> Result<PlainInstr, Fail> {
         labels.push(label.parse::<u32>()?)?;
     }
     let default = labels.pop().unwrap_or(0);
-    Ok(PlainInstr::BrTable(Sequence::from_vec(labels), default))
+    let labels = Labels::new(alloc, Sequence::from_vec(labels))?;
+    Ok(PlainInstr::BrTable(labels, default))
 }
 
 fn block_type(text: &str) -> Option<ValType> {
@@ -104,8 +105,6 @@ fn with_number(name: &str, number: u32) -> PlainInstr {
 
 fn numeric(name: &str) -> Option<NumericInstr> {
     match name {
-        "i32" => Some(NumericInstr::Const(Value::I32(1))),
-        "i64" => Some(NumericInstr::Const(Value::I64(1))),
         "add" => Some(NumericInstr::Binary(I32, BinaryOp::Add)),
         "lt64" => Some(NumericInstr::Compare(I64, CompareOp::LtS)),
         "eqz64" => Some(NumericInstr::Test(I64)),
@@ -115,9 +114,11 @@ fn numeric(name: &str) -> Option<NumericInstr> {
     }
 }
 
-/// An instruction that is its name alone, without those that make a number.
+/// An instruction that is its name alone, without the operators.
 fn bare(name: &str) -> Option<PlainInstr> {
     match name {
+        "i32" => Some(PlainInstr::Const(Value::I32(1))),
+        "i64" => Some(PlainInstr::Const(Value::I64(1))),
         "unreachable" => Some(PlainInstr::Unreachable),
         "return" => Some(PlainInstr::Return),
         "drop" => Some(PlainInstr::Drop),

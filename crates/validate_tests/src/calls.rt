@@ -5,7 +5,7 @@ use crate::sections::with_exports;
 use std::alloc::{AllocError, Global as Alloc};
 use std::process::Abort;
 use std::test::Fail;
-use types::{Instr, NumericInstr, PlainInstr, Value};
+use types::{Instr, PlainInstr, Value};
 use validate_module_rules::{IndexSpaces, exported_function, fault_outside_bodies, offset};
 use validate_typing::{Fault, Place, Table, Target, ValidFault, expression_stands_for_one_nesting};
 
@@ -113,7 +113,7 @@ fn keeps_rows(rt: HostRuntime) -> Result<(), Fail> {
 /// What is read of a constant as an offset.
 fn offset_of(alloc: Alloc, value: Value) -> Result<u32, AllocError> {
     let mut code = Vec::new(alloc);
-    code.push(Instr::Plain(PlainInstr::Numeric(NumericInstr::Const(value))))?;
+    code.push(Instr::Plain(PlainInstr::Const(value)))?;
     code.push(Instr::End)?;
     Ok(offset(&code))
 }

@@ -6,13 +6,13 @@ use std::alloc::{AllocError, Global as Alloc};
 use std::process::Abort;
 use std::test::Fail;
 use types::{
-    Body, ElementSegment, Export, ExportDesc, Global, GlobalType, Instr, Limits, Name,
-    NumericInstr, Parts, PlainInstr, Sequence, ValType, Value,
+    Body, ElementSegment, Export, ExportDesc, Global, GlobalType, Instr, Limits, Name, Parts,
+    PlainInstr, Sequence, ValType, Value,
 };
 
 const I32: ValType = ValType::I32;
 
-const ZERO: Instr = Instr::Plain(PlainInstr::Numeric(NumericInstr::Const(Value::I32(0))));
+const ZERO: Instr = Instr::Plain(PlainInstr::Const(Value::I32(0)));
 
 /// How many there are of each: parameters and locals of each function, globals, functions, functions in the table, and
 /// bytes of the one export's name; operands at once, and operands below a block.

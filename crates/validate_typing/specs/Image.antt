@@ -2,7 +2,6 @@
 use Rattle.std.specs.Prelude.{ℕ, ◌+◌, ◌*◌, Bool, false, List, [], ◌∷◌, length, replicate, Option, Some, None}
 use Rattle.std.specs.List.{slice_get, splice, fold}
 use Rattle.types.specs.declared.value.Value.TheVariants as values
-use Rattle.types.specs.declared.operators.NumericInstr.TheVariants as numeric
 use Rattle.types.specs.declared.instr.PlainInstr.TheVariants as plain
 use Rattle.types.specs.declared.instr.Instr.{Instr}
 use Rattle.types.specs.declared.instr.Instr.TheVariants as instrs
@@ -40,7 +39,7 @@ is_shared (Some l) = l.shared
 
 -- The number of a constant expression of type i32.
 abbrev pub offset_of : List Instr → ℕ
-offset_of (instrs.Plain (plain.Numeric (numeric.Const (values.I32 n))) ∷ rest) = n
+offset_of (instrs.Plain (plain.Const (values.I32 n)) ∷ rest) = n
 offset_of _ = 0
 
 -- A data segment is written over the bytes before (section 4.5.4).

@@ -31,7 +31,6 @@ results_of (Some t) = t ∷ []
 
 -- What a numeric instruction takes (section 3.3.1).
 abbrev pub numeric_takes : NumericInstr → List ValType
-numeric_takes (numeric.Const v) = []
 numeric_takes (numeric.Unary t op) = t ∷ []
 numeric_takes (numeric.Binary t op) = t ∷ (t ∷ [])
 numeric_takes (numeric.Test t) = t ∷ []
@@ -43,7 +42,6 @@ numeric_takes (numeric.Convert (convert.SignExtend w)) = narrow_type w ∷ []
 
 -- What a numeric instruction gives (section 3.3.1).
 abbrev pub numeric_gives : NumericInstr → ValType
-numeric_gives (numeric.Const v) = type_of v
 numeric_gives (numeric.Unary t op) = t
 numeric_gives (numeric.Binary t op) = t
 numeric_gives (numeric.Test t) = I32
@@ -114,6 +112,7 @@ Fits c labels (plain.LocalTee x) from to = (t : ValType) × (slice_get c.locals 
 Fits c labels (plain.GlobalGet x) from to = (g : GlobalType) × (slice_get c.globals x ≡ Some g) × Moves [] (g.val_type ∷ []) from to
 Fits c labels (plain.GlobalSet x) from to =
     (g : GlobalType) × (slice_get c.globals x ≡ Some g) × (g.mutable ≡ true) × Moves (g.val_type ∷ []) [] from to
+Fits c labels (plain.Const v) from to = Moves [] (type_of v ∷ []) from to
 Fits c labels (plain.Numeric n) from to = Moves (numeric_takes n) (numeric_gives n ∷ []) from to
 Fits c labels (plain.Load op arg) from to = HasMemory c × IsAligned arg (load_bytes op) × Moves (I32 ∷ []) (load_type op ∷ []) from to
 Fits c labels (plain.Store w arg) from to = HasMemory c × IsAligned arg (access_bytes w) × Moves (access_type w ∷ (I32 ∷ [])) [] from to

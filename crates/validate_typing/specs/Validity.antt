@@ -7,7 +7,6 @@ use Rattle.types.specs.declared.value.ValType.{ValType}
 use Rattle.types.specs.declared.value.ValType.TheVariants.{I32, I64}
 use Rattle.types.specs.declared.value.Value.{Value}
 use Rattle.types.specs.declared.value.Value.TheVariants as values
-use Rattle.types.specs.declared.operators.NumericInstr.TheVariants as numeric
 use Rattle.types.specs.declared.instr.PlainInstr.TheVariants as plain
 use Rattle.types.specs.declared.instr.Instr.{Instr}
 use Rattle.types.specs.declared.instr.Instr.TheVariants as instrs
@@ -62,7 +61,7 @@ IsValidMemory l = IsOrdered l × (l.shared ≡ true → (n : ℕ) × (l.max ≡ 
 
 -- A constant expression: one integer constant (section 3.3.7; there is no imported global that it could get).
 abbrev pub IsConstant : List Instr → Value → Type 0
-IsConstant code v = code ≡ instrs.Plain (plain.Numeric (numeric.Const v)) ∷ (instrs.End ∷ [])
+IsConstant code v = code ≡ instrs.Plain (plain.Const v) ∷ (instrs.End ∷ [])
 
 -- A global begins with a constant of its type (section 3.4.4).
 abbrev pub IsValidGlobal : Global → Type 0

@@ -13,6 +13,9 @@ returns-in-Drop c = rw c.in-Drop.is (checks_stand _ _ _ _ _ _ _ c.requires c.che
 pub returns-in-Select : goal.returns-in-Select
 returns-in-Select c = rw c.in-Select.is (checks_any _ _ _ _ _ _ _ c.requires c.check_select.ensures)
 
+pub returns-in-Const : goal.returns-in-Const
+returns-in-Const c = rw c.in-Const.is (checks_any _ _ _ _ _ _ _ c.requires c.check_const.ensures)
+
 pub returns-in-Numeric : goal.returns-in-Numeric
 returns-in-Numeric c = rw c.in-Numeric.is (checks_any _ _ _ _ _ _ _ c.requires c.check_numeric.ensures)
 
