@@ -1,3 +1,4 @@
+pub mod Words
 pub mod Views
 pub mod Events
 pub mod Places

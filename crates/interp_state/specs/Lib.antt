@@ -1,3 +1,4 @@
+pub mod Words
 pub mod Stands
 pub mod Steps
 pub mod Branches

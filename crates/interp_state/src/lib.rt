@@ -7,7 +7,7 @@ mod stack;
 mod state;
 mod steps;
 
-pub use functions::{Code, code_of};
-pub use stack::{pop, pop_i32, pop_i64, push, push_zeros, replace_top, top, top_i32, top_i64};
+pub use functions::{Code, code_of, type_of_function};
+pub use stack::{pop, pop_i32, push, push_zeros, replace_top, top, top_i32, value_of, word};
 pub use state::{Caller, Program, Progress, State, Step};
 pub use steps::came_to;

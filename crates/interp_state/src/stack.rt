@@ -1,19 +1,42 @@
-//! The stack of values.
+//! The stack of values, each of which is a word of 64 bits.
 
-ghost use Rattle.std.specs.Prelude.{◌≡◌, ◌+◌, ◌<◌, ◌≤◌, List, [], ◌∷◌, ◌++◌, length, map, reverse, vec_len, vec_capacity};
+ghost use Rattle.std.specs.Prelude.{◌≡◌, ℕ, ◌+◌, ◌<◌, ◌≤◌, List, [], ◌∷◌, ◌++◌, length, replicate, reverse, vec_len, vec_capacity};
 ghost use Rattle.types.specs.declared.value.ValType.{ValType};
-ghost use Rattle.types.specs.declared.value.Value.{Value};
 ghost use Rattle.types.specs.Values.{type_of};
-ghost use Rattle.validate_typing.specs.Typing.{HasOnTop};
-ghost use Rattle.interp_machine.specs.Program.{zero_of};
+ghost use Rattle.interp_state.specs.Words.{word_of, IsWord, HasWords};
 
 use types::{ValType, Value};
 
-/// Takes the topmost value.
+/// The word of a value: its number.
+#[inline(always)]
+pub fn word(value: Value) -> u64
+    ensures word { result ≡ word_of value }
+    ensures in_range { IsWord (type_of value) (word_of value) }
+{
+    match value {
+        Value::I32(number) => u64::from(number),
+        Value::I64(number) => number,
+    }
+}
+
+/// The value of a type that a word means.
+#[inline(always)]
+pub fn value_of(val_type: ValType, word: u64) -> Value
+    requires { IsWord val_type word }
+    ensures typed { type_of result ≡ val_type }
+    ensures word { word_of result ≡ word }
+{
+    match val_type {
+        ValType::I32 => Value::I32(word as u32),
+        ValType::I64 => Value::I64(word),
+    }
+}
+
+/// Takes the topmost word.
 #[inline]
-pub fn pop(values: &mut Vec<Value>) -> Value
+pub fn pop(values: &mut Vec<u64>) -> u64
     requires { 0 < length values.old.items }
-    ensures value { reverse values.old.items ≡ result ∷ reverse values.new.items }
+    ensures word { reverse values.old.items ≡ result ∷ reverse values.new.items }
     ensures capacity { vec_capacity values.new ≡ vec_capacity values.old }
 {
     values.take_last()
@@ -21,104 +44,62 @@ pub fn pop(values: &mut Vec<Value>) -> Value
 
 /// Takes the topmost number of 32 bits.
 #[inline]
-pub fn pop_i32(values: &mut Vec<Value>) -> u32
-    requires { HasOnTop (ValType.I32 ∷ []) (map type_of (reverse values.old.items)) }
-    ensures value { reverse values.old.items ≡ Value.I32 result ∷ reverse values.new.items }
+pub fn pop_i32(values: &mut Vec<u64>) -> u32
+    requires { HasWords (ValType.I32 ∷ []) (reverse values.old.items) }
+    ensures word { reverse values.old.items ≡ result ∷ reverse values.new.items }
     ensures capacity { vec_capacity values.new ≡ vec_capacity values.old }
 {
-    match values.take_last() {
-        Value::I32(number) => number,
-        _ => unreachable!(),
-    }
+    pop(values) as u32
 }
 
-/// Takes the topmost number of 64 bits.
-#[inline]
-pub fn pop_i64(values: &mut Vec<Value>) -> u64
-    requires { HasOnTop (ValType.I64 ∷ []) (map type_of (reverse values.old.items)) }
-    ensures value { reverse values.old.items ≡ Value.I64 result ∷ reverse values.new.items }
-    ensures capacity { vec_capacity values.new ≡ vec_capacity values.old }
-{
-    match values.take_last() {
-        Value::I64(number) => number,
-        _ => unreachable!(),
-    }
-}
-
-/// The topmost value.
+/// The topmost word.
 #[inline(always)]
-pub fn top(values: &Vec<Value>) -> Value
+pub fn top(values: &Vec<u64>) -> u64
     requires { 0 < length values.now.items }
-    ensures { (below : List Value) × (reverse values.now.items ≡ result ∷ reverse below) }
+    ensures { (below : List ℕ) × (reverse values.now.items ≡ result ∷ reverse below) }
 {
     values[values.len() - 1]
 }
 
 /// The topmost number of 32 bits.
 #[inline(always)]
-pub fn top_i32(values: &Vec<Value>) -> u32
-    requires { HasOnTop (ValType.I32 ∷ []) (map type_of (reverse values.now.items)) }
-    ensures { (below : List Value) × (reverse values.now.items ≡ Value.I32 result ∷ reverse below) }
+pub fn top_i32(values: &Vec<u64>) -> u32
+    requires { HasWords (ValType.I32 ∷ []) (reverse values.now.items) }
+    ensures { (below : List ℕ) × (reverse values.now.items ≡ result ∷ reverse below) }
 {
-    match values[values.len() - 1] {
-        Value::I32(operand) => operand,
-        Value::I64(_) => unreachable!(),
-    }
+    top(values) as u32
 }
 
-/// The topmost number of 64 bits.
+/// Puts a word in the place of the topmost one.
 #[inline(always)]
-pub fn top_i64(values: &Vec<Value>) -> u64
-    requires { HasOnTop (ValType.I64 ∷ []) (map type_of (reverse values.now.items)) }
-    ensures { (below : List Value) × (reverse values.now.items ≡ Value.I64 result ∷ reverse below) }
-{
-    match values[values.len() - 1] {
-        Value::I64(operand) => operand,
-        Value::I32(_) => unreachable!(),
-    }
-}
-
-/// Puts a value in the place of the topmost one.
-#[inline(always)]
-pub fn replace_top(values: &mut Vec<Value>, value: Value)
+pub fn replace_top(values: &mut Vec<u64>, word: u64)
     requires { 0 < length values.old.items }
-    ensures value { (top : Value) (below : List Value) → reverse values.old.items ≡ top ∷ reverse below
-        → reverse values.new.items ≡ value ∷ reverse below }
+    ensures word { (top : ℕ) (below : List ℕ) → reverse values.old.items ≡ top ∷ reverse below
+        → reverse values.new.items ≡ word ∷ reverse below }
     ensures capacity { vec_capacity values.new ≡ vec_capacity values.old }
 {
     let last = values.len() - 1;
-    values[last] = value;
+    values[last] = word;
 }
 
-/// Puts a value on top.
+/// Puts a word on top.
 #[inline]
-pub fn push(values: &mut Vec<Value>, value: Value)
+pub fn push(values: &mut Vec<u64>, word: u64)
     requires { vec_len values.old < vec_capacity values.old }
-    ensures value { reverse values.new.items ≡ value ∷ reverse values.old.items }
+    ensures word { reverse values.new.items ≡ word ∷ reverse values.old.items }
     ensures capacity { vec_capacity values.new ≡ vec_capacity values.old }
 {
-    values.push_reserved(value);
+    values.push_reserved(word);
 }
 
-/// The zero of a type, with which a local begins (Core specification 1.0, section 4.4.7).
+/// Puts so many zeros on top: the word of the zero of either type (Core specification 1.0, section 4.4.7).
 #[inline]
-fn zero(val_type: ValType) -> Value
-    ensures { result ≡ zero_of val_type }
-{
-    match val_type {
-        ValType::I32 => Value::I32(0),
-        ValType::I64 => Value::I64(0),
-    }
-}
-
-/// Puts a zero of each type on top.
-#[inline]
-pub fn push_zeros(values: &mut Vec<Value>, val_types: &[ValType])
-    requires { vec_len values.old + length val_types.now ≤ vec_capacity values.old }
-    ensures items { values.new.items ≡ values.old.items ++ map zero_of val_types.now }
+pub fn push_zeros(values: &mut Vec<u64>, count: usize)
+    requires { vec_len values.old + count ≤ vec_capacity values.old }
+    ensures items { values.new.items ≡ values.old.items ++ replicate count 0 }
     ensures capacity { vec_capacity values.new ≡ vec_capacity values.old }
 {
-    for val_type in val_types {
-        values.push_reserved(zero(*val_type));
+    for _ in 0..count {
+        values.push_reserved(0);
     }
 }
