@@ -11,4 +11,4 @@ overflow_add-state c =
     let h : c.args.state.now.pc < length c.args.state.now.code.now = slice_get_within _ _ _ c.requires.here in search rules
 
 pub returns : goal.returns
-returns c = λ w k v st. drops w c.args.state.now _ k c.pop.result st c.requires c.pop.ensures.value refl refl refl refl
+returns c = λ w k v st. drops w c.args.state.now _ k c.pop.result st c.requires c.pop.ensures.word refl refl refl refl

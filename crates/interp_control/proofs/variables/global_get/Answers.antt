@@ -1,4 +1,4 @@
-use Rattle.std.proofs.Common.{rules, ◌≡◌, ◌≢◌, ◌<◌, length, refl}
+use Rattle.std.proofs.Common.{rules, ◌≡◌, ◌≢◌, ◌<◌, length, reverse, ◌∷◌, refl, ◌∙◌, ap}
 use Rattle.std.proofs.lemmas.Option.{slice_get_within}
 use Rattle.types.specs.Limits.{most_values}
 use Rattle.interp_control.proofs.Slots.{global_get_ready, global_get_full, global_gets}
@@ -18,4 +18,5 @@ returns-then-len-eq-MOST_VALUES c = let e : length c.args.state.now.values.items
 pub returns : goal.returns
 returns c = let e : length c.args.state.now.values.items ≢ most_values = search rules in
     λ w k v st. global_gets w c.args.state.now _ k c.args.index c.index-value.result.now st c.requires
-    c.index-value.ensures c.push.ensures.value e refl refl refl refl
+    c.index-value.ensures (c.push.ensures.word ∙ ap (λ z. z ∷ reverse c.args.state.now.values.items) c.word.ensures.word)
+    c.word.ensures.in_range e refl refl refl refl

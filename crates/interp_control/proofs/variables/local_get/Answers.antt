@@ -21,4 +21,4 @@ returns-then-len-eq-MOST_VALUES c = let e : length c.args.state.now.values.items
 pub returns : goal.returns
 returns c = let e : length c.args.state.now.values.items ≢ most_values = search rules in
     λ w k v st. local_gets w c.args.state.now _ k c.args.index c.index-value.result.now st c.requires
-    c.index-value.ensures c.push.ensures.value e refl refl refl refl
+    c.index-value.ensures c.push.ensures.word e refl refl refl refl

@@ -12,8 +12,8 @@ pop-value-requires c = local_set_ready c.args.state.now c.args.index c.requires
 
 pub index_mut-requires : goal.index_mut-requires
 index_mut-requires c = let h = local_set_place c.args.state.now c.args.index c.pop-value.result
-    c.pop-value.new.values.items c.requires c.pop-value.ensures.value in search rules
+    c.pop-value.new.values.items c.requires c.pop-value.ensures.word in search rules
 
 pub returns : goal.returns
 returns c = λ w k v st. local_sets w c.args.state.now _ k c.args.index c.pop-value.result c.pop-value.new.values.items
-    st c.requires c.pop-value.ensures.value refl refl refl refl refl
+    st c.requires c.pop-value.ensures.word refl refl refl refl refl
