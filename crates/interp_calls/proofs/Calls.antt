@@ -19,7 +19,6 @@ use Rattle.types.specs.declared.event.Question.TheVariants.{Spawn}
 use Rattle.types.specs.Nesting.{Code, Then}
 use Rattle.types.specs.Values.{type_of}
 use Rattle.types.specs.Limits.{most_values}
-use Rattle.validate_typing.specs.Typing.{HasOnTop}
 use Rattle.validate_typing.specs.Placed.{Flat, goes_on}
 use Rattle.validate_typing.specs.Context.{imported_functions, functions_of}
 use Rattle.validate_typing.specs.Tabled.{WithTables, IsValidated}
@@ -33,6 +32,8 @@ use Rattle.interp_state.specs.declared.state.Step.{Step}
 use Rattle.interp_state.specs.declared.state.Step.TheVariants.{Wants}
 use Rattle.interp_state.specs.Stands.{belows, values_on, FrameAt, Stands}
 use Rattle.interp_state.specs.Steps.{Steps, Replies, ComesNext, IsAt}
+use Rattle.interp_state.specs.Words.{word_of, Mean, HasWords}
+use Rattle.interp_state.proofs.Words.{means_long, means_same}
 use Rattle.interp_state.proofs.Views.{AtPlain, Still, still, all_values, values_long, frame_behind, remade}
 use Rattle.interp_state.proofs.Events.{fresh_not_asked, at_undue, wants, replies}
 use Rattle.interp_state.proofs.Branch.{split_types, front_is}
@@ -61,7 +62,7 @@ pub record CallsOwn (w : WithTables) (s old : State) (c : Config) (st : Stands w
   pub typed : slice_get w.parts.types index ≡ Some t
   pub midway : Midway s old
   pub operands_typed : map type_of operands ≡ reverse t.params ++ tail
-  pub values : reverse old.values.items ≡ operands ++ (belows c.frame.labels ++ (reverse c.frame.locals ++ st.lower))
+  pub values : Mean (reverse old.values.items) (operands ++ (belows c.frame.labels ++ (reverse c.frame.locals ++ st.lower)))
 
 pub can_enter : (w : WithTables) (s old : State) (c : Config) (st : Stands w s c) (rest : Code)
     (operands : List Value) (f index : ℕ) (t : FuncType) (tail : List ValType) →
@@ -83,7 +84,7 @@ can_enter w s old c st rest operands f index t tail v bodies x room place =
       arguments =
           (let a = ap length x.operands_typed in let b = length-map operands type_of in
           let d = length-append (reverse t.params) tail in let e = length-reverse t.params in
-          let g = ap length x.values in let h = length-reverse old.values.items in
+          let g = means_long _ _ x.values in let h = length-reverse old.values.items in
           let i = length-append operands (belows c.frame.labels ++ (reverse c.frame.locals ++ st.lower)) in
           omega arith);
       room = room;
@@ -110,9 +111,9 @@ enters_own w s old n c st step rest operands f index t tail v bodies fresh x wai
     let split = split_types (reverse t.params) tail operands x.operands_typed in
     let body : slice_get (program_of w.parts).bodies own ≡ Some (function_of_body k.body) =
     slice_get-map function_of_body w.parts.bodies own ∙ ap (option_map function_of_body) k.body_is in
-    let whole : reverse old.values.items ≡ split.kept ++ values_on (waiting_frame c.frame rest split.gone) st.lower =
-    x.values ∙ ap (λ (y : List Value). y ++ (belows c.frame.labels ++ (reverse c.frame.locals ++ st.lower)))
-    split.whole ∙ append_assoc split.kept split.gone _ in
+    let whole : Mean (reverse old.values.items) (split.kept ++ values_on (waiting_frame c.frame rest split.gone) st.lower) =
+    means_same _ _ _ (ap (λ (y : List Value). y ++ (belows c.frame.labels ++ (reverse c.frame.locals ++ st.lower))) split.whole
+    ∙ append_assoc split.kept split.gone _) x.values in
     opening w s old n c st step rest split.kept split.gone own _ (own_of w own index t k) v x.midway fresh split.kept_typed
     (wait split.gone split.gone_typed) whole (subst (λ (i : ℕ). IsEntered old i step n) at e)
     (r ∙ own_is (program_of w.parts) c f t (function_of_body k.body) rest operands x.own body
@@ -128,7 +129,7 @@ pub record Spawns (w : WithTables) (s : State) (c : Config) (st : Stands w s c) 
   pub below : List Value
   pub runs : runs (program_of w.parts) c c.frame.code c.frame.operands ≡ Asks (Ask (Spawn arg)) (λ _. waits c rest below)
   pub frame : FrameAt st.body (types.I32 ∷ []) (waiting_frame c.frame rest below) (s.pc + 1)
-  pub values : reverse s.values.items ≡ above ++ (values.I32 arg ∷ values_on (waiting_frame c.frame rest below) st.lower)
+  pub values : Mean (reverse s.values.items) (above ++ (values.I32 arg ∷ values_on (waiting_frame c.frame rest below) st.lower))
 
 -- how many values stay
 left_values : (w : WithTables) (s : State) (c : Config) (st : Stands w s c) (above : List Value) (x : Spawns w s c st above) →
@@ -137,9 +138,9 @@ left_values w s c st above x =
     let waiting = waiting_frame c.frame x.rest x.below in
     let low = values_long waiting st.lower in
     let all : values_in c.frame + length st.lower ≡ length s.values.items =
-    sym (values_long c.frame st.lower) ∙ sym (ap length st.values) ∙ length-reverse s.values.items in
+    sym (values_long c.frame st.lower) ∙ sym (means_long _ _ st.values) ∙ length-reverse s.values.items in
     let callers : sum_by values_in c.callers ≡ length st.lower = let p = all_values w s c st in omega arith in
-    let count = ap length x.values in let turned = length-reverse s.values.items in
+    let count = means_long _ _ x.values in let turned = length-reverse s.values.items in
     let parts = length-append above (values.I32 x.arg ∷ values_on waiting st.lower) in
     omega arith
 
@@ -158,13 +159,17 @@ spawn_wants w s c st above x arg f e =
 pub spawn_replied : (w : WithTables) (s n : State) (c : Config) (st : Stands w s c) (above : List Value)
     (x : Spawns w s c st above) (number : ℕ) → s.progress ≢ Asked →
     still n ≡ still s → n.pc ≡ s.pc + 1 → n.progress ≡ Asked → n.globals.items ≡ s.globals.items →
-    reverse n.values.items ≡ values_on (waiting_frame c.frame x.rest x.below) st.lower → Replies w (next (program_of w.parts) c) number n
+    Mean (reverse n.values.items) (values_on (waiting_frame c.frame x.rest x.below) st.lower) → Replies w (next (program_of w.parts) c) number n
 spawn_replied w s n c st above x number u e k p g v =
     let less : length n.values.items < most_values =
-    (let a = ap length v in let b = length-reverse n.values.items in let d = ap length x.values in let f = length-reverse s.values.items in
+    (let a = means_long _ _ v in let b = length-reverse n.values.items in let d = means_long _ _ x.values in let f = length-reverse s.values.items in
     let h = length-append above (values.I32 x.arg ∷ values_on (waiting_frame c.frame x.rest x.below) st.lower) in let i = st.room in omega arith) in
     replies w s n c (Ask (Spawn x.arg)) (λ _. waits c x.rest x.below) number st u (left_room w s c st above x) x.runs
     (remade w s n c st (waiting_frame c.frame x.rest x.below) c.globals Asked (rw k x.frame) e p v (omega (arith, less)) refl (g ∙ st.globals) refl tt less)
+
+-- what is left below the topmost word
+pub means_below : (words left : List ℕ) (w : ℕ) (v : Value) (more : List Value) → Mean words (v ∷ more) → words ≡ w ∷ left → Mean left more
+means_below words left w v more m e = let a = m.are in record { are = cc; in_range = m.in_range.1 }
 
 -- a number of 32 bits on top
 pub record Number (vs : List Value) (ts : List ValType) : Type 0 where
@@ -240,22 +245,22 @@ call_spawns w s c st f v k x =
       runs = x.runs ∙ spawn_is (program_of w.parts) c f x.func_type x.at.rest c.frame.operands top.below top.number low top.is;
       frame = waits_there w s c st (plain.Call f) x.at (types.I32 ∷ []) x.tail top.below refl (x.middle
           ∙ ap (λ (ts : List ValType). ts ++ x.tail) spawn.1) top.typed;
-      values = st.values ∙ ap (λ (y : List Value). y ++ (belows c.frame.labels ++ (reverse c.frame.locals ++ st.lower))) top.is;
+      values = means_same _ _ _ (ap (λ (y : List Value). y ++ (belows c.frame.labels ++ (reverse c.frame.locals ++ st.lower))) top.is) st.values;
     }
 
 pub call_asks : (s : State) (f : ℕ) → ComesNext s (Plain (plain.Call f)) → f < s.program.imported
-    → HasOnTop (types.I32 ∷ []) (map type_of (reverse s.values.items))
+    → HasWords (types.I32 ∷ []) (reverse s.values.items)
 call_asks s f b k =
     let w = b.sound.0 in let c = b.sound.1 in let st = b.sound.3 in
     let x = call_spawns w s c st f b.sound.2 k (call_at w s c f st b.here (fresh_not_asked s b.fresh)) in
-    (map type_of (values_on (waiting_frame c.frame x.rest x.below) st.lower), ap (map type_of) x.values)
+    (_, x.values, (map type_of (values_on (waiting_frame c.frame x.rest x.below) st.lower), refl))
 
-pub call_wants : (w : WithTables) (s : State) (c : Config) (f arg : ℕ) (below : List Value) → IsValidated w
+pub call_wants : (w : WithTables) (s : State) (c : Config) (f arg : ℕ) (below : List ℕ) → IsValidated w
     → Stands w s c → ComesNext s (Plain (plain.Call f)) →
-    f < s.program.imported → reverse s.values.items ≡ values.I32 arg ∷ below → Steps w c (next (program_of w.parts) c) (Wants (Ask (Spawn arg))) s
+    f < s.program.imported → reverse s.values.items ≡ arg ∷ below → Steps w c (next (program_of w.parts) c) (Wants (Ask (Spawn arg))) s
 call_wants w s c f arg below v st b k h =
     let x = call_spawns w s c st f v k (call_at w s c f st b.here (fresh_not_asked s b.fresh)) in
-    let same : values.I32 arg ∷ below ≡ values.I32 x.arg ∷ values_on (waiting_frame c.frame x.rest x.below) st.lower = sym h ∙ x.values in
+    let same : arg ∷ below ≡ x.arg ∷ map word_of (values_on (waiting_frame c.frame x.rest x.below) st.lower) = sym h ∙ x.values.are in
     spawn_wants w s c st [] x arg b.fresh cc
 
 -- of a function of the module itself

@@ -1,8 +1,8 @@
 -- A function that is opened over its arguments is the machine's step.
-use Rattle.std.proofs.Common.{◌≡◌, ℕ, suc, ◌+◌, ◌<◌, ◌≤◌, List, [], ◌∷◌, ◌++◌, length, map, reverse, sum_by}
+use Rattle.std.proofs.Common.{◌≡◌, ℕ, suc, ◌+◌, ◌<◌, ◌≤◌, List, [], ◌∷◌, ◌++◌, length, map, replicate, reverse, sum_by}
 use Rattle.std.proofs.Common.{slice_get, nat_lt, true, false, inl, inr, refl, sym, ◌∙◌, ap, subst, arith}
 use Rattle.std.proofs.Common.{append_assoc, length-append}
-use Rattle.std.proofs.lemmas.List.{length-reverse, length-map, map-append, reverse-append, reverse-reverse}
+use Rattle.std.proofs.lemmas.List.{length-reverse, length-map, length-replicate, map-append, reverse-append, reverse-reverse}
 use Rattle.std.proofs.lemmas.List.Sums.{sum_by-cons}
 use Rattle.std.proofs.lemmas.Bool.{cases_lt}
 use Rattle.types.specs.declared.value.ValType.{ValType}
@@ -32,6 +32,8 @@ use Rattle.interp_state.specs.declared.state.Step.{Step}
 use Rattle.interp_state.specs.declared.state.Step.TheVariants.{Trapped}
 use Rattle.interp_state.specs.Stands.{values_on, FrameAt, IsOwn, IsProgram, AreCallers, Stands, reached}
 use Rattle.interp_state.specs.Steps.{Steps}
+use Rattle.interp_state.specs.Words.{word_of, AreInRange, Mean}
+use Rattle.interp_state.proofs.Words.{in_range_both, means_both, means_long, means_same, means_words, zeros_are}
 use Rattle.interp_state.proofs.Views.{Still, still, moved, next_fresh, no_room, not_due, all_values, values_long}
 use Rattle.interp_calls.specs.Entering.{IsOwnFunction, IsOpened, IsEntered, caller_of}
 
@@ -53,17 +55,17 @@ zeros_typed [] = refl
 zeros_typed (types.I32 ∷ ts) = ap (λ (x : List ValType). types.I32 ∷ x) (zeros_typed ts)
 zeros_typed (types.I64 ∷ ts) = ap (λ (x : List ValType). types.I64 ∷ x) (zeros_typed ts)
 
-types_reversed : (vs : List Value) → map type_of (reverse vs) ≡ reverse (map type_of vs)
-types_reversed [] = refl
-types_reversed (v ∷ vs) =
-    ap (map type_of) (reverse-append (v ∷ []) vs) ∙ map-append type_of (reverse vs) (v ∷ [])
-    ∙ ap (λ (x : List ValType). x ++ (type_of v ∷ [])) (types_reversed vs) ∙ sym (reverse-append (type_of v ∷ []) (map type_of vs))
+map_reversed : {B : Type 0} (f : Value → B) (vs : List Value) → map f (reverse vs) ≡ reverse (map f vs)
+map_reversed f [] = refl
+map_reversed f (v ∷ vs) =
+    ap (map f) (reverse-append (v ∷ []) vs) ∙ map-append f (reverse vs) (v ∷ [])
+    ∙ ap (λ x. x ++ (f v ∷ [])) (map_reversed f vs) ∙ sym (reverse-append (f v ∷ []) (map f vs))
 
 pub locals_typed : (args : List Value) (params locals : List ValType) → map type_of args ≡ reverse params →
     map type_of (reverse args ++ map zero_of locals) ≡ params ++ locals
 locals_typed args params locals h =
     map-append type_of (reverse args) (map zero_of locals)
-    ∙ ap (λ (x : List ValType). x ++ map type_of (map zero_of locals)) (types_reversed args ∙ ap reverse h ∙ reverse-reverse params)
+    ∙ ap (λ (x : List ValType). x ++ map type_of (map zero_of locals)) (map_reversed type_of args ∙ ap reverse h ∙ reverse-reverse params)
     ∙ ap (λ (x : List ValType). params ++ x) (zeros_typed locals)
 
 tabled : (w : WithTables) (own : ℕ) (b : Flat) (o : IsOwn w own b) → IsValidated w → IsTabled (flat_body w.parts o.func_type o.body o.rows)
@@ -89,10 +91,31 @@ turned_over args zeros lower =
     sym (append_assoc (reverse zeros) args lower)
     ∙ ap (λ x. x ++ lower) (ap (λ x. reverse zeros ++ x) (sym (reverse-reverse args)) ∙ sym (reverse-append (reverse args) zeros))
 
-values_opened : (old new args zeros lower : List Value) → reverse old ≡ args ++ lower → new ≡ old ++ zeros →
-    reverse new ≡ reverse (reverse args ++ zeros) ++ lower
-values_opened old new args zeros lower h e =
-    ap reverse e ∙ reverse-append old zeros ∙ ap (λ x. reverse zeros ++ x) h ∙ turned_over args zeros lower
+in_range_reversed : (vs : List Value) → AreInRange vs → AreInRange (reverse vs)
+in_range_reversed [] h = tt
+in_range_reversed (v ∷ vs) h =
+    subst AreInRange (sym (reverse-append (v ∷ []) vs)) (in_range_both (reverse vs) (v ∷ []) (in_range_reversed vs h.1) (h.0, tt))
+
+-- words and values the other way round
+means_reversed : (words : List ℕ) (vs : List Value) → Mean words vs → Mean (reverse words) (reverse vs)
+means_reversed words vs m = record { are = ap reverse m.are ∙ sym (map_reversed word_of vs); in_range = in_range_reversed vs m.in_range }
+
+opened_long : (old new : List ℕ) (n : ℕ) → new ≡ old ++ replicate n 0 → length new ≡ length old + n
+opened_long old new n e =
+    let zeros : List ℕ = replicate n 0 in
+    let z : length zeros ≡ n = length-replicate n 0 in
+    let a : length new ≡ length (old ++ zeros) = ap length e in
+    let b = length-append old zeros in
+    omega arith
+
+-- the arguments and the zeros are the locals
+values_opened : (old new : List ℕ) (args lower : List Value) (locals : List ValType) → Mean (reverse old) (args ++ lower) →
+    new ≡ old ++ replicate (length locals) 0 → Mean (reverse new) (reverse (reverse args ++ map zero_of locals) ++ lower)
+values_opened old new args lower locals h e =
+    let zeros = replicate (length locals) 0 in
+    let both = means_both (reverse zeros) (reverse old) (reverse (map zero_of locals)) (args ++ lower) (means_reversed zeros _ (zeros_are locals)) h in
+    means_words (reverse new) (reverse zeros ++ reverse old) _ (ap reverse e ∙ reverse-append old zeros)
+    (means_same _ _ _ (turned_over args (map zero_of locals) lower) both)
 
 -- ---- The state
 
@@ -134,7 +157,7 @@ opened_stands : (w : WithTables) (s old n : State) (c : Config) (st : Stands w s
     (args below : List Value) (own : ℕ) (b : Flat) (o : IsOwn w own b) →
     IsValidated w → Midway s old → s.progress ≡ Fresh → map type_of args ≡ reverse o.func_type.params →
     FrameAt st.body b.context.results (waiting_frame c.frame rest below) (s.pc + 1) →
-    reverse old.values.items ≡ args ++ values_on (waiting_frame c.frame rest below) st.lower →
+    Mean (reverse old.values.items) (args ++ values_on (waiting_frame c.frame rest below) st.lower) →
     length n.callers.items < most_frames → length n.values.items ≤ most_values → IsOpened old n own o.func_type o.body o.rows →
     Stands w n (record (inner c rest args below o.func_type (function_of_body o.body)) { progress = NotBegun })
 opened_stands w s old n c st rest args below own b o v m fresh at f h few room x =
@@ -142,7 +165,7 @@ opened_stands w s old n c st rest args below own b o v m fresh at f h few room x
     let long : length args ≡ length o.func_type.params =
     (let p = ap length at in let q = length-map args type_of in let r = length-reverse o.func_type.params in omega arith) in
     let count : length old.values.items ≡ length args + length lower =
-    (let p = ap length h in let q = length-reverse old.values.items in let r = length-append args lower in omega arith) in
+    (let p = means_long _ _ h in let q = length-reverse old.values.items in let r = length-append args lower in omega arith) in
     let results : b.context.results ≡ o.func_type.results = ap (λ (y : Flat). y.context.results) o.flat in
     let progress : n.progress ≡ Fresh = x.progress ∙ m.progress ∙ fresh in
     record {
@@ -153,11 +176,12 @@ opened_stands w s old n c st rest args below own b o v m fresh at f h few room x
       code = ap (λ (y : Flat). y.code) o.flat ∙ sym x.code;
       rows = ap (λ (y : Flat). y.rows) o.flat ∙ sym x.table;
       frame = rw (x.pc, o.flat) (frame_of w.parts o.func_type o.body o.rows args (tabled w own b o v) at);
-      values = values_opened old.values.items n.values.items args (map zero_of o.body.locals) lower h x.values;
+      values = values_opened old.values.items n.values.items args lower o.body.locals h x.values;
       base = let p = x.base in omega arith;
       operands =
-          (let p = x.operands in let q = ap length x.values ∙ length-append old.values.items (map zero_of o.body.locals) in
-          let r = length-append (reverse args) (map zero_of o.body.locals) in let t = length-reverse args in omega arith);
+          (let p = x.operands in let q = opened_long old.values.items n.values.items (length o.body.locals) x.values in
+          let r = length-append (reverse args) (map zero_of o.body.locals) in let z = length-map o.body.locals zero_of in
+          let t = length-reverse args in omega arith);
       results = x.results ∙ ap length (sym results);
       callers = rw x.callers (callers_wait w s old c st rest below b.context.results m f);
       globals = x.globals ∙ m.globals ∙ st.globals;
@@ -174,16 +198,16 @@ opened_stands w s old n c st rest args below own b o v m fresh at f h few room x
 
 -- how many values there are with those of the opened function
 opened_values : (w : WithTables) (s old : State) (c : Config) (st : Stands w s c) (rest : Code) (args below : List Value) (t : FuncType) (body : Body) →
-    reverse old.values.items ≡ args ++ values_on (waiting_frame c.frame rest below) st.lower →
+    Mean (reverse old.values.items) (args ++ values_on (waiting_frame c.frame rest below) st.lower) →
     values_of (inner c rest args below t (function_of_body body)) ≡ length old.values.items + length body.locals
 opened_values w s old c st rest args below t body h =
     let waiting = waiting_frame c.frame rest below in
     let lower = values_on waiting st.lower in
     let count : length old.values.items ≡ length args + length lower =
-    (let p = ap length h in let q = length-reverse old.values.items in let r = length-append args lower in omega arith) in
+    (let p = means_long _ _ h in let q = length-reverse old.values.items in let r = length-append args lower in omega arith) in
     let low = values_long waiting st.lower in
     let all : values_in c.frame + length st.lower ≡ length s.values.items =
-    sym (values_long c.frame st.lower) ∙ sym (ap length st.values) ∙ length-reverse s.values.items in
+    sym (values_long c.frame st.lower) ∙ sym (means_long _ _ st.values) ∙ length-reverse s.values.items in
     let callers : sum_by values_in c.callers ≡ length st.lower = let p = all_values w s c st in omega arith in
     let new = length-append (reverse args) (map zero_of body.locals) in let turned = length-reverse args in let zeros = length-map body.locals zero_of in
     let sum = sum_by-cons values_in waiting c.callers in
@@ -210,7 +234,7 @@ pub opening : (w : WithTables) (s old n : State) (c : Config) (st : Stands w s c
     (args below : List Value) (own : ℕ) (b : Flat) (o : IsOwn w own b) →
     IsValidated w → Midway s old → s.progress ≡ Fresh → map type_of args ≡ reverse o.func_type.params →
     FrameAt st.body b.context.results (waiting_frame c.frame rest below) (s.pc + 1) →
-    reverse old.values.items ≡ args ++ values_on (waiting_frame c.frame rest below) st.lower → IsEntered old own step n →
+    Mean (reverse old.values.items) (args ++ values_on (waiting_frame c.frame rest below) st.lower) → IsEntered old own step n →
     runs (program_of w.parts) c c.frame.code c.frame.operands ≡ opens c (inner c rest args below o.func_type (function_of_body o.body)) →
     Steps w c (next (program_of w.parts) c) step n
 opening w s old n c st step rest args below own b o v m fresh at f h x r =
@@ -239,8 +263,7 @@ opening w s old n c st step rest args below own b o v m fresh at f h x r =
                 let callers : length n.callers.items < most_frames =
                 (let a = ap length y.1.callers in let d = length-reverse n.callers.items in let g = length-reverse old.callers.items in omega arith) in
                 let values : length n.values.items ≤ most_values =
-                (let a = ap length y.1.values in let d = length-append old.values.items (map zero_of o.body.locals) in
-                let g = length-map o.body.locals zero_of in omega arith) in
+                (let a = opened_long old.values.items n.values.items (length o.body.locals) y.1.values in omega arith) in
                 let stands = opened_stands w s old n c st rest args below own b o v m fresh at f h callers values y.1 in
                 rw y.0 (moved w s n c (record after { progress = NotBegun }) st fresh stands
                 (goes ∙ ap (λ q. Goes (record after { progress = q })) (not_due w s c st fresh)))

@@ -1,7 +1,7 @@
 -- Calls that started a thread: the question was asked.
 use Rattle.std.proofs.Common.{◌≡◌, ℕ, ◌+◌, ◌-◌, ◌<◌, ◌≤◌, List, [], ◌∷◌, length, reverse, take, drop, Option, Some}
-use Rattle.std.proofs.Common.{None, slice_get, nat_lt, nat_le, Bool, true, false, if◌then◌else◌, inl, inr, sym, ◌∙◌}
-use Rattle.std.proofs.Common.{ap, subst, arith}
+use Rattle.std.proofs.Common.{None, slice_get, nat_lt, nat_le, Bool, true, false, if◌then◌else◌, inl, inr, sym}
+use Rattle.std.proofs.Common.{subst, arith}
 use Rattle.std.proofs.lemmas.List.{length-reverse}
 use Rattle.std.proofs.lemmas.Bool.{cases_lt}
 use Rattle.types.specs.declared.value.Value.{Value}
@@ -18,12 +18,13 @@ use Rattle.interp_machine.specs.Program.{Program, Function, program_of}
 use Rattle.interp_machine.specs.Step.{next, limited, opens, calls, calls_own, calls_spawn, on_some}
 use Rattle.interp_state.specs.declared.state.State.{State}
 use Rattle.interp_state.specs.declared.state.Progress.TheVariants.{Asked}
-use Rattle.interp_state.specs.Stands.{values_on, Stands}
+use Rattle.interp_state.specs.Stands.{Stands}
 use Rattle.interp_state.specs.Steps.{Replies, Wanting, IsAsking}
 use Rattle.interp_state.proofs.Views.{still}
 use Rattle.interp_state.proofs.Events.{undue, next_limited, not_asked}
-use Rattle.interp_calls.proofs.Opening.{waiting_frame, inner}
-use Rattle.interp_calls.proofs.Calls.{spawn_replied, call_at, call_spawns}
+use Rattle.interp_state.proofs.Words.{means_long}
+use Rattle.interp_calls.proofs.Opening.{inner}
+use Rattle.interp_calls.proofs.Calls.{spawn_replied, means_below, call_at, call_spawns}
 
 -- ---- What asks nothing
 
@@ -71,12 +72,11 @@ call_imported s f b =
 pub call_pops : (s : State) (f : ℕ) → Wanting s (Plain (plain.Call f)) → 0 < length s.values.items
 call_pops s f b =
     let st = b.stands in let x = call_spawns b.tables s b.config st f b.valid (call_imported s f b) (call_at b.tables s b.config f st b.here (not_asked s _ b)) in
-    let a = ap length x.values in let d = length-reverse s.values.items in omega arith
+    let a = means_long _ _ x.values in let d = length-reverse s.values.items in omega arith
 
-pub call_heard : (w : WithTables) (s n : State) (c : Config) (f number : ℕ) (v : Value) → IsValidated w → Stands w s c → Wanting s (Plain (plain.Call f)) →
-    still n ≡ still s → n.pc ≡ s.pc + 1 → n.progress ≡ Asked → n.globals.items ≡ s.globals.items → reverse s.values.items ≡ v ∷ reverse n.values.items →
+pub call_heard : (w : WithTables) (s n : State) (c : Config) (f number word : ℕ) → IsValidated w → Stands w s c → Wanting s (Plain (plain.Call f)) →
+    still n ≡ still s → n.pc ≡ s.pc + 1 → n.progress ≡ Asked → n.globals.items ≡ s.globals.items → reverse s.values.items ≡ word ∷ reverse n.values.items →
     Replies w (next (program_of w.parts) c) number n
-call_heard w s n c f number v valid st b e k p g h =
+call_heard w s n c f number word valid st b e k p g h =
     let x = call_spawns w s c st f valid (call_imported s f b) (call_at w s c f st b.here (not_asked s _ b)) in
-    let both : v ∷ reverse n.values.items ≡ values.I32 x.arg ∷ values_on (waiting_frame c.frame x.rest x.below) st.lower = sym h ∙ x.values in
-    spawn_replied w s n c st [] x number (not_asked s _ b) e k p g cc
+    spawn_replied w s n c st [] x number (not_asked s _ b) e k p g (means_below _ _ word (values.I32 x.arg) _ x.values h)

@@ -21,7 +21,6 @@ use Rattle.types.specs.declared.outcome.Trap.TheVariants as traps
 use Rattle.types.specs.Nesting.{Code, Then}
 use Rattle.types.specs.Values.{type_of}
 use Rattle.types.specs.Limits.{most_values}
-use Rattle.validate_typing.specs.Typing.{HasOnTop}
 use Rattle.validate_typing.specs.Context.{imported_functions, functions_of}
 use Rattle.validate_typing.specs.Tabled.{WithTables, IsValidated}
 use Rattle.interp_machine.specs.Config.{Config, Traps}
@@ -34,13 +33,15 @@ use Rattle.interp_state.specs.declared.state.Step.{Step}
 use Rattle.interp_state.specs.declared.state.Step.TheVariants.{Trapped, Wants}
 use Rattle.interp_state.specs.Stands.{belows, values_on, IsProgram, Stands}
 use Rattle.interp_state.specs.Steps.{Steps, Replies, ComesNext, Wanting, IsAsking, IsAt}
+use Rattle.interp_state.specs.Words.{word_of, Mean, HasWords}
+use Rattle.interp_state.proofs.Words.{means_long, means_same}
 use Rattle.interp_state.proofs.Views.{AtPlain, still}
 use Rattle.interp_state.proofs.Events.{fresh_not_asked, undue, at_undue, next_limited, not_asked}
 use Rattle.interp_calls.specs.Entering.{CanEnter, IsEntered, HasBodies, FunctionHasType}
 use Rattle.interp_calls.proofs.Opening.{Midway, waiting_frame}
 use Rattle.interp_calls.proofs.Functions.{spawn_type, in_table, Typed, typed_function, equal_types}
 use Rattle.interp_calls.proofs.Calls.{waits_there, CallsOwn, can_enter, enters_own}
-use Rattle.interp_calls.proofs.Calls.{Spawns, spawn_wants, spawn_replied, number_on, types_are, spawn_is}
+use Rattle.interp_calls.proofs.Calls.{Spawns, spawn_wants, spawn_replied, means_below, number_on, types_are, spawn_is}
 use Rattle.interp_calls.proofs.Replied.{own_asks}
 
 -- ---- The place and the stated type
@@ -57,7 +58,7 @@ pub record IndirectAt (w : WithTables) (s : State) (c : Config) (st : Stands w s
   pub middle : at.middle ≡ stated.results ++ tail
   pub runs : runs (program_of w.parts) c c.frame.code c.frame.operands ≡
       calls_place (program_of w.parts) c stated at.rest operands (slice_get (opening_table w.parts) place)
-  pub values : reverse s.values.items ≡ values.I32 place ∷ (operands ++ (belows c.frame.labels ++ (reverse c.frame.locals ++ st.lower)))
+  pub values : Mean (reverse s.values.items) (values.I32 place ∷ (operands ++ (belows c.frame.labels ++ (reverse c.frame.locals ++ st.lower))))
 
 indirect_runs : (p : Program) (c : Config) (type_index place : ℕ) (t : FuncType) (rest : Code) (operands : List Value) →
     c.frame.code ≡ Then (plain.CallIndirect type_index) rest → slice_get p.types type_index ≡ Some t → c.frame.operands ≡ values.I32 place ∷ operands →
@@ -82,7 +83,7 @@ indirect_at w s c type_index st h u =
       operands_typed = top.typed;
       middle = fits.2.2.2;
       runs = indirect_runs (program_of w.parts) c type_index top.number fits.2.0 at.rest top.below at.code_is typed top.is;
-      values = st.values ∙ ap (λ (y : List Value). y ++ (belows c.frame.labels ++ (reverse c.frame.locals ++ st.lower))) top.is;
+      values = means_same _ _ _ (ap (λ (y : List Value). y ++ (belows c.frame.labels ++ (reverse c.frame.locals ++ st.lower))) top.is) st.values;
     }
 
 -- ---- The tests
@@ -113,11 +114,11 @@ pub record Tested (w : WithTables) (s : State) (c : Config) (st : Stands w s c) 
   pub typed : slice_get w.parts.types index ≡ Some at.stated
   pub runs : runs (program_of w.parts) c c.frame.code c.frame.operands ≡ calls (program_of w.parts) c f at.stated at.at.rest at.operands
 
-same_place : (w : WithTables) (s : State) (c : Config) (st : Stands w s c) (type_index place : ℕ) (below : List Value) (x : IndirectAt w s c st type_index) →
-    reverse s.values.items ≡ values.I32 place ∷ below → x.place ≡ place
+same_place : (w : WithTables) (s : State) (c : Config) (st : Stands w s c) (type_index place : ℕ) (below : List ℕ) (x : IndirectAt w s c st type_index) →
+    reverse s.values.items ≡ place ∷ below → x.place ≡ place
 same_place w s c st type_index place below x h =
-    let both : values.I32 x.place ∷ (x.operands ++ (belows c.frame.labels ++ (reverse c.frame.locals ++ st.lower))) ≡
-    values.I32 place ∷ below = sym x.values ∙ h in cc
+    let both : x.place ∷ map word_of (x.operands ++ (belows c.frame.labels ++ (reverse c.frame.locals ++ st.lower))) ≡ place ∷ below =
+    sym x.values.are ∙ h in cc
 
 -- what the table has at the place
 element_is : (w : WithTables) (s : State) (c : Config) (st : Stands w s c) (type_index place : ℕ) (o : Option (Option ℕ)) (x : IndirectAt w s c st type_index) →
@@ -132,8 +133,8 @@ placed_runs : (w : WithTables) (s : State) (c : Config) (st : Stands w s c) (typ
 placed_runs w s c st type_index place o x e h =
     x.runs ∙ ap (calls_place (program_of w.parts) c x.stated x.at.rest x.operands) (element_is w s c st type_index place o x e h)
 
-pub tested : (w : WithTables) (s : State) (c : Config) (st : Stands w s c) (type_index place f : ℕ) (below : List Value) (found stated : FuncType) →
-    IndirectAt w s c st type_index → reverse s.values.items ≡ values.I32 place ∷ below → slice_get s.program.elements.items place ≡ Some (Some f) →
+pub tested : (w : WithTables) (s : State) (c : Config) (st : Stands w s c) (type_index place f : ℕ) (below : List ℕ) (found stated : FuncType) →
+    IndirectAt w s c st type_index → reverse s.values.items ≡ place ∷ below → slice_get s.program.elements.items place ≡ Some (Some f) →
     FunctionHasType s.program f found → slice_get s.program.parts.now.types type_index ≡ Some stated
     → same_type found stated ≡ true → Tested w s c st type_index place f
 tested w s c st type_index place f below found stated x h e k i same =
@@ -168,18 +169,19 @@ indirect_spawns w s c st type_index place f v k x =
       runs = x.runs ∙ spawn_is (program_of w.parts) c f x.at.stated x.at.at.rest x.at.operands top.below top.number low top.is;
       frame = waits_there w s c st (plain.CallIndirect type_index) x.at.at (types.I32 ∷ []) x.at.tail top.below refl
           (x.at.middle ∙ ap (λ (ts : List ValType). ts ++ x.at.tail) spawn.1) top.typed;
-      values = x.at.values ∙ ap (λ (n : ℕ). values.I32 n ∷ (x.at.operands ++ (belows c.frame.labels ++ (reverse c.frame.locals ++ st.lower)))) x.place_is
-          ∙ ap (λ (y : List Value). values.I32 place ∷ (y ++ (belows c.frame.labels ++ (reverse c.frame.locals ++ st.lower)))) top.is;
+      values = means_same _ _ _
+          (ap (λ (n : ℕ). values.I32 n ∷ (x.at.operands ++ (belows c.frame.labels ++ (reverse c.frame.locals ++ st.lower)))) x.place_is
+          ∙ ap (λ (y : List Value). values.I32 place ∷ (y ++ (belows c.frame.labels ++ (reverse c.frame.locals ++ st.lower)))) top.is) x.at.values;
     }
 
 -- ---- The turn
 
 -- what the turn found: the place on top, and the function there
 pub record Found (s : State) (type_index place f : ℕ) : Type 0 where
-  pub below : List Value
+  pub below : List ℕ
   pub func_type : FuncType
   pub stated : FuncType
-  pub top : reverse s.values.items ≡ values.I32 place ∷ below
+  pub top : reverse s.values.items ≡ place ∷ below
   pub element : slice_get s.program.elements.items place ≡ Some (Some f)
   pub has_type : FunctionHasType s.program f func_type
   pub stated_is : slice_get s.program.parts.now.types type_index ≡ Some stated
@@ -202,8 +204,8 @@ stated_there s type_index b =
     let x = indirect_at w s c type_index st b.here (fresh_not_asked s b.fresh) in
     (x.stated, ap (λ (m : Parts). slice_get m.types type_index) st.program.parts ∙ x.typed)
 
-pub found_by : (s : State) (type_index place f : ℕ) (below : List Value) (answer : Bool) → ComesNext s (Plain (plain.CallIndirect type_index)) →
-    reverse s.values.items ≡ values.I32 place ∷ below → slice_get s.program.elements.items place ≡ Some (Some f) →
+pub found_by : (s : State) (type_index place f : ℕ) (below : List ℕ) (answer : Bool) → ComesNext s (Plain (plain.CallIndirect type_index)) →
+    reverse s.values.items ≡ place ∷ below → slice_get s.program.elements.items place ≡ Some (Some f) →
     ((t stated : FuncType) → FunctionHasType s.program f t
     → slice_get s.program.parts.now.types type_index ≡ Some stated → answer ≡ same_type t stated)
     → answer ≡ true →
@@ -227,32 +229,32 @@ found_tested w s c st type_index place f h u x =
     tested w s c st type_index place f x.below x.func_type x.stated (indirect_at w s c type_index st h u) x.top x.element x.has_type x.stated_is x.same
 
 pub indirect_asks : (s : State) (type_index : ℕ) → ComesNext s (Plain (plain.CallIndirect type_index))
-    → HasOnTop (types.I32 ∷ []) (map type_of (reverse s.values.items))
+    → HasWords (types.I32 ∷ []) (reverse s.values.items)
 indirect_asks s type_index b =
     let w = b.sound.0 in let c = b.sound.1 in let st = b.sound.3 in
     let x = indirect_at w s c type_index st b.here (fresh_not_asked s b.fresh) in
-    (map type_of (x.operands ++ (belows c.frame.labels ++ (reverse c.frame.locals ++ st.lower))), ap (map type_of) x.values)
+    (_, x.values, (map type_of (x.operands ++ (belows c.frame.labels ++ (reverse c.frame.locals ++ st.lower))), refl))
 
-pub indirect_undefined : (w : WithTables) (s : State) (c : Config) (type_index place : ℕ) (below : List Value)
+pub indirect_undefined : (w : WithTables) (s : State) (c : Config) (type_index place : ℕ) (below : List ℕ)
     → Stands w s c → ComesNext s (Plain (plain.CallIndirect type_index)) →
-    reverse s.values.items ≡ values.I32 place ∷ below → slice_get s.program.elements.items place ≡ None →
+    reverse s.values.items ≡ place ∷ below → slice_get s.program.elements.items place ≡ None →
     Steps w c (next (program_of w.parts) c) (Trapped traps.UndefinedElement) s
 indirect_undefined w s c type_index place below st b h e =
     let x = indirect_at w s c type_index st b.here (fresh_not_asked s b.fresh) in
     traps_now w s s c st traps.UndefinedElement (fresh_not_asked s b.fresh)
     (placed_runs w s c st type_index place None x (same_place w s c st type_index place below x h) e)
 
-pub indirect_empty : (w : WithTables) (s : State) (c : Config) (type_index place : ℕ) (below : List Value)
+pub indirect_empty : (w : WithTables) (s : State) (c : Config) (type_index place : ℕ) (below : List ℕ)
     → Stands w s c → ComesNext s (Plain (plain.CallIndirect type_index)) →
-    reverse s.values.items ≡ values.I32 place ∷ below → slice_get s.program.elements.items place ≡ Some None →
+    reverse s.values.items ≡ place ∷ below → slice_get s.program.elements.items place ≡ Some None →
     Steps w c (next (program_of w.parts) c) (Trapped traps.UninitializedElement) s
 indirect_empty w s c type_index place below st b h e =
     let x = indirect_at w s c type_index st b.here (fresh_not_asked s b.fresh) in
     traps_now w s s c st traps.UninitializedElement (fresh_not_asked s b.fresh)
     (placed_runs w s c st type_index place (Some None) x (same_place w s c st type_index place below x h) e)
 
-pub indirect_differs : (w : WithTables) (s : State) (c : Config) (type_index place f : ℕ) (below : List Value) (found stated : FuncType) → Stands w s c →
-    ComesNext s (Plain (plain.CallIndirect type_index)) → reverse s.values.items ≡ values.I32 place ∷ below
+pub indirect_differs : (w : WithTables) (s : State) (c : Config) (type_index place f : ℕ) (below : List ℕ) (found stated : FuncType) → Stands w s c →
+    ComesNext s (Plain (plain.CallIndirect type_index)) → reverse s.values.items ≡ place ∷ below
     → slice_get s.program.elements.items place ≡ Some (Some f) →
     FunctionHasType s.program f found → slice_get s.program.parts.now.types type_index ≡ Some stated → same_type found stated ≡ false →
     Steps w c (next (program_of w.parts) c) (Trapped traps.SignatureMismatch) s
@@ -267,20 +269,20 @@ indirect_differs w s c type_index place f below found stated st b h e k i differ
     ∙ place_differs (program_of w.parts) c x.stated found x.at.rest x.operands f k.0 function typed (ap (same_type found) (sym one) ∙ differs))
 
 -- the argument below the place
-pub argument_there : (s : State) (type_index place f : ℕ) → ComesNext s (Plain (plain.CallIndirect type_index))
-    → f < s.program.imported → Found s type_index place f →
-    (arg : ℕ) × (below : List Value) × (reverse s.values.items ≡ values.I32 place ∷ (values.I32 arg ∷ below))
-argument_there s type_index place f b k x =
+pub argument_there : (s : State) (type_index place f : ℕ) (below : List ℕ) → ComesNext s (Plain (plain.CallIndirect type_index))
+    → f < s.program.imported → Found s type_index place f → reverse s.values.items ≡ place ∷ below → HasWords (types.I32 ∷ []) below
+argument_there s type_index place f below b k x h =
     let w = b.sound.0 in let c = b.sound.1 in let st = b.sound.3 in
     let y = indirect_spawns w s c st type_index place f b.sound.2 k (found_tested w s c st type_index place f b.here (fresh_not_asked s b.fresh) x) in
-    (y.arg, values_on (waiting_frame c.frame y.rest y.below) st.lower, y.values)
+    let left = values_on (waiting_frame c.frame y.rest y.below) st.lower in
+    (_, means_below _ below place (values.I32 place) (values.I32 y.arg ∷ left) y.values h, (map type_of left, refl))
 
--- the values below the topmost one
-pub below_top : (vs rest : List Value) (v : Value) (n : ℕ) → reverse vs ≡ v ∷ rest → n ≡ length vs → reverse (take (n - 1) vs) ≡ rest
+-- the words below the topmost one
+pub below_top : (vs rest : List ℕ) (v n : ℕ) → reverse vs ≡ v ∷ rest → n ≡ length vs → reverse (take (n - 1) vs) ≡ rest
 below_top vs rest v n h e =
     let o : vs ≡ reverse rest ++ (v ∷ []) = sym (reverse-reverse vs) ∙ ap reverse h ∙ reverse-append (v ∷ []) rest in
     let k : n - 1 ≡ length (reverse rest) = let a = ap length o in let b = length-append (reverse rest) (v ∷ []) in omega arith in
-    ap (λ (x : List Value). reverse (take (n - 1) x)) o ∙ ap (λ (m : ℕ). reverse (take m (reverse rest ++ (v ∷ [])))) k
+    ap (λ (x : List ℕ). reverse (take (n - 1) x)) o ∙ ap (λ (m : ℕ). reverse (take m (reverse rest ++ (v ∷ [])))) k
     ∙ ap reverse (take-append_seam (reverse rest) (v ∷ [])) ∙ reverse-reverse rest
 
 -- what the table was seen to have
@@ -288,18 +290,18 @@ pub read_at : (elements slice : List (Option ℕ)) (place : ℕ) (r o : Option (
     → slice ≡ elements → r ≡ o → slice_get elements place ≡ o
 read_at elements slice place r o h e k = ap (λ (x : List (Option ℕ)). slice_get x place) (sym e) ∙ sym h ∙ k
 
-pub indirect_wants : (w : WithTables) (s : State) (c : Config) (type_index place f arg : ℕ) (below : List Value) → IsValidated w → Stands w s c →
+pub indirect_wants : (w : WithTables) (s : State) (c : Config) (type_index place f arg : ℕ) (below : List ℕ) → IsValidated w → Stands w s c →
     ComesNext s (Plain (plain.CallIndirect type_index)) → f < s.program.imported → Found s type_index place f →
-    reverse s.values.items ≡ values.I32 place ∷ (values.I32 arg ∷ below) → Steps w c (next (program_of w.parts) c) (Wants (Ask (Spawn arg))) s
+    reverse s.values.items ≡ place ∷ (arg ∷ below) → Steps w c (next (program_of w.parts) c) (Wants (Ask (Spawn arg))) s
 indirect_wants w s c type_index place f arg below v st b k x h =
     let y = indirect_spawns w s c st type_index place f v k (found_tested w s c st type_index place f b.here (fresh_not_asked s b.fresh) x) in
-    let same : values.I32 place ∷ (values.I32 arg ∷ below) ≡ values.I32 place ∷
-    (values.I32 y.arg ∷ values_on (waiting_frame c.frame y.rest y.below) st.lower) = sym h ∙ y.values in
+    let same : place ∷ (arg ∷ below) ≡ place ∷ (y.arg ∷ map word_of (values_on (waiting_frame c.frame y.rest y.below) st.lower)) =
+    sym h ∙ y.values.are in
     spawn_wants w s c st (values.I32 place ∷ []) y arg b.fresh cc
 
 -- ---- Functions of the module itself
 
-own_indirect : (w : WithTables) (s old : State) (c : Config) (st : Stands w s c) (type_index place f : ℕ) (v : Value) → s.program.imported ≤ f → Midway s old →
+own_indirect : (w : WithTables) (s old : State) (c : Config) (st : Stands w s c) (type_index place f v : ℕ) → s.program.imported ≤ f → Midway s old →
     reverse s.values.items ≡ v ∷ reverse old.values.items → (x : Tested w s c st type_index place f) →
     CallsOwn w s old c st x.at.at.rest x.at.operands f x.index x.at.stated x.at.tail
 own_indirect w s old c st type_index place f v k m h x = record {
@@ -308,13 +310,10 @@ own_indirect w s old c st type_index place f v k m h x = record {
   typed = x.typed;
   midway = m;
   operands_typed = x.at.operands_typed;
-  values =
-      (let both : v ∷ reverse old.values.items ≡ values.I32 x.at.place ∷
-      (x.at.operands ++ (belows c.frame.labels ++ (reverse c.frame.locals ++ st.lower))) = sym h
-      ∙ x.at.values in cc);
+  values = means_below _ _ v (values.I32 x.at.place) _ x.at.values h;
 }
 
-pub indirect_ready : (s old : State) (type_index place f : ℕ) (v : Value)
+pub indirect_ready : (s old : State) (type_index place f v : ℕ)
     → ComesNext s (Plain (plain.CallIndirect type_index)) → HasBodies s → s.program.imported ≤ f → Midway s old →
     reverse s.values.items ≡ v ∷ reverse old.values.items → Found s type_index place f → CanEnter old (f - old.program.imported)
 indirect_ready s old type_index place f v b bodies k m h found =
@@ -326,7 +325,7 @@ indirect_ready s old type_index place f v b bodies k m h found =
     (own_indirect w s old c st type_index place f v k m h x) room
     (slice_get_within _ _ _ b.here)
 
-pub indirect_enters : (w : WithTables) (s old n : State) (c : Config) (step : Step) (type_index place f : ℕ) (v : Value) → IsValidated w → Stands w s c →
+pub indirect_enters : (w : WithTables) (s old n : State) (c : Config) (step : Step) (type_index place f v : ℕ) → IsValidated w → Stands w s c →
     ComesNext s (Plain (plain.CallIndirect type_index)) → HasBodies s → s.program.imported ≤ f → Midway s old
     → reverse s.values.items ≡ v ∷ reverse old.values.items →
     Found s type_index place f → IsEntered old (f - old.program.imported) step n → Steps w c (next (program_of w.parts) c) step n
@@ -360,10 +359,10 @@ asking_here w s c st type_index f x v e asks =
           place = x.place;
           f = f;
           found = record {
-            below = x.operands ++ (belows c.frame.labels ++ (reverse c.frame.locals ++ st.lower));
+            below = map word_of (x.operands ++ (belows c.frame.labels ++ (reverse c.frame.locals ++ st.lower)));
             func_type = t.func_type;
             stated = x.stated;
-            top = x.values;
+            top = x.values.are;
             element = ap (λ (y : List (Option ℕ)). slice_get y x.place) st.program.elements ∙ e;
             has_type = has_type w s.program f st.program t;
             stated_is = ap (λ (m : Parts). slice_get m.types type_index) st.program.parts ∙ x.typed;
@@ -401,18 +400,17 @@ indirect_spawning : (w : WithTables) (s : State) (c : Config) (st : Stands w s c
 indirect_spawning w s c st type_index v b x =
     indirect_spawns w s c st type_index x.place x.f v x.imported (found_tested w s c st type_index x.place x.f b.here (not_asked s _ b) x.found)
 
-pub indirect_pops_again : (s : State) (type_index : ℕ) (v : Value) (left : List Value) → Wanting s (Plain (plain.CallIndirect type_index)) →
+pub indirect_pops_again : (s : State) (type_index v : ℕ) (left : List ℕ) → Wanting s (Plain (plain.CallIndirect type_index)) →
     reverse s.values.items ≡ v ∷ reverse left → 0 < length left
 indirect_pops_again s type_index v left b h =
     let x = indirect_spawning b.tables s b.config b.stands type_index b.valid b (asking s type_index b) in
-    let a = ap length x.values in let d = ap length h in let e = length-reverse left in omega arith
+    let a = means_long _ _ x.values in let d = ap length h in let e = length-reverse left in omega arith
 
-pub indirect_heard : (w : WithTables) (s n : State) (c : Config) (type_index number : ℕ) (v u : Value) (left : List Value) → IsValidated w → Stands w s c →
+pub indirect_heard : (w : WithTables) (s n : State) (c : Config) (type_index number v u : ℕ) (left : List ℕ) → IsValidated w → Stands w s c →
     Wanting s (Plain (plain.CallIndirect type_index)) → still n ≡ still s → n.pc ≡ s.pc + 1 → n.progress ≡ Asked → n.globals.items ≡ s.globals.items →
     reverse s.values.items ≡ v ∷ reverse left → reverse left ≡ u ∷ reverse n.values.items → Replies w (next (program_of w.parts) c) number n
 indirect_heard w s n c type_index number v u left valid st b e k p g h i =
     let y = asking s type_index b in
     let x = indirect_spawning w s c st type_index valid b y in
-    let both : v ∷ (u ∷ reverse n.values.items) ≡ values.I32 y.place ∷ (values.I32 x.arg ∷ values_on (waiting_frame c.frame x.rest x.below) st.lower) =
-    ap (λ (q : List Value). v ∷ q) (sym i) ∙ sym h ∙ x.values in
-    spawn_replied w s n c st (values.I32 y.place ∷ []) x number (not_asked s _ b) e k p g cc
+    let without_place = means_below _ _ v (values.I32 y.place) _ x.values h in
+    spawn_replied w s n c st (values.I32 y.place ∷ []) x number (not_asked s _ b) e k p g (means_below _ _ u (values.I32 x.arg) _ without_place i)

@@ -1,14 +1,13 @@
 //! A function that is opened over its arguments.
 
-ghost use Rattle.std.specs.Prelude.{◌≡◌, ◌+◌, ◌<◌, ◌≤◌, ◌++◌, ◌∷◌, List, Some, length, map, reverse, vec_len, vec_capacity};
+ghost use Rattle.std.specs.Prelude.{◌≡◌, ◌<◌, ◌∷◌, Some, length, reverse, vec_len, vec_capacity};
 ghost use Rattle.std.specs.List.{slice_get};
-ghost use Rattle.types.specs.declared.parts.FuncType.{FuncType};
 ghost use Rattle.types.specs.declared.parts.Body.{Body};
 ghost use Rattle.interp_state.specs.Steps.{came_to};
-ghost use Rattle.interp_calls.specs.Entering.{IsOfType, CanEnter, IsEntered};
+ghost use Rattle.interp_calls.specs.Entering.{CanEnter, IsEntered};
 
-use interp_state::{Caller, Program, State, code_of, push_zeros};
-use types::{FuncType, MOST_FRAMES, MOST_VALUES, Parts, Trap, ValType, Value};
+use interp_state::{Caller, Program, State, code_of, push_zeros, type_of_function};
+use types::{MOST_FRAMES, MOST_VALUES, Parts, Trap, ValType};
 
 /// Puts a calling function on top of those that called before.
 #[inline]
@@ -18,17 +17,6 @@ fn push_caller(callers: &mut Vec<Caller>, caller: Caller)
     ensures capacity { vec_capacity callers.new ≡ vec_capacity callers.old }
 {
     callers.push_reserved(caller);
-}
-
-/// The type of a function of the module itself.
-#[inline]
-fn type_of<'m>(program: &Program<'m>, own: usize) -> &'m FuncType
-    requires { (t : FuncType) × IsOfType program.now own t }
-    ensures { (t : FuncType) → IsOfType program.now own t → result.now ≡ t }
-{
-    let parts: &'m Parts = program.parts;
-    let index = parts.functions.as_slice()[own];
-    &parts.types.as_slice()[index as usize]
 }
 
 /// The types of a function's locals that aren't parameters.
@@ -53,7 +41,7 @@ pub(crate) fn enter(state: &mut State, own: usize) -> Option<Trap>
     if state.callers.len() + 2 > MOST_FRAMES || locals.len() > MOST_VALUES - state.values.len() {
         return Some(Trap::StackExhausted);
     }
-    let func_type = type_of(&state.program, own);
+    let func_type = type_of_function(&state.program, own);
     let caller = Caller {
         function: state.function,
         pc: state.pc + 1,
@@ -63,7 +51,7 @@ pub(crate) fn enter(state: &mut State, own: usize) -> Option<Trap>
     };
     push_caller(&mut state.callers, caller);
     state.base = state.values.len() - func_type.params.len();
-    push_zeros(&mut state.values, locals);
+    push_zeros(&mut state.values, locals.len());
     state.operands = state.values.len();
     state.results = func_type.results.len();
     let code = code_of(&state.program, own);

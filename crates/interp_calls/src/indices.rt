@@ -1,28 +1,22 @@
 //! What a call reads before the function is opened.
 
-ghost use Rattle.std.specs.Prelude.{◌≡◌, [], ◌∷◌, List, Some, map, reverse};
+ghost use Rattle.std.specs.Prelude.{◌≡◌, ℕ, [], ◌∷◌, List, Some, reverse};
 ghost use Rattle.std.specs.List.{slice_get};
 ghost use Rattle.types.specs.declared.value.ValType.{ValType};
-ghost use Rattle.types.specs.declared.value.Value.{Value};
 ghost use Rattle.types.specs.declared.parts.FuncType.{FuncType};
-ghost use Rattle.types.specs.Values.{type_of};
-ghost use Rattle.validate_typing.specs.Typing.{HasOnTop};
 ghost use Rattle.interp_machine.specs.Step.{same_type};
+ghost use Rattle.interp_state.specs.Words.{HasWords};
 ghost use Rattle.interp_calls.specs.Entering.{FunctionHasType};
 
 use interp_state::Program;
-use types::Value;
 
 /// The topmost number of 32 bits.
 #[inline]
-pub(crate) fn top_i32(values: &[Value]) -> u32
-    requires { HasOnTop (ValType.I32 ∷ []) (map type_of (reverse values.now)) }
-    ensures { (below : List Value) × (reverse values.now ≡ Value.I32 result ∷ below) }
+pub(crate) fn top_i32(values: &[u64]) -> u32
+    requires { HasWords (ValType.I32 ∷ []) (reverse values.now) }
+    ensures { (below : List ℕ) × (reverse values.now ≡ result ∷ below) }
 {
-    match values.last() {
-        Some(Value::I32(number)) => *number,
-        _ => unreachable!(),
-    }
+    values[values.len() - 1] as u32
 }
 
 /// What the table has at a place, if there is the place.

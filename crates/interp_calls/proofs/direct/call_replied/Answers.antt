@@ -12,4 +12,4 @@ overflow_add-state c =
 
 pub returns : goal.returns
 returns c = λ number w k v st.
-    call_heard w c.args.state.now _ k c.args.function number c.pop.result v st c.requires refl refl refl refl c.pop.ensures.value
+    call_heard w c.args.state.now _ k c.args.function number c.pop.result v st c.requires refl refl refl refl c.pop.ensures.word

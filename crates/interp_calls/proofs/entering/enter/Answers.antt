@@ -1,12 +1,11 @@
-use Rattle.std.proofs.Common.{rules, ◌++◌, length, map, refl, ◌∙◌, ap, arith}
+use Rattle.std.proofs.Common.{rules, ◌++◌, length, replicate, refl, ◌∙◌, ap, arith}
 use Rattle.std.proofs.lemmas.Option.{slice_get_within}
 use Rattle.types.specs.declared.parts.FuncType.{FuncType}
-use Rattle.interp_machine.specs.Program.{zero_of}
 use Rattle.interp_calls.proofs.entering.enter.Goals as goal
 
 pub overflow_sub-state : goal.overflow_sub-state
 overflow_sub-state c =
-    let t = ap (λ (x : FuncType). length x.params) (c.type_of-func_type.ensures c.requires.func_type c.requires.is.typed) in
+    let t = ap (λ (x : FuncType). length x.params) (c.type_of_function-func_type.ensures c.requires.func_type c.requires.is.typed) in
     let a = c.requires.arguments in let p = c.len-3.ensures in let v = c.len-2.ensures in omega arith
 
 pub code_of-code-requires-clause-body : goal.code_of-code-requires-clause-body
@@ -17,7 +16,7 @@ code_of-code-requires-clause-table c = slice_get_within _ _ _ c.requires.is.rows
 
 pub returns : goal.returns
 returns c = λ t body rows f.
-    let same_type = c.type_of-func_type.ensures t f.typed in
+    let same_type = c.type_of_function-func_type.ensures t f.typed in
     let same_locals = c.locals_of-locals.ensures body f.body_is in
     let locals = ap length same_locals in
     record {
@@ -30,11 +29,11 @@ returns c = λ t body rows f.
           pc = refl;
           base =
               (let p = c.len-3.ensures ∙ ap (λ (x : FuncType). length x.params) same_type in let v = c.len-2.ensures in
-              let q = ap (λ (x : FuncType). length x.params) (c.type_of-func_type.ensures c.requires.func_type c.requires.is.typed) in
+              let q = ap (λ (x : FuncType). length x.params) (c.type_of_function-func_type.ensures c.requires.func_type c.requires.is.typed) in
               let r = ap (λ (x : FuncType). length x.params) same_type in let a = c.requires.arguments in omega arith);
           operands = search rules;
           results = c.len-state-2.ensures ∙ ap (λ (x : FuncType). length x.results) same_type;
-          values = c.push_zeros.ensures.items ∙ ap (λ x. c.args.state.now.values.items ++ map zero_of x) same_locals;
+          values = c.push_zeros.ensures.items ∙ ap (λ n. c.args.state.now.values.items ++ replicate n 0) locals;
           callers = c.push_caller.ensures.caller;
           program = refl;
           globals = refl;

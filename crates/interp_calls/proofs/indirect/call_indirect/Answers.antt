@@ -1,7 +1,6 @@
-use Rattle.std.proofs.Common.{rules, ◌≡◌, List, ◌∷◌, ◌-◌, length, map, reverse, take, Some, None, refl, sym, ◌∙◌, ap}
-use Rattle.types.specs.declared.value.Value.{Value}
-use Rattle.types.specs.declared.value.Value.TheVariants as values
-use Rattle.types.specs.Values.{type_of}
+use Rattle.std.proofs.Common.{rules, ◌≡◌, ℕ, List, [], ◌∷◌, ◌-◌, length, reverse, take, Some, None, refl, sym, ◌∙◌, ap, subst}
+use Rattle.types.specs.declared.value.ValType.TheVariants as types
+use Rattle.interp_state.specs.Words.{HasWords}
 use Rattle.interp_calls.proofs.TableCalls.{indirect_asks, indirect_undefined, indirect_empty, element_typed}
 use Rattle.interp_calls.proofs.TableCalls.{stated_there, indirect_differs, found_by, argument_there, below_top}
 use Rattle.interp_calls.proofs.TableCalls.{read_at, indirect_wants, indirect_ready, indirect_enters}
@@ -53,13 +52,10 @@ top_i32-arg-requires c =
     c.top_i32-place.ensures.0 c.is_of_type.result c.requires.begins top element c.is_of_type.ensures
     c.if-not-is_of_type.false in
     let x = argument_there c.args.state.now c.args.type_index c.top_i32-place.result c.in-Some-Some.function
-    c.requires.begins c.if-function-imported.true found in
+    c.top_i32-place.ensures.0 c.requires.begins c.if-function-imported.true found top in
     let long : c.len.result ≡ length c.args.state.now.values.items = search rules in
-    rw c.deref.ensures.value (
-      map type_of x.1,
-      ap (map type_of) (below_top c.args.state.now.values.items (values.I32 x.0 ∷ x.1)
-          (values.I32 c.top_i32-place.result) c.len.result x.2 long),
-    )
+    let below = below_top c.args.state.now.values.items c.top_i32-place.ensures.0 c.top_i32-place.result c.len.result top long in
+    rw c.deref.ensures.value (subst (HasWords (types.I32 ∷ [])) (sym below) x)
 
 pub returns-then-function-imported : goal.returns-then-function-imported
 returns-then-function-imported c = λ w k v st.
@@ -70,12 +66,12 @@ returns-then-function-imported c = λ w k v st.
     c.top_i32-place.ensures.0 c.is_of_type.result c.requires.begins top element c.is_of_type.ensures
     c.if-not-is_of_type.false in
     let long : c.len.result ≡ length c.args.state.now.values.items = search rules in
-    let rest : c.top_i32-place.ensures.0 ≡ values.I32 c.top_i32-arg.result ∷ c.top_i32-arg.ensures.0 =
-    sym (below_top c.args.state.now.values.items c.top_i32-place.ensures.0 (values.I32 c.top_i32-place.result) c.len.result top long)
-    ∙ ap (λ (x : List Value). reverse (take (c.len.result - 1) x)) (sym c.deref.ensures.value) ∙ c.top_i32-arg.ensures.1 in
+    let rest : c.top_i32-place.ensures.0 ≡ c.top_i32-arg.result ∷ c.top_i32-arg.ensures.0 =
+    sym (below_top c.args.state.now.values.items c.top_i32-place.ensures.0 c.top_i32-place.result c.len.result top long)
+    ∙ ap (λ (x : List ℕ). reverse (take (c.len.result - 1) x)) (sym c.deref.ensures.value) ∙ c.top_i32-arg.ensures.1 in
     indirect_wants w c.args.state.now k c.args.type_index c.top_i32-place.result c.in-Some-Some.function
     c.top_i32-arg.result c.top_i32-arg.ensures.0 v st c.requires.begins
-    c.if-function-imported.true found (top ∙ ap (λ (x : List Value). values.I32 c.top_i32-place.result ∷ x) rest)
+    c.if-function-imported.true found (top ∙ ap (λ (x : List ℕ). c.top_i32-place.result ∷ x) rest)
 
 pub enter-requires : goal.enter-requires
 enter-requires c =
@@ -87,7 +83,7 @@ enter-requires c =
     c.if-not-is_of_type.false in
     indirect_ready c.args.state.now _ c.args.type_index c.top_i32-place.result c.in-Some-Some.function c.pop.result
     c.requires.begins c.requires.bodies c.if-function-imported.false
-    (record { same = refl; pc = refl; globals = refl; progress = refl }) c.pop.ensures.value found
+    (record { same = refl; pc = refl; globals = refl; progress = refl }) c.pop.ensures.word found
 
 pub returns : goal.returns
 returns c = rw c.came_to.ensures λ w k v st.
@@ -99,4 +95,4 @@ returns c = rw c.came_to.ensures λ w k v st.
     c.if-not-is_of_type.false in
     indirect_enters w c.args.state.now _ _ k _ c.args.type_index c.top_i32-place.result c.in-Some-Some.function
     c.pop.result v st c.requires.begins c.requires.bodies c.if-function-imported.false
-    (record { same = refl; pc = refl; globals = refl; progress = refl }) c.pop.ensures.value found c.enter.ensures
+    (record { same = refl; pc = refl; globals = refl; progress = refl }) c.pop.ensures.word found c.enter.ensures

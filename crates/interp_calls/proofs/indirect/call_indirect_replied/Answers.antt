@@ -7,7 +7,7 @@ pub pop-requires : goal.pop-requires
 pop-requires c = indirect_pops c.args.state.now c.args.type_index c.requires
 
 pub pop-requires-2 : goal.pop-requires-2
-pop-requires-2 c = indirect_pops_again c.args.state.now c.args.type_index c.pop.result c.pop.new.values.items c.requires c.pop.ensures.value
+pop-requires-2 c = indirect_pops_again c.args.state.now c.args.type_index c.pop.result c.pop.new.values.items c.requires c.pop.ensures.word
 
 pub overflow_add-state : goal.overflow_add-state
 overflow_add-state c =
@@ -16,4 +16,4 @@ overflow_add-state c =
 pub returns : goal.returns
 returns c = λ number w k v st.
     indirect_heard w c.args.state.now _ k c.args.type_index number c.pop.result c.pop-2.result c.pop.new.values.items v
-    st c.requires refl refl refl refl c.pop.ensures.value c.pop-2.ensures.value
+    st c.requires refl refl refl refl c.pop.ensures.word c.pop-2.ensures.word
