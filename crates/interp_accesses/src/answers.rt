@@ -5,7 +5,6 @@ ghost use Rattle.interp_state.specs.declared.state.Progress.TheVariants.{Asked};
 ghost use Rattle.interp_state.specs.Steps.{IsSound, IsTold};
 
 use interp_state::{Progress, State, push};
-use types::Value;
 
 /// The answer to the question that was asked comes onto the stack.
 #[inline]
@@ -14,6 +13,6 @@ pub fn hear(state: &mut State, number: u32)
     requires due { state.old.progress ≡ Asked }
     ensures { IsTold state.old number state.new }
 {
-    push(&mut state.values, Value::I32(number));
+    push(&mut state.values, u64::from(number));
     state.progress = Progress::Fresh;
 }

@@ -5,9 +5,9 @@ ghost use Rattle.types.specs.declared.instr.PlainInstr.{PlainInstr};
 ghost use Rattle.interp_state.specs.Steps.{Continues, Wanting, IsStep, IsReplied};
 
 use crate::loaded::loaded;
-use crate::operands::{effective, replace_top, top_i32};
+use crate::operands::{effective, replace_top};
 use crate::parts::{high_load, is_in_one_word, join, low_load};
-use interp_state::{Progress, State, Step};
+use interp_state::{Progress, State, Step, top_i32};
 use types::{Instr, LoadOp, MemArg, PlainInstr};
 
 /// A load wants the number of its first word, and then that of the second one, where it touches two.
@@ -24,7 +24,7 @@ pub fn load(state: &mut State, op: LoadOp, arg: MemArg) -> Step
     }
 }
 
-/// The number that a load wanted is there: the value replaces the address as soon as all parts are.
+/// The number that a load wanted is there: the word of the value replaces the address as soon as all parts are.
 #[inline(always)]
 pub fn load_replied(state: &mut State, op: LoadOp, arg: MemArg, number: u64)
     requires { Wanting state.old (Instr.Plain (PlainInstr.Load op arg)) }

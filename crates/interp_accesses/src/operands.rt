@@ -1,35 +1,21 @@
 //! The operands of a memory instruction, and the state behind it.
 
-ghost use Rattle.std.specs.Prelude.{◌≡◌, ◌+◌, ◌<◌, ◌≤◌, [], ◌∷◌, length, map, reverse};
+ghost use Rattle.std.specs.Prelude.{◌≡◌, ◌+◌, ◌<◌, ◌≤◌, [], ◌∷◌, length, reverse};
 ghost use Rattle.types.specs.declared.value.ValType.{ValType};
-ghost use Rattle.types.specs.Values.{type_of};
-ghost use Rattle.validate_typing.specs.Typing.{HasOnTop};
-ghost use Rattle.interp_accesses.specs.Done.{IsDone, IsOnTop, AreTop};
+ghost use Rattle.interp_state.specs.Words.{HasWords};
+ghost use Rattle.interp_accesses.specs.Done.{IsDone, AreTop};
 
 use interp_state::{Progress, State, pop, push};
-use types::{MemArg, ValType, Value};
-
-/// The topmost number of 32 bits. It stays on the stack.
-#[inline]
-pub(crate) fn top_i32(values: &[Value]) -> u32
-    requires { HasOnTop (ValType.I32 ∷ []) (map type_of (reverse values.now)) }
-    ensures { IsOnTop (reverse values.now) result }
-{
-    match values {
-        [.., Value::I32(number)] => *number,
-        _ => unreachable!(),
-    }
-}
+use types::MemArg;
 
 /// The topmost number, of either type, and the number of 32 bits below it, which comes first in the answer. Both stay.
 #[inline]
-pub(crate) fn top_two(values: &[Value]) -> (u32, u64)
-    requires { (t : ValType) × HasOnTop (t ∷ (ValType.I32 ∷ [])) (map type_of (reverse values.now)) }
+pub(crate) fn top_two(values: &[u64]) -> (u32, u64)
+    requires { (t : ValType) × HasWords (t ∷ (ValType.I32 ∷ [])) (reverse values.now) }
     ensures { AreTop (reverse values.now) result.0 result.1 }
 {
     match values {
-        [.., Value::I32(base), Value::I32(number)] => (*base, u64::from(*number)),
-        [.., Value::I32(base), Value::I64(number)] => (*base, *number),
+        [.., base, number] => (*base as u32, *number),
         _ => unreachable!(),
     }
 }
@@ -42,20 +28,20 @@ pub(crate) fn effective(base: u32, arg: MemArg) -> u64
     u64::from(base) + u64::from(arg.offset)
 }
 
-/// The topmost value is replaced, and the next instruction comes.
+/// The topmost word is replaced, and the next instruction comes.
 #[inline]
-pub(crate) fn replace_top(state: &mut State, value: Value)
+pub(crate) fn replace_top(state: &mut State, word: u64)
     requires here { state.old.pc < length state.old.code.now }
     requires some { 0 < length state.old.values.items }
-    ensures { IsDone 1 (value ∷ []) state.old state.new }
+    ensures { IsDone 1 (word ∷ []) state.old state.new }
 {
     pop(&mut state.values);
-    push(&mut state.values, value);
+    push(&mut state.values, word);
     state.pc += 1;
     state.progress = Progress::Fresh;
 }
 
-/// The two topmost values go, and the next instruction comes.
+/// The two topmost words go, and the next instruction comes.
 #[inline]
 pub(crate) fn drop_two(state: &mut State)
     requires here { state.old.pc < length state.old.code.now }

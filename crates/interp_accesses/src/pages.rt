@@ -4,10 +4,10 @@ ghost use Rattle.types.specs.declared.instr.Instr.{Instr};
 ghost use Rattle.types.specs.declared.instr.PlainInstr.{PlainInstr};
 ghost use Rattle.interp_state.specs.Steps.{ComesNext, Wanting, IsStep, IsReplied};
 
-use crate::operands::{replace_top, top_i32};
+use crate::operands::replace_top;
 use interp_numeric::i32_wrap_i64;
-use interp_state::{State, Step, push};
-use types::{Event, Instr, MOST_VALUES, PlainInstr, Trap, Value};
+use interp_state::{State, Step, push, top_i32};
+use types::{Event, Instr, MOST_VALUES, PlainInstr, Trap};
 
 /// `memory.size` wants the number of pages, where there is room for it on the stack.
 #[inline]
@@ -27,7 +27,7 @@ pub fn memory_size_replied(state: &mut State, number: u64)
     requires { Wanting state.old (Instr.Plain PlainInstr.MemorySize) }
     ensures { IsReplied state.old number state.new }
 {
-    push(&mut state.values, Value::I32(i32_wrap_i64(number)));
+    push(&mut state.values, u64::from(i32_wrap_i64(number)));
     state.pc += 1;
 }
 
@@ -46,5 +46,5 @@ pub fn memory_grow_replied(state: &mut State, number: u64)
     requires { Wanting state.old (Instr.Plain PlainInstr.MemoryGrow) }
     ensures { IsReplied state.old number state.new }
 {
-    replace_top(state, Value::I32(i32_wrap_i64(number)));
+    replace_top(state, u64::from(i32_wrap_i64(number)));
 }

@@ -4,6 +4,7 @@ ghost use Rattle.std.specs.Prelude.{◌≤◌, ◌<◌, [], ◌∷◌, length};
 ghost use Rattle.types.specs.Limits.{most_values};
 ghost use Rattle.interp_state.specs.declared.state.Progress.{Progress};
 ghost use Rattle.interp_machine.specs.Access.{answered_value};
+ghost use Rattle.interp_state.specs.Words.{word_of};
 ghost use Rattle.interp_atomics.specs.Replies.{Settles};
 
 use crate::operands::{answered, drop_top};
@@ -39,7 +40,7 @@ pub(crate) fn give(state: &mut State, taken: usize, width: AccessWidth, number: 
     requires operands { taken ≤ length state.old.values.items }
     requires room { length state.old.values.items ≤ most_values }
     requires inside { state.old.pc < length state.old.code.now }
-    ensures { Settles state.old state.new taken (answered_value width number ∷ []) state.old.progress }
+    ensures { Settles state.old state.new taken (word_of (answered_value width number) ∷ []) state.old.progress }
 {
     finish(state, taken);
     push(&mut state.values, answered(width, number));

@@ -1,20 +1,20 @@
 //! The events that atomic instructions want. The operands stay where they are.
 
-ghost use Rattle.std.specs.Prelude.{◌≡◌, map, reverse};
+ghost use Rattle.std.specs.Prelude.{◌≡◌, reverse};
 ghost use Rattle.types.specs.declared.operators.AtomicOp.{AtomicOp};
-ghost use Rattle.types.specs.Values.{type_of};
-ghost use Rattle.validate_typing.specs.Typing.{HasOnTop, atomic_takes};
+ghost use Rattle.validate_typing.specs.Typing.{atomic_takes};
 ghost use Rattle.interp_machine.specs.Program.{Program};
+ghost use Rattle.interp_state.specs.Words.{HasWords};
 ghost use Rattle.interp_atomics.specs.Requests.{Wants};
 
 use crate::operands::{address_at, i32_at, number_at};
 use shared_memory_lanes::low_bytes;
-use types::{AccessWidth, Event, MemArg, Question, RmwOp, Trap, ValType, Value};
+use types::{AccessWidth, Event, MemArg, Question, RmwOp, Trap, ValType};
 
 /// `memory.atomic.notify`
 #[inline]
-pub(crate) fn notify(values: &[Value], arg: MemArg) -> Result<Event, Trap>
-    requires { HasOnTop (atomic_takes AtomicOp.Notify) (map type_of (reverse values.now)) }
+pub(crate) fn notify(values: &[u64], arg: MemArg) -> Result<Event, Trap>
+    requires { HasWords (atomic_takes AtomicOp.Notify) (reverse values.now) }
     ensures { (p : Program) → Wants p AtomicOp.Notify arg (reverse values.now) result }
 {
     let addr = address_at(values, 1, arg, 4)?;
@@ -27,12 +27,12 @@ pub(crate) fn notify(values: &[Value], arg: MemArg) -> Result<Event, Trap>
 /// `memory.atomic.wait32` and `memory.atomic.wait64`: only in a shared memory.
 #[inline]
 pub(crate) fn wait(
-    values: &[Value],
+    values: &[u64],
     shared: bool,
     val_type: ValType,
     arg: MemArg,
 ) -> Result<Event, Trap>
-    requires { HasOnTop (atomic_takes (AtomicOp.Wait val_type)) (map type_of (reverse values.now)) }
+    requires { HasWords (atomic_takes (AtomicOp.Wait val_type)) (reverse values.now) }
     ensures { (p : Program) → p.shared ≡ shared → Wants p (AtomicOp.Wait val_type) arg (reverse values.now) result }
 {
     let width = val_type.bytes();
@@ -50,8 +50,8 @@ pub(crate) fn wait(
 
 /// An atomic load.
 #[inline]
-pub(crate) fn load(values: &[Value], width: AccessWidth, arg: MemArg) -> Result<Event, Trap>
-    requires { HasOnTop (atomic_takes (AtomicOp.Load width)) (map type_of (reverse values.now)) }
+pub(crate) fn load(values: &[u64], width: AccessWidth, arg: MemArg) -> Result<Event, Trap>
+    requires { HasWords (atomic_takes (AtomicOp.Load width)) (reverse values.now) }
     ensures { (p : Program) → Wants p (AtomicOp.Load width) arg (reverse values.now) result }
 {
     let bytes = width.bytes();
@@ -65,8 +65,8 @@ pub(crate) fn load(values: &[Value], width: AccessWidth, arg: MemArg) -> Result<
 
 /// An atomic store.
 #[inline]
-pub(crate) fn store(values: &[Value], width: AccessWidth, arg: MemArg) -> Result<Event, Trap>
-    requires { HasOnTop (atomic_takes (AtomicOp.Store width)) (map type_of (reverse values.now)) }
+pub(crate) fn store(values: &[u64], width: AccessWidth, arg: MemArg) -> Result<Event, Trap>
+    requires { HasWords (atomic_takes (AtomicOp.Store width)) (reverse values.now) }
     ensures { (p : Program) → Wants p (AtomicOp.Store width) arg (reverse values.now) result }
 {
     let bytes = width.bytes();
@@ -81,13 +81,8 @@ pub(crate) fn store(values: &[Value], width: AccessWidth, arg: MemArg) -> Result
 
 /// A read-modify-write.
 #[inline]
-pub(crate) fn rmw(
-    values: &[Value],
-    op: RmwOp,
-    width: AccessWidth,
-    arg: MemArg,
-) -> Result<Event, Trap>
-    requires { HasOnTop (atomic_takes (AtomicOp.Rmw op width)) (map type_of (reverse values.now)) }
+pub(crate) fn rmw(values: &[u64], op: RmwOp, width: AccessWidth, arg: MemArg) -> Result<Event, Trap>
+    requires { HasWords (atomic_takes (AtomicOp.Rmw op width)) (reverse values.now) }
     ensures { (p : Program) → Wants p (AtomicOp.Rmw op width) arg (reverse values.now) result }
 {
     let bytes = width.bytes();
@@ -103,8 +98,8 @@ pub(crate) fn rmw(
 
 /// A compare-exchange: the expected number is compared as a whole.
 #[inline]
-pub(crate) fn cmpxchg(values: &[Value], width: AccessWidth, arg: MemArg) -> Result<Event, Trap>
-    requires { HasOnTop (atomic_takes (AtomicOp.Cmpxchg width)) (map type_of (reverse values.now)) }
+pub(crate) fn cmpxchg(values: &[u64], width: AccessWidth, arg: MemArg) -> Result<Event, Trap>
+    requires { HasWords (atomic_takes (AtomicOp.Cmpxchg width)) (reverse values.now) }
     ensures { (p : Program) → Wants p (AtomicOp.Cmpxchg width) arg (reverse values.now) result }
 {
     let bytes = width.bytes();

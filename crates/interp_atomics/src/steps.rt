@@ -1,28 +1,28 @@
 //! Atomic instructions as steps of the thread machine.
 
-ghost use Rattle.std.specs.Prelude.{◌≡◌, map, reverse};
+ghost use Rattle.std.specs.Prelude.{◌≡◌, reverse};
 ghost use Rattle.types.specs.declared.instr.Instr.{Instr};
 ghost use Rattle.types.specs.declared.instr.PlainInstr.{PlainInstr};
-ghost use Rattle.types.specs.Values.{type_of};
-ghost use Rattle.validate_typing.specs.Typing.{HasOnTop, atomic_takes};
+ghost use Rattle.validate_typing.specs.Typing.{atomic_takes};
 ghost use Rattle.interp_machine.specs.Program.{Program};
 ghost use Rattle.interp_state.specs.Steps.{ComesNext, IsStep, Wanting, IsReplied};
+ghost use Rattle.interp_state.specs.Words.{HasWords};
 ghost use Rattle.interp_atomics.specs.Requests.{Wants};
 
 use crate::replies::{await_answer, finish, give};
 use crate::requests::{cmpxchg, load, notify, rmw, store, wait};
 use interp_state::{State, Step};
-use types::{AtomicOp, Event, MemArg, Trap, Value};
+use types::{AtomicOp, Event, MemArg, Trap};
 
 /// The event that an atomic instruction wants, or its trap.
 #[inline(always)]
 pub(crate) fn request(
-    values: &[Value],
+    values: &[u64],
     shared: bool,
     op: AtomicOp,
     arg: MemArg,
 ) -> Result<Event, Trap>
-    requires { HasOnTop (atomic_takes op) (map type_of (reverse values.now)) }
+    requires { HasWords (atomic_takes op) (reverse values.now) }
     ensures { (p : Program) → p.shared ≡ shared → Wants p op arg (reverse values.now) result }
 {
     match op {

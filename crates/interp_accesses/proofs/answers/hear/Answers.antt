@@ -1,4 +1,4 @@
-use Rattle.std.proofs.Common.{◌<◌, length, refl, rules}
+use Rattle.std.proofs.Common.{◌<◌, ◌∷◌, length, reverse, refl, ap, ◌∙◌, rules}
 use Rattle.types.specs.Limits.{most_values}
 use Rattle.interp_accesses.proofs.Replies.{answer_room, tells}
 use Rattle.interp_accesses.proofs.answers.hear.Goals as goal
@@ -9,4 +9,6 @@ push-requires c =
     search rules
 
 pub returns : goal.returns
-returns c = λ w k v st. tells w c.args.state.now _ k c.args.number st c.requires.due refl refl refl refl c.push.ensures.value
+returns c = λ w k v st.
+    tells w c.args.state.now _ k c.args.number st c.requires.due refl refl refl refl
+    (c.push.ensures.word ∙ ap (λ k. k ∷ reverse c.args.state.now.values.items) c.from.ensures) (search rules)

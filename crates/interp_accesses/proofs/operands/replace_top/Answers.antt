@@ -7,5 +7,5 @@ returns c = record {
   globals = refl;
   pc = refl;
   progress = refl;
-  values = c.push.ensures.value ∙ ap (λ left. c.args.value ∷ drop 1 left) (sym c.pop.ensures.value);
+  values = c.push.ensures.word ∙ ap (λ left. c.args.word ∷ drop 1 left) (sym c.pop.ensures.word);
 }

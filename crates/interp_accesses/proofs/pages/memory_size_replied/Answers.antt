@@ -1,4 +1,4 @@
-use Rattle.std.proofs.Common.{rules, ◌<◌, length, refl}
+use Rattle.std.proofs.Common.{rules, ◌<◌, length, refl, ◌∙◌}
 use Rattle.std.proofs.lemmas.Option.{slice_get_within}
 use Rattle.types.specs.Limits.{most_values}
 use Rattle.interp_numeric.specs.Integers.{wrap}
@@ -14,4 +14,4 @@ overflow_add-state c =
 
 pub returns : goal.returns
 unfolding wrap
-returns c = λ w k v st. size_replied w c.args.state.now _ k c.args.number _ st c.requires c.i32_wrap_i64.ensures refl refl refl refl c.push.ensures.value
+returns c = λ w k v st. size_replied w c.args.state.now _ k c.args.number _ st c.requires (c.from.ensures ∙ c.i32_wrap_i64.ensures) refl refl refl refl c.push.ensures.word

@@ -1,8 +1,15 @@
-use Rattle.std.proofs.Common.{rules, ◌≡◌, sym, ◌∙◌, to_z, of_z}
+use Rattle.std.proofs.Common.{rules, ◌≡◌, sym, ◌∙◌, to_z, of_z, refl}
 use Rattle.std.specs.Int.{w64}
 use Rattle.interp_numeric.specs.Integers.{signed}
 use Rattle.interp_numeric.proofs.Signs.{signed-is, passed}
+use Rattle.types.specs.declared.value.ValType.TheVariants.{I32}
+use Rattle.types.specs.declared.operators.AtomicOp.TheVariants as atomic
+use Rattle.validate_typing.specs.Typing.{atomic_takes}
+use Rattle.interp_atomics.proofs.Rest.{word_at}
 use Rattle.interp_atomics.proofs.requests.wait.Goals as goal
+
+pub address_at-requires-clause-operand : goal.address_at-requires-clause-operand
+address_at-requires-clause-operand c = word_at (atomic_takes (atomic.Wait c.args.val_type)) _ 2 I32 c.requires refl
 
 pub returns : goal.returns
 returns c =
