@@ -1,2 +1,3 @@
 pub mod TableLaws
 pub mod ImageLaws
+pub mod OperandLaws

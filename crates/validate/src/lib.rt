@@ -6,6 +6,7 @@
 mod alone;
 mod check;
 mod image;
+mod operands;
 mod valid_module;
 
 pub use valid_module::{ValidModule, check_module, validate};

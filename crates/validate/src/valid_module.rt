@@ -8,6 +8,7 @@ ghost use Rattle.validate_typing.specs.Context.{imported_functions, memories_of}
 ghost use Rattle.types.specs.Limits.{most_pages};
 ghost use Rattle.validate_typing.specs.Image.{opening_image, opening_pages, pages_max_of};
 ghost use Rattle.validate.specs.Pages.{HasPagesWithin};
+ghost use Rattle.validate.specs.Operands.{HasLocals, HasOwnOperands, LacksOperands};
 ghost use Rattle.validate_typing.specs.Tabled.{IsValidated, target_at};
 ghost use Rattle.validate_module_rules.specs.Exported.{IsExported};
 ghost use Rattle.validate_module_rules.specs.Faults.{fault_outside};
@@ -20,9 +21,10 @@ ghost use Rattle.validate_typing.specs.declared.fault.Fault.TheVariants as fault
 use crate::alone::check_alone;
 use crate::check::check_parts;
 use crate::image::opening_image;
+use crate::operands::{local_types, operand_types};
 use std::alloc::{AllocError, Global};
 use std::marker::Model;
-use types::{Body, FuncType, Limits, MOST_PAGES, Module, Parts, Sequence};
+use types::{Body, FuncType, Limits, MOST_PAGES, Module, Parts, Sequence, ValType};
 use validate_flat::Flat;
 use validate_module_rules::exported_function;
 use validate_typing::{Table, Target, ValidFault};
@@ -182,6 +184,36 @@ impl ValidModule {
         let parts = self.parts();
         let index = *parts.functions.as_slice().get(own)?;
         parts.types.as_slice().get(index as usize)
+    }
+
+    /// The types of a function's locals, the parameters first (Core specification 1.0, section 3.4.1); functions of the
+    /// module itself, from 0. `None` where there is no such function.
+    ///
+    /// # Errors
+    /// Where memory is refused.
+    pub fn local_types(&self, alloc: Global, own: usize) -> Result<Option<Vec<ValType>>, AllocError>
+        ensures { IfOk result (λ found. MatchOption found (length self.now.parts.bodies ≤ own)
+            (λ types. HasLocals self.now.parts own types.items)) }
+    {
+        local_types(alloc, self.parts(), own)
+    }
+
+    /// The types of the operands of a function's frame before the instruction with this number, the topmost last;
+    /// functions of the module itself, from 0. `None` where there is no such instruction, and where the place can't be
+    /// reached: behind an instruction that never goes on any operands may lie (Core specification 1.0, section 3.3).
+    ///
+    /// # Errors
+    /// Where memory is refused.
+    pub fn operand_types(
+        &self,
+        alloc: Global,
+        own: usize,
+        place: usize,
+    ) -> Result<Option<Vec<ValType>>, AllocError>
+        ensures { IfOk result (λ found. MatchOption found (LacksOperands self.now.parts own place)
+            (λ types. HasOwnOperands self.now.parts own place types.items)) }
+    {
+        operand_types(alloc, self.parts(), own, place)
     }
 
     /// The function of the module itself, from 0, that is exported by a name. None where no export has the name, or what

@@ -7,3 +7,6 @@ pub mod Stuck
 pub mod Endings
 pub mod Whole
 pub mod Spared
+pub mod Forth
+pub mod Unique
+pub mod Known

@@ -17,8 +17,10 @@ mod operands;
 mod parametric;
 mod plain;
 mod problem;
+mod reached;
 mod scope;
 mod variables;
 
 pub use body::check_body;
+pub use reached::operand_types;
 pub use scope::Declared;

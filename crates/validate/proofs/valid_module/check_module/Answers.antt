@@ -1,5 +1,4 @@
 use Rattle.std.proofs.Common.{subst, sym}
-use Rattle.types.specs.declared.parts.Parts.{Parts}
 use Rattle.validate_typing.specs.Validity.{IsValid}
 use Rattle.validate.proofs.TableLaws.{complete_from, memory_from}
 use Rattle.validate.proofs.valid_module.check_module.Goals as goal
