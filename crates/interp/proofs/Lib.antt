@@ -9,3 +9,4 @@ pub mod Starting
 pub mod Flats
 pub mod Quickly
 pub mod Sameness
+pub mod Pushing

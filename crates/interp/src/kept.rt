@@ -23,8 +23,8 @@ pub struct Kept {
     pub operands: usize,
     /// How many results it has.
     pub results: usize,
-    /// The locals and the operands of each open function, the outermost first.
-    pub values: Vec<Value>,
+    /// The words of the locals and the operands of each open function, the outermost first.
+    pub values: Vec<u64>,
     pub globals: Vec<Value>,
     /// The calling functions, the outermost first.
     pub callers: Vec<Caller>,

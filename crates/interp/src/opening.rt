@@ -1,14 +1,15 @@
 //! What a thread has before its first turn.
 
-ghost use Rattle.std.specs.Prelude.{◌≡◌, ◌+◌, ◌≤◌, ◌++◌, length, map, drop};
+ghost use Rattle.std.specs.Prelude.{◌≡◌, ◌+◌, ◌-◌, ◌≤◌, ◌++◌, length, map, replicate};
 ghost use Rattle.std.specs.Prelude.{Some, IfOk, All, vec_len, vec_capacity};
 ghost use Rattle.std.specs.List.{slice_get, splice};
 ghost use Rattle.types.specs.Limits.{most_values};
 ghost use Rattle.validate_typing.specs.Image.{offset_of};
 ghost use Rattle.interp_machine.specs.Program.{constant_of, opening_globals, opening_table, size_of_table, zero_of};
+ghost use Rattle.interp_state.specs.Words.{word_of, AreInRange, Mean};
 ghost use Rattle.interp_state.specs.Stands.{IsProgram};
 
-use interp_state::{Program, push_zeros};
+use interp_state::{Program, push_zeros, word};
 use std::alloc::{AllocError, Global};
 use types::{Instr, MOST_VALUES, Parts, PlainInstr, ValType, Value};
 use validate::ValidModule;
@@ -108,29 +109,45 @@ pub(crate) fn push_all<T: Copy>(values: &mut Vec<T>, more: &[T])
     }
 }
 
+/// Puts the words of values on top.
+pub(crate) fn push_words(words: &mut Vec<u64>, values: &[Value])
+    requires { vec_len words.old + length values.now ≤ vec_capacity words.old }
+    ensures items { words.new.items ≡ words.old.items ++ map word_of values.now }
+    ensures in_range { AreInRange values.now }
+    ensures capacity { vec_capacity words.new ≡ vec_capacity words.old }
+{
+    for value in values {
+        words.push_reserved(word(*value));
+    }
+}
+
 /// The values of a function that starts: its arguments, and a zero for each other local. There is room for all values
 /// that may ever lie on the stack.
 pub(crate) fn opening_values(
     alloc: Global,
     args: &[Value],
     locals: &[ValType],
-) -> Result<Vec<Value>, AllocError>
+) -> Result<Vec<u64>, AllocError>
     requires { length args.now + length locals.now ≤ most_values }
-    ensures items { IfOk result (λ values. values.items ≡ args.now ++ map zero_of locals.now) }
+    ensures items { IfOk result (λ values. Mean values.items (args.now ++ map zero_of locals.now)) }
     ensures room { IfOk result (λ values. most_values ≤ vec_capacity values) }
 {
     let mut values = Vec::with_capacity(alloc, MOST_VALUES)?;
-    push_all(&mut values, args);
-    push_zeros(&mut values, locals);
+    push_words(&mut values, args);
+    push_zeros(&mut values, locals.len());
     Ok(values)
 }
 
-/// Replaces the first values.
+/// Puts the words of arguments in the place of all, and zeros behind them, so that there are as many as before.
 #[inline]
-pub(crate) fn overwrite(values: &mut Vec<Value>, args: &[Value])
+pub(crate) fn overwrite(values: &mut Vec<u64>, args: &[Value])
     requires { length args.now ≤ length values.old.items }
-    ensures items { values.new.items ≡ args.now ++ drop (length args.now) values.old.items }
+    ensures items { values.new.items ≡ map word_of args.now ++ replicate (length values.old.items - length args.now) 0 }
+    ensures in_range { AreInRange args.now }
     ensures capacity { vec_capacity values.new ≡ vec_capacity values.old }
 {
-    write_at(values, 0, args);
+    let locals = values.len() - args.len();
+    values.truncate(0);
+    push_words(values, args);
+    push_zeros(values, locals);
 }

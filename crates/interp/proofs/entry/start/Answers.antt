@@ -7,6 +7,7 @@ use Rattle.types.specs.declared.parts.Body.{Body}
 use Rattle.types.specs.declared.parts.Parts.{Parts}
 use Rattle.types.specs.Values.{type_of}
 use Rattle.interp_machine.specs.Program.{zero_of, opening_globals}
+use Rattle.interp_state.proofs.Words.{means_same}
 use Rattle.interp.proofs.Begun.{one_function}
 use Rattle.interp.proofs.Starting.{starts, few_values}
 use Rattle.interp.proofs.entry.start.Goals as goal
@@ -48,7 +49,7 @@ returns-clause-stands c = λ t body f.
       base = refl;
       operands = search rules;
       results = c.len-2.ensures ∙ ap (λ (x : FuncType). length x.results) type_is;
-      values = c.in_ok-values.ensures.items ∙ ap (λ (ts : List ValType). c.args.args.now ++ map zero_of ts) locals;
+      values = means_same _ _ _ (ap (λ (ts : List ValType). c.args.args.now ++ map zero_of ts) locals) c.in_ok-values.ensures.items;
       globals = c.in_ok-opening_globals.ensures ∙ ap opening_globals c.parts-parts.ensures.parts;
       callers = c.in_ok-with_capacity.ensures.items;
       progress = refl;
