@@ -197,5 +197,5 @@ fn print_moment<W: Write>(
         rows: seen.rows.as_slice(),
         code: &code,
     };
-    write_moment(alloc, shown, &moment, out)
+    write_moment(alloc, module, shown, &moment, out)
 }

@@ -1,7 +1,7 @@
 //! Numbers by which states are told apart quickly. Nothing rests on them: what is equal is compared as a whole.
 
 use interp::Kept;
-use interp_state::Progress;
+use interp_state::{Progress, word};
 use search_memory::Changes;
 use search_walkers::Standing;
 use types::{Outcome, Stop, Value};
@@ -12,13 +12,18 @@ fn mixed(digest: u64, number: u64) -> u64 {
     (digest.rotate_left(5) ^ number).wrapping_mul(0x9e37_79b9_7f4a_7c15)
 }
 
+fn of_words(digest: u64, words: &[u64]) -> u64 {
+    let mut digest = mixed(digest, words.len() as u64);
+    for word in words {
+        digest = mixed(digest, *word);
+    }
+    digest
+}
+
 fn of_values(digest: u64, values: &[Value]) -> u64 {
     let mut digest = mixed(digest, values.len() as u64);
     for value in values {
-        digest = match *value {
-            Value::I32(number) => mixed(digest, number as u64),
-            Value::I64(number) => mixed(digest, number),
-        };
+        digest = mixed(digest, word(*value));
     }
     digest
 }
@@ -34,7 +39,7 @@ fn of_numbers(digest: u64, numbers: &[u32]) -> u64 {
 fn of_kept(kept: &Kept) -> u64 {
     let mut digest = mixed(mixed(1, kept.function as u64), kept.pc as u64);
     digest = of_values(
-        of_values(digest, kept.values.as_slice()),
+        of_words(digest, kept.values.as_slice()),
         kept.globals.as_slice(),
     );
     for caller in kept.callers.as_slice() {

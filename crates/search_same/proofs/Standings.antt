@@ -30,7 +30,7 @@ module _ (x y : Kept) where
   from_globals = pointwise value_eq.eq-value.it x.globals.items y.globals.items && from_callers
 
   abbrev from_values : Bool
-  from_values = pointwise value_eq.eq-value.it x.values.items y.values.items && from_globals
+  from_values = pointwise nat_eq x.values.items y.values.items && from_globals
 
   abbrev from_results : Bool
   from_results = nat_eq x.results y.results && from_values
@@ -51,7 +51,7 @@ module _ (x y : Kept) where
       let operands = second_so (nat_eq x.base y.base) from_operands base in
       let results = second_so (nat_eq x.operands y.operands) from_results operands in
       let values = second_so (nat_eq x.results y.results) from_values results in
-      let globals = second_so (pointwise value_eq.eq-value.it x.values.items y.values.items) from_globals values in
+      let globals = second_so (pointwise nat_eq x.values.items y.values.items) from_globals values in
       let callers = second_so (pointwise value_eq.eq-value.it x.globals.items y.globals.items) from_callers globals in
       let callers_so = pointwise caller_eq.eq-value.it x.callers.items y.callers.items in
       let progress_so = progress_eq.eq-value.it x.progress y.progress in
@@ -61,8 +61,8 @@ module _ (x y : Kept) where
         base = sym (eqb-true x.base y.base (first_so (nat_eq x.base y.base) from_operands base)) ∙ is.base;
         operands = sym (eqb-true x.operands y.operands (first_so (nat_eq x.operands y.operands) from_results operands)) ∙ is.operands;
         results = sym (eqb-true x.results y.results (first_so (nat_eq x.results y.results) from_values results)) ∙ is.results;
-        values = sym (same_list value_eq.eq-value.it same_value x.values.items y.values.items
-            (first_so (pointwise value_eq.eq-value.it x.values.items y.values.items) from_globals values)) ∙ is.values;
+        values = sym (same_list nat_eq eqb-true x.values.items y.values.items
+            (first_so (pointwise nat_eq x.values.items y.values.items) from_globals values)) ∙ is.values;
         globals = sym (same_list value_eq.eq-value.it same_value x.globals.items y.globals.items
             (first_so (pointwise value_eq.eq-value.it x.globals.items y.globals.items) from_callers globals)) ∙ is.globals;
         callers = sym (same_list caller_eq.eq-value.it same_caller x.callers.items y.callers.items (first_so callers_so progress_so callers)) ∙ is.callers;

@@ -2,19 +2,25 @@
 
 use crate::moment::Moment;
 use crate::standing::{OpenFunction, Standing};
-use show_rows::{CodeMap, Shown, Story};
+use interp::Place;
+use show_rows::{Shown, Story};
 use show_text::{Context, Unwritten};
 use std::alloc::Global;
 use std::io::{self, Write};
-use types::{Entry, Event, MOST_THREADS, Question, Value};
+use types::{Entry, Event, MOST_THREADS, Question, ValType, Value};
+use validate::ValidModule;
 
 /// How many bytes stand in a line.
 const IN_A_LINE: usize = 16;
 
-/// Writes a moment: of each thread what it comes to next or on what it sleeps, with its open functions, the one that runs
-/// first; who sleeps, in the order of the queue; and the bytes.
+/// Writes a moment of a run of the module: of each thread what it comes to next or on what it sleeps, with its open functions,
+/// the one that runs first; who sleeps, in the order of the queue; and the bytes.
+///
+/// # Errors
+/// Where memory is refused, and where the output fails.
 pub fn write_moment<W: Write>(
     alloc: Global,
+    valid: &ValidModule,
     shown: Shown,
     moment: &Moment,
     out: &mut W,
@@ -24,6 +30,8 @@ pub fn write_moment<W: Write>(
     }
     let story = Story::new(alloc, shown.record.log.as_slice())?;
     let scene = Scene {
+        alloc,
+        valid,
         shown,
         story: &story,
         moment,
@@ -39,13 +47,15 @@ pub fn write_moment<W: Write>(
 
 /// A moment, and what is known around it.
 #[derive(Clone, Copy)]
-struct Scene<'s, 'e, 'a, 'r, 'w, 'c, 'm, 'n> {
+struct Scene<'v, 's, 'e, 'a, 'r, 'w, 'c, 'm, 'n> {
+    alloc: Global,
+    valid: &'v ValidModule,
     shown: Shown<'r, 'w, 'c, 'm, 'n>,
     story: &'s Story,
     moment: &'e Moment<'a>,
 }
 
-impl Scene<'_, '_, '_, '_, '_, '_, '_, '_> {
+impl Scene<'_, '_, '_, '_, '_, '_, '_, '_, '_> {
     /// Whether a thread was spawned; thread 0 is there from the start.
     fn is_spawned(&self, thread: usize) -> bool {
         match &self.moment.queue {
@@ -74,17 +84,18 @@ impl Scene<'_, '_, '_, '_, '_, '_, '_, '_> {
         None
     }
 
-    fn write_thread<W: Write>(&self, out: &mut W, thread: usize) -> io::Result<()> {
+    fn write_thread<W: Write>(&self, out: &mut W, thread: usize) -> Result<(), Unwritten> {
         if !self.is_spawned(thread) {
             return Ok(());
         }
         let Some((at, entry)) = self.next_of(thread) else {
-            return write!(out, "t{thread} is gone\n");
+            write!(out, "t{thread} is gone\n")?;
+            return Ok(());
         };
         write!(out, "t{thread} ")?;
         self.write_next(out, at, &entry)?;
         match self.moment.standing(&entry) {
-            Some(standing) => write_functions(out, self.shown.code, standing),
+            Some(standing) => self.write_functions(out, standing),
             None => Ok(()),
         }
     }
@@ -117,6 +128,27 @@ impl Scene<'_, '_, '_, '_, '_, '_, '_, '_> {
             }
             None => write!(out, "sleeps"),
         }
+    }
+
+    /// The open functions of a thread, the one that runs first.
+    fn write_functions<W: Write>(&self, out: &mut W, standing: &Standing) -> Result<(), Unwritten> {
+        for number in (0..standing.depth()).rev() {
+            self.write_function(out, standing.open_function(number))?;
+        }
+        Ok(())
+    }
+
+    /// An open function. What it called has taken operands from the top, so that there may be fewer than before the call.
+    fn write_function<W: Write>(&self, out: &mut W, open: OpenFunction) -> Result<(), Unwritten> {
+        let Place { function, instr } = open.place;
+        let locals = self.valid.local_types(self.alloc, function)?;
+        let operands = self.valid.operand_types(self.alloc, function, instr)?;
+        let spot = self.shown.code.spot(open.place);
+        write!(out, "    {spot}")?;
+        write_words(out, "locals", open.locals, locals.as_deref())?;
+        write_words(out, "operands", open.operands, operands.as_deref())?;
+        write!(out, "\n")?;
+        Ok(())
     }
 
     /// Who sleeps, who has slept longest first.
@@ -152,30 +184,24 @@ impl Scene<'_, '_, '_, '_, '_, '_, '_, '_> {
     }
 }
 
-/// The open functions of a thread, the one that runs first.
-fn write_functions<W: Write>(out: &mut W, code: &CodeMap, standing: &Standing) -> io::Result<()> {
-    for number in (0..standing.depth()).rev() {
-        write_function(out, code, standing.open_function(number))?;
-    }
-    Ok(())
-}
-
-fn write_function<W: Write>(out: &mut W, code: &CodeMap, open: OpenFunction) -> io::Result<()> {
-    let spot = code.spot(open.place);
-    write!(out, "    {spot}")?;
-    write_values(out, "locals", open.locals)?;
-    write_values(out, "operands", open.operands)?;
-    write!(out, "\n")
-}
-
-/// Values behind a word, if there are any.
-fn write_values<W: Write>(out: &mut W, name: &str, values: &[Value]) -> io::Result<()> {
-    if values.is_empty() {
+/// Words behind a name, if there are any: each as a value of its type, and one whose type isn't known as its number.
+fn write_words<W: Write>(
+    out: &mut W,
+    name: &str,
+    words: &[u64],
+    types: Option<&[ValType]>,
+) -> io::Result<()> {
+    if words.is_empty() {
         return Ok(());
     }
+    let types = types.unwrap_or(&[]);
     write!(out, "  {name}")?;
-    for value in values {
-        write!(out, " {value}")?;
+    for (place, word) in words.iter().enumerate() {
+        match types.get(place) {
+            Some(ValType::I32) => write!(out, " {}", Value::I32((*word & 0xffff_ffff) as u32))?,
+            Some(ValType::I64) => write!(out, " {}", Value::I64(*word))?,
+            None => write!(out, " {word}")?,
+        }
     }
     Ok(())
 }

@@ -6,7 +6,6 @@ ghost use Rattle.show_moments.specs.Moments.{StandsAs};
 use interp::{Kept, Place, Thread};
 use interp_state::{Caller, Progress};
 use std::alloc::{AllocError, Global};
-use types::Value;
 
 /// Where a thread stands: the place of the instruction that comes next, the functions that called the one that runs, the
 /// outermost first, and what they have.
@@ -17,13 +16,13 @@ pub struct Standing {
     pub kept: Kept,
 }
 
-/// An open function of a thread: where it is, its locals, and its operands, the top of the stack last.
+/// An open function of a thread: where it is, and the words of its locals and of its operands, the top of the stack last.
 #[derive(Clone, Copy, Debug, PartialEq, Eq)]
 pub struct OpenFunction<'a> {
     /// The instruction that comes next, or a call or question that hasn't come back.
     pub place: Place,
-    pub locals: &'a [Value],
-    pub operands: &'a [Value],
+    pub locals: &'a [u64],
+    pub operands: &'a [u64],
 }
 
 /// A copy.
@@ -65,12 +64,12 @@ impl Standing {
         self.callers.len().saturating_add(1)
     }
 
-    /// The values from one place up to another.
-    fn values(&self, from: usize, to: usize) -> &[Value] {
+    /// The words from one place up to another.
+    fn words(&self, from: usize, to: usize) -> &[u64] {
         self.kept.values.as_slice().get(from..to).unwrap_or(&[])
     }
 
-    /// Where the values of the function end that has this number, the outermost's being 0.
+    /// Where the words of the function end that has this number, the outermost's being 0.
     fn end_of(&self, number: usize) -> usize {
         let Some(above) = number.checked_add(1) else {
             return self.kept.values.len();
@@ -91,13 +90,13 @@ impl Standing {
                     function: caller.function,
                     instr: caller.pc,
                 }),
-                locals: self.values(caller.base, caller.operands),
-                operands: self.values(caller.operands, end),
+                locals: self.words(caller.base, caller.operands),
+                operands: self.words(caller.operands, end),
             },
             None => OpenFunction {
                 place: self.running_place(),
-                locals: self.values(self.kept.base, self.kept.operands),
-                operands: self.values(self.kept.operands, end),
+                locals: self.words(self.kept.base, self.kept.operands),
+                operands: self.words(self.kept.operands, end),
             },
         }
     }
