@@ -10,3 +10,4 @@ pub mod Spared
 pub mod Forth
 pub mod Unique
 pub mod Known
+pub mod Reading

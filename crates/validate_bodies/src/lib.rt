@@ -11,6 +11,7 @@ mod branches;
 mod calls;
 mod control;
 mod ends;
+mod laws;
 mod memory;
 mod numeric;
 mod operands;
@@ -22,5 +23,6 @@ mod scope;
 mod variables;
 
 pub use body::check_body;
+pub use laws::operands_have_one_type_each;
 pub use reached::operand_types;
 pub use scope::Declared;

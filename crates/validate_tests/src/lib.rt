@@ -12,6 +12,8 @@ mod equal;
 #[cfg(test)]
 mod large;
 #[cfg(test)]
+mod operands;
+#[cfg(test)]
 mod parts;
 #[cfg(test)]
 mod sections;

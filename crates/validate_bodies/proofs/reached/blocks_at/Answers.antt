@@ -20,7 +20,7 @@ returns-in-Err-Wrong c =
     slice_get_read c.args.code.now _ _ _ refl (omega arith) c.index-code-here.is in
     begins_none (context_of c.args.scope.now) c.args.code.now c.loop-here.here c.args.place _ c.loop-here.blocks.items
     (reverse c.loop-here.ends.ends.items) c.in-Err-Wrong.field-0-0 c.requires.expression c.loop-here.invariant.on at
-    (rw c.in-Err-Wrong.field-0-is at c.in-Err-Wrong.ensures.stuck) c.loop-here-test.true
+    (rw c.in-Err-Wrong.field-0-is at c.in-Err-Wrong.ensures.stuck) (omega arith)
 
 pub loop-here-preserved : goal.loop-here-preserved
 loop-here-preserved c =
