@@ -150,9 +150,9 @@ br_table_law : Law IsBrTable br_table_at
 unfolding br_table_at
 br_table_law =
     then_law (IsVector 0xffff_ffff IsU32) (vector_at 0xffff_ffff u32_at) _
-    (λ labels s bytes. u32_at s bytes >>= λ n. Ok (instrs.Plain (plain.BrTable labels n.0), n.1))
+    (λ labels s bytes. u32_at s bytes >>= λ n. Ok (instrs.Plain (plain.BrTable n.0 labels), n.1))
     (vector_law 0xffff_ffff IsU32 u32_at u32_law) (λ labels.
-    map_law (λ n. instrs.Plain (plain.BrTable labels n)) IsU32 u32_at u32_law)
+    map_law (λ n. instrs.Plain (plain.BrTable n labels)) IsU32 u32_at u32_law)
 
 pub shaped_law : (shape : Shape) → Law (IsShaped shape) (shaped_at shape)
 unfolding shaped_at call_indirect_at

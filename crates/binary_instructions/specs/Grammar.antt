@@ -52,7 +52,7 @@ IsConst types.I64 bytes i rest = (n : ℕ) × IsS64 bytes n rest × (i ≡ const
 -- Labels, and the default label.
 abbrev pub IsBrTable : Spelling Instr
 IsBrTable bytes i rest = (labels : List ℕ) × (mid : List ℕ) × IsVector 0xffff_ffff IsU32 bytes labels mid
-    × ((default : ℕ) × IsU32 mid default rest × (i ≡ instrs.Plain (plain.BrTable labels default)))
+    × ((default : ℕ) × IsU32 mid default rest × (i ≡ instrs.Plain (plain.BrTable default labels)))
 
 -- What stands behind an opcode.
 abbrev pub IsShaped : Shape → Spelling Instr

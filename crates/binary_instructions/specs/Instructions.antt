@@ -2,6 +2,7 @@
 use Rattle.std.specs.Prelude.{ℕ, Option}
 use Rattle.types.specs.declared.value.ValType.{ValType}
 use Rattle.types.specs.declared.value.Value.{Value}
+use Rattle.types.specs.Values.{const_of}
 use Rattle.types.specs.declared.operators.NumericInstr.TheVariants as numeric
 use Rattle.types.specs.declared.instr.Instr.{Instr}
 use Rattle.types.specs.declared.instr.Instr.TheVariants as instrs
@@ -38,4 +39,4 @@ index_instr index.GlobalGet n = plain.GlobalGet n
 index_instr index.GlobalSet n = plain.GlobalSet n
 
 abbrev pub const_instr : Value → Instr
-const_instr v = instrs.Plain (plain.Const v)
+const_instr v = instrs.Plain (const_of v)

@@ -75,7 +75,7 @@ unfoldable pub br_table_at : Reading Instr
 br_table_at s bytes = do
   labels ← vector_at 0xffff_ffff u32_at s bytes
   default ← u32_at s labels.1
-  Ok (instrs.Plain (plain.BrTable labels.0 default.0), default.1)
+  Ok (instrs.Plain (plain.BrTable default.0 labels.0), default.1)
 
 unfoldable pub call_indirect_at : Reading Instr
 call_indirect_at s bytes = do

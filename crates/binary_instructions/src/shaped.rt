@@ -11,7 +11,7 @@ use crate::opcodes::{
 };
 use binary_wire::{Fault, IndexItem, ReadFault, Reader, Refusal, read_vector};
 use std::alloc::Global;
-use types::{BlockType, Instr, Labels, PlainInstr, ValType, Value};
+use types::{BlockType, Instr, Labels, PlainInstr, ValType};
 
 fn opening_of(op: Opener, block_type: BlockType) -> Instr
     ensures { result ≡ opening op block_type }
@@ -93,11 +93,11 @@ fn read_const(reader: &mut Reader, val_type: ValType) -> Result<Instr, Refusal>
     ensures gives { Gives (λ i. (i, reader.new.rest.now)) result (const_at val_type reader.old.bounds reader.old.rest.now) }
     ensures keeps { reader.new.bounds ≡ reader.old.bounds }
 {
-    let value = match val_type {
-        ValType::I32 => Value::I32(reader.read_s32()?),
-        ValType::I64 => Value::I64(reader.read_s64()?),
+    let instr = match val_type {
+        ValType::I32 => PlainInstr::I32Const(reader.read_s32()?),
+        ValType::I64 => PlainInstr::I64Const(reader.read_s64()?),
     };
-    Ok(Instr::Plain(PlainInstr::Const(value)))
+    Ok(Instr::Plain(instr))
 }
 
 /// The labels of `br_table`, and its default label (Core specification 1.0, section 5.4.1).
@@ -108,7 +108,7 @@ fn read_br_table(reader: &mut Reader, alloc: Global) -> Result<Instr, ReadFault>
 {
     let labels = read_vector::<IndexItem>(reader, alloc, u32::MAX)?;
     let default = reader.read_u32()?;
-    Ok(Instr::Plain(PlainInstr::BrTable(Labels::new(alloc, labels)?, default)))
+    Ok(Instr::Plain(PlainInstr::BrTable(default, Labels::new(alloc, labels)?)))
 }
 
 /// The type of `call_indirect` and its reserved byte (Core specification 1.0, section 5.4.1).

@@ -583,7 +583,7 @@ static CONSTANTS: [(&[u8], Value); 4] = [
 #[test]
 fn reads_constants(rt: HostRuntime) -> Result<(), Fail> {
     for (bytes, value) in CONSTANTS {
-        let constant = PlainInstr::Const(value);
+        let constant = PlainInstr::constant(value);
         assert!(rt; is_plain(rt.alloc(), bytes, constant)?, "{value}");
     }
     Ok(())
@@ -619,7 +619,7 @@ fn reads_labels_of_a_table(rt: HostRuntime) -> Result<(), Fail> {
         is_plain(
             rt.alloc(),
             &[0x0e, 2, 4, 5, 6, 0x0b],
-            PlainInstr::BrTable(labels, 6)
+            PlainInstr::BrTable(6, labels)
         )?
     );
     Ok(())

@@ -23,7 +23,8 @@ fn constant(code: &[Instr]) -> Value
         return Value::I32(0);
     };
     match first {
-        Instr::Plain(PlainInstr::Const(value)) => *value,
+        Instr::Plain(PlainInstr::I32Const(number)) => Value::I32(*number),
+        Instr::Plain(PlainInstr::I64Const(number)) => Value::I64(*number),
         _ => Value::I32(0),
     }
 }

@@ -322,7 +322,7 @@ module _ (m : Parts) (v : IsValid m) (whole : length m.functions ≡ length m.bo
     doing (plain.BrIf l) rest middle f r =
         number m types.I32 (f.0 ++ f.2.0) c.frame.operands _ f.2.1 (λ n below d.
         test m (nat_eq n 0) _ _ (on rest middle r below (d ∙ sym f.2.2)) (branch l below f.0 f.2.0 d f.1))
-    doing (plain.BrTable ls l) rest middle f r =
+    doing (plain.BrTable l ls) rest middle f r =
         number m types.I32 (f.0 ++ f.2.0) c.frame.operands _ f.2.1 (λ n below d.
         branch (chosen ls l n) below f.0 f.2.0 d (chosen_carries labels f.0 ls l n f.1))
     doing plain.Return rest middle f r = returning m x inside c callers globals q f.0 c.frame.operands arity f.1
@@ -360,8 +360,10 @@ module _ (m : Parts) (v : IsValid m) (whole : length m.functions ≡ length m.bo
         let y = global_slot i f.0 f.1 in
         top m f.0.val_type f.3.0 c.frame.operands _ f.3.1 (λ u below a d. some m _ y.value _ y.is
         (goes_behind rest below c.frame.locals (slice_set c.globals i u) (at_types rest middle r (map type_of below) (d ∙ sym f.3.2)) locals (y.keeps u a ∙ globals)))
-    doing (plain.Const u) rest middle f r =
-        on rest middle r (u ∷ c.frame.operands) (ap (λ (ts : List ValType). type_of u ∷ ts) f.1 ∙ sym f.2)
+    doing (plain.I32Const n) rest middle f r =
+        on rest middle r (values.I32 n ∷ c.frame.operands) (ap (λ (ts : List ValType). types.I32 ∷ ts) f.1 ∙ sym f.2)
+    doing (plain.I64Const n) rest middle f r =
+        on rest middle r (values.I64 n ∷ c.frame.operands) (ap (λ (ts : List ValType). types.I64 ∷ ts) f.1 ∙ sym f.2)
     doing (plain.Numeric n) rest middle f r = numeric_instr rest c.frame.operands f.0 middle n r f.1 f.2
     doing (plain.Load op arg) rest middle f r =
         number m types.I32 f.2.0 c.frame.operands _ f.2.1 (λ base below d. loading op (base + arg.offset) rest below f.2.0 middle r d f.2.2 c.progress)

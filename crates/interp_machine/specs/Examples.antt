@@ -12,7 +12,7 @@ use Rattle.interp_machine.specs.Program.{Program, Function}
 use Rattle.interp_machine.specs.State.{State, At, start_in}
 
 abbrev pub const : ℕ → PlainInstr
-const n = plain.Const (values.I32 n)
+const n = plain.I32Const n
 
 -- A program of one function without parameters, with one result of type i32, and its start.
 abbrev pub one_type : FuncType
@@ -56,7 +56,7 @@ no_offset = record { align = 3; offset = 0 }
 
 abbrev pub two_word_store : Code
 two_word_store =
-    Then (const 4) (Then (plain.Const (values.I64 0x1122334455667788))
+    Then (const 4) (Then (plain.I64Const 0x1122334455667788)
     (Then (plain.Store (access.Whole I64) no_offset) (Then (const 0) Empty)))
 
 -- A program of three functions, of which the second gives 42 and the third has another type, and a table of three places: the second

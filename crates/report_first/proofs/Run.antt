@@ -39,7 +39,7 @@ module _ (a v : ℕ) where
   add = Then (plain.Atomic (atomic.Rmw ops.Add (access.Whole types.I32)) whole_word) Empty
 
   abbrev second : Code
-  second = Then (plain.Const (values.I32 v)) add
+  second = Then (plain.I32Const v) add
 
   -- before the first turn, behind each constant, and behind the add
   abbrev pub c0 : Config

@@ -25,7 +25,7 @@ module _ (a v : ℕ) where
   context = in_function (context_of m) first_type (first_body a v)
 
   nested : Code
-  nested = Then (plain.Const (values.I32 a)) (Then (plain.Const (values.I32 v))
+  nested = Then (plain.I32Const a) (Then (plain.I32Const v)
       (Then (plain.Atomic (atomic.Rmw ops.Add (access.Whole I32)) whole_word) Empty))
 
   has_memory : HasMemory context

@@ -51,7 +51,7 @@ whole_word = record { align = 2; offset = 0 }
 -- Two constants, the add, and the function's end.
 abbrev pub first_code : ℕ → ℕ → List Instr
 first_code address addend =
-    instrs.Plain (plain.Const (values.I32 address)) ∷ instrs.Plain (plain.Const (values.I32 addend))
+    instrs.Plain (plain.I32Const address) ∷ instrs.Plain (plain.I32Const addend)
     ∷ instrs.Plain (plain.Atomic (atomic.Rmw ops.Add (access.Whole types.I32)) whole_word) ∷ instrs.End ∷ []
 
 abbrev pub first_body : ℕ → ℕ → Body

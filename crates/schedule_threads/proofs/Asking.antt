@@ -223,7 +223,7 @@ module _ (p : Program) where
         waits =
             tt;
       } (branches_waits c l below c.frame.labels))
-  does_waits c (plain.BrTable ls l) rest operands = number_waits types.I32 operands _ (λ n below. branches_waits c _ below c.frame.labels)
+  does_waits c (plain.BrTable l ls) rest operands = number_waits types.I32 operands _ (λ n below. branches_waits c _ below c.frame.labels)
   does_waits c plain.Return rest operands = returns_waits c operands
   does_waits c (plain.Call f) rest operands = type_waits f _ (λ t. calls_waits c f t rest operands)
   does_waits c (plain.CallIndirect index) rest operands =
@@ -236,7 +236,8 @@ module _ (p : Program) where
   does_waits c (plain.LocalTee x) rest operands = top_waits operands _ (λ v below. some_waits (slice_get c.frame.locals x) _ (λ w. record { waits = tt }))
   does_waits c (plain.GlobalGet x) rest operands = some_waits (slice_get c.globals x) _ (λ v. record { waits = tt })
   does_waits c (plain.GlobalSet x) rest operands = top_waits operands _ (λ v below. some_waits (slice_get c.globals x) _ (λ w. record { waits = tt }))
-  does_waits c (plain.Const v) rest operands = record { waits = tt }
+  does_waits c (plain.I32Const n) rest operands = record { waits = tt }
+  does_waits c (plain.I64Const n) rest operands = record { waits = tt }
   does_waits c (plain.Numeric n) rest operands = computes_waits c rest (numeric_result n operands)
   does_waits c (plain.Load op arg) rest operands = address_waits operands arg _ (λ addr below. loads_waits c op addr rest below c.progress)
   does_waits c (plain.Store w arg) rest operands =

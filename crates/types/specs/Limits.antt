@@ -1,6 +1,6 @@
 -- The limits of modules and runs, each in one word. They are this project's own (Core specification 1.0, appendix 7.2, leaves
 -- them to an implementation), but for the size of a page (section 4.2.8).
-use Rattle.std.specs.Prelude.{ℕ, ◌+◌, ◌*◌, ◌-◌}
+use Rattle.std.specs.Prelude.{ℕ}
 
 -- Bytes of a page.
 abbrev pub page_size : ℕ

@@ -2,7 +2,7 @@
 use Rattle.std.proofs.Common.{◌≡◌, ℕ, List, [], ◌∷◌, ◌++◌, Option, Some, Bool, true, false, refl, sym, ◌∙◌, ap, subst, slice_get, reverse}
 use Rattle.std.proofs.lemmas.List.{append_cancel_left}
 use Rattle.types.specs.declared.value.ValType.{ValType}
-use Rattle.types.specs.declared.value.ValType.TheVariants.{I32}
+use Rattle.types.specs.declared.value.ValType.TheVariants.{I32, I64}
 use Rattle.types.specs.declared.parts.FuncType.{FuncType}
 use Rattle.types.specs.declared.parts.GlobalType.{GlobalType}
 use Rattle.types.specs.declared.instr.PlainInstr.{PlainInstr}
@@ -51,7 +51,7 @@ fits_same c labels plain.Nop from to other g a b = moves_same [] [] from to othe
 fits_same c labels (plain.Br l) from to other g a b = absurd (cc)
 fits_same c labels (plain.BrIf l) from to other g a b =
     found_same (slice_get labels l) a.0 b.0 (λ x. I32 ∷ x) (λ x. x) from to other a.1 b.1 a.2 b.2
-fits_same c labels (plain.BrTable ls l) from to other g a b = absurd (cc)
+fits_same c labels (plain.BrTable l ls) from to other g a b = absurd (cc)
 fits_same c labels plain.Return from to other g a b = absurd (cc)
 fits_same c labels (plain.Call f) from to other g a b =
     calls_same c [] a.0 b.0 from to other (same_found (slice_get c.functions f) a.0 b.0 a.1 b.1) a.2 b.2
@@ -68,7 +68,8 @@ fits_same c labels (plain.GlobalGet x) from to other g a b =
     found_same (slice_get c.globals x) a.0 b.0 (λ t. []) (λ (t : GlobalType). t.val_type ∷ []) from to other a.1 b.1 a.2 b.2
 fits_same c labels (plain.GlobalSet x) from to other g a b =
     found_same (slice_get c.globals x) a.0 b.0 (λ (t : GlobalType). t.val_type ∷ []) (λ t. []) from to other a.1 b.1 a.3 b.3
-fits_same c labels (plain.Const v) from to other g a b = moves_same [] (type_of v ∷ []) from to other a b
+fits_same c labels (plain.I32Const n) from to other g a b = moves_same [] (I32 ∷ []) from to other a b
+fits_same c labels (plain.I64Const n) from to other g a b = moves_same [] (I64 ∷ []) from to other a b
 fits_same c labels (plain.Numeric n) from to other g a b = moves_same (numeric_takes n) (numeric_gives n ∷ []) from to other a b
 fits_same c labels (plain.Load op arg) from to other g a b = moves_same (I32 ∷ []) (load_type op ∷ []) from to other a.2 b.2
 fits_same c labels (plain.Store w arg) from to other g a b = moves_same (access_type w ∷ (I32 ∷ [])) [] from to other a.2 b.2
@@ -83,7 +84,7 @@ goes_on_not plain.Unreachable = refl
 goes_on_not plain.Nop = refl
 goes_on_not (plain.Br l) = refl
 goes_on_not (plain.BrIf l) = refl
-goes_on_not (plain.BrTable ls l) = refl
+goes_on_not (plain.BrTable l ls) = refl
 goes_on_not plain.Return = refl
 goes_on_not (plain.Call f) = refl
 goes_on_not (plain.CallIndirect index) = refl
@@ -94,7 +95,8 @@ goes_on_not (plain.LocalSet x) = refl
 goes_on_not (plain.LocalTee x) = refl
 goes_on_not (plain.GlobalGet x) = refl
 goes_on_not (plain.GlobalSet x) = refl
-goes_on_not (plain.Const v) = refl
+goes_on_not (plain.I32Const n) = refl
+goes_on_not (plain.I64Const n) = refl
 goes_on_not (plain.Numeric n) = refl
 goes_on_not (plain.Load op arg) = refl
 goes_on_not (plain.Store w arg) = refl

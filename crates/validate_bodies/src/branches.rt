@@ -143,7 +143,7 @@ pub fn check_br_table(
     row: &mut Vec<Target>,
 ) -> Result<(), Problem>
     requires { row.old.items ≡ [] }
-    ensures { Checks (context_of scope.now) (labels_at block.old outer.now) (plain.BrTable indices.now default_index)
+    ensures { Checks (context_of scope.now) (labels_at block.old outer.now) (plain.BrTable default_index indices.now)
         block.old block.new row.new.items result }
 {
     let default = find_label(block, outer, default_index)?;

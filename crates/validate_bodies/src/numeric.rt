@@ -2,14 +2,13 @@
 
 ghost use Rattle.std.specs.Prelude.{[], ◌∷◌, MatchResult};
 ghost use Rattle.validate_typing.specs.Typing.{numeric_takes, numeric_gives};
-ghost use Rattle.types.specs.Values.{type_of};
 ghost use Rattle.types.specs.declared.instr.PlainInstr.TheVariants as plain;
 ghost use Rattle.validate_bodies.specs.Blocks.{Moved, CantMove, ChecksAnywhere};
 
 use crate::block::OpenBlock;
 use crate::operands::replace;
 use crate::problem::Problem;
-use types::{ConvertOp, NumericInstr, ValType, Value};
+use types::{ConvertOp, NumericInstr, ValType};
 
 /// The operands of a numeric instruction and its result.
 fn replace_numbers(block: &mut OpenBlock, instr: NumericInstr) -> Result<(), Problem>
@@ -40,17 +39,24 @@ fn replace_numbers(block: &mut OpenBlock, instr: NumericInstr) -> Result<(), Pro
 }
 
 /// The result of a constant.
-fn put_constant(block: &mut OpenBlock, value: Value) -> Result<(), Problem>
-    ensures { MatchResult result (λ _. Moved [] (type_of value ∷ []) block.old block.new) (CantMove [] block.old) }
+fn put_constant(block: &mut OpenBlock, val_type: ValType) -> Result<(), Problem>
+    ensures { MatchResult result (λ _. Moved [] (val_type ∷ []) block.old block.new) (CantMove [] block.old) }
 {
-    replace(block, &[], Some(value.val_type()))
+    replace(block, &[], Some(val_type))
 }
 
-/// `i32.const` and `i64.const`
-pub fn check_const(block: &mut OpenBlock, value: Value) -> Result<(), Problem>
-    ensures { ChecksAnywhere (plain.Const value) block.old block.new result }
+/// `i32.const`
+pub fn check_i32_const(block: &mut OpenBlock, number: u32) -> Result<(), Problem>
+    ensures { ChecksAnywhere (plain.I32Const number) block.old block.new result }
 {
-    put_constant(block, value)
+    put_constant(block, ValType::I32)
+}
+
+/// `i64.const`
+pub fn check_i64_const(block: &mut OpenBlock, number: u64) -> Result<(), Problem>
+    ensures { ChecksAnywhere (plain.I64Const number) block.old block.new result }
+{
+    put_constant(block, ValType::I64)
 }
 
 /// Any other numeric instruction.

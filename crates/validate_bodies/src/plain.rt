@@ -8,7 +8,7 @@ use crate::block::OpenBlock;
 use crate::branches::{check_br, check_br_if, check_br_table, check_return, check_unreachable};
 use crate::calls::{check_call, check_call_indirect};
 use crate::memory::{check_atomic, check_load, check_memory_grow, check_memory_size, check_store};
-use crate::numeric::{check_const, check_numeric};
+use crate::numeric::{check_i32_const, check_i64_const, check_numeric};
 use crate::parametric::{check_drop, check_fence, check_nop, check_select};
 use crate::problem::Problem;
 use crate::scope::Scope;
@@ -34,7 +34,7 @@ pub fn check_plain(
         PlainInstr::Nop => check_nop(block),
         PlainInstr::Br(index) => check_br(scope, block, outer, *index, row),
         PlainInstr::BrIf(index) => check_br_if(scope, block, outer, *index, row),
-        PlainInstr::BrTable(indices, default) => check_br_table(
+        PlainInstr::BrTable(default, indices) => check_br_table(
             scope, block, outer, indices, *default, row,
         ),
         PlainInstr::Return => check_return(scope, block),
@@ -47,7 +47,8 @@ pub fn check_plain(
         PlainInstr::LocalTee(index) => check_local_tee(scope, block, *index),
         PlainInstr::GlobalGet(index) => check_global_get(scope, block, *index),
         PlainInstr::GlobalSet(index) => check_global_set(scope, block, *index),
-        PlainInstr::Const(value) => check_const(block, *value),
+        PlainInstr::I32Const(number) => check_i32_const(block, *number),
+        PlainInstr::I64Const(number) => check_i64_const(block, *number),
         PlainInstr::Numeric(numeric) => check_numeric(block, *numeric),
         PlainInstr::Load(op, arg) => check_load(scope, block, *op, *arg),
         PlainInstr::Store(width, arg) => check_store(scope, block, *width, *arg),

@@ -10,6 +10,7 @@ use Rattle.std.proofs.lemmas.Slice.Eq.{bytes_eq-Decides}
 use Rattle.types.specs.declared.value.ValType.{ValType}
 use Rattle.types.specs.declared.value.ValType.TheVariants.{I32}
 use Rattle.types.specs.declared.value.Value.{Value}
+use Rattle.types.specs.declared.value.Value.TheVariants as values
 use Rattle.types.specs.declared.instr.PlainInstr.TheVariants as plain
 use Rattle.types.specs.declared.instr.Instr.{Instr}
 use Rattle.types.specs.declared.instr.Instr.TheVariants as instrs
@@ -20,7 +21,7 @@ use Rattle.types.specs.declared.parts.ImportDesc.{ImportDesc}
 use Rattle.types.specs.declared.parts.ImportDesc.TheVariants as imports
 use Rattle.types.specs.declared.parts.Global.{Global}
 use Rattle.types.specs.declared.parts.Parts.{Parts}
-use Rattle.types.specs.Values.{type_of}
+use Rattle.types.specs.Values.{type_of, const_of}
 use Rattle.validate_typing.specs.declared.fault.Fault.{Fault}
 use Rattle.validate_typing.specs.declared.fault.Fault.TheVariants as faults
 use Rattle.validate_typing.specs.Validity.{IsValidType, IsValidImport, IsValidImportOf, IsValidTable, IsValidMemory, IsConstant, IsValidGlobal}
@@ -132,12 +133,15 @@ Tells-memories memories =
 -- globals
 
 constant_is : (code : List Instr) (v : Value) → constant_in code ≡ Some v → IsConstant code v
-constant_is (instrs.Plain (plain.Const w) ∷ (instrs.End ∷ [])) v h =
-    ap (λ x. instrs.Plain (plain.Const x) ∷ (instrs.End ∷ [])) (let e : w ≡ v = cc in e)
+constant_is (instrs.Plain (plain.I32Const n) ∷ (instrs.End ∷ [])) v h =
+    ap (λ x. instrs.Plain (const_of x) ∷ (instrs.End ∷ [])) (let e : values.I32 n ≡ v = cc in e)
+constant_is (instrs.Plain (plain.I64Const n) ∷ (instrs.End ∷ [])) v h =
+    ap (λ x. instrs.Plain (const_of x) ∷ (instrs.End ∷ [])) (let e : values.I64 n ≡ v = cc in e)
 constant_is _ v h = cc
 
 constant_at : (code : List Instr) (v : Value) → IsConstant code v → constant_in code ≡ Some v
-constant_at code v h = ap constant_in h
+constant_at code (values.I32 n) h = ap constant_in h
+constant_at code (values.I64 n) h = ap constant_in h
 
 Tells-value : (found : Option Value) (t : ValType) → Tells (value_fault found t) ((v : Value) × (found ≡ Some v) × (type_of v ≡ t))
 Tells-value None t = Tells-never faults.NotConstant (λ h. let e = h.1 in cc)

@@ -8,6 +8,7 @@ use Rattle.std.specs.Str.{bytes_eq}
 use Rattle.types.specs.declared.value.ValType.{ValType}
 use Rattle.types.specs.declared.value.ValType.TheVariants.{I32}
 use Rattle.types.specs.declared.value.Value.{Value}
+use Rattle.types.specs.declared.value.Value.TheVariants as values
 use Rattle.types.specs.declared.instr.PlainInstr.TheVariants as plain
 use Rattle.types.specs.declared.instr.Instr.{Instr}
 use Rattle.types.specs.declared.instr.Instr.TheVariants as instrs
@@ -94,7 +95,8 @@ memories_fault memories = option_or (unless (nat_le (length memories) 1) faults.
 -- Constant expressions, and globals.
 
 abbrev pub constant_in : List Instr → Option Value
-constant_in (instrs.Plain (plain.Const v) ∷ (instrs.End ∷ [])) = Some v
+constant_in (instrs.Plain (plain.I32Const n) ∷ (instrs.End ∷ [])) = Some (values.I32 n)
+constant_in (instrs.Plain (plain.I64Const n) ∷ (instrs.End ∷ [])) = Some (values.I64 n)
 constant_in _ = None
 
 abbrev pub value_fault : Option Value → ValType → Option Fault

@@ -12,7 +12,8 @@ fn constant(code: &[Instr]) -> Option<Value>
     ensures { result ≡ constant_in code.now }
 {
     match code {
-        [Instr::Plain(PlainInstr::Const(value)), Instr::End] => Some(*value),
+        [Instr::Plain(PlainInstr::I32Const(number)), Instr::End] => Some(Value::I32(*number)),
+        [Instr::Plain(PlainInstr::I64Const(number)), Instr::End] => Some(Value::I64(*number)),
         _ => None,
     }
 }
@@ -36,7 +37,7 @@ pub fn offset(code: &[Instr]) -> u32
         return 0;
     };
     match first {
-        Instr::Plain(PlainInstr::Const(Value::I32(number))) => *number,
+        Instr::Plain(PlainInstr::I32Const(number)) => *number,
         _ => 0,
     }
 }

@@ -30,7 +30,7 @@ fn br_table(alloc: Alloc, text: &str) -> Result<PlainInstr, Fail> {
     }
     let default = labels.pop().unwrap_or(0);
     let labels = Labels::new(alloc, Sequence::from_vec(labels))?;
-    Ok(PlainInstr::BrTable(labels, default))
+    Ok(PlainInstr::BrTable(default, labels))
 }
 
 fn block_type(text: &str) -> Option<ValType> {
@@ -117,8 +117,8 @@ fn numeric(name: &str) -> Option<NumericInstr> {
 /// An instruction that is its name alone, without the operators.
 fn bare(name: &str) -> Option<PlainInstr> {
     match name {
-        "i32" => Some(PlainInstr::Const(Value::I32(1))),
-        "i64" => Some(PlainInstr::Const(Value::I64(1))),
+        "i32" => Some(PlainInstr::I32Const(1)),
+        "i64" => Some(PlainInstr::I64Const(1)),
         "unreachable" => Some(PlainInstr::Unreachable),
         "return" => Some(PlainInstr::Return),
         "drop" => Some(PlainInstr::Drop),

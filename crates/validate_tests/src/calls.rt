@@ -113,7 +113,7 @@ fn keeps_rows(rt: HostRuntime) -> Result<(), Fail> {
 /// What is read of a constant as an offset.
 fn offset_of(alloc: Alloc, value: Value) -> Result<u32, AllocError> {
     let mut code = Vec::new(alloc);
-    code.push(Instr::Plain(PlainInstr::Const(value)))?;
+    code.push(Instr::Plain(PlainInstr::constant(value)))?;
     code.push(Instr::End)?;
     Ok(offset(&code))
 }

@@ -12,7 +12,7 @@ use types::{
 
 const I32: ValType = ValType::I32;
 
-const ZERO: Instr = Instr::Plain(PlainInstr::Const(Value::I32(0)));
+const ZERO: Instr = Instr::Plain(PlainInstr::I32Const(0));
 
 /// How many there are of each: parameters and locals of each function, globals, functions, functions in the table, and
 /// bytes of the one export's name; operands at once, and operands below a block.

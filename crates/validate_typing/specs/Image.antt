@@ -39,7 +39,7 @@ is_shared (Some l) = l.shared
 
 -- The number of a constant expression of type i32.
 abbrev pub offset_of : List Instr → ℕ
-offset_of (instrs.Plain (plain.Const (values.I32 n)) ∷ rest) = n
+offset_of (instrs.Plain (plain.I32Const n) ∷ rest) = n
 offset_of _ = 0
 
 -- A data segment is written over the bytes before (section 4.5.4).

@@ -99,7 +99,7 @@ Fits c labels plain.Nop from to = Moves [] [] from to
 Fits c labels (plain.Br l) from to = (carried : List ValType) × (slice_get labels l ≡ Some carried) × HasOnTop carried from
 Fits c labels (plain.BrIf l) from to = (carried : List ValType) × (slice_get labels l ≡ Some carried)
     × Moves (I32 ∷ carried) carried from to
-Fits c labels (plain.BrTable ls l) from to =
+Fits c labels (plain.BrTable l ls) from to =
     (carried : List ValType) × All (λ k. slice_get labels k ≡ Some carried) (ls ++ (l ∷ [])) × HasOnTop (I32 ∷ carried) from
 Fits c labels plain.Return from to = HasOnTop c.results from
 Fits c labels (plain.Call f) from to = (index : ℕ) × (slice_get c.functions f ≡ Some index) × CallsType c [] index from to
@@ -112,7 +112,8 @@ Fits c labels (plain.LocalTee x) from to = (t : ValType) × (slice_get c.locals 
 Fits c labels (plain.GlobalGet x) from to = (g : GlobalType) × (slice_get c.globals x ≡ Some g) × Moves [] (g.val_type ∷ []) from to
 Fits c labels (plain.GlobalSet x) from to =
     (g : GlobalType) × (slice_get c.globals x ≡ Some g) × (g.mutable ≡ true) × Moves (g.val_type ∷ []) [] from to
-Fits c labels (plain.Const v) from to = Moves [] (type_of v ∷ []) from to
+Fits c labels (plain.I32Const n) from to = Moves [] (I32 ∷ []) from to
+Fits c labels (plain.I64Const n) from to = Moves [] (I64 ∷ []) from to
 Fits c labels (plain.Numeric n) from to = Moves (numeric_takes n) (numeric_gives n ∷ []) from to
 Fits c labels (plain.Load op arg) from to = HasMemory c × IsAligned arg (load_bytes op) × Moves (I32 ∷ []) (load_type op ∷ []) from to
 Fits c labels (plain.Store w arg) from to = HasMemory c × IsAligned arg (access_bytes w) × Moves (access_type w ∷ (I32 ∷ [])) [] from to

@@ -23,7 +23,7 @@ use Rattle.types.specs.declared.parts.ElementSegment.{ElementSegment}
 use Rattle.types.specs.declared.parts.DataSegment.{DataSegment}
 use Rattle.types.specs.declared.parts.Body.{Body}
 use Rattle.types.specs.declared.parts.Parts.{Parts}
-use Rattle.types.specs.Values.{type_of}
+use Rattle.types.specs.Values.{type_of, const_of}
 use Rattle.types.specs.Limits.{page_size}
 use Rattle.validate_typing.specs.Context.{Context, imported_functions, functions_of, memories_of, context_of, in_function}
 use Rattle.validate_typing.specs.Typing.{IsTyped}
@@ -61,7 +61,7 @@ IsValidMemory l = IsOrdered l × (l.shared ≡ true → (n : ℕ) × (l.max ≡ 
 
 -- A constant expression: one integer constant (section 3.3.7; there is no imported global that it could get).
 abbrev pub IsConstant : List Instr → Value → Type 0
-IsConstant code v = code ≡ instrs.Plain (plain.Const v) ∷ (instrs.End ∷ [])
+IsConstant code v = code ≡ instrs.Plain (const_of v) ∷ (instrs.End ∷ [])
 
 -- A global begins with a constant of its type (section 3.4.4).
 abbrev pub IsValidGlobal : Global → Type 0

@@ -18,7 +18,7 @@ returns-in_err-default c =
     let labels = labels_at c.args.block.now c.args.outer.now in
     let none = types_none labels c.args.default_index c.in_err-default.ensures.1 in
     at_exit _ _ _ _ c.from_residual.ensures.1
-    (refused_missing (context_of c.args.scope.now) labels (plain.BrTable c.args.indices.now c.args.default_index) c.args.block.now _ UnknownLabel c.in_err-default.ensures.0
+    (refused_missing (context_of c.args.scope.now) labels (plain.BrTable c.args.default_index c.args.indices.now) c.args.block.now _ UnknownLabel c.in_err-default.ensures.0
     (no_default_kind (types_of labels) c.args.indices.now c.args.default_index none)
     (λ ts us x. never_found _ x.0 none (all_end (Carry labels x.0) c.args.indices.now c.args.default_index x.1)))
 
@@ -31,7 +31,7 @@ returns-in_err-need_labels c =
     let found = types_at labels c.args.default_index (as_label l) c.in_ok-default.ensures in
     let lost : are_labels (types_of labels) ks ≡ false = rw c.as_slice-indices.ensures at c.in_err-need_labels.ensures.1 in
     at_exit _ _ _ _ c.from_residual-in_err-need_labels.ensures.1
-    (refused_missing (context_of c.args.scope.now) labels (plain.BrTable c.args.indices.now c.args.default_index) c.args.block.now _ UnknownLabel c.in_err-need_labels.ensures.0
+    (refused_missing (context_of c.args.scope.now) labels (plain.BrTable c.args.default_index c.args.indices.now) c.args.block.now _ UnknownLabel c.in_err-need_labels.ensures.0
     (no_label_kind (types_of labels) ks c.args.default_index carried found lost)
     (λ ts us x.
     let never : true ≡ false = sym (all_there (types_of labels) x.0 ks (all_front (Carry labels x.0) ks c.args.default_index x.1)) ∙ lost in
@@ -58,7 +58,7 @@ returns-in_err-take_one c =
     let found = types_at labels c.args.default_index (as_label l) c.in_ok-default.ensures in
     let there : are_labels (types_of labels) ks ≡ true = rw c.as_slice-indices.ensures at c.in_ok-need_labels.ensures in
     at_exit _ _ _ _ c.from_residual-in_err-take_one.ensures.1
-    (refused_cant (context_of c.args.scope.now) labels (plain.BrTable c.args.indices.now c.args.default_index) (I32 ∷ carried) c.args.block.now _
+    (refused_cant (context_of c.args.scope.now) labels (plain.BrTable c.args.default_index c.args.indices.now) (I32 ∷ carried) c.args.block.now _
     (table_kind (types_of labels) ks c.args.default_index carried found there)
     (λ ts us x. branched_off _ carried ts found x.0 (all_end (Carry labels x.0) ks c.args.default_index x.1) x.2)
     (cant_more (I32 ∷ []) carried c.args.block.now _ c.in_err-take_one.ensures))
@@ -72,7 +72,7 @@ returns-in_err-take_result c =
     let found = types_at labels c.args.default_index (as_label l) c.in_ok-default.ensures in
     let there : are_labels (types_of labels) ks ≡ true = rw c.as_slice-indices.ensures at c.in_ok-need_labels.ensures in
     at_exit _ _ _ _ c.from_residual-in_err-take_result.ensures.1
-    (refused_cant (context_of c.args.scope.now) labels (plain.BrTable c.args.indices.now c.args.default_index) (I32 ∷ carried) c.args.block.now _
+    (refused_cant (context_of c.args.scope.now) labels (plain.BrTable c.args.default_index c.args.indices.now) (I32 ∷ carried) c.args.block.now _
     (table_kind (types_of labels) ks c.args.default_index carried found there)
     (λ ts us x. branched_off _ carried ts found x.0 (all_end (Carry labels x.0) ks c.args.default_index x.1) x.2)
     (lacks_cant (I32 ∷ carried) c.args.block.now _ (lacks_after (I32 ∷ []) carried _ _ _ c.in_ok-take_one.ensures c.in_err-take_result.ensures)))
@@ -85,7 +85,7 @@ returns c =
     let ks = c.args.indices.now in
     let row = rw c.as_slice-indices.ensures at c.in_ok-table_row.ensures.row in
     let all = rw c.as_slice-indices.ensures at c.in_ok-table_row.ensures.carried in
-    checked_stop (context_of c.args.scope.now) labels (plain.BrTable ks c.args.default_index) (I32 ∷ carried) _ _ _ _
+    checked_stop (context_of c.args.scope.now) labels (plain.BrTable c.args.default_index ks) (I32 ∷ carried) _ _ _ _
     (takes_then (I32 ∷ []) carried _ _ _ c.in_ok-take_one.ensures c.in_ok-take_result.ensures) c.stop.ensures.shape c.stop.ensures.flow
     c.stop.ensures.bare
     (λ below us. (

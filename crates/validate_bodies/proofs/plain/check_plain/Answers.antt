@@ -13,8 +13,11 @@ returns-in-Drop c = rw c.in-Drop.is (checks_stand _ _ _ _ _ _ _ c.requires c.che
 pub returns-in-Select : goal.returns-in-Select
 returns-in-Select c = rw c.in-Select.is (checks_any _ _ _ _ _ _ _ c.requires c.check_select.ensures)
 
-pub returns-in-Const : goal.returns-in-Const
-returns-in-Const c = rw c.in-Const.is (checks_any _ _ _ _ _ _ _ c.requires c.check_const.ensures)
+pub returns-in-I32Const : goal.returns-in-I32Const
+returns-in-I32Const c = rw c.in-I32Const.is (checks_any _ _ _ _ _ _ _ c.requires c.check_i32_const.ensures)
+
+pub returns-in-I64Const : goal.returns-in-I64Const
+returns-in-I64Const c = rw c.in-I64Const.is (checks_any _ _ _ _ _ _ _ c.requires c.check_i64_const.ensures)
 
 pub returns-in-Numeric : goal.returns-in-Numeric
 returns-in-Numeric c = rw c.in-Numeric.is (checks_any _ _ _ _ _ _ _ c.requires c.check_numeric.ensures)
