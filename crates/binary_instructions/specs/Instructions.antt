@@ -3,7 +3,6 @@ use Rattle.std.specs.Prelude.{ℕ, Option}
 use Rattle.types.specs.declared.value.ValType.{ValType}
 use Rattle.types.specs.declared.value.Value.{Value}
 use Rattle.types.specs.Values.{const_of}
-use Rattle.types.specs.declared.operators.NumericInstr.TheVariants as numeric
 use Rattle.types.specs.declared.instr.Instr.{Instr}
 use Rattle.types.specs.declared.instr.Instr.TheVariants as instrs
 use Rattle.types.specs.declared.instr.PlainInstr.{PlainInstr}

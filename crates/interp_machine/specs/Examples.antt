@@ -1,7 +1,6 @@
 -- Small functions, and a program of each, to read the definitions by.
 use Rattle.std.specs.Prelude.{ℕ, [], ◌∷◌, Some, None, false, true}
 use Rattle.types.specs.declared.value.ValType.TheVariants.{I32, I64}
-use Rattle.types.specs.declared.value.Value.TheVariants as values
 use Rattle.types.specs.declared.operators.AccessWidth.TheVariants as access
 use Rattle.types.specs.declared.operators.MemArg.{MemArg}
 use Rattle.types.specs.declared.instr.PlainInstr.{PlainInstr}

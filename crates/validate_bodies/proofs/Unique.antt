@@ -9,7 +9,6 @@ use Rattle.types.specs.declared.instr.PlainInstr.{PlainInstr}
 use Rattle.types.specs.declared.instr.PlainInstr.TheVariants as plain
 use Rattle.types.specs.Nesting.{Code, Empty, Then, BlockThen, LoopThen, IfThen, IfElseThen}
 use Rattle.validate_typing.specs.Context.{Context}
-use Rattle.types.specs.Values.{type_of}
 use Rattle.types.specs.Widths.{load_type, access_type}
 use Rattle.validate_typing.specs.Typing.{results_of, numeric_takes, numeric_gives, atomic_takes, atomic_gives, Moves, CallsType, Fits, HasType}
 use Rattle.validate_typing.specs.Placed.{goes_on}

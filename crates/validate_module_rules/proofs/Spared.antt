@@ -17,7 +17,6 @@ use Rattle.types.specs.declared.parts.ElementSegment.{ElementSegment}
 use Rattle.types.specs.declared.parts.DataSegment.{DataSegment}
 use Rattle.types.specs.declared.parts.Parts.{Parts}
 use Rattle.types.specs.declared.value.ValType.TheVariants.{I32}
-use Rattle.types.specs.declared.instr.Instr.{Instr}
 use Rattle.validate_typing.specs.declared.fault.Fault.{Fault}
 use Rattle.validate_typing.specs.declared.fault.Fault.TheVariants as faults
 use Rattle.validate_typing.specs.Context.{functions_of, memories_of, imported_functions}

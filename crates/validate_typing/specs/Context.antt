@@ -1,5 +1,5 @@
 -- What code may use.
-use Rattle.std.specs.Prelude.{◌≡◌, ℕ, List, [], ◌∷◌, ◌++◌, map}
+use Rattle.std.specs.Prelude.{ℕ, List, [], ◌∷◌, ◌++◌, map}
 use Rattle.std.specs.List.{flat_map}
 use Rattle.types.specs.declared.value.ValType.{ValType}
 use Rattle.types.specs.declared.parts.Limits.{Limits}

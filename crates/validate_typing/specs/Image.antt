@@ -1,7 +1,6 @@
 -- The memory before the first instruction of a run.
-use Rattle.std.specs.Prelude.{ℕ, ◌+◌, ◌*◌, Bool, false, List, [], ◌∷◌, length, replicate, Option, Some, None}
+use Rattle.std.specs.Prelude.{ℕ, ◌+◌, ◌*◌, Bool, false, List, ◌∷◌, length, replicate, Option, Some, None}
 use Rattle.std.specs.List.{slice_get, splice, fold}
-use Rattle.types.specs.declared.value.Value.TheVariants as values
 use Rattle.types.specs.declared.instr.PlainInstr.TheVariants as plain
 use Rattle.types.specs.declared.instr.Instr.{Instr}
 use Rattle.types.specs.declared.instr.Instr.TheVariants as instrs

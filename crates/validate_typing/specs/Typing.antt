@@ -1,11 +1,10 @@
 -- The typing rules of instructions (Core specification 1.0, chapter 3.3; threads proposal, "Atomic Memory
 -- Accesses"). Lists of operand types have the top of the stack first.
-use Rattle.std.specs.Prelude.{◌≡◌, ℕ, ◌≤◌, ◌^◌, List, [], ◌∷◌, ◌++◌, reverse, Option, Some, None, Bool, true, false}
+use Rattle.std.specs.Prelude.{◌≡◌, ℕ, ◌≤◌, ◌^◌, List, [], ◌∷◌, ◌++◌, reverse, Option, Some, None, true}
 use Rattle.std.specs.Bool.{⊤}
 use Rattle.std.specs.List.{slice_get, All}
 use Rattle.types.specs.declared.value.ValType.{ValType}
 use Rattle.types.specs.declared.value.ValType.TheVariants.{I32, I64}
-use Rattle.types.specs.declared.operators.ConvertOp.{ConvertOp}
 use Rattle.types.specs.declared.operators.ConvertOp.TheVariants as convert
 use Rattle.types.specs.declared.operators.NumericInstr.{NumericInstr}
 use Rattle.types.specs.declared.operators.NumericInstr.TheVariants as numeric
@@ -20,7 +19,6 @@ use Rattle.types.specs.declared.parts.Limits.{Limits}
 use Rattle.types.specs.declared.parts.FuncType.{FuncType}
 use Rattle.types.specs.declared.parts.GlobalType.{GlobalType}
 use Rattle.types.specs.Nesting.{Code, Empty, Then, BlockThen, LoopThen, IfThen, IfElseThen, flat}
-use Rattle.types.specs.Values.{type_of}
 use Rattle.types.specs.Widths.{narrow_type, load_type, load_bytes, access_type, access_bytes, atomic_bytes}
 use Rattle.validate_typing.specs.Context.{Context}
 
