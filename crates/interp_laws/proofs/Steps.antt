@@ -13,7 +13,6 @@ use Rattle.types.specs.declared.operators.LoadOp.{LoadOp}
 use Rattle.types.specs.declared.operators.AtomicOp.{AtomicOp}
 use Rattle.types.specs.declared.operators.AtomicOp.TheVariants as atomic
 use Rattle.types.specs.declared.operators.NumericInstr.{NumericInstr}
-use Rattle.types.specs.declared.operators.NumericInstr.TheVariants as numeric
 use Rattle.types.specs.declared.operators.MemArg.{MemArg}
 use Rattle.types.specs.declared.instr.PlainInstr.{PlainInstr}
 use Rattle.types.specs.declared.instr.PlainInstr.TheVariants as plain
