@@ -1,7 +1,8 @@
 #!/usr/bin/env python3
 """Writes a module of nearly 1 MiB, for benchmarks of reading and validating: `functions` has 10,000 small functions, `blocks` has
-15 of nearly 64 KiB each, whose code is blocks with a branch out of each. With a third word the first function is exported
-under it."""
+15 of nearly 64 KiB each, whose code is blocks with a branch out of each, `nops` 16 of nearly 64 KiB, whose code is hardly
+anything but `nop`, so that there are as many instructions as can be. With a third word the first function is exported under
+it."""
 import sys
 
 
@@ -32,7 +33,12 @@ def blocks():
     return b"\x00" + step * 5000 + b"\x20\x00\x0b"
 
 
-count, body = {"functions": (10000, small()), "blocks": (15, blocks())}[sys.argv[1]]
+def nops():
+    # local.get 0; end
+    return b"\x00" + b"\x01" * 65520 + b"\x20\x00\x0b"
+
+
+count, body = {"functions": (10000, small()), "blocks": (15, blocks()), "nops": (16, nops())}[sys.argv[1]]
 module = b"\0asm\x01\0\0\0"
 module += section(1, number(1) + b"\x60\x01\x7f\x01\x7f")
 module += section(3, number(count) + b"\x00" * count)
