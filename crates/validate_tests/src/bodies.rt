@@ -164,7 +164,7 @@ fn instr_of(alloc: Alloc, word: &str) -> Result<Instr, Fail> {
 }
 
 /// The code of a text, with its final end.
-pub fn code_of(alloc: Alloc, text: &str) -> Result<Vec<Instr>, Fail> {
+fn code_of(alloc: Alloc, text: &str) -> Result<Vec<Instr>, Fail> {
     let mut code = Vec::new(alloc);
     for word in text.split_whitespace() {
         code.push(instr_of(alloc, word)?)?;
@@ -184,7 +184,7 @@ fn global(alloc: Alloc, mutable: bool) -> Global {
 }
 
 /// The types of functions: from `i32` to `i32`, and from `i32` and `i64` to `i64`.
-pub fn func_types(alloc: Alloc) -> Result<Vec<FuncType>, AllocError> {
+fn func_types(alloc: Alloc) -> Result<Vec<FuncType>, AllocError> {
     let mut types = Vec::new(alloc);
     types.push(func_type(alloc, &[I32], &[I32])?)?;
     types.push(func_type(alloc, &[I32, I64], &[I64])?)?;
@@ -192,7 +192,7 @@ pub fn func_types(alloc: Alloc) -> Result<Vec<FuncType>, AllocError> {
 }
 
 /// A constant global and one that isn't.
-pub fn two_globals(alloc: Alloc) -> Result<Vec<Global>, AllocError> {
+fn two_globals(alloc: Alloc) -> Result<Vec<Global>, AllocError> {
     let mut globals = Vec::new(alloc);
     globals.push(global(alloc, false))?;
     globals.push(global(alloc, true))?;
@@ -200,11 +200,7 @@ pub fn two_globals(alloc: Alloc) -> Result<Vec<Global>, AllocError> {
 }
 
 /// A module with one body: this code, and so many locals of type `i64`.
-pub fn module_of(
-    alloc: Alloc,
-    code: Vec<Instr>,
-    locals: usize,
-) -> Result<Option<Module>, AllocError> {
+fn module_of(alloc: Alloc, code: Vec<Instr>, locals: usize) -> Result<Option<Module>, AllocError> {
     let body = Body {
         locals: Sequence::from_vec(vec![in alloc; I64; locals]?),
         code: Sequence::from_vec(code),

@@ -12,8 +12,6 @@ mod equal;
 #[cfg(test)]
 mod large;
 #[cfg(test)]
-mod operands;
-#[cfg(test)]
 mod parts;
 #[cfg(test)]
 mod sections;

@@ -70,7 +70,7 @@ fn module(alloc: Global, number: usize) -> Result<Module, Fail> {
 }
 
 /// The valid module with this number in the table.
-pub fn valid(alloc: Global, number: usize) -> Result<ValidModule, Fail> {
+fn valid(alloc: Global, number: usize) -> Result<ValidModule, Fail> {
     let module = module(alloc, number)?;
     Ok(validate(alloc, module)?)
 }
