@@ -4,19 +4,17 @@ ghost use Rattle.types.specs.Limits.{most_limit, most_fuel};
 ghost use Rattle.report_command.specs.Jobs.{IsInRange, KeepsItsModule};
 ghost use Rattle.report_command.specs.FaultNumbers.{usage_number, IsWrong};
 
-use crate::search::{Search, search_command, search_job};
-use crate::show::{View, misread, show_command, show_job};
+use crate::arguments::{Argument, CommandRow, Form, OPTION, Values, command_of};
+use crate::search::{SEARCH, Search, search_job};
+use crate::show::{SHOW, View, misread, show_job};
 use clap::error::ErrorKind;
-use clap::{Arg, ArgAction, ArgMatches, Command, Error, value_parser};
+use clap::{ArgMatches, Command, Error};
 use show_text::Look;
 use std::alloc::{AllocError, Global};
 use types::{MOST_FUEL, MOST_LIMIT};
 
 /// The most bytes that a dump shows.
 pub const DUMP_MOST: u32 = 4096;
-
-/// The kinds of memory.
-const MEMORIES: [&str; 2] = ["locked", "words"];
 
 /// What the command line asks for.
 #[derive(PartialEq, Eq, Debug, Drop)]
@@ -111,159 +109,133 @@ impl From<AllocError> for Usage {
     }
 }
 
-/// An option of this name, which takes a value.
-pub(crate) fn option<'a>(alloc: Global, name: &'a str, value: &'a str, help: &'a str) -> Arg<'a> {
-    Arg::new(alloc, name)
-        .long(name)
-        .value_name(value)
-        .help(help)
-}
-
-/// An option of this name without a value.
-pub(crate) fn flag<'a>(alloc: Global, name: &'a str, help: &'a str) -> Arg<'a> {
-    Arg::new(alloc, name)
-        .long(name)
-        .help(help)
-        .action(ArgAction::SetTrue)
-}
-
 /// The module's path, which every command takes.
-pub(crate) fn file_argument<'a>(alloc: Global) -> Arg<'a> {
-    Arg::new(alloc, "file")
-        .value_name("FILE")
-        .help("The module, in the binary format")
-        .required(true)
-}
+pub(crate) const FILE: Argument = Argument {
+    name: "file",
+    value: "FILE",
+    help: "The module, in the binary format",
+    form: Form::Place,
+    ..OPTION
+};
+
+/// The record's path.
+pub(crate) const RECORD: Argument = Argument {
+    name: "record",
+    value: "RECORD",
+    help: "The record of a run of the module",
+    form: Form::Place,
+    ..OPTION
+};
 
 /// Whether more is said of a refusal.
-fn explain_argument<'a>(alloc: Global) -> Arg<'a> {
-    flag(
-        alloc,
-        "explain",
-        "Say on standard error, behind a refusal, where and why it is, and what to do",
-    )
-}
-
-/// `check FILE [--explain]`
-fn check_command<'a>(alloc: Global) -> Result<Command<'a>, AllocError> {
-    Command::new(alloc, "check")
-        .about("Reads a module, and says how many functions of its own it has")
-        .arg(file_argument(alloc))?
-        .arg(explain_argument(alloc))
-}
+const EXPLAIN: Argument = Argument {
+    name: "explain",
+    help: "Say on standard error, behind a refusal, where and why it is, and what to do",
+    form: Form::Flag,
+    ..OPTION
+};
 
 /// How many bytes a dump shows.
-pub(crate) fn dump_argument<'a>(alloc: Global) -> Arg<'a> {
-    option(
-        alloc,
-        "dump",
-        "N",
-        "Print the first N bytes of the memory, 0 to 4096",
-    )
-    .value_parser(value_parser!(u32).range(0..4097))
-    .default_value("0")
-}
+pub(crate) const DUMP: Argument = Argument {
+    name: "dump",
+    value: "N",
+    help: "Print the first N bytes of the memory, 0 to 4096",
+    values: Values::Number(0, 4097),
+    default: Some("0"),
+    ..OPTION
+};
 
 /// The function that is called.
-pub(crate) fn invoke_argument<'a>(alloc: Global) -> Arg<'a> {
-    option(
-        alloc,
-        "invoke",
-        "NAME",
-        "The exported function that thread 0 runs",
-    )
-    .required(true)
-}
+pub(crate) const INVOKE: Argument = Argument {
+    name: "invoke",
+    value: "NAME",
+    help: "The exported function that thread 0 runs",
+    form: Form::Required,
+    ..OPTION
+};
 
 /// Its arguments.
-pub(crate) fn args_argument<'a>(alloc: Global) -> Arg<'a> {
-    Arg::new(alloc, "args")
-        .value_name("ARG")
-        .help("The function's arguments, unsigned decimals")
-        .num_args(0..)
-}
+pub(crate) const ARGS: Argument = Argument {
+    name: "args",
+    value: "ARG",
+    help: "The function's arguments, unsigned decimals",
+    form: Form::Rest,
+    ..OPTION
+};
 
-/// How much a run may take.
-pub(crate) fn with_bounds<'a>(
-    alloc: Global,
-    command: Command<'a>,
-) -> Result<Command<'a>, AllocError> {
-    let fuel = option(
-        alloc,
-        "fuel",
-        "N",
-        "How many units each thread may spend, 0 to 1000000000000",
-    )
-    .value_parser(value_parser!(u64).range(0..1_000_000_000_001))
-    .default_value("1000000000");
-    let limit = option(
-        alloc,
-        "limit",
-        "N",
-        "How many entries the log takes, 1 to 1000000",
-    )
-    .value_parser(value_parser!(u32).range(1..1_000_001))
-    .default_value("100000");
-    command.arg(fuel)?.arg(limit)
-}
+/// How much a thread may spend.
+pub(crate) const FUEL: Argument = Argument {
+    name: "fuel",
+    value: "N",
+    help: "How many units each thread may spend, 0 to 1000000000000",
+    values: Values::Long(0, 1_000_000_000_001),
+    default: Some("1000000000"),
+    ..OPTION
+};
 
-/// Where a run happens, and where its record goes.
-fn with_memory<'a>(alloc: Global, command: Command<'a>) -> Result<Command<'a>, AllocError> {
-    let memory = option(
-        alloc,
-        "memory",
-        "KIND",
-        "Which memory: one behind a lock, which records, or a row of atomic words",
-    )
-    .value_parser(MEMORIES.as_slice())
-    .default_value("locked");
-    let record = option(
-        alloc,
-        "record",
-        "OUT",
-        "Write a record of the run to this file; not with words",
-    );
-    command.arg(memory)?.arg(record)
-}
+/// How much a log takes.
+pub(crate) const LIMIT: Argument = Argument {
+    name: "limit",
+    value: "N",
+    help: "How many entries the log takes, 1 to 1000000",
+    values: Values::Number(1, 1_000_001),
+    default: Some("100000"),
+    ..OPTION
+};
 
-/// `run FILE --invoke NAME [--memory locked|words] [--fuel N] [--limit N] [--record OUT] [--dump N]
+/// Where a run happens.
+const MEMORY: Argument = Argument {
+    name: "memory",
+    value: "KIND",
+    help: "Which memory: one behind a lock, which records, or a row of atomic words",
+    values: Values::OneOf(&["locked", "words"]),
+    default: Some("locked"),
+    ..OPTION
+};
+
+/// Where its record goes.
+const SAVE: Argument = Argument {
+    name: "record",
+    value: "OUT",
+    help: "Write a record of the run to this file; not with words",
+    ..OPTION
+};
+
+/// `check FILE [--explain]`
+static CHECK: CommandRow = CommandRow {
+    name: "check",
+    about: "Reads a module, and says how many functions of its own it has",
+    after_help: None,
+    arguments: &[FILE, EXPLAIN],
+};
+
+/// `run FILE --invoke NAME [--memory locked|words] [--record OUT] [--fuel N] [--limit N] [--dump N]
 /// [--explain] [ARG..]`
-fn run_command<'a>(alloc: Global) -> Result<Command<'a>, AllocError> {
-    let command = Command::new(alloc, "run")
-        .about("Runs a function of a module, and prints how its threads ended")
-        .arg(file_argument(alloc))?
-        .arg(invoke_argument(alloc))?;
-    with_bounds(alloc, with_memory(alloc, command)?)?
-        .arg(dump_argument(alloc))?
-        .arg(explain_argument(alloc))?
-        .arg(args_argument(alloc))
-}
+static RUN: CommandRow = CommandRow {
+    name: "run",
+    about: "Runs a function of a module, and prints how its threads ended",
+    after_help: None,
+    arguments: &[FILE, INVOKE, MEMORY, SAVE, FUEL, LIMIT, DUMP, EXPLAIN, ARGS],
+};
 
 /// `replay FILE RECORD [--dump N] [--explain]`
-fn replay_command<'a>(alloc: Global) -> Result<Command<'a>, AllocError> {
-    let record = Arg::new(alloc, "record")
-        .value_name("RECORD")
-        .help("The record of a run of the module")
-        .required(true);
-    Command::new(alloc, "replay")
-        .about("Runs a record again by one thread, and prints what the run printed")
-        .arg(file_argument(alloc))?
-        .arg(record)?
-        .arg(dump_argument(alloc))?
-        .arg(explain_argument(alloc))
-}
+static REPLAY: CommandRow = CommandRow {
+    name: "replay",
+    about: "Runs a record again by one thread, and prints what the run printed",
+    after_help: None,
+    arguments: &[FILE, RECORD, DUMP, EXPLAIN],
+};
 
 /// The whole command line.
 fn commands<'a>(alloc: Global) -> Result<Command<'a>, AllocError> {
-    Command::new(alloc, "wathread")
+    let mut commands = Command::new(alloc, "wathread")
         .version("0.1.0")
         .about("A proved interpreter of WebAssembly modules whose threads share one linear memory")
-        .subcommand_required(true)
-        .subcommand(check_command(alloc)?)?
-        .subcommand(run_command(alloc)?)?
-        .subcommand(replay_command(alloc)?)?
-        .subcommand(show_command(alloc)?)?
-        .subcommand(search_command(alloc)?)
+        .subcommand_required(true);
+    for row in [&CHECK, &RUN, &REPLAY, &SHOW, &SEARCH] {
+        commands = commands.subcommand(command_of(alloc, row)?)?;
+    }
+    Ok(commands)
 }
 
 /// The numbers of a run, where they are there and in range, as the parser sees to.
@@ -394,6 +366,20 @@ impl Misuse {
         }
     }
 
+    /// The command whose words they are, and how it is called, where it is known.
+    fn command(self) -> Option<(&'static CommandRow, &'static str)> {
+        match self {
+            Misuse::NotText | Misuse::Unreadable => None,
+            Misuse::RecordsWords | Misuse::ReplacesModule => Some((&RUN, "wathread run")),
+            Misuse::NoLines | Misuse::NoAddresses | Misuse::NoBytes | Misuse::ReplacesRead => {
+                Some((&SHOW, "wathread show"))
+            }
+            Misuse::RecordsNothing | Misuse::FindReplacesModule | Misuse::Strategy => {
+                Some((&SEARCH, "wathread search"))
+            }
+        }
+    }
+
     fn text(self) -> &'static str {
         match self {
             Misuse::NotText => "invalid UTF-8 was detected in one or more arguments",
@@ -438,16 +424,9 @@ pub fn misused(alloc: Global, misuse: Misuse) -> Usage
 
 /// The error with its text, and the usage of the command whose words they are.
 fn error_of(alloc: Global, misuse: Misuse) -> Result<Error, AllocError> {
-    let mut usage = match misuse {
-        Misuse::NotText | Misuse::Unreadable => commands(alloc)?,
-        Misuse::RecordsWords | Misuse::ReplacesModule => {
-            run_command(alloc)?.bin_name("wathread run")?
-        }
-        Misuse::NoLines | Misuse::NoAddresses | Misuse::NoBytes | Misuse::ReplacesRead =>
-            show_command(alloc)?.bin_name("wathread show")?,
-        Misuse::RecordsNothing | Misuse::FindReplacesModule | Misuse::Strategy => {
-            search_command(alloc)?.bin_name("wathread search")?
-        }
+    let mut usage = match misuse.command() {
+        None => commands(alloc)?,
+        Some((row, name)) => command_of(alloc, row)?.bin_name(name)?,
     };
     usage.error(misuse.kind(), misuse.text())
 }

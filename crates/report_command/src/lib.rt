@@ -1,6 +1,7 @@
 //! The command line as a job.
 #![tactic(auto)]
 
+mod arguments;
 mod command_line;
 mod search;
 mod show;

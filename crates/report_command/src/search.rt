@@ -2,11 +2,9 @@
 ghost use Rattle.std.specs.Prelude.{◌≤◌, IfOk, IfSome};
 ghost use Rattle.report_command.specs.Searches.{IsSearchInRange, most_runs, most_states};
 
-use crate::command_line::{
-    args_argument, args_of, bounds_of, dump_argument, file_argument, flag, invoke_argument, option,
-    with_bounds,
-};
-use clap::{Arg, ArgMatches, Command, value_parser};
+use crate::arguments::{Argument, CommandRow, Form, OPTION, Values};
+use crate::command_line::{ARGS, DUMP, FILE, FUEL, INVOKE, LIMIT, args_of, bounds_of};
+use clap::ArgMatches;
 use search_strategies::{MOST_DEPTH, Way};
 use std::alloc::{AllocError, Global};
 
@@ -65,150 +63,129 @@ const MOST_STATES: u32 = 1_000_000_000;
 const STATES: u32 = 1_000_000;
 
 /// What the option is for that ends a search.
-const UNTIL: &str =
+const UNTIL_HELP: &str =
     "With --until PATH it ends once there is a file with this path, and prints what it met so far.";
 
 /// How many runs.
-fn runs_argument<'a>(alloc: Global) -> Arg<'a> {
-    option(alloc, "runs", "N", "How many runs are made at most")
-        .value_parser(value_parser!(u64).range(1..1_000_000_000_001))
-        .default_value("1000")
-}
+const RUNS: Argument = Argument {
+    name: "runs",
+    value: "N",
+    help: "How many runs are made at most",
+    values: Values::Long(1, 1_000_000_000_001),
+    default: Some("1000"),
+    ..OPTION
+};
 
 /// The first run.
-fn from_argument<'a>(alloc: Global) -> Arg<'a> {
-    option(alloc, "from", "I", "The number of the first run")
-        .value_parser(value_parser!(u64).range(1..1_000_000_000_001))
-        .default_value("1")
-}
+const FROM: Argument = Argument {
+    name: "from",
+    value: "I",
+    help: "The number of the first run",
+    values: Values::Long(1, 1_000_000_000_001),
+    default: Some("1"),
+    ..OPTION
+};
 
 /// The seed.
-fn seed_argument<'a>(alloc: Global) -> Arg<'a> {
-    option(
-        alloc,
-        "seed",
-        "S",
-        "The seed: run I of a seed is the same on every machine",
-    )
-    .value_parser(value_parser!(u64).range(0..1_000_000_000_000_000_001))
-    .default_value("1")
-}
+const SEED: Argument = Argument {
+    name: "seed",
+    value: "S",
+    help: "The seed: run I of a seed is the same on every machine",
+    values: Values::Long(0, 1_000_000_000_000_000_001),
+    default: Some("1"),
+    ..OPTION
+};
 
 /// Who goes on.
-fn strategy_argument<'a>(alloc: Global) -> Arg<'a> {
-    option(
-        alloc,
-        "strategy",
-        "WAY",
-        "Who goes on: random, or pct:D for priorities that change at D - 1 points, D of 1 to 32",
-    )
-    .default_value("random")
-}
+const STRATEGY: Argument = Argument {
+    name: "strategy",
+    value: "WAY",
+    help: "Who goes on: random, or pct:D for priorities that change at D - 1 points, D of 1 to 32",
+    default: Some("random"),
+    ..OPTION
+};
 
 /// How many threads make runs.
-fn jobs_argument<'a>(alloc: Global) -> Arg<'a> {
-    option(
-        alloc,
-        "jobs",
-        "N",
-        "How many threads make runs, 1 to 256; without it as many as there are processors",
-    )
-    .value_parser(value_parser!(u32).range(1..257))
-}
-
-/// Which runs are made.
-fn with_runs<'a>(alloc: Global, command: Command<'a>) -> Result<Command<'a>, AllocError> {
-    command
-        .arg(runs_argument(alloc))?
-        .arg(from_argument(alloc))?
-        .arg(seed_argument(alloc))?
-        .arg(strategy_argument(alloc))?
-        .arg(jobs_argument(alloc))
-}
+const JOBS: Argument = Argument {
+    name: "jobs",
+    value: "N",
+    help: "How many threads make runs, 1 to 256; without it as many as there are processors",
+    values: Values::Number(1, 257),
+    ..OPTION
+};
 
 /// Every order in place of drawn runs.
-fn all_argument<'a>(alloc: Global) -> Result<Arg<'a>, AllocError> {
-    flag(
-        alloc,
-        "all",
-        "In place of drawn runs, go through every order of the threads' entries, by each state once",
-    )
-    .conflicts_with("runs")?
-    .conflicts_with("from")?
-    .conflicts_with("seed")?
-    .conflicts_with("strategy")?
-    .conflicts_with("jobs")
-}
+const ALL: Argument = Argument {
+    name: "all",
+    help: "In place of drawn runs, go through every order of the threads' entries, by each state once",
+    form: Form::Flag,
+    conflicts: &["runs", "from", "seed", "strategy", "jobs"],
+    ..OPTION
+};
 
 /// How many states.
-fn states_argument<'a>(alloc: Global) -> Result<Arg<'a>, AllocError> {
-    option(
-        alloc,
-        "states",
-        "N",
-        "With --all: how many states are met at most, 1 to 1000000000; without it 1000000",
-    )
-    .value_parser(value_parser!(u32).range(1..1_000_000_001))
-    .requires_arg("all")
-}
+const MET: Argument = Argument {
+    name: "states",
+    value: "N",
+    help: "With --all: how many states are met at most, 1 to 1000000000; without it 1000000",
+    values: Values::Number(1, 1_000_000_001),
+    needs: Some("all"),
+    ..OPTION
+};
 
-/// Every order in place of drawn runs.
-fn with_all<'a>(alloc: Global, command: Command<'a>) -> Result<Command<'a>, AllocError> {
-    command
-        .arg(all_argument(alloc)?)?
-        .arg(states_argument(alloc)?)
-}
+/// What is looked for.
+const FIND: Argument = Argument {
+    name: "find",
+    value: "WORDS",
+    help: "Stop at the first run with a thread's line that has these words",
+    ..OPTION
+};
 
-/// What is looked for, and what becomes of it.
-fn with_wishes<'a>(alloc: Global, command: Command<'a>) -> Result<Command<'a>, AllocError> {
-    command
-        .arg(option(
-            alloc,
-            "find",
-            "WORDS",
-            "Stop at the first run with a thread's line that has these words",
-        ))?
-        .arg(option(
-            alloc,
-            "expect",
-            "WORDS",
-            "Stop at the first run whose line of thread 0 hasn't these words",
-        ))?
-        .arg(option(
-            alloc,
-            "record",
-            "OUT",
-            "Write a record of the run that was found to this file",
-        ))?
-        .arg(flag(
-            alloc,
-            "shrink",
-            "Look for a run that ends as the one that was found, with few switches of threads",
-        ))
-}
+/// What isn't looked for.
+const EXPECT: Argument = Argument {
+    name: "expect",
+    value: "WORDS",
+    help: "Stop at the first run whose line of thread 0 hasn't these words",
+    ..OPTION
+};
+
+/// Where the record of what is found goes.
+const SAVE: Argument = Argument {
+    name: "record",
+    value: "OUT",
+    help: "Write a record of the run that was found to this file",
+    ..OPTION
+};
+
+/// What becomes of it.
+const SHRINK: Argument = Argument {
+    name: "shrink",
+    help: "Look for a run that ends as the one that was found, with few switches of threads",
+    form: Form::Flag,
+    ..OPTION
+};
 
 /// The file that ends it. The launcher adds this option to the words of every search: what is said of words that are wrong is the same
 /// with it and without, since usage lines leave it out. So does the list of options, and the help's last line has it.
-fn until_argument<'a>(alloc: Global) -> Arg<'a> {
-    option(alloc, "until", "PATH", UNTIL).hide(true)
-}
+const UNTIL: Argument = Argument {
+    name: "until",
+    value: "PATH",
+    help: UNTIL_HELP,
+    is_hidden: true,
+    ..OPTION
+};
 
 /// `search FILE --invoke NAME [--runs N] [--from I] [--seed S] [--strategy random|pct:D] [--jobs N] [--all [--states N]]
 /// [--find WORDS] [--expect WORDS] [--record OUT] [--shrink] [--until PATH] [--fuel N] [--limit N] [--dump N] [ARG..]`
-pub(crate) fn search_command<'a>(alloc: Global) -> Result<Command<'a>, AllocError> {
-    let command = Command::new(alloc, "search")
-        .about(
-            "Runs a function of a module on one thread along many schedules, and prints how the runs end",
-        )
-        .after_help(UNTIL)
-        .arg(file_argument(alloc))?
-        .arg(invoke_argument(alloc))?;
-    let command = with_all(alloc, with_runs(alloc, command)?)?;
-    let command = with_wishes(alloc, command)?.arg(until_argument(alloc))?;
-    with_bounds(alloc, command)?
-        .arg(dump_argument(alloc))?
-        .arg(args_argument(alloc))
-}
+pub(crate) static SEARCH: CommandRow = CommandRow {
+    name: "search",
+    about: "Runs a function of a module on one thread along many schedules, and prints how the runs end",
+    after_help: Some(UNTIL_HELP),
+    arguments: &[
+        FILE, INVOKE, RUNS, FROM, SEED, STRATEGY, JOBS, ALL, MET, FIND, EXPECT, SAVE, SHRINK,
+        UNTIL, FUEL, LIMIT, DUMP, ARGS,
+    ],
+};
 
 /// The strategy that a word names: `random`, or `pct:` with a depth of 1 to 32.
 fn way_of(word: &str) -> Option<Way> {

@@ -4,8 +4,9 @@ ghost use Rattle.std.specs.Prelude.{◌≡◌, ◌≤◌, IfOk, IfSome};
 ghost use Rattle.report_command.specs.Jobs.{IsInRange};
 ghost use Rattle.report_command.specs.Views.{IsViewInRange, path_of};
 
-use crate::command_line::{DUMP_MOST, Job, Misuse, file_argument, option};
-use clap::{Arg, ArgMatches, Command, value_parser};
+use crate::arguments::{Argument, CommandRow, OPTION, Values};
+use crate::command_line::{DUMP_MOST, FILE, Job, Misuse, RECORD};
+use clap::ArgMatches;
 use show_text::{Choice, Color, Look, Span};
 use std::alloc::{AllocError, Global};
 
@@ -13,9 +14,6 @@ use std::alloc::{AllocError, Global};
 pub const NARROWEST: u32 = 40;
 
 pub const WIDEST: u32 = 1000;
-
-/// When rows have colors.
-const COLORS: [&str; 3] = ["auto", "always", "never"];
 
 /// A line of a record, before which threads and memory are shown.
 #[derive(Clone, Copy, PartialEq, Eq, Debug)]
@@ -66,143 +64,104 @@ fn bytes_of(text: &str) -> Option<(u64, u32)>
 }
 
 /// The line of the moment.
-fn at_argument<'a>(alloc: Global) -> Arg<'a> {
-    option(
-        alloc,
-        "at",
-        "LINE",
-        "In place of rows, what threads and memory are like before this line of the record",
-    )
-    .value_parser(value_parser!(u64).range(1..2_000_001))
-}
+const AT: Argument = Argument {
+    name: "at",
+    value: "LINE",
+    help: "In place of rows, what threads and memory are like before this line of the record",
+    values: Values::Long(1, 2_000_001),
+    ..OPTION
+};
 
 /// The bytes that are shown of it.
-fn dump_argument<'a>(alloc: Global) -> Result<Arg<'a>, AllocError> {
-    option(
-        alloc,
-        "dump",
-        "A:N",
-        "With --at: print N bytes of the memory from address A on, N up to 4096",
-    )
-    .requires_arg("at")
-}
-
-/// A moment in place of rows.
-fn with_moment<'a>(alloc: Global, command: Command<'a>) -> Result<Command<'a>, AllocError> {
-    command.arg(at_argument(alloc))?.arg(dump_argument(alloc)?)
-}
+const BYTES: Argument = Argument {
+    name: "dump",
+    value: "A:N",
+    help: "With --at: print N bytes of the memory from address A on, N up to 4096",
+    needs: Some("at"),
+    ..OPTION
+};
 
 /// The page.
-fn html_argument<'a>(alloc: Global) -> Result<Arg<'a>, AllocError> {
-    option(
-        alloc,
-        "html",
-        "OUT",
-        "In place of rows, write the entries as a page of HTML to this file",
-    )
-    .conflicts_with("at")
-}
+const HTML: Argument = Argument {
+    name: "html",
+    value: "OUT",
+    help: "In place of rows, write the entries as a page of HTML to this file",
+    conflicts: &["at"],
+    ..OPTION
+};
 
 /// The trace.
-fn trace_argument<'a>(alloc: Global) -> Result<Arg<'a>, AllocError> {
-    option(
-        alloc,
-        "trace",
-        "OUT",
-        "In place of rows, write the entries in the Trace Event Format to this file",
-    )
-    .conflicts_with("at")?
-    .conflicts_with("html")
-}
+const TRACE: Argument = Argument {
+    name: "trace",
+    value: "OUT",
+    help: "In place of rows, write the entries in the Trace Event Format to this file",
+    conflicts: &["at", "html"],
+    ..OPTION
+};
 
-/// A file in place of rows.
-fn with_files<'a>(alloc: Global, command: Command<'a>) -> Result<Command<'a>, AllocError> {
-    command
-        .arg(html_argument(alloc)?)?
-        .arg(trace_argument(alloc)?)
-}
+/// The lines of which entries are shown.
+const LINES: Argument = Argument {
+    name: "lines",
+    value: "A-B",
+    help: "Only the entries on these lines of the record",
+    ..OPTION
+};
 
-/// The threads of which entries are shown.
-fn thread_argument<'a>(alloc: Global) -> Arg<'a> {
-    option(
-        alloc,
-        "thread",
-        "T,..",
-        "Only the entries of these threads, 0 to 63",
-    )
-    .value_delimiter(',')
-    .value_parser(value_parser!(u32).range(0..64))
-}
+/// The threads of which they are.
+const THREADS: Argument = Argument {
+    name: "thread",
+    value: "T,..",
+    help: "Only the entries of these threads, 0 to 63",
+    values: Values::Numbers(0, 64),
+    ..OPTION
+};
 
-/// Which entries are shown.
-fn with_choice<'a>(alloc: Global, command: Command<'a>) -> Result<Command<'a>, AllocError> {
-    command
-        .arg(option(
-            alloc,
-            "lines",
-            "A-B",
-            "Only the entries on these lines of the record",
-        ))?
-        .arg(thread_argument(alloc))?
-        .arg(option(
-            alloc,
-            "addr",
-            "A[-B]",
-            "Only the entries at these addresses, unsigned decimals",
-        ))
-}
+/// The addresses at which they are.
+const ADDRESSES: Argument = Argument {
+    name: "addr",
+    value: "A[-B]",
+    help: "Only the entries at these addresses, unsigned decimals",
+    ..OPTION
+};
+
+/// Another build for names and lines.
+const NAMES: Argument = Argument {
+    name: "names",
+    value: "FILE2",
+    help: "Names and lines of source from a build of the same code, as one with -g",
+    ..OPTION
+};
 
 /// The width of a row.
-fn width_argument<'a>(alloc: Global) -> Arg<'a> {
-    option(
-        alloc,
-        "width",
-        "N",
-        "How many characters a row has room for, 40 to 1000",
-    )
-    .value_parser(value_parser!(u32).range(40..1001))
-    .default_value("120")
-}
+const WIDTH: Argument = Argument {
+    name: "width",
+    value: "N",
+    help: "How many characters a row has room for, 40 to 1000",
+    values: Values::Number(40, 1001),
+    default: Some("120"),
+    ..OPTION
+};
 
 /// When threads have colors.
-fn color_argument<'a>(alloc: Global) -> Arg<'a> {
-    option(
-        alloc,
-        "color",
-        "WHEN",
-        "Whether threads have colors; auto: on a terminal alone",
-    )
-    .value_parser(COLORS.as_slice())
-    .default_value("auto")
-}
-
-/// How they look.
-fn with_look<'a>(alloc: Global, command: Command<'a>) -> Result<Command<'a>, AllocError> {
-    command
-        .arg(option(
-            alloc,
-            "names",
-            "FILE2",
-            "Names and lines of source from a build of the same code, as one with -g",
-        ))?
-        .arg(width_argument(alloc))?
-        .arg(color_argument(alloc))
-}
+const COLOR: Argument = Argument {
+    name: "color",
+    value: "WHEN",
+    help: "Whether threads have colors; auto: on a terminal alone",
+    values: Values::OneOf(&["auto", "always", "never"]),
+    default: Some("auto"),
+    ..OPTION
+};
 
 /// `show FILE RECORD [--lines A-B] [--thread T,..] [--addr A[-B]] [--names FILE2] [--width N] [--color WHEN] [--html OUT]
 /// [--trace OUT]`, and `show FILE RECORD --at LINE [--dump A:N] [--names FILE2]`
-pub(crate) fn show_command<'a>(alloc: Global) -> Result<Command<'a>, AllocError> {
-    let record = Arg::new(alloc, "record")
-        .value_name("RECORD")
-        .help("The record of a run of the module")
-        .required(true);
-    let command = Command::new(alloc, "show")
-        .about("Shows the entries of a record in words, with the place in the module of each")
-        .arg(file_argument(alloc))?
-        .arg(record)?;
-    let command = with_look(alloc, with_choice(alloc, command)?)?;
-    with_files(alloc, with_moment(alloc, command)?)
-}
+pub(crate) static SHOW: CommandRow = CommandRow {
+    name: "show",
+    about: "Shows the entries of a record in words, with the place in the module of each",
+    after_help: None,
+    arguments: &[
+        FILE, RECORD, LINES, THREADS, ADDRESSES, NAMES, WIDTH, COLOR, AT, BYTES, HTML, TRACE,
+    ],
+};
 
 /// The span in an argument, if that is given.
 fn span_of(matches: &ArgMatches, name: &str) -> Option<Span> {
