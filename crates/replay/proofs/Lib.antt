@@ -7,3 +7,4 @@ pub mod Lines
 pub mod Schedules
 pub mod Left
 pub mod LegalLogs
+pub mod Openable

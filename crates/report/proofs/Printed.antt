@@ -9,7 +9,7 @@ use Rattle.replay_text.specs.declared.parts.RecordParts.{RecordParts}
 use Rattle.replay_text.specs.Text.{record_text}
 use Rattle.replay.specs.declared.end.EndState.{EndState}
 use Rattle.replay.specs.Runs.{IsRunOf}
-use Rattle.report_runs.specs.Ends.{RecordsRun, EndsRunOnWords}
+use Rattle.replay.specs.RunEnds.{RecordsRun, EndsRunOnWords}
 use Rattle.report.specs.Arguments.{AreSpelled}
 use Rattle.report.specs.Prints.{Change, Prints, Request, IsRecorded, PrintsRun}
 

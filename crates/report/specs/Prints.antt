@@ -14,7 +14,7 @@ use Rattle.replay_text.specs.Text.{record_text}
 use Rattle.replay.specs.declared.end.EndState.{EndState}
 use Rattle.replay.specs.Runs.{IsRunOf}
 use Rattle.report_lines.specs.Lines.{end_lines}
-use Rattle.report_runs.specs.Ends.{RecordsRun, EndsRunOnWords}
+use Rattle.replay.specs.RunEnds.{RecordsRun, EndsRunOnWords}
 use Rattle.report.specs.Arguments.{AreSpelled}
 
 -- A thread ended well: its function returned.

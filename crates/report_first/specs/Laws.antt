@@ -7,7 +7,7 @@ use Rattle.shared_memory.specs.Access.{HasReached}
 use Rattle.validate_typing.specs.Validity.{IsValid}
 use Rattle.binary.specs.Grammar.{IsModuleText}
 use Rattle.replay.specs.declared.end.EndState.{EndState}
-use Rattle.report_runs.specs.Ends.{EndsRun}
+use Rattle.replay.specs.RunEnds.{EndsRun}
 use Rattle.report_first.specs.First.{IsFirstModule, first_parts, first_outcome, page_after}
 
 -- The bytes spell one module, which is valid.

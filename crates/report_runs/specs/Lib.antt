@@ -1,4 +1,3 @@
-pub mod Ends
 pub mod FaultNumbers
 pub mod Logs
 pub mod RunFaults

@@ -3,7 +3,7 @@ ghost use Rattle.std.specs.Prelude.{◌≡◌, ◌≤◌, ◌+◌, ◌++◌, [],
 ghost use Rattle.types.specs.Limits.{most_threads, most_limit, most_fuel};
 ghost use Rattle.spawn_host.specs.Runs.{opening_memory};
 ghost use Rattle.replay.specs.Runs.{IsRunOf};
-ghost use Rattle.report_runs.specs.Ends.{RecordsRun};
+ghost use Rattle.replay.specs.RunEnds.{RecordsRun};
 ghost use Rattle.report_runs.specs.FaultNumbers.{record_run_fault_number};
 ghost use Rattle.report_runs.specs.RunFaults.{IsRecordingFault};
 ghost use Rattle.report_runs.specs.declared.recording.RecordRunFault.TheVariants as faults;

@@ -3,7 +3,7 @@ ghost use Rattle.std.specs.Prelude.{◌≡◌, ◌≤◌, ◌*◌, [], length, v
 ghost use Rattle.types.specs.Limits.{page_size};
 ghost use Rattle.spawn_host.specs.Entries.{Takes};
 ghost use Rattle.spawn_host.specs.Runs.{opening_memory};
-ghost use Rattle.report_runs.specs.Ends.{EndsRunOnWords};
+ghost use Rattle.replay.specs.RunEnds.{EndsRunOnWords};
 ghost use Rattle.report_runs.specs.RunFaults.{IsWordsFault};
 
 use crate::fitting::show_memory_opens;

@@ -22,7 +22,7 @@ use Rattle.replay_text.specs.declared.version.Version.TheVariants as versions
 use Rattle.replay_text.specs.declared.parts.RecordParts.{RecordParts}
 use Rattle.replay.specs.declared.end.EndState.{EndState}
 use Rattle.replay.proofs.Same.{same_start}
-use Rattle.report_runs.specs.Ends.{EndsRun}
+use Rattle.replay.specs.RunEnds.{EndsRun}
 use Rattle.search_runs.specs.Called.{Called, Walker, with_fuel}
 use Rattle.search_runs.specs.Ends.{HasEndedSo}
 use Rattle.search_runs.specs.Theorems.{CanReach, IsEndingOf}

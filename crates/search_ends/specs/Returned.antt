@@ -13,7 +13,7 @@ use Rattle.schedule.specs.System as systems
 use Rattle.schedule_threads.specs.Shared.{Shared}
 use Rattle.spawn_host.specs.Runs.{Beginning, start_by}
 use Rattle.replay.specs.declared.end.EndState.{EndState}
-use Rattle.report_runs.specs.Ends.{EndsRun}
+use Rattle.replay.specs.RunEnds.{EndsRun}
 use Rattle.search_runs.specs.Called.{Called, Walker, with_fuel}
 use Rattle.search_runs.specs.Ends.{Ending, HasEndedSo}
 use Rattle.search_runs.specs.Theorems.{CanReach}

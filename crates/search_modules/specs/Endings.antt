@@ -9,7 +9,7 @@ use Rattle.schedule.specs.System.{State}
 use Rattle.schedule_threads.specs.Shared.{Shared}
 use Rattle.spawn_host.specs.Entries.{StartsThreads, IsThreadStart}
 use Rattle.replay.specs.declared.end.EndState.{EndState}
-use Rattle.report_runs.specs.Ends.{EndsRun}
+use Rattle.replay.specs.RunEnds.{EndsRun}
 use Rattle.interp_trait.specs.Turns.{spawned_in}
 use Rattle.search_threads.specs.Unlimited.{Unlimited.Going}
 use Rattle.search_settled.specs.Settled.{MakesTurns}

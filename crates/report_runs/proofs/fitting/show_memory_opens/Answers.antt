@@ -1,4 +1,4 @@
-use Rattle.report_runs.proofs.Openable.{module_opens}
+use Rattle.replay.proofs.Openable.{module_opens}
 use Rattle.report_runs.proofs.fitting.show_memory_opens.Goals as goal
 
 pub returns : goal.returns

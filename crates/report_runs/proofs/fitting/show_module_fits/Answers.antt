@@ -1,4 +1,4 @@
-use Rattle.report_runs.proofs.Openable.{pages_within}
+use Rattle.replay.proofs.Openable.{pages_within}
 use Rattle.report_runs.proofs.fitting.show_module_fits.Goals as goal
 
 pub returns-clause-size : goal.returns-clause-size

@@ -6,7 +6,7 @@ use Rattle.shared_memory_on_table.specs.Callers.{GoesOn}
 use Rattle.report_runs.proofs.NewSeats.{seat_name, seat_new, seat_right}
 use Rattle.report_runs.proofs.Whole.{of_no_seat, went_on}
 use Rattle.report_runs.proofs.Leaving.{leaves}
-use Rattle.report_runs.proofs.Openable.{max_kept}
+use Rattle.replay.proofs.Openable.{max_kept}
 use Rattle.report_runs.proofs.words.run_named.Goals as goal
 
 pub run-requires-clause-right : goal.run-requires-clause-right

@@ -1,4 +1,4 @@
-use Rattle.report_runs.proofs.Openable.{pages_within}
+use Rattle.replay.proofs.Openable.{pages_within}
 use Rattle.search_scheduled.proofs.running.show_pages_fit.Goals as goal
 
 pub returns : goal.returns
