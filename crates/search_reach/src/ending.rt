@@ -4,7 +4,7 @@ ghost use Rattle.indexmap.specs.IndexSet.{index_set_len, insert_key};
 ghost use Rattle.search_reach.specs.Search.{IsSound, AllEnds, AreEnds, HasAllEnds, CanGetStuck};
 
 use crate::path::paths_to;
-use crate::{Explores, Follows, Verdict, Wish, reach_all};
+use crate::{Explores, Follows, Found, Verdict, Wish, reach_all};
 use indexmap::IndexSet;
 use std::alloc::{AllocError, Global};
 use std::hash::Hash;
@@ -69,6 +69,22 @@ pub struct Ended<E: Eq + Hash> {
     pub verdict: Verdict,
 }
 
+/// The endings of the states that were met, each once, and a way to each.
+fn endings_with_paths<T: Explores>(
+    alloc: Global,
+    system: &T,
+    found: &Found<T::State>,
+) -> Result<(IndexSet<T::Ending>, Vec<Vec<usize>>), AllocError>
+    requires { IsSound (T.stands system.now) (T.steps system.now) (T.begins system.now) found.now.met.keys }
+    ensures all { IfOk result (λ r. AllEnds (T.stands system.now) (T.ends system.now) T.Ending.eq found.now.met.keys r.0.keys) }
+    ensures sound { IfOk result (λ r. AreEnds (T.steps system.now) (T.begins system.now) (T.ends system.now) r.0.keys) }
+    ensures paths { IfOk result (λ r. vec_len r.1 ≡ index_set_len r.0) }
+{
+    let listed = endings(alloc, system, found.met.as_slice())?;
+    let paths = paths_to(alloc, found.from.as_slice(), listed.firsts.as_slice())?;
+    Ok((listed.endings, paths))
+}
+
 /// The endings of a system, of which it meets no more than `most` states and a few, and those before it is told to end.
 pub fn all_endings<T: Explores, F: Follows>(
     alloc: Global,
@@ -86,10 +102,9 @@ pub fn all_endings<T: Explores, F: Follows>(
     ensures told { IfOk result (λ r. r.verdict ≡ Verdict.Told → F.wish follower.new ≡ Wish.End) }
 {
     let found = reach_all(alloc, system, most, follower)?;
-    let listed = endings(alloc, system, found.met.as_slice())?;
-    let paths = paths_to(alloc, found.from.as_slice(), listed.firsts.as_slice())?;
+    let (endings, paths) = endings_with_paths(alloc, system, &found)?;
     Ok(Ended {
-        endings: listed.endings,
+        endings,
         paths,
         states: found.met.len(),
         verdict: found.verdict,

@@ -1,7 +1,7 @@
 //! The search.
-ghost use Rattle.std.specs.Prelude.{◌≡◌, ◌<◌, IfOk, OnOk, vec_len};
+ghost use Rattle.std.specs.Prelude.{◌≡◌, ◌<◌, [], IfOk, OnOk, vec_len};
 ghost use Rattle.indexmap.specs.IndexSet.{index_set_len, insert_all};
-ghost use Rattle.search_reach.specs.Search.{IsAll, IsSound, CanGetStuck};
+ghost use Rattle.search_reach.specs.Search.{IsAll, IsSound, CanGetStuck, Explored};
 
 use crate::{Explores, Follows, Wish};
 use indexmap::IndexSet;
@@ -62,6 +62,75 @@ fn add_all<S: Eq + Hash + Drop>(
     Ok(())
 }
 
+/// Goes on from each state that was met, until there are no more, it has met more than `most`, one of which the next states cannot be
+/// told, or it is told to end.
+fn explore<T: Explores, F: Follows>(
+    alloc: Global,
+    system: &T,
+    most: usize,
+    follower: &mut F,
+    met: &mut IndexSet<T::State>,
+    from: &mut Vec<Step>,
+) -> Result<Verdict, AllocError>
+    requires explored { Explored (T.stands system.now) (T.steps system.now) (T.begins system.now) met.old.keys 0 }
+    requires from { vec_len from.old ≡ index_set_len met.old }
+    ensures all { IfOk result (λ v. v ≡ Verdict.All
+        → IsAll (T.stands system.now) (T.steps system.now) (T.begins system.now) met.new.keys) }
+    ensures sound { OnOk result (IsSound (T.stands system.now) (T.steps system.now) (T.begins system.now) met.new.keys) }
+    ensures from { OnOk result (vec_len from.new ≡ index_set_len met.new) }
+    ensures bound { IfOk result (λ v. v ≡ Verdict.TooMany → most < index_set_len met.new) }
+    ensures gives_up { IfOk result (λ v. v ≡ Verdict.CannotTell
+        → CanGetStuck (T.steps system.now) (T.stuck system.now) (T.begins system.now)) }
+    ensures told { IfOk result (λ v. v ≡ Verdict.Told → F.wish follower.new ≡ Wish.End) }
+{
+    let mut at: usize = 0;
+    while let Some(state) = met.get_index(at) {
+        if most < met.len() {
+            return Ok(Verdict::TooMany);
+        }
+        let Some(after) = system.next(alloc, state)? else {
+            return Ok(Verdict::CannotTell);
+        };
+        add_all(met, from, at, after)?;
+        if let Wish::End = follower.states(met.len()) {
+            return Ok(Verdict::Told);
+        }
+        at += 1;
+    }
+    Ok(Verdict::All)
+}
+
+/// Goes through the states of a system from its first one on, where it can tell that.
+fn explore_from_first<T: Explores, F: Follows>(
+    alloc: Global,
+    system: &T,
+    most: usize,
+    follower: &mut F,
+    met: &mut IndexSet<T::State>,
+    from: &mut Vec<Step>,
+) -> Result<Verdict, AllocError>
+    requires met { met.old.keys ≡ [] }
+    requires from { vec_len from.old ≡ 0 }
+    ensures all { IfOk result (λ v. v ≡ Verdict.All
+        → IsAll (T.stands system.now) (T.steps system.now) (T.begins system.now) met.new.keys) }
+    ensures sound { OnOk result (IsSound (T.stands system.now) (T.steps system.now) (T.begins system.now) met.new.keys) }
+    ensures from { OnOk result (vec_len from.new ≡ index_set_len met.new) }
+    ensures bound { IfOk result (λ v. v ≡ Verdict.TooMany → most < index_set_len met.new) }
+    ensures gives_up { IfOk result (λ v. v ≡ Verdict.CannotTell
+        → CanGetStuck (T.steps system.now) (T.stuck system.now) (T.begins system.now)) }
+    ensures told { IfOk result (λ v. v ≡ Verdict.Told → F.wish follower.new ≡ Wish.End) }
+{
+    let Some(first) = system.first(alloc)? else {
+        return Ok(Verdict::CannotTell);
+    };
+    met.insert(first)?;
+    from.push(Step {
+        state: 0,
+        choice: 0,
+    })?;
+    explore(alloc, system, most, follower, met, from)
+}
+
 /// Goes through the states of a system, until there are no more, it has met more than `most`, or it is told to end. The follower hears
 /// of each how many were met.
 pub fn reach_all<T: Explores, F: Follows>(
@@ -81,47 +150,6 @@ pub fn reach_all<T: Explores, F: Follows>(
 {
     let mut met = IndexSet::new(alloc);
     let mut from = Vec::new(alloc);
-    let Some(first) = system.first(alloc)? else {
-        return Ok(Found {
-            met,
-            from,
-            verdict: Verdict::CannotTell,
-        });
-    };
-    met.insert(first)?;
-    from.push(Step {
-        state: 0,
-        choice: 0,
-    })?;
-    let mut at: usize = 0;
-    while let Some(state) = met.get_index(at) {
-        if most < met.len() {
-            return Ok(Found {
-                met,
-                from,
-                verdict: Verdict::TooMany,
-            });
-        }
-        let Some(after) = system.next(alloc, state)? else {
-            return Ok(Found {
-                met,
-                from,
-                verdict: Verdict::CannotTell,
-            });
-        };
-        add_all(&mut met, &mut from, at, after)?;
-        if let Wish::End = follower.states(met.len()) {
-            return Ok(Found {
-                met,
-                from,
-                verdict: Verdict::Told,
-            });
-        }
-        at += 1;
-    }
-    Ok(Found {
-        met,
-        from,
-        verdict: Verdict::All,
-    })
+    let verdict = explore_from_first(alloc, system, most, follower, &mut met, &mut from)?;
+    Ok(Found { met, from, verdict })
 }

@@ -1,18 +1,25 @@
 -- The threads after an event, one by one.
 use Rattle.std.proofs.Common.{◌≡◌, ◌⊎◌, inl, inr, ℕ, zero, suc, ◌+◌, ◌<◌, ◌≤◌, List, [], ◌∷◌, ◌++◌, length, Option, Some, None, refl, sym, ◌∙◌, ap, subst, arith, length-append, get_or}
-use Rattle.std.specs.Prelude.{IfSome}
+use Rattle.std.specs.Prelude.{Result, IfOk, IfSome}
 use Rattle.std.specs.List.{slice_get}
 use Rattle.std.proofs.lemmas.Option.{slice_get-get_or}
+use Rattle.std.proofs.lemmas.Result.{IfOk-weaker}
 use Rattle.schedule.specs.System.{System, State}
 use Rattle.schedule.specs.Scheduled.{after_event}
 use Rattle.search_reach.proofs.Paths.{onward}
-use Rattle.search_settled.specs.Settled.{IsReached, StepsBy}
+use Rattle.search_settled.specs.Settled.{StepsBy}
 use Rattle.search_settled.proofs.Reaching.{by_event}
-use Rattle.search_states.specs.Flat.{AreBounded, IsMadeBy, RestsAfter, IsMove, AllComeAfter, ComesAfter, BeginsAfter}
+use Rattle.search_settled.proofs.Laws.{if-some}
+use Rattle.search_states.specs.Flat.{AreBounded, IsMadeBy, RestsAfter, AreBefore, RestsBehind, IsMove, AllComeAfter, ComesAfter, BeginsAfter}
 
 pub if-some-at : {B : Type 0} (P : B → Type 0) (o : Option B) (x : B) → o ≡ Some x → IfSome o P → P x
 if-some-at P None x is h = absurd (cc is)
 if-some-at P (Some y) x is h = let same : y ≡ x = cc is in subst P same h
+
+-- what holds of what there may be, where there is no error
+pub if-ok-some : {B F : Type 0} (r : Result (Option B) F) (P Q : B → Type 0) → ((x : B) → P x → Q x)
+    → IfOk r (λ o. IfSome o P) → IfOk r (λ o. IfSome o Q)
+if-ok-some r P Q f h = IfOk-weaker r (λ o. IfSome o P) (λ o. IfSome o Q) (if-some P Q f) h
 
 pub at-get : {B : Type 0} (xs : List B) (m : ℕ) (x : B) → m < length xs → x ≡ get_or xs m x → slice_get xs m ≡ Some x
 at-get xs m x within is = slice_get-get_or xs m x within ∙ ap (λ y. Some y) (sym is)
@@ -61,17 +68,51 @@ module _ {X T E V A G H M : Type 0} (s : System X T E V A) (first : State X T) (
           let place : m ≡ k = sym (h.0 ∙ so.len) in
           subst (λ j. Rests z n e j t) place (subst (λ r. Rests z n e m r) h.1 (comes z e move))
 
-  -- a thread that was there, and one that begins
-  pub came : (after : G) (made : M) (n : ℕ) (threads : List H) (m : ℕ) (thread new : H) → slice_get threads m ≡ Some thread
-      → ComesAfter s first count shares is_thread makes made n thread m new
-      → (z : State X T) (e : E) → Move after made n threads z e → Rests z n e m new
-  came after made n threads m thread new at comes z e move = comes z e move.made_by (move.each m thread at)
+  abbrev Before : M → ℕ → List H → State X T → E → Type 0
+  Before made n threads z e = AreBefore s first count shares is_thread makes made n threads z e
 
-  pub begun : (after : G) (made : M) (n : ℕ) (threads : List H) (m : ℕ) (new : H) → length threads ≤ m
-      → BeginsAfter s first count shares is_thread makes made n m new
+  abbrev Behind : M → ℕ → List H → ℕ → H → Type 0
+  Behind made n threads m new = RestsBehind s first count shares is_thread makes made n threads m new
+
+  -- the threads before an event
+  pub before-move : (after : G) (made : M) (n : ℕ) (threads : List H) (z : State X T) (e : E) → Move after made n threads z e → Before made n threads z e
+  before-move after made n threads z e move = record { made_by = move.made_by; len = move.len; each = move.each }
+
+  pub behind-move : (after : G) (made : M) (n : ℕ) (threads : List H) (m : ℕ) (new : H) → Behind made n threads m new
       → (z : State X T) (e : E) → Move after made n threads z e → Rests z n e m new
-  begun after made n threads m new past begins z e move =
-      begins z e move.made_by (let len = move.len in omega (arith, len, past))
+  behind-move after made n threads m new comes z e move = comes z e (before-move after made n threads z e move)
+
+  -- a thread that was there, and one that begins
+  pub came : {F : Type 0} (made : M) (n : ℕ) (threads : List H) (m : ℕ) (thread : H) → slice_get threads m ≡ Some thread
+      → (r : Result (Option H) F) → IfOk r (λ o. IfSome o (ComesAfter s first count shares is_thread makes made n thread m))
+      → IfOk r (λ o. IfSome o (Behind made n threads m))
+  came made n threads m thread at r = if-ok-some r (ComesAfter s first count shares is_thread makes made n thread m) (Behind made n threads m)
+      (λ new comes z e before. comes z e before.made_by (before.each m thread at))
+
+  pub begun : {F : Type 0} (made : M) (n : ℕ) (threads : List H) (m : ℕ) → length threads ≤ m
+      → (r : Result (Option H) F) → IfOk r (λ o. IfSome o (BeginsAfter s first count shares is_thread makes made n m))
+      → IfOk r (λ o. IfSome o (Behind made n threads m))
+  begun made n threads m past r = if-ok-some r (BeginsAfter s first count shares is_thread makes made n m) (Behind made n threads m)
+      (λ new begins z e before. begins z e before.made_by (let len = before.len in omega (arith, len, past)))
+
+  -- where it cannot be told
+  pub came-not : {F : Type 0} (stuck : State X T → Type 0) (made : M) (n : ℕ) (threads : List H) (m : ℕ) (thread : H) → slice_get threads m ≡ Some thread
+      → (r : Result (Option H) F)
+      → IfOk r (λ o. o ≡ None → (z : State X T) (e : E) → IsMadeBy s first count shares is_thread makes made z n e → is_thread thread (z.threads m) → stuck (after_event s z n e))
+      → IfOk r (λ o. o ≡ None → (z : State X T) (e : E) → Before made n threads z e → stuck (after_event s z n e))
+  came-not stuck made n threads m thread at r =
+      IfOk-weaker r (λ o. o ≡ None → (z : State X T) (e : E) → IsMadeBy s first count shares is_thread makes made z n e → is_thread thread (z.threads m) → stuck (after_event s z n e))
+      (λ o. o ≡ None → (z : State X T) (e : E) → Before made n threads z e → stuck (after_event s z n e))
+      (λ o gives none z e before. gives none z e before.made_by (before.each m thread at))
+
+  pub begun-not : {F : Type 0} (stuck : State X T → Type 0) (made : M) (n : ℕ) (threads : List H) (m : ℕ) → length threads ≤ m
+      → (r : Result (Option H) F)
+      → IfOk r (λ o. o ≡ None → (z : State X T) (e : E) → IsMadeBy s first count shares is_thread makes made z n e → count z.shared ≤ m → stuck (after_event s z n e))
+      → IfOk r (λ o. o ≡ None → (z : State X T) (e : E) → Before made n threads z e → stuck (after_event s z n e))
+  begun-not stuck made n threads m past r =
+      IfOk-weaker r (λ o. o ≡ None → (z : State X T) (e : E) → IsMadeBy s first count shares is_thread makes made z n e → count z.shared ≤ m → stuck (after_event s z n e))
+      (λ o. o ≡ None → (z : State X T) (e : E) → Before made n threads z e → stuck (after_event s z n e))
+      (λ o gives none z e before. gives none z e before.made_by (let len = before.len in omega (arith, len, past)))
 
   -- how many there can be after it
   pub after-few : (most : ℕ) → AreBounded s first count most → (z : State X T) (n : ℕ) (e : E) → (made : M)
@@ -79,27 +120,13 @@ module _ {X T E V A G H M : Type 0} (s : System X T E V A) (first : State X T) (
   after-few most bounded z n e made by = bounded.few (after_event s z n e)
       (onward (StepsBy s) first z (after_event s z n e) by.reached (by_event s z n e by.wants))
 
-  pub there-few : (most : ℕ) → AreBounded s first count most → (z : State X T) → IsReached s first z → (m : ℕ) → m < count z.shared → m < most
-  there-few most bounded z reached m low = let few = bounded.few z reached in omega (arith, few, low)
-
-  pub all-done : (most : ℕ) → AreBounded s first count most → (after : G) (made : M) (n : ℕ) (threads : List H) (m : ℕ) (rested : List H) (total : ℕ)
-      → SoFar after made n threads m rested → length threads ≤ m → ((x : X) → shares after x → total ≡ count x)
-      → ((m ≡ length threads) ⊎ (m ≤ total)) → total ≤ m
+  pub all-done : (after : G) (made : M) (n : ℕ) (threads : List H) (m : ℕ) (rested : List H) (total : ℕ)
+      → SoFar after made n threads m rested → ((x : X) → shares after x → total ≡ count x) → m ≡ total
       → AllComeAfter s first count shares is_thread makes after made n threads rested
-  all-done most bounded after made n threads m rested total so past is within done = record {
-    len = λ z e move. so.len ∙ by z e move within;
+  all-done after made n threads m rested total so is done = record {
+    len = λ z e move. so.len ∙ (done ∙ is (s.after z.shared n e) move.shared);
     each = so.each;
   }
-    where
-      by : (z : State X T) (e : E) → Move after made n threads z e → ((m ≡ length threads) ⊎ (m ≤ total)) → m ≡ count (s.after z.shared n e)
-      by z e move (inl all) =
-          let len = move.len in
-          let more = bounded.more z move.made_by.reached n e in
-          let same = is (s.after z.shared n e) move.shared in
-          omega (arith, all, len, more, same, done)
-      by z e move (inr low) =
-          let same = is (s.after z.shared n e) move.shared in
-          omega (arith, low, same, done)
 
   pub all-come : (after : G) (made : M) (n : ℕ) (threads others rested : List H) → threads ≡ others
       → AllComeAfter s first count shares is_thread makes after made n threads rested

@@ -52,6 +52,16 @@ module _ {X T E V A G H M : Type 0} (s : System X T E V A) (first : State X T) (
   abbrev pub BeginsAfter : M → ℕ → ℕ → H → Type 0
   BeginsAfter made n m new = (z : State X T) (e : E) → IsMadeBy made z n e → count z.shared ≤ m → RestsAfter z n e m new
 
+  -- Thread n of these threads makes an event.
+  pub record AreBefore (made : M) (n : ℕ) (threads : List H) (z : State X T) (e : E) : Type 0 where
+    pub made_by : IsMadeBy made z n e
+    pub len : length threads ≡ count z.shared
+    pub each : (m : ℕ) (t : H) → slice_get threads m ≡ Some t → is_thread t (z.threads m)
+
+  -- Thread m comes to rest after it, whether it is one of them or the event starts it.
+  abbrev pub RestsBehind : M → ℕ → List H → ℕ → H → Type 0
+  RestsBehind made n threads m after = (z : State X T) (e : E) → AreBefore made n threads z e → RestsAfter z n e m after
+
   -- Thread n of these threads made an event, and this is shared after it.
   pub record IsMove (after : G) (made : M) (n : ℕ) (threads : List H) (z : State X T) (e : E) : Type 0 where
     pub made_by : IsMadeBy made z n e

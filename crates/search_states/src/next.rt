@@ -1,13 +1,37 @@
 //! The next states: of each thread that wants an event, what comes of it.
-ghost use Rattle.std.specs.Prelude.{◌≡◌, ◌+◌, ℕ, true, false, Some, None, IfOk, IfSome};
+ghost use Rattle.std.specs.Prelude.{◌≡◌, ◌+◌, ◌<◌, ℕ, true, false, Some, None, IfOk, IfSome};
 ghost use Rattle.std.specs.List.{slice_get};
 ghost use Rattle.schedule.specs.System.{State};
 ghost use Rattle.schedule.specs.Scheduled.{after_event};
 ghost use Rattle.search_settled.specs.Next.{IsSomewhere, IsStuckAfter, HasNext};
-ghost use Rattle.search_states.specs.Flat.{IsFlat, IsMove, AllComeAfter, HasNextBelow};
+ghost use Rattle.search_states.specs.Flat.{IsFlat, AreBefore, RestsBehind, IsMove, AllComeAfter, HasNextBelow};
 
 use crate::{Flat, Moves};
 use std::alloc::{AllocError, Global};
+
+/// Where thread m comes to rest after an event of thread n: it is one of these threads, or the event starts it.
+fn thread_after<M: Moves>(
+    alloc: Global,
+    system: &M,
+    made: &M::Made,
+    n: usize,
+    threads: &[M::Thread],
+    m: usize,
+) -> Result<Option<M::Thread>, AllocError>
+    requires event { (z : State M.X M.T) × (e : M.E) × AreBefore (M.system system.now) (M.beginning system.now) (M.count system.now)
+        (M.shares system.now) (M.is_thread system.now) (M.makes system.now) made.now n threads.now z e }
+    requires few { m < M.most system.now }
+    ensures rests { IfOk result (λ o. IfSome o (RestsBehind (M.system system.now) (M.beginning system.now) (M.count system.now)
+        (M.shares system.now) (M.is_thread system.now) (M.makes system.now) made.now n threads.now m)) }
+    ensures gives_up { IfOk result (λ o. o ≡ None → (z : State M.X M.T) (e : M.E) → AreBefore (M.system system.now)
+        (M.beginning system.now) (M.count system.now) (M.shares system.now) (M.is_thread system.now) (M.makes system.now)
+        made.now n threads.now z e → M.stuck system.now (after_event (M.system system.now) z n e)) }
+{
+    match threads.get(m) {
+        Some(thread) => system.after(alloc, made, n, thread, m),
+        None => system.first_after(alloc, made, n, m),
+    }
+}
 
 /// Where all threads come to rest after an event of thread n, those that it starts too.
 fn threads_after<M: Moves>(
@@ -28,20 +52,11 @@ fn threads_after<M: Moves>(
 {
     let count = system.started(shared);
     let mut rested = Vec::with_capacity(alloc, count)?;
-    let mut m: usize = 0;
-    while let Some(thread) = threads.get(m) {
-        let Some(old) = system.after(alloc, made, n, thread, m)? else {
+    for m in 0..count {
+        let Some(thread) = thread_after(alloc, system, made, n, threads, m)? else {
             return Ok(None);
         };
-        rested.push(old)?;
-        m += 1;
-    }
-    while m < count {
-        let Some(new) = system.first_after(alloc, made, n, m)? else {
-            return Ok(None);
-        };
-        rested.push(new)?;
-        m += 1;
+        rested.push(thread)?;
     }
     Ok(Some(rested))
 }

@@ -1,7 +1,7 @@
 use Rattle.std.proofs.Common.{◌≡◌, ◌-◌, vec_len}
 use Rattle.indexmap.specs.IndexSet.{index_set_len}
 use Rattle.search_reach.specs.Search.{Explored}
-use Rattle.search_reach.proofs.search.reach_all.Given as goal
+use Rattle.search_reach.proofs.search.explore.Given as goal
 
 abbrev pub invariant-loop-state : goal.invariant-loop-state
 invariant-loop-state g l = record {
