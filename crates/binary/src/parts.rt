@@ -1,11 +1,13 @@
 //! A whole module.
 
-ghost use Rattle.std.specs.Prelude.{◌≡◌, ◌-◌, IfOk, MatchResult, count_by};
-ghost use Rattle.binary_wire.specs.Reading.{GivesInMemory, Refuses};
+ghost use Rattle.std.specs.Prelude.{◌≡◌, ◌-◌, true, Ok, Err, IfOk, MatchResult, count_by, length, nat_eq, if◌then◌else◌};
+ghost use Rattle.binary_wire.specs.declared.fault.Fault.TheVariants as faults;
+ghost use Rattle.binary_wire.specs.Faults.{refused};
+ghost use Rattle.binary_wire.specs.Reading.{◌>>=◌ as ◌⇛◌, Gives, GivesInMemory, Refuses};
 ghost use Rattle.binary.specs.Counts.{function_room};
 ghost use Rattle.types.specs.Within.{is_func};
 ghost use Rattle.binary.specs.Grammar.{IsModuleText};
-ghost use Rattle.binary.specs.Reading.{signatures_at, stores_at, contents_at, sections_at, module_at};
+ghost use Rattle.binary.specs.Reading.{customs_at, finish_at, signatures_at, stores_at, contents_at, sections_at, module_at};
 ghost use Rattle.types.specs.declared.parts.Parts.{Parts};
 
 use crate::externals::{ExportItem, ImportItem};
@@ -13,7 +15,7 @@ use crate::limits::{FuncTypeItem, GlobalItem, MemoryItem, TableItem};
 use crate::opening::read_opening;
 use crate::sections::{read_code, read_customs, read_end, read_section, read_start};
 use crate::segments::{DataItem, ElementItem};
-use binary_wire::{Fault, IndexItem, ReadFault, Reader};
+use binary_wire::{Fault, IndexItem, ReadFault, Reader, Refusal};
 use std::alloc::Global;
 use types::{
     Body, DataSegment, ElementSegment, Export, FuncType, Import, ImportDesc, Limits,
@@ -123,6 +125,21 @@ fn read_contents(
     })
 }
 
+/// What is behind the last section, of a module with so many functions and so many bodies: custom sections, and then the
+/// end of the input. There have to be as many functions as bodies.
+fn read_rest(reader: &mut Reader, functions: usize, bodies: usize) -> Result<(), Refusal>
+    ensures { Gives (λ _. true) result
+        ((customs_at (length reader.old.rest.now) reader.old.bounds reader.old.rest.now) ⇛ (λ rest. (finish_at reader.old.bounds rest)
+        ⇛ (λ whole. if nat_eq functions bodies then Ok true else Err (refused faults.CountsDiffer reader.old.bounds rest)))) }
+{
+    read_customs(reader)?;
+    read_end(reader)?;
+    if functions != bodies {
+        return Err(reader.fault(Fault::CountsDiffer));
+    }
+    Ok(())
+}
+
 /// The sections of a module of so many bytes, behind the opening bytes: nothing is left behind them.
 #[tactic(auto, unfolding(crate::specs::Reading::sections_at))]
 fn read_sections(reader: &mut Reader, alloc: Global, length: u32) -> Result<Parts, ReadFault>
@@ -135,11 +152,7 @@ fn read_sections(reader: &mut Reader, alloc: Global, length: u32) -> Result<Part
     } = read_signatures(reader, alloc)?;
     let stores = read_stores(reader, alloc)?;
     let contents = read_contents(reader, alloc, types.as_slice(), functions.as_slice())?;
-    read_customs(reader)?;
-    read_end(reader)?;
-    if functions.len() != contents.bodies.len() {
-        return Err(reader.fault(Fault::CountsDiffer).into());
-    }
+    read_rest(reader, functions.len(), contents.bodies.len())?;
     Ok(Parts {
         types,
         imports,

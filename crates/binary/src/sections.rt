@@ -1,7 +1,7 @@
 //! Sections, with custom sections before them.
 
 ghost use Rattle.std.specs.Prelude.{◌≡◌, length, true};
-ghost use Rattle.binary_wire.specs.Reading.{Gives, GivesInMemory, vector_at};
+ghost use Rattle.binary_wire.specs.Reading.{Gives, GivesInMemory, sized_at, vector_at};
 ghost use Rattle.binary.specs.Reading.{custom_at, customs_at, part_at, section_at, start_at, code_at, finish_at};
 
 use crate::bodies::read_code_section;
@@ -40,9 +40,25 @@ pub fn read_customs(reader: &mut Reader) -> Result<(), Refusal>
     Ok(())
 }
 
+/// A size, and a vector of exactly that size.
+#[tactic(auto, unfolding(binary_wire::specs::Reading::sized_at))]
+fn read_sized_vector<T: Item>(
+    reader: &mut Reader,
+    alloc: Global,
+    limit: u32,
+) -> Result<Sequence<T::Value>, ReadFault>
+    ensures gives { GivesInMemory (λ v. (v, reader.new.rest.now)) result (sized_at (vector_at limit T.at) reader.old.bounds reader.old.rest.now) }
+    ensures keeps { reader.new.bounds ≡ reader.old.bounds }
+{
+    let mut contents = reader.read_block()?;
+    let items = read_vector::<T>(&mut contents, alloc, limit)?;
+    contents.finish()?;
+    Ok(items)
+}
+
 /// The section with an id (Core specification 1.0, section 5.5.2), behind custom ones: a vector. It has no items if it
 /// isn't there.
-#[tactic(auto, unfolding(crate::specs::Reading::section_at, crate::specs::Reading::part_at, binary_wire::specs::Reading::sized_at))]
+#[tactic(auto, unfolding(crate::specs::Reading::section_at, crate::specs::Reading::part_at))]
 pub fn read_section<T: Item>(
     reader: &mut Reader,
     alloc: Global,
@@ -57,10 +73,7 @@ pub fn read_section<T: Item>(
         return Ok(Sequence::from_vec(Vec::new(alloc)));
     }
     reader.read_byte()?;
-    let mut contents = reader.read_block()?;
-    let items = read_vector::<T>(&mut contents, alloc, limit)?;
-    contents.finish()?;
-    Ok(items)
+    read_sized_vector::<T>(reader, alloc, limit)
 }
 
 /// The start section (Core specification 1.0, section 5.5.11), behind custom ones, if it is there.
