@@ -9,6 +9,7 @@ ghost use Rattle.spawn_host_workers.specs.Composed.{IsComposed};
 
 use crate::host::level_all;
 use crate::report::{RunEnd, RunFault};
+use crate::seats::{Dealt, deal};
 use interp_trait::{Gate, TakesTurns};
 use shared_memory::SharedMemory;
 use spawn_host_thread::{ThreadEnd, run_thread};
@@ -26,7 +27,7 @@ pub fn run_alone<T, M, G, R>(
     alloc: Global,
     first: T,
     memory: &M,
-    mut seats: Vec<M::Seat>,
+    seats: Vec<M::Seat>,
     gate: &G,
 ) -> Result<RunEnd<M::Seat>, RunFault>
 where
@@ -47,11 +48,12 @@ where
     let Ok(mut threads) = Vec::with_capacity(alloc, 1) else {
         return Err(RunFault::NoMemory);
     };
-    let Some(desk_seat) = seats.pop() else {
-        unreachable!()
-    };
-    let seat = seats.remove(0);
-    let desk = Desk::open(rt, memory, desk_seat);
+    let Dealt {
+        first: seat,
+        workers: mut seats,
+        desk,
+    } = deal(seats);
+    let desk = Desk::open(rt, memory, desk);
     let ThreadEnd {
         outcome,
         seat,

@@ -35,6 +35,46 @@ impl<T: TakesTurns, M: SharedMemory> Promise<WorkerEnd<M::Seat>> for Duty<T, M> 
     ghost kept_by = { λ p r. EndsWork (over M.SharedMemory p.memory.value) T.meaning p.thread.value p.seat.value r };
 }
 
+/// Starts a worker for a thread, with its seat.
+fn start_worker<'s, E, T, M, W, G, R>(
+    scope: &Scope<'s, E>,
+    rt: &'s R,
+    thread: T,
+    memory: &'s M,
+    seat: M::Seat,
+    desk: &'s Desk<M, W>,
+    gate: &'s G,
+) -> Result<PromisedHandle<WorkerEnd<M::Seat>, Duty<T, M>>, RunFault>
+where
+    T: TakesTurns + Send + Drop + 's,
+    M: SharedMemory + Sync,
+    M::Seat: 's,
+    W: Wait + Drop + Sync,
+    G: Gate + Sync,
+    R: Wait + Sync,
+    requires new { entries_of (M.name seat) (M.seen seat) ≡ [] }
+    requires begins { MayBeSpawned (T.meaning thread) }
+    ensures duty { IfOk result (λ handle. IsDuty memory.now thread seat handle) }
+    ensures fault { IfErr result (λ fault. IsOfSystem fault) }
+{
+    let duty = Duty {
+        memory: Snapshot::of(memory),
+        seat: Snapshot::of(&seat),
+        thread: Snapshot::of(&thread),
+    };
+    let Ok(handle) = scope.spawn_with(
+        duty,
+        move || -> WorkerEnd<M::Seat>
+            requires new { entries_of (M.name seat) (M.seen seat) ≡ [] }
+            requires begins { MayBeSpawned (T.meaning thread) }
+            ensures { EndsWork (over M.SharedMemory memory.entry.now) T.meaning thread seat result }
+        { work(rt, thread, memory, seat, desk, gate) },
+    ) else {
+        return Err(RunFault::NoThread);
+    };
+    Ok(handle)
+}
+
 /// Starts a worker for each thread, with the seat at its place.
 fn start_workers<'s, E, T, M, W, G, R>(
     scope: &Scope<'s, E>,
@@ -68,21 +108,7 @@ where
         let Some(thread) = threads.next() else {
             unreachable!()
         };
-        let duty = Duty {
-            memory: Snapshot::of(memory),
-            seat: Snapshot::of(&seat),
-            thread: Snapshot::of(&thread),
-        };
-        let Ok(handle) = scope.spawn_with(
-            duty,
-            move || -> WorkerEnd<M::Seat>
-                requires new { entries_of (M.name seat) (M.seen seat) ≡ [] }
-                requires begins { MayBeSpawned (T.meaning thread) }
-                ensures { EndsWork (over M.SharedMemory memory.entry.now) T.meaning thread seat result }
-            { work(rt, thread, memory, seat, desk, gate) },
-        ) else {
-            return Err(RunFault::NoThread);
-        };
+        let handle = start_worker(scope, rt, thread, memory, seat, desk, gate)?;
         handles.push_reserved(handle);
     }
     Ok(handles)

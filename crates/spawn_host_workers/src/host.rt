@@ -1,5 +1,5 @@
 //! A run of real threads.
-ghost use Rattle.std.specs.Prelude.{◌≡◌, ◌≤◌, ◌<◌, ◌+◌, ℕ, true, [], All, IfOk, IfErr, slice_index_or, vec_len, vec_capacity};
+ghost use Rattle.std.specs.Prelude.{◌≡◌, ◌≤◌, ◌<◌, ◌+◌, ℕ, true, List, [], ◌∷◌, ◌++◌, All, IfOk, IfErr, slice_index_or, vec_len, vec_capacity};
 ghost use Rattle.types.specs.Limits.{most_threads, most_spawned, desk_name, seat_count};
 ghost use Rattle.shared_memory.specs.History.{entries_of, queue_after};
 ghost use Rattle.shared_memory.specs.WaitQueue.{IsFree};
@@ -13,6 +13,7 @@ ghost use Rattle.spawn_host_workers.specs.Composed.{IsComposed, reported, seats_
 use crate::crew::run_crew;
 use crate::report::{RunEnd, RunFault};
 use crate::rounds::level;
+use crate::seats::{Dealt, deal};
 use crate::worker::WorkerEnd;
 use interp_trait::{Gate, TakesTurns};
 use shared_memory::SharedMemory;
@@ -98,6 +99,28 @@ pub(crate) fn level_all<M: SharedMemory>(memory: &M, hub: &mut M::Seat, seats: &
     level(memory, hub, seats.as_mut_slice());
 }
 
+/// What a run gives, after its threads have ended: each of their seats has met the desk's, which comes last.
+fn bring_home<M: SharedMemory>(
+    memory: &M,
+    ends: Vec<WorkerEnd<M::Seat>>,
+    mut hub: M::Seat,
+    mut threads: Vec<ThreadReport>,
+    mut seats: Vec<M::Seat>,
+) -> RunEnd<M::Seat>
+    requires right { M.has_queue_right hub ≡ true }
+    requires empty { (threads.items ≡ []) × (seats.items ≡ []) }
+    requires room { (vec_len threads + vec_len ends ≤ vec_capacity threads)
+        × (vec_len seats + vec_len ends < vec_capacity seats) }
+    ensures threads { result.threads.items ≡ reported ends.items }
+    ensures seats { (last : M.Seat) × (others : List M.Seat) × (result.seats.items ≡ others ++ last ∷ [])
+        × Level M.opening M.name M.has_queue_right M.seen hub last (seats_of ends.items) others }
+{
+    split(ends, &mut threads, &mut seats);
+    level_all(memory, &mut hub, &mut seats);
+    seats.push_reserved(hub);
+    RunEnd { threads, seats }
+}
+
 /// Runs the threads of a module as real threads, over one shared memory: the first in the calling thread, and each
 /// spawned one in a thread of its own, which waits until it is spawned.
 ///
@@ -108,7 +131,7 @@ pub fn run_all<T, M, G, R>(
     first: T,
     spawned: Vec<T>,
     memory: &M,
-    mut seats: Vec<M::Seat>,
+    seats: Vec<M::Seat>,
     gate: &G,
 ) -> Result<RunEnd<M::Seat>, RunFault>
 where
@@ -127,24 +150,21 @@ where
     ensures composed { IfOk result (λ end. IsComposed (over M.SharedMemory memory.now) T.meaning first spawned.items
         end.threads.items end.seats.items) }
 {
-    let Ok(mut reports) = Vec::with_capacity(alloc, MOST_THREADS) else {
+    let Ok(reports) = Vec::with_capacity(alloc, MOST_THREADS) else {
         return Err(RunFault::NoMemory);
     };
-    let Ok(mut home) = Vec::with_capacity(alloc, SEATS as usize) else {
+    let Ok(home) = Vec::with_capacity(alloc, SEATS as usize) else {
         return Err(RunFault::NoMemory);
     };
-    let Some(desk_seat) = seats.pop() else {
-        unreachable!()
-    };
-    let seat = seats.remove(0);
-    let desk = Desk::open(rt, memory, desk_seat);
-    let ends = run_threads(rt, alloc, first, spawned, memory, seat, seats, &desk, gate)?;
-    let mut hub = desk.close();
-    split(ends, &mut reports, &mut home);
-    level_all(memory, &mut hub, &mut home);
-    home.push_reserved(hub);
-    Ok(RunEnd {
-        threads: reports,
-        seats: home,
-    })
+    let Dealt {
+        first: seat,
+        workers,
+        desk,
+    } = deal(seats);
+    let desk = Desk::open(rt, memory, desk);
+    let ends = run_threads(
+        rt, alloc, first, spawned, memory, seat, workers, &desk, gate,
+    )?;
+    let hub = desk.close();
+    Ok(bring_home(memory, ends, hub, reports, home))
 }

@@ -6,6 +6,7 @@ mod crew;
 mod host;
 mod report;
 mod rounds;
+mod seats;
 mod worker;
 
 pub use alone::run_alone;

@@ -18,24 +18,20 @@ loop-seat-init g c =
           (so_far_none (IsDuty c.args.memory.now) (vec_items c.args.threads) (vec_items c.args.seats));
     }
 
-pub spawn_with-requires-clause-runs : goal.spawn_with-requires-clause-runs
-spawn_with-requires-clause-runs g c κs within =
+pub start_worker-requires-clause-new : goal.start_worker-requires-clause-new
+start_worker-requires-clause-new g c κs within =
     let m = g.M.SharedMemory in
-    let i = c.loop-seat.invariant in
-    let step = c.in-Some.ensures.steps in
-    let next = c.in-Some-next.ensures.cases in
-    let new : entries_of (m.name c.in-Some.seat) (m.seen c.in-Some.seat) ≡ [] =
-    all_first (λ s. entries_of (m.name s) (m.seen s) ≡ []) _ _ c.in-Some.seat i.new step.0 in
-    let begins : MayBeSpawned (g.T.TakesTurns.meaning c.in-Some-next.thread)
-    = all_first (λ t. MayBeSpawned (g.T.TakesTurns.meaning t)) _ _ c.in-Some-next.thread i.begins next.0 in
-    search rules
+    all_first (λ s. entries_of (m.name s) (m.seen s) ≡ []) _ _ c.in-Some.seat c.loop-seat.invariant.new c.in-Some.ensures.steps.0
+
+pub start_worker-requires-clause-begins : goal.start_worker-requires-clause-begins
+start_worker-requires-clause-begins g c κs within =
+    all_first (λ t. MayBeSpawned (g.T.TakesTurns.meaning t)) _ _ c.in-Some-next.thread c.loop-seat.invariant.begins c.in-Some-next.ensures.cases.0
 
 pub loop-seat-preserved : goal.loop-seat-preserved
 loop-seat-preserved g c =
     let m = g.M.SharedMemory in
     let i = c.loop-seat.invariant in
     let step = c.in-Some.ensures.steps in
-    let promise = c.in-Ok-spawn_with.ensures.ok in
     let next = c.in-Some-next.ensures.cases in record {
       len = search rules;
       room = search rules;
@@ -45,6 +41,6 @@ loop-seat-preserved g c =
       duties = rw (c.push_reserved.ensures.items)
           (so_far_more (IsDuty c.args.memory.now) (vec_items c.args.threads) (vec_items c.args.seats)
           (vec_items c.loop-seat.handles) _ _ _ _
-          c.in-Some-next.thread c.in-Some.seat c.in-Ok-spawn_with.handle i.duties next.0 step.0
-          (record { memory_is = rw promise c.of.ensures; thread_is = rw promise c.of-in-loop-seat-2.ensures; seat_is = rw promise c.of-in-loop-seat.ensures }));
+          c.in-Some-next.thread c.in-Some.seat c.in_ok-handle.handle i.duties next.0 step.0
+          c.in_ok-handle.ensures.duty);
     }

@@ -1,61 +1,58 @@
-use Rattle.std.proofs.Common.{arith, ◌≡◌, vec_len}
-use Rattle.types.specs.Limits.{most_threads}
+use Rattle.std.proofs.Common.{arith, ap, refl, ◌≡◌, vec_len}
+use Rattle.shared_memory.specs.History.{entries_of, of_queue}
+use Rattle.types.specs.Limits.{most_threads, desk_name}
 use Rattle.spawn_host_workers.specs.OverMemory.{over}
-use Rattle.spawn_host_workers.proofs.OneList.{Unpacked, unpacked, lead_may_ask, workers_new, crew_length, composed}
+use Rattle.spawn_host_workers.specs.Composed.{seats_of}
+use Rattle.spawn_host_workers.proofs.OneList.{Unpacked, IsDeskSeat, lead_may_ask, workers_new, desk_new, crew_length, composed}
 use Rattle.spawn_host_workers.proofs.host.run_all.Given as given
 use Rattle.spawn_host_workers.proofs.host.run_all.Goals as goal
-use Rattle.spawn_host_workers.proofs.host.run_all.Goals.{After-remove-seat}
+use Rattle.spawn_host_workers.proofs.host.run_all.Goals.{After-deal-seat}
 
 -- the first seat and the last are taken off
-dealt : (g : given.Over) (c : After-remove-seat g)
-    → Unpacked c.args.seats.items c.remove-seat.result c.remove-seat.new.self.items c.in-Some.desk_seat
-dealt g c =
-    unpacked c.args.seats.items c.pop.new.self.items c.remove-seat.new.self.items c.remove-seat.result
-    c.in-Some.desk_seat c.in-Some.ensures.items (omega (arith, c.pop.new.self.ok.0, c.in-Some.ensures.cases, c.requires.len))
-    c.remove-seat.ensures.value c.remove-seat.ensures.by_index.2
+dealt : (g : given.Over) (c : After-deal-seat g)
+    → Unpacked c.args.seats.items c.deal-seat.result.first c.deal-seat.result.workers.items c.deal-seat.result.desk
+dealt g c = record { parts = c.deal-seat.ensures.parts; len = c.deal-seat.ensures.len }
+
+desk : (g : given.Over) (c : After-deal-seat g)
+    → IsDeskSeat g.M.SharedMemory.name g.M.SharedMemory.has_queue_right g.M.SharedMemory.seen c.deal-seat.result.desk
+desk g c =
+    desk_new g.M.SharedMemory.name g.M.SharedMemory.seen c.args.seats.items c.deal-seat.result.first c.deal-seat.result.workers.items
+    c.deal-seat.result.desk (dealt g c) c.requires.names c.requires.new g.M.SharedMemory.has_queue_right c.requires.right
+
+pub open-desk-requires-clause-right : goal.open-desk-requires-clause-right
+open-desk-requires-clause-right g c κs within = (desk g (goal.at.open-desk-requires-clause-right g c).After-deal-seat).may_ask
+
+pub open-desk-requires-clause-name : goal.open-desk-requires-clause-name
+open-desk-requires-clause-name g c κs within = (desk g (goal.at.open-desk-requires-clause-name g c).After-deal-seat).named
+
+pub open-desk-requires-clause-quiet : goal.open-desk-requires-clause-quiet
+open-desk-requires-clause-quiet g c κs within = ap of_queue (desk g (goal.at.open-desk-requires-clause-quiet g c).After-deal-seat).fresh
+
+pub open-desk-requires-clause-silent : goal.open-desk-requires-clause-silent
+open-desk-requires-clause-silent g c κs within = ap (entries_of desk_name) (desk g (goal.at.open-desk-requires-clause-silent g c).After-deal-seat).fresh
 
 pub run_threads-requires-clause-free : goal.run_threads-requires-clause-free
 run_threads-requires-clause-free g c κs within =
     let m = g.M.SharedMemory in
-    let u = dealt g (goal.at.run_threads-requires-clause-free g c).After-remove-seat in
-    lead_may_ask m.name m.seen c.args.seats.items c.remove-seat.result c.remove-seat.new.self.items c.in-Some.desk_seat u c.requires.names c.requires.new
+    let u = dealt g (goal.at.run_threads-requires-clause-free g c).After-deal-seat in
+    lead_may_ask m.name m.seen c.args.seats.items c.deal-seat.result.first c.deal-seat.result.workers.items c.deal-seat.result.desk u c.requires.names c.requires.new
 
 pub run_threads-requires-clause-new : goal.run_threads-requires-clause-new
 run_threads-requires-clause-new g c κs within =
     let m = g.M.SharedMemory in
-    let u = dealt g (goal.at.run_threads-requires-clause-new g c).After-remove-seat in
-    workers_new m.name m.seen c.args.seats.items c.remove-seat.result c.remove-seat.new.self.items c.in-Some.desk_seat u c.requires.names c.requires.new
+    let u = dealt g (goal.at.run_threads-requires-clause-new g c).After-deal-seat in
+    workers_new m.name m.seen c.args.seats.items c.deal-seat.result.first c.deal-seat.result.workers.items c.deal-seat.result.desk u c.requires.names c.requires.new
 
-pub split-requires-clause-room : goal.split-requires-clause-room
-split-requires-clause-room g c =
+pub bring_home-requires-clause-room : goal.bring_home-requires-clause-room
+bring_home-requires-clause-room g c κs within =
     let m = g.M.SharedMemory in
     let t = g.T.TakesTurns in
     let ends = c.in_ok-ends.ends in
-    let count = crew_length (over m c.args.memory.now) t.meaning c.args.first c.remove-seat.result c.args.spawned.items
-    c.remove-seat.new.self.items ends.items c.in_ok-ends.ensures.crew in
-    let here : vec_len ends ≡ most_threads
-    = omega (arith, count, ends.ok.0, c.remove-seat.new.self.ok.0, c.remove-seat.ensures.len, c.in-Some.ensures.cases, c.requires.len) in (
+    let count = crew_length (over m c.args.memory.now) t.meaning c.args.first c.deal-seat.result.first c.args.spawned.items
+    c.deal-seat.result.workers.items ends.items c.in_ok-ends.ensures.crew in
+    let here : vec_len ends ≡ most_threads = omega (arith, count, ends.ok.0, c.deal-seat.ensures.len) in (
       omega (arith, here, c.in-Ok.ensures.len, c.in-Ok.ensures.capacity),
       omega (arith, here, c.in-Ok-with_capacity.ensures.len, c.in-Ok-with_capacity.ensures.capacity),
-    )
-
-pub push_reserved-requires : goal.push_reserved-requires
-push_reserved-requires g c =
-    let m = g.M.SharedMemory in
-    let t = g.T.TakesTurns in
-    let ends = c.in_ok-ends.ends in
-    let count = crew_length (over m c.args.memory.now) t.meaning c.args.first c.remove-seat.result c.args.spawned.items
-    c.remove-seat.new.self.items ends.items c.in_ok-ends.ensures.crew in
-    let here : vec_len ends ≡ most_threads
-    = omega (arith, count, ends.ok.0, c.remove-seat.new.self.ok.0, c.remove-seat.ensures.len, c.in-Some.ensures.cases, c.requires.len) in
-    omega (
-      arith,
-      here,
-      c.level_all.ensures.len,
-      c.level_all.ensures.capacity,
-      c.split.ensures.len,
-      c.split.ensures.capacity,
-      c.in-Ok-with_capacity.ensures.capacity,
     )
 
 pub returns-clause-composed : goal.returns-clause-composed
@@ -63,10 +60,11 @@ returns-clause-composed g c =
     let m = g.M.SharedMemory in
     let t = g.T.TakesTurns in
     let ends = c.in_ok-ends.ends in
-    let u = dealt g (goal.at.returns-clause-composed g c).After-remove-seat in
+    let end = c.bring_home.result in
+    let level = c.bring_home.ensures.seats in
     composed (over m c.args.memory.now) m.has_queue_right t.meaning c.args.first c.args.spawned.items
-    c.args.seats.items c.remove-seat.result c.in-Some.desk_seat c.remove-seat.new.self.items c.close-hub.result
-    ends.items c.split.new.threads.items c.push_reserved.new.self.items
-    u.parts u.len c.requires.names c.requires.new c.in_ok-ends.ensures.crew c.split.ensures.threads c.level_all.new.hub
-    c.split.new.seats.items c.level_all.new.seats.items
-    c.split.ensures.seats c.push_reserved.ensures.items c.level_all.ensures.level c.close-hub.ensures.legal c.close-hub.ensures.name c.close-hub.ensures.silent
+    c.args.seats.items c.deal-seat.result.first c.deal-seat.result.desk c.deal-seat.result.workers.items c.close-hub.result
+    ends.items end.threads.items end.seats.items
+    c.deal-seat.ensures.parts c.deal-seat.ensures.len c.requires.names c.requires.new c.in_ok-ends.ensures.crew c.bring_home.ensures.threads level.0
+    (seats_of ends.items) level.1 refl
+    level.2 level.3 c.close-hub.ensures.legal c.close-hub.ensures.name c.close-hub.ensures.silent

@@ -1,0 +1,6 @@
+use Rattle.spawn_host_workers.proofs.crew.start_worker.Goals as goal
+
+pub returns-clause-duty : goal.returns-clause-duty
+returns-clause-duty g c =
+    let promise = c.in-Ok.ensures.ok in
+    record { memory_is = rw promise c.of.ensures; thread_is = rw promise c.of-3.ensures; seat_is = rw promise c.of-2.ensures }
