@@ -1,61 +1,38 @@
-//! An event of the Trace Event Format, as it is spelt in JSON.
+//! The events of the Trace Event Format, as they are spelt in JSON. Times are numbers of entries, from 0 on, as microseconds.
 
 use serde::Serialize;
 
 /// The one process that all threads are of.
 const PROCESS: u32 = 1;
 
-/// An event. Times are numbers of entries, from 0 on, as microseconds.
+/// What a thread is called.
 #[derive(Drop, Serialize)]
-#[serde(tag = "ph")]
-pub(crate) enum TraceEvent<'a> {
-    /// What a thread is called.
-    #[serde(rename = "M")]
-    Metadata {
-        name: &'static str,
-        ts: u64,
-        pid: u32,
-        tid: u32,
-        args: NameArgs<'a>,
-    },
-    /// An entry.
-    #[serde(rename = "X")]
-    Complete {
-        name: &'a str,
-        cat: &'static str,
-        ts: u64,
-        dur: u64,
-        pid: u32,
-        tid: u32,
-        args: EntryArgs<'a>,
-    },
-    /// Where an arrow begins.
-    #[serde(rename = "s")]
-    FlowStart {
-        name: &'static str,
-        cat: &'static str,
-        id: u64,
-        ts: u64,
-        pid: u32,
-        tid: u32,
-    },
-    /// Where it ends: at the entry there.
-    #[serde(rename = "f")]
-    FlowFinish {
-        name: &'static str,
-        cat: &'static str,
-        id: u64,
-        bp: &'static str,
-        ts: u64,
-        pid: u32,
-        tid: u32,
-    },
+pub(crate) struct NameEvent<'a> {
+    ph: &'static str,
+    name: &'static str,
+    ts: u64,
+    pid: u32,
+    tid: u32,
+    args: NameArgs<'a>,
 }
 
 /// What is said of a thread.
 #[derive(Drop, Serialize)]
 pub(crate) struct NameArgs<'a> {
     pub(crate) name: &'a str,
+}
+
+/// An entry.
+#[derive(Drop, Serialize)]
+pub(crate) struct EntryEvent<'a> {
+    ph: &'static str,
+    name: &'a str,
+    cat: &'static str,
+    ts: u64,
+    dur: u64,
+    pid: u32,
+    tid: u32,
+    args: EntryArgs<'a>,
 }
 
 /// What is said of an entry.
@@ -65,6 +42,31 @@ pub(crate) struct EntryArgs<'a> {
     pub(crate) place: &'a str,
 }
 
+/// Where an arrow begins.
+#[derive(Drop, Serialize)]
+pub(crate) struct StartEvent {
+    ph: &'static str,
+    name: &'static str,
+    cat: &'static str,
+    id: u64,
+    ts: u64,
+    pid: u32,
+    tid: u32,
+}
+
+/// Where it ends: at the entry there.
+#[derive(Drop, Serialize)]
+pub(crate) struct FinishEvent {
+    ph: &'static str,
+    name: &'static str,
+    cat: &'static str,
+    id: u64,
+    bp: &'static str,
+    ts: u64,
+    pid: u32,
+    tid: u32,
+}
+
 /// An entry with its words, from its number on and so many long.
 pub(crate) fn entry_event<'a>(
     thread: u32,
@@ -72,8 +74,9 @@ pub(crate) fn entry_event<'a>(
     length: u64,
     words: &'a str,
     args: EntryArgs<'a>,
-) -> TraceEvent<'a> {
-    TraceEvent::Complete {
+) -> EntryEvent<'a> {
+    EntryEvent {
+        ph: "X",
         name: words,
         cat: "entry",
         ts: at,
@@ -85,8 +88,9 @@ pub(crate) fn entry_event<'a>(
 }
 
 /// The name of a thread.
-pub(crate) fn name_event(thread: u32, name: &str) -> TraceEvent<'_> {
-    TraceEvent::Metadata {
+pub(crate) fn name_event(thread: u32, name: &str) -> NameEvent<'_> {
+    NameEvent {
+        ph: "M",
         name: "thread_name",
         ts: 0,
         pid: PROCESS,
@@ -96,13 +100,9 @@ pub(crate) fn name_event(thread: u32, name: &str) -> TraceEvent<'_> {
 }
 
 /// The beginning of an arrow.
-pub(crate) fn start_event(
-    kind: &'static str,
-    id: u64,
-    thread: u32,
-    at: u64,
-) -> TraceEvent<'static> {
-    TraceEvent::FlowStart {
+pub(crate) fn start_event(kind: &'static str, id: u64, thread: u32, at: u64) -> StartEvent {
+    StartEvent {
+        ph: "s",
         name: kind,
         cat: "flow",
         id,
@@ -113,13 +113,9 @@ pub(crate) fn start_event(
 }
 
 /// The end of an arrow.
-pub(crate) fn finish_event(
-    kind: &'static str,
-    id: u64,
-    thread: u32,
-    at: u64,
-) -> TraceEvent<'static> {
-    TraceEvent::FlowFinish {
+pub(crate) fn finish_event(kind: &'static str, id: u64, thread: u32, at: u64) -> FinishEvent {
+    FinishEvent {
+        ph: "f",
         name: kind,
         cat: "flow",
         id,

@@ -3,7 +3,7 @@
 ghost use Rattle.std.specs.Prelude.{All, IfOk, OnOk};
 ghost use Rattle.show_events.specs.Lines.{IsTame, IsLine, AddsLine};
 
-use crate::event::TraceEvent;
+use serde::Serialize;
 use show_text::Unwritten;
 use std::alloc::{AllocError, Global};
 use std::io::Write;
@@ -66,10 +66,10 @@ pub(crate) fn write_line<W: Write>(
 }
 
 /// Writes an event as a line.
-pub(crate) fn write_event<W: Write>(
+pub(crate) fn write_event<W: Write, E: Serialize>(
     alloc: Global,
     out: &mut W,
-    event: &TraceEvent,
+    event: &E,
 ) -> Result<(), Unwritten>
     ensures { OnOk result (AddsLine (W.contents out.old) (W.contents out.new)) }
 {
