@@ -1,5 +1,5 @@
 //! The run of a module of one atomic add, from its bytes to printed lines.
-ghost use Rattle.std.specs.Prelude.{◌≡◌, ◌↔◌, [], IfOk, OnOk, IfErr, IsErrOf, codes};
+ghost use Rattle.std.specs.Prelude.{◌≡◌, ◌<◌, ◌↔◌, [], IfOk, OnOk, IfErr, IsErrOf, codes};
 ghost use Rattle.std.specs.Option.{MatchOption};
 ghost use Rattle.std.specs.List.{list_all};
 ghost use Rattle.std.specs.Io.KnownBytes.{Appends};
@@ -173,6 +173,32 @@ fn not_run(fault: RecordRunFault, address: u8, addend: u8) -> AllocError
     }
 }
 
+/// Runs such a module once it is validated.
+fn run_valid<R>(
+    rt: &R,
+    alloc: Global,
+    valid: &ValidModule,
+    address: u8,
+    addend: u8,
+) -> Result<EndState, AllocError>
+where
+    R: Threads + Wait + Sync,
+    requires parts { valid.now.parts ≡ first_parts address addend }
+    requires address_below { address < 64 }
+    requires addend_below { addend < 64 }
+    ensures { IfOk result (IsFirstEnd address addend) }
+{
+    let call = Call {
+        name: "f",
+        args: &[],
+        fuel: FUEL,
+    };
+    match record_run(rt, alloc, valid, call, LIMIT, &OpenGate) {
+        Ok((_, end)) => Ok(end),
+        Err(fault) => Err(not_run(fault, address, addend)),
+    }
+}
+
 /// Runs such a module, as the program does where nothing else is asked for.
 fn run_first<R>(
     rt: &R,
@@ -187,15 +213,7 @@ where
     ensures { IfOk result (IsFirstEnd address addend) }
 {
     let valid = load_first(alloc, bytes, address, addend)?;
-    let call = Call {
-        name: "f",
-        args: &[],
-        fuel: FUEL,
-    };
-    match record_run(rt, alloc, &valid, call, LIMIT, &OpenGate) {
-        Ok((_, end)) => Ok(end),
-        Err(fault) => Err(not_run(fault, address, addend)),
-    }
+    run_valid(rt, alloc, &valid, address, addend)
 }
 
 /// Whether a thread ended well.

@@ -1,14 +1,7 @@
-use Rattle.std.proofs.Common.{[], subst}
-use Rattle.std.specs.Prelude.{codes}
-use Rattle.report_runs.specs.RunFaults.{IsRecordingFault}
-use Rattle.report_first.proofs.Lines.{end_by}
 use Rattle.report_first.proofs.bytes_to_lines.run_first.Goals as goal
 
-pub returns-in-Ok : goal.returns-in-Ok
-returns-in-Ok g c =
-    end_by c.args.address c.args.addend c.in_ok-valid.valid.parts c.in-Ok.field-0-0.log c.in-Ok.end c.in_ok-valid.ensures
-    c.requires.address_below c.requires.addend_below c.in-Ok.ensures.record.ends_run
+pub run_valid-requires-clause-address_below : goal.run_valid-requires-clause-address_below
+run_valid-requires-clause-address_below g c κs within = c.requires.address_below
 
-pub not_run-requires : goal.not_run-requires
-not_run-requires g c =
-    subst (λ m. IsRecordingFault m (codes "f") [] 100000 c.in-Err.fault) c.in_ok-valid.ensures c.in-Err.ensures.fault
+pub run_valid-requires-clause-addend_below : goal.run_valid-requires-clause-addend_below
+run_valid-requires-clause-addend_below g c κs within = c.requires.addend_below
