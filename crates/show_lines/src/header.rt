@@ -112,12 +112,12 @@ fn read_table<'a>(
     sections: DebugSections<'a>,
 ) -> Result<Vec<Named<'a>>, Fault> {
     let format = read_format(alloc, cursor)?;
-    let mut entries = Vec::new(alloc);
     let count = cursor.read_unsigned()?;
     // Each entry has a byte at least, or it has no name.
     if count > cursor.len() as u64 {
         return Err(Fault::Unreadable);
     }
+    let mut entries = Vec::new(alloc);
     for _ in 0..count {
         entries.push(read_entry(cursor, sections, format.as_slice())?)?;
     }
@@ -184,12 +184,17 @@ fn sources<'a>(
 
 /// What stands between the length of the header and the tables of files.
 fn read_steps<'a>(cursor: &mut Cursor<'a>) -> Result<(Steps, &'a [u8]), Fault> {
-    let instruction = cursor.read_u8()?;
-    let operations = cursor.read_u8()?;
-    let _is_statement = cursor.read_u8()?;
-    let line_base = i64::from(cursor.read_u8()?.cast_signed()).cast_unsigned();
-    let line_range = cursor.read_u8()?;
-    let opcode_base = cursor.read_u8()?;
+    let &[
+        instruction,
+        operations,
+        _is_statement,
+        line_base,
+        line_range,
+        opcode_base,
+    ] = cursor.read_bytes(6)?
+    else {
+        return Err(Fault::Unreadable);
+    };
     if operations != 1 || line_range == 0 || opcode_base == 0 {
         return Err(Fault::Unreadable);
     }
@@ -197,7 +202,7 @@ fn read_steps<'a>(cursor: &mut Cursor<'a>) -> Result<(Steps, &'a [u8]), Fault> {
     Ok((
         Steps {
             instruction,
-            line_base,
+            line_base: i64::from(line_base.cast_signed()).cast_unsigned(),
             line_range,
             opcode_base,
         },

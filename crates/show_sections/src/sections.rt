@@ -80,9 +80,7 @@ fn name_of(contents: &[u8]) -> Option<(&[u8], &[u8])>
     let mut reader = Reader::new(contents);
     let size = reader.read_u32().ok()?;
     let behind = contents.get(reader.offset()..)?;
-    let name = behind.get(..size as usize)?;
-    let rest = behind.get(size as usize..)?;
-    Some((name, rest))
+    behind.split_at_checked(size as usize)
 }
 
 /// What stands behind the name in the first custom section of this name.
