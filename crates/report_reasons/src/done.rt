@@ -7,7 +7,7 @@ ghost use Rattle.show_reasons.specs.Added.{IsAddedTo};
 use crate::misfit::{Unfit, unfit_in};
 use binary::read;
 use binary_wire::ReadFault;
-use replay_text::{RecordFault, read_record};
+use replay_text::{Record, RecordFault, read_record};
 use report_command::Job;
 use show_reasons::{Misfit, Refused, explain};
 use std::alloc::{AllocError, Global};
@@ -94,15 +94,30 @@ fn explain_call(alloc: Global, job: &Job, bytes: &[u8], out: &mut String) -> Res
     ensures added { IfOk result (λ _. IsAddedTo (string_bytes out.old) (string_bytes out.new)) }
     ensures kept { IfErr result (λ _. string_bytes out.new ≡ string_bytes out.old) }
 {
-    let (Job::Run { invoke, args, .. }, Ok(module)) = (job, read(alloc, bytes)) else {
-        return Ok(());
-    };
-    let refused = Refused::Call {
-        parts: module.parts(),
-        name: invoke,
-        given: args.len(),
-    };
-    explain(alloc, out, &refused)
+    match job {
+        Job::Run { invoke, args, .. } => explain_invoke(alloc, invoke, args.len(), bytes, out),
+        _ => Ok(()),
+    }
+}
+
+/// Adds the lines on a call, by this name and with so many arguments, that can't be made of the module that the bytes spell.
+fn explain_invoke(
+    alloc: Global,
+    name: &str,
+    given: usize,
+    bytes: &[u8],
+    out: &mut String,
+) -> Result<(), AllocError>
+    ensures added { IfOk result (λ _. IsAddedTo (string_bytes out.old) (string_bytes out.new)) }
+    ensures kept { IfErr result (λ _. string_bytes out.new ≡ string_bytes out.old) }
+{
+    match read(alloc, bytes) {
+        Ok(module) => {
+            let parts = module.parts();
+            explain(alloc, out, &Refused::Call { parts, name, given })
+        }
+        Err(_) => Ok(()),
+    }
 }
 
 /// Adds the lines on a record that is of no run.
@@ -113,10 +128,23 @@ fn explain_record(alloc: Global, done: Done, out: &mut String) -> Result<(), All
     match read_record(alloc, done.saved) {
         Err(RecordFault::NoMemory) => Err(AllocError),
         Err(fault) => explain(alloc, out, &Refused::Text(done.saved, fault)),
-        Ok(record) => match unfit_in(alloc, done.module, &record)? {
-            None => Ok(()),
-            Some(unfit) => explain_line(alloc, done.saved, &unfit, out),
-        },
+        Ok(record) => explain_misfit(alloc, done, &record, out),
+    }
+}
+
+/// Adds the lines on a record that was read, and that is of no run.
+fn explain_misfit(
+    alloc: Global,
+    done: Done,
+    record: &Record,
+    out: &mut String,
+) -> Result<(), AllocError>
+    ensures added { IfOk result (λ _. IsAddedTo (string_bytes out.old) (string_bytes out.new)) }
+    ensures kept { IfErr result (λ _. string_bytes out.new ≡ string_bytes out.old) }
+{
+    match unfit_in(alloc, done.module, record)? {
+        Some(unfit) => explain_line(alloc, done.saved, &unfit, out),
+        None => Ok(()),
     }
 }
 

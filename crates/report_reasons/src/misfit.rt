@@ -10,7 +10,7 @@ use shared_memory_sequential::OneMemory;
 use show_reasons::Instead;
 use show_rows::CodeMap;
 use std::alloc::{AllocError, Global};
-use types::Entry;
+use types::{Entry, Parts};
 use validate::{ValidModule, validate};
 
 /// Of the entry that comes next along a log: where its thread stands behind its last entry, and what it comes to from there by
@@ -63,18 +63,61 @@ fn instead_of(turn: Turn) -> Option<Instead> {
 }
 
 /// A place as it is printed.
-fn spot_of(
+fn spot_of(alloc: Global, parts: &Parts, bytes: &[u8], place: Place) -> Result<String, AllocError> {
+    let code = CodeMap::read(alloc, parts, bytes, bytes)?;
+    let spot = code.spot(place);
+    format!(in alloc; "{spot}")
+}
+
+impl<'a> Next<'a> {
+    /// Before the log's first entry.
+    fn new(log: &'a [Entry]) -> Self {
+        Next {
+            log,
+            thread: 0,
+            place: None,
+            turn: None,
+        }
+    }
+
+    /// What is told of the line with this number, behind the last entry that fits.
+    fn unfit(
+        &self,
+        alloc: Global,
+        parts: &Parts,
+        bytes: &[u8],
+        number: u32,
+    ) -> Result<Unfit, AllocError> {
+        let spot = match self.place {
+            Some(place) => Some(spot_of(alloc, parts, bytes, place)?),
+            None => None,
+        };
+        Ok(Unfit {
+            number,
+            thread: self.thread,
+            instead: self.turn.and_then(instead_of),
+            spot,
+        })
+    }
+}
+
+/// The number of the first line of a record that doesn't fit a module, if one doesn't.
+fn unfit_number(
     alloc: Global,
     valid: &ValidModule,
-    bytes: &[u8],
-    place: Option<Place>,
-) -> Result<Option<String>, AllocError> {
-    let Some(place) = place else {
-        return Ok(None);
-    };
-    let code = CodeMap::read(alloc, valid.parts(), bytes, bytes)?;
-    let spot = code.spot(place);
-    Ok(Some(format!(in alloc; "{spot}")?))
+    record: &Record,
+    next: &mut Next,
+) -> Option<u32> {
+    match replay_watched(alloc, valid, record, next) {
+        Err(ReplayFault::Line(number) | ReplayFault::EndLine(number)) => Some(number),
+        _ => None,
+    }
+}
+
+/// The module that the bytes spell, if they spell one that is valid.
+fn valid_in(alloc: Global, bytes: &[u8]) -> Option<ValidModule> {
+    let module = read(alloc, bytes).ok()?;
+    validate(alloc, module).ok()
 }
 
 /// The line of a record that doesn't fit the module that the bytes spell, if one doesn't.
@@ -83,26 +126,22 @@ pub(crate) fn unfit_in(
     bytes: &[u8],
     record: &Record,
 ) -> Result<Option<Unfit>, AllocError> {
-    let Ok(module) = read(alloc, bytes) else {
-        return Ok(None);
-    };
-    let Ok(valid) = validate(alloc, module) else {
-        return Ok(None);
-    };
-    let mut next = Next {
-        log: record.parts().log.as_slice(),
-        thread: 0,
-        place: None,
-        turn: None,
-    };
-    let number = match replay_watched(alloc, &valid, record, &mut next) {
-        Err(ReplayFault::Line(number) | ReplayFault::EndLine(number)) => number,
-        _ => return Ok(None),
-    };
-    Ok(Some(Unfit {
-        number,
-        thread: next.thread,
-        instead: next.turn.and_then(instead_of),
-        spot: spot_of(alloc, &valid, bytes, next.place)?,
-    }))
+    match valid_in(alloc, bytes) {
+        Some(valid) => unfit_of(alloc, &valid, bytes, record),
+        None => Ok(None),
+    }
+}
+
+/// The line of a record that doesn't fit this module, which these bytes spell, if one doesn't.
+fn unfit_of(
+    alloc: Global,
+    valid: &ValidModule,
+    bytes: &[u8],
+    record: &Record,
+) -> Result<Option<Unfit>, AllocError> {
+    let mut next = Next::new(record.parts().log.as_slice());
+    match unfit_number(alloc, valid, record, &mut next) {
+        Some(number) => Ok(Some(next.unfit(alloc, valid.parts(), bytes, number)?)),
+        None => Ok(None),
+    }
 }
