@@ -136,4 +136,3 @@ pub record IsRecordOf (bytes saved : List ℕ) : Type 0 where
   pub text : IsModuleText bytes parts
   pub valid : IsValid parts
   pub run : IsOfRun parts saved
-

@@ -111,11 +111,7 @@ fn show_distinct(module: &ValidModule)
 }
 
 /// The values of the arguments of an exported function.
-pub fn args_of(
-    alloc: Global,
-    module: &ValidModule,
-    wanted: &Wanted,
-) -> Result<Vec<Value>, Trouble>
+pub fn args_of(alloc: Global, module: &ValidModule, wanted: &Wanted) -> Result<Vec<Value>, Trouble>
     ensures takes { IfOk result (λ args. AreSpelled (map (λ text. text.now) wanted.now.args.now) args.items
         × Takes «module».now.parts wanted.now.invoke.now args.items) }
     ensures trouble { IfErr result (IsTrouble «module».now.parts wanted.now.invoke.now (map (λ text. text.now) wanted.now.args.now)) }
