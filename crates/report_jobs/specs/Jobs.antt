@@ -1,5 +1,5 @@
 -- What checks, runs and replays say of the bytes that they were given.
-use Rattle.std.specs.Prelude.{ℕ, ◌≡◌, ◌≤◌, ◌⊎◌, List, map, length, Option, is_some}
+use Rattle.std.specs.Prelude.{ℕ, ◌≡◌, ◌≤◌, ◌⊎◌, List, length, Option}
 use Rattle.std.specs.Io.KnownBytes.{Appends}
 use Rattle.types.specs.declared.parts.Parts.{Parts}
 use Rattle.binary_wire.specs.declared.fault.ReadFault.TheVariants.{OutOfMemory as ReadOutOfMemory, Malformed}
@@ -10,13 +10,8 @@ use Rattle.replay_text.specs.Text.{record_text, IsRecord}
 use Rattle.replay.specs.declared.end.EndState.{EndState}
 use Rattle.replay.specs.Runs.{IsRunOf}
 use Rattle.report_lines.specs.Lines.{functions_line, end_lines}
-use Rattle.report_command.specs.declared.command_line.Job.{Job}
-use Rattle.report_command.specs.declared.command_line.Job.TheVariants.{Check, Run, Replay, Show}
-use Rattle.report_command.specs.declared.command_line.Job.TheVariants as jobs
-use Rattle.report_command.specs.declared.search.Search.{Search}
 use Rattle.report_jobs.specs.Arguments.{CannotCall}
-use Rattle.report_jobs.specs.Prints.{Change, Request, request, PrintsRun, status_of}
-use Rattle.report_jobs.specs.Searches.{HasSearched, request_of_search}
+use Rattle.report_jobs.specs.Prints.{Change, Request, PrintsRun, status_of}
 use Rattle.report_jobs.specs.declared.replaying.Unfit.{Unfit}
 use Rattle.report_jobs.specs.declared.replaying.Unfit.TheVariants.{Unread, Misfit, NoMemory, Output}
 use Rattle.validate_typing.specs.declared.fault.ValidFault.TheVariants.{OutOfMemory as ValidityOutOfMemory, Outside, InBody}
