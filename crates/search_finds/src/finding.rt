@@ -1,17 +1,18 @@
 //! The first run with an ending that is looked for.
-ghost use Rattle.std.specs.Prelude.{◌≡◌, ◌+◌, ◌<◌, ◌≤◌, ◌^◌, All, IfOk, OnOk, IfSome};
+ghost use Rattle.std.specs.Prelude.{◌≡◌, ◌+◌, ◌<◌, ◌≤◌, ◌^◌, true, All, IfOk, OnOk, IfSome};
 ghost use Rattle.interp.specs.Threads.{meaning_in};
 ghost use Rattle.search_scheduled.specs.SpareThreads.{AreSpares};
 ghost use Rattle.search_finds.specs.Finds.{IsFind, IsMet, EndsAsLookedFor};
 ghost use Rattle.search_finds.specs.Halts.{IfFound};
 
 use crate::sought::Sought;
+use replay::EndState;
 use search_endings::{Ending, Table, ending_of};
 use search_reach::{Follows, Wish};
 use search_scheduled::{Made, SearchFault, Spares, run_along, run_with_spares};
 use search_strategies::{Along, MOST_DEPTH, Pct, Random, Way};
 use spawn_host::Call;
-use std::alloc::Global;
+use std::alloc::{AllocError, Global};
 use std::thread::{Threads, map_indices};
 use validate::ValidModule;
 
@@ -123,14 +124,29 @@ impl<'a> Search<'a> {
         Ok(ending_of(alloc, &made.end, self.sought.dump)?)
     }
 
+    /// Makes the run of this number, with threads of its own.
+    fn run_anew(&self, alloc: Global, run: u64) -> Result<Made, SearchFault>
+        ensures { IfOk result (IsFind self.now.«module».now.parts self.now.call self.now.sought.limit) }
+    {
+        let mut spares = Spares::new(alloc);
+        self.run(alloc, run, &mut spares)
+    }
+
+    /// Whether a run that ended so is looked for.
+    fn is_sought(&self, alloc: Global, end: &EndState) -> Result<bool, AllocError>
+        ensures { IfOk result (λ is. (is ≡ true) → EndsAsLookedFor self.now.sought self.now.sought.dump end.now) }
+    {
+        let ending = ending_of(alloc, end, self.sought.dump)?;
+        self.sought.is_ending(alloc, &ending)
+    }
+
     /// Makes the run of this number, which is given where it ends as is looked for.
     fn found(&self, alloc: Global, run: u64) -> Result<Option<Found>, SearchFault>
         ensures { IfOk result (λ found. IfSome found (λ f. IsFind self.now.«module».now.parts self.now.call self.now.sought.limit f.made
             × EndsAsLookedFor self.now.sought self.now.sought.dump f.made.end)) }
     {
-        let made = self.run(alloc, run, &mut Spares::new(alloc))?;
-        let ending = ending_of(alloc, &made.end, self.sought.dump)?;
-        if self.sought.is_ending(alloc, &ending)? {
+        let made = self.run_anew(alloc, run)?;
+        if self.is_sought(alloc, &made.end)? {
             Ok(Some(Found { run, made }))
         } else {
             Ok(None)
