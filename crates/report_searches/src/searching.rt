@@ -16,11 +16,11 @@ ghost use Rattle.report_jobs.specs.declared.running.Trouble.TheVariants as troub
 use crate::all::search_all_orders;
 use report_command::Search;
 use report_jobs::{Trouble, Wanted, args_of, is_done, keep, print};
-use report_runs::Call;
 use search_endings::{Ending, Met, Table};
 use search_finds::{Found, Halt, Searched, Size, Sought, first_found, shrunk, size_of};
 use search_reach::Follows;
 use search_scheduled::{Made, SearchFault};
+use spawn_host::Call;
 use std::alloc::Global;
 use std::io::{self, Write};
 use std::thread::{self, Threads};
