@@ -47,7 +47,8 @@ fn read_sized_vector<T: Item>(
     alloc: Global,
     limit: u32,
 ) -> Result<Sequence<T::Value>, ReadFault>
-    ensures gives { GivesInMemory (λ v. (v, reader.new.rest.now)) result (sized_at (vector_at limit T.at) reader.old.bounds reader.old.rest.now) }
+    ensures gives { GivesInMemory (λ v. (v, reader.new.rest.now)) result
+        (sized_at (vector_at limit T.at) reader.old.bounds reader.old.rest.now) }
     ensures keeps { reader.new.bounds ≡ reader.old.bounds }
 {
     let mut contents = reader.read_block()?;
