@@ -1,0 +1,6 @@
+use Rattle.std.proofs.lemmas.Result.{IfOk-weaker}
+use Rattle.search_finds.proofs.finding.Search.is_sought.Goals as goal
+
+pub returns : goal.returns
+returns c =
+    IfOk-weaker c.is_ending.result _ _ (λ _ h is. (c.in_ok-ending.ending, c.in_ok-ending.ensures, h.0 is)) c.is_ending.ensures
