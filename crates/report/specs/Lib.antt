@@ -1,1 +1,5 @@
 pub mod Jobs
+pub mod Arguments
+pub mod Prints
+pub mod Troubles
+pub mod Searches

@@ -1,0 +1,6 @@
+pub mod Replays
+pub mod Refused
+pub mod Spelled
+pub mod Calls
+pub mod Printed
+mod Searched

@@ -1,0 +1,11 @@
+use Rattle.std.proofs.Common.{◌≡◌, subst}
+use Rattle.search_finds.specs.declared.sought.Sought.{Sought}
+use Rattle.search_finds.specs.declared.finding.Halt.TheVariants as halts
+use Rattle.search_finds.specs.Finds.{EndsAsLookedFor}
+use Rattle.report.proofs.searching.search_drawn.Goals as goal
+
+pub tell_found-requires-clause-ends : goal.tell_found-requires-clause-ends
+tell_found-requires-clause-ends g c =
+    let e : c.in_ok-table.field-0.halt ≡ halts.Found c.in-Found.found = cc (c.in_ok-table.halt-is, c.in-Found.is) in
+    let found = rw e at c.in_ok-table.ensures.found in
+    subst (λ (s : Sought). EndsAsLookedFor s s.dump c.in-Found.found.made.end) c.sought_by-sought.ensures found.1

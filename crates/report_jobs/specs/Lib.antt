@@ -1,4 +1,0 @@
-pub mod Jobs
-pub mod Arguments
-pub mod Prints
-pub mod Troubles
