@@ -9,6 +9,7 @@ use crate::command_line::{DUMP_MOST, FILE, Job, Misuse, RECORD};
 use clap::ArgMatches;
 use show_text::{Choice, Color, Look, Span};
 use std::alloc::{AllocError, Global};
+use types::MOST_THREADS;
 
 /// How many characters a row has room for, at least and at most.
 pub const NARROWEST: u32 = 40;
@@ -112,7 +113,7 @@ const THREADS: Argument = Argument {
     name: "thread",
     value: "T,..",
     help: "Only the entries of these threads, 0 to 63",
-    values: Values::Numbers(0, 64),
+    values: Values::Numbers(0, MOST_THREADS as i64),
     ..OPTION
 };
 

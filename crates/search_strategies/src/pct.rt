@@ -5,9 +5,7 @@ ghost use Rattle.std.specs.Prelude.{◌<◌, ◌≤◌, length};
 use crate::draws::Draws;
 use crate::strategy::Strategy;
 use arrayvec::ArrayVec;
-
-/// How many threads there may be.
-const THREADS: usize = 64;
+use types::MOST_THREADS;
 
 /// The largest depth.
 pub const MOST_DEPTH: u32 = 32;
@@ -23,7 +21,7 @@ const PATIENCE: u32 = 200;
 /// row falls behind all others: so nobody waits in a loop for good.
 #[derive(Drop)]
 pub struct Pct {
-    ranks: [i64; THREADS],
+    ranks: [i64; MOST_THREADS],
     changes: ArrayVec<u32, CHANGES>,
     /// How many events were made.
     made: u32,
@@ -84,12 +82,12 @@ impl Pct {
 }
 
 /// The ranks 33 to 96 in an order that is drawn.
-fn drawn_ranks(draws: &mut Draws) -> [i64; THREADS] {
-    let mut ranks = [0; THREADS];
+fn drawn_ranks(draws: &mut Draws) -> [i64; MOST_THREADS] {
+    let mut ranks = [0; MOST_THREADS];
     for (place, rank) in ranks.iter_mut().enumerate() {
         *rank = place as i64 + 33;
     }
-    for place in 1..THREADS {
+    for place in 1..MOST_THREADS {
         let other = draws.below(place as u32 + 1) as usize;
         ranks.swap(place, other);
     }
@@ -97,7 +95,7 @@ fn drawn_ranks(draws: &mut Draws) -> [i64; THREADS] {
 }
 
 /// The place of the thread with the highest rank, of the first ones where two have it.
-fn highest(ranks: &[i64; THREADS], ready: &[u32]) -> usize
+fn highest(ranks: &[i64; MOST_THREADS], ready: &[u32]) -> usize
     requires { 0 < length ready.now }
     ensures { result < length ready.now }
 {

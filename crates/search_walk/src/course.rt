@@ -123,7 +123,7 @@ impl<T: TakesTurns> Course<T> {
 
     /// The threads that can go on, in order.
     fn ready(&self) -> ArrayVec<u32, MOST_THREADS>
-        ensures { length result.items ≤ 64 }
+        ensures { length result.items ≤ most_threads }
     {
         let mut ready = ArrayVec::new();
         let most = self.walk.stage.started.min(MOST_THREADS as u32);
