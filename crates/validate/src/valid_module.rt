@@ -19,28 +19,29 @@ ghost use Rattle.validate_typing.specs.Faults.{fault_kind};
 ghost use Rattle.validate_typing.specs.declared.fault.Fault.TheVariants as faults;
 
 use crate::alone::check_alone;
-use crate::check::check_parts;
+use crate::check::{Findings, check_parts};
 use crate::image::opening_image;
 use crate::operands::{local_types, operand_types};
 use std::alloc::{AllocError, Global};
 use std::marker::Model;
-use types::{Body, FuncType, Limits, MOST_PAGES, Module, Parts, Sequence, ValType};
+use types::{Body, FuncType, MOST_PAGES, Module, Parts, Sequence, ValType};
 use validate_flat::Flat;
 use validate_module_rules::exported_function;
 use validate_typing::{Table, Target, ValidFault};
 
 /// A valid module with the table of branches of each body. In contracts it is the module's parts and the tables' rows.
-#[derive(Drop, Debug)]
+///
+/// What it holds lies behind one `Box`, so that whoever owns it lets go of one thing.
+#[derive(Drop)]
 pub struct ValidModule {
+    checked: Box<Checked>,
+}
+
+/// A module, and what was found of it.
+#[derive(Drop)]
+struct Checked {
     module: Module,
-    /// The table of each body, in order.
-    tables: Vec<Table>,
-    /// The flat instructions of each body, in order.
-    flats: Vec<Sequence<Flat>>,
-    /// How many functions are imported.
-    imported: usize,
-    /// The memory, imported or not.
-    memory: Option<Limits>,
+    findings: Findings,
 }
 
 impl Model for ValidModule {
@@ -52,11 +53,12 @@ impl Model for ValidModule {
 
     ghost Value = { WithTables };
 
-    ghost view = { λ v. record { parts = v.module; tables = v.tables.items } };
+    ghost view = { λ v. record { parts = v.checked.value.module; tables = v.checked.value.findings.tables.items } };
 
-    ghost invariant = { λ v. IsValidated (record { parts = v.module; tables = v.tables.items })
-        × (v.imported ≡ length (imported_functions v.module)) × (v.memory ≡ slice_get (memories_of v.module) 0)
-        × (v.flats.items ≡ all_flats v.module.bodies v.tables.items) };
+    ghost invariant = { λ v. IsValidated (record { parts = v.checked.value.module; tables = v.checked.value.findings.tables.items })
+        × (v.checked.value.findings.imported ≡ length (imported_functions v.checked.value.module))
+        × (v.checked.value.findings.memory ≡ slice_get (memories_of v.checked.value.module) 0)
+        × (v.checked.value.findings.flats.items ≡ all_flats v.checked.value.module.bodies v.checked.value.findings.tables.items) };
 }
 
 impl ValidModule {
@@ -66,7 +68,7 @@ impl ValidModule {
         ensures validated { IsValidated self.now }
         ensures tested { IsModule self.now.parts }
     {
-        self.module.parts()
+        self.checked.module.parts()
     }
 
     /// The opening bytes of the memory: its pages of zeros, with the data segments written over them in order.
@@ -81,7 +83,7 @@ impl ValidModule {
     pub fn opening_pages(&self) -> u32
         ensures { result ≡ opening_pages self.now.parts }
     {
-        match self.memory {
+        match self.checked.findings.memory {
             Some(memory) => memory.min,
             None => 0,
         }
@@ -98,7 +100,7 @@ impl ValidModule {
     pub fn pages_max_within(&self, most: u32) -> u32
         ensures { result ≡ pages_max_of most self.now.parts }
     {
-        match self.memory {
+        match self.checked.findings.memory {
             Some(memory) => memory.max.unwrap_or(most),
             None => 0,
         }
@@ -108,7 +110,7 @@ impl ValidModule {
     pub fn has_pages_within(&self, most: u32) -> bool
         ensures { IsTrue result ↔ HasPagesWithin most self.now.parts }
     {
-        match self.memory {
+        match self.checked.findings.memory {
             Some(memory) => {
                 memory.min <= most
                     && match memory.max {
@@ -124,28 +126,28 @@ impl ValidModule {
     pub fn imported_functions(&self) -> usize
         ensures { result ≡ length (imported_functions self.now.parts) }
     {
-        self.imported
+        self.checked.findings.imported
     }
 
     /// Whether the module can start threads: it imports `thread-spawn`.
     pub fn starts_threads(&self) -> bool
         ensures { IsTrue result ↔ 0 < length (imported_functions self.now.parts) }
     {
-        self.imported > 0
+        self.checked.findings.imported > 0
     }
 
     /// The tables of branches of all bodies, in order.
     pub fn tables(&self) -> &[Table]
         ensures { result.now ≡ self.now.tables }
     {
-        self.tables.as_slice()
+        self.checked.findings.tables.as_slice()
     }
 
     /// The table of branches of a function's body; functions of the module itself, from 0.
     pub fn table(&self, own: usize) -> Option<&Table>
         ensures { MatchOption result (slice_get self.now.tables own ≡ None) (λ table. slice_get self.now.tables own ≡ Some table.now) }
     {
-        self.tables.get(own)
+        self.checked.findings.tables.get(own)
     }
 
     /// Where a branch of an instruction leads. `function` counts imported functions, `instruction` the instructions of
@@ -156,7 +158,7 @@ impl ValidModule {
             → result ≡ target_at self.now own instruction which }
         ensures imported { function < length (imported_functions self.now.parts) → result ≡ None }
     {
-        let own = function.checked_sub(self.imported)?;
+        let own = function.checked_sub(self.imported_functions())?;
         self.table(own)?.target(instruction, which)
     }
 
@@ -164,7 +166,7 @@ impl ValidModule {
     pub fn flats(&self) -> &[Sequence<Flat>]
         ensures { result.now ≡ all_flats self.now.parts.bodies self.now.tables }
     {
-        &self.flats
+        &self.checked.findings.flats
     }
 
     /// A function's body; functions of the module itself, from 0.
@@ -221,7 +223,7 @@ impl ValidModule {
     pub fn exported(&self, name: &str) -> Option<usize>
         ensures { (own : ℕ) → (result ≡ Some own) ↔ IsExported self.now.parts name.now own }
     {
-        exported_function(self.parts(), self.imported, name)
+        exported_function(self.parts(), self.imported_functions(), name)
     }
 }
 
@@ -240,13 +242,10 @@ pub fn validate(alloc: Global, module: Module) -> Result<ValidModule, ValidFault
     ensures outside { IfSome (fault_outside «module») (λ kind. IsErrAnd result (λ fault. IsRefusal kind fault)) }
 {
     match check_parts(alloc, module.parts()) {
-        Ok(findings) => Ok(ValidModule {
-            module,
-            tables: findings.tables,
-            flats: findings.flats,
-            imported: findings.imported,
-            memory: findings.memory,
-        }),
+        Ok(findings) => {
+            let checked = Box::new(alloc, Checked { module, findings })?;
+            Ok(ValidModule { checked })
+        }
         Err(fault) => Err(fault),
     }
 }
