@@ -6,8 +6,8 @@ use std::process::Abort;
 use std::test::Fail;
 use types::{
     AccessWidth, AtomicOp, BinaryOp, Body, CompareOp, ConvertOp, FuncType, Global, GlobalType,
-    Instr, Labels, Limits, LoadOp, MemArg, Module, NarrowWidth, NumericInstr, PlainInstr, RmwOp,
-    Sequence, ValType, Value,
+    Instr, Labels, Limits, LoadOp, MemArg, Module, NarrowWidth, NumericInstr, Parts, PlainInstr,
+    RmwOp, Sequence, ValType, Value,
 };
 use validate_bodies::{Declared, check_body};
 use validate_typing::{Fault, Table, Target, ValidFault};
@@ -200,12 +200,20 @@ fn two_globals(alloc: Alloc) -> Result<Vec<Global>, AllocError> {
 }
 
 /// A module with one body: this code, and so many locals of type `i64`.
-fn module_of(alloc: Alloc, code: Vec<Instr>, locals: usize) -> Result<Option<Module>, AllocError> {
+fn parts_of(alloc: Alloc, code: Vec<Instr>, locals: usize) -> Result<Parts, AllocError> {
     let body = Body {
         locals: Sequence::from_vec(vec![in alloc; I64; locals]?),
         code: Sequence::from_vec(code),
     };
-    Ok(Module::from_parts(one_function(alloc, body)?).ok())
+    one_function(alloc, body)
+}
+
+/// The module of these parts, behind a `Box`: whoever owns it lets go of one thing, and not of each section.
+fn module_of(alloc: Alloc, parts: Parts) -> Result<Option<Box<Module>>, AllocError> {
+    match Module::from_parts(parts) {
+        Ok(module) => Ok(Some(Box::new(alloc, module)?)),
+        Err(_) => Ok(None),
+    }
 }
 
 /// What a function with this body is checked to be, whose parameter and result are of type `i32`. There are such a
@@ -217,19 +225,28 @@ fn checked(
     locals: usize,
     limits: &[Limits],
 ) -> Result<Result<Table, ValidFault>, AllocError> {
-    let Some(module) = module_of(alloc, code, locals)? else {
-        return Ok(Err(ValidFault::Outside(Fault::Limits)));
-    };
-    let types = func_types(alloc)?;
+    match module_of(alloc, parts_of(alloc, code, locals)?)? {
+        Some(module) => checked_among(alloc, &func_types(alloc)?, limits, &module),
+        None => Ok(Err(ValidFault::Outside(Fault::Limits))),
+    }
+}
+
+/// The module's body, where there are functions of these types.
+fn checked_among(
+    alloc: Alloc,
+    types: &[FuncType],
+    limits: &[Limits],
+    module: &Module,
+) -> Result<Result<Table, ValidFault>, AllocError> {
     let globals = two_globals(alloc)?;
     let declared = Declared {
-        types: &types,
+        types,
         functions: &[0, 1],
         tables: limits,
         memories: limits,
         globals: &globals,
     };
-    Ok(check_in(alloc, &declared, &module))
+    Ok(check_in(alloc, &declared, module))
 }
 
 /// The module's body, as one of a function of the first type.

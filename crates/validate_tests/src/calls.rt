@@ -5,7 +5,7 @@ use crate::sections::with_exports;
 use std::alloc::{AllocError, Global as Alloc};
 use std::process::Abort;
 use std::test::Fail;
-use types::{Instr, PlainInstr, Value};
+use types::{Instr, Parts, PlainInstr, Value};
 use validate_module_rules::{IndexSpaces, exported_function, fault_outside_bodies, offset};
 use validate_typing::{Fault, Place, Table, Target, ValidFault, expression_stands_for_one_nesting};
 
@@ -133,10 +133,13 @@ fn reads_offsets(rt: HostRuntime) -> Result<(), Fail> {
 
 /// What the rules outside bodies say of a module with exports.
 fn outside(alloc: Alloc, names: u32) -> Result<Option<Fault>, Fail> {
-    let names = names.max(1);
-    let parts = with_exports(alloc, 2, names)?;
-    let spaces = IndexSpaces::of(alloc, &parts)?;
-    Ok(fault_outside_bodies(&parts, &spaces))
+    let parts = Box::new(alloc, with_exports(alloc, 2, names.max(1))?)?;
+    outside_of(alloc, &parts)
+}
+
+fn outside_of(alloc: Alloc, parts: &Parts) -> Result<Option<Fault>, Fail> {
+    let spaces = IndexSpaces::of(alloc, parts)?;
+    Ok(fault_outside_bodies(parts, &spaces))
 }
 
 #[test]
@@ -153,9 +156,13 @@ fn tells_faults_outside_bodies(rt: HostRuntime) -> Result<(), Fail> {
 
 /// The function that a module exports by a name, where it exports its memory as "0" alone.
 fn function_named(alloc: Alloc, name: &str) -> Result<Option<usize>, Fail> {
-    let parts = with_exports(alloc, 1, 1)?;
-    let spaces = IndexSpaces::of(alloc, &parts)?;
-    Ok(exported_function(&parts, spaces.imported, name))
+    let parts = Box::new(alloc, with_exports(alloc, 1, 1)?)?;
+    function_in(alloc, &parts, name)
+}
+
+fn function_in(alloc: Alloc, parts: &Parts, name: &str) -> Result<Option<usize>, Fail> {
+    let spaces = IndexSpaces::of(alloc, parts)?;
+    Ok(exported_function(parts, spaces.imported, name))
 }
 
 #[test]

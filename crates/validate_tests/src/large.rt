@@ -150,18 +150,13 @@ fn tables(alloc: Alloc) -> Result<Sequence<Limits>, AllocError> {
 }
 
 /// A module of such sizes.
-fn large(alloc: Alloc, sizes: Sizes) -> Result<Parts, AllocError> {
-    let tables = tables(alloc)?;
-    let globals = globals(alloc, sizes.globals)?;
-    let exports = Sequence::from_vec(vec![in alloc; export(alloc, sizes.name)?]?);
-    let elements = elements(alloc, sizes.items)?;
-    Ok(Parts {
-        tables,
-        globals,
-        exports,
-        elements,
-        ..functions(alloc, sizes)?
-    })
+fn large(alloc: Alloc, sizes: Sizes) -> Result<Box<Parts>, AllocError> {
+    let mut parts = Box::new(alloc, functions(alloc, sizes)?)?;
+    parts.tables = tables(alloc)?;
+    parts.globals = globals(alloc, sizes.globals)?;
+    parts.exports = Sequence::from_vec(vec![in alloc; export(alloc, sizes.name)?]?);
+    parts.elements = elements(alloc, sizes.items)?;
+    Ok(parts)
 }
 
 static LARGE: [(&str, Sizes); 9] = [
@@ -184,7 +179,12 @@ static LARGE: [(&str, Sizes); 9] = [
 
 fn check_large<R: Abort>(rt: &R, alloc: Alloc, cases: &[(&str, Sizes)]) -> Result<(), Fail> {
     for (text, sizes) in cases {
-        equal(rt, *text, &fault_of(alloc, large(alloc, *sizes)?)?, &None);
+        equal(
+            rt,
+            *text,
+            &fault_of(alloc, Box::into_inner(large(alloc, *sizes)?))?,
+            &None,
+        );
     }
     Ok(())
 }

@@ -38,6 +38,10 @@ static MODULES: [(usize, usize, bool); 6] = [
     (0, 0, false),
 ];
 
+fn is_module(alloc: Global, depth: usize, ends: usize) -> Result<bool, AllocError> {
+    Ok(module_of(alloc, depth, ends)?.is_some())
+}
+
 /// A module of so many blocks and ends is made, or not.
 fn check_nesting<R: Abort>(
     rt: &R,
@@ -45,7 +49,7 @@ fn check_nesting<R: Abort>(
     cases: &[(usize, usize, bool)],
 ) -> Result<(), Fail> {
     for (depth, ends, made) in cases {
-        let found = module_of(alloc, *depth, *ends)?.is_some();
+        let found = is_module(alloc, *depth, *ends)?;
         assert!(rt; found == *made, "{depth}, {ends}");
     }
     Ok(())

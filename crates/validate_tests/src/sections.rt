@@ -55,10 +55,16 @@ pub fn one_function(alloc: Global, body: Body) -> Result<Parts, AllocError> {
 
 /// The fault of a module of these parts, if it has one.
 pub fn fault_of(alloc: Global, parts: Parts) -> Result<Option<Fault>, Fail> {
-    let module = Module::from_parts(parts).ok().ok_or("no module")?;
+    match Module::from_parts(parts) {
+        Ok(module) => Ok(fault_in(alloc, module)),
+        Err(_) => Err(Fail::new("no module")),
+    }
+}
+
+fn fault_in(alloc: Global, module: Module) -> Option<Fault> {
     match validate(alloc, module) {
-        Ok(_) => Ok(None),
-        Err(fault) => Ok(Some(fault.kind())),
+        Ok(_) => None,
+        Err(fault) => Some(fault.kind()),
     }
 }
 

@@ -44,15 +44,15 @@ fn validated(alloc: Global, module: Module) -> Result<Answer, Fail> {
     }
 }
 
-fn both(alloc: Global, module: Module) -> Result<[Answer; 2], Fail> {
+fn both(alloc: Global, module: Box<Module>) -> Result<[Answer; 2], Fail> {
     let checked = checked(alloc, &module)?;
-    Ok([checked, validated(alloc, module)?])
+    Ok([checked, validated(alloc, Box::into_inner(module))?])
 }
 
 /// What is answered of a module's bytes, by a check that keeps no tables and by one that does.
 fn answers(alloc: Global, bytes: &[u8]) -> Result<[Answer; 2], Fail> {
     match read(alloc, bytes) {
-        Ok(module) => both(alloc, module),
+        Ok(module) => both(alloc, Box::new(alloc, module)?),
         Err(ReadFault::OutOfMemory) => Err("no memory to read".into()),
         Err(ReadFault::Malformed { .. }) => Ok([Answer::Unread, Answer::Unread]),
     }
