@@ -10,6 +10,7 @@ use shared_memory::SharedMemory;
 use shared_memory_sequential::OneMemory;
 use std::alloc::Global;
 use std::marker::Brand;
+use std::process::Abort;
 use std::sync::Wait;
 use std::test::Fail;
 use types::{Answer, Event, MOST_THREADS, PAGE_SIZE, Question, Reply};
@@ -180,6 +181,20 @@ fn alone(one: &mut OneMemory, question: Question, number: u32) -> Heard
     }
 }
 
+/// What the questions behind the first are heard as there, with that one.
+fn ask_alone(one: &mut OneMemory, waited: Heard) -> [Heard; 4] {
+    let notified = alone(one, NOTIFY, 0);
+    let spawned = alone(one, SPAWN, 1);
+    [waited, notified, spawned, alone(one, Question::Leave, 0)]
+}
+
+/// Thread 0 entered four questions and their answers, and the bytes are those of the sequential memory.
+fn check_end(rt: &impl Abort, end: &Finished, one: &OneMemory) {
+    assert!(rt; end.log.len() == 8);
+    assert!(rt; end.log.as_slice().iter().all(|entry| entry.thread == 0));
+    assert!(rt; end.bytes.as_slice() == one.bytes());
+}
+
 #[test]
 fn each_question_is_answered_at_once(rt: HostRuntime) -> Result<(), Fail> {
     let alloc = rt.alloc();
@@ -187,13 +202,8 @@ fn each_question_is_answered_at_once(rt: HostRuntime) -> Result<(), Fail> {
     let (heard, end) = ask_at_recorder::<Brand, HostRuntime>(&rt, alloc, prepared)?;
     let mut one = OneMemory::open(alloc, &PAGE, 1)?;
     let waited = alone(&mut one, WAIT, 1);
-    let notified = alone(&mut one, NOTIFY, 0);
-    let spawned = alone(&mut one, SPAWN, 1);
-    let left = alone(&mut one, Question::Leave, 0);
-    assert_eq!(rt; heard, Some([waited, notified, spawned, left]));
-    assert_eq!(rt; waited.asked, Reply::Value(0));
-    assert_eq!(rt; end.log.len(), 8);
-    assert!(rt; end.log.as_slice().iter().all(|entry| entry.thread == 0));
-    assert!(rt; end.bytes.as_slice() == one.bytes());
+    assert!(rt; waited.asked == Reply::Value(0));
+    assert!(rt; heard == Some(ask_alone(&mut one, waited)));
+    check_end(&rt, &end, &one);
     Ok(())
 }

@@ -1,5 +1,6 @@
 //! Scripts that drive a queue. What each step answers was worked out by hand from the rules of waiting, notifying,
 //! spawning and settling.
+use std::fmt::Debug;
 use std::process::Abort;
 use std::test::Fail;
 use types::{Answer, MOST_THREADS, Question};
@@ -63,16 +64,21 @@ fn spawn_all(rt: &impl Abort, queue: &mut Queue, count: u32) {
     }
 }
 
+/// Asserts that a step answers what it has to.
+fn equal<T: PartialEq + Debug>(rt: &impl Abort, at: usize, found: &T, wanted: &T) {
+    assert_eq!(rt; found, wanted, "step {at}");
+}
+
 fn take_step(rt: &impl Abort, queue: &mut Queue, at: usize, step: Step) {
     match step {
         Spawns(count) => spawn_all(rt, queue, count),
         Asks(thread, question) => ask(rt, queue, thread, &question),
-        Takes(thread, answer) => assert_eq!(rt; queue.told(thread), Some(answer), "step {at}"),
-        Waits(thread) => assert_eq!(rt; queue.told(thread), None, "step {at}"),
-        IsAlive(thread, alive) => assert_eq!(rt; queue.is_alive(thread), alive, "step {at}"),
-        IsAsleep(thread, asleep) => assert_eq!(rt; queue.is_asleep(thread), asleep, "step {at}"),
-        IsOver(over) => assert_eq!(rt; queue.is_over(), over, "step {at}"),
-        HasArg(thread, arg) => assert_eq!(rt; queue.arg_of(thread), arg, "step {at}"),
+        Takes(thread, answer) => equal(rt, at, &queue.told(thread), &Some(answer)),
+        Waits(thread) => equal(rt, at, &queue.told(thread), &None),
+        IsAlive(thread, alive) => equal(rt, at, &queue.is_alive(thread), &alive),
+        IsAsleep(thread, asleep) => equal(rt, at, &queue.is_asleep(thread), &asleep),
+        IsOver(over) => equal(rt, at, &queue.is_over(), &over),
+        HasArg(thread, arg) => equal(rt, at, &queue.arg_of(thread), &arg),
     }
 }
 
