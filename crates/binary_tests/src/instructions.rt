@@ -1,8 +1,10 @@
 //! Each opcode once, as the standard's tables have them, and faults at their offsets.
 
+use crate::equal::equal;
 use binary_instructions::{read_expression, read_val_type};
 use binary_wire::{Fault, ReadFault, Reader, Refusal};
 use std::alloc::Global;
+use std::process::Abort;
 use std::test::Fail;
 use types::{
     AccessWidth, AtomicOp, BinaryOp, CompareOp, ConvertOp, Instr, Labels, LoadOp, MemArg,
@@ -445,45 +447,65 @@ fn is_refused(alloc: Global, bytes: &[u8], kind: Fault, offset: usize) -> bool {
     }
 }
 
-#[test]
-fn reads_numeric_instructions(rt: HostRuntime) -> Result<(), Fail> {
-    for (code, op) in NUMERIC {
-        assert!(rt; is_plain(rt.alloc(), &[code, 0x0b], PlainInstr::Numeric(op))?);
-    }
-    Ok(())
-}
-
-#[test]
-fn reads_loads(rt: HostRuntime) -> Result<(), Fail> {
-    let memarg = MemArg {
-        align: 2,
-        offset: 9,
-    };
-    for (code, op) in LOADS {
+fn check_numeric(rt: &impl Abort, alloc: Global, rows: &[(u8, NumericInstr)]) -> Result<(), Fail> {
+    for (code, op) in rows {
         assert!(rt;
-            is_plain(
-                rt.alloc(),
-                &[code, 2, 9, 0x0b],
-                PlainInstr::Load(op, memarg)
-            )?
+            is_plain(alloc, &[*code, 0x0b], PlainInstr::Numeric(*op))?,
+            "{code}"
         );
     }
     Ok(())
 }
 
 #[test]
+fn reads_numeric_instructions(rt: HostRuntime) -> Result<(), Fail> {
+    check_numeric(&rt, rt.alloc(), &NUMERIC)
+}
+
+/// An alignment and an offset, as they stand behind the opcodes here.
+const MEMARG: MemArg = MemArg {
+    align: 2,
+    offset: 9,
+};
+
+fn check_loads(rt: &impl Abort, alloc: Global, rows: &[(u8, LoadOp)]) -> Result<(), Fail> {
+    for (code, op) in rows {
+        let wanted = PlainInstr::Load(*op, MEMARG);
+        assert!(rt; is_plain(alloc, &[*code, 2, 9, 0x0b], wanted)?, "{code}");
+    }
+    Ok(())
+}
+
+#[test]
+fn reads_loads(rt: HostRuntime) -> Result<(), Fail> {
+    check_loads(&rt, rt.alloc(), &LOADS)
+}
+
+fn check_stores(rt: &impl Abort, alloc: Global, rows: &[(u8, AccessWidth)]) -> Result<(), Fail> {
+    for (code, width) in rows {
+        let wanted = PlainInstr::Store(*width, MEMARG);
+        assert!(rt; is_plain(alloc, &[*code, 2, 9, 0x0b], wanted)?, "{code}");
+    }
+    Ok(())
+}
+
+#[test]
 fn reads_stores(rt: HostRuntime) -> Result<(), Fail> {
-    let memarg = MemArg {
-        align: 2,
-        offset: 9,
-    };
-    for (code, width) in STORES {
+    check_stores(&rt, rt.alloc(), &STORES)
+}
+
+/// With the number as it is, and in a longer spelling.
+fn check_atomic(rt: &impl Abort, alloc: Global, rows: &[(u8, AtomicOp)]) -> Result<(), Fail> {
+    for (number, op) in rows {
+        let short = [0xfe, *number, 2, 9, 0x0b];
         assert!(rt;
-            is_plain(
-                rt.alloc(),
-                &[code, 2, 9, 0x0b],
-                PlainInstr::Store(width, memarg)
-            )?
+            is_plain(alloc, &short, PlainInstr::Atomic(*op, MEMARG))?,
+            "{number}"
+        );
+        let long = [0xfe, *number | 0x80, 0x80, 0, 2, 9, 0x0b];
+        assert!(rt;
+            is_plain(alloc, &long, PlainInstr::Atomic(*op, MEMARG))?,
+            "{number}"
         );
     }
     Ok(())
@@ -491,28 +513,7 @@ fn reads_stores(rt: HostRuntime) -> Result<(), Fail> {
 
 #[test]
 fn reads_atomic_instructions(rt: HostRuntime) -> Result<(), Fail> {
-    let memarg = MemArg {
-        align: 2,
-        offset: 9,
-    };
-    for (number, op) in ATOMIC {
-        // the number as it is, and in a longer spelling
-        assert!(rt;
-            is_plain(
-                rt.alloc(),
-                &[0xfe, number, 2, 9, 0x0b],
-                PlainInstr::Atomic(op, memarg)
-            )?
-        );
-        assert!(rt;
-            is_plain(
-                rt.alloc(),
-                &[0xfe, number | 0x80, 0x80, 0, 2, 9, 0x0b],
-                PlainInstr::Atomic(op, memarg)
-            )?
-        );
-    }
-    Ok(())
+    check_atomic(&rt, rt.alloc(), &ATOMIC)
 }
 
 /// The other instructions that stand alone: their bytes, and their index.
@@ -661,7 +662,7 @@ fn nested(alloc: Global, depth: usize) -> Result<Vec<u8>, ReadFault> {
 fn nests_255_blocks_at_most(rt: HostRuntime) -> Result<(), Fail> {
     let deepest = nested(rt.alloc(), 255)?;
     let code = read_expression(&mut Reader::new(&deepest), rt.alloc())?;
-    assert_eq!(rt; code.len(), 511);
+    equal(&rt, &code.len(), &511);
     let too_deep = nested(rt.alloc(), 256)?;
     assert!(rt; is_refused(rt.alloc(), &too_deep, Fault::Limit, 510));
     Ok(())
@@ -670,12 +671,12 @@ fn nests_255_blocks_at_most(rt: HostRuntime) -> Result<(), Fail> {
 #[test]
 fn reads_types_of_values(rt: HostRuntime) -> Result<(), Fail> {
     let mut reader = Reader::new(b"\x7f\x7e\x7d");
-    assert_eq!(rt; reader.read_byte(), Ok(0x7f));
-    assert_eq!(rt; read_val_type(&mut reader), Ok(ValType::I64));
+    equal(&rt, &reader.read_byte(), &Ok(0x7f));
+    equal(&rt, &read_val_type(&mut reader), &Ok(ValType::I64));
     let float = Refusal {
         kind: Fault::Float,
         offset: 2,
     };
-    assert_eq!(rt; read_val_type(&mut reader), Err(float));
+    equal(&rt, &read_val_type(&mut reader), &Err(float));
     Ok(())
 }

@@ -1,9 +1,10 @@
 //! Faults with their offsets, worked out by hand, and what is read of each section.
+use crate::equal::equal;
 use binary::read;
 use std::alloc::{AllocError, Global};
 use std::process::Abort;
 use std::test::Fail;
-use types::{ExportDesc, Module};
+use types::{ExportDesc, Module, Parts};
 
 const OPENING: &[u8] = b"\0asm\x01\0\0\0";
 
@@ -217,12 +218,12 @@ fn swollen_counts(rt: HostRuntime) -> Result<(), Fail> {
 #[test]
 fn openings(rt: HostRuntime) -> Result<(), Fail> {
     let alloc = rt.alloc();
-    assert_eq!(rt; outcome(alloc, b""), (1, 0));
-    assert_eq!(rt; outcome(alloc, b"\0asm\x01\0\0"), (1, 7));
-    assert_eq!(rt; outcome(alloc, b"\0arm\x01\0\0\0"), (2, 2));
-    assert_eq!(rt; outcome(alloc, b"\x01"), (2, 0));
-    assert_eq!(rt; outcome(alloc, b"\0asm\x02\0\0\0"), (3, 4));
-    assert_eq!(rt; outcome(alloc, b"\0asm\x01\0\0\x01"), (3, 7));
+    equal(&rt, &outcome(alloc, b""), &(1, 0));
+    equal(&rt, &outcome(alloc, b"\0asm\x01\0\0"), &(1, 7));
+    equal(&rt, &outcome(alloc, b"\0arm\x01\0\0\0"), &(2, 2));
+    equal(&rt, &outcome(alloc, b"\x01"), &(2, 0));
+    equal(&rt, &outcome(alloc, b"\0asm\x02\0\0\0"), &(3, 4));
+    equal(&rt, &outcome(alloc, b"\0asm\x01\0\0\x01"), &(3, 7));
     Ok(())
 }
 
@@ -232,9 +233,9 @@ fn longest_input(rt: HostRuntime) -> Result<(), Fail> {
     let mut bytes = Vec::from_slice(alloc, OPENING)?;
     bytes.resize(1_048_576, 1)?;
     // the id 1, a size of 1, a count of 1
-    assert_eq!(rt; outcome(alloc, bytes.as_slice()), (5, 11));
+    equal(&rt, &outcome(alloc, bytes.as_slice()), &(5, 11));
     bytes.push(1)?;
-    assert_eq!(rt; outcome(alloc, bytes.as_slice()), (11, 1_048_576));
+    equal(&rt, &outcome(alloc, bytes.as_slice()), &(11, 1_048_576));
     Ok(())
 }
 
@@ -247,7 +248,7 @@ fn prefixes(rt: HostRuntime) -> Result<(), Fail> {
             19 | 25 | 32 => (10, len),
             _ => (1, len),
         };
-        assert_eq!(rt; outcome(alloc, &MODULE[..len]), wanted);
+        equal(&rt, &outcome(alloc, &MODULE[..len]), &wanted);
     }
     Ok(())
 }
@@ -277,27 +278,41 @@ fn counts(module: &Module) -> [usize; 10] {
     ]
 }
 
+/// What is read of a module with every section.
+fn check_whole(rt: &impl Abort, module: &Module) {
+    equal(rt, &counts(module), &[1; 10]);
+    equal(rt, &module.parts().start, &Some(1));
+}
+
+/// The module with every section, behind a `Box`: who owns it lets go of one thing, and not of each section.
+fn whole(alloc: Global) -> Result<Box<Module>, Fail> {
+    Ok(Box::new(alloc, read(alloc, WHOLE)?)?)
+}
+
 #[test]
 fn every_section(rt: HostRuntime) -> Result<(), Fail> {
-    let module = read(rt.alloc(), WHOLE)?;
-    assert_eq!(rt; counts(&module), [1; 10]);
-    assert_eq!(rt; module.parts().start, Some(1));
+    let module = whole(rt.alloc())?;
+    check_whole(&rt, &module);
     Ok(())
+}
+
+/// What the sections hold whose items aren't numbers alone.
+fn check_contents(rt: &impl Abort, parts: &Parts) {
+    for export in parts.exports.as_slice() {
+        equal(rt, &export.name.as_str(), &"e");
+        equal(rt, &export.desc, &ExportDesc::Func(1));
+    }
+    for body in parts.bodies.as_slice() {
+        equal(rt, &body.locals.len(), &2);
+    }
+    for segment in parts.data.as_slice() {
+        equal(rt, &segment.bytes.as_slice(), &b"AB".as_slice());
+    }
 }
 
 #[test]
 fn what_sections_hold(rt: HostRuntime) -> Result<(), Fail> {
-    let module = read(rt.alloc(), WHOLE)?;
-    let parts = module.parts();
-    for export in parts.exports.as_slice() {
-        assert_eq!(rt; export.name.as_str(), "e");
-        assert_eq!(rt; export.desc, ExportDesc::Func(1));
-    }
-    for body in parts.bodies.as_slice() {
-        assert_eq!(rt; body.locals.len(), 2);
-    }
-    for segment in parts.data.as_slice() {
-        assert_eq!(rt; segment.bytes.as_slice(), b"AB".as_slice());
-    }
+    let module = whole(rt.alloc())?;
+    check_contents(&rt, module.parts());
     Ok(())
 }
