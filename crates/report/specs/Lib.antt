@@ -1,5 +1,1 @@
 pub mod Jobs
-pub mod Arguments
-pub mod Prints
-pub mod Troubles
-pub mod Searches

@@ -1,6 +1,6 @@
 use Rattle.std.proofs.Common.{ℕ, List, map, is_some, Bor, subst}
-use Rattle.report.specs.Jobs.{Runs}
-use Rattle.report.specs.Prints.{change, request}
+use Rattle.report_jobs.specs.Jobs.{Runs}
+use Rattle.report_jobs.specs.Prints.{change, request}
 use Rattle.report.proofs.job.perform.Goals as goal
 
 pub returns-in-Run : goal.returns-in-Run

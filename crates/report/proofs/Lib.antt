@@ -1,6 +1,0 @@
-pub mod Replays
-pub mod Refused
-pub mod Spelled
-pub mod Calls
-pub mod Printed
-mod Searched

@@ -1,0 +1,5 @@
+pub mod Replays
+pub mod Refused
+pub mod Spelled
+pub mod Calls
+pub mod Printed

@@ -1,0 +1,133 @@
+-- What checks, runs and replays say of the bytes that they were given.
+use Rattle.std.specs.Prelude.{ℕ, ◌≡◌, ◌≤◌, ◌⊎◌, List, length, Option}
+use Rattle.std.specs.Io.KnownBytes.{Appends}
+use Rattle.types.specs.declared.parts.Parts.{Parts}
+use Rattle.binary_wire.specs.declared.fault.ReadFault.TheVariants.{OutOfMemory as ReadOutOfMemory, Malformed}
+use Rattle.validate_typing.specs.Validity.{IsValid}
+use Rattle.binary.specs.Grammar.{IsModuleText}
+use Rattle.replay_text.specs.declared.parts.RecordParts.{RecordParts}
+use Rattle.replay_text.specs.Text.{record_text, IsRecord}
+use Rattle.replay.specs.declared.end.EndState.{EndState}
+use Rattle.replay.specs.Runs.{IsRunOf}
+use Rattle.report_lines.specs.Lines.{functions_line, end_lines}
+use Rattle.report_jobs.specs.Arguments.{CannotCall}
+use Rattle.report_jobs.specs.Prints.{Change, Request, PrintsRun, status_of}
+use Rattle.report_jobs.specs.declared.replaying.Unfit.{Unfit}
+use Rattle.report_jobs.specs.declared.replaying.Unfit.TheVariants.{Unread, Misfit, NoMemory, Output}
+use Rattle.validate_typing.specs.declared.fault.ValidFault.TheVariants.{OutOfMemory as ValidityOutOfMemory, Outside, InBody}
+use Rattle.report_jobs.specs.declared.loading.Refusal.{Refusal}
+use Rattle.report_jobs.specs.declared.loading.Refusal.TheVariants.{Read, Validity}
+
+-- The bytes are a valid module's text, and what was written is its line.
+pub record IsAccepted (bytes : List ℕ) (old new : Option (List ℕ)) : Type 0 where
+  pub parts : Parts
+  pub text : IsModuleText bytes parts
+  pub valid : IsValid parts
+  pub line : Appends old new (functions_line (length parts.functions))
+
+-- The bytes are no module's text.
+abbrev pub IsNoModule : List ℕ → Type 0
+IsNoModule bytes = (parts : Parts) → IsModuleText bytes parts → ⊥
+
+-- The bytes are the text of a module, and of no valid one.
+pub record IsInvalid (bytes : List ℕ) : Type 0 where
+  pub parts : Parts
+  pub text : IsModuleText bytes parts
+  pub invalid : IsValid parts → ⊥
+
+-- No valid module has the bytes as its text.
+abbrev pub IsNoValidModule : List ℕ → Type 0
+IsNoValidModule bytes = (parts : Parts) → IsModuleText bytes parts → IsValid parts → ⊥
+
+-- What a refusal says of the bytes. Out of memory says nothing.
+abbrev pub IsRefused : List ℕ → Refusal → Type 0
+IsRefused bytes (Read ReadOutOfMemory) = Unit {0}
+IsRefused bytes (Read (Malformed kind offset)) = IsNoModule bytes
+IsRefused bytes (Validity ValidityOutOfMemory) = Unit {0}
+IsRefused bytes (Validity (Outside kind)) = IsInvalid bytes
+IsRefused bytes (Validity (InBody kind function place)) = IsInvalid bytes
+
+-- The bytes are a record's text, the record is of a run of the module, and what was written are the lines of that run.
+pub record PrintsReplay (m : Parts) (saved : List ℕ) (dump : ℕ) (old new : Option (List ℕ)) (status : ℕ) : Type 0 where
+  pub record_is : RecordParts
+  pub ranges : IsRecord record_is
+  pub text : saved ≡ record_text record_is
+  pub end : EndState
+  pub run : IsRunOf m record_is end
+  pub lines : Appends old new (end_lines end.threads.items end.pages dump end.bytes.items)
+  pub status_is : status ≡ status_of end.threads.items
+
+-- The bytes are the text of no record of a run of the module.
+abbrev pub IsOfNoRun : Parts → List ℕ → Type 0
+IsOfNoRun m saved = (r : RecordParts) (end : EndState) → IsRecord r → saved ≡ record_text r → IsRunOf m r end → ⊥
+
+abbrev pub IsUnfit : Parts → List ℕ → Unfit → Type 0
+IsUnfit m saved (Unread fault) = IsOfNoRun m saved
+IsUnfit m saved (Misfit fault) = IsOfNoRun m saved
+IsUnfit m saved NoMemory = Unit {0}
+IsUnfit m saved Output = Unit {0}
+
+-- The bytes are a valid module's text, and a record of a run of it was replayed.
+pub record IsReplayed (bytes saved : List ℕ) (dump : ℕ) (old new : Option (List ℕ)) (status : ℕ) : Type 0 where
+  pub parts : Parts
+  pub text : IsModuleText bytes parts
+  pub valid : IsValid parts
+  pub prints : PrintsReplay parts saved dump old new status
+
+-- They are, and the others are the text of no record of a run of it.
+pub record IsNoRecordOf (bytes saved : List ℕ) : Type 0 where
+  pub parts : Parts
+  pub text : IsModuleText bytes parts
+  pub valid : IsValid parts
+  pub none : IsOfNoRun parts saved
+
+-- The bytes are a valid module's text, and a run of it was made as asked.
+pub record HasRun (bytes : List ℕ) (asked : Request) (out save : Change) (status : ℕ) : Type 0 where
+  pub parts : Parts
+  pub text : IsModuleText bytes parts
+  pub valid : IsValid parts
+  pub prints : PrintsRun parts asked out save status
+
+-- They are, and no function of it can be called as asked.
+pub record HasNoSuchCall (bytes : List ℕ) (asked : Request) : Type 0 where
+  pub parts : Parts
+  pub text : IsModuleText bytes parts
+  pub valid : IsValid parts
+  pub cannot : CannotCall parts asked.name asked.texts
+
+-- What the status of a check says: 0 of an accepted module, 2 of a refused one. 5 is that memory or a stream failed.
+pub record Checks (bytes : List ℕ) (out : Change) (status : ℕ) : Type 0 where
+  pub accepted : status ≡ 0 → IsAccepted bytes out.old out.new
+  pub refused : status ≡ 2 → IsNoValidModule bytes
+  pub statuses : (status ≡ 0) ⊎ (status ≡ 2) ⊎ (status ≡ 5)
+
+-- What that of a run says: 0 and 1 of a run that was made, 2 of a refused module, 3 of a call that can't be made. 5 is that memory, a
+-- thread or a stream failed.
+pub record Runs (bytes : List ℕ) (asked : Request) (out save : Change) (status : ℕ) : Type 0 where
+  pub made : status ≤ 1 → HasRun bytes asked out save status
+  pub refused : status ≡ 2 → IsNoValidModule bytes
+  pub cannot : status ≡ 3 → HasNoSuchCall bytes asked
+  pub statuses : (status ≤ 3) ⊎ (status ≡ 5)
+
+-- What that of a replay says: 0 and 1 of a record of a run, 2 of a refused module, 4 of a record of no run. 5 is that memory or a stream
+-- failed.
+pub record Replays (bytes saved : List ℕ) (dump : ℕ) (out : Change) (status : ℕ) : Type 0 where
+  pub replayed : status ≤ 1 → IsReplayed bytes saved dump out.old out.new status
+  pub refused : status ≡ 2 → IsNoValidModule bytes
+  pub none : status ≡ 4 → IsNoRecordOf bytes saved
+  pub statuses : (status ≤ 2) ⊎ (status ≡ 4) ⊎ (status ≡ 5)
+
+-- The bytes are the text of a record of a run of the module.
+pub record IsOfRun (m : Parts) (saved : List ℕ) : Type 0 where
+  pub record_is : RecordParts
+  pub ranges : IsRecord record_is
+  pub text : saved ≡ record_text record_is
+  pub end : EndState
+  pub run : IsRunOf m record_is end
+
+-- The bytes are a valid module's text, and the others that of a record of a run of it.
+pub record IsRecordOf (bytes saved : List ℕ) : Type 0 where
+  pub parts : Parts
+  pub text : IsModuleText bytes parts
+  pub valid : IsValid parts
+  pub run : IsOfRun parts saved

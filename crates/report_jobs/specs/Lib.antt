@@ -1,0 +1,4 @@
+pub mod Jobs
+pub mod Arguments
+pub mod Prints
+pub mod Troubles

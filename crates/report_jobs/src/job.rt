@@ -1,0 +1,256 @@
+//! Checks, runs and replays of a module's bytes: what is printed, and with which status they end.
+ghost use Rattle.std.specs.Prelude.{◌≡◌, ◌≤◌, ◌⊎◌, ℕ, List, OnOk};
+ghost use Rattle.std.specs.Io.KnownBytes.{Appends};
+ghost use Rattle.report_lines.specs.Lines.{functions_line};
+ghost use Rattle.types.specs.declared.parts.Parts.{Parts};
+ghost use Rattle.types.specs.Limits.{most_fuel};
+ghost use Rattle.report_jobs.specs.Arguments.{CannotCall};
+ghost use Rattle.report_jobs.specs.Jobs.{IsAccepted, HasRun, HasNoSuchCall, IsReplayed, IsNoRecordOf, IsRefused};
+ghost use Rattle.report_jobs.specs.Jobs.{IsNoValidModule, IsUnfit, IsOfNoRun};
+ghost use Rattle.report_jobs.specs.Prints.{change};
+ghost use Rattle.report_jobs.specs.declared.loading.Refusal.{Refusal};
+ghost use Rattle.report_jobs.specs.Troubles.{IsTrouble, request_of};
+
+use crate::loading::{Refusal, load, load_checked};
+use crate::replaying::{Unfit, replay_record};
+use crate::running::{Trouble, Wanted, run_module};
+use binary_wire::ReadFault;
+use std::alloc::Global;
+use std::io::{self, Write};
+use std::sync::Wait;
+use std::thread::Threads;
+use validate_typing::ValidFault;
+
+/// The statuses with which the program ends, beside 0 and 1 for a run.
+const MODULE_REFUSED: u8 = 2;
+
+const RUN_REFUSED: u8 = 3;
+
+const RECORD_REFUSED: u8 = 4;
+
+const FAULT: u8 = 5;
+
+/// Reads a module and validates it, and writes how many functions of its own it has.
+///
+/// Answers 0 only where the bytes are the text of a valid module and its line was written, 2 for a refused module, and
+/// 5 where memory or the stream failed.
+pub fn check<W: Write, E: Write>(alloc: Global, bytes: &[u8], out: &mut W, err: &mut E) -> u8
+    ensures accepted { result ≡ 0 → IsAccepted bytes.now (W.contents out.old) (W.contents out.new) }
+    ensures refused { result ≡ 2 → IsNoValidModule bytes.now }
+    ensures status { (result ≡ 0) ⊎ (result ≡ 2) ⊎ (result ≡ 5) }
+{
+    match load_checked(alloc, bytes) {
+        Ok(found) => accept(found.parts().functions.len(), out, err),
+        Err(refusal) => refuse(err, refusal),
+    }
+}
+
+/// Writes the line of an accepted module, and answers the status: 0, or 5 where the stream failed.
+fn accept<W: Write, E: Write>(functions: usize, out: &mut W, err: &mut E) -> u8
+    ensures written { result ≡ 0 → Appends (W.contents out.old) (W.contents out.new) (functions_line functions) }
+    ensures status { (result ≡ 0) ⊎ (result ≡ 5) }
+{
+    match write_functions(out, functions) {
+        Ok(()) => 0,
+        Err(_) => {
+            say(err, "file fault: standard output");
+            FAULT
+        }
+    }
+}
+
+/// Says why a module was refused, and answers the status: 2, or 5 where memory ran out.
+pub fn refuse<E: Write>(err: &mut E, refusal: Refusal) -> u8
+    ensures status { (result ≡ 2) ⊎ (result ≡ 5) }
+    ensures refused { (bytes : List ℕ) → IsRefused bytes refusal → result ≡ 2 → IsNoValidModule bytes }
+{
+    match refusal {
+        Refusal::Read(fault) => refuse_text(err, fault),
+        Refusal::Validity(fault) => refuse_module(err, fault),
+    }
+}
+
+/// Says why bytes are no module's text, and answers the status.
+fn refuse_text<E: Write>(err: &mut E, fault: ReadFault) -> u8
+    ensures status { (result ≡ 2) ⊎ (result ≡ 5) }
+    ensures refused { (bytes : List ℕ) → IsRefused bytes (Refusal.Read fault) → result ≡ 2 → IsNoValidModule bytes }
+{
+    match fault {
+        ReadFault::OutOfMemory => {
+            say(err, "no memory");
+            FAULT
+        }
+        ReadFault::Malformed { kind, offset } => {
+            let number = kind.number();
+            let _ = write!(err, "module refused: read {number} at {offset}\n");
+            MODULE_REFUSED
+        }
+    }
+}
+
+/// Says why a module isn't valid, and answers the status.
+fn refuse_module<E: Write>(err: &mut E, fault: ValidFault) -> u8
+    ensures status { (result ≡ 2) ⊎ (result ≡ 5) }
+    ensures refused { (bytes : List ℕ) → IsRefused bytes (Refusal.Validity fault) → result ≡ 2 → IsNoValidModule bytes }
+{
+    match fault {
+        ValidFault::OutOfMemory => {
+            say(err, "no memory");
+            FAULT
+        }
+        ValidFault::Outside(kind) => {
+            let number = kind.number();
+            let _ = write!(err, "module refused: validity {number}\n");
+            MODULE_REFUSED
+        }
+        ValidFault::InBody {
+            kind,
+            function,
+            instruction,
+        } => {
+            let number = kind.number();
+            let _ = write!(
+                err,
+                "module refused: validity {number} in function {function} at {instruction}\n"
+            );
+            MODULE_REFUSED
+        }
+    }
+}
+
+/// The line of an accepted module: `ok functions N`.
+fn write_functions<W: Write>(out: &mut W, count: usize) -> io::Result<()>
+    ensures { OnOk result (Appends (W.contents out.old) (W.contents out.new) (functions_line count)) }
+{
+    write!(out, "ok functions {count}\n")?;
+    out.flush()
+}
+
+/// Runs a function of a module as is wanted, prints how its threads ended, the pages and the first bytes of the memory, and writes its
+/// record where one is wanted.
+///
+/// Answers 0 where all threads ended well and 1 for a trap or stop, both only of a run that was made and printed so; 2 for a refused
+/// module, 3 only where no function can be called so, and 5 where memory, a thread or a stream failed.
+pub fn run<R, W, E, S>(
+    rt: &R,
+    alloc: Global,
+    wanted: &Wanted,
+    module: &[u8],
+    out: &mut W,
+    err: &mut E,
+    save: &mut S,
+) -> u8
+where
+    R: Threads + Wait + Sync,
+    W: Write,
+    E: Write,
+    S: Write,
+    requires { wanted.now.fuel ≤ most_fuel }
+    ensures made { result ≤ 1 → HasRun «module».now (request_of wanted.now) (change (W.contents out.old) (W.contents out.new))
+        (change (S.contents save.old) (S.contents save.new)) result }
+    ensures refused { result ≡ 2 → IsNoValidModule «module».now }
+    ensures cannot { result ≡ 3 → HasNoSuchCall «module».now (request_of wanted.now) }
+    ensures status { (result ≤ 3) ⊎ (result ≡ 5) }
+{
+    let valid = match load(alloc, module) {
+        Ok(valid) => valid,
+        Err(refusal) => return refuse(err, refusal),
+    };
+    match run_module(rt, alloc, &valid, wanted, out, save) {
+        Ok(status) => status,
+        Err(trouble) => complain(err, trouble, wanted.save),
+    }
+}
+
+/// Replays the record whose text the bytes are, and prints what its run printed: how the threads ended, the pages and the
+/// first `dump` bytes of the memory.
+///
+/// Answers 0 or 1 only where the record is of a run of the module and its lines were written, 4 only where the bytes are the
+/// text of no record of a run of it, 2 for a refused module, and 5 where memory or a stream failed.
+pub fn replay_saved<W: Write, E: Write>(
+    alloc: Global,
+    module: &[u8],
+    saved: &[u8],
+    dump: u32,
+    out: &mut W,
+    err: &mut E,
+) -> u8
+    ensures replayed { result ≤ 1 → IsReplayed «module».now saved.now dump (W.contents out.old) (W.contents out.new) result }
+    ensures refused { result ≡ 2 → IsNoValidModule «module».now }
+    ensures none { result ≡ 4 → IsNoRecordOf «module».now saved.now }
+    ensures status { (result ≤ 2) ⊎ (result ≡ 4) ⊎ (result ≡ 5) }
+{
+    let valid = match load(alloc, module) {
+        Ok(valid) => valid,
+        Err(refusal) => return refuse(err, refusal),
+    };
+    match replay_record(alloc, &valid, saved, dump, out) {
+        Ok(status) => status,
+        Err(unfit) => reject(err, unfit),
+    }
+}
+
+/// Says why a record was refused, or why its lines couldn't be written, and answers the status.
+pub fn reject<E: Write>(err: &mut E, unfit: Unfit) -> u8
+    ensures status { (result ≡ 4) ⊎ (result ≡ 5) }
+    ensures unfit { (m : Parts) (saved : List ℕ) → IsUnfit m saved unfit → result ≡ 4 → IsOfNoRun m saved }
+{
+    match unfit {
+        Unfit::Unread(fault) => {
+            let _ = write!(err, "record refused: {fault}\n");
+            RECORD_REFUSED
+        }
+        Unfit::Misfit(fault) => {
+            let _ = write!(err, "record refused: {fault}\n");
+            RECORD_REFUSED
+        }
+        Unfit::NoMemory => {
+            say(err, "no memory");
+            FAULT
+        }
+        Unfit::Output => {
+            say(err, "file fault: standard output");
+            FAULT
+        }
+    }
+}
+
+/// Says why there was no run, or why its lines or its record couldn't be written, and answers the status.
+pub fn complain<E: Write>(err: &mut E, trouble: Trouble, path: Option<&str>) -> u8
+    ensures status { (result ≡ 3) ⊎ (result ≡ 5) }
+    ensures refused { (m : Parts) (name : List ℕ) (texts : List (List ℕ)) → IsTrouble m name texts trouble → result ≡ 3
+        → CannotCall m name texts }
+{
+    match trouble {
+        Trouble::UnknownExport => {
+            say(err, "run refused: unknown export");
+            RUN_REFUSED
+        }
+        Trouble::WrongArguments => {
+            say(err, "run refused: wrong arguments");
+            RUN_REFUSED
+        }
+        Trouble::NoThread => {
+            say(err, "no thread");
+            FAULT
+        }
+        Trouble::NoMemory => {
+            say(err, "no memory");
+            FAULT
+        }
+        Trouble::Output => {
+            say(err, "file fault: standard output");
+            FAULT
+        }
+        Trouble::Save => {
+            let path = path.unwrap_or("the record");
+            let _ = write!(err, "file fault: {path}\n");
+            FAULT
+        }
+    }
+}
+
+/// Writes a line about what went wrong; where that fails there is nobody left to tell.
+fn say<E: Write>(err: &mut E, message: &str) {
+    let _ = write!(err, "{message}\n");
+}

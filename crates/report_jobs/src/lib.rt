@@ -1,0 +1,13 @@
+//! Checks, runs and replays of a module's bytes by the program: the lines that these print, and their statuses.
+#![tactic(auto)]
+
+mod args;
+mod job;
+mod loading;
+mod replaying;
+mod running;
+
+pub use job::{check, complain, refuse, reject, replay_saved, run};
+pub use loading::{Refusal, load, load_checked};
+pub use replaying::{Unfit, misfit};
+pub use running::{Trouble, Wanted, args_of, is_done, keep, print};

@@ -1,0 +1,66 @@
+//! The replay of a record by the program: what is printed, or why there is nothing to print.
+ghost use Rattle.std.specs.Prelude.{◌≡◌, ◌≤◌, ℕ, List, IfOk, IfErr};
+ghost use Rattle.types.specs.declared.parts.Parts.{Parts};
+ghost use Rattle.replay_text.specs.declared.parts.RecordParts.{RecordParts};
+ghost use Rattle.replay_text.specs.Text.{record_text, IsRecord};
+ghost use Rattle.replay.specs.Runs.{ShowsNoRun};
+ghost use Rattle.report_jobs.specs.Jobs.{PrintsReplay, IsUnfit};
+
+use crate::running::print;
+use replay::{ReplayFault, replay};
+use replay_text::{RecordFault, read_record};
+use std::alloc::Global;
+use std::io::Write;
+use validate::ValidModule;
+
+/// Why a record wasn't replayed, or what came of it couldn't be written.
+#[derive(Clone, Copy, PartialEq, Eq, Debug)]
+pub enum Unfit {
+    /// The bytes are no record's text.
+    Unread(RecordFault),
+    /// The record is of no run of the module.
+    Misfit(ReplayFault),
+    /// The system had too little memory left.
+    NoMemory,
+    /// Standard output failed.
+    Output,
+}
+
+/// Replays the record whose text the bytes are, and prints what its run printed. Answers the status: 0 where all threads
+/// ended well, 1 for a trap or stop.
+pub(crate) fn replay_record<W: Write>(
+    alloc: Global,
+    module: &ValidModule,
+    saved: &[u8],
+    dump: u32,
+    out: &mut W,
+) -> Result<u8, Unfit>
+    ensures prints { IfOk result (PrintsReplay «module».now.parts saved.now dump (W.contents out.old) (W.contents out.new)) }
+    ensures unfit { IfErr result (λ unfit. IsUnfit «module».now.parts saved.now unfit) }
+{
+    let record = match read_record(alloc, saved) {
+        Ok(record) => record,
+        Err(RecordFault::NoMemory) => return Err(Unfit::NoMemory),
+        Err(fault) => return Err(Unfit::Unread(fault)),
+    };
+    let end = match replay(alloc, module, &record) {
+        Ok(end) => end,
+        Err(fault) => return Err(misfit(fault)),
+    };
+    match print(out, &end, dump) {
+        Ok(status) => Ok(status),
+        Err(_) => Err(Unfit::Output),
+    }
+}
+
+/// What the fault of a replay says of the record's bytes.
+pub fn misfit(fault: ReplayFault) -> Unfit
+    ensures { (m : Parts) (r : RecordParts) (saved : List ℕ) → IsRecord r → saved ≡ record_text r
+        → ShowsNoRun m r fault → IsUnfit m saved result }
+{
+    match fault {
+        ReplayFault::Line(_) => Unfit::Misfit(fault),
+        ReplayFault::EndLine(_) => Unfit::Misfit(fault),
+        ReplayFault::NoMemory => Unfit::NoMemory,
+    }
+}
