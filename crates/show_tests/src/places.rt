@@ -8,16 +8,20 @@ use show_sections::section_of;
 use std::alloc::Global;
 use std::fmt::Write;
 use std::test::Fail;
+use types::Export;
 
 /// The names of the first functions, one a line.
 fn called(alloc: Global, bytes: &[u8], named: bool) -> Result<String, Fail> {
-    let module = read(alloc, bytes)?;
-    let names = read_names(alloc, if named { bytes } else { &[] })?;
+    let module = Box::new(alloc, read(alloc, bytes)?)?;
+    let exports = module.parts().exports.as_slice();
+    names_in(alloc, exports, if named { bytes } else { &[] })
+}
+
+fn names_in(alloc: Global, exports: &[Export], bytes: &[u8]) -> Result<String, Fail> {
+    let names = read_names(alloc, bytes)?;
     let mut text = String::new(alloc);
     for index in 0..3 {
-        let exports = module.parts().exports.as_slice();
-        let name = function_name(names.as_slice(), exports, index);
-        writeln!(text, "{}", name)?;
+        writeln!(text, "{}", function_name(names.as_slice(), exports, index))?;
     }
     Ok(text)
 }
