@@ -1,7 +1,7 @@
 //! Modules that the binary format can't spell, and that the case files would want too many bytes for.
 
 use crate::equal::equal;
-use crate::made::{Has, parts_of};
+use crate::made::{Has, module_of, parts_of};
 use std::alloc::{AllocError, Global};
 use std::process::Abort;
 use std::test::Fail;
@@ -35,19 +35,17 @@ static FAULTS: [(Has, Option<Fault>); 6] = [
     (Has::Exports(1000, 999), Some(Fault::DuplicateExport)),
 ];
 
-/// What is wrong with the module of these parts, if anything is.
-fn fault_in(alloc: Global, parts: Box<Parts>) -> Option<Fault> {
-    let Ok(module) = Module::from_parts(Box::into_inner(parts)) else {
-        return Some(Fault::OutOfMemory);
-    };
-    match validate(alloc, module) {
+/// What is wrong with a module, if anything is.
+fn fault_in(alloc: Global, module: Box<Module>) -> Option<Fault> {
+    match validate(alloc, Box::into_inner(module)) {
         Ok(_) => None,
         Err(fault) => Some(fault.kind()),
     }
 }
 
-fn fault_of(alloc: Global, has: Has) -> Result<Option<Fault>, AllocError> {
-    Ok(fault_in(alloc, parts_of(alloc, has)?))
+fn fault_of(alloc: Global, has: Has) -> Result<Option<Fault>, Fail> {
+    let module = module_of(alloc, has)?.ok_or("no module")?;
+    Ok(fault_in(alloc, module))
 }
 
 fn check_faults<R: Abort>(

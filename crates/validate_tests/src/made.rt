@@ -2,7 +2,8 @@
 
 use std::alloc::{AllocError, Global};
 use types::{
-    Body, Export, ExportDesc, FuncType, Import, ImportDesc, Instr, Limits, Name, Parts, Sequence,
+    Body, Export, ExportDesc, FuncType, Import, ImportDesc, Instr, Limits, Module, Name, Parts,
+    Sequence,
 };
 
 /// What a module has.
@@ -42,22 +43,18 @@ const PAGE: Limits = Limits {
     shared: false,
 };
 
-/// A sequence of one item.
-fn one<T: Drop>(alloc: Global, item: T) -> Result<Sequence<T>, AllocError> {
-    Ok(Sequence::from_vec(vec![in alloc; item]?))
-}
-
 fn name(alloc: Global, text: &str) -> Result<Name, AllocError> {
     Ok(Name::from_string(String::from_str(alloc, text)?))
 }
 
 /// The memory `env` `memory`.
-fn import(alloc: Global, limits: Limits) -> Result<Import, AllocError> {
-    Ok(Import {
+fn import(alloc: Global, limits: Limits) -> Result<Sequence<Import>, AllocError> {
+    let import = Import {
         module: name(alloc, "env")?,
         name: name(alloc, "memory")?,
         desc: ImportDesc::Memory(limits),
-    })
+    };
+    Ok(Sequence::from_vec(vec![in alloc; import]?))
 }
 
 /// So many exports of the first memory.
@@ -88,13 +85,14 @@ pub fn blocks(alloc: Global, depth: usize, ends: usize) -> Result<Sequence<Instr
 /// Puts in one function of this code, without parameters, results and locals.
 fn put_function(alloc: Global, code: Sequence<Instr>, parts: &mut Parts) -> Result<(), AllocError> {
     let locals = Sequence::from_vec(Vec::new(alloc));
-    parts.bodies = one(alloc, Body { locals, code })?;
+    let body = Body { locals, code };
+    parts.bodies = Sequence::from_vec(vec![in alloc; body]?);
     let func_type = FuncType {
         params: Sequence::from_vec(Vec::new(alloc)),
         results: Sequence::from_vec(Vec::new(alloc)),
     };
-    parts.types = one(alloc, func_type)?;
-    parts.functions = one(alloc, 0)?;
+    parts.types = Sequence::from_vec(vec![in alloc; func_type]?);
+    parts.functions = Sequence::from_vec(vec![in alloc; 0]?);
     Ok(())
 }
 
@@ -102,11 +100,11 @@ fn put_function(alloc: Global, code: Sequence<Instr>, parts: &mut Parts) -> Resu
 fn fill(alloc: Global, has: Has, parts: &mut Parts) -> Result<(), AllocError> {
     match has {
         Has::Nothing => {}
-        Has::Memory(limits) => parts.memories = one(alloc, limits)?,
-        Has::ImportedMemory(limits) => parts.imports = one(alloc, import(alloc, limits)?)?,
-        Has::Table(limits) => parts.tables = one(alloc, limits)?,
+        Has::Memory(limits) => parts.memories = Sequence::from_vec(vec![in alloc; limits]?),
+        Has::ImportedMemory(limits) => parts.imports = import(alloc, limits)?,
+        Has::Table(limits) => parts.tables = Sequence::from_vec(vec![in alloc; limits]?),
         Has::Exports(count, names) => {
-            parts.memories = one(alloc, PAGE)?;
+            parts.memories = Sequence::from_vec(vec![in alloc; PAGE]?);
             parts.exports = exports(alloc, count, names)?;
         }
         Has::Blocks(depth, ends) => put_function(alloc, blocks(alloc, depth, ends)?, parts)?,
@@ -114,9 +112,17 @@ fn fill(alloc: Global, has: Has, parts: &mut Parts) -> Result<(), AllocError> {
     Ok(())
 }
 
-/// The parts of a module.
+/// The parts of what may be a module.
 pub fn parts_of(alloc: Global, has: Has) -> Result<Box<Parts>, AllocError> {
     let mut parts = Box::new(alloc, empty(alloc))?;
     fill(alloc, has, &mut parts)?;
     Ok(parts)
+}
+
+/// The module, if the parts make one.
+pub fn module_of(alloc: Global, has: Has) -> Result<Option<Box<Module>>, AllocError> {
+    match Module::from_parts(Box::into_inner(parts_of(alloc, has)?)) {
+        Ok(module) => Ok(Some(Box::new(alloc, module)?)),
+        Err(_) => Ok(None),
+    }
 }

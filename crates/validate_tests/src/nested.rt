@@ -1,18 +1,17 @@
 //! The nesting of blocks in modules made from parts, and their final `end`.
 
 use crate::equal::equal;
-use crate::made::{Has, blocks, parts_of};
+use crate::made::{Has, blocks, module_of};
 use std::alloc::{AllocError, Global};
 use std::process::Abort;
 use std::test::Fail;
-use types::{MOST_NESTED, Module, Parts};
+use types::{MOST_NESTED, Module};
 
-/// How many bodies a module of these parts has, and how many types its parts have again, if they make a module.
-fn counted(parts: Box<Parts>) -> Option<(usize, usize)> {
-    let module = Module::from_parts(Box::into_inner(parts)).ok()?;
+/// How many bodies a module has, and how many types its parts have again.
+fn counted(module: Box<Module>) -> (usize, usize) {
     let bodies = module.parts().bodies.len();
-    let parts = module.into_parts();
-    Some((bodies, parts.types.len()))
+    let parts = Box::into_inner(module).into_parts();
+    (bodies, parts.types.len())
 }
 
 /// Whether blocks and ends make a module: 255 nested blocks at most, and a final `end`.
@@ -31,7 +30,7 @@ fn counts_of(
     depth: usize,
     ends: usize,
 ) -> Result<Option<(usize, usize)>, AllocError> {
-    Ok(counted(parts_of(alloc, Has::Blocks(depth, ends))?))
+    Ok(module_of(alloc, Has::Blocks(depth, ends))?.map(counted))
 }
 
 /// A module of so many blocks and ends is made, with one body and one type, or not.
