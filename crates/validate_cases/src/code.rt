@@ -1,5 +1,6 @@
 //! What the reader says of the bytes of instructions.
 
+use crate::instrs::write_instr;
 use crate::sections::write_refusal;
 use binary_instructions::read_expression;
 use binary_wire::{ReadFault, Reader};
@@ -10,14 +11,6 @@ use types::{Instr, Sequence};
 /// The instructions that bytes spell, with the final `end`.
 pub(crate) fn code_of(alloc: Global, bytes: &[u8]) -> Result<Sequence<Instr>, ReadFault> {
     read_expression(&mut Reader::new(bytes), alloc)
-}
-
-/// Writes an instruction.
-fn write_instr(instr: &Instr, given: &mut String) -> Result<(), AllocError> {
-    match instr {
-        Instr::Plain(plain) => write!(given, "{plain:?}"),
-        other => write!(given, "{other:?}"),
-    }
 }
 
 /// Writes instructions on one line.

@@ -6,9 +6,11 @@ mod bodies;
 mod bytes;
 mod code;
 mod contents;
+mod instrs;
 mod kinds;
 mod modules;
 mod operands;
+mod operators;
 mod portraits;
 mod sections;
 

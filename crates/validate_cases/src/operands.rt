@@ -1,18 +1,11 @@
 //! The types of locals and operands that a valid module tells.
 
+use crate::instrs::type_name;
 use crate::modules::valid_of;
 use std::alloc::{AllocError, Global};
 use std::fmt::Write;
 use types::ValType;
 use validate::ValidModule;
-
-/// The name of a type.
-fn name_of(val_type: ValType) -> &'static str {
-    match val_type {
-        ValType::I32 => "i32",
-        ValType::I64 => "i64",
-    }
-}
 
 /// Writes types in brackets, or `-` for none.
 fn write_types(types: Option<&[ValType]>, given: &mut String) -> Result<(), AllocError> {
@@ -23,7 +16,7 @@ fn write_types(types: Option<&[ValType]>, given: &mut String) -> Result<(), Allo
     for (place, val_type) in types.iter().enumerate() {
         let space = if place == 0 { "" } else { " " };
         given.push_str(space)?;
-        given.push_str(name_of(*val_type))?;
+        given.push_str(type_name(*val_type))?;
     }
     given.push(']')?;
     Ok(())
