@@ -1,12 +1,9 @@
-//! Tests of the binary format: opcodes, faults with their offsets, and what is read of each section, worked out by hand.
+//! Tests of the binary format: what of its libraries the cases of `validate_cases` don't call, worked out by hand, and a module
+//! put together.
 #![tactic(auto)]
 
 #[cfg(test)]
 mod equal;
-#[cfg(test)]
-mod instructions;
-#[cfg(test)]
-mod modules;
 #[cfg(test)]
 mod put_together;
 #[cfg(test)]

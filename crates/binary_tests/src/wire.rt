@@ -1,80 +1,22 @@
-//! Numbers, names, blocks and vectors, and where they are refused.
+//! Readers of bytes, and how faults are printed.
 
 use crate::equal::equal;
+use binary_instructions::read_val_type;
 use binary_wire::{Fault, IndexItem, ReadFault, Reader, Refusal, read_vector};
+use std::alloc::{AllocError, Global};
+use std::fmt::Write;
 use std::test::Fail;
+use types::ValType;
 
-/// Numbers of each kind in short and long spellings.
-static U32: [(&[u8], u32); 3] = [
-    (b"\x05", 5),
-    (b"\x85\x80\x80\x80\x00", 5),
-    (b"\xff\xff\xff\xff\x0f", 0xffff_ffff),
-];
-
-static S32: [(&[u8], u32); 3] = [
-    (b"\x7f", 0xffff_ffff),
-    (b"\x80\x80\x80\x80\x78", 0x8000_0000),
-    (b"\xff\xff\xff\xff\x07", 0x7fff_ffff),
-];
-
-static S64: [(&[u8], u64); 2] = [
-    (b"\x7f", 0xffff_ffff_ffff_ffff),
-    (
-        b"\x80\x80\x80\x80\x80\x80\x80\x80\x80\x7f",
-        0x8000_0000_0000_0000,
-    ),
-];
-
-#[test]
-fn numbers_in_every_spelling(rt: HostRuntime) -> Result<(), Fail> {
-    for (bytes, value) in U32 {
-        equal(&rt, &Reader::new(bytes).read_u32(), &Ok(value));
-    }
-    for (bytes, value) in S32 {
-        equal(&rt, &Reader::new(bytes).read_s32(), &Ok(value));
-    }
-    for (bytes, value) in S64 {
-        equal(&rt, &Reader::new(bytes).read_s64(), &Ok(value));
-    }
-    Ok(())
-}
-
-fn number_at(offset: usize) -> Refusal {
-    Refusal {
-        kind: Fault::Number,
-        offset,
-    }
-}
-
-fn end_at(offset: usize) -> Refusal {
-    Refusal {
-        kind: Fault::EndOfInput,
-        offset,
-    }
-}
-
-/// Numbers that are too long, or whose unused bits are wrong.
-static WRONG_U32: [&[u8]; 2] = [b"\x80\x80\x80\x80\x80\x00", b"\x80\x80\x80\x80\x10"];
-
-static WRONG_S32: [&[u8]; 2] = [b"\x80\x80\x80\x80\x08", b"\x80\x80\x80\x80\x68"];
-
-#[test]
-fn numbers_that_are_refused(rt: HostRuntime) -> Result<(), Fail> {
-    for bytes in WRONG_U32 {
-        equal(&rt, &Reader::new(bytes).read_u32(), &Err(number_at(0)));
-    }
-    for bytes in WRONG_S32 {
-        equal(&rt, &Reader::new(bytes).read_s32(), &Err(number_at(0)));
-    }
-    Ok(())
+const fn refusal(kind: Fault, offset: usize) -> Refusal {
+    Refusal { kind, offset }
 }
 
 #[test]
-fn numbers_that_are_refused_behind_others(rt: HostRuntime) -> Result<(), Fail> {
-    equal(&rt, &Reader::new(b"\x80\x80").read_u32(), &Err(end_at(2)));
+fn numbers_behind_others(rt: HostRuntime) -> Result<(), Fail> {
     let mut reader = Reader::new(b"\x00\xff\xff\xff\xff\x1f");
-    equal(&rt, &reader.read_byte(), &Ok(0));
-    equal(&rt, &reader.read_u32(), &Err(number_at(1)));
+    let found = (reader.read_byte(), reader.read_u32());
+    equal(&rt, &found, &(Ok(0), Err(refusal(Fault::Number, 1))));
     Ok(())
 }
 
@@ -82,86 +24,104 @@ fn numbers_that_are_refused_behind_others(rt: HostRuntime) -> Result<(), Fail> {
 fn parts_of_stated_size(rt: HostRuntime) -> Result<(), Fail> {
     let mut reader = Reader::new(b"\x02\x01a\x02\x01");
     let mut part = reader.read_block()?;
-    equal(&rt, &part.read_name()?, &"a");
+    equal(&rt, &part.read_name(), &Ok("a"));
     equal(&rt, &part.finish(), &Ok(()));
     // more is needed than the size, which ends at 3
-    equal(
-        &rt,
-        &part.read_byte(),
-        &Err(Refusal {
-            kind: Fault::Size,
-            offset: 3,
-        }),
-    );
+    let past = refusal(Fault::Size, 3);
+    equal(&rt, &part.read_byte(), &Err(past));
     // the next size passes the input
     assert!(rt; reader.read_block().is_err());
-    equal(
-        &rt,
-        &Reader::new(b"\x01\xff").read_name(),
-        &Err(Refusal {
-            kind: Fault::Name,
-            offset: 1,
-        }),
-    );
+    let wrong = refusal(Fault::Name, 1);
+    equal(&rt, &Reader::new(b"\x01\xff").read_name(), &Err(wrong));
     Ok(())
+}
+
+/// The items of a vector of at most two, or the number and the offset of the fault.
+fn two_at_most(alloc: Global, bytes: &[u8], items: &mut Vec<u32>) -> (u8, Option<usize>) {
+    match read_vector::<IndexItem>(&mut Reader::new(bytes), alloc, 2) {
+        Ok(found) => {
+            *items = found.into_vec();
+            (0, None)
+        }
+        Err(fault) => (fault.number(), fault.offset()),
+    }
 }
 
 #[test]
 fn vectors_within_a_limit(rt: HostRuntime) -> Result<(), Fail> {
-    let items = read_vector::<IndexItem>(&mut Reader::new(b"\x02\x07\x08"), rt.alloc(), 2)?;
+    let mut items = Vec::new(rt.alloc());
+    let found = two_at_most(rt.alloc(), b"\x02\x07\x08", &mut items);
+    equal(&rt, &found, &(0, None));
     equal(&rt, &items.as_slice(), &[7, 8].as_slice());
-    match read_vector::<IndexItem>(&mut Reader::new(b"\x03\x07\x08\x09"), rt.alloc(), 2) {
-        Ok(_) => assert!(rt; false),
-        Err(fault) => {
-            equal(&rt, &fault.number(), &11);
-            equal(&rt, &fault.offset(), &Some(0));
-        }
-    }
+    let found = two_at_most(rt.alloc(), b"\x03\x07\x08\x09", &mut items);
+    equal(&rt, &found, &(11, Some(0)));
     Ok(())
+}
+
+/// A refusal, the fault that it is, and that there is no memory, each as it is printed.
+fn print(text: &mut String, refused: Refusal) -> Result<(), AllocError> {
+    writeln!(text, "{refused}")?;
+    writeln!(text, "{}", ReadFault::from(refused))?;
+    writeln!(text, "{}", ReadFault::OutOfMemory)
 }
 
 #[test]
 fn printed_faults(rt: HostRuntime) -> Result<(), Fail> {
-    let alloc = rt.alloc();
-    let text = "number too long, or wrong unused bits at 7";
-    equal(&rt, &format!(in alloc; "{}", number_at(7))?.as_str(), &text);
+    let mut text = String::new(rt.alloc());
+    print(&mut text, refusal(Fault::Number, 7))?;
     equal(
         &rt,
-        &format!(in alloc; "{}", ReadFault::from(number_at(7)))?.as_str(),
-        &text,
+        &text.as_str(),
+        &"number too long, or wrong unused bits at 7\nnumber too long, or wrong unused bits at 7\nno memory\n",
     );
-    equal(
-        &rt,
-        &format!(in alloc; "{}", ReadFault::OutOfMemory)?.as_str(),
-        &"no memory",
-    );
-    equal(&rt, &Fault::Number.number(), &6);
-    equal(&rt, &ReadFault::from(number_at(7)).number(), &6);
-    equal(&rt, &ReadFault::from(number_at(7)).offset(), &Some(7));
-    equal(&rt, &ReadFault::OutOfMemory.number(), &13);
-    equal(&rt, &ReadFault::OutOfMemory.offset(), &None);
+    Ok(())
+}
+
+#[test]
+fn numbers_and_offsets_of_faults(rt: HostRuntime) -> Result<(), Fail> {
+    let fault = ReadFault::from(refusal(Fault::Number, 7));
+    let numbers = [
+        Fault::Number.number(),
+        fault.number(),
+        ReadFault::OutOfMemory.number(),
+    ];
+    equal(&rt, &numbers, &[6, 6, 13]);
+    let offsets = (fault.offset(), ReadFault::OutOfMemory.offset());
+    equal(&rt, &offsets, &(Some(7), None));
     Ok(())
 }
 
 #[test]
 fn what_stands_in_front(rt: HostRuntime) -> Result<(), Fail> {
     let mut reader = Reader::new(b"\x05\x02ab\x03");
-    equal(&rt, &reader.peek(), &Some(5));
-    assert!(rt; reader.front_is(5));
-    assert!(rt; !reader.front_is(6));
+    let front = (reader.peek(), reader.front_is(5), reader.front_is(6));
+    equal(&rt, &front, &(Some(5), true, false));
     equal(&rt, &(reader.len(), reader.offset()), &(5, 0));
-    let past = Refusal {
-        kind: Fault::Limit,
-        offset: 0,
-    };
+    let past = refusal(Fault::Limit, 0);
     equal(&rt, &reader.read_u32_within(4), &Err(past));
-    equal(&rt, &reader.read_bytes()?, &b"ab".as_slice());
+    equal(&rt, &reader.read_bytes(), &Ok(b"ab".as_slice()));
     equal(&rt, &(reader.len(), reader.offset()), &(1, 4));
     equal(&rt, &reader.fault(Fault::Magic).offset, &4);
-    equal(&rt, &reader.missing(), &end_at(5));
+    equal(&rt, &reader.missing(), &refusal(Fault::EndOfInput, 5));
+    Ok(())
+}
+
+#[test]
+fn the_last_part(rt: HostRuntime) -> Result<(), Fail> {
+    let mut reader = Reader::new(b"\x03");
     let mut part = reader.read_part(1)?;
     equal(&rt, &part.read_u32_within(3), &Ok(3));
     equal(&rt, &part.peek(), &None);
     equal(&rt, &reader.finish(), &Ok(()));
+    Ok(())
+}
+
+#[test]
+fn reads_types_of_values(rt: HostRuntime) -> Result<(), Fail> {
+    let mut reader = Reader::new(b"\x7f\x7e\x7d");
+    equal(&rt, &reader.read_byte(), &Ok(0x7f));
+    equal(&rt, &read_val_type(&mut reader), &Ok(ValType::I64));
+    let float = refusal(Fault::Float, 2);
+    equal(&rt, &read_val_type(&mut reader), &Err(float));
     Ok(())
 }

@@ -1,12 +1,11 @@
-//! Each public function that the other tests don't call, with answers worked out by hand.
+//! Numbers and places of faults, tables of branches, and offsets.
 
 use crate::equal::equal;
-use crate::sections::with_exports;
 use std::alloc::{AllocError, Global as Alloc};
 use std::process::Abort;
 use std::test::Fail;
-use types::{Instr, Parts, PlainInstr, Value};
-use validate_module_rules::{IndexSpaces, exported_function, fault_outside_bodies, offset};
+use types::{Instr, PlainInstr, Value};
+use validate_module_rules::offset;
 use validate_typing::{Fault, Place, Table, Target, ValidFault, expression_stands_for_one_nesting};
 
 /// The kinds by their numbers.
@@ -128,45 +127,5 @@ fn reads_offsets(rt: HostRuntime) -> Result<(), Fail> {
     );
     equal(&rt, "i64", &offset_of(rt.alloc(), Value::I64(70_000))?, &0);
     equal(&rt, "no code", &offset(&[]), &0);
-    Ok(())
-}
-
-/// What the rules outside bodies say of a module with exports.
-fn outside(alloc: Alloc, names: u32) -> Result<Option<Fault>, Fail> {
-    let parts = Box::new(alloc, with_exports(alloc, 2, names.max(1))?)?;
-    outside_of(alloc, &parts)
-}
-
-fn outside_of(alloc: Alloc, parts: &Parts) -> Result<Option<Fault>, Fail> {
-    let spaces = IndexSpaces::of(alloc, parts)?;
-    Ok(fault_outside_bodies(parts, &spaces))
-}
-
-#[test]
-fn tells_faults_outside_bodies(rt: HostRuntime) -> Result<(), Fail> {
-    equal(&rt, "two names", &outside(rt.alloc(), 2)?, &None);
-    equal(
-        &rt,
-        "one name",
-        &outside(rt.alloc(), 1)?,
-        &Some(Fault::DuplicateExport),
-    );
-    Ok(())
-}
-
-/// The function that a module exports by a name, where it exports its memory as "0" alone.
-fn function_named(alloc: Alloc, name: &str) -> Result<Option<usize>, Fail> {
-    let parts = Box::new(alloc, with_exports(alloc, 1, 1)?)?;
-    function_in(alloc, &parts, name)
-}
-
-fn function_in(alloc: Alloc, parts: &Parts, name: &str) -> Result<Option<usize>, Fail> {
-    let spaces = IndexSpaces::of(alloc, parts)?;
-    Ok(exported_function(parts, spaces.imported, name))
-}
-
-#[test]
-fn a_memory_is_no_function(rt: HostRuntime) -> Result<(), Fail> {
-    equal(&rt, "0", &function_named(rt.alloc(), "0")?, &None);
     Ok(())
 }
