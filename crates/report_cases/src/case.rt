@@ -49,13 +49,14 @@ pub(crate) fn try_case<R: Threads + Wait + Sync>(
         names: &names,
         wish,
     };
+    let wanted = texts.wanted();
     for words in case.all(rt.alloc(), "words")?.iter() {
         let trial = Trial {
             place,
             case,
             words: *words,
             input,
-            wanted: texts.wanted(),
+            wanted,
         };
         try_rows(rt, threads, trial, tally)?;
     }

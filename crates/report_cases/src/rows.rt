@@ -16,12 +16,12 @@ fn tell_row(rt: &HostRuntime, place: Place, row: &str, tally: &mut Tally) {
 }
 
 /// Does a command line on another record, with this wanted of it.
-fn try_on<R: Threads + Wait + Sync>(
+fn try_on<'a, R: Threads + Wait + Sync>(
     rt: &HostRuntime,
     threads: &R,
-    trial: Trial,
-    saved: &[u8],
-    wanted: Wanted,
+    trial: Trial<'a>,
+    saved: &'a [u8],
+    wanted: Wanted<'a>,
     tally: &mut Tally,
 ) -> Result<(), Stop> {
     let input = Input {
@@ -46,8 +46,9 @@ fn try_refused<R: Threads + Wait + Sync>(
     tally: &mut Tally,
 ) -> Result<(), Stop> {
     let err = format!(in rt.alloc(); "record refused: {why}\n")?;
+    let out = Some(b"".as_slice());
     let wanted = Wanted {
-        out: Some(b""),
+        out,
         err: err.as_bytes(),
         status: 4,
     };

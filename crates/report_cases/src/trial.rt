@@ -112,11 +112,14 @@ fn comes_again<R: Threads + Wait + Sync>(
     let (out, status) = match over {
         Over::Words => return Ok(true),
         Over::Named if text.is_empty() => return Ok(true),
-        Over::Named => (&text, number_of(trial.case, "again-status", 0)),
-        Over::Recorder => (&ran.out, ran.status),
+        Over::Named => (
+            Some(text.as_slice()),
+            number_of(trial.case, "again-status", 0),
+        ),
+        Over::Recorder => (Some(ran.out.as_slice()), ran.status),
     };
     let wanted = Wanted {
-        out: Some(out),
+        out,
         err: b"",
         status,
     };

@@ -44,8 +44,13 @@ impl Texts {
     }
 
     pub(crate) fn wanted(&self) -> Wanted<'_> {
+        let out = if self.is_any {
+            None
+        } else {
+            Some(self.out.as_slice())
+        };
         Wanted {
-            out: if self.is_any { None } else { Some(&self.out) },
+            out,
             err: &self.err,
             status: self.status,
         }

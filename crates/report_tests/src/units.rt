@@ -49,14 +49,16 @@ fn counted<R: Threads + Wait + Sync>(
     on_words: bool,
 ) -> Option<Vec<u8>> {
     let (mut out, mut err, mut save) = (Vec::new(alloc), Vec::new(alloc), Vec::new(alloc));
+    let path = if on_words { None } else { Some("a.record") };
+    let args = [count.from];
     let wanted = Wanted {
         invoke: "f",
         on_words,
         fuel: 100_000_000u64.saturating_sub(count.lacks).min(100_000_000),
         limit: 100_000,
-        save: if on_words { None } else { Some("a.record") },
+        save: path,
         dump: 0,
-        args: &[count.from],
+        args: &args,
     };
     let status = run(rt, alloc, &wanted, COUNTDOWN, &mut out, &mut err, &mut save);
     if out.as_slice() == count.out && err.is_empty() && status == count.status {
