@@ -28,11 +28,11 @@ fn try_rows<R: Threads + Wait + Sync>(
 }
 
 /// Does each command line of a case.
-pub(crate) fn try_case<R: Threads + Wait + Sync>(
+pub(crate) fn try_case<'a, R: Threads + Wait + Sync>(
     rt: &HostRuntime,
     threads: &R,
-    place: Place,
-    case: &Case,
+    place: Place<'a>,
+    case: &'a Case<'a>,
     tally: &mut Tally,
 ) -> Result<(), Stop> {
     let texts = Texts::of(rt.alloc(), case)?;

@@ -66,11 +66,11 @@ use std::thread::Threads;
 use test_cases::cases;
 
 /// Does the cases of a text.
-fn try_text<R: Threads + Wait + Sync>(
+fn try_text<'a, R: Threads + Wait + Sync>(
     rt: &HostRuntime,
     threads: &R,
-    file: &str,
-    text: &str,
+    file: &'a str,
+    text: &'a str,
     tally: &mut Tally,
 ) -> Result<usize, Stop> {
     if let Some(key) = unknown_key(text) {

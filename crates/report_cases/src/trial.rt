@@ -68,7 +68,10 @@ fn words_of<'a>(alloc: Global, trial: Trial<'a>, over: Over) -> Result<Vec<&'a s
 
 /// The words of a replay that shows as many bytes as the words of a run say.
 fn replay_words<'a>(alloc: Global, words: &'a str) -> Result<Vec<&'a str>, AllocError> {
-    let mut found = Vec::from_slice(alloc, &["wathread", "replay", "a.wasm", "a.record"])?;
+    let mut found = Vec::new(alloc);
+    for word in "wathread replay a.wasm a.record".split_whitespace() {
+        found.push(word)?;
+    }
     let mut is_next = false;
     for word in words.split_whitespace() {
         if is_next || word == "--dump" {
@@ -80,11 +83,11 @@ fn replay_words<'a>(alloc: Global, words: &'a str) -> Result<Vec<&'a str>, Alloc
 }
 
 /// Replays the record that was written, to the lines that are wanted.
-fn is_replayed<R: Threads + Wait + Sync>(
+fn is_replayed<'a, R: Threads + Wait + Sync>(
     rt: &HostRuntime,
     threads: &R,
-    trial: Trial,
-    record: &[u8],
+    trial: Trial<'a>,
+    record: &'a [u8],
     wanted: Wanted,
 ) -> Result<bool, AllocError> {
     let words = replay_words(rt.alloc(), trial.words)?;
@@ -101,12 +104,12 @@ fn is_replayed<R: Threads + Wait + Sync>(
 }
 
 /// Whether the record is replayed as it should be, where a replay is wanted.
-fn comes_again<R: Threads + Wait + Sync>(
+fn comes_again<'a, R: Threads + Wait + Sync>(
     rt: &HostRuntime,
     threads: &R,
-    trial: Trial,
+    trial: Trial<'a>,
     over: Over,
-    ran: &Gave,
+    ran: &'a Gave,
 ) -> Result<bool, AllocError> {
     let text = trial.case.text(rt.alloc(), "again")?;
     let (out, status) = match over {

@@ -1,5 +1,8 @@
 //! A hundred million units, counted by hand: over both memories, and replayed.
 
+ghost use Rattle.std.specs.Prelude.{◌≤◌};
+ghost use Rattle.types.specs.Limits.{most_fuel};
+
 use report_jobs::{Wanted, replay_saved, run};
 use std::alloc::Global;
 use std::sync::Wait;
@@ -41,6 +44,22 @@ static COUNTS: [Count; 3] = [
     },
 ];
 
+/// What is asked of a run over one memory; over the one that records it has a record at the path.
+fn wanted_of<'a>(count: &Count, on_words: bool, path: &'a str, args: &'a [&'a str]) -> Wanted<'a>
+    ensures { result.fuel ≤ most_fuel }
+{
+    let save = if on_words { None } else { Some(path) };
+    Wanted {
+        invoke: "f",
+        on_words,
+        fuel: 100_000_000u64.saturating_sub(count.lacks).min(100_000_000),
+        limit: 100_000,
+        save,
+        dump: 0,
+        args,
+    }
+}
+
 /// Counts down over one memory. Answers what was written to the record, where the printed lines are those that are wanted.
 fn counted<R: Threads + Wait + Sync>(
     rt: &R,
@@ -49,17 +68,8 @@ fn counted<R: Threads + Wait + Sync>(
     on_words: bool,
 ) -> Option<Vec<u8>> {
     let (mut out, mut err, mut save) = (Vec::new(alloc), Vec::new(alloc), Vec::new(alloc));
-    let path = if on_words { None } else { Some("a.record") };
     let args = [count.from];
-    let wanted = Wanted {
-        invoke: "f",
-        on_words,
-        fuel: 100_000_000u64.saturating_sub(count.lacks).min(100_000_000),
-        limit: 100_000,
-        save: path,
-        dump: 0,
-        args: &args,
-    };
+    let wanted = wanted_of(count, on_words, "a.record", &args);
     let status = run(rt, alloc, &wanted, COUNTDOWN, &mut out, &mut err, &mut save);
     if out.as_slice() == count.out && err.is_empty() && status == count.status {
         Some(save)
