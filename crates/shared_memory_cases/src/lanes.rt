@@ -1,0 +1,114 @@
+//! Words, lanes and ranges.
+ghost use Rattle.std.specs.Prelude.{◌<◌, ◌≤◌};
+
+use shared_memory_lanes::{Part, lane, low_bytes, parts, with_lane};
+use std::alloc::Global;
+use std::fmt;
+use test_answers::{Given, Sheet, numbers, question_of};
+use test_cases::Case;
+
+/// How much further on the same lane is taken again: almost a page, in whole words.
+const FURTHER: u64 = 65_528;
+
+/// The one or two parts of an access.
+#[derive(Clone, Copy)]
+struct Spans(Part, Option<Part>);
+
+impl fmt::Display for Spans {
+    fn fmt<W: fmt::Write>(&self, f: &mut fmt::Formatter<W>) -> fmt::Result {
+        let Part { addr, width } = self.0;
+        write!(f, "{width} at {addr}")?;
+        match self.1 {
+            Some(Part { addr, width }) => write!(f, ", {width} at {addr}"),
+            None => Ok(()),
+        }
+    }
+}
+
+/// Whether so many bytes from a place on lie in a word.
+fn lies_in_word(first: u64, width: u64) -> bool {
+    1 <= width && width <= 8 && first <= 8 && first + width <= 8
+}
+
+/// The lane of so many bytes from a place on, and whether the same one is found further on.
+fn try_lane(word: u64, question: &str) -> (Given, bool) {
+    let [first, width, _, _] = numbers(question);
+    if !lies_in_word(first, width) {
+        return (Given::Word("no lane"), false);
+    }
+    let found = lane(word, first, width as u8);
+    (
+        Given::Bits(found),
+        lane(word, FURTHER + first, width as u8) == found,
+    )
+}
+
+/// The word with another lane, that of so many bytes at an address.
+fn try_with(word: u64, question: &str) -> Given {
+    let [addr, width, value, _] = numbers(question);
+    if !lies_in_word(addr % 8, width) {
+        return Given::Word("no lane");
+    }
+    let width = width as u8;
+    Given::Bits(with_lane(word, addr, width, low_bytes(value, width)))
+}
+
+/// The parts of an access of so many bytes at an address.
+fn try_parts(question: &str) -> Option<Spans> {
+    let [addr, width, _, _] = numbers(question);
+    if width < 1 || width > 8 || addr > u64::MAX - 16 {
+        return None;
+    }
+    let (first, second) = parts(addr, width as u8);
+    Some(Spans(first, second))
+}
+
+/// The number of so many bytes at an address in two words that follow one another.
+fn loaded(words: [u64; 2], addr: u64, width: u8) -> u64
+    requires some { 1 ≤ width }
+    requires at_most_a_word { width ≤ 8 }
+    requires in_first { addr < 8 }
+{
+    let (first, second) = parts(addr, width);
+    let low = lane(words[0], first.addr, first.width);
+    match second {
+        None => low,
+        Some(rest) => low | lane(words[1], rest.addr, rest.width) << (8 * first.width),
+    }
+}
+
+/// The same of a question.
+fn try_loaded(words: [u64; 2], question: &str) -> Given {
+    let [addr, width, _, _] = numbers(question);
+    if addr < 8 && 1 <= width && width <= 8 {
+        return Given::Bits(loaded(words, addr, width as u8));
+    }
+    Given::Word("not there")
+}
+
+/// Answers the lines on accesses.
+fn try_accesses(words: [u64; 2], case: &Case, sheet: &mut Sheet) {
+    for line in sheet.lines(case, "parts") {
+        match try_parts(question_of(line)) {
+            Some(spans) => sheet.look(line, &spans),
+            None => sheet.look(line, &"none"),
+        }
+    }
+    for line in sheet.lines(case, "loaded") {
+        sheet.look(line, &try_loaded(words, question_of(line)));
+    }
+}
+
+/// Answers the lines of a case.
+pub(crate) fn try_lanes(case: &Case, sheet: &mut Sheet) {
+    let [word, next, _, _] = numbers(case.get("words").unwrap_or(""));
+    for line in sheet.lines(case, "lane") {
+        let (given, is_same) = try_lane(word, question_of(line));
+        sheet.look(line, &given);
+        sheet.holds(line, is_same);
+    }
+    for line in sheet.lines(case, "with") {
+        sheet.look(line, &try_with(word, question_of(line)));
+    }
+    try_accesses([word, next], case, sheet);
+}

@@ -1,0 +1,129 @@
+//! The recorder and the desk of a case, from their opening to their end.
+ghost use Rattle.std.specs.Prelude.{◌≡◌};
+ghost use Rattle.waiters_tests.specs.Standing.{StandsFree, StandsNew};
+
+use crate::script::{Slot, play};
+use crate::standing::{FreeSeat, NewSeat, Standing};
+use locked_recorder::{Finished, LockedRecorder, Naming, Prepared};
+use shared_memory::SharedMemory;
+use shared_memory_script::replay;
+use shared_memory_sequential::OneMemory;
+use std::alloc::{AllocError, Global};
+use std::marker::Brand;
+use std::sync::Wait;
+use std::thread::Threads;
+use std::time::Clock;
+use test_answers::{Given, Sheet, event_of, number, numbers, question_of};
+use test_cases::Case;
+use types::{Entry, PAGE_SIZE};
+use waiters_desk::Desk;
+use waiters_tests::{Dealt, deal};
+
+/// A page of zeros.
+const PAGE: [u8; PAGE_SIZE] = [0; PAGE_SIZE];
+
+/// The entries of a log where a case doesn't say how many.
+const LIMIT: u64 = 1000;
+
+/// The seats of threads 0 to 3, as they stand at first.
+fn slots_of<M: SharedMemory>(
+    alloc: Global,
+    zero: M::Seat,
+    one: M::Seat,
+    two: M::Seat,
+    three: M::Seat,
+) -> Result<Vec<Slot<M>>, AllocError>
+    requires zero { StandsFree (M.name zero) (M.seen zero) }
+    requires one { StandsNew (M.name one) (M.seen one) }
+    requires two { StandsNew (M.name two) (M.seen two) }
+    requires three { StandsNew (M.name three) (M.seen three) }
+{
+    let mut slots = Vec::with_capacity(alloc, 4)?;
+    slots.push(Some(Standing::Free(FreeSeat { seat: zero })))?;
+    slots.push(Some(Standing::New(NewSeat { seat: one })))?;
+    slots.push(Some(Standing::New(NewSeat { seat: two })))?;
+    slots.push(Some(Standing::New(NewSeat { seat: three })))?;
+    Ok(slots)
+}
+
+/// Makes the script at a recorder whose type has been named.
+fn run_recorder<B: Naming + Send + Sync, R: Threads + Wait + Clock + Sync>(
+    rt: &R,
+    alloc: Global,
+    prepared: Prepared,
+    case: &Case,
+    sheet: &mut Sheet,
+) -> Option<Finished>
+    requires table { prepared.table ≡ B.table }
+    requires opening { prepared.opening ≡ B.opening }
+    requires limit { prepared.limit ≡ B.limit }
+{
+    let (memory, seats) = LockedRecorder::<B, &R>::open(alloc, rt, prepared).ok()?;
+    let Dealt {
+        desk,
+        zero,
+        one,
+        two,
+        three,
+    } = deal(seats)?;
+    let slots = slots_of(alloc, zero, one, two, three).ok()?;
+    let desk = Desk::open(rt, &memory, desk);
+    let mut seats = play(rt, alloc, &desk, &memory, slots, case, sheet).ok()?;
+    seats.push(desk.close()).ok()?;
+    Some(memory.finish(seats))
+}
+
+/// What the entry of a place and a thread, as `6 0 leave`, got.
+fn entry_at(alloc: Global, log: &[Entry], question: &str) -> Given {
+    let Some((place, text)) = question.split_once(' ') else {
+        return Given::Word("no question");
+    };
+    let place = number(place).unwrap_or(u64::MAX) as usize;
+    match (log.get(place), event_of(alloc, text)) {
+        (Some(entry), Some((thread, event)))
+            if entry.thread == thread && entry.event == event =>
+        {
+            Given::reply(entry.reply)
+        }
+        _ => Given::Word("another entry"),
+    }
+}
+
+/// Looks at what is left of a recorder: a log that the sequential memory answers alike, and comes to the same bytes by.
+fn look_at_end(alloc: Global, end: &Finished, case: &Case, sheet: &mut Sheet) -> Option<()> {
+    let mut one = OneMemory::open(alloc, &PAGE, 1).ok()?;
+    let place = replay(&end.log, &mut one);
+    sheet.holds("the log replays", place.is_none());
+    sheet.holds("the log makes the bytes", end.bytes.as_slice() == one.bytes());
+    for line in sheet.lines(case, "log") {
+        sheet.look(line, &(end.log.len() as u64));
+    }
+    for line in sheet.lines(case, "entry") {
+        sheet.look(line, &entry_at(alloc, &end.log, question_of(line)));
+    }
+    Some(())
+}
+
+/// Makes the script of a case over a page of zeros and a log of so many entries.
+fn try_case<R: Threads + Wait + Clock + Sync>(
+    rt: &R,
+    alloc: Global,
+    case: &Case,
+    sheet: &mut Sheet,
+) -> Option<()> {
+    let limit = case.get("limit").and_then(|word| number(word));
+    let prepared = Prepared::new(alloc, &PAGE, 1, limit.unwrap_or(LIMIT) as u32).ok()?;
+    let end = run_recorder::<Brand, R>(rt, alloc, prepared, case, sheet)?;
+    look_at_end(alloc, &end, case, sheet)
+}
+
+/// Makes the script of a case.
+pub(crate) fn try_desk<R: Threads + Wait + Clock + Sync>(
+    rt: &R,
+    alloc: Global,
+    case: &Case,
+    sheet: &mut Sheet,
+) {
+    let tried = try_case(rt, alloc, case, sheet);
+    sheet.holds("there are seats", tried.is_some());
+}
