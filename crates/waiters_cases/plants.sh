@@ -1,14 +1,14 @@
 #!/bin/sh
-# Plants faults of waking in a copy of the desk, and runs the tests of the desk over each, unproved. No contract refuses
-# them, since none can say that a thread goes on: each has to fail a test, or to hang there for ten seconds.
-# usage: crates/waiters_tests/plants.sh
+# Plants faults of waking in a copy of the desk, and runs the cases of the desk over each, unproved. No contract refuses
+# them, since none can say that a thread goes on: each has to answer a case otherwise, or to hang there for a minute.
+# usage: crates/waiters_cases/plants.sh
 set -u
 top=$(cd "$(dirname "$0")/../.." && pwd)
 room=$(mktemp -d)
 trap 'rm -rf "$room"' EXIT
 missed=0
 
-# The tests, over a desk whose `ask` has this in place of its notify_all.
+# The cases, over a desk whose `ask` has this in place of its notify_all.
 plant() {
     rm -rf "$room/crates"
     tar -C "$top" --exclude=out -cf - crates.txt crates | tar -C "$room" -xf -
@@ -19,10 +19,10 @@ plant() {
         missed=1
         return
     fi
-    said=$(cd "$room/crates/waiters_tests" && rt try --test --seconds 10 2>&1)
-    if failed=$(echo "$said" | grep '^test [^ ]* ... FAILED'); then
+    said=$(cd "$room/crates/waiters_cases" && rt try --seconds 60 --data desk.cases=data/desk.cases -- desk.cases 2>&1)
+    if echo "$said" | grep -qE '^checked: (ended status=1|no-answer)'; then
         echo "$1: seen"
-        echo "$failed"
+        echo "$said" | grep -E '^desk.cases|but given|^checked'
     else
         echo "$1: NOT SEEN"
         echo "$said" | tail -n 3

@@ -1,5 +1,5 @@
 //! Words, lanes and ranges.
-ghost use Rattle.std.specs.Prelude.{◌<◌, ◌≤◌};
+ghost use Rattle.std.specs.Prelude.{◌<◌, ◌≤◌, ◌+◌, IsTrue};
 
 use shared_memory_lanes::{Part, lane, low_bytes, parts, with_lane};
 use std::alloc::Global;
@@ -26,7 +26,10 @@ impl fmt::Display for Spans {
 }
 
 /// Whether so many bytes from a place on lie in a word.
-fn lies_in_word(first: u64, width: u64) -> bool {
+fn lies_in_word(first: u64, width: u64) -> bool
+    ensures some { IsTrue result → 1 ≤ width }
+    ensures within { IsTrue result → first + width ≤ 8 }
+{
     1 <= width && width <= 8 && first <= 8 && first + width <= 8
 }
 

@@ -1,12 +1,13 @@
 //! What can be opened, and the faults of what can't.
 
+use crate::trial::narrow;
 use shared_memory_sequential::{OneMemory, OpenFault};
 use std::alloc::Global;
 use test_answers::{Sheet, numbers, question_of};
 use test_cases::Case;
 
 /// The entries of a log where another limit isn't wanted.
-const LIMIT: u64 = 3;
+const LIMIT: u32 = 3;
 
 /// What an opening comes to.
 fn outcome<T: Drop>(opened: Result<T, OpenFault>) -> &'static str {
@@ -39,11 +40,11 @@ fn open_each(alloc: Global, question: &str) -> [&'static str; 3] {
     let Ok(image) = vec![in alloc; 0; length as usize] else {
         return ["no memory"; 3];
     };
-    let most = most as u32;
+    let most = narrow(most);
     [
         open_one(alloc, &image, most),
         open_words(alloc, &image, most),
-        open_recorder(alloc, &image, most, LIMIT as u32),
+        open_recorder(alloc, &image, most, LIMIT),
     ]
 }
 
@@ -51,7 +52,7 @@ fn open_each(alloc: Global, question: &str) -> [&'static str; 3] {
 fn open_log(alloc: Global, question: &str) -> &'static str {
     let [length, most, limit, _] = numbers(question);
     match vec![in alloc; 0; length as usize] {
-        Ok(image) => open_recorder(alloc, &image, most as u32, limit as u32),
+        Ok(image) => open_recorder(alloc, &image, narrow(most), narrow(limit)),
         Err(_) => "no memory",
     }
 }

@@ -21,6 +21,11 @@ pub(crate) struct Trial<'a> {
     pub(crate) limit: u32,
 }
 
+/// A number as one of 32 bits, or the greatest of these.
+pub(crate) fn narrow(number: u64) -> u32 {
+    number.min(u64::from(u32::MAX)) as u32
+}
+
 /// The number that a key has.
 fn number_of(case: &Case, key: &str) -> Option<u64> {
     number(case.get(key)?)
@@ -31,17 +36,17 @@ impl<'a> Trial<'a> {
     /// `set`, of at `most` so many pages, or those that it has.
     pub(crate) fn read(alloc: Global, case: &Case<'a>) -> Option<Trial<'a>> {
         let pages = number_of(case, "pages")?.min(256);
-        let byte = number_of(case, "filled").unwrap_or(0) as u8;
+        let byte = number_of(case, "filled").unwrap_or(0).min(255) as u8;
         let mut image = vec![in alloc; byte; PAGE_SIZE * pages as usize].ok()?;
         if let Some(set) = case.get("set") {
             let [addr, byte, _, _] = numbers(set);
-            *image.get_mut(addr as usize)? = byte as u8;
+            *image.get_mut(addr as usize)? = byte.min(255) as u8;
         }
         Some(Trial {
             case: *case,
             image,
-            most: number_of(case, "most").unwrap_or(pages) as u32,
-            limit: number_of(case, "limit").unwrap_or(LIMIT) as u32,
+            most: narrow(number_of(case, "most").unwrap_or(pages)),
+            limit: narrow(number_of(case, "limit").unwrap_or(LIMIT)),
         })
     }
 

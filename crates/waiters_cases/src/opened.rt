@@ -13,7 +13,7 @@ use std::marker::Brand;
 use std::sync::Wait;
 use std::thread::Threads;
 use std::time::Clock;
-use test_answers::{Given, Sheet, event_of, number, numbers, question_of};
+use test_answers::{Given, Sheet, event_of, number, question_of};
 use test_cases::Case;
 use types::{Entry, PAGE_SIZE};
 use waiters_desk::Desk;
@@ -23,7 +23,7 @@ use waiters_tests::{Dealt, deal};
 const PAGE: [u8; PAGE_SIZE] = [0; PAGE_SIZE];
 
 /// The entries of a log where a case doesn't say how many.
-const LIMIT: u64 = 1000;
+const LIMIT: u32 = 1000;
 
 /// The seats of threads 0 to 3, as they stand at first.
 fn slots_of<M: SharedMemory>(
@@ -80,9 +80,7 @@ fn entry_at(alloc: Global, log: &[Entry], question: &str) -> Given {
     };
     let place = number(place).unwrap_or(u64::MAX) as usize;
     match (log.get(place), event_of(alloc, text)) {
-        (Some(entry), Some((thread, event)))
-            if entry.thread == thread && entry.event == event =>
-        {
+        (Some(entry), Some((thread, event))) if entry.thread == thread && entry.event == event => {
             Given::reply(entry.reply)
         }
         _ => Given::Word("another entry"),
@@ -94,7 +92,10 @@ fn look_at_end(alloc: Global, end: &Finished, case: &Case, sheet: &mut Sheet) ->
     let mut one = OneMemory::open(alloc, &PAGE, 1).ok()?;
     let place = replay(&end.log, &mut one);
     sheet.holds("the log replays", place.is_none());
-    sheet.holds("the log makes the bytes", end.bytes.as_slice() == one.bytes());
+    sheet.holds(
+        "the log makes the bytes",
+        end.bytes.as_slice() == one.bytes(),
+    );
     for line in sheet.lines(case, "log") {
         sheet.look(line, &(end.log.len() as u64));
     }
@@ -104,6 +105,14 @@ fn look_at_end(alloc: Global, end: &Finished, case: &Case, sheet: &mut Sheet) ->
     Some(())
 }
 
+/// How many entries the log of a case takes.
+fn limit_of(case: &Case) -> u32 {
+    match case.get("limit") {
+        Some(word) => word.parse::<u32>().unwrap_or(0),
+        None => LIMIT,
+    }
+}
+
 /// Makes the script of a case over a page of zeros and a log of so many entries.
 fn try_case<R: Threads + Wait + Clock + Sync>(
     rt: &R,
@@ -111,8 +120,7 @@ fn try_case<R: Threads + Wait + Clock + Sync>(
     case: &Case,
     sheet: &mut Sheet,
 ) -> Option<()> {
-    let limit = case.get("limit").and_then(|word| number(word));
-    let prepared = Prepared::new(alloc, &PAGE, 1, limit.unwrap_or(LIMIT) as u32).ok()?;
+    let prepared = Prepared::new(alloc, &PAGE, 1, limit_of(case)).ok()?;
     let end = run_recorder::<Brand, R>(rt, alloc, prepared, case, sheet)?;
     look_at_end(alloc, &end, case, sheet)
 }

@@ -122,9 +122,11 @@ where
     R: Threads + Clock + Sync,
 {
     let jobs = jobs_of(alloc, slots, lines)?;
-    let done = thread::map_vec(rt, jobs, &|(slot, own)| {
-        perform(rt, alloc, desk, memory, slot, own)
-    })?;
+    let done = thread::map_vec(
+        rt,
+        jobs,
+        &|(slot, own)| { perform(rt, alloc, desk, memory, slot, own) },
+    )?;
     put_back(alloc, done, lines, sheet)
 }
 
