@@ -1,11 +1,13 @@
 //! Words, lanes and ranges.
-ghost use Rattle.std.specs.Prelude.{◌<◌, ◌≤◌, ◌+◌, IsTrue};
+ghost use Rattle.std.specs.Prelude.{◌<◌, ◌≤◌};
 
-use shared_memory_lanes::{Part, lane, low_bytes, parts, with_lane};
+use shared_memory::is_event;
+use shared_memory_lanes::{Part, lane, parts, with_lane};
 use std::alloc::Global;
 use std::fmt;
 use test_answers::{Given, Sheet, numbers, question_of};
 use test_cases::Case;
+use types::Event;
 
 /// How much further on the same lane is taken again: almost a page, in whole words.
 const FURTHER: u64 = 65_528;
@@ -25,35 +27,31 @@ impl fmt::Display for Spans {
     }
 }
 
-/// Whether so many bytes from a place on lie in a word.
-fn lies_in_word(first: u64, width: u64) -> bool
-    ensures some { IsTrue result → 1 ≤ width }
-    ensures within { IsTrue result → first + width ≤ 8 }
-{
-    1 <= width && width <= 8 && first <= 8 && first + width <= 8
-}
-
 /// The lane of so many bytes from a place on, and whether the same one is found further on.
 fn try_lane(word: u64, question: &str) -> (Given, bool) {
     let [first, width, _, _] = numbers(question);
-    if !lies_in_word(first, width) {
+    if first > 7 || width < 1 || width > 8 - first {
         return (Given::Word("no lane"), false);
     }
     let found = lane(word, first, width as u8);
-    (
-        Given::Bits(found),
-        lane(word, FURTHER + first, width as u8) == found,
-    )
+    let further = lane(word, FURTHER + first, width as u8);
+    (Given::Bits(found), further == found)
 }
 
 /// The word with another lane, that of so many bytes at an address.
 fn try_with(word: u64, question: &str) -> Given {
     let [addr, width, value, _] = numbers(question);
-    if !lies_in_word(addr % 8, width) {
+    let width = width.min(9) as u8;
+    let store = Event::Store {
+        addr,
+        width,
+        reach: addr.saturating_add(u64::from(width)),
+        value,
+    };
+    if !is_event(store) {
         return Given::Word("no lane");
     }
-    let width = width as u8;
-    Given::Bits(with_lane(word, addr, width, low_bytes(value, width)))
+    Given::Bits(with_lane(word, addr, width, value))
 }
 
 /// The parts of an access of so many bytes at an address.

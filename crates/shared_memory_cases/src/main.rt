@@ -1,11 +1,10 @@
-//! Tries cases of memories: words and their lanes, what can be opened, and scripts of events on the sequential memory, on the
-//! recorder and on the row of words. The arguments are files of cases, each line of which is a question and its answer:
-//!
-//! - `lane FIRST WIDTH = BITS`, `with FIRST WIDTH VALUE = BITS`, `parts ADDR WIDTH = ADDR+WIDTH ..`, `loaded ADDR WIDTH = BITS`:
-//!   of the words under `words` (`lanes`);
-//! - `open LENGTH MOST = ..`, `record LENGTH MOST LIMIT = ..`, `fault NUMBER = ..` (`openings`);
-//! - `replay PLACE` of the lines `log`, `script ..` (`scripts`);
-//! - all else is a script, as `script` describes it.
+//! Tries cases of memories. The arguments are files of cases, each line of which is a question and its answer; the head of each
+//! file says what its lines mean. `lanes.cases` are words, their lanes and the parts of accesses; `openings.cases` what can be
+//! opened; `replays.cases` the script of each kind of event, and the replay of a log. Every other file has scripts: events that are
+//! made on the sequential memory, on the recorder and on the row of words, by one thread after another or at the same time. Beside
+//! the answers of its lines, each script is looked at for what holds of any: that the seats are in order, that the memory has its
+//! limits, that a recorder's log replays to its bytes, and that both memories end with the bytes of the sequential one, where one
+//! thread makes an event after another.
 #![tactic(auto)]
 
 mod at_once;

@@ -112,6 +112,22 @@ pub(crate) fn ask<M: SharedMemory, W: Wait + Drop>(
     }
 }
 
+/// A new thread begins.
+fn begin_new<M: SharedMemory, W: Wait + Drop>(
+    desk: &Desk<M, W>,
+    memory: &M,
+    new: NewSeat<M>,
+) -> (Standing<M>, Given) {
+    let NewSeat { mut seat } = new;
+    match desk.begin(memory, &mut seat) {
+        Some(arg) => (
+            Standing::Free(FreeSeat { seat }),
+            Given::Number(u64::from(arg)),
+        ),
+        None => (Standing::Over(seat), Given::Word("never")),
+    }
+}
+
 /// A thread begins, where it is new: with its argument, or never.
 pub(crate) fn begin<M: SharedMemory, W: Wait + Drop>(
     desk: &Desk<M, W>,
@@ -119,15 +135,20 @@ pub(crate) fn begin<M: SharedMemory, W: Wait + Drop>(
     standing: Standing<M>,
 ) -> (Standing<M>, Given) {
     match standing {
-        Standing::New(NewSeat { mut seat }) => match desk.begin(memory, &mut seat) {
-            Some(arg) => (
-                Standing::Free(FreeSeat { seat }),
-                Given::Number(u64::from(arg)),
-            ),
-            None => (Standing::Over(seat), Given::Word("never")),
-        },
+        Standing::New(new) => begin_new(desk, memory, new),
         other => (other, Given::Word("not new")),
     }
+}
+
+/// A waiting thread takes its answer.
+fn collect_waiting<M: SharedMemory, W: Wait + Drop>(
+    desk: &Desk<M, W>,
+    memory: &M,
+    waiting: WaitingSeat<M>,
+) -> (Standing<M>, Given) {
+    let WaitingSeat { mut seat } = waiting;
+    let answer = desk.collect(memory, &mut seat);
+    (Standing::Free(FreeSeat { seat }), Given::told(answer))
 }
 
 /// A thread takes its answer, where its question is open.
@@ -137,10 +158,7 @@ pub(crate) fn collect<M: SharedMemory, W: Wait + Drop>(
     standing: Standing<M>,
 ) -> (Standing<M>, Given) {
     match standing {
-        Standing::Waiting(WaitingSeat { mut seat }) => {
-            let answer = desk.collect(memory, &mut seat);
-            (Standing::Free(FreeSeat { seat }), Given::told(answer))
-        }
+        Standing::Waiting(waiting) => collect_waiting(desk, memory, waiting),
         other => (other, Given::Word("not waiting")),
     }
 }

@@ -8,7 +8,7 @@ use locked_recorder::{Finished, LockedRecorder, Naming, Prepared};
 use shared_memory::SharedMemory;
 use shared_memory_script::replay;
 use shared_memory_sequential::OneMemory;
-use std::alloc::{AllocError, Global};
+use std::alloc::Global;
 use std::marker::Brand;
 use std::sync::Wait;
 use std::thread::Threads;
@@ -27,23 +27,22 @@ const LIMIT: u32 = 1000;
 
 /// The seats of threads 0 to 3, as they stand at first.
 fn slots_of<M: SharedMemory>(
-    alloc: Global,
     zero: M::Seat,
     one: M::Seat,
     two: M::Seat,
     three: M::Seat,
-) -> Result<Vec<Slot<M>>, AllocError>
+) -> [Slot<M>; 4]
     requires zero { StandsFree (M.name zero) (M.seen zero) }
     requires one { StandsNew (M.name one) (M.seen one) }
     requires two { StandsNew (M.name two) (M.seen two) }
     requires three { StandsNew (M.name three) (M.seen three) }
 {
-    let mut slots = Vec::with_capacity(alloc, 4)?;
-    slots.push(Some(Standing::Free(FreeSeat { seat: zero })))?;
-    slots.push(Some(Standing::New(NewSeat { seat: one })))?;
-    slots.push(Some(Standing::New(NewSeat { seat: two })))?;
-    slots.push(Some(Standing::New(NewSeat { seat: three })))?;
-    Ok(slots)
+    [
+        Some(Standing::Free(FreeSeat { seat: zero })),
+        Some(Standing::New(NewSeat { seat: one })),
+        Some(Standing::New(NewSeat { seat: two })),
+        Some(Standing::New(NewSeat { seat: three })),
+    ]
 }
 
 /// Makes the script at a recorder whose type has been named.
@@ -58,18 +57,25 @@ fn run_recorder<B: Naming + Send + Sync, R: Threads + Wait + Clock + Sync>(
     requires opening { prepared.opening ≡ B.opening }
     requires limit { prepared.limit ≡ B.limit }
 {
-    let (memory, seats) = LockedRecorder::<B, &R>::open(alloc, rt, prepared).ok()?;
+    let Ok((memory, seats)) = LockedRecorder::<B, &R>::open(alloc, rt, prepared) else {
+        return None;
+    };
+    let Some(dealt) = deal(seats) else {
+        return None;
+    };
     let Dealt {
         desk,
         zero,
         one,
         two,
         three,
-    } = deal(seats)?;
-    let slots = slots_of(alloc, zero, one, two, three).ok()?;
+    } = dealt;
+    let slots = slots_of::<LockedRecorder<B, &R>>(zero, one, two, three);
     let desk = Desk::open(rt, &memory, desk);
-    let mut seats = play(rt, alloc, &desk, &memory, slots, case, sheet).ok()?;
-    seats.push(desk.close()).ok()?;
+    let Ok(mut seats) = play(rt, alloc, &desk, &memory, slots, case, sheet) else {
+        return None;
+    };
+    let _ = seats.push(desk.close());
     Some(memory.finish(seats))
 }
 

@@ -136,7 +136,7 @@ pub(crate) fn play<M, W, R>(
     alloc: Global,
     desk: &Desk<M, W>,
     memory: &M,
-    mut slots: Vec<Slot<M>>,
+    slots: [Slot<M>; 4],
     case: &Case,
     sheet: &mut Sheet,
 ) -> Result<Vec<M::Seat>, AllocError>
@@ -145,13 +145,16 @@ where
     W: Wait + Drop + Sync,
     R: Threads + Clock + Sync,
 {
+    let mut slots = Vec::from_array(alloc, slots)?;
     let lines = sheet.lines(case, "do");
     play_in_turn(rt, alloc, desk, memory, &mut slots, &lines, sheet);
     let lines = sheet.lines(case, "at_once");
     let slots = play_at_once(rt, alloc, desk, memory, slots, &lines, sheet)?;
     let mut seats = Vec::new(alloc);
-    for standing in slots.into_iter().flatten() {
-        seats.push(standing.into_seat())?;
+    for slot in slots {
+        if let Some(standing) = slot {
+            seats.push(standing.into_seat())?;
+        }
     }
     Ok(seats)
 }

@@ -5,4 +5,4 @@ use Rattle.waiters_cases.proofs.opened.run_recorder.Goals as goal
 
 pub slots_of-slots-requires-clause-zero : goal.slots_of-slots-requires-clause-zero
 slots_of-slots-requires-clause-zero g c κs within =
-    let zero = c.in_ok.ensures.zero in first_stands _ _ (ap (λ (k : Caller). k.name) zero) (ap (λ (k : Caller). k.seen) zero)
+    let zero = c.in-Some.ensures.zero in first_stands _ _ (ap (λ (k : Caller). k.name) zero) (ap (λ (k : Caller). k.seen) zero)
