@@ -87,15 +87,31 @@ fn try_loaded(words: [u64; 2], question: &str) -> Given {
     Given::Word("not there")
 }
 
-/// Answers the lines on accesses.
-fn try_accesses(words: [u64; 2], case: &Case, sheet: &mut Sheet) {
-    for line in sheet.lines(case, "parts") {
+fn look_at_lanes(word: u64, lines: &[&str], sheet: &mut Sheet) {
+    for line in lines {
+        let (given, is_same) = try_lane(word, question_of(line));
+        sheet.look(line, &given);
+        sheet.holds(line, is_same);
+    }
+}
+
+fn look_at_words(word: u64, lines: &[&str], sheet: &mut Sheet) {
+    for line in lines {
+        sheet.look(line, &try_with(word, question_of(line)));
+    }
+}
+
+fn look_at_parts(lines: &[&str], sheet: &mut Sheet) {
+    for line in lines {
         match try_parts(question_of(line)) {
             Some(spans) => sheet.look(line, &spans),
             None => sheet.look(line, &"none"),
         }
     }
-    for line in sheet.lines(case, "loaded") {
+}
+
+fn look_at_loads(words: [u64; 2], lines: &[&str], sheet: &mut Sheet) {
+    for line in lines {
         sheet.look(line, &try_loaded(words, question_of(line)));
     }
 }
@@ -103,13 +119,8 @@ fn try_accesses(words: [u64; 2], case: &Case, sheet: &mut Sheet) {
 /// Answers the lines of a case.
 pub(crate) fn try_lanes(case: &Case, sheet: &mut Sheet) {
     let [word, next, _, _] = numbers(case.get("words").unwrap_or(""));
-    for line in sheet.lines(case, "lane") {
-        let (given, is_same) = try_lane(word, question_of(line));
-        sheet.look(line, &given);
-        sheet.holds(line, is_same);
-    }
-    for line in sheet.lines(case, "with") {
-        sheet.look(line, &try_with(word, question_of(line)));
-    }
-    try_accesses([word, next], case, sheet);
+    look_at_lanes(word, &sheet.lines(case, "lane"), sheet);
+    look_at_words(word, &sheet.lines(case, "with"), sheet);
+    look_at_parts(&sheet.lines(case, "parts"), sheet);
+    look_at_loads([word, next], &sheet.lines(case, "loaded"), sheet);
 }

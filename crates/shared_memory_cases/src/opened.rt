@@ -21,6 +21,7 @@ use word_row::{ClosedRow, Naming, WordRow};
 fn try_alone(alloc: Global, trial: &Trial, sheet: &mut Sheet) -> Option<()> {
     let mut one = trial.one(alloc)?;
     play_alone(alloc, &mut one, &sheet.lines(&trial.case, "do"), sheet);
+    sheet.holds("it may have as many pages", one.max() == trial.most);
     look_at_end(&one, &sheet.lines(&trial.case, "end"), sheet);
     Some(())
 }

@@ -68,17 +68,30 @@ fn look_at_fault(line: &str, sheet: &mut Sheet) {
     sheet.look(line, &"no fault");
 }
 
-/// Answers the lines of a case.
-pub(crate) fn try_openings(alloc: Global, case: &Case, sheet: &mut Sheet) {
-    for line in sheet.lines(case, "open") {
-        for given in open_each(alloc, question_of(line)) {
-            sheet.look(line, &given);
-        }
+fn look_at_openings(alloc: Global, lines: &[&str], sheet: &mut Sheet) {
+    for line in lines {
+        let [one, words, recorder] = open_each(alloc, question_of(line));
+        sheet.look(line, &one);
+        sheet.look(line, &words);
+        sheet.look(line, &recorder);
     }
-    for line in sheet.lines(case, "record") {
+}
+
+fn look_at_logs(alloc: Global, lines: &[&str], sheet: &mut Sheet) {
+    for line in lines {
         sheet.look(line, &open_log(alloc, question_of(line)));
     }
-    for line in sheet.lines(case, "fault") {
+}
+
+fn look_at_faults(lines: &[&str], sheet: &mut Sheet) {
+    for line in lines {
         look_at_fault(line, sheet);
     }
+}
+
+/// Answers the lines of a case.
+pub(crate) fn try_openings(alloc: Global, case: &Case, sheet: &mut Sheet) {
+    look_at_openings(alloc, &sheet.lines(case, "open"), sheet);
+    look_at_logs(alloc, &sheet.lines(case, "record"), sheet);
+    look_at_faults(&sheet.lines(case, "fault"), sheet);
 }
