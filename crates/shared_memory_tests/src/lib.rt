@@ -1,7 +1,24 @@
-//! The laws of histories, of lanes and of the desk, each called once, and what is no event of a memory.
+//! Runs of the memories: what the sequential one answers; and told through their trait, the recorder's log replayed on it, and
+//! threads that change the same word of a row, by exchanges and by single steps. The laws of histories are called here too.
 #![tactic(auto)]
 
 #[cfg(test)]
-mod events;
+mod adding;
+#[cfg(test)]
+mod lanes;
 #[cfg(test)]
 mod laws;
+#[cfg(test)]
+mod recorder;
+#[cfg(test)]
+mod row;
+#[cfg(test)]
+mod row_alone;
+#[cfg(test)]
+mod script;
+#[cfg(test)]
+mod sequential;
+#[cfg(test)]
+mod singles;
+#[cfg(test)]
+mod two_callers;

@@ -1,2 +1,4 @@
 pub mod Dealing
 pub mod Beginning
+pub mod Beside
+pub mod Seats

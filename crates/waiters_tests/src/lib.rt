@@ -1,7 +1,24 @@
-//! The dealing of a recorder's seats to the desk and to threads, and how these then stand, which the cases of waiting and the
-//! measurements share.
+//! Scripts that drive a queue. Threads at a desk over a recorder: a script on one thread, a full log, all ids, and two
+//! threads at once; questions and answers of a recorder beside the sequential memory; and the dealing of a recorder's
+//! seats, which the measurements share.
 #![tactic(auto)]
 
+#[cfg(test)]
+mod blocked;
+#[cfg(test)]
+mod calls;
 mod dealt;
+#[cfg(test)]
+mod laws;
+#[cfg(test)]
+mod questions;
+#[cfg(test)]
+mod queue;
+#[cfg(test)]
+mod script;
+#[cfg(test)]
+mod tests;
+#[cfg(test)]
+mod together;
 
 pub use dealt::{Dealt, deal};
