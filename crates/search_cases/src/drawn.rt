@@ -197,7 +197,10 @@ fn check_seed(
 ) -> Result<(), Trouble> {
     for number in 0..runs {
         if !is_one(alloc, trial, Draw { way, seed, number })? {
-            writeln!(said, "run {number} of seed {seed} by {way:?} isn't the same again")?;
+            writeln!(
+                said,
+                "run {number} of seed {seed} by {way:?} isn't the same again"
+            )?;
         }
     }
     Ok(())

@@ -30,11 +30,7 @@ pub(crate) fn text_of(alloc: Global, ending: &Ending) -> Result<String, AllocErr
 }
 
 /// The ending of a run that left this, as text.
-pub(crate) fn text_of_end(
-    alloc: Global,
-    end: &EndState,
-    dump: u32,
-) -> Result<String, AllocError> {
+pub(crate) fn text_of_end(alloc: Global, end: &EndState, dump: u32) -> Result<String, AllocError> {
     let ending = ending_of(alloc, end, dump)?;
     text_of(alloc, &ending)
 }

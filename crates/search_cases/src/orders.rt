@@ -29,12 +29,7 @@ fn gone_through<F: Follows>(
 }
 
 /// Whether the run along these choices ends so.
-fn leads_to(
-    alloc: Global,
-    trial: Trial,
-    path: &[usize],
-    ending: &Ending,
-) -> Result<bool, Trouble> {
+fn leads_to(alloc: Global, trial: Trial, path: &[usize], ending: &Ending) -> Result<bool, Trouble> {
     let made = run_to(
         alloc,
         trial.valid,
@@ -59,7 +54,10 @@ fn check_paths(
     for (other, path) in paths.iter().enumerate() {
         let leads = leads_to(alloc, trial, path.as_slice(), ending)?;
         if leads != (place == other) {
-            writeln!(said, "path {other}: that it leads to ending {place} is {leads}")?;
+            writeln!(
+                said,
+                "path {other}: that it leads to ending {place} is {leads}"
+            )?;
         }
     }
     Ok(())
@@ -115,12 +113,7 @@ fn check_list(
 }
 
 /// The list that is made where nothing bounds it.
-fn check_all(
-    alloc: Global,
-    trial: Trial,
-    states: usize,
-    said: &mut String,
-) -> Result<(), Trouble> {
+fn check_all(alloc: Global, trial: Trial, states: usize, said: &mut String) -> Result<(), Trouble> {
     let all = gone_through(alloc, trial, MOST, &mut ())?;
     check_list(alloc, trial, &all, states, said)
 }
@@ -141,7 +134,10 @@ fn check_bound(
     let enough = verdict_at(alloc, trial, states)?;
     let few = verdict_at(alloc, trial, states.saturating_sub(1))?;
     if enough != Verdict::All || few != Verdict::TooMany {
-        writeln!(said, "at the bound {enough:?}, and {few:?} with one state fewer")?;
+        writeln!(
+            said,
+            "at the bound {enough:?}, and {few:?} with one state fewer"
+        )?;
     }
     Ok(())
 }

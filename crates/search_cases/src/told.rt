@@ -67,7 +67,15 @@ fn halt_of<R: Threads + Sync>(
         expect: None,
     };
     let mut few = Few::new(most);
-    let searched = first_found(threads, alloc, trial.valid, trial.call, &sought, 2, &mut few)?;
+    let searched = first_found(
+        threads,
+        alloc,
+        trial.valid,
+        trial.call,
+        &sought,
+        2,
+        &mut few,
+    )?;
     Ok(word_of(&searched))
 }
 

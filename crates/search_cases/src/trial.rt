@@ -171,7 +171,10 @@ pub(crate) fn numbers_of(alloc: Global, text: &str) -> Result<Vec<u32>, Trouble>
 /// The same as arguments.
 pub(crate) fn values_of(alloc: Global, text: &str) -> Result<Vec<Value>, Trouble> {
     let numbers = numbers_of(alloc, text)?;
-    let values = numbers.iter().map(|number| Value::I32(*number)).collect(alloc);
+    let values = numbers
+        .iter()
+        .map(|number| Value::I32(*number))
+        .collect(alloc);
     values.map_err(|_| Trouble::NoMemory)
 }
 
