@@ -1,5 +1,6 @@
 //! Each front of a module under `check`, and command lines as jobs.
-use report::{Job, Usage, check, command};
+use report_command::{Job, command};
+use report_jobs::check;
 use std::alloc::{AllocError, Global};
 use std::test::Fail;
 
@@ -91,20 +92,5 @@ fn reads_a_run(rt: HostRuntime) -> Result<(), Fail> {
         "8",
     ];
     assert!(rt; is_read(alloc, &words, &full));
-    Ok(())
-}
-
-/// Words behind `run a.wasm --invoke f` that are no job.
-static WRONG: [[&str; 2]; 3] = [["--limit", "1000001"], ["--speed", "1"], ["--fuel", "-1"]];
-
-#[test]
-fn refuses_words_that_are_no_job(rt: HostRuntime) -> Result<(), Fail> {
-    for [name, value] in WRONG {
-        let words = ["wathread", "run", "a.wasm", "--invoke", "f", name, value];
-        assert!(rt;
-            matches!(command(rt.alloc(), &words), Err(Usage::Wrong(_))),
-            "{name} {value}"
-        );
-    }
     Ok(())
 }

@@ -1,6 +1,6 @@
 //! The modules of one atomic add, from their bytes to printed lines.
 
-use report::{FirstFault, first};
+use report_first::{FirstFault, first};
 use std::alloc::Global;
 use std::sync::Wait;
 use std::test::Fail;

@@ -1,11 +1,10 @@
 //! A record of 1,000,000 entries and more.
 
-use crate::program::{Over, Run, USUAL, make};
-use crate::replays::prints;
+use report_jobs::{Wanted, replay_saved, run};
 use std::alloc::Global;
 use std::io::{self, Write};
 use std::test::Fail;
-use test_modules::{ENDLESS, Module};
+use test_modules::ENDLESS;
 use types::MOST_LIMIT;
 
 /// The record of the loop that adds until the log is full: a round takes five units, and the last one stops behind two.
@@ -20,32 +19,51 @@ fn long_record(alloc: Global, front: &str) -> io::Result<Vec<u8>> {
     Ok(text)
 }
 
-const FULL: &str = "thread 0: stop record full\npages 1\nbytes 40 42 0f 00\n";
-
-static FILLING: Run = Run {
-    module: Module::Small(ENDLESS),
-    dump: "--dump 4",
-    words: "--invoke f --limit 1000000",
-    ..USUAL
-};
+const FULL: &[u8] = b"thread 0: stop record full\npages 1\nbytes 40 42 0f 00\n";
 
 #[test]
 fn replays_a_million_entries(rt: HostRuntime) -> Result<(), Fail> {
     let module = ENDLESS.bytes(rt.alloc())?;
     let record = long_record(rt.alloc(), "wathread-record 1\n")?;
-    assert!(rt; prints(&rt, rt.alloc(), &module, &record, "4", FULL, 1)?);
+    let (mut out, mut err) = (Vec::new(rt.alloc()), Vec::new(rt.alloc()));
+    let status = replay_saved(rt.alloc(), &module, &record, 4, &mut out, &mut err);
+    assert!(rt; out.as_slice() == FULL && err.is_empty() && status == 1);
     Ok(())
 }
 
+static FILLING: Wanted<'static> = Wanted {
+    invoke: "f",
+    on_words: false,
+    fuel: 1_000_000_000,
+    limit: 1_000_000,
+    save: Some("a.record"),
+    dump: 4,
+    args: &[],
+};
+
 #[test]
 fn records_a_million_entries(rt: HostRuntime) -> Result<(), Fail> {
-    let gave = make(&rt, rt.alloc(), &FILLING, Over::Recorder)?;
-    assert!(rt; gave.printed(FULL, 1));
-    let length = ENDLESS.bytes(rt.alloc())?.len();
+    let module = ENDLESS.bytes(rt.alloc())?;
+    let length = module.len();
     let front = format!(in rt.alloc();
         "wathread-record 2\nmodule {length}\nthreads 64\nmax-pages 256\n"
     )?;
-    let same = gave.record == long_record(rt.alloc(), &front)?;
-    assert!(rt; same);
+    let wanted = long_record(rt.alloc(), front.as_str())?;
+    let (mut out, mut err, mut save) = (
+        Vec::new(rt.alloc()),
+        Vec::new(rt.alloc()),
+        Vec::new(rt.alloc()),
+    );
+    let status = run(
+        &rt,
+        rt.alloc(),
+        &FILLING,
+        &module,
+        &mut out,
+        &mut err,
+        &mut save,
+    );
+    assert!(rt; out.as_slice() == FULL && err.is_empty() && status == 1);
+    assert!(rt; save == wanted);
     Ok(())
 }

@@ -1,0 +1,63 @@
+//! One case: each of its command lines, on the record as it is or as its rows change it.
+
+use crate::input::{module_of, names_of, saved_of};
+use crate::program::Input;
+use crate::rows::{try_cuts, try_edits, try_forged};
+use crate::telling::{Place, Stop, Tally};
+use crate::trial::{Trial, try_line};
+use crate::wanted::Texts;
+use search_reach::Wish;
+use std::sync::Wait;
+use std::thread::Threads;
+use test_cases::Case;
+
+/// Does a command line for each row that changes the record, or once where there is none.
+fn try_rows<R: Threads + Wait + Sync>(
+    rt: &HostRuntime,
+    threads: &R,
+    trial: Trial,
+    tally: &mut Tally,
+) -> Result<(), Stop> {
+    let case = trial.case;
+    if case.get("edit").is_none() && case.get("forged").is_none() && case.get("cut").is_none() {
+        return try_line(rt, threads, trial, tally);
+    }
+    try_edits(rt, threads, trial, tally)?;
+    try_forged(rt, threads, trial, tally)?;
+    try_cuts(rt, threads, trial, tally)
+}
+
+/// Does each command line of a case.
+pub(crate) fn try_case<R: Threads + Wait + Sync>(
+    rt: &HostRuntime,
+    threads: &R,
+    place: Place,
+    case: &Case,
+    tally: &mut Tally,
+) -> Result<(), Stop> {
+    let texts = Texts::of(rt.alloc(), case)?;
+    let module = module_of(rt, case)?;
+    let saved = saved_of(rt, case)?;
+    let names = names_of(rt, case)?;
+    let wish = match case.get("told") {
+        Some(_) => Wish::End,
+        None => Wish::GoOn,
+    };
+    let input = Input {
+        module: &module,
+        saved: &saved,
+        names: &names,
+        wish,
+    };
+    for words in case.all(rt.alloc(), "words")?.iter() {
+        let trial = Trial {
+            place,
+            case,
+            words: *words,
+            input,
+            wanted: texts.wanted(),
+        };
+        try_rows(rt, threads, trial, tally)?;
+    }
+    Ok(())
+}

@@ -1,0 +1,65 @@
+//! What a case has its command lines read.
+
+use crate::reader::read_file;
+use crate::telling::Stop;
+use std::alloc::{AllocError, Global};
+use test_cases::{Case, from_hex};
+use test_modules::{I32, I64, PLAIN, SHARED, Small};
+
+/// The bytes that a key's digits spell.
+fn hex_of(alloc: Global, case: &Case, key: &str) -> Result<Vec<u8>, AllocError> {
+    let digits = case.text(alloc, key)?;
+    from_hex(alloc, str::from_utf8(&digits).unwrap_or(""))
+}
+
+/// The module of a function with this code.
+fn small(alloc: Global, case: &Case) -> Result<Vec<u8>, AllocError> {
+    let body = hex_of(alloc, case, "body")?;
+    let spelled = hex_of(alloc, case, "memory")?;
+    let output = match case.get("gives") {
+        Some("nothing") => b"".as_slice(),
+        Some("i64") => I64,
+        _ => I32,
+    };
+    let memory = match case.get("memory") {
+        None | Some("shared") => SHARED,
+        Some("plain") => PLAIN,
+        Some("none") => b"".as_slice(),
+        Some(_) => spelled.as_slice(),
+    };
+    Small {
+        output,
+        memory,
+        body: &body,
+    }
+    .bytes(alloc)
+}
+
+/// The bytes of a case's module.
+pub(crate) fn module_of(rt: &HostRuntime, case: &Case) -> Result<Vec<u8>, Stop> {
+    if let Some(file) = case.get("module") {
+        return read_file(rt, file);
+    }
+    if case.get("body").is_some() {
+        return Ok(small(rt.alloc(), case)?);
+    }
+    Ok(hex_of(rt.alloc(), case, "hex")?)
+}
+
+/// The text of the record that a case has read.
+pub(crate) fn saved_of(rt: &HostRuntime, case: &Case) -> Result<Vec<u8>, Stop> {
+    if let Some(file) = case.get("saved-file") {
+        return read_file(rt, file);
+    }
+    let mut text = case.text(rt.alloc(), "saved")?;
+    text.extend_from_slice(case.get("saved-rest").unwrap_or("").as_bytes())?;
+    Ok(text)
+}
+
+/// The bytes of the file that names are taken from, or none.
+pub(crate) fn names_of(rt: &HostRuntime, case: &Case) -> Result<Vec<u8>, Stop> {
+    match case.get("names") {
+        Some(file) => read_file(rt, file),
+        None => Ok(Vec::new(rt.alloc())),
+    }
+}

@@ -1,0 +1,163 @@
+//! The program on a command line: what it writes, and its status.
+ghost use Rattle.report_command.specs.Jobs.{IsInRange};
+
+use report::{Job, perform, show_saved};
+use report_command::{Order, Usage, asked};
+use report_reasons::{Done, explain_done};
+use search_reach::{Follows, Wish};
+use std::alloc::{AllocError, Global};
+use std::io::Write;
+use std::sync::Wait;
+use std::thread::Threads;
+
+/// What the program wrote, and its status.
+#[derive(Drop)]
+pub(crate) struct Gave {
+    pub(crate) out: Vec<u8>,
+    pub(crate) err: Vec<u8>,
+    pub(crate) record: Vec<u8>,
+    pub(crate) status: u8,
+}
+
+impl Gave {
+    /// Nothing.
+    pub(crate) fn new(alloc: Global) -> Gave {
+        Gave {
+            out: Vec::new(alloc),
+            err: Vec::new(alloc),
+            record: Vec::new(alloc),
+            status: 0,
+        }
+    }
+
+    /// Forgets what was written.
+    fn clear(&mut self) {
+        self.out.clear();
+        self.err.clear();
+        self.record.clear();
+        self.status = 0;
+    }
+}
+
+/// What a command line reads.
+#[derive(Clone, Copy)]
+pub(crate) struct Input<'a> {
+    pub(crate) module: &'a [u8],
+    /// The record, or nothing.
+    pub(crate) saved: &'a [u8],
+    /// The file that has the names, or nothing where the module has them.
+    pub(crate) names: &'a [u8],
+    /// What is wished of a search.
+    pub(crate) wish: Wish,
+}
+
+/// Wishes the same of a search whatever it hears.
+#[derive(Drop)]
+struct Wishes {
+    wish: Wish,
+}
+
+impl Follows for Wishes {
+    ghost wish = { λ w. w.wish };
+
+    fn runs(&mut self, _made: u64, _endings: usize) -> Wish {
+        self.wish
+    }
+
+    fn states(&mut self, _met: usize) -> Wish {
+        self.wish
+    }
+
+    fn end(&mut self) {}
+}
+
+/// Does a job.
+fn do_job<R: Threads + Wait + Sync>(rt: &R, alloc: Global, job: &Job, input: Input, gave: &mut Gave)
+where
+    requires { IsInRange job.now }
+{
+    let Input {
+        module,
+        saved,
+        names,
+        wish,
+    } = input;
+    gave.status = match job {
+        Job::Show { look, view, .. } if !names.is_empty() => show_saved(
+            alloc,
+            module,
+            names,
+            saved,
+            look,
+            *view,
+            &mut gave.out,
+            &mut gave.err,
+        ),
+        _ => perform(
+            rt,
+            alloc,
+            job,
+            module,
+            saved,
+            &mut gave.out,
+            &mut gave.err,
+            &mut gave.record,
+            &mut Wishes { wish },
+        ),
+    };
+}
+
+/// Adds to what is said why the job came to its status.
+fn explain(alloc: Global, job: &Job, input: Input, gave: &mut Gave) -> Result<(), AllocError> {
+    let mut lines = String::new(alloc);
+    let done = Done {
+        module: input.module,
+        saved: input.saved,
+        printed: &gave.out,
+        status: gave.status,
+    };
+    explain_done(alloc, job, done, &mut lines)?;
+    gave.err.extend_from_slice(lines.as_bytes())?;
+    Ok(())
+}
+
+/// Help goes to standard output, and what is wrong about the words to standard error.
+fn tell_usage(usage: &Usage, gave: &mut Gave) {
+    gave.status = match usage {
+        Usage::Help(text) => {
+            let _ = write!(gave.out, "{text}");
+            0
+        }
+        Usage::Wrong(text) => {
+            let _ = write!(gave.err, "{text}");
+            3
+        }
+        Usage::NoMemory => 5,
+    };
+}
+
+/// The program with these words.
+pub(crate) fn program<R: Threads + Wait + Sync>(
+    rt: &R,
+    alloc: Global,
+    words: &[&str],
+    input: Input,
+    gave: &mut Gave,
+) -> Result<(), AllocError> {
+    gave.clear();
+    match asked(alloc, words) {
+        Ok(
+            Order {
+                job,
+                explain: is_explained,
+            },
+        ) => {
+            do_job(rt, alloc, &job, input, gave);
+            if is_explained {
+                explain(alloc, &job, input, gave)?;
+            }
+        }
+        Err(usage) => tell_usage(&usage, gave),
+    }
+    Ok(())
+}

@@ -1,0 +1,5 @@
+//! Spans, as they are written on the command line.
+#![tactic(auto)]
+
+#[cfg(test)]
+mod spans;
