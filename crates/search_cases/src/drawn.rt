@@ -92,24 +92,41 @@ fn say_unmet(trial: Trial, way: Way, met: &[bool], said: &mut String) -> Result<
     Ok(())
 }
 
-/// Makes runs of seed 1 by a strategy, which are to end as they may, each ending in some run.
-fn check_way(
+/// Makes runs of seed 1 by a strategy, and notes their endings.
+fn note_draws(
     alloc: Global,
     trial: Trial,
     way: Way,
     runs: u64,
+    met: &mut [bool],
     said: &mut String,
 ) -> Result<(), Trouble> {
-    let mut met = vec![in alloc; false; trial.endings.len()]?;
     for number in 0..runs {
         let draw = Draw {
             way,
             seed: 1,
             number,
         };
-        note_draw(alloc, trial, draw, &mut met, said)?;
+        note_draw(alloc, trial, draw, &mut *met, said)?;
     }
-    Ok(say_unmet(trial, way, &met, said)?)
+    Ok(())
+}
+
+/// Makes runs of seed 1 by a strategy, which are to end as they may; where `is_each` says so, each ending is to be met.
+fn check_way(
+    alloc: Global,
+    trial: Trial,
+    way: Way,
+    runs: u64,
+    is_each: bool,
+    said: &mut String,
+) -> Result<(), Trouble> {
+    let mut met = vec![in alloc; false; trial.endings.len()]?;
+    note_draws(alloc, trial, way, runs, &mut met, said)?;
+    if is_each {
+        say_unmet(trial, way, &met, said)?;
+    }
+    Ok(())
 }
 
 /// The same by each strategy.
@@ -117,10 +134,11 @@ pub(crate) fn check_drawn(
     alloc: Global,
     trial: Trial,
     runs: u64,
+    is_each: bool,
     said: &mut String,
 ) -> Result<(), Trouble> {
     for way in WAYS {
-        check_way(alloc, trial, way, runs, said)?;
+        check_way(alloc, trial, way, runs, is_each, said)?;
     }
     Ok(())
 }

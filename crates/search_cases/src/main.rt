@@ -6,7 +6,7 @@
 //!   bytes of the memory belong to an ending, 4 where it isn't said.
 //! - `ending TEXT`, a line each: how the call may end, written as `bench/endings.py` does.
 //! - `drawn N`: of each strategy the runs 0 to N - 1 of seed 1. Each ends as a line says, each line is met, and the replay of each
-//!   record comes to the run's end.
+//!   record comes to the run's end. `drawn-among N`: the same, but not each line need be met.
 //! - `repeated N`: of each strategy the runs 0 to N - 1 of each of three seeds. Each is the same when it is drawn again, and along its
 //!   own schedule, and its record is replayed to its end.
 //! - `machine N`: so many runs by threads of the machine over each memory. Each ends as a line says.
@@ -43,8 +43,9 @@ use test_cases::{Case, cases};
 use validate::ValidModule;
 
 /// The keys of what is tried.
-const TRIED: [&str; 6] = [
+const TRIED: [&str; 7] = [
     "drawn",
+    "drawn-among",
     "repeated",
     "machine",
     "states",
@@ -61,7 +62,10 @@ fn check<R: Threads + Wait + Sync>(
     said: &mut String,
 ) -> Result<(), Trouble> {
     if let Some(runs) = number_of(case, "drawn")? {
-        check_drawn(alloc, trial, runs, said)?;
+        check_drawn(alloc, trial, runs, true, said)?;
+    }
+    if let Some(runs) = number_of(case, "drawn-among")? {
+        check_drawn(alloc, trial, runs, false, said)?;
     }
     if let Some(runs) = number_of(case, "repeated")? {
         check_repeated(alloc, trial, runs, said)?;
