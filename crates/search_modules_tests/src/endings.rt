@@ -1,0 +1,80 @@
+//! The endings of small modules beside another enumeration, and over how many states.
+
+use crate::rows::{Gone, MODULES, MOST, as_of_run, gone_through, load};
+use search_endings::Ending;
+use search_reach::Verdict;
+use std::alloc::{AllocError, Global};
+use std::process::Abort;
+use std::test::Fail;
+use validate::ValidModule;
+
+/// An ending as the other enumeration writes it.
+fn text_of(alloc: Global, ending: &Ending) -> Result<String, AllocError> {
+    let mut text = String::new(alloc);
+    for outcome in ending.outcomes.iter() {
+        if !text.is_empty() {
+            text.push_str(", ")?;
+        }
+        let word = format!(in alloc; "{outcome}")?;
+        text.push_str(word.as_str())?;
+    }
+    let pages = ending.pages;
+    let more = format!(in alloc; "; pages {pages}; ")?;
+    text.push_str(more.as_str())?;
+    for byte in ending.bytes.iter() {
+        let digits = format!(in alloc; "{byte:02x}")?;
+        text.push_str(digits.as_str())?;
+    }
+    Ok(text)
+}
+
+fn check_endings<R: Abort>(
+    rt: &R,
+    alloc: Global,
+    valid: &ValidModule,
+    gone: &Gone,
+) -> Result<(), Fail> {
+    let all = gone_through(alloc, valid, gone, MOST)?;
+    assert_eq!(rt; all.verdict, Verdict::All);
+    assert_eq!(rt; all.states, gone.states);
+    assert_eq!(rt; all.endings.len(), gone.endings.len());
+    for ended in all.endings.as_slice() {
+        let ending = as_of_run(alloc, ended)?;
+        let text = text_of(alloc, &ending)?;
+        assert!(rt; gone.endings.iter().any(|other| *other == text.as_str()));
+    }
+    Ok(())
+}
+
+#[test]
+fn endings_are_those_of_another_enumeration(rt: HostRuntime) -> Result<(), Fail> {
+    for gone in MODULES.as_slice() {
+        let valid = load(rt.alloc(), gone.module)?;
+        check_endings(&rt, rt.alloc(), &valid, gone)?;
+    }
+    Ok(())
+}
+
+/// What a search says that may meet so many states.
+fn verdict_at(
+    alloc: Global,
+    valid: &ValidModule,
+    gone: &Gone,
+    most: usize,
+) -> Result<Verdict, Fail> {
+    let all = gone_through(alloc, valid, gone, most)?;
+    Ok(all.verdict)
+}
+
+/// With one state fewer than there are the list is never said to be all.
+#[test]
+fn the_bound_is_kept(rt: HostRuntime) -> Result<(), Fail> {
+    for gone in MODULES.as_slice() {
+        let valid = load(rt.alloc(), gone.module)?;
+        let enough = verdict_at(rt.alloc(), &valid, gone, gone.states)?;
+        assert_eq!(rt; enough, Verdict::All);
+        let few = verdict_at(rt.alloc(), &valid, gone, gone.states.saturating_sub(1))?;
+        assert_eq!(rt; few, Verdict::TooMany);
+    }
+    Ok(())
+}

@@ -1,0 +1,145 @@
+//! Calls of small modules, gone through.
+
+ghost use Rattle.std.specs.Prelude.{◌≤◌};
+ghost use Rattle.types.specs.Limits.{most_fuel};
+
+use crate::modules::{BROKEN, MUTEX, PETERSON, SEQLOCK, TICKETS, WAKEUP};
+use binary::read;
+use search_endings::Ending;
+use search_modules::all_endings;
+use search_parts::Ending as Ended;
+use search_reach::Ended as AllEnded;
+use spawn_host::Call;
+use std::alloc::{AllocError, Global};
+use std::test::Fail;
+use types::Value;
+use validate::{ValidModule, validate};
+
+/// How many first bytes of the memory belong to an ending.
+pub(crate) const DUMP: u32 = 16;
+
+/// More states than any of the modules has.
+pub(crate) const MOST: usize = 10_000;
+
+/// The units of each thread, more than any spends.
+const FUEL: u64 = 1_000_000_000;
+
+/// More entries than any log has.
+pub(crate) const LIMIT: u32 = 100_000;
+
+/// A call of a module, and what another enumeration says of it (`bench/endings.py --dump 16`): the endings, and how many states it met.
+pub(crate) struct Gone {
+    pub module: &'static [u8],
+    pub args: &'static [Value],
+    pub endings: &'static [&'static str],
+    pub states: usize,
+}
+
+pub(crate) static MODULES: [Gone; 9] = [
+    Gone {
+        module: BROKEN,
+        args: &[Value::I32(2)],
+        endings: &[
+            "ok, ok; pages 1; 00000000020000000000000000000000",
+            "ok, ok; pages 1; 00000000030000000000000000000000",
+            "ok, ok; pages 1; 00000000040000000000000000000000",
+        ],
+        states: 382,
+    },
+    Gone {
+        module: MUTEX,
+        args: &[Value::I32(2), Value::I32(2)],
+        endings: &["ok, ok; pages 1; 00000000040000000000000000000000"],
+        states: 297,
+    },
+    Gone {
+        module: PETERSON,
+        args: &[Value::I32(2)],
+        endings: &[
+            "ok, ok; pages 1; 00000000000000000000000004000000",
+            "ok, ok; pages 1; 00000000000000000100000004000000",
+        ],
+        states: 249,
+    },
+    Gone {
+        module: SEQLOCK,
+        args: &[],
+        endings: &[
+            "ok i32:4294967289, ok; pages 1; 02000000070000000700000000000000",
+            "ok i32:0, ok; pages 1; 02000000070000000700000000000000",
+            "ok i32:7, ok; pages 1; 02000000070000000700000000000000",
+        ],
+        states: 49,
+    },
+    Gone {
+        module: TICKETS,
+        args: &[Value::I32(2), Value::I32(2)],
+        endings: &["ok, ok; pages 1; 04000000040000000400000000000000"],
+        states: 130,
+    },
+    Gone {
+        module: WAKEUP,
+        args: &[],
+        endings: &[
+            "stop asleep for good, ok; pages 1; 01000000000000000000000000000000",
+            "ok i32:1, ok; pages 1; 01000000000000000000000000000000",
+        ],
+        states: 23,
+    },
+    Gone {
+        module: BROKEN,
+        args: &[Value::I32(1)],
+        endings: &[
+            "ok, ok; pages 1; 00000000010000000000000000000000",
+            "ok, ok; pages 1; 00000000020000000000000000000000",
+        ],
+        states: 77,
+    },
+    Gone {
+        module: MUTEX,
+        args: &[Value::I32(3), Value::I32(1)],
+        endings: &["ok, ok, ok; pages 1; 00000000030000000000000000000000"],
+        states: 938,
+    },
+    Gone {
+        module: TICKETS,
+        args: &[Value::I32(3), Value::I32(1)],
+        endings: &["ok, ok, ok; pages 1; 03000000030000000300000000000000"],
+        states: 239,
+    },
+];
+
+/// A valid module of these bytes.
+pub(crate) fn load(alloc: Global, bytes: &[u8]) -> Result<ValidModule, Fail> {
+    let module = read(alloc, bytes)?;
+    Ok(validate(alloc, module)?)
+}
+
+/// The call.
+pub(crate) fn call_of(gone: &Gone) -> Call<'static>
+    ensures { result.fuel ≤ most_fuel }
+{
+    Call {
+        name: "f",
+        args: gone.args,
+        fuel: FUEL,
+    }
+}
+
+pub(crate) fn gone_through(
+    alloc: Global,
+    valid: &ValidModule,
+    gone: &Gone,
+    most: usize,
+) -> Result<AllEnded<Ended>, Fail> {
+    Ok(all_endings(alloc, valid, call_of(gone), most, DUMP as usize, &mut ())?)
+}
+
+/// The ending, as that of a run is.
+pub(crate) fn as_of_run(alloc: Global, ended: &Ended) -> Result<Ending, AllocError> {
+    Ok(Ending {
+        outcomes: Vec::from_slice(alloc, ended.outcomes())?,
+        pages: ended.pages(),
+        bytes: Vec::from_slice(alloc, ended.bytes())?,
+    })
+}

@@ -1,0 +1,147 @@
+//! Runs of small modules beside the list of all endings.
+
+use crate::rows::{DUMP, Gone, LIMIT, MODULES, MOST, as_of_run, call_of, gone_through, load};
+use interp_trait::OpenGate;
+use report_runs::{record_run, run_on_words};
+use search_endings::{Ending, ending_of};
+use search_finds::run_to;
+use search_parts::Ending as Ended;
+use search_reach::Ended as AllEnded;
+use search_scheduled::run_along;
+use search_strategies::Random;
+use std::alloc::{AllocError, Global};
+use std::process::Abort;
+use std::sync::Wait;
+use std::test::Fail;
+use std::thread::Threads;
+use validate::ValidModule;
+
+/// Whether an ending is in the list.
+fn is_listed(alloc: Global, all: &AllEnded<Ended>, ending: &Ending) -> Result<bool, AllocError> {
+    for ended in all.endings.as_slice() {
+        let listed = as_of_run(alloc, ended)?;
+        if listed.is_same(ending) {
+            return Ok(true);
+        }
+    }
+    Ok(false)
+}
+
+/// Whether the run along these choices ends so.
+fn leads_to(
+    alloc: Global,
+    valid: &ValidModule,
+    gone: &Gone,
+    path: &[usize],
+    ending: &Ending,
+) -> Result<bool, Fail> {
+    let made = run_to(alloc, valid, call_of(gone), LIMIT, DUMP, path, ending)?;
+    Ok(made.is_some())
+}
+
+fn check_paths<R: Abort>(
+    rt: &R,
+    alloc: Global,
+    valid: &ValidModule,
+    gone: &Gone,
+) -> Result<(), Fail> {
+    let all = gone_through(alloc, valid, gone, MOST)?;
+    assert_eq!(rt; all.paths.len(), all.endings.len());
+    for (place, ended) in all.endings.as_slice().iter().enumerate() {
+        let ending = as_of_run(alloc, ended)?;
+        for (other, path) in all.paths.iter().enumerate() {
+            let leads = leads_to(alloc, valid, gone, path.as_slice(), &ending)?;
+            assert_eq!(rt; leads, place == other);
+        }
+    }
+    Ok(())
+}
+
+/// The path of each ending makes a run that ends so; the path to one ending makes none that ends as another.
+#[test]
+fn each_ending_has_a_path(rt: HostRuntime) -> Result<(), Fail> {
+    for gone in MODULES.as_slice() {
+        let valid = load(rt.alloc(), gone.module)?;
+        check_paths(&rt, rt.alloc(), &valid, gone)?;
+    }
+    Ok(())
+}
+
+/// How the drawn run of a number ends.
+fn drawn(alloc: Global, valid: &ValidModule, gone: &Gone, number: u64) -> Result<Ending, Fail> {
+    let mut strategy = Random::new(1, number);
+    let made = run_along(alloc, valid, call_of(gone), LIMIT, &mut strategy)?;
+    Ok(ending_of(alloc, &made.end, DUMP)?)
+}
+
+fn check_drawn<R: Abort>(
+    rt: &R,
+    alloc: Global,
+    valid: &ValidModule,
+    gone: &Gone,
+) -> Result<(), Fail> {
+    let all = gone_through(alloc, valid, gone, MOST)?;
+    for number in 0..200 {
+        let ending = drawn(alloc, valid, gone, number)?;
+        assert!(rt; is_listed(alloc, &all, &ending)?);
+    }
+    Ok(())
+}
+
+/// However a drawn run ends, the list has it.
+#[test]
+fn drawn_runs_end_as_listed(rt: HostRuntime) -> Result<(), Fail> {
+    for gone in MODULES.as_slice() {
+        let valid = load(rt.alloc(), gone.module)?;
+        check_drawn(&rt, rt.alloc(), &valid, gone)?;
+    }
+    Ok(())
+}
+
+/// How a run by threads of the machine ends, over the memory behind a lock.
+fn locked<R: Threads + Wait + Sync>(
+    rt: &R,
+    alloc: Global,
+    valid: &ValidModule,
+    gone: &Gone,
+) -> Result<Ending, Fail> {
+    let (_, end) = record_run(rt, alloc, valid, call_of(gone), LIMIT, &OpenGate)?;
+    Ok(ending_of(alloc, &end, DUMP)?)
+}
+
+/// The same over the row of words.
+fn on_words<R: Threads + Wait + Sync>(
+    rt: &R,
+    alloc: Global,
+    valid: &ValidModule,
+    gone: &Gone,
+) -> Result<Ending, Fail> {
+    let end = run_on_words(rt, alloc, valid, call_of(gone), &OpenGate)?;
+    Ok(ending_of(alloc, &end, DUMP)?)
+}
+
+fn check_real<R: Abort + Threads + Wait + Sync>(
+    rt: &R,
+    alloc: Global,
+    valid: &ValidModule,
+    gone: &Gone,
+) -> Result<(), Fail> {
+    let all = gone_through(alloc, valid, gone, MOST)?;
+    for _ in 0..100 {
+        let ending = locked(rt, alloc, valid, gone)?;
+        assert!(rt; is_listed(alloc, &all, &ending)?);
+        let ending = on_words(rt, alloc, valid, gone)?;
+        assert!(rt; is_listed(alloc, &all, &ending)?);
+    }
+    Ok(())
+}
+
+/// However a run by threads of the machine ends, over either memory, the list has it.
+#[test]
+fn runs_of_the_machine_end_as_listed(rt: HostRuntime) -> Result<(), Fail> {
+    for gone in MODULES.as_slice() {
+        let valid = load(rt.alloc(), gone.module)?;
+        check_real(&rt, rt.alloc(), &valid, gone)?;
+    }
+    Ok(())
+}

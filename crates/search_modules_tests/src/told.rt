@@ -1,0 +1,53 @@
+//! A search through all orders that is told to end.
+
+use crate::rows::{DUMP, Gone, MODULES, MOST, call_of, load};
+use search_modules::all_endings;
+use search_reach::{Follows, Verdict, Wish};
+use std::alloc::Global;
+use std::process::Abort;
+use std::test::Fail;
+
+/// Wishes an end once so many states were met.
+#[derive(Drop)]
+struct Few {
+    most: usize,
+    wish: Wish,
+}
+
+impl Follows for Few {
+    ghost wish = { λ f. f.wish };
+
+    fn runs(&mut self, _made: u64, _endings: usize) -> Wish {
+        self.wish
+    }
+
+    fn states(&mut self, met: usize) -> Wish {
+        if met >= self.most {
+            self.wish = Wish::End;
+        }
+        self.wish
+    }
+
+    fn end(&mut self) {}
+}
+
+/// It meets some more than those behind which it is told to end, and not all.
+fn check_told<R: Abort>(rt: &R, alloc: Global, gone: &Gone) -> Result<(), Fail> {
+    let valid = load(alloc, gone.module)?;
+    let mut few = Few {
+        most: 10,
+        wish: Wish::GoOn,
+    };
+    let all = all_endings(alloc, &valid, call_of(gone), MOST, DUMP as usize, &mut few)?;
+    assert_eq!(rt; all.verdict, Verdict::Told);
+    assert!(rt; 10 <= all.states && all.states < gone.states);
+    Ok(())
+}
+
+#[test]
+fn a_search_ends_where_it_is_told_to(rt: HostRuntime) -> Result<(), Fail> {
+    for gone in MODULES.as_slice() {
+        check_told(&rt, rt.alloc(), gone)?;
+    }
+    Ok(())
+}

@@ -1,0 +1,19 @@
+//! Runs along strategies. Run number I of a seed is one run, whose record is accepted by the replay, with the same end. Of a lost
+//! update all endings are met, those of runs by threads of the machine among them; nobody waits in a loop for good. What is found is one
+//! run on any number of jobs. A search that is told to end does so.
+#![tactic(auto)]
+
+#[cfg(test)]
+mod endings;
+#[cfg(test)]
+mod finds;
+#[cfg(test)]
+mod limits;
+#[cfg(test)]
+mod modules;
+#[cfg(test)]
+mod repeats;
+#[cfg(test)]
+mod runs;
+#[cfg(test)]
+mod told;

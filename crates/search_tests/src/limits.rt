@@ -1,0 +1,85 @@
+//! Runs that come to a limit, and calls that can't begin.
+
+use crate::modules::LOOKING;
+use crate::runs::{FUEL, LIMIT, Trouble, load};
+use replay::replay;
+use search_scheduled::{SearchFault, run_along};
+use search_strategies::Along;
+use spawn_host::Call;
+use std::alloc::Global;
+use std::process::Abort;
+use std::test::Fail;
+use types::{MOST_LIMIT, Outcome, Stop, Value};
+use validate::ValidModule;
+
+/// A run that thread 0 begins with, as long as it can: its units, its log's limit, and how the threads end.
+static LIMITED: [(u64, u32, Stop); 4] = [
+    (50, LIMIT, Stop::OutOfFuel),
+    (0, LIMIT, Stop::OutOfFuel),
+    (FUEL, 1, Stop::RecordFull),
+    (FUEL, 20, Stop::RecordFull),
+];
+
+/// How thread 0 ends, where the record of the run is accepted with the same end.
+fn first_end(
+    alloc: Global,
+    valid: &ValidModule,
+    fuel: u64,
+    limit: u32,
+) -> Result<Option<Outcome>, Trouble> {
+    let call = Call {
+        name: "f",
+        args: &[],
+        fuel,
+    };
+    let made = run_along(alloc, valid, call, limit, &mut Along::new(&[]))?;
+    let end = replay(alloc, valid, &made.record)?;
+    if end != made.end {
+        return Err(Trouble::AnotherEnd);
+    }
+    Ok(end.threads.first().map(|report| report.outcome))
+}
+
+fn check_limited<R: Abort>(rt: &R, alloc: Global) -> Result<(), Trouble> {
+    let valid = load(alloc, LOOKING)?;
+    for (fuel, limit, stop) in LIMITED {
+        let end = first_end(alloc, &valid, fuel, limit)?;
+        assert!(rt; end == Some(Outcome::Stop(stop)), "{fuel} {limit}: {end:?}");
+    }
+    Ok(())
+}
+
+#[test]
+fn runs_come_to_their_limits(rt: HostRuntime) -> Result<(), Fail> {
+    check_limited(&rt, rt.alloc())?;
+    Ok(())
+}
+
+/// Calls that can't begin, or numbers out of range: the name, the arguments, the units, the limit, and the fault.
+#[rattlefmt::skip]
+static FAULTY: [(&str, &[Value], u64, u32, SearchFault); 5] = [
+    ("g", &[], FUEL, LIMIT, SearchFault::UnknownExport),
+    ("f", &[Value::I32(0)], FUEL, LIMIT, SearchFault::WrongArguments),
+    ("f", &[], FUEL, 0, SearchFault::NoEnd),
+    ("f", &[], FUEL, MOST_LIMIT + 1, SearchFault::NoEnd),
+    ("f", &[], u64::MAX, LIMIT, SearchFault::NoEnd),
+];
+
+fn check_faults<R: Abort>(rt: &R, alloc: Global) -> Result<(), Trouble> {
+    let valid = load(alloc, LOOKING)?;
+    for (name, args, fuel, limit, fault) in FAULTY {
+        let call = Call { name, args, fuel };
+        let said = match run_along(alloc, &valid, call, limit, &mut Along::new(&[])) {
+            Ok(_) => None,
+            Err(said) => Some(said),
+        };
+        assert!(rt; said == Some(fault), "{name} {fuel} {limit}: {said:?}");
+    }
+    Ok(())
+}
+
+#[test]
+fn faults_are_told(rt: HostRuntime) -> Result<(), Fail> {
+    check_faults(&rt, rt.alloc())?;
+    Ok(())
+}

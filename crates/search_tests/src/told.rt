@@ -1,0 +1,80 @@
+//! A search that is told to end, or that finds what it looks for in that very run.
+
+use crate::modules::LOST_UPDATE;
+use crate::runs::{FUEL, LIMIT, Trouble, load};
+use search_finds::{Halt, Searched, Sought, first_found};
+use search_reach::{Follows, Wish};
+use search_strategies::Way;
+use spawn_host::Call;
+use std::alloc::Global;
+use std::test::Fail;
+use std::thread::Threads;
+
+/// Wishes an end once so many runs were made.
+#[derive(Drop)]
+struct Few {
+    most: u64,
+    wish: Wish,
+}
+
+impl Follows for Few {
+    ghost wish = { λ f. f.wish };
+
+    fn runs(&mut self, made: u64, _endings: usize) -> Wish {
+        if made >= self.most {
+            self.wish = Wish::End;
+        }
+        self.wish
+    }
+
+    fn states(&mut self, _met: usize) -> Wish {
+        self.wish
+    }
+
+    fn end(&mut self) {}
+}
+
+/// What a search answers that is told to end behind three runs.
+fn told<R: Threads + Sync>(
+    rt: &R,
+    alloc: Global,
+    find: Option<&'static str>,
+) -> Result<Searched, Trouble> {
+    let valid = load(alloc, LOST_UPDATE)?;
+    let call = Call {
+        name: "f",
+        args: &[],
+        fuel: FUEL,
+    };
+    let sought = Sought {
+        way: Way::Random,
+        seed: 1,
+        from: 1,
+        runs: 1000,
+        limit: LIMIT,
+        dump: 4,
+        find,
+        expect: None,
+    };
+    let mut few = Few {
+        most: 3,
+        wish: Wish::GoOn,
+    };
+    Ok(first_found(rt, alloc, &valid, call, &sought, 2, &mut few)?)
+}
+
+#[test]
+fn a_search_ends_behind_the_third_run(rt: HostRuntime) -> Result<(), Fail> {
+    let Searched { table, halt } = told(&rt, rt.alloc(), Some("trap"))?;
+    assert!(rt; matches!(&halt, Halt::Told));
+    assert_eq!(rt; table.runs, 3);
+    Ok(())
+}
+
+#[test]
+fn what_is_found_comes_first(rt: HostRuntime) -> Result<(), Fail> {
+    let Searched { table, halt } = told(&rt, rt.alloc(), Some("thread 0: ok"))?;
+    assert!(rt; matches!(&halt, Halt::Found(_)));
+    assert_eq!(rt; table.runs, 1);
+    Ok(())
+}
