@@ -1,6 +1,6 @@
 //! How much is read.
 
-use crate::room::{make_room, path_in};
+use crate::room::{enter_room, leave_room};
 use report_files::{Unread, read_front, read_module, read_saved};
 use std::fs;
 use std::io::{self, Read};
@@ -19,27 +19,50 @@ impl Read for Endless {
     }
 }
 
+/// How many bytes are read of a reader without an end, and how many it gave.
+fn read_endless(rt: &HostRuntime, most: u64) -> io::Result<(u64, u64)> {
+    let mut endless = Endless { gave: 0 };
+    let length = read_front(rt.alloc(), &mut endless, most)?.len();
+    Ok((length as u64, endless.gave as u64))
+}
+
 #[test]
 fn no_more_is_read_than_was_asked(rt: HostRuntime) -> Result<(), Fail> {
     for most in [0u64, 1, 31, 32, 33, 100_000] {
-        let mut endless = Endless { gave: 0 };
-        let bytes = read_front(rt.alloc(), &mut endless, most)?;
-        assert_eq!(rt; (bytes.len() as u64, endless.gave as u64), (most, most));
+        assert_eq!(rt; read_endless(&rt, most)?, (most, most));
     }
     Ok(())
 }
 
+/// Whether these bytes are what is read of others, where no more than so many are asked.
+fn reads(rt: &HostRuntime, all: &[u8], most: u64, wanted: &[u8]) -> io::Result<bool> {
+    Ok(read_front(rt.alloc(), all, most)?.as_slice() == wanted)
+}
+
 #[test]
 fn all_is_read_of_a_short_file(rt: HostRuntime) -> Result<(), Fail> {
-    assert_eq!(rt;
-        read_front(rt.alloc(), b"abc".as_slice(), 4)?.as_slice(),
-        b"abc".as_slice()
-    );
-    assert_eq!(rt;
-        read_front(rt.alloc(), b"abc".as_slice(), 2)?.as_slice(),
-        b"ab".as_slice()
-    );
+    assert!(rt; reads(&rt, b"abc", 4, b"abc")? && reads(&rt, b"abc", 2, b"ab")?);
     Ok(())
+}
+
+/// The file that is read.
+const FILE: &str = "file";
+
+/// How much is read of it as a module.
+fn as_module(rt: &HostRuntime) -> Result<usize, Unread> {
+    Ok(read_module(rt, FILE)?.len())
+}
+
+/// How much is read of the file at a path as a record.
+fn as_saved(rt: &HostRuntime, path: &str) -> Result<usize, Unread> {
+    Ok(read_saved(rt, path)?.len())
+}
+
+/// Makes a file of so many digits.
+fn write_digits(rt: &HostRuntime, length: usize) -> io::Result<()> {
+    let mut bytes = Vec::new(rt.alloc());
+    bytes.resize(length, b'7')?;
+    fs::write(rt, FILE, bytes.as_slice())
 }
 
 /// Files by their length, and how much is read of each: as a module, and as a record that begins as none.
@@ -51,25 +74,24 @@ static LENGTHS: [(usize, usize, usize); 5] = [
     (2_000_000, 1_048_577, 16),
 ];
 
+/// The length of the first file of which more or less is read, if there is one.
+fn wrong_length(rt: &HostRuntime) -> io::Result<Option<usize>> {
+    for (length, module, saved) in LENGTHS {
+        write_digits(rt, length)?;
+        if as_module(rt) != Ok(module) || as_saved(rt, FILE) != Ok(saved) {
+            return Ok(Some(length));
+        }
+    }
+    Ok(None)
+}
+
 #[test]
 fn files_are_read_in_part(rt: HostRuntime) -> Result<(), Fail> {
-    let room = make_room(&rt, "reading")?;
-    let path = path_in(&rt, &room, "file")?;
-    for (length, module, saved) in LENGTHS {
-        let mut bytes = Vec::new(rt.alloc());
-        bytes.resize(length, b'7')?;
-        fs::write(&rt, path.as_str(), bytes.as_slice())?;
-        let of_module = read_module(&rt, &path).map(|it| it.len());
-        let of_saved = read_saved(&rt, &path).map(|it| it.len());
-        assert_eq!(rt; (of_module, of_saved), (Ok(module), Ok(saved)));
-    }
-    fs::write(&rt, path.as_str(), "wathread-record 1\nand more\n")?;
-    assert_eq!(rt; read_saved(&rt, &path).map(|it| it.len()), Ok(27));
-    fs::remove_dir_all(&rt, room.as_path())?;
-    assert_eq!(rt;
-        read_module(&rt, &path).map(|it| it.len()),
-        Err(Unread::File)
-    );
-    assert_eq!(rt; read_saved(&rt, "/").map(|it| it.len()), Err(Unread::File));
+    enter_room(&rt)?;
+    assert_eq!(rt; wrong_length(&rt)?, None);
+    fs::write(&rt, FILE, "wathread-record 1\nand more\n")?;
+    assert!(rt; as_saved(&rt, FILE) == Ok(27));
+    leave_room(&rt)?;
+    assert!(rt; as_module(&rt) == Err(Unread::File) && as_saved(&rt, "/") == Err(Unread::File));
     Ok(())
 }

@@ -1,11 +1,17 @@
 //! What is at a record's path before, while and after it is written.
 
-use crate::room::{count_in, make_room, path_in};
+use crate::room::{count_in, enter_room, leave_room};
 use report_files::{Place, SavedFile, is_one_file};
 use std::fs;
 use std::io::{self, Write};
 use std::os::unix::fs::symlink;
 use std::test::Fail;
+
+/// The folder of records, in the one where the test runs.
+const FOLDER: &str = "records";
+
+/// A record there.
+const RECORD: &str = "records/a.record";
 
 /// What becomes of a record that is written.
 #[derive(Clone, Copy, PartialEq, Eq, Debug)]
@@ -22,13 +28,16 @@ fn has(rt: &HostRuntime, path: &str, text: Option<&str>) -> bool {
     }
 }
 
+/// Writes a record. Answers whether all of it could be written.
+fn is_written(file: &mut SavedFile) -> bool {
+    file.write_all(b"new").is_ok() && file.flush().is_ok()
+}
+
 /// Writes a record at a path where this text is, if there is one. Answers whether that stayed while the record was written.
 fn save(rt: &HostRuntime, path: &str, before: Option<&str>, end: End) -> io::Result<bool> {
-    let mut file = SavedFile::new(rt, Some(Place::new(rt, path)?));
-    let untouched = has(rt, path, before);
-    file.write_all(b"new")?;
-    file.flush()?;
-    let stayed = untouched && has(rt, path, before);
+    let place = Place::new(rt, path)?;
+    let mut file = SavedFile::new(rt, Some(place));
+    let stayed = has(rt, path, before) && is_written(&mut file) && has(rt, path, before);
     match end {
         End::Kept => file.keep()?,
         End::GivenUp => file.give_up(),
@@ -44,55 +53,78 @@ static SAVED: [(Option<&str>, End, Option<&str>); 4] = [
     (Some("old"), End::GivenUp, Some("old")),
 ];
 
+/// Whether a record is written where this was before, with that behind it, and no other file beside it.
+fn is_saved(
+    rt: &HostRuntime,
+    before: Option<&str>,
+    end: End,
+    after: Option<&str>,
+) -> io::Result<bool> {
+    if let Some(text) = before {
+        fs::write(rt, RECORD, text)?;
+    }
+    let is_right = save(rt, RECORD, before, end)? && has(rt, RECORD, after);
+    let count = count_in(rt, FOLDER)?;
+    if after.is_some() {
+        fs::remove_file(rt, RECORD)?;
+    }
+    Ok(is_right && count == usize::from(after.is_some()))
+}
+
 #[test]
 fn what_is_there_stays_until_all_is_written(rt: HostRuntime) -> Result<(), Fail> {
-    let room = make_room(&rt, "saving")?;
-    let path = path_in(&rt, &room, "a.record")?;
+    enter_room(&rt)?;
+    fs::create_dir(&rt, FOLDER)?;
     for (before, end, after) in SAVED {
-        if let Some(text) = before {
-            fs::write(&rt, path.as_str(), text)?;
-        }
-        assert!(rt; save(&rt, &path, before, end)?, "{before:?} {end:?}");
-        assert!(rt; has(&rt, &path, after), "{before:?} {end:?}");
-        assert_eq!(rt; count_in(&rt, &room)?, usize::from(after.is_some()));
-        if after.is_some() {
-            fs::remove_file(&rt, path.as_str())?;
-        }
+        assert!(rt; is_saved(&rt, before, end, after)?, "{before:?} {end:?}");
     }
-    fs::remove_dir_all(&rt, room.as_path())?;
+    leave_room(&rt)?;
     Ok(())
+}
+
+/// A link to the record, and another file.
+const LINK: &str = "records/link";
+
+const OTHER: &str = "records/other";
+
+/// Makes a record with the same text as another file, and a link to it.
+fn link_record(rt: &HostRuntime) -> io::Result<()> {
+    fs::create_dir(rt, FOLDER)?;
+    fs::write(rt, RECORD, "old")?;
+    fs::write(rt, OTHER, "old")?;
+    symlink(rt, "a.record", LINK)
 }
 
 #[test]
 fn links_lead_to_one_file_and_stay(rt: HostRuntime) -> Result<(), Fail> {
-    let room = make_room(&rt, "links")?;
-    let path = path_in(&rt, &room, "a.record")?;
-    let link = path_in(&rt, &room, "link")?;
-    let other = path_in(&rt, &room, "other")?;
-    fs::write(&rt, path.as_str(), "old")?;
-    fs::write(&rt, other.as_str(), "old")?;
-    symlink(&rt, path.as_str(), link.as_str())?;
-    assert!(rt; is_one_file(&rt, &path, &link) && !is_one_file(&rt, &path, &other));
+    enter_room(&rt)?;
+    link_record(&rt)?;
+    assert!(rt; is_one_file(&rt, RECORD, LINK) && !is_one_file(&rt, RECORD, OTHER));
     assert!(rt; !is_one_file(&rt, "/", "/") && !is_one_file(&rt, "", ""));
-    assert!(rt; save(&rt, &link, Some("old"), End::Kept)?);
-    assert!(rt;
-        fs::symlink_metadata(&rt, link.as_str())?.is_symlink() && has(&rt, &path, Some("new"))
-    );
-    fs::remove_dir_all(&rt, room.as_path())?;
+    assert!(rt; save(&rt, LINK, Some("old"), End::Kept)?);
+    assert!(rt; fs::symlink_metadata(&rt, LINK)?.is_symlink() && has(&rt, RECORD, Some("new")));
+    leave_room(&rt)?;
     Ok(())
 }
 
+/// A folder, one that isn't there, a file as a folder, and a link that leads nowhere.
+static NO_PLACES: [&str; 5] = [
+    "",
+    "records/",
+    "records/nowhere/a.record",
+    "records/a.record/",
+    "records/link",
+];
+
 #[test]
 fn places_that_take_no_record(rt: HostRuntime) -> Result<(), Fail> {
-    let room = make_room(&rt, "places")?;
-    let link = path_in(&rt, &room, "link")?;
-    symlink(&rt, "nothing", link.as_str())?;
-    for name in ["", "nowhere/a.record", "a.record/", "link"] {
-        let path = path_in(&rt, &room, name)?;
-        assert!(rt; Place::new(&rt, &path).is_err(), "{name}");
+    enter_room(&rt)?;
+    fs::create_dir(&rt, FOLDER)?;
+    symlink(&rt, "nothing", LINK)?;
+    for path in NO_PLACES {
+        assert!(rt; Place::new(&rt, path).is_err(), "{path}");
     }
-    assert!(rt; Place::new(&rt, "").is_err());
-    assert_eq!(rt; count_in(&rt, &room)?, 1);
-    fs::remove_dir_all(&rt, room.as_path())?;
+    assert_eq!(rt; count_in(&rt, FOLDER)?, 1);
+    leave_room(&rt)?;
     Ok(())
 }
