@@ -4,7 +4,6 @@ use crate::room::{enter_room, leave_room};
 use report_files::{Unread, read_front, read_module, read_saved};
 use std::fs;
 use std::io::{self, Read};
-use std::test::Fail;
 
 /// A reader without an end, and how many bytes it gave.
 #[derive(Drop)]
@@ -27,7 +26,7 @@ fn read_endless(rt: &HostRuntime, most: u64) -> io::Result<(u64, u64)> {
 }
 
 #[test]
-fn no_more_is_read_than_was_asked(rt: HostRuntime) -> Result<(), Fail> {
+fn no_more_is_read_than_was_asked(rt: HostRuntime) -> io::Result<()> {
     for most in [0u64, 1, 31, 32, 33, 100_000] {
         assert_eq!(rt; read_endless(&rt, most)?, (most, most));
     }
@@ -40,7 +39,7 @@ fn reads(rt: &HostRuntime, all: &[u8], most: u64, wanted: &[u8]) -> io::Result<b
 }
 
 #[test]
-fn all_is_read_of_a_short_file(rt: HostRuntime) -> Result<(), Fail> {
+fn all_is_read_of_a_short_file(rt: HostRuntime) -> io::Result<()> {
     assert!(rt; reads(&rt, b"abc", 4, b"abc")? && reads(&rt, b"abc", 2, b"ab")?);
     Ok(())
 }
@@ -85,13 +84,19 @@ fn wrong_length(rt: &HostRuntime) -> io::Result<Option<usize>> {
     Ok(None)
 }
 
+/// Whether of a record's file all is read, and nothing of a file that isn't there or of a folder.
+fn is_record_read(rt: &HostRuntime) -> io::Result<bool> {
+    fs::write(rt, FILE, "wathread-record 1\nand more\n")?;
+    let length = as_saved(rt, FILE);
+    fs::remove_file(rt, FILE)?;
+    let is_file_told = as_module(rt) == Err(Unread::File);
+    Ok(length == Ok(27) && is_file_told && as_saved(rt, "/") == Err(Unread::File))
+}
+
 #[test]
-fn files_are_read_in_part(rt: HostRuntime) -> Result<(), Fail> {
+fn files_are_read_in_part(rt: HostRuntime) -> io::Result<()> {
     enter_room(&rt)?;
     assert_eq!(rt; wrong_length(&rt)?, None);
-    fs::write(&rt, FILE, "wathread-record 1\nand more\n")?;
-    assert!(rt; as_saved(&rt, FILE) == Ok(27));
-    leave_room(&rt)?;
-    assert!(rt; as_module(&rt) == Err(Unread::File) && as_saved(&rt, "/") == Err(Unread::File));
-    Ok(())
+    assert!(rt; is_record_read(&rt)?);
+    leave_room(&rt)
 }

@@ -5,7 +5,6 @@ use report_files::{Place, SavedFile, is_one_file};
 use std::fs;
 use std::io::{self, Write};
 use std::os::unix::fs::symlink;
-use std::test::Fail;
 
 /// The folder of records, in the one where the test runs.
 const FOLDER: &str = "records";
@@ -71,15 +70,22 @@ fn is_saved(
     Ok(is_right && count == usize::from(after.is_some()))
 }
 
+/// The first of these for which that isn't so, if there is one.
+fn wrong_save(rt: &HostRuntime) -> io::Result<Option<(bool, End)>> {
+    for (before, end, after) in SAVED {
+        if !is_saved(rt, before, end, after)? {
+            return Ok(Some((before.is_some(), end)));
+        }
+    }
+    Ok(None)
+}
+
 #[test]
-fn what_is_there_stays_until_all_is_written(rt: HostRuntime) -> Result<(), Fail> {
+fn what_is_there_stays_until_all_is_written(rt: HostRuntime) -> io::Result<()> {
     enter_room(&rt)?;
     fs::create_dir(&rt, FOLDER)?;
-    for (before, end, after) in SAVED {
-        assert!(rt; is_saved(&rt, before, end, after)?, "{before:?} {end:?}");
-    }
-    leave_room(&rt)?;
-    Ok(())
+    assert_eq!(rt; wrong_save(&rt)?, None);
+    leave_room(&rt)
 }
 
 /// A link to the record, and another file.
@@ -95,16 +101,28 @@ fn link_record(rt: &HostRuntime) -> io::Result<()> {
     symlink(rt, "a.record", LINK)
 }
 
+/// Whether the link leads to the record, and two folders, or two paths of nothing, are no file.
+fn links_are_told(rt: &HostRuntime) -> bool {
+    is_one_file(rt, RECORD, LINK)
+        && !is_one_file(rt, RECORD, OTHER)
+        && !is_one_file(rt, "/", "/")
+        && !is_one_file(rt, "", "")
+}
+
+/// Whether a record that is written at the link is where that leads, and the link stays one.
+fn link_stays(rt: &HostRuntime) -> io::Result<bool> {
+    let stayed = save(rt, LINK, Some("old"), End::Kept)?;
+    let is_link = fs::symlink_metadata(rt, LINK)?.is_symlink();
+    Ok(stayed && is_link && has(rt, RECORD, Some("new")))
+}
+
 #[test]
-fn links_lead_to_one_file_and_stay(rt: HostRuntime) -> Result<(), Fail> {
+fn links_lead_to_one_file_and_stay(rt: HostRuntime) -> io::Result<()> {
     enter_room(&rt)?;
     link_record(&rt)?;
-    assert!(rt; is_one_file(&rt, RECORD, LINK) && !is_one_file(&rt, RECORD, OTHER));
-    assert!(rt; !is_one_file(&rt, "/", "/") && !is_one_file(&rt, "", ""));
-    assert!(rt; save(&rt, LINK, Some("old"), End::Kept)?);
-    assert!(rt; fs::symlink_metadata(&rt, LINK)?.is_symlink() && has(&rt, RECORD, Some("new")));
-    leave_room(&rt)?;
-    Ok(())
+    assert!(rt; links_are_told(&rt));
+    assert!(rt; link_stays(&rt)?);
+    leave_room(&rt)
 }
 
 /// A folder, one that isn't there, a file as a folder, and a link that leads nowhere.
@@ -116,15 +134,22 @@ static NO_PLACES: [&str; 5] = [
     "records/link",
 ];
 
+/// The first of these where a record has a place, if there is one.
+fn wrong_place(rt: &HostRuntime) -> Option<&'static str> {
+    for path in NO_PLACES {
+        if Place::new(rt, path).is_ok() {
+            return Some(path);
+        }
+    }
+    None
+}
+
 #[test]
-fn places_that_take_no_record(rt: HostRuntime) -> Result<(), Fail> {
+fn places_that_take_no_record(rt: HostRuntime) -> io::Result<()> {
     enter_room(&rt)?;
     fs::create_dir(&rt, FOLDER)?;
     symlink(&rt, "nothing", LINK)?;
-    for path in NO_PLACES {
-        assert!(rt; Place::new(&rt, path).is_err(), "{path}");
-    }
+    assert_eq!(rt; wrong_place(&rt), None);
     assert_eq!(rt; count_in(&rt, FOLDER)?, 1);
-    leave_room(&rt)?;
-    Ok(())
+    leave_room(&rt)
 }
