@@ -11,7 +11,7 @@ use validate::ValidModule;
 
 /// What of a thread that runs two of one module may differ in, their units aside. Equal ones stand for the same
 /// configurations.
-#[derive(PartialEq, Eq, Debug, Drop)]
+#[derive(PartialEq, Eq, Drop)]
 pub struct Kept {
     /// The number of the function that runs, from 0; the imported ones aren't counted.
     pub function: usize,

@@ -4,7 +4,7 @@ use crate::thread::Thread;
 use interp_state::Caller;
 
 /// A place in a module: a function of the module itself, from 0, and the number of an instruction in its flat code.
-#[derive(Clone, Copy, PartialEq, Eq, Debug)]
+#[derive(Clone, Copy, PartialEq, Eq)]
 pub struct Place {
     pub function: usize,
     pub instr: usize,

@@ -7,7 +7,7 @@ use crate::gate::Gate;
 use types::{Answer, Event, Outcome, Reply, Value};
 
 /// What a turn is given.
-#[derive(Clone, Copy, PartialEq, Eq, Debug)]
+#[derive(Clone, Copy, PartialEq, Eq)]
 pub enum Given {
     /// Nothing: the thread makes a turn of its own, or says what it wants.
     Nothing,
@@ -18,7 +18,7 @@ pub enum Given {
 }
 
 /// What a turn came to.
-#[derive(Clone, Copy, PartialEq, Eq, Debug)]
+#[derive(Clone, Copy, PartialEq, Eq)]
 pub enum Turn {
     /// The thread goes on.
     Moved,

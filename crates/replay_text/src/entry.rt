@@ -45,7 +45,7 @@ fn entry_at(threads: u32, bytes: &[u8]) -> Option<(Entry, &[u8])>
 }
 
 /// The lines of the log, of so many threads.
-#[derive(Clone, Copy, Debug)]
+#[derive(Clone, Copy)]
 pub struct EntryLine {
     pub threads: u32,
 }

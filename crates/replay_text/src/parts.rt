@@ -4,7 +4,7 @@ use crate::version::Version;
 use types::{Entry, Name, Sequence, ThreadReport, Value};
 
 /// What was recorded of a run.
-#[derive(PartialEq, Eq, Debug, Drop)]
+#[derive(PartialEq, Eq, Drop)]
 pub struct RecordParts {
     /// Which text it has.
     pub version: Version,

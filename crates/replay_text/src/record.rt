@@ -9,7 +9,7 @@ use crate::ranges::is_record_in;
 use std::marker::Model;
 
 /// What was recorded of a run, within the ranges of a record. In contracts it is its parts.
-#[derive(Debug, Drop)]
+#[derive(Drop)]
 pub struct Record {
     parts: RecordParts,
 }

@@ -27,7 +27,7 @@ pub trait Watch<T: TakesTurns> {
 }
 
 /// Nobody looks on.
-#[derive(Clone, Copy, PartialEq, Eq, Debug, Default)]
+#[derive(Clone, Copy, PartialEq, Eq, Default)]
 pub struct Unwatched;
 
 impl<T: TakesTurns> Watch<T> for Unwatched {

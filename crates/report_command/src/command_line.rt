@@ -17,7 +17,7 @@ use types::{MOST_FUEL, MOST_LIMIT};
 pub const DUMP_MOST: u32 = 4096;
 
 /// What the command line asks for.
-#[derive(PartialEq, Eq, Debug, Drop)]
+#[derive(PartialEq, Eq, Drop)]
 pub enum Job<'a> {
     /// Read and validate a module, and say how many functions of its own it has.
     Check {
@@ -70,7 +70,7 @@ pub enum Job<'a> {
 }
 
 /// Why the command line is no job.
-#[derive(Debug, Drop)]
+#[derive(Drop)]
 pub enum Usage {
     /// 1: the words are wrong; the error's text says how, and shows the usage.
     Wrong(Error),
@@ -473,7 +473,7 @@ fn misuse_of(job: &Job) -> Option<Misuse>
 }
 
 /// What the words ask for: a job, and whether more is said where something is refused.
-#[derive(Debug, Drop)]
+#[derive(Drop)]
 pub struct Order<'a> {
     pub job: Job<'a>,
     pub explain: bool,

@@ -9,7 +9,7 @@ use search_strategies::{MOST_DEPTH, Way};
 use std::alloc::{AllocError, Global};
 
 /// A search through runs of a function of a module.
-#[derive(PartialEq, Eq, Debug, Drop)]
+#[derive(PartialEq, Eq, Drop)]
 pub struct Search<'a> {
     /// The path of the module.
     pub file: &'a str,

@@ -17,7 +17,7 @@ pub const NARROWEST: u32 = 40;
 pub const WIDEST: u32 = 1000;
 
 /// A line of a record, before which threads and memory are shown.
-#[derive(Clone, Copy, PartialEq, Eq, Debug)]
+#[derive(Clone, Copy, PartialEq, Eq)]
 pub struct At {
     pub line: u64,
     /// The bytes of the memory that are shown: the first one's address, and how many, 0 to 4096.
@@ -26,7 +26,7 @@ pub struct At {
 }
 
 /// What is made of a record.
-#[derive(Clone, Copy, PartialEq, Eq, Debug)]
+#[derive(Clone, Copy, PartialEq, Eq)]
 pub enum View<'a> {
     /// Rows on standard output.
     Rows,

@@ -14,7 +14,7 @@ use std::io::Write;
 use validate::ValidModule;
 
 /// Why a record wasn't replayed, or what came of it couldn't be written.
-#[derive(Clone, Copy, PartialEq, Eq, Debug)]
+#[derive(Clone, Copy, PartialEq, Eq)]
 pub enum Unfit {
     /// The bytes are no record's text.
     Unread(RecordFault),

@@ -46,7 +46,7 @@ pub struct Wanted<'a> {
 }
 
 /// Why a run wasn't made, or what came of it couldn't be written.
-#[derive(Clone, Copy, PartialEq, Eq, Debug)]
+#[derive(Clone, Copy, PartialEq, Eq)]
 pub enum Trouble {
     /// No function of the module itself is exported by the name.
     UnknownExport,

@@ -16,7 +16,7 @@ use interp_trait::{Given, TakesTurns, Turn};
 use types::{Answer, Event, Outcome, Question, Reply, ThreadReport, Value};
 
 /// How far a thread is.
-#[derive(Clone, Copy, PartialEq, Eq, Debug)]
+#[derive(Clone, Copy, PartialEq, Eq)]
 pub(crate) enum Stage {
     /// It wasn't started.
     Absent,

@@ -20,14 +20,14 @@ use validate::ValidModule;
 const PIECE: usize = 128;
 
 /// A run that was found, and its number.
-#[derive(Debug, Drop)]
+#[derive(Drop)]
 pub struct Found {
     pub run: u64,
     pub made: Made,
 }
 
 /// Why no further run was made.
-#[derive(Debug, Drop)]
+#[derive(Drop)]
 pub enum Halt {
     /// The last that was noted is the one that is looked for.
     Found(Found),
@@ -38,7 +38,7 @@ pub enum Halt {
 }
 
 /// The endings that were met, and why no further run was made.
-#[derive(Debug, Drop)]
+#[derive(Drop)]
 pub struct Searched {
     pub table: Table,
     pub halt: Halt,

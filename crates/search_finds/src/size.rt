@@ -6,7 +6,7 @@ use types::Event;
 
 /// How often another thread makes the next event, and how many entries the log has. Fewer switches are smaller, and of as many switches
 /// fewer entries.
-#[derive(Clone, Copy, PartialEq, Eq, PartialOrd, Ord, Debug)]
+#[derive(Clone, Copy, PartialEq, Eq, PartialOrd, Ord)]
 pub struct Size {
     pub switches: usize,
     pub entries: usize,

@@ -7,14 +7,14 @@ use shared_memory_sequential::OneMemory;
 use std::alloc::{AllocError, Global};
 
 /// A byte of the memory that differs from the opening memory's.
-#[derive(Clone, Copy, PartialEq, Eq, Hash, Debug)]
+#[derive(Clone, Copy, PartialEq, Eq, Hash)]
 pub struct Change {
     pub at: usize,
     pub byte: u8,
 }
 
 /// A memory beside the opening one. Equal ones are the same memory.
-#[derive(PartialEq, Eq, Hash, Debug, Drop)]
+#[derive(PartialEq, Eq, Hash, Drop)]
 pub struct Changes {
     /// How many bytes it has.
     pub len: usize,

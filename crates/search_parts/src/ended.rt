@@ -18,7 +18,7 @@ use std::marker::Model;
 use types::Outcome;
 
 /// The outcomes of all threads that were started, in order of their numbers, the page count, and so many first bytes.
-#[derive(Debug, Drop)]
+#[derive(Drop)]
 pub struct Ending {
     outcomes: Vec<Outcome>,
     pages: u32,

@@ -14,7 +14,7 @@ use types::{Event, Question, Reply};
 use waiters::{KeptQueue, Queue};
 
 /// A thread that a spawn starts: its number, and the argument of the spawn.
-#[derive(Clone, Copy, PartialEq, Eq, Debug)]
+#[derive(Clone, Copy, PartialEq, Eq)]
 pub struct Begun {
     pub id: u32,
     pub arg: u32,

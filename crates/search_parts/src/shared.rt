@@ -11,7 +11,7 @@ use std::hash::{Hash, Hasher};
 use waiters::KeptQueue;
 
 /// What threads share: the memory by its changes, and the queue. The digest alone is hashed; all is compared.
-#[derive(PartialEq, Eq, Debug, Drop)]
+#[derive(PartialEq, Eq, Drop)]
 pub struct Common {
     pub digest: u64,
     pub memory: Changes,
@@ -53,7 +53,7 @@ impl Hash for Common {
 }
 
 /// A thread at rest. The digest alone is hashed; all is compared.
-#[derive(PartialEq, Eq, Debug, Drop)]
+#[derive(PartialEq, Eq, Drop)]
 pub struct Walker {
     pub digest: u64,
     pub standing: Standing,

@@ -22,7 +22,7 @@ pub enum Verdict {
 }
 
 /// How a state was met first: from the state of which index, and which of its next ones it was.
-#[derive(Clone, Copy, PartialEq, Eq, Debug)]
+#[derive(Clone, Copy, PartialEq, Eq)]
 pub struct Step {
     pub state: usize,
     pub choice: usize,

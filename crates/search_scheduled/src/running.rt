@@ -23,7 +23,7 @@ use types::{MOST_PAGES, MOST_THREADS, Name, Sequence};
 use validate::ValidModule;
 
 /// A run that was made: its record, and what it left.
-#[derive(Debug, Drop)]
+#[derive(Drop)]
 pub struct Made {
     pub record: Record,
     pub end: EndState,

@@ -66,7 +66,7 @@ fn told<R: Threads + Sync>(
 #[test]
 fn a_search_ends_behind_the_third_run(rt: HostRuntime) -> Result<(), Fail> {
     let Searched { table, halt } = told(&rt, rt.alloc(), Some("trap"))?;
-    assert!(rt; matches!(&halt, Halt::Told), "{halt:?}");
+    assert!(rt; matches!(&halt, Halt::Told));
     assert_eq!(rt; table.runs, 3);
     Ok(())
 }
@@ -74,7 +74,7 @@ fn a_search_ends_behind_the_third_run(rt: HostRuntime) -> Result<(), Fail> {
 #[test]
 fn what_is_found_comes_first(rt: HostRuntime) -> Result<(), Fail> {
     let Searched { table, halt } = told(&rt, rt.alloc(), Some("thread 0: ok"))?;
-    assert!(rt; matches!(&halt, Halt::Found(_)), "{halt:?}");
+    assert!(rt; matches!(&halt, Halt::Found(_)));
     assert_eq!(rt; table.runs, 1);
     Ok(())
 }

@@ -5,7 +5,7 @@ use std::alloc::{AllocError, Global};
 use types::Outcome;
 
 /// How far a thread is that makes no turn of its own.
-#[derive(PartialEq, Eq, Debug, Drop)]
+#[derive(PartialEq, Eq, Drop)]
 pub enum Standing {
     /// It wasn't started.
     Missing,

@@ -1,7 +1,7 @@
 //! Who sleeps.
 
 /// A thread that sleeps in the wait queue.
-#[derive(Clone, Copy, PartialEq, Eq, Debug, Default)]
+#[derive(Clone, Copy, PartialEq, Eq, Default)]
 pub struct Sleeper {
     /// The thread's number, 0 to 63.
     pub thread: u32,

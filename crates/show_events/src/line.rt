@@ -9,7 +9,7 @@ use std::alloc::{AllocError, Global};
 use std::io::Write;
 
 /// The lines' first characters: the array is opened, goes on, and is closed.
-#[derive(Clone, Copy, PartialEq, Eq, Debug)]
+#[derive(Clone, Copy, PartialEq, Eq)]
 pub(crate) enum Front {
     Open,
     Next,

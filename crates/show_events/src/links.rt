@@ -9,7 +9,7 @@ use std::alloc::{AllocError, Global};
 use types::{Answer, Entry, Event, MOST_THREADS, Question};
 
 /// Why one entry leads to another.
-#[derive(Clone, Copy, Debug, PartialEq, Eq)]
+#[derive(Clone, Copy, PartialEq, Eq)]
 pub enum LinkKind {
     /// From a notify to the answer that the woken thread hears.
     Wake,
@@ -18,7 +18,7 @@ pub enum LinkKind {
 }
 
 /// From one entry to a later one, by their places in the log.
-#[derive(Clone, Copy, Debug, PartialEq, Eq)]
+#[derive(Clone, Copy, PartialEq, Eq)]
 pub struct Link {
     pub kind: LinkKind,
     pub from: usize,

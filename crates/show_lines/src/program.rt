@@ -6,7 +6,7 @@ use crate::cursor::Cursor;
 use crate::fault::Fault;
 
 /// What a program is run by: how far a unit of advance goes, and what its special opcodes do.
-#[derive(Clone, Copy, Debug, PartialEq, Eq)]
+#[derive(Clone, Copy, PartialEq, Eq)]
 pub struct Steps {
     pub instruction: u8,
     /// In two's complement of 64 bits.
@@ -25,7 +25,7 @@ pub struct Place {
 }
 
 /// What an instruction of the program makes.
-#[derive(Clone, Copy, Debug, PartialEq, Eq)]
+#[derive(Clone, Copy, PartialEq, Eq)]
 pub enum Made {
     Nothing,
     /// A row of the table: from this address on this line.

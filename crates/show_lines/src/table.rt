@@ -12,7 +12,7 @@ use std::alloc::{AllocError, Global};
 
 /// Code that comes from one line of source: from an offset up to another, counted from the start of the code section's
 /// contents.
-#[derive(Clone, Copy, Debug, PartialEq, Eq)]
+#[derive(Clone, Copy, PartialEq, Eq)]
 pub struct Range<'a> {
     pub start: u64,
     pub end: u64,
@@ -44,7 +44,7 @@ impl<'a> LineTable<'a> {
 }
 
 /// The sections of a module that say where its code comes from; empty where there is none.
-#[derive(Clone, Copy, Debug, PartialEq, Eq)]
+#[derive(Clone, Copy, PartialEq, Eq)]
 pub struct DebugSections<'a> {
     /// `.debug_line`
     pub lines: &'a [u8],

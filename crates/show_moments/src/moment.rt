@@ -13,7 +13,7 @@ use types::{Entry, Event, MOST_THREADS, Question};
 use waiters::KeptQueue;
 
 /// Bytes of a memory: the first one's address, and how many.
-#[derive(Clone, Copy, Debug, PartialEq, Eq)]
+#[derive(Clone, Copy, PartialEq, Eq)]
 pub struct Bytes {
     pub addr: u64,
     pub count: u32,

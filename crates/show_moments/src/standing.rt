@@ -9,7 +9,7 @@ use std::alloc::{AllocError, Global};
 
 /// Where a thread stands: the place of the instruction that comes next, the functions that called the one that runs, the
 /// outermost first, and what they have.
-#[derive(Debug, PartialEq, Eq, Drop)]
+#[derive(PartialEq, Eq, Drop)]
 pub struct Standing {
     pub place: Place,
     pub callers: Vec<Caller>,
@@ -17,7 +17,7 @@ pub struct Standing {
 }
 
 /// An open function of a thread: where it is, and the words of its locals and of its operands, the top of the stack last.
-#[derive(Clone, Copy, Debug, PartialEq, Eq)]
+#[derive(Clone, Copy, PartialEq, Eq)]
 pub struct OpenFunction<'a> {
     /// The instruction that comes next, or a call or question that hasn't come back.
     pub place: Place,

@@ -1,7 +1,7 @@
 //! Opcodes that aren't served: what they are called, and what to do.
 
 /// What an instruction that isn't served is, and what to do.
-#[derive(Clone, Copy, Debug, PartialEq, Eq)]
+#[derive(Clone, Copy, PartialEq, Eq)]
 pub(crate) struct Unserved {
     pub(crate) name: &'static str,
     pub(crate) hint: &'static str,

@@ -46,7 +46,7 @@ pub enum Refused<'a> {
 }
 
 /// A thread that doesn't do what the record says.
-#[derive(Clone, Copy, Debug, PartialEq, Eq)]
+#[derive(Clone, Copy, PartialEq, Eq)]
 pub struct Misfit<'a> {
     pub thread: u32,
     /// What it does in place of the line, where that is known.
@@ -56,7 +56,7 @@ pub struct Misfit<'a> {
 }
 
 /// What a thread does in place of the entry that the record has.
-#[derive(Clone, Copy, Debug, PartialEq, Eq)]
+#[derive(Clone, Copy, PartialEq, Eq)]
 pub enum Instead {
     Wants(Event),
     /// It asked a question and waits for the answer.

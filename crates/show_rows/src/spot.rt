@@ -5,7 +5,7 @@ use show_text::Plain;
 use std::fmt::{self, Formatter, Write};
 
 /// A place: the function, how far the instruction is behind the start of its body, and the line of source.
-#[derive(Clone, Copy, Debug, PartialEq, Eq)]
+#[derive(Clone, Copy, PartialEq, Eq)]
 pub struct Spot<'a> {
     pub name: FunctionName<'a>,
     pub offset: Option<usize>,

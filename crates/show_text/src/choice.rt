@@ -43,7 +43,7 @@ impl Span {
 
 /// Which entries are shown: those of these lines of the record, of these threads and at these addresses. What isn't given
 /// chooses all, and no threads are all.
-#[derive(Debug, PartialEq, Eq, Drop)]
+#[derive(PartialEq, Eq, Drop)]
 pub struct Choice {
     pub lines: Option<Span>,
     pub threads: Vec<u32>,
@@ -84,7 +84,7 @@ fn touched(event: Event) -> Option<Span> {
 }
 
 /// When threads have colors.
-#[derive(Clone, Copy, Debug, PartialEq, Eq)]
+#[derive(Clone, Copy, PartialEq, Eq)]
 pub enum Color {
     /// Where standard output is a terminal; who writes elsewhere takes it as `Never`.
     Auto,
@@ -93,7 +93,7 @@ pub enum Color {
 }
 
 /// How a record is shown: what is chosen of it, in how many characters a row, and whether with colors.
-#[derive(Debug, PartialEq, Eq, Drop)]
+#[derive(PartialEq, Eq, Drop)]
 pub struct Look {
     pub choice: Choice,
     pub width: usize,

@@ -6,7 +6,7 @@ use std::alloc::{AllocError, Global};
 use types::{Answer, Entry, Event, Question};
 
 /// What a thread asked or is told, in another entry.
-#[derive(Clone, Copy, Debug, PartialEq, Eq)]
+#[derive(Clone, Copy, PartialEq, Eq)]
 pub enum Context {
     /// Nothing.
     Alone,

@@ -3,7 +3,7 @@
 use std::fmt::{self, Formatter, Write};
 
 /// A text without its control characters: each is written as `?`.
-#[derive(Clone, Copy, Debug, PartialEq, Eq)]
+#[derive(Clone, Copy, PartialEq, Eq)]
 pub struct Plain<'a>(pub &'a str);
 
 impl fmt::Display for Plain<'_> {

@@ -34,7 +34,7 @@ impl From<io::Error> for Unwritten {
 }
 
 /// Where the columns of a row are.
-#[derive(Debug, Drop)]
+#[derive(Drop)]
 pub struct Sheet {
     /// Who has a column, each thread once.
     threads: Vec<u32>,

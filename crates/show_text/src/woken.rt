@@ -5,7 +5,7 @@ use std::alloc::{AllocError, Global};
 use types::{Answer, Entry, Event, Question, Reply};
 
 /// A thread that slept and was woken: the places in the log of the notify and of the wait.
-#[derive(Clone, Copy, Debug, PartialEq, Eq)]
+#[derive(Clone, Copy, PartialEq, Eq)]
 pub struct Wake {
     pub notify: usize,
     pub wait: usize,

@@ -7,7 +7,7 @@ use std::fmt::{self, Formatter, Write};
 use types::{Entry, Event, Outcome, Reply, RmwOp};
 
 /// An entry in words: what its thread does, and what that comes to.
-#[derive(Clone, Copy, Debug)]
+#[derive(Clone, Copy)]
 pub struct Words<'a> {
     pub entry: Entry,
     pub context: Context,

@@ -13,7 +13,7 @@ use std::alloc::{AllocError, Global};
 use types::{Entry, Event, Question};
 
 /// Of an entry: where its thread stands, and what an access finds in memory.
-#[derive(Clone, Copy, Debug, PartialEq, Eq)]
+#[derive(Clone, Copy, PartialEq, Eq)]
 pub struct Row {
     /// The function of the module itself, and the number of the instruction in its flat code.
     pub place: Place,

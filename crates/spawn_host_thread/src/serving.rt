@@ -13,7 +13,7 @@ use types::{Answer, Event, Question, Reply};
 use waiters_desk::{Asked, Desk, Full};
 
 /// What an event came to.
-#[derive(Clone, Copy, PartialEq, Eq, Debug)]
+#[derive(Clone, Copy, PartialEq, Eq)]
 pub(crate) enum Served {
     /// It got this reply, and no answer follows.
     Replied(Reply),

@@ -1,6 +1,6 @@
 //! Modules with much of one thing: their bytes are made in loops.
 
-use crate::small::HEADER;
+use crate::small::{HEADER, push_all};
 use std::alloc::{AllocError, Global};
 
 /// A module whose first function, exported as `f`, gives an i32. Of the other functions the one with the index n gives n.
@@ -53,21 +53,22 @@ fn length(bytes: &[u8]) -> u32 {
     u32::try_from(bytes.len()).unwrap_or(u32::MAX)
 }
 
-/// A section of so many items.
-fn push_section(module: &mut Vec<u8>, id: u8, count: u32, items: &[u8]) -> Result<(), AllocError> {
-    module.push(id)?;
-    module.extend_from_slice(&number(length(items).saturating_add(5)))?;
-    module.extend_from_slice(&number(count))?;
-    module.extend_from_slice(items)?;
+/// Moves so many items, which then are no more, to a section at the module's end.
+fn push_section(
+    module: &mut Vec<u8>,
+    id: u8,
+    count: u32,
+    items: &mut Vec<u8>,
+) -> Result<(), AllocError> {
+    let size = length(items).saturating_add(5);
+    push_all(module, &[&[id], &number(size), &number(count), items])?;
+    items.clear();
     Ok(())
 }
 
 /// A constant i32 and an `end`.
 fn push_constant(code: &mut Vec<u8>, value: u32) -> Result<(), AllocError> {
-    code.push(0x41)?;
-    code.extend_from_slice(&number(value))?;
-    code.push(0x0b)?;
-    Ok(())
+    push_all(code, &[&[0x41], &number(value), &[0x0b]])
 }
 
 /// A piece so many times.
@@ -78,102 +79,129 @@ fn repeat(bytes: &mut Vec<u8>, count: u32, piece: &[u8]) -> Result<(), AllocErro
     Ok(())
 }
 
+/// The export of the function with this index, under the index in decimal.
+fn push_export(exports: &mut Vec<u8>, alloc: Global, index: u32) -> Result<(), AllocError> {
+    let name = format!(in alloc; "{index}")?;
+    let size = number(length(name.as_bytes()));
+    push_all(exports, &[&size, name.as_bytes(), &[0], &number(index)])
+}
+
 impl Large<'_> {
     /// The type of the other functions, and that of the first one.
-    fn types(&self, alloc: Global) -> Result<Vec<u8>, AllocError> {
-        let mut types = Vec::from_slice(alloc, b"\x60\x00\x01\x7f\x60")?;
-        types.extend_from_slice(&number(self.params))?;
-        repeat(&mut types, self.params, b"\x7f")?;
-        types.extend_from_slice(b"\x01\x7f")?;
-        Ok(types)
+    fn push_types(&self, types: &mut Vec<u8>) -> Result<(), AllocError> {
+        push_all(types, &[b"\x60\x00\x01\x7f\x60", &number(self.params)])?;
+        repeat(types, self.params, b"\x7f")?;
+        types.extend_from_slice(b"\x01\x7f")
     }
 
     /// The types of the functions by their indices.
-    fn declared(&self, alloc: Global) -> Result<Vec<u8>, AllocError> {
-        let mut declared = Vec::from_slice(alloc, b"\x01")?;
-        repeat(&mut declared, self.functions, b"\x00")?;
-        Ok(declared)
+    fn push_declared(&self, declared: &mut Vec<u8>) -> Result<(), AllocError> {
+        declared.push(1)?;
+        repeat(declared, self.functions, b"\x00")
     }
 
     /// One table.
-    fn table(&self, alloc: Global) -> Result<Vec<u8>, AllocError> {
-        let mut table = Vec::from_slice(alloc, b"\x70\x00")?;
-        table.extend_from_slice(&number(self.places))?;
-        Ok(table)
+    fn push_table(&self, table: &mut Vec<u8>) -> Result<(), AllocError> {
+        push_all(table, &[b"\x70\x00", &number(self.places)])
     }
 
-    fn constants(&self, alloc: Global) -> Result<Vec<u8>, AllocError> {
-        let mut globals = Vec::new(alloc);
+    fn push_constants(&self, globals: &mut Vec<u8>) -> Result<(), AllocError> {
         for index in 0..self.globals {
             globals.extend_from_slice(b"\x7f\x00")?;
-            push_constant(&mut globals, index)?;
+            push_constant(globals, index)?;
         }
-        Ok(globals)
+        Ok(())
     }
 
-    fn names(&self, alloc: Global) -> Result<Vec<u8>, AllocError> {
-        let mut exports = Vec::new(alloc);
+    fn push_exports(&self, exports: &mut Vec<u8>, alloc: Global) -> Result<(), AllocError> {
         exports.extend_from_slice(&number(self.name))?;
-        repeat(&mut exports, self.name, b"f")?;
+        repeat(exports, self.name, b"f")?;
         exports.extend_from_slice(b"\x00\x00")?;
         for other in 0..self.exports {
-            let index = other.saturating_add(1);
-            let name = format!(in alloc; "{index}")?;
-            exports.extend_from_slice(&number(length(name.as_bytes())))?;
-            exports.extend_from_slice(name.as_bytes())?;
-            exports.push(0)?;
-            exports.extend_from_slice(&number(index))?;
+            push_export(exports, alloc, other.saturating_add(1))?;
         }
-        Ok(exports)
+        Ok(())
     }
 
     /// One segment that fills the table.
-    fn elements(&self, alloc: Global) -> Result<Vec<u8>, AllocError> {
-        let mut segment = Vec::from_slice(alloc, b"\x00\x41\x00\x0b")?;
-        segment.extend_from_slice(&number(self.places))?;
+    fn push_elements(&self, segment: &mut Vec<u8>) -> Result<(), AllocError> {
+        push_all(segment, &[b"\x00\x41\x00\x0b", &number(self.places)])?;
         for index in 0..self.places {
             segment.extend_from_slice(&number(index))?;
         }
-        Ok(segment)
+        Ok(())
+    }
+
+    /// How many bytes the body of the first function has.
+    fn first_length(&self) -> u32 {
+        let mut found = 8u32;
+        for (count, piece) in self.code {
+            found = found.saturating_add(count.saturating_mul(length(piece)));
+        }
+        found
     }
 
     /// The body of the first function.
-    fn first_body(&self, alloc: Global) -> Result<Vec<u8>, AllocError> {
-        let mut body = Vec::from_slice(alloc, b"\x01")?;
-        body.extend_from_slice(&number(self.locals))?;
-        body.push(0x7f)?;
+    fn push_first(&self, body: &mut Vec<u8>) -> Result<(), AllocError> {
+        push_all(body, &[&[1], &number(self.locals), &[0x7f]])?;
         for (count, piece) in self.code {
-            repeat(&mut body, *count, piece)?;
+            repeat(body, *count, piece)?;
         }
         body.push(0x0b)?;
-        Ok(body)
+        Ok(())
     }
 
-    fn bodies(&self, alloc: Global) -> Result<Vec<u8>, AllocError> {
-        let first = self.first_body(alloc)?;
-        let mut bodies = Vec::new(alloc);
-        bodies.extend_from_slice(&number(length(&first)))?;
-        bodies.extend_from_slice(&first)?;
+    fn push_bodies(&self, bodies: &mut Vec<u8>) -> Result<(), AllocError> {
+        bodies.extend_from_slice(&number(self.first_length()))?;
+        self.push_first(bodies)?;
         for other in 0..self.functions {
             bodies.extend_from_slice(b"\x08\x00")?;
-            push_constant(&mut bodies, other.saturating_add(1))?;
+            push_constant(bodies, other.saturating_add(1))?;
         }
-        Ok(bodies)
+        Ok(())
+    }
+
+    /// The sections up to the globals, each put together in `items`.
+    fn push_front(&self, module: &mut Vec<u8>, items: &mut Vec<u8>) -> Result<(), AllocError> {
+        self.push_types(items)?;
+        push_section(module, 1, 2, items)?;
+        self.push_declared(items)?;
+        push_section(module, 3, self.functions.saturating_add(1), items)?;
+        self.push_table(items)?;
+        push_section(module, 4, 1, items)?;
+        items.extend_from_slice(b"\x03\x01\x01")?;
+        push_section(module, 5, 1, items)?;
+        self.push_constants(items)?;
+        push_section(module, 6, self.globals, items)
+    }
+
+    /// The other sections.
+    fn push_rest(
+        &self,
+        module: &mut Vec<u8>,
+        items: &mut Vec<u8>,
+        alloc: Global,
+    ) -> Result<(), AllocError> {
+        self.push_exports(items, alloc)?;
+        push_section(module, 7, self.exports.saturating_add(1), items)?;
+        self.push_elements(items)?;
+        push_section(module, 9, 1, items)?;
+        self.push_bodies(items)?;
+        push_section(module, 10, self.functions.saturating_add(1), items)
+    }
+
+    /// Puts the module behind the bytes.
+    pub(crate) fn push(&self, module: &mut Vec<u8>, alloc: Global) -> Result<(), AllocError> {
+        let mut items = Vec::new(alloc);
+        module.extend_from_slice(HEADER)?;
+        self.push_front(module, &mut items)?;
+        self.push_rest(module, &mut items, alloc)
     }
 
     /// The module's bytes.
     pub fn bytes(&self, alloc: Global) -> Result<Vec<u8>, AllocError> {
-        let functions = self.functions.saturating_add(1);
-        let exports = self.exports.saturating_add(1);
-        let mut module = Vec::from_slice(alloc, HEADER)?;
-        push_section(&mut module, 1, 2, &self.types(alloc)?)?;
-        push_section(&mut module, 3, functions, &self.declared(alloc)?)?;
-        push_section(&mut module, 4, 1, &self.table(alloc)?)?;
-        push_section(&mut module, 5, 1, b"\x03\x01\x01")?;
-        push_section(&mut module, 6, self.globals, &self.constants(alloc)?)?;
-        push_section(&mut module, 7, exports, &self.names(alloc)?)?;
-        push_section(&mut module, 9, 1, &self.elements(alloc)?)?;
-        push_section(&mut module, 10, functions, &self.bodies(alloc)?)?;
+        let mut module = Vec::new(alloc);
+        self.push(&mut module, alloc)?;
         Ok(module)
     }
 }

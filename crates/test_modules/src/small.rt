@@ -39,21 +39,40 @@ pub const GIVING_NOTHING: Small<'static> = Small {
     ..GIVING_I32
 };
 
+/// Puts the pieces behind the bytes, one after the other.
+pub(crate) fn push_all(bytes: &mut Vec<u8>, pieces: &[&[u8]]) -> Result<(), AllocError> {
+    for piece in pieces {
+        bytes.extend_from_slice(piece)?;
+    }
+    Ok(())
+}
+
 impl Small<'_> {
-    /// The module's bytes.
-    pub fn bytes(&self, alloc: Global) -> Result<Vec<u8>, AllocError> {
+    /// Puts the module behind the bytes.
+    pub(crate) fn push(&self, module: &mut Vec<u8>) -> Result<(), AllocError> {
         let count = u8::try_from(self.output.len()).unwrap_or(u8::MAX);
         let length = u8::try_from(self.body.len()).unwrap_or(u8::MAX);
-        let mut module = Vec::from_slice(alloc, HEADER)?;
-        module.extend_from_slice(&[1, count.wrapping_add(4), 1, 0x60, 0, count])?;
-        module.extend_from_slice(self.output)?;
-        module.extend_from_slice(b"\x03\x02\x01\x00")?;
-        module.extend_from_slice(self.memory)?;
-        module.extend_from_slice(b"\x07\x05\x01\x01\x66\x00\x00")?;
         let size = length.wrapping_add(2);
-        module.extend_from_slice(&[0x0a, size.wrapping_add(2), 1, size, 0])?;
-        module.extend_from_slice(self.body)?;
-        module.push(0x0b)?;
+        let signature = [1, count.wrapping_add(4), 1, 0x60, 0, count];
+        let code = [0x0a, size.wrapping_add(2), 1, size, 0];
+        let pieces: [&[u8]; 9] = [
+            HEADER,
+            &signature,
+            self.output,
+            b"\x03\x02\x01\x00",
+            self.memory,
+            b"\x07\x05\x01\x01\x66\x00\x00",
+            &code,
+            self.body,
+            &[0x0b],
+        ];
+        push_all(module, &pieces)
+    }
+
+    /// The module's bytes.
+    pub fn bytes(&self, alloc: Global) -> Result<Vec<u8>, AllocError> {
+        let mut module = Vec::new(alloc);
+        self.push(&mut module)?;
         Ok(module)
     }
 }

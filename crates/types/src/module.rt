@@ -10,7 +10,7 @@ use std::marker::Model;
 
 /// A module whose parts keep the limits, whose functions have a body each, and whose expressions are nested blocks
 /// with a final end. In contracts it is its parts.
-#[derive(Debug, Drop)]
+#[derive(Drop)]
 pub struct Module {
     parts: Parts,
 }

@@ -6,7 +6,7 @@ use std::marker::Model;
 
 /// A vector (Core specification 1.0, section 2.1.2). In contracts it is the list of its items, so that two
 /// sequences of the same items are equal, wherever they lie in memory.
-#[derive(Drop, Debug)]
+#[derive(Drop)]
 pub struct Sequence<T> {
     items: Vec<T>,
 }
@@ -70,7 +70,7 @@ impl<T: Eq> Eq for Sequence<T> {
 
 /// The labels of a `br_table` by index (Core specification 1.0, section 2.4.5), in 8 bytes of an instruction. In
 /// contracts it is their list.
-#[derive(Drop, Debug)]
+#[derive(Drop)]
 pub struct Labels {
     items: Box<Sequence<u32>>,
 }
@@ -123,7 +123,7 @@ impl Eq for Labels {
 }
 
 /// A name: a text in UTF-8 (Core specification 1.0, section 2.2.4). In contracts it is the list of its bytes.
-#[derive(Drop, Debug)]
+#[derive(Drop)]
 pub struct Name {
     text: String,
 }

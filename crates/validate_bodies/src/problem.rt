@@ -8,7 +8,7 @@ use std::alloc::{AllocError, AllocFailed};
 use validate_typing::{Fault, ValidFault};
 
 /// Why an instruction is refused.
-#[derive(Clone, Copy, PartialEq, Eq, Debug)]
+#[derive(Clone, Copy, PartialEq, Eq)]
 pub enum Problem {
     /// Memory ran out.
     OutOfMemory,

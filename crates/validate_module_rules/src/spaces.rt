@@ -9,7 +9,7 @@ use std::alloc::{AllocError, Global};
 use types::{Import, ImportDesc, Limits, Parts};
 
 /// What code names by an index, with the imported items first (Core specification 1.0, section 2.5).
-#[derive(Drop, Debug)]
+#[derive(Drop)]
 pub struct IndexSpaces {
     /// How many functions are imported.
     pub imported: usize,

@@ -9,7 +9,7 @@ use shared_memory::Sleeper;
 use std::alloc::{AllocError, Global};
 
 /// What a queue has beside the answers due. Queues in which none is due are equal exactly where this is.
-#[derive(PartialEq, Eq, Debug, Drop)]
+#[derive(PartialEq, Eq, Drop)]
 pub struct KeptQueue {
     /// The live threads.
     pub alive: Vec<u32>,
