@@ -54,8 +54,52 @@ fn is_right(rt: &HostRuntime, file: &str, case: &Case) -> Result<bool, Stop> {
     Ok(told.is_empty())
 }
 
+/// What each line of a case begins with, but for empty ones.
+const KEYS: [&str; 24] = [
+    "#",
+    "==",
+    "module",
+    "record",
+    "names",
+    "lines",
+    "thread",
+    "addr",
+    "width",
+    "colors",
+    "row",
+    "out",
+    "trace",
+    "page",
+    "place",
+    "misfit",
+    "of",
+    "hex",
+    "given",
+    "invoke",
+    "arguments",
+    "wants",
+    "ended",
+    "said",
+];
+
+/// What a line begins with that none should, if there is one.
+fn unknown_key(text: &str) -> Option<&str> {
+    let (_, cases) = text.split_once("\n== ")?;
+    for line in cases.lines().skip(1) {
+        let (key, _) = line.split_once(' ').unwrap_or((line, ""));
+        if !key.is_empty() && !KEYS.iter().any(|known| *known == key) {
+            return Some(key);
+        }
+    }
+    None
+}
+
 /// Tries the cases of a text. Answers whether all were right.
 fn try_text(rt: &HostRuntime, file: &str, text: &str) -> Result<bool, Stop> {
+    if let Some(key) = unknown_key(text) {
+        println!(rt; "{file}: there is no key {key}")?;
+        return Ok(false);
+    }
     let cases = cases(rt.alloc(), text)?;
     let mut all = true;
     for case in &cases {

@@ -52,6 +52,24 @@ fn is_right<R: Threads + Wait + Sync>(
     Ok(told.is_empty())
 }
 
+/// What each line of a case begins with, but for empty ones.
+const KEYS: [&str; 18] = [
+    "#", "==", "module", "body", "gives", "memory", "invoke", "args", "fuel", "limit", "over",
+    "times", "hold", "end", "bytes", "zeros", "turns", "refused",
+];
+
+/// What a line begins with that none should, if there is one.
+fn unknown_key(text: &str) -> Option<&str> {
+    let (_, cases) = text.split_once("\n== ")?;
+    for line in cases.lines().skip(1) {
+        let (key, _) = line.split_once(' ').unwrap_or((line, ""));
+        if !key.is_empty() && !KEYS.iter().any(|known| *known == key) {
+            return Some(key);
+        }
+    }
+    None
+}
+
 /// Tries the cases of a text. Answers whether all were right.
 fn try_text<R: Threads + Wait + Sync>(
     rt: &HostRuntime,
@@ -59,6 +77,10 @@ fn try_text<R: Threads + Wait + Sync>(
     file: &str,
     text: &str,
 ) -> Result<bool, Stop> {
+    if let Some(key) = unknown_key(text) {
+        println!(rt; "{file}: there is no key {key}")?;
+        return Ok(false);
+    }
     let cases = cases(rt.alloc(), text)?;
     let mut all = true;
     for case in &cases {
