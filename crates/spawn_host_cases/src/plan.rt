@@ -134,11 +134,11 @@ fn try_plan<R: Threads + Wait + Sync>(
 }
 
 /// Makes the runs of a module.
-fn try_module<R: Threads + Wait + Sync>(
+fn try_module<'a, R: Threads + Wait + Sync>(
     rt: &R,
     alloc: Global,
-    case: &Case,
-    valid: &ValidModule,
+    case: &Case<'a>,
+    valid: &'a ValidModule,
     told: &mut String,
 ) -> Result<(), Stop> {
     let fuel = number(case, "fuel", "1000000000")?;
