@@ -4,7 +4,7 @@ work=$(mktemp -d)
 trap 'rm -rf "$work"' EXIT
 # PROGRAM=PATH: the program, where it is built already.
 program=${PROGRAM:-$top/crates/wathread/out/wathread}
-[ -n "${PROGRAM-}" ] || "$top/wathread" --version >/dev/null
+[ -n "${PROGRAM-}" ] || "$top/wathread" search --help >/dev/null
 
 # How often each command runs; the least time counts.
 rounds=${ROUNDS:-15}

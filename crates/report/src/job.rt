@@ -8,7 +8,7 @@ ghost use Rattle.report_searches.specs.Searches.{HasSearched, request_of_search}
 ghost use Rattle.report.specs.Jobs.{Performs};
 
 use report_command::{Job, Look, Search, View};
-use report_jobs::{Wanted, check, complain, load, refuse, replay_saved, run};
+use report_jobs::{complain, load, perform_plain, refuse};
 use report_searches::search_module;
 use report_shows::show_saved;
 use search_reach::Follows;
@@ -50,31 +50,9 @@ where
         (change (S.contents save.old) (S.contents save.new)) result }
 {
     match job {
-        Job::Check { .. } => check(alloc, module, out, err),
-        Job::Run {
-            file: _,
-            invoke,
-            on_words,
-            fuel,
-            limit,
-            save: path,
-            dump,
-            args,
-        } => {
-            let wanted = Wanted {
-                invoke: *invoke,
-                on_words: *on_words,
-                fuel: *fuel,
-                limit: *limit,
-                save: *path,
-                dump: *dump,
-                args: args.as_slice(),
-            };
-            run(rt, alloc, &wanted, module, out, err, save)
-        }
-        Job::Replay { dump, .. } => replay_saved(alloc, module, saved, *dump, out, err),
         Job::Show { look, view, .. } => show(alloc, module, saved, look, *view, out, err, save),
         Job::Search(asked) => search(rt, alloc, asked, module, out, err, save, follower),
+        _ => perform_plain(rt, alloc, job, module, saved, out, err, save),
     }
 }
 

@@ -2,3 +2,4 @@ pub mod Jobs
 pub mod Arguments
 pub mod Prints
 pub mod Troubles
+pub mod Plain

@@ -4,10 +4,12 @@
 mod args;
 mod job;
 mod loading;
+mod plain;
 mod replaying;
 mod running;
 
 pub use job::{check, complain, refuse, reject, replay_saved, run};
 pub use loading::{Refusal, load, load_checked};
+pub use plain::perform_plain;
 pub use replaying::{Unfit, misfit};
 pub use running::{Trouble, Wanted, args_of, is_done, keep, print};

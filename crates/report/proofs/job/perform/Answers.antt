@@ -1,31 +1,17 @@
-use Rattle.std.proofs.Common.{ℕ, List, map, is_some, Bor, subst}
-use Rattle.report_jobs.specs.Jobs.{Runs}
-use Rattle.report_jobs.specs.Prints.{change, request}
+use Rattle.report_jobs.specs.Prints.{change}
+use Rattle.report.proofs.Plain.{is_plain, performs}
 use Rattle.report.proofs.job.perform.Goals as goal
 
-pub returns-in-Run : goal.returns-in-Run
-returns-in-Run g c =
-    let it = c.in-Run in
-    let out = change (g.W.Write.contents c.args.out.now) (g.W.Write.contents c.run.new.out) in
-    let save = change (g.S.Write.contents c.args.save.now) (g.S.Write.contents c.run.new.save) in
-    let Asked : List (Bor (List ℕ)) → Type 0
-    = λ texts. Runs c.args.module.now (request it.invoke.now (map (λ text. text.now) texts) it.fuel it.limit it.on_words (is_some it.path) it.dump)
-    out save c.run.result in
-    rw it.is (subst Asked c.as_slice.ensures.value (record {
-      made = c.run.ensures.made;
-      refused = c.run.ensures.refused;
-      cannot = c.run.ensures.cannot;
-      statuses = c.run.ensures.status;
-    }))
+pub perform_plain-requires-in_default-job-clause-plain : goal.perform_plain-requires-in_default-job-clause-plain
+perform_plain-requires-in_default-job-clause-plain c =
+    is_plain c.args.job.now c.in_default-job.not-Show c.in_default-job.not-Search
 
-pub returns-in-Replay : goal.returns-in-Replay
-returns-in-Replay g c =
-    rw c.in-Replay.is (record {
-      replayed = c.replay_saved.ensures.replayed;
-      refused = c.replay_saved.ensures.refused;
-      none = c.replay_saved.ensures.none;
-      statuses = c.replay_saved.ensures.status;
-    })
+pub returns-in_default-job : goal.returns-in_default-job
+returns-in_default-job g c =
+    let job = c.args.job.now in
+    performs job c.args.module.now c.args.saved.now (change (g.W.Write.contents c.args.out.now) (g.W.Write.contents c.perform_plain.new.out))
+      (change (g.S.Write.contents c.args.save.now) (g.S.Write.contents c.perform_plain.new.save)) c.perform_plain.result
+      (is_plain job c.in_default-job.not-Show c.in_default-job.not-Search) c.perform_plain.ensures
 
 pub returns-in-Show : goal.returns-in-Show
 returns-in-Show g c =

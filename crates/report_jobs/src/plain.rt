@@ -1,0 +1,68 @@
+//! The plain jobs of the command line: a check, a run and a replay.
+ghost use Rattle.report_command.specs.Jobs.{IsInRange};
+ghost use Rattle.report_jobs.specs.Plain.{IsPlain, PerformsPlain};
+ghost use Rattle.report_jobs.specs.Prints.{change};
+
+use crate::job::{check, replay_saved, run};
+use crate::running::Wanted;
+use report_command::Job;
+use std::alloc::Global;
+use std::io::Write;
+use std::sync::Wait;
+use std::thread::Threads;
+
+/// Does a check, a run or a replay on a module's bytes: writes its lines to `out`, and at most one line about what went wrong to `err`.
+///
+/// The job's numbers are in their ranges, as those of a job are that `command` gives. `saved` has the bytes of the record that a
+/// replay reads, and else nothing. `save` takes the record that a run makes, after the lines.
+///
+/// Answers the program's status: 0 where the module was accepted or all threads ended well, 1 for a trap or stop, 2
+/// for a refused module, 3 for a refused run, 4 for a refused record, 5 where memory, a thread or a stream failed. A write
+/// to `err` that fails doesn't change it.
+pub fn perform_plain<R, W, E, S>(
+    rt: &R,
+    alloc: Global,
+    job: &Job,
+    module: &[u8],
+    saved: &[u8],
+    out: &mut W,
+    err: &mut E,
+    save: &mut S,
+) -> u8
+where
+    R: Threads + Wait + Sync,
+    W: Write,
+    E: Write,
+    S: Write,
+    requires range { IsInRange job.now }
+    requires plain { IsPlain job.now }
+    ensures { PerformsPlain job.now «module».now saved.now (change (W.contents out.old) (W.contents out.new))
+        (change (S.contents save.old) (S.contents save.new)) result }
+{
+    match job {
+        Job::Check { .. } => check(alloc, module, out, err),
+        Job::Run {
+            file: _,
+            invoke,
+            on_words,
+            fuel,
+            limit,
+            save: path,
+            dump,
+            args,
+        } => {
+            let wanted = Wanted {
+                invoke: *invoke,
+                on_words: *on_words,
+                fuel: *fuel,
+                limit: *limit,
+                save: *path,
+                dump: *dump,
+                args: args.as_slice(),
+            };
+            run(rt, alloc, &wanted, module, out, err, save)
+        }
+        Job::Replay { dump, .. } => replay_saved(alloc, module, saved, *dump, out, err),
+        Job::Show { .. } | Job::Search(_) => unreachable!(),
+    }
+}
