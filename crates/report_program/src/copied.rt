@@ -5,7 +5,7 @@ use std::io::{self, Write};
 
 /// A stream, and where a copy is wanted one of what was written to it, as far as there was memory.
 #[derive(Drop)]
-pub(crate) struct Copied<W> {
+pub struct Copied<W> {
     stream: W,
     copy: Option<Vec<u8>>,
 }
@@ -26,7 +26,7 @@ impl<W> Copied<W> {
     }
 
     /// The copy, if one was wanted.
-    pub(crate) fn copy(&self) -> Option<&[u8]> {
+    pub fn copy(&self) -> Option<&[u8]> {
         self.copy.as_ref().map(|copy| copy.as_slice())
     }
 }

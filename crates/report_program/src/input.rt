@@ -1,6 +1,6 @@
 //! What a job reads.
 
-use crate::work::Stop;
+use crate::stop::Stop;
 use report_command::{Job, Search};
 use report_files::{read_module, read_saved};
 

@@ -3,9 +3,13 @@
 
 mod copied;
 mod input;
-mod program;
+mod order;
+mod stop;
+mod task;
 mod telling;
-mod work;
 
+pub use copied::Copied;
 pub use input::Input;
-pub use program::{Program, run_program};
+pub use order::{order_of, words_of};
+pub use task::{Task, open_task};
+pub use telling::{tell, tell_usage};

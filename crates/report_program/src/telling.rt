@@ -15,7 +15,7 @@ pub(crate) const FILE_FAULT: u8 = 5;
 const TEXT: usize = 8192;
 
 /// Says on standard error what went wrong. Where that can't be written there is nobody left to tell.
-pub(crate) fn tell(rt: &HostRuntime, text: &[u8]) {
+pub fn tell(rt: &HostRuntime, text: &[u8]) {
     let _ = rt.stderr().write_all(text);
 }
 
@@ -66,7 +66,7 @@ fn complain<D: Display>(rt: &HostRuntime, text: &D) -> u8 {
 }
 
 /// Says why the words of the command line are no job, and answers the status.
-pub(crate) fn tell_usage(rt: &HostRuntime, usage: &Usage) -> u8 {
+pub fn tell_usage(rt: &HostRuntime, usage: &Usage) -> u8 {
     match usage {
         Usage::Help(text) => help(rt, text),
         Usage::Wrong(text) => complain(rt, text),

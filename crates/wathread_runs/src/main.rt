@@ -4,11 +4,9 @@
 
 ghost use Rattle.report_command.specs.Jobs.{IsInRange};
 
-use report_command::Job;
+use report_command::{Job, Order, Usage};
 use report_jobs::perform_plain;
-use report_program::{Input, Program, run_program};
-use std::alloc::Global;
-use std::io::Write;
+use report_program::{Task, open_task, order_of, tell, tell_usage, words_of};
 use std::process::ExitCode;
 use std::sync::Wait;
 use std::thread::Threads;
@@ -16,50 +14,67 @@ use std::thread::Threads;
 /// The status where the words ask for what `wathread` alone does.
 const NOT_HERE: u8 = 70;
 
-/// What is said then.
-const ASKS_FOR_MORE: &[u8] =
-    b"this program checks, runs and replays: wathread shows, searches and explains\n";
+/// Says that they do, and answers the status.
+fn refuse(rt: &HostRuntime) -> u8 {
+    tell(
+        rt,
+        b"this program checks, runs and replays: wathread shows, searches and explains\n",
+    );
+    NOT_HERE
+}
 
-/// Checks, runs and replays.
-struct WathreadRuns;
-
-impl Program for WathreadRuns {
-    fn perform<R, W, S>(
-        &self,
-        rt: &HostRuntime,
-        threads: &R,
-        job: &Job,
-        input: &Input,
-        out: &mut W,
-        err: &mut Vec<u8>,
-        save: &mut S,
-    ) -> u8
-    where
-        R: Threads + Wait + Sync,
-        W: Write,
-        S: Write,
-    {
-        if matches!(job, Job::Show { .. } | Job::Search(_)) {
-            let _ = err.extend_from_slice(ASKS_FOR_MORE);
-            return NOT_HERE;
-        }
-        let Input { module, saved, .. } = input;
-        perform_plain(threads, rt.alloc(), job, module, saved, out, err, save)
+/// Does a check, a run or a replay, with its files and streams, and answers the status.
+fn work<R: Threads + Wait + Sync>(rt: &HostRuntime, threads: &R, job: &Job) -> u8
+    requires { IsInRange job.now }
+{
+    if matches!(job, Job::Show { .. } | Job::Search(_)) {
+        return refuse(rt);
     }
+    let mut task = match open_task(rt, rt.stdout(), job, false) {
+        Ok(task) => task,
+        Err(status) => return status,
+    };
+    let Task {
+        input,
+        out,
+        err,
+        save,
+    } = &mut task;
+    let status = perform_plain(
+        threads,
+        rt.alloc(),
+        job,
+        &input.module,
+        &input.saved,
+        out,
+        err,
+        save,
+    );
+    task.end(rt, job, status)
+}
 
-    fn explain(
-        &self,
-        _alloc: Global,
-        _job: &Job,
-        _input: &Input,
-        _printed: &[u8],
-        _status: u8,
-        err: &mut Vec<u8>,
-    ) {
-        let _ = err.extend_from_slice(ASKS_FOR_MORE);
-    }
+/// Does the job that the words ask for.
+fn obey<R: Threads + Wait + Sync>(
+    rt: &HostRuntime,
+    threads: &R,
+    words: &[String],
+) -> Result<u8, Usage> {
+    let words: Vec<&str> = words.iter().map(|word| word.as_str()).collect(rt.alloc())?;
+    let Order { job, explain } = order_of(rt, &words)?;
+    Ok(if explain {
+        refuse(rt)
+    } else {
+        work(rt, threads, &job)
+    })
+}
+
+fn run<R: Threads + Wait + Sync>(rt: &HostRuntime, threads: &R) -> Result<u8, Usage> {
+    obey(rt, threads, &words_of(rt)?)
 }
 
 fn main(rt: HostRuntime) -> ExitCode {
-    run_program(&rt, &rt, &WathreadRuns)
+    ExitCode::from(match run(&rt, &rt) {
+        Ok(status) => status,
+        Err(usage) => tell_usage(&rt, &usage),
+    })
 }

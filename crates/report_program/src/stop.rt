@@ -1,0 +1,48 @@
+//! Why a job isn't done.
+
+use crate::telling::{tell_file_fault, tell_no_memory, tell_usage};
+use report_command::Usage;
+use report_files::Unread;
+use std::alloc::AllocError;
+use std::io;
+
+/// Why a job isn't done.
+#[derive(Drop)]
+pub(crate) enum Stop<'a> {
+    Usage(Usage),
+    /// The file at this path failed.
+    File(&'a str),
+    NoMemory,
+}
+
+impl From<AllocError> for Stop<'_> {
+    fn from(_: AllocError) -> Self {
+        Stop::NoMemory
+    }
+}
+
+impl From<io::Error> for Stop<'_> {
+    /// The error of a buffer, which is that of memory.
+    fn from(_: io::Error) -> Self {
+        Stop::NoMemory
+    }
+}
+
+impl<'a> Stop<'a> {
+    /// The file at the path couldn't be read.
+    pub(crate) fn unread(path: &'a str, why: Unread) -> Stop<'a> {
+        match why {
+            Unread::NoMemory => Stop::NoMemory,
+            Unread::File => Stop::File(path),
+        }
+    }
+
+    /// Says so, and answers the status.
+    pub(crate) fn tell(&self, rt: &HostRuntime) -> u8 {
+        match self {
+            Stop::NoMemory => tell_no_memory(rt),
+            Stop::File(path) => tell_file_fault(rt, path),
+            Stop::Usage(usage) => tell_usage(rt, usage),
+        }
+    }
+}
