@@ -1,5 +1,5 @@
 -- The plain jobs among all jobs.
-use Rattle.std.proofs.Common.{ℕ, ◌≡◌, List, Option, Bor, refl, absurd}
+use Rattle.std.proofs.Common.{ℕ, ◌≡◌, List, Option, Bor, refl}
 use Rattle.show_text.specs.declared.choice.Look.{Look}
 use Rattle.report_command.specs.declared.command_line.Job.{Job}
 use Rattle.report_command.specs.declared.command_line.Job.TheVariants.{Check, Run, Replay, Show}

@@ -2,16 +2,16 @@ use Rattle.report_jobs.specs.Prints.{change}
 use Rattle.report.proofs.Plain.{is_plain, performs}
 use Rattle.report.proofs.job.perform.Goals as goal
 
-pub perform_plain-requires-in_default-job-clause-plain : goal.perform_plain-requires-in_default-job-clause-plain
-perform_plain-requires-in_default-job-clause-plain c =
-    is_plain c.args.job.now c.in_default-job.not-Show c.in_default-job.not-Search
+pub perform_plain-requires-clause-plain : goal.perform_plain-requires-clause-plain
+perform_plain-requires-clause-plain g c κs within =
+    is_plain c.args.job.now c.in_default.not-Show c.in_default.not-Search
 
-pub returns-in_default-job : goal.returns-in_default-job
-returns-in_default-job g c =
+pub returns-in_default : goal.returns-in_default
+returns-in_default g c =
     let job = c.args.job.now in
     performs job c.args.module.now c.args.saved.now (change (g.W.Write.contents c.args.out.now) (g.W.Write.contents c.perform_plain.new.out))
       (change (g.S.Write.contents c.args.save.now) (g.S.Write.contents c.perform_plain.new.save)) c.perform_plain.result
-      (is_plain job c.in_default-job.not-Show c.in_default-job.not-Search) c.perform_plain.ensures
+      (is_plain job c.in_default.not-Show c.in_default.not-Search) c.perform_plain.ensures
 
 pub returns-in-Show : goal.returns-in-Show
 returns-in-Show g c =
