@@ -1,9 +1,11 @@
 //! Jobs on changed bytes, and whether each ends as a job can.
 ghost use Rattle.std.specs.Prelude.{◌≤◌};
 ghost use Rattle.report_command.specs.Jobs.{IsInRange};
+ghost use Rattle.report_jobs.specs.Plain.{IsPlain};
 
 use crate::answers::is_answer;
-use report::{Job, perform};
+use report_command::Job;
+use report_jobs::perform_plain;
 use std::alloc::{AllocError, Global};
 use std::sync::Wait;
 use std::thread::Threads;
@@ -46,7 +48,8 @@ fn give<R: Threads + Wait + Sync>(
     module: &[u8],
     saved: &[u8],
 ) -> Gave
-    requires { IsInRange job.now }
+    requires range { IsInRange job.now }
+    requires plain { IsPlain job.now }
 {
     let mut gave = Gave {
         status: 0,
@@ -54,7 +57,7 @@ fn give<R: Threads + Wait + Sync>(
         err: Vec::new(alloc),
         record: Vec::new(alloc),
     };
-    gave.status = perform(
+    gave.status = perform_plain(
         rt,
         alloc,
         job,
@@ -63,7 +66,6 @@ fn give<R: Threads + Wait + Sync>(
         &mut gave.out,
         &mut gave.err,
         &mut gave.record,
-        &mut (),
     );
     gave
 }

@@ -2,7 +2,8 @@
 
 use crate::{MachineFault, machine_of, schedule_of};
 use interp_trait::OpenGate;
-use report::{EndState, load, record_run};
+use report_jobs::load;
+use report_runs::{EndState, record_run};
 use schedule_machine::{Kind, Mark};
 use spawn_host::Call;
 use std::alloc::{AllocError, Global};

@@ -2,7 +2,8 @@
 
 use crate::noting::Noting;
 use crate::runs::{BOTH, FUEL, Memory, Trouble, run_valid};
-use report::{Call, RecordRunFault, load};
+use report_jobs::load;
+use report_runs::{Call, RecordRunFault};
 use shared_memory_sequential::OpenFault;
 use spawn_host_workers::RunFault;
 use std::alloc::Global;

@@ -3,7 +3,8 @@
 use interp_trait::Gate;
 use replay::{ReplayFault, replay};
 use replay_text::Record;
-use report::{Call, EndState, RecordRunFault, Refusal, load, record_run, run_on_words};
+use report_jobs::{Refusal, load};
+use report_runs::{Call, EndState, RecordRunFault, record_run, run_on_words};
 use std::alloc::{AllocError, Global};
 use std::sync::Wait;
 use std::thread::Threads;

@@ -2,7 +2,7 @@
 
 use crate::runs::{BOTH, FUEL, has_ends, run};
 use interp_trait::OpenGate;
-use report::check;
+use report_jobs::check;
 use std::test::Fail;
 use test_modules::{GIVING_I32, I32, I64, Small};
 use types::{Outcome, ValType, Value};
