@@ -9,7 +9,7 @@ use crate::search::{SEARCH, Search, search_job};
 use crate::show::{SHOW, View, misread, show_job};
 use clap::error::ErrorKind;
 use clap::{ArgMatches, Command, Error};
-use show_text::Look;
+use show_choice::Look;
 use std::alloc::{AllocError, Global};
 use types::{MOST_FUEL, MOST_LIMIT};
 

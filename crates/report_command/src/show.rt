@@ -7,7 +7,7 @@ ghost use Rattle.report_command.specs.Views.{IsViewInRange, path_of};
 use crate::arguments::{Argument, CommandRow, OPTION, Values};
 use crate::command_line::{DUMP_MOST, FILE, Job, Misuse, RECORD};
 use clap::ArgMatches;
-use show_text::{Choice, Color, Look, Span};
+use show_choice::{Choice, Color, Look, Span};
 use std::alloc::{AllocError, Global};
 use types::MOST_THREADS;
 
