@@ -10,4 +10,4 @@ pub use command_line::{Job, Misuse, Order, Usage, asked, command, misused};
 pub use search::Search;
 pub use search_strategies::Way;
 pub use show::{At, View};
-pub use show_text::{Color, Look};
+pub use show_choice::{Color, Look};

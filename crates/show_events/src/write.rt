@@ -6,8 +6,9 @@ ghost use Rattle.show_events.specs.Lines.{AddsLine, AddsLines};
 use crate::event::{EntryArgs, entry_event, finish_event, name_event, start_event};
 use crate::line::{Front, write_event, write_line};
 use crate::links::{Link, LinkKind, Links};
+use show_choice::Look;
 use show_rows::{Shown, Story};
-use show_text::{Look, Unwritten};
+use show_text::Unwritten;
 use std::alloc::{AllocError, Global};
 use std::io::Write;
 

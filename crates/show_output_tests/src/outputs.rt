@@ -2,10 +2,10 @@
 
 use crate::asserts::is_text;
 use replay_text::Record;
+use show_choice::{Choice, Color, Look};
 use show_events::write_trace;
 use show_page::write_page;
 use show_rows::{CodeMap, Shown};
-use show_text::{Choice, Color, Look};
 use show_walk_tests::data::TOLD;
 use std::alloc::Global;
 use std::process::Abort;

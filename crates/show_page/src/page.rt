@@ -5,9 +5,10 @@ ghost use Rattle.show_page.specs.Page.{AddsPage};
 
 use crate::script::SCRIPT;
 use crate::style::{BODY, STYLE};
+use show_choice::Look;
 use show_events::{chosen_entries, write_events};
 use show_rows::Shown;
-use show_text::{Look, Unwritten};
+use show_text::Unwritten;
 use std::alloc::Global;
 use std::io::Write;
 

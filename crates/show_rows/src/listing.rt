@@ -3,7 +3,8 @@
 use crate::code::CodeMap;
 use interp::Place;
 use replay_text::RecordParts;
-use show_text::{Color, Context, Look, Sheet, Unwritten, Wake, Words, all_wakes, contexts};
+use show_choice::{Color, Look};
+use show_text::{Context, Sheet, Unwritten, Wake, Words, all_wakes, contexts};
 use show_walk::Row;
 use std::alloc::{AllocError, Global};
 use std::fmt::Write as _;
