@@ -1,12 +1,12 @@
 //! What stands behind an opcode.
 
 ghost use Rattle.std.specs.Prelude.{◌≡◌};
-ghost use Rattle.binary_wire.specs.Reading.{Gives, tag_at};
-ghost use Rattle.binary_wire.specs.declared.fault.Fault.TheVariants as kinds;
-ghost use Rattle.binary_instructions.specs.Reading.{val_type_of, val_type_at, block_type_at, memarg_at};
+ghost use Rattle.binary_wire.specs.Reading.{Gives, GivesInMemory};
+ghost use Rattle.types.specs.declared.instr.Instr.TheVariants as instrs;
+ghost use Rattle.binary_instructions.specs.Reading.{val_type_of, val_type_at, block_type_at, memarg_at, reserved_at};
 
-use binary_wire::{Fault, Reader, Refusal};
-use types::{BlockType, MemArg, ValType};
+use binary_wire::{Fault, ReadFault, Reader, Refusal};
+use types::{BlockType, Instr, MemArg, PlainInstr, ValType};
 
 fn val_type_of_byte(byte: u8) -> Result<ValType, Fault>
     ensures { result ≡ val_type_of byte }
@@ -56,17 +56,19 @@ pub fn read_memarg(reader: &mut Reader) -> Result<MemArg, Refusal>
     Ok(MemArg { align, offset })
 }
 
-/// A reserved byte, which has to be `00`.
-pub fn read_reserved(reader: &mut Reader) -> Result<(), Refusal>
-    ensures gives { Gives (λ _. reader.new.rest.now) result (tag_at kinds.UnknownByte 0x00 reader.old.bounds reader.old.rest.now) }
+/// An instruction that ends with a reserved byte, which has to be `00`.
+#[tactic(auto, unfolding(crate::specs::Reading::reserved_at))]
+pub fn read_reserved(reader: &mut Reader, instr: PlainInstr) -> Result<Instr, ReadFault>
+    ensures gives { GivesInMemory (λ i. (i, reader.new.rest.now)) result
+        (reserved_at (instrs.Plain instr) reader.old.bounds reader.old.rest.now) }
     ensures keeps { reader.new.bounds ≡ reader.old.bounds }
 {
     let offset = reader.offset();
     if reader.read_byte()? != 0x00 {
-        return Err(Refusal {
+        return Err(ReadFault::Malformed {
             kind: Fault::UnknownByte,
             offset,
         });
     }
-    Ok(())
+    Ok(Instr::Plain(instr))
 }

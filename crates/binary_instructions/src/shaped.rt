@@ -64,9 +64,9 @@ pub fn read_shape(reader: &mut Reader) -> Result<Shape, Refusal>
 }
 
 /// The instruction of a number behind the prefix of atomic instructions (threads proposal, section "Binary format").
-#[tactic(auto, unfolding(crate::specs::Reading::atomic_at, crate::specs::Reading::atomic_shaped_at, crate::specs::Reading::reserved_at))]
-fn read_atomic(reader: &mut Reader) -> Result<Instr, Refusal>
-    ensures gives { Gives (λ i. (i, reader.new.rest.now)) result (atomic_at reader.old.bounds reader.old.rest.now) }
+#[tactic(auto, unfolding(crate::specs::Reading::atomic_at, crate::specs::Reading::atomic_shaped_at))]
+fn read_atomic(reader: &mut Reader) -> Result<Instr, ReadFault>
+    ensures gives { GivesInMemory (λ i. (i, reader.new.rest.now)) result (atomic_at reader.old.bounds reader.old.rest.now) }
     ensures keeps { reader.new.bounds ≡ reader.old.bounds }
 {
     let offset = reader.offset();
@@ -76,11 +76,8 @@ fn read_atomic(reader: &mut Reader) -> Result<Instr, Refusal>
             let memarg = read_memarg(reader)?;
             Ok(Instr::Plain(PlainInstr::Atomic(op, memarg)))
         }
-        Some(AtomicShape::Fence) => {
-            read_reserved(reader)?;
-            Ok(Instr::Plain(PlainInstr::Fence))
-        }
-        None => Err(Refusal {
+        Some(AtomicShape::Fence) => read_reserved(reader, PlainInstr::Fence),
+        None => Err(ReadFault::Malformed {
             kind: Fault::UnknownByte,
             offset,
         }),
@@ -89,8 +86,8 @@ fn read_atomic(reader: &mut Reader) -> Result<Instr, Refusal>
 
 /// A constant (Core specification 1.0, section 5.4.5).
 #[tactic(auto, unfolding(crate::specs::Reading::const_at))]
-fn read_const(reader: &mut Reader, val_type: ValType) -> Result<Instr, Refusal>
-    ensures gives { Gives (λ i. (i, reader.new.rest.now)) result (const_at val_type reader.old.bounds reader.old.rest.now) }
+fn read_const(reader: &mut Reader, val_type: ValType) -> Result<Instr, ReadFault>
+    ensures gives { GivesInMemory (λ i. (i, reader.new.rest.now)) result (const_at val_type reader.old.bounds reader.old.rest.now) }
     ensures keeps { reader.new.bounds ≡ reader.old.bounds }
 {
     let instr = match val_type {
@@ -112,18 +109,17 @@ fn read_br_table(reader: &mut Reader, alloc: Global) -> Result<Instr, ReadFault>
 }
 
 /// The type of `call_indirect` and its reserved byte (Core specification 1.0, section 5.4.1).
-#[tactic(auto, unfolding(crate::specs::Reading::call_indirect_at, crate::specs::Reading::reserved_at))]
-fn read_call_indirect(reader: &mut Reader) -> Result<Instr, Refusal>
-    ensures gives { Gives (λ i. (i, reader.new.rest.now)) result (call_indirect_at reader.old.bounds reader.old.rest.now) }
+#[tactic(auto, unfolding(crate::specs::Reading::call_indirect_at))]
+fn read_call_indirect(reader: &mut Reader) -> Result<Instr, ReadFault>
+    ensures gives { GivesInMemory (λ i. (i, reader.new.rest.now)) result (call_indirect_at reader.old.bounds reader.old.rest.now) }
     ensures keeps { reader.new.bounds ≡ reader.old.bounds }
 {
     let type_index = reader.read_u32()?;
-    read_reserved(reader)?;
-    Ok(Instr::Plain(PlainInstr::CallIndirect(type_index)))
+    read_reserved(reader, PlainInstr::CallIndirect(type_index))
 }
 
 /// The immediates of an instruction, behind its opcode.
-#[tactic(auto, unfolding(crate::specs::Reading::shaped_at, crate::specs::Reading::reserved_at))]
+#[tactic(auto, unfolding(crate::specs::Reading::shaped_at))]
 pub fn read_shaped(reader: &mut Reader, alloc: Global, shape: Shape) -> Result<Instr, ReadFault>
     ensures gives { GivesInMemory (λ i. (i, reader.new.rest.now)) result (shaped_at shape reader.old.bounds reader.old.rest.now) }
     ensures keeps { reader.new.bounds ≡ reader.old.bounds }
@@ -132,23 +128,17 @@ pub fn read_shaped(reader: &mut Reader, alloc: Global, shape: Shape) -> Result<I
         Shape::Open(op) => return Ok(opening_of(op, read_block_type(reader)?)),
         Shape::Else => return Ok(Instr::Else),
         Shape::End => return Ok(Instr::End),
-        Shape::Const(val_type) => return Ok(read_const(reader, val_type)?),
+        Shape::Const(val_type) => return read_const(reader, val_type),
         Shape::BrTable => return read_br_table(reader, alloc),
-        Shape::CallIndirect => return Ok(read_call_indirect(reader)?),
-        Shape::Atomic => return Ok(read_atomic(reader)?),
+        Shape::CallIndirect => return read_call_indirect(reader),
+        Shape::Atomic => return read_atomic(reader),
+        Shape::MemorySize => return read_reserved(reader, PlainInstr::MemorySize),
+        Shape::MemoryGrow => return read_reserved(reader, PlainInstr::MemoryGrow),
         Shape::Bare(op) => bare_instr_of(op),
         Shape::Numeric(op) => PlainInstr::Numeric(op),
         Shape::Index(op) => index_instr_of(op, reader.read_u32()?),
         Shape::Load(op) => PlainInstr::Load(op, read_memarg(reader)?),
         Shape::Store(width) => PlainInstr::Store(width, read_memarg(reader)?),
-        Shape::MemorySize => {
-            read_reserved(reader)?;
-            PlainInstr::MemorySize
-        }
-        Shape::MemoryGrow => {
-            read_reserved(reader)?;
-            PlainInstr::MemoryGrow
-        }
     };
     Ok(Instr::Plain(instr))
 }

@@ -108,7 +108,7 @@ pub enum Reply {
 }
 
 /// One entry of a history: who made which event, and what it got.
-#[derive(Clone, Copy, PartialEq, Eq, Debug)]
+#[derive(Clone, Copy, PartialEq, Eq)]
 pub struct Entry {
     /// The thread's number, 0 to 63.
     pub thread: u32,

@@ -38,7 +38,6 @@ fn is_module_in(parts: &Parts) -> bool
 
 impl Module {
     /// A module of these parts, or the parts again where they make none.
-    #[tactic(auto, using(crate::proofs::Found::module_from, crate::proofs::Found::no_module))]
     pub fn from_parts(parts: Parts) -> Result<Module, Parts>
         ensures ok { IfOk result (λ m. (m ≡ parts) × IsModule parts) }
         ensures err { IfErr result (λ p. (p ≡ parts) × ¬ IsModule parts) }

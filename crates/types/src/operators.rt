@@ -7,7 +7,7 @@ use crate::event::RmwOp;
 use crate::value::ValType;
 
 /// An operator on one operand (Core specification 1.0, section 2.4.1, `iunop`).
-#[derive(Clone, Copy, PartialEq, Eq)]
+#[derive(Clone, Copy)]
 pub enum UnaryOp {
     Clz,
     Ctz,
@@ -15,7 +15,7 @@ pub enum UnaryOp {
 }
 
 /// An operator on two operands (Core specification 1.0, section 2.4.1, `ibinop`).
-#[derive(Clone, Copy, PartialEq, Eq)]
+#[derive(Clone, Copy)]
 pub enum BinaryOp {
     Add,
     Sub,
@@ -35,7 +35,7 @@ pub enum BinaryOp {
 }
 
 /// A comparison (Core specification 1.0, section 2.4.1, `irelop`).
-#[derive(Clone, Copy, PartialEq, Eq)]
+#[derive(Clone, Copy)]
 pub enum CompareOp {
     Eq,
     Ne,
@@ -51,7 +51,7 @@ pub enum CompareOp {
 
 /// A conversion between the integer types (Core specification 1.0, section 2.4.1, `cvtop`), or of the low bits of one
 /// (Core specification 2.0, section 2.4.1, `extendN_s`).
-#[derive(Clone, Copy, PartialEq, Eq)]
+#[derive(Clone, Copy)]
 pub enum ConvertOp {
     /// `i32.wrap_i64`
     WrapI64,
@@ -65,7 +65,7 @@ pub enum ConvertOp {
 
 /// A numeric instruction (Core specification 1.0, section 2.4.1) but a constant: it takes operands from the stack and
 /// puts its result there, and does nothing else.
-#[derive(Clone, Copy, PartialEq, Eq)]
+#[derive(Clone, Copy)]
 pub enum NumericInstr {
     Unary(ValType, UnaryOp),
     Binary(ValType, BinaryOp),
@@ -77,7 +77,7 @@ pub enum NumericInstr {
 
 /// A size below that of the type (Core specification 1.0, section 2.4.4; Core specification 2.0, section 2.4.1): the
 /// type of the value on the stack, and the bits that lie in memory, or of which a sign extension takes the sign.
-#[derive(Clone, Copy, PartialEq, Eq)]
+#[derive(Clone, Copy)]
 pub enum NarrowWidth {
     I32Bits8,
     I32Bits16,
@@ -111,7 +111,7 @@ impl NarrowWidth {
 
 /// How much of a type lies in memory (Core specification 1.0, section 2.4.4; threads proposal, section
 /// "Atomic Memory Accesses"): the whole, or its low bits.
-#[derive(Clone, Copy, PartialEq, Eq)]
+#[derive(Clone, Copy)]
 pub enum AccessWidth {
     Whole(ValType),
     Narrow(NarrowWidth),
@@ -140,7 +140,7 @@ impl AccessWidth {
 }
 
 /// A plain load (Core specification 1.0, section 2.4.4).
-#[derive(Clone, Copy, PartialEq, Eq)]
+#[derive(Clone, Copy)]
 pub enum LoadOp {
     /// The bits above those that lie in memory, if there are any, are zero: `load`, `load8_u`, `load16_u`, `load32_u`.
     ZeroExtend(AccessWidth),
@@ -172,7 +172,7 @@ impl LoadOp {
 
 /// An atomic instruction with an address (threads proposal, sections "Atomic Memory Accesses", "Wait and Notify
 /// operators").
-#[derive(Clone, Copy, PartialEq, Eq)]
+#[derive(Clone, Copy)]
 pub enum AtomicOp {
     /// `memory.atomic.notify`
     Notify,
@@ -200,7 +200,7 @@ impl AtomicOp {
 }
 
 /// The immediates of a memory instruction (Core specification 1.0, section 2.4.4).
-#[derive(Clone, Copy, PartialEq, Eq)]
+#[derive(Clone, Copy)]
 pub struct MemArg {
     /// The alignment is 2 to this power.
     pub align: u32,

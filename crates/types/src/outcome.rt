@@ -49,18 +49,18 @@ impl fmt::Display for Trap {
     ghost output = { λ t. Some (trap_words t) };
 
     fn fmt<W: fmt::Write>(&self, f: &mut fmt::Formatter<W>) -> fmt::Result {
-        match self {
-            Trap::Unreachable => write!(f, "unreachable"),
-            Trap::DivideByZero => write!(f, "divide by zero"),
-            Trap::IntegerOverflow => write!(f, "integer overflow"),
-            Trap::OutOfBounds => write!(f, "out of bounds"),
-            Trap::UnalignedAtomic => write!(f, "unaligned atomic"),
-            Trap::NotShared => write!(f, "not shared"),
-            Trap::UndefinedElement => write!(f, "undefined element"),
-            Trap::UninitializedElement => write!(f, "uninitialized element"),
-            Trap::SignatureMismatch => write!(f, "signature mismatch"),
-            Trap::StackExhausted => write!(f, "stack exhausted"),
-        }
+        f.write_str(match self {
+            Trap::Unreachable => "unreachable",
+            Trap::DivideByZero => "divide by zero",
+            Trap::IntegerOverflow => "integer overflow",
+            Trap::OutOfBounds => "out of bounds",
+            Trap::UnalignedAtomic => "unaligned atomic",
+            Trap::NotShared => "not shared",
+            Trap::UndefinedElement => "undefined element",
+            Trap::UninitializedElement => "uninitialized element",
+            Trap::SignatureMismatch => "signature mismatch",
+            Trap::StackExhausted => "stack exhausted",
+        })
     }
 }
 
@@ -96,11 +96,11 @@ impl fmt::Display for Stop {
     ghost output = { λ s. Some (stop_words s) };
 
     fn fmt<W: fmt::Write>(&self, f: &mut fmt::Formatter<W>) -> fmt::Result {
-        match self {
-            Stop::OutOfFuel => write!(f, "out of fuel"),
-            Stop::AsleepForGood => write!(f, "asleep for good"),
-            Stop::RecordFull => write!(f, "record full"),
-        }
+        f.write_str(match self {
+            Stop::OutOfFuel => "out of fuel",
+            Stop::AsleepForGood => "asleep for good",
+            Stop::RecordFull => "record full",
+        })
     }
 }
 
@@ -122,7 +122,7 @@ impl fmt::Display for Outcome {
 
     fn fmt<W: fmt::Write>(&self, f: &mut fmt::Formatter<W>) -> fmt::Result {
         match *self {
-            Outcome::Done(None) => write!(f, "ok"),
+            Outcome::Done(None) => f.write_str("ok"),
             Outcome::Done(Some(value)) => write!(f, "ok {value}"),
             Outcome::Trap(trap) => write!(f, "trap {trap}"),
             Outcome::Stop(stop) => write!(f, "stop {stop}"),

@@ -6,7 +6,7 @@ use crate::value::ValType;
 
 /// Sizes of a table in elements or of a memory in pages (Core specification 1.0, section 2.3.4; threads proposal,
 /// section "Shared linear memory").
-#[derive(Clone, Copy, PartialEq, Eq)]
+#[derive(Clone, Copy)]
 pub struct Limits {
     pub min: u32,
     pub max: Option<u32>,
@@ -21,14 +21,14 @@ pub struct FuncType {
 }
 
 /// The type of a global (Core specification 1.0, section 2.3.6).
-#[derive(Clone, Copy, PartialEq, Eq)]
+#[derive(Clone, Copy)]
 pub struct GlobalType {
     pub val_type: ValType,
     pub mutable: bool,
 }
 
 /// An import (Core specification 1.0, section 2.5.11).
-#[derive(PartialEq, Eq, Drop)]
+#[derive(Drop)]
 pub struct Import {
     pub module: Name,
     pub name: Name,
@@ -36,7 +36,7 @@ pub struct Import {
 }
 
 /// What is imported.
-#[derive(Clone, Copy, PartialEq, Eq)]
+#[derive(Clone, Copy)]
 pub enum ImportDesc {
     /// A function, with the index of its type.
     Func(u32),
@@ -46,14 +46,14 @@ pub enum ImportDesc {
 }
 
 /// An export (Core specification 1.0, section 2.5.10).
-#[derive(PartialEq, Eq, Drop)]
+#[derive(Drop)]
 pub struct Export {
     pub name: Name,
     pub desc: ExportDesc,
 }
 
 /// What is exported, by its index.
-#[derive(Clone, Copy, PartialEq, Eq, Debug)]
+#[derive(Clone, Copy, Debug)]
 pub enum ExportDesc {
     Func(u32),
     Table(u32),
@@ -62,14 +62,14 @@ pub enum ExportDesc {
 }
 
 /// A global with its initial expression (Core specification 1.0, section 2.5.6).
-#[derive(PartialEq, Eq, Drop)]
+#[derive(Drop)]
 pub struct Global {
     pub global_type: GlobalType,
     pub init: Sequence<Instr>,
 }
 
 /// An element segment: functions, by index, that are put into a table (Core specification 1.0, section 2.5.7).
-#[derive(PartialEq, Eq, Drop)]
+#[derive(Drop)]
 pub struct ElementSegment {
     pub table: u32,
     pub offset: Sequence<Instr>,
@@ -77,7 +77,7 @@ pub struct ElementSegment {
 }
 
 /// A data segment: bytes that are put into a memory (Core specification 1.0, section 2.5.8).
-#[derive(PartialEq, Eq, Drop)]
+#[derive(Drop)]
 pub struct DataSegment {
     pub memory: u32,
     pub offset: Sequence<Instr>,
@@ -85,7 +85,7 @@ pub struct DataSegment {
 }
 
 /// A function's body (Core specification 1.0, section 2.5.3).
-#[derive(PartialEq, Eq, Drop)]
+#[derive(Drop)]
 pub struct Body {
     /// The types of the locals that aren't parameters, written out.
     pub locals: Sequence<ValType>,
@@ -95,7 +95,7 @@ pub struct Body {
 
 /// A module's parts: one list for each section other than custom (Core specification 1.0, section 5.5), and the length of
 /// its text.
-#[derive(PartialEq, Eq, Drop)]
+#[derive(Drop)]
 pub struct Parts {
     pub types: Sequence<FuncType>,
     pub imports: Sequence<Import>,

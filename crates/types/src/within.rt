@@ -81,15 +81,21 @@ fn is_body_in(types: &[FuncType], index: u32, body: &Body) -> bool
     params <= MOST_LOCALS && body.locals.len() <= MOST_LOCALS - params
 }
 
+/// Whether there are as few functions as a module may have, with the imported ones.
+fn has_few_functions_in(parts: &Parts) -> bool
+    ensures { result ≡ nat_le (count_by (λ i. is_func i.desc) parts.now.imports + length parts.now.functions) most_functions }
+{
+    let imported = imported_functions(parts.imports.as_slice());
+    imported <= MOST_FUNCTIONS && parts.functions.len() <= MOST_FUNCTIONS - imported
+}
+
 /// Whether each section has as few items as a module may have, and the module as few bytes.
 pub fn has_few_items_in(parts: &Parts) -> bool
     ensures { result ≡ has_few_items parts.now }
 {
-    let imported = imported_functions(parts.imports.as_slice());
     parts.types.len() <= MOST_ITEMS
         && parts.imports.len() <= MOST_ITEMS
-        && imported <= MOST_FUNCTIONS
-        && parts.functions.len() <= MOST_FUNCTIONS - imported
+        && has_few_functions_in(parts)
         && parts.tables.len() <= MOST_ITEMS
         && parts.memories.len() <= MOST_ITEMS
         && parts.globals.len() <= MOST_ITEMS
@@ -102,25 +108,25 @@ pub fn has_few_items_in(parts: &Parts) -> bool
 fn are_types_in(types: &[FuncType]) -> bool
     ensures { result ≡ list_all is_type_within types.now }
 {
-    types.iter().all(|func_type| is_type_in(func_type))
+    types.iter().all(is_type_in)
 }
 
 fn are_imports_in(imports: &[Import]) -> bool
     ensures { result ≡ list_all (λ i. is_desc_within i.desc) imports.now }
 {
-    imports.iter().all(|import| is_import_in(import))
+    imports.iter().all(is_import_in)
 }
 
 fn are_tables_in(tables: &[Limits]) -> bool
     ensures { result ≡ list_all is_table_within tables.now }
 {
-    tables.iter().all(|limits| is_table_in(limits))
+    tables.iter().all(is_table_in)
 }
 
 fn are_memories_in(memories: &[Limits]) -> bool
     ensures { result ≡ list_all is_memory_within memories.now }
 {
-    memories.iter().all(|limits| is_memory_in(limits))
+    memories.iter().all(is_memory_in)
 }
 
 fn are_elements_in(elements: &[ElementSegment]) -> bool
