@@ -1,3 +1,6 @@
+pub mod Gathered
+pub mod Names
+pub mod Order
 pub mod Rules
 pub mod ExportLaws
 pub mod WholeLaws

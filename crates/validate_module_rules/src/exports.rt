@@ -18,10 +18,22 @@ fn is_named(export: &Export, name: &str) -> bool
     export.name.as_str() == name
 }
 
+/// What is exported by a name: that of the first export with the name.
+fn find_export(exports: &[Export], name: &str) -> Option<ExportDesc>
+    ensures { result ≡ option_map (λ e. e.desc) (find (is_named name.now) exports.now) }
+{
+    for export in exports {
+        if is_named(export, name) {
+            return Some(export.desc);
+        }
+    }
+    None
+}
+
 fn has_name(exports: &[Export], name: &str) -> bool
     ensures { result ≡ list_any (is_named name.now) exports.now }
 {
-    exports.iter().any(|export| is_named(export, name))
+    find_export(exports, name).is_some()
 }
 
 /// The fault of what is exported: an index that nothing has.
@@ -75,15 +87,6 @@ fn own_index(imported: usize, own: usize, index: u32) -> Option<usize>
     } else {
         None
     }
-}
-
-fn find_export(exports: &[Export], name: &str) -> Option<ExportDesc>
-    ensures { result ≡ option_map (λ e. e.desc) (find (is_named name.now) exports.now) }
-{
-    exports
-        .iter()
-        .find(|export| is_named(export, name))
-        .map(|export| export.desc)
 }
 
 /// The function of the module itself, from 0, that is exported by a name: that of the first export with the name.

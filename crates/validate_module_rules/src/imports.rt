@@ -7,6 +7,7 @@ ghost use Rattle.validate_module_rules.specs.Faults.{imports_fault, functions_fa
 ghost use Rattle.std.specs.List.{slice_get};
 
 use crate::sizes::{are_below, unless};
+use crate::spaces::item;
 use types::{FuncType, Import, ImportDesc, Parts, ValType};
 use validate_typing::Fault;
 
@@ -35,7 +36,7 @@ fn is_import(import: &Import, from: &str, name: &str) -> bool
 fn fault_of_spawn_type(types: &[FuncType], index: u32) -> Option<Fault>
     ensures { result ≡ spawn_type_fault (slice_get types.now index) }
 {
-    match types.get(index as usize) {
+    match item(types, index as usize) {
         None => Some(Fault::UnknownType),
         Some(func_type) => unless(
             has_type(func_type, &[ValType::I32], &[ValType::I32]),

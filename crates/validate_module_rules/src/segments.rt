@@ -6,7 +6,7 @@ ghost use Rattle.validate_module_rules.specs.Faults.{first_of, element_fault_in,
 
 use crate::constants::{fault_of_constant, offset};
 use crate::sizes::{are_below, unless};
-use crate::spaces::IndexSpaces;
+use crate::spaces::{IndexSpaces, item};
 use types::{DataSegment, ElementSegment, Limits, PAGE_SIZE, Parts, ValType};
 use validate_typing::Fault;
 
@@ -40,7 +40,7 @@ fn fault_of_element(parts: &Parts, spaces: &IndexSpaces, segment: &ElementSegmen
     requires { IsSpacesOf parts.now spaces.now }
     ensures { result ≡ element_fault parts.now segment.now }
 {
-    match parts.tables.as_slice().get(segment.table as usize) {
+    match item(parts.tables.as_slice(), segment.table as usize) {
         Some(table) => fault_in_table(table, spaces.functions.len(), segment),
         None => Some(Fault::UnknownTable),
     }
@@ -69,7 +69,7 @@ fn fault_of_data_segment(
     requires { IsSpacesOf parts.now spaces.now }
     ensures { result ≡ data_fault parts.now segment.now }
 {
-    let Some(memory) = spaces.memories.get(segment.memory as usize) else {
+    let Some(memory) = item(&spaces.memories, segment.memory as usize) else {
         return Some(Fault::UnknownMemory);
     };
     let code = segment.offset.as_slice();

@@ -1,8 +1,9 @@
 //! What code names by an index.
 
-ghost use Rattle.std.specs.Prelude.{◌≡◌, length, IfOk};
-ghost use Rattle.std.specs.List.{flat_map};
-ghost use Rattle.validate_typing.specs.Context.{imported_functions, function_of, memory_of};
+ghost use Rattle.std.specs.Prelude.{◌≡◌, ◌++◌, [], Some, None, length, IfOk, OnOk};
+ghost use Rattle.std.specs.List.{flat_map, slice_get};
+ghost use Rattle.std.specs.Option.{MatchOption};
+ghost use Rattle.validate_typing.specs.Context.{function_of, memory_of};
 ghost use Rattle.validate_module_rules.specs.Spaces.{IsSpacesOf};
 
 use std::alloc::{AllocError, Global};
@@ -19,30 +20,45 @@ pub struct IndexSpaces {
     pub memories: Vec<Limits>,
 }
 
-/// The imported functions, by the indices of their types.
-fn imported_functions(alloc: Global, imports: &[Import]) -> Result<Vec<u32>, AllocError>
-    ensures { IfOk result (λ v. v.items ≡ flat_map (λ i. function_of i.desc) imports.now) }
+/// The item with this index, if there is one.
+pub fn item<T>(items: &[T], index: usize) -> Option<&T>
+    ensures { MatchOption result (slice_get items.now index ≡ None) (λ found. slice_get items.now index ≡ Some found.now) }
 {
-    let mut functions = Vec::new(alloc);
-    for import in imports {
-        if let ImportDesc::Func(index) = import.desc {
-            functions.push(index)?;
-        }
-    }
-    Ok(functions)
+    items.get(index)
 }
 
-/// The imported memories.
-fn imported_memories(alloc: Global, imports: &[Import]) -> Result<Vec<Limits>, AllocError>
-    ensures { IfOk result (λ v. v.items ≡ flat_map (λ i. memory_of i.desc) imports.now) }
+/// Adds what is imported, where it is a function, as the index of its type, or a memory.
+fn add_import(
+    desc: ImportDesc,
+    functions: &mut Vec<u32>,
+    memories: &mut Vec<Limits>,
+) -> Result<(), AllocError>
+    ensures functions { OnOk result (functions.new.items ≡ functions.old.items ++ function_of desc) }
+    ensures memories { OnOk result (memories.new.items ≡ memories.old.items ++ memory_of desc) }
 {
-    let mut memories = Vec::new(alloc);
-    for import in imports {
-        if let ImportDesc::Memory(limits) = import.desc {
-            memories.push(limits)?;
-        }
+    match desc {
+        ImportDesc::Func(index) => functions.push(index)?,
+        ImportDesc::Memory(limits) => memories.push(limits)?,
+        ImportDesc::Table(_) | ImportDesc::Global(_) => {}
     }
-    Ok(memories)
+    Ok(())
+}
+
+/// Adds all imported functions and memories.
+fn add_imports(
+    imports: &[Import],
+    functions: &mut Vec<u32>,
+    memories: &mut Vec<Limits>,
+) -> Result<(), AllocError>
+    requires functions { functions.old.items ≡ [] }
+    requires memories { memories.old.items ≡ [] }
+    ensures functions { OnOk result (functions.new.items ≡ flat_map (λ i. function_of i.desc) imports.now) }
+    ensures memories { OnOk result (memories.new.items ≡ flat_map (λ i. memory_of i.desc) imports.now) }
+{
+    for import in imports {
+        add_import(import.desc, functions, memories)?;
+    }
+    Ok(())
 }
 
 impl IndexSpaces {
@@ -50,8 +66,9 @@ impl IndexSpaces {
     pub fn of(alloc: Global, parts: &Parts) -> Result<IndexSpaces, AllocError>
         ensures { IfOk result (λ s. IsSpacesOf parts.now s) }
     {
-        let mut functions = imported_functions(alloc, parts.imports.as_slice())?;
-        let mut memories = imported_memories(alloc, parts.imports.as_slice())?;
+        let mut functions = Vec::new(alloc);
+        let mut memories = Vec::new(alloc);
+        add_imports(parts.imports.as_slice(), &mut functions, &mut memories)?;
         let imported = functions.len();
         functions.extend_from_slice(parts.functions.as_slice())?;
         memories.extend_from_slice(parts.memories.as_slice())?;

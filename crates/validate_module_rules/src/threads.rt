@@ -10,7 +10,7 @@ ghost use Rattle.validate_module_rules.specs.Faults.{takes_two, type_of_own, exp
 use crate::exports::exported_function;
 use crate::imports::has_type;
 use crate::sizes::unless;
-use crate::spaces::IndexSpaces;
+use crate::spaces::{IndexSpaces, item};
 use types::{Parts, ValType};
 use validate_typing::Fault;
 
@@ -18,10 +18,10 @@ use validate_typing::Fault;
 fn takes_two(parts: &Parts, own: usize) -> bool
     ensures { result ≡ takes_two (type_of_own parts.now (Some own)) }
 {
-    let Some(index) = parts.functions.as_slice().get(own) else {
+    let Some(index) = item(parts.functions.as_slice(), own) else {
         return false;
     };
-    let Some(func_type) = parts.types.as_slice().get(*index as usize) else {
+    let Some(func_type) = item(parts.types.as_slice(), *index as usize) else {
         return false;
     };
     has_type(func_type, &[ValType::I32, ValType::I32], &[])

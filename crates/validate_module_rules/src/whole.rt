@@ -1,4 +1,4 @@
-//! All rules outside bodies, in order.
+//! All rules outside bodies, in order. Each is looked at, and the first fault counts.
 
 ghost use Rattle.std.specs.Prelude.{◌≡◌, ◌<◌, length, All};
 ghost use Rattle.validate_typing.specs.Validity.{IsValid, IsValidType};
@@ -22,11 +22,11 @@ fn fault_of_names(parts: &Parts, spaces: &IndexSpaces) -> Option<Fault>
     ensures { result ≡ names_fault parts.now }
 {
     fault_of_types(parts.types.as_slice())
-        .or_else(|| fault_of_imports(parts))
-        .or_else(|| fault_of_functions(parts))
-        .or_else(|| fault_of_tables(parts.tables.as_slice()))
-        .or_else(|| fault_of_memories(&spaces.memories))
-        .or_else(|| fault_of_globals(parts.globals.as_slice()))
+        .or(fault_of_imports(parts))
+        .or(fault_of_functions(parts))
+        .or(fault_of_tables(parts.tables.as_slice()))
+        .or(fault_of_memories(&spaces.memories))
+        .or(fault_of_globals(parts.globals.as_slice()))
 }
 
 /// The first fault of what the module does with it: exports, start, segments, and starting threads.
@@ -35,17 +35,17 @@ fn fault_of_uses(parts: &Parts, spaces: &IndexSpaces) -> Option<Fault>
     ensures { result ≡ uses_fault parts.now }
 {
     fault_of_exports(parts, spaces)
-        .or_else(|| unless(parts.start.is_none(), Fault::StartSection))
-        .or_else(|| fault_of_elements(parts, spaces))
-        .or_else(|| fault_of_data(parts, spaces))
-        .or_else(|| fault_of_threads(parts, spaces))
+        .or(unless(parts.start.is_none(), Fault::StartSection))
+        .or(fault_of_elements(parts, spaces))
+        .or(fault_of_data(parts, spaces))
+        .or(fault_of_threads(parts, spaces))
 }
 
 fn first_fault(parts: &Parts, spaces: &IndexSpaces) -> Option<Fault>
     requires { IsSpacesOf parts.now spaces.now }
     ensures { result ≡ fault_outside parts.now }
 {
-    fault_of_names(parts, spaces).or_else(|| fault_of_uses(parts, spaces))
+    fault_of_names(parts, spaces).or(fault_of_uses(parts, spaces))
 }
 
 /// The first fault of a module outside the bodies of its functions. There is none exactly where the module is valid but

@@ -5,60 +5,41 @@ ghost use Rattle.validate_typing.specs.Faults.{fault_number, fault_kind, fault_p
 ghost use Rattle.validate_typing.specs.declared.fault.ValidFault.TheVariants.{OutOfMemory};
 
 use std::alloc::{AllocError, AllocFailed};
+use std::fmt;
 use thiserror::Error;
 
 /// The kinds of faults.
 #[derive(Clone, Copy, Debug, PartialEq, Eq, Error)]
 pub enum Fault {
     /// An operand is missing or of another type, or a value of a constant expression is.
-    #[error("type mismatch")]
     TypeMismatch,
-    #[error("unknown label")]
     UnknownLabel,
-    #[error("unknown local")]
     UnknownLocal,
-    #[error("unknown global")]
     UnknownGlobal,
-    #[error("unknown function")]
     UnknownFunction,
-    #[error("unknown type")]
     UnknownType,
-    #[error("unknown table")]
     UnknownTable,
-    #[error("unknown memory")]
     UnknownMemory,
     /// `global.set` of a constant global.
-    #[error("constant global written")]
     ConstantGlobal,
     /// An alignment above the width of a plain access, or other than that of an atomic one.
-    #[error("alignment")]
     Alignment,
     /// A minimum that passes its maximum, or a table that is shared.
-    #[error("limits")]
     Limits,
-    #[error("duplicate export")]
     DuplicateExport,
     /// More than one memory, table or result.
-    #[error("more than one")]
     MoreThanOne,
     /// An initial value or an offset isn't exactly one integer constant.
-    #[error("not a constant expression")]
     NotConstant,
     /// An import other than the memory `env` `memory` and the function `wasi` `thread-spawn`.
-    #[error("unknown import")]
     UnknownImport,
-    #[error("shared without maximum")]
     SharedWithoutMaximum,
-    #[error("start section")]
     StartSection,
     /// Threads can be started, but there is no shared memory or no fitting export `wasi_thread_start`.
-    #[error("thread entry")]
     ThreadEntry,
     /// A segment doesn't lie within the opening table or memory.
-    #[error("segment outside")]
     SegmentOutside,
     /// Memory ran out.
-    #[error("no memory")]
     OutOfMemory,
 }
 
@@ -89,6 +70,38 @@ impl Fault {
             Fault::SegmentOutside => 19,
             Fault::OutOfMemory => 20,
         }
+    }
+
+    /// The kind in words, as it is printed.
+    fn words(self) -> &'static str {
+        match self {
+            Fault::TypeMismatch => "type mismatch",
+            Fault::UnknownLabel => "unknown label",
+            Fault::UnknownLocal => "unknown local",
+            Fault::UnknownGlobal => "unknown global",
+            Fault::UnknownFunction => "unknown function",
+            Fault::UnknownType => "unknown type",
+            Fault::UnknownTable => "unknown table",
+            Fault::UnknownMemory => "unknown memory",
+            Fault::ConstantGlobal => "constant global written",
+            Fault::Alignment => "alignment",
+            Fault::Limits => "limits",
+            Fault::DuplicateExport => "duplicate export",
+            Fault::MoreThanOne => "more than one",
+            Fault::NotConstant => "not a constant expression",
+            Fault::UnknownImport => "unknown import",
+            Fault::SharedWithoutMaximum => "shared without maximum",
+            Fault::StartSection => "start section",
+            Fault::ThreadEntry => "thread entry",
+            Fault::SegmentOutside => "segment outside",
+            Fault::OutOfMemory => "no memory",
+        }
+    }
+}
+
+impl fmt::Display for Fault {
+    fn fmt<W: fmt::Write>(&self, f: &mut fmt::Formatter<W>) -> fmt::Result {
+        f.write_str(self.words())
     }
 }
 

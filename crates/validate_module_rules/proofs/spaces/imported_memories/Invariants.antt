@@ -1,7 +1,0 @@
-use Rattle.std.proofs.Common.{◌≡◌, take}
-use Rattle.std.specs.List.{flat_map}
-use Rattle.validate_typing.specs.Context.{memory_of}
-use Rattle.validate_module_rules.proofs.spaces.imported_memories.Given as goal
-
-abbrev pub invariant-loop-import : goal.invariant-loop-import
-invariant-loop-import l = l.memories.items ≡ flat_map (λ i. memory_of i.desc) (take l.import-index l.imports)
