@@ -8,5 +8,5 @@ pub loop-global-preserved : goal.loop-global-preserved
 loop-global-preserved c =
     let is = rw c.as_slice-global-items.ensures at c.global-item.is in
     mapped_more _ _ _ c.args.parts.now.globals c.loop-global.global-index c.global-item.result c.constant.result
-        (rw c.as_slice-global-items.ensures at c.loop-global-test.true)
-        (c.constant.ensures ∙ ap constant_of (c.as_slice.ensures ∙ ap (λ (g : Global). g.init) is)) c.loop-global.invariant c.in_ok-push.ensures.items
+    (rw c.as_slice-global-items.ensures at c.loop-global-test.true)
+    (c.constant.ensures ∙ ap constant_of (c.as_slice.ensures ∙ ap (λ (g : Global). g.init) is)) c.loop-global.invariant c.in_ok-push.ensures.items

@@ -40,8 +40,8 @@ returns c = λ t stated k e.
     compared c.eq.result c.index-types-index.result c.index-types-type_index.result c.eq.ensures
     ∙ ap (λ (x : FuncType). same_type x c.index-types-type_index.result) first ∙ ap (same_type t) second
 
-typed : (program : Program) (function index : ℕ) (k : (t : FuncType) × FunctionHasType program function t) → index ≡ get_or program.functions.items function index →
-    index < length program.parts.now.types
+typed : (program : Program) (function index : ℕ) (k : (t : FuncType) × FunctionHasType program function t) →
+    index ≡ get_or program.functions.items function index → index < length program.parts.now.types
 typed program function index k is =
     rw (is ∙ get_or_from_slice_get program.functions.items function k.1.0 index k.1.1) (slice_get_within _ _ _ k.1.2)
 
