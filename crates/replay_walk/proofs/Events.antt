@@ -12,7 +12,6 @@ use Rattle.shared_memory.specs.Memory.{reply_of, state_after}
 use Rattle.shared_memory.specs.WaitQueue.{WaitQueue, is_alive, is_asleep, answer_due, next_id, IsFree}
 use Rattle.shared_memory.specs.History.{queue_step}
 use Rattle.shared_memory.specs.Legal.{IsAllowed, IsInTurn}
-use Rattle.shared_memory.proofs.Lengths.{due_length_step}
 use Rattle.shared_memory.proofs.Soundness.{IsSound-step}
 use Rattle.shared_memory.proofs.Others.{Keeps, Keeps-step}
 use Rattle.schedule.specs.System.{Act.Made, put}

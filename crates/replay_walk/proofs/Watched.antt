@@ -1,5 +1,5 @@
 -- What is shown of an event: its thread wants it.
-use Rattle.std.proofs.Common.{◌≡◌, ℕ, List, Option, Some, None, sym, ◌∙◌, ap, subst, slice_get}
+use Rattle.std.proofs.Common.{◌≡◌, ℕ, List, Option, Some, None, ◌∙◌, ap, subst, slice_get}
 use Rattle.types.specs.declared.event.Event.{Event}
 use Rattle.types.specs.declared.outcome.Outcome.{Outcome}
 use Rattle.shared_memory.specs.WaitQueue.{WaitQueue}

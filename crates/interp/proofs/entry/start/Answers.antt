@@ -55,3 +55,18 @@ returns-clause-stands c = λ t body f.
       progress = refl;
       few = few_values m c.args.own t body c.args.args.now c.parts-parts.ensures.tested f fit;
     })
+
+pub unreachable-requires : goal.unreachable-requires
+unreachable-requires c =
+    let h : c.args.own < length c.args.valid.now.parts.functions = slice_get_within _ _ _ c.requires.2.typed in let e = c.in_default.ensures in omega arith
+
+pub unreachable-requires-in_default-body : goal.unreachable-requires-in_default-body
+unreachable-requires-in_default-body c = let h = c.requires.2.body_is in let e = c.in_default-body.ensures in cc
+
+pub code_of-code-requires-clause-body : goal.code_of-code-requires-clause-body
+code_of-code-requires-clause-body c = rw c.in_ok-program.ensures.parts (slice_get_within _ _ _ c.requires.2.body_is)
+
+pub code_of-code-requires-clause-table : goal.code_of-code-requires-clause-table
+code_of-code-requires-clause-table c =
+    let h : c.args.own < length c.args.valid.now.parts.bodies = slice_get_within _ _ _ c.requires.2.body_is in
+    let e = c.parts-parts.ensures.validated.long in rw c.in_ok-program.ensures.tables (omega arith)

@@ -1,7 +1,9 @@
-use Rattle.std.proofs.Common.{refl, sym, ap₂, ◌%◌, ◌^◌, ◌∙◌}
+use Rattle.std.proofs.Common.{[], refl, sym, ap₂, ◌%◌, ◌^◌, ◌∙◌}
 use Rattle.std.proofs.lemmas.Option.{slice_get_within}
 use Rattle.interp_machine.specs.Access.{in_one_word, joined}
 use Rattle.interp_state.proofs.Events.{continues}
+use Rattle.types.specs.declared.value.ValType.TheVariants.{I32}
+use Rattle.interp_state.proofs.Views.{some_on}
 use Rattle.interp_accesses.proofs.Loading.{load_ready, load_done, load_halved, load_joined}
 use Rattle.interp_accesses.proofs.loads.load_replied.Goals as goal
 
@@ -34,3 +36,9 @@ returns-in-Halfway c = λ w k v st.
     (_, c.top_i32.ensures.1) c.in-Halfway.is
     (c.join.ensures ∙ ap₂ (λ addr bytes. joined addr bytes c.in-Halfway.low c.args.number % 2 ^ 64) c.effective-addr.ensures c.bytes-in-Halfway.ensures)
     c.loaded-in-Halfway.ensures.word c.loaded-in-Halfway.ensures.in_range c.replace_top-in-Halfway.ensures
+
+pub replace_top-requires-clause-some : goal.replace_top-requires-clause-some
+replace_top-requires-clause-some c = some_on c.args.state.now.values.items I32 [] (load_ready _ _ _ (continues _ _ c.requires))
+
+pub replace_top-requires-in-Halfway-clause-some : goal.replace_top-requires-in-Halfway-clause-some
+replace_top-requires-in-Halfway-clause-some c = some_on c.args.state.now.values.items I32 [] (load_ready _ _ _ (continues _ _ c.requires))

@@ -4,7 +4,7 @@ use Rattle.types.specs.Widths.{access_type}
 use Rattle.interp_machine.specs.Access.{in_one_word}
 use Rattle.interp_accesses.specs.Done.{AreTop}
 use Rattle.interp_state.proofs.Events.{continues}
-use Rattle.interp_accesses.proofs.Storing.{store_ready, store_done, store_halved, store_finished}
+use Rattle.interp_accesses.proofs.Storing.{store_ready, two_long, store_done, store_halved, store_finished}
 use Rattle.interp_accesses.proofs.stores.store_replied.Goals as goal
 
 pub top_two-base-requires : goal.top_two-base-requires
@@ -33,3 +33,9 @@ returns-else-is_in_one_word c = λ number w k v st.
 pub returns-in-Halfway : goal.returns-in-Halfway
 returns-in-Halfway c = λ number w k v st.
     store_finished w c.args.state.now _ k c.args.width c.args.arg _ number st (continues _ _ c.requires) c.in-Halfway.is c.drop_two-in-Halfway.ensures
+
+pub drop_two-requires-clause-two : goal.drop_two-requires-clause-two
+drop_two-requires-clause-two c = two_long c.args.state.now.values.items _ (store_ready _ _ _ (continues _ _ c.requires))
+
+pub drop_two-requires-in-Halfway-clause-two : goal.drop_two-requires-in-Halfway-clause-two
+drop_two-requires-in-Halfway-clause-two c = two_long c.args.state.now.values.items _ (store_ready _ _ _ (continues _ _ c.requires))

@@ -2,10 +2,10 @@ use Rattle.std.proofs.Common.{rules, ◌≡◌, sym, ◌∙◌, to_z, of_z, refl
 use Rattle.std.specs.Int.{w64}
 use Rattle.interp_numeric.specs.Integers.{signed}
 use Rattle.interp_numeric.proofs.Signs.{signed-is, passed}
-use Rattle.types.specs.declared.value.ValType.TheVariants.{I32}
+use Rattle.types.specs.declared.value.ValType.TheVariants.{I32, I64}
 use Rattle.types.specs.declared.operators.AtomicOp.TheVariants as atomic
 use Rattle.validate_typing.specs.Typing.{atomic_takes}
-use Rattle.interp_atomics.proofs.Rest.{word_at}
+use Rattle.interp_atomics.proofs.Rest.{word_at, place_in}
 use Rattle.interp_atomics.proofs.requests.wait.Goals as goal
 
 pub address_at-requires-clause-operand : goal.address_at-requires-clause-operand
@@ -17,3 +17,9 @@ returns c =
     passed w64 c.number_at-2.result c.cast_signed.result c.number_at-2.type_inv c.cast_signed.ensures
     ∙ sym (signed-is w64 c.number_at-2.result c.number_at-2.type_inv) in
     search (rules, timeout)
+
+pub number_at-requires : goal.number_at-requires
+number_at-requires c = place_in (atomic_takes (atomic.Wait c.args.val_type)) _ 1 c.args.val_type c.requires refl
+
+pub number_at-requires-2 : goal.number_at-requires-2
+number_at-requires-2 c = place_in (atomic_takes (atomic.Wait c.args.val_type)) _ 0 I64 c.requires refl

@@ -1,4 +1,4 @@
-use Rattle.std.proofs.Common.{rules, ◌++◌, length, replicate, refl, ◌∙◌, ap, arith}
+use Rattle.std.proofs.Common.{rules, ◌<◌, ◌++◌, length, replicate, refl, ◌∙◌, ap, arith}
 use Rattle.std.proofs.lemmas.Option.{slice_get_within}
 use Rattle.types.specs.declared.parts.FuncType.{FuncType}
 use Rattle.interp_calls.proofs.entering.enter.Goals as goal
@@ -43,3 +43,21 @@ returns c = λ t body rows f.
       too_deep = λ deep. absurd (let a = c.if-len-gt-MOST_FRAMES.false in let b = c.len.ensures in omega arith);
       too_full = λ full. absurd (let a = c.if-locals-len.false in let b = c.len-else-len-gt-MOST_FRAMES.ensures in let d = c.requires.room in omega arith);
     }
+
+pub locals_of-locals-requires : goal.locals_of-locals-requires
+locals_of-locals-requires c = slice_get_within _ _ _ c.requires.is.body_is
+
+pub type_of_function-func_type-requires : goal.type_of_function-func_type-requires
+type_of_function-func_type-requires c = (c.requires.func_type, c.requires.is.typed)
+
+pub overflow_add-caller : goal.overflow_add-caller
+overflow_add-caller c = let h : c.args.state.now.pc < length c.args.state.now.code.now = c.requires.behind in search rules
+
+pub push_caller-requires : goal.push_caller-requires
+push_caller-requires c =
+    let few = c.if-len-gt-MOST_FRAMES.false in let long = c.len.ensures in let wide = c.args.state.now.callers_fit in omega arith
+
+pub push_zeros-requires : goal.push_zeros-requires
+push_zeros-requires c =
+    let few = c.if-locals-len.false in let long = c.len-else-len-gt-MOST_FRAMES.ensures in let wide = c.args.state.now.values_fit in
+    let room = c.requires.room in omega arith

@@ -13,3 +13,12 @@ overflow_cast-result c =
     let is : last ≡ get_or c.args.values.now (length c.args.values.now - 1) last = search rules in
     let narrow : IsWord I32 last = first_word I32 [] last _ (subst (HasWords (I32 ∷ [])) (last_on_top c.args.values.now last some is).1 c.requires) in
     search arith
+
+pub overflow_sub-result : goal.overflow_sub-result
+overflow_sub-result c = some_on c.args.values.now I32 [] c.requires
+
+pub bounds-values-values : goal.bounds-values-values
+bounds-values-values c = let some = some_on c.args.values.now I32 [] c.requires in omega arith
+
+pub offset_bounds-values-values : goal.offset_bounds-values-values
+offset_bounds-values-values c = let some : 0 < length c.args.values.now = some_on c.args.values.now I32 [] c.requires in search rules

@@ -1,6 +1,7 @@
-use Rattle.std.proofs.Common.{rules, ◌≡◌, ℕ, List, [], ◌∷◌, ◌-◌, length, reverse, take, Some, None, refl, sym, ◌∙◌, ap, subst}
+use Rattle.std.proofs.Common.{rules, ◌≡◌, ℕ, List, [], ◌∷◌, ◌-◌, length, reverse, take, Some, None, refl, sym, ◌∙◌, ap, subst, arith}
 use Rattle.types.specs.declared.value.ValType.TheVariants as types
 use Rattle.interp_state.specs.Words.{HasWords}
+use Rattle.interp_state.proofs.Views.{some_on}
 use Rattle.interp_calls.proofs.TableCalls.{indirect_asks, indirect_undefined, indirect_empty, element_typed}
 use Rattle.interp_calls.proofs.TableCalls.{stated_there, indirect_differs, found_by, argument_there, below_top}
 use Rattle.interp_calls.proofs.TableCalls.{read_at, indirect_wants, indirect_ready, indirect_enters}
@@ -96,3 +97,11 @@ returns c = rw c.came_to.ensures λ w k v st.
     indirect_enters w c.args.state.now _ _ k _ c.args.type_index c.top_i32-place.result c.in-Some-Some.function
     c.pop.result v st c.requires.begins c.requires.bodies c.if-function-imported.false
     (record { same = refl; pc = refl; globals = refl; progress = refl }) c.pop.ensures.word found c.enter.ensures
+
+pub pop-requires : goal.pop-requires
+pop-requires c = some_on c.args.state.now.values.items types.I32 [] (indirect_asks c.args.state.now c.args.type_index c.requires.begins)
+
+pub slice_bounds-top_i32-count : goal.slice_bounds-top_i32-count
+slice_bounds-top_i32-count c =
+    let some = some_on c.args.state.now.values.items types.I32 [] (indirect_asks c.args.state.now c.args.type_index c.requires.begins) in
+    let long : c.len.result ≡ length c.args.state.now.values.items = search rules in omega arith

@@ -17,3 +17,7 @@ index_mut-requires c = let h = local_set_place c.args.state.now c.args.index c.p
 pub returns : goal.returns
 returns c = λ w k v st. local_sets w c.args.state.now _ k c.args.index c.pop-value.result c.pop-value.new.values.items
     st c.requires c.pop-value.ensures.word refl refl refl refl refl
+
+pub overflow_add-place : goal.overflow_add-place
+overflow_add-place c = let h = local_set_place c.args.state.now c.args.index c.pop-value.result
+    c.pop-value.new.values.items c.requires c.pop-value.ensures.word in search rules

@@ -1,4 +1,5 @@
-use Rattle.std.proofs.Common.{length-set}
+use Rattle.std.proofs.Common.{rules, ◌<◌, length, length-set}
+use Rattle.std.proofs.lemmas.Option.{slice_get-get_or}
 use Rattle.std.specs.Prelude.{slice_set}
 use Rattle.replay_walk.specs.Standing.{SettlesAt}
 use Rattle.replay_walk.proofs.Replaced.{at_place, stayed}
@@ -12,3 +13,12 @@ returns g c =
           (λ x. SettlesAt m x c.settle.result threads c.args.n (slice_set threads c.args.n now))
           (record { replaced = stayed m threads c.args.n _ now c.settle.ensures.stays; settled = c.settle.ensures.settled });
     }
+
+pub settle-requires-clause-here : goal.settle-requires-clause-here
+settle-requires-clause-here g c = let h = c.requires.here _ (slice_get-get_or _ _ c.index-threads-n.result c.requires.within) in (h.1, h.2, h.3)
+
+pub settle-requires-clause-budget : goal.settle-requires-clause-budget
+settle-requires-clause-budget g c = (c.requires.here _ (slice_get-get_or _ _ c.index-threads-n.result c.requires.within)).0
+
+pub offset_bounds-threads-n : goal.offset_bounds-threads-n
+offset_bounds-threads-n g c = let h : c.args.n < length c.args.threads.now = c.requires.within in search rules

@@ -1,4 +1,5 @@
-use Rattle.std.proofs.Common.{length-set}
+use Rattle.std.proofs.Common.{rules, ◌<◌, length, length-set}
+use Rattle.std.proofs.lemmas.Option.{slice_get-get_or}
 use Rattle.std.specs.Prelude.{slice_set}
 use Rattle.replay_walk.specs.Standing.{IsTurnedAt}
 use Rattle.replay_walk.proofs.Replaced.{at_place, stayed}
@@ -12,3 +13,9 @@ returns g c =
           (λ x. IsTurnedAt m x c.args.given c.turn.result threads c.args.n (slice_set threads c.args.n now))
           (record { replaced = stayed m threads c.args.n _ now c.turn.ensures.stays; turned = c.turn.ensures.turned });
     }
+
+pub turn-requires : goal.turn-requires
+turn-requires g c = record { given = c.requires.given _ (slice_get-get_or _ _ c.index-threads-n.result c.requires.within) }
+
+pub offset_bounds-threads-n : goal.offset_bounds-threads-n
+offset_bounds-threads-n g c = let h : c.args.n < length c.args.threads.now = c.requires.within in search rules

@@ -1,4 +1,5 @@
 use Rattle.std.proofs.Common.{◌≡◌, List, Option, sym, ◌∙◌, ap, subst}
+use Rattle.std.proofs.lemmas.Option.{slice_get_within}
 use Rattle.types.specs.declared.event.Event.{Event}
 use Rattle.types.specs.declared.event.Event.TheVariants as events
 use Rattle.types.specs.declared.outcome.Outcome.{Outcome}
@@ -77,3 +78,15 @@ returns-in-Ask-clause-made g c = λ yes s t on memory none wants.
           c.in-Ask.is c.requires.room c.ask.new.threads c.ask.new.self.started
           c.ask.ensures.started c.ask.ensures.full c.ask.ensures.other)),
     )
+
+pub returns-then-not-is_same_reply-clause-made : goal.returns-then-not-is_same_reply-clause-made
+returns-then-not-is_same_reply-clause-made g c = λ is. absurd (cc is)
+
+pub returns-in-Ask-clause-refused : goal.returns-in-Ask-clause-refused
+returns-in-Ask-clause-refused g c = λ is. absurd (cc is)
+
+pub returns-in-Ask-clause-kept : goal.returns-in-Ask-clause-kept
+returns-in-Ask-clause-kept g c = λ is. absurd (cc is)
+
+pub turn_at-requires-clause-within : goal.turn_at-requires-clause-within
+turn_at-requires-clause-within g c = slice_get_within _ _ _ c.requires.settled.2.at

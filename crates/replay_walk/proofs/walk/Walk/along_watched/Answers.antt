@@ -1,4 +1,4 @@
-use Rattle.std.proofs.Common.{◌≡◌, ℕ, refl, subst, take, arith}
+use Rattle.std.proofs.Common.{◌≡◌, ℕ, length, refl, subst, take, arith}
 use Rattle.std.proofs.lemmas.List.{length-take-le}
 use Rattle.replay_walk.specs.Walked.{IsFirstMisfit, standing_in}
 use Rattle.replay_walk.proofs.Along.{goes_in, stops_in, ends_in}
@@ -45,3 +45,22 @@ came-requires g c =
     let new = c.requires.new in
     let w = c.loop-at.invariant new.0 new.1 new.3 in
     (new.0, take c.loop-at.at c.args.log.now, length-take-le c.loop-at.at c.args.log.now (omega (arith, c.loop-at-test.true)), w)
+
+pub take-requires-clause-entry : goal.take-requires-clause-entry
+take-requires-clause-entry g c = c.requires.entries c.loop-at.at _ c.loop-at-test.true
+
+pub returns-then-not-take-clause-whole : goal.returns-then-not-take-clause-whole
+returns-then-not-take-clause-whole g c = λ whole. absurd (cc whole)
+
+pub returns-clause-misfit : goal.returns-clause-misfit
+returns-clause-misfit g c = λ k misfit. absurd (cc misfit)
+
+pub came-requires-2 : goal.came-requires-2
+came-requires-2 g c =
+    let new = c.requires.new in
+    let w = c.loop-at.invariant new.0 new.1 new.3 in
+    let inside = c.loop-at.auto.at-end in
+    let none = c.loop-at-test.false in
+    let taken = length-take-le c.loop-at.at c.args.log.now (omega arith) in
+    let long : length (take c.loop-at.at c.args.log.now) ≡ length c.args.log.now = omega arith in
+    (new.0, take c.loop-at.at c.args.log.now, long, w)

@@ -152,3 +152,12 @@ returns-clause-refused g c = λ no s st same.
     c.args.self.now.stage.started c.args.self.now.stage.ends st c.args.entry.now.thread c.args.limit
     c.args.at c.args.entry.now.event c.args.entry.now.reply
     (λ is. c.make.ensures.refused no (is ∙ ap (λ (m : Memory). reply_of m c.args.entry.now.event) same)))
+
+pub returns-then-at-limit-clause-taken : goal.returns-then-at-limit-clause-taken
+returns-then-at-limit-clause-taken g c = λ yes. absurd (cc yes)
+
+pub returns-in_default-clause-taken : goal.returns-in_default-clause-taken
+returns-in_default-clause-taken g c = λ yes. absurd (cc yes)
+
+pub returns-then-not-is_same_event-clause-taken : goal.returns-then-not-is_same_event-clause-taken
+returns-then-not-is_same_event-clause-taken g c = λ yes. absurd (cc yes)

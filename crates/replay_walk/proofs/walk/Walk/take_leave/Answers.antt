@@ -118,3 +118,15 @@ returns-clause-taken g c = λ yes s st same.
     c.args.self.now.memory c.leave.new.self.queue c.leave.new.self.started
     c.leave.new.self.ends same
     (c.leave.ensures.stands s d.thread l.thread c.settle_at-turn.new.threads d.on (l.can).wants l.ended l.left l.here)
+
+pub returns-then-not-is_going-clause-taken : goal.returns-then-not-is_going-clause-taken
+returns-then-not-is_going-clause-taken g c = λ yes. absurd (cc yes)
+
+pub returns-then-at-limit-clause-taken : goal.returns-then-at-limit-clause-taken
+returns-then-at-limit-clause-taken g c = λ yes. absurd (cc yes)
+
+pub returns-in_default-clause-taken : goal.returns-in_default-clause-taken
+returns-in_default-clause-taken g c = λ yes. absurd (cc yes)
+
+pub returns-clause-refused : goal.returns-clause-refused
+returns-clause-refused g c = λ no. absurd (cc no)

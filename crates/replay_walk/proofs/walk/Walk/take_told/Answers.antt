@@ -18,3 +18,13 @@ returns-clause-taken g c = λ yes s limit at st same.
     (took_told g.T.TakesTurns.meaning s limit at c.args.n c.args.answer c.tell.new.threads c.args.self.now.memory
     c.tell.new.self.queue c.tell.new.self.started c.tell.new.self.ends same
     (c.tell.ensures.told yes s lent))
+
+pub tell-requires : goal.tell-requires
+tell-requires g c =
+    record {
+      standing = (
+        c.requires.standing.0,
+        subst (λ (l : List g.row.T.Denot). IsStanding g.T.TakesTurns.meaning c.requires.standing.0 l
+            c.args.self.now.stage.queue c.args.self.now.stage.started c.args.self.now.stage.ends) (sym c.deref_mut.ensures.value) c.requires.standing.1,
+      );
+    }
