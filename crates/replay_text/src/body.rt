@@ -2,15 +2,14 @@
 
 ghost use Rattle.std.specs.Prelude.{◌≤◌};
 ghost use Rattle.types.specs.Limits.{most_limit, most_threads};
-ghost use Rattle.replay_forms.specs.Reading.{Reads};
 ghost use Rattle.replay_text.specs.Faults.{Gives, Refuses};
-ghost use Rattle.replay_text.specs.Reading.{pages_at, ends_at, body_at};
+ghost use Rattle.replay_text.specs.Reading.{ends_at, body_at};
 
 use crate::end::EndLine;
 use crate::entry::EntryLine;
 use crate::fault::RecordFault;
 use crate::header::Scale;
-use crate::number::u32_then;
+use crate::number::u32_behind;
 use replay_forms::{after, several};
 use std::alloc::Global;
 use types::{Entry, Sequence, ThreadReport};
@@ -41,14 +40,6 @@ fn fault_at(line: usize, rest: &[u8]) -> RecordFault
     }
 }
 
-fn pages_at(max_pages: u32, bytes: &[u8]) -> Option<(u32, &[u8])>
-    ensures { Reads (λ r. (r.0, r.1.now)) result (pages_at max_pages bytes.now) }
-{
-    let rest = after(b"pages ", bytes)?;
-    let (pages, rest) = u32_then(max_pages, b"\n", rest)?;
-    Some((pages, rest))
-}
-
 /// The end lines, of so many threads at most, and the two lines behind them. The first is the line of this number.
 #[tactic(auto, unfolding(crate::specs::Reading::ends_at), using(crate::proofs::Faults::fails_none))]
 fn ends_in(
@@ -66,7 +57,7 @@ fn ends_in(
     if ends.is_empty() {
         return Err(fault_at(line, rest));
     }
-    let Some((pages, rest)) = pages_at(scale.max_pages, rest) else {
+    let Some((pages, rest)) = u32_behind(b"pages ", scale.max_pages, b"\n", rest) else {
         return Err(fault_at(line, rest));
     };
     let Some(rest) = after(b"finish\n", rest) else {
