@@ -2,7 +2,7 @@
 
 ghost use Rattle.std.specs.Prelude.{◌≡◌, codes};
 ghost use Rattle.replay_forms.specs.Reading.{Reads, behind};
-ghost use Rattle.replay_text.specs.Reading.{trap_of, stop_of, result_at, trap_at, stop_at, outcome_at, end_at};
+ghost use Rattle.replay_text.specs.Reading.{trap_of, stop_of, result_at, trap_at, stop_at, outcome_at, report_of, end_at};
 
 use crate::number::number_behind;
 use crate::value::value_at;
@@ -92,6 +92,17 @@ fn outcome_at(bytes: &[u8]) -> Option<(Outcome, &[u8])>
     stop_at(bytes)
 }
 
+/// The report, where the number is the thread's.
+fn report_of(thread: usize, number: u64, report: ThreadReport) -> Option<ThreadReport>
+    ensures { result ≡ report_of thread (number, (report.outcome, report.spent)) }
+{
+    if number as usize == thread {
+        Some(report)
+    } else {
+        None
+    }
+}
+
 /// The line of this thread's end.
 #[tactic(auto, unfolding(crate::specs::Reading::end_at))]
 fn end_at(thread: usize, bytes: &[u8]) -> Option<(ThreadReport, &[u8])>
@@ -109,11 +120,10 @@ fn end_at(thread: usize, bytes: &[u8]) -> Option<(ThreadReport, &[u8])>
     let Some((spent, rest)) = number_then(MOST_FUEL, b"\n", rest) else {
         return None;
     };
-    if number as usize == thread {
-        Some((ThreadReport { outcome, spent }, rest))
-    } else {
-        None
-    }
+    let Some(report) = report_of(thread, number, ThreadReport { outcome, spent }) else {
+        return None;
+    };
+    Some((report, rest))
 }
 
 /// The lines of the threads' ends.
