@@ -1,6 +1,5 @@
 //! A run over the row of words.
-ghost use Rattle.std.specs.Prelude.{◌≡◌, ◌≤◌, ◌*◌, ℕ, List, [], length, vec_capacity, IfOk, IfErr};
-ghost use Rattle.types.specs.declared.value.Value.{Value};
+ghost use Rattle.std.specs.Prelude.{◌≡◌, ◌≤◌, ◌*◌, [], length, vec_capacity, IfOk, IfErr};
 ghost use Rattle.types.specs.Limits.{page_size};
 ghost use Rattle.spawn_host.specs.Entries.{Takes};
 ghost use Rattle.spawn_host.specs.Runs.{opening_memory};
@@ -46,27 +45,11 @@ where
 {
     // Before the memory takes room, so that a call that can't be made is told as such.
     let _ = first_thread(alloc, module, call)?;
-    let bytes = Vec::with_capacity(alloc, PAGE_SIZE * module.pages_max() as usize)?;
-    let prepared = match prepare(alloc, module) {
-        Ok(prepared) => prepared,
-        Err(fault) => {
-            drop(bytes);
-            return Err(fault);
-        }
-    };
-    run_named::<Brand, _, _>(rt, alloc, module, prepared, bytes, call, gate)
-}
-
-/// What a row of words is made of, where it is the module's.
-fn prepare(alloc: Global, module: &ValidModule) -> Result<Prepared, RecordRunFault>
-    ensures opening { IfOk result (λ p. p.opening ≡ opening_memory «module».now.parts) }
-    ensures fault { IfErr result (λ fault. (name : List ℕ) (args : List Value) → Takes «module».now.parts name args
-        → IsWordsFault «module».now.parts name args fault) }
-{
     show_memory_opens(module);
+    let bytes = Vec::with_capacity(alloc, PAGE_SIZE * module.pages_max() as usize)?;
     let image = module.image(alloc)?;
     let prepared = Prepared::new(alloc, &image, module.pages_max())?;
-    Ok(prepared)
+    run_named::<Brand, _, _>(rt, alloc, module, prepared, bytes, call, gate)
 }
 
 /// The same, over a row whose type has been named.
