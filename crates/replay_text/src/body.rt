@@ -1,16 +1,16 @@
 //! Reading what stands behind the header.
 
-ghost use Rattle.std.specs.Prelude.{◌≤◌};
+ghost use Rattle.std.specs.Prelude.{◌≤◌, ℕ, List, Some, option_and_then};
 ghost use Rattle.types.specs.Limits.{most_limit, most_threads};
-ghost use Rattle.replay_forms.specs.Reading.{Reads};
 ghost use Rattle.replay_text.specs.Faults.{Gives, Refuses};
-ghost use Rattle.replay_text.specs.Reading.{pages_at, ends_at, body_at};
+ghost use Rattle.replay_text.specs.Reading.{pages_at, last_line, ends_at, body_at};
+ghost use Rattle.replay_forms.specs.Reading.{after};
 
 use crate::end::EndLine;
 use crate::entry::EntryLine;
 use crate::fault::RecordFault;
 use crate::header::Scale;
-use crate::number::u32_then;
+use crate::number::u32_behind;
 use replay_forms::{after, several};
 use std::alloc::Global;
 use types::{Entry, Sequence, ThreadReport};
@@ -41,12 +41,19 @@ fn fault_at(line: usize, rest: &[u8]) -> RecordFault
     }
 }
 
-fn pages_at(max_pages: u32, bytes: &[u8]) -> Option<(u32, &[u8])>
-    ensures { Reads (λ r. (r.0, r.1.now)) result (pages_at max_pages bytes.now) }
+/// The pages after the run, and the line `finish`.
+fn last_lines_in(max_pages: u32, line: usize, bytes: &[u8]) -> Result<(u32, &[u8]), RecordFault>
+    requires { line ≤ 2000064 }
+    ensures { Gives {Y = ℕ × List ℕ} (λ r. (r.0, r.1.now)) result (option_and_then
+        (λ pages. option_and_then (λ rest. Some (pages.0, rest)) (after last_line pages.1)) (pages_at max_pages bytes.now)) }
 {
-    let rest = after(b"pages ", bytes)?;
-    let (pages, rest) = u32_then(max_pages, b"\n", rest)?;
-    Some((pages, rest))
+    let Some((pages, rest)) = u32_behind(b"pages ", max_pages, b"\n", bytes) else {
+        return Err(fault_at(line, bytes));
+    };
+    let Some(rest) = after(b"finish\n", rest) else {
+        return Err(fault_at(line + 1, rest));
+    };
+    Ok((pages, rest))
 }
 
 /// The end lines, of so many threads at most, and the two lines behind them. The first is the line of this number.
@@ -62,16 +69,10 @@ fn ends_in(
     ensures { Gives (λ r. ((r.0.ends, r.0.pages), r.1.now)) result (ends_at scale.threads scale.max_pages bytes.now) }
 {
     let (ends, rest) = several(alloc, &EndLine, scale.threads as usize, bytes)?;
-    let line = line + ends.len();
     if ends.is_empty() {
         return Err(fault_at(line, rest));
     }
-    let Some((pages, rest)) = pages_at(scale.max_pages, rest) else {
-        return Err(fault_at(line, rest));
-    };
-    let Some(rest) = after(b"finish\n", rest) else {
-        return Err(fault_at(line + 1, rest));
-    };
+    let (pages, rest) = last_lines_in(scale.max_pages, line + ends.len(), rest)?;
     let ends = Ends {
         ends: Sequence::from_vec(ends),
         pages,

@@ -1,10 +1,10 @@
 //! Reading the ends of threads.
 
-ghost use Rattle.std.specs.Prelude.{◌≡◌, [], ◌∷◌, codes};
-ghost use Rattle.types.specs.Limits.{most_fuel};
-ghost use Rattle.replay_forms.specs.Reading.{Reads, behind, both, number_then};
-ghost use Rattle.replay_text.specs.Reading.{trap_of, stop_of, result_at, trap_at, stop_at, outcome_at, end_at};
+ghost use Rattle.std.specs.Prelude.{◌≡◌, codes};
+ghost use Rattle.replay_forms.specs.Reading.{Reads, behind};
+ghost use Rattle.replay_text.specs.Reading.{trap_of, stop_of, result_at, trap_at, stop_at, outcome_at, report_of, end_at};
 
+use crate::number::number_behind;
 use crate::value::value_at;
 use replay_forms::{Item, after, number_then};
 use types::{MOST_FUEL, MOST_SPAWNED, Outcome, Stop, ThreadReport, Trap};
@@ -41,27 +41,39 @@ fn stop_of(number: u64) -> Option<Stop>
 fn result_at(bytes: &[u8]) -> Option<(Outcome, &[u8])>
     ensures { Reads (λ r. (r.0, r.1.now)) result (behind (codes "ok ") result_at bytes.now) }
 {
-    let rest = after(b"ok ", bytes)?;
-    let (value, rest) = value_at(rest)?;
-    let rest = after(b" ", rest)?;
+    let Some(rest) = after(b"ok ", bytes) else {
+        return None;
+    };
+    let Some((value, rest)) = value_at(rest) else {
+        return None;
+    };
+    let Some(rest) = after(b" ", rest) else {
+        return None;
+    };
     Some((Outcome::Done(Some(value)), rest))
 }
 
 fn trap_at(bytes: &[u8]) -> Option<(Outcome, &[u8])>
     ensures { Reads (λ r. (r.0, r.1.now)) result (trap_at bytes.now) }
 {
-    let rest = after(b"trap ", bytes)?;
-    let (number, rest) = number_then(10, b" ", rest)?;
-    let trap = trap_of(number)?;
+    let Some((number, rest)) = number_behind(b"trap ", 10, b" ", bytes) else {
+        return None;
+    };
+    let Some(trap) = trap_of(number) else {
+        return None;
+    };
     Some((Outcome::Trap(trap), rest))
 }
 
 fn stop_at(bytes: &[u8]) -> Option<(Outcome, &[u8])>
     ensures { Reads (λ r. (r.0, r.1.now)) result (stop_at bytes.now) }
 {
-    let rest = after(b"stop ", bytes)?;
-    let (number, rest) = number_then(3, b" ", rest)?;
-    let stop = stop_of(number)?;
+    let Some((number, rest)) = number_behind(b"stop ", 3, b" ", bytes) else {
+        return None;
+    };
+    let Some(stop) = stop_of(number) else {
+        return None;
+    };
     Some((Outcome::Stop(stop), rest))
 }
 
@@ -80,13 +92,15 @@ fn outcome_at(bytes: &[u8]) -> Option<(Outcome, &[u8])>
     stop_at(bytes)
 }
 
-/// How a thread ended and what it spent, up to the end of its line.
-fn report_at(bytes: &[u8]) -> Option<(ThreadReport, &[u8])>
-    ensures { Reads (λ r. ((r.0.outcome, r.0.spent), r.1.now)) result (both outcome_at (number_then most_fuel (10 ∷ [])) bytes.now) }
+/// The report, where the number is the thread's.
+fn report_of(thread: usize, number: u64, report: ThreadReport) -> Option<ThreadReport>
+    ensures { result ≡ report_of thread (number, (report.outcome, report.spent)) }
 {
-    let (outcome, rest) = outcome_at(bytes)?;
-    let (spent, rest) = number_then(MOST_FUEL, b"\n", rest)?;
-    Some((ThreadReport { outcome, spent }, rest))
+    if number as usize == thread {
+        Some(report)
+    } else {
+        None
+    }
 }
 
 /// The line of this thread's end.
@@ -94,14 +108,22 @@ fn report_at(bytes: &[u8]) -> Option<(ThreadReport, &[u8])>
 fn end_at(thread: usize, bytes: &[u8]) -> Option<(ThreadReport, &[u8])>
     ensures { Reads (λ r. (r.0, r.1.now)) result (end_at thread bytes.now) }
 {
-    let rest = after(b"end ", bytes)?;
-    let (number, rest) = number_then(MOST_SPAWNED as u64, b" ", rest)?;
-    let (report, rest) = report_at(rest)?;
-    if number as usize == thread {
-        Some((report, rest))
-    } else {
-        None
-    }
+    let Some(rest) = after(b"end ", bytes) else {
+        return None;
+    };
+    let Some((number, rest)) = number_then(MOST_SPAWNED as u64, b" ", rest) else {
+        return None;
+    };
+    let Some((outcome, rest)) = outcome_at(rest) else {
+        return None;
+    };
+    let Some((spent, rest)) = number_then(MOST_FUEL, b"\n", rest) else {
+        return None;
+    };
+    let Some(report) = report_of(thread, number, ThreadReport { outcome, spent }) else {
+        return None;
+    };
+    Some((report, rest))
 }
 
 /// The lines of the threads' ends.

@@ -5,6 +5,7 @@ ghost use Rattle.replay_text.specs.Reading.{reply_at, entry_at};
 
 use crate::conditions::is_reply_to;
 use crate::event::event_at;
+use crate::number::u32_then;
 use replay_forms::{Item, after, number_then};
 use shared_memory::is_event;
 use types::{Entry, Reply};
@@ -19,8 +20,10 @@ fn reply_at(bytes: &[u8]) -> Option<(Reply, &[u8])>
     if let Some(rest) = after(b"done\n", bytes) {
         return Some((Reply::Done, rest));
     }
-    let rest = after(b"out\n", bytes)?;
-    Some((Reply::OutOfBounds, rest))
+    if let Some(rest) = after(b"out\n", bytes) {
+        return Some((Reply::OutOfBounds, rest));
+    }
+    None
 }
 
 /// The line of an entry of one of so many threads.
@@ -28,13 +31,21 @@ fn reply_at(bytes: &[u8]) -> Option<(Reply, &[u8])>
 fn entry_at(threads: u32, bytes: &[u8]) -> Option<(Entry, &[u8])>
     ensures { Reads (λ r. (r.0, r.1.now)) result (entry_at threads bytes.now) }
 {
-    let (thread, rest) = number_then(threads.saturating_sub(1) as u64, b" ", bytes)?;
-    let (event, rest) = event_at(rest)?;
-    let rest = after(b"= ", rest)?;
-    let (reply, rest) = reply_at(rest)?;
+    let Some((thread, rest)) = u32_then(threads.saturating_sub(1), b" ", bytes) else {
+        return None;
+    };
+    let Some((event, rest)) = event_at(rest) else {
+        return None;
+    };
+    let Some(rest) = after(b"= ", rest) else {
+        return None;
+    };
+    let Some((reply, rest)) = reply_at(rest) else {
+        return None;
+    };
     if is_event(event) && is_reply_to(event, reply) {
         let entry = Entry {
-            thread: thread as u32,
+            thread,
             event,
             reply,
         };

@@ -2,15 +2,15 @@
 
 ghost use Rattle.std.specs.Prelude.{◌≤◌, IfOk, IfSome};
 ghost use Rattle.types.specs.Limits.{most_limit, most_threads};
-ghost use Rattle.replay_forms.specs.Reading.{Reads};
+ghost use Rattle.replay_forms.specs.Reading.{Reads, both};
 ghost use Rattle.replay_text.specs.Faults.{Gives};
-ghost use Rattle.replay_text.specs.Reading.{named, count_at, module_at, scale_at, invoke_at, args_at, fuel_at, limit_at, header_at};
+ghost use Rattle.replay_text.specs.Reading.{named, count_at, scale_at, invoke_at, args_at, fuel_at, limit_at, header_at};
 
 use crate::fault::RecordFault;
-use crate::number::u32_then;
+use crate::number::{number_behind, u32_behind};
 use crate::value::Argument;
 use crate::version::{FIRST_PAGES, FIRST_THREADS, Version};
-use replay_forms::{HexByte, after, number_then, several};
+use replay_forms::{HexByte, after, several};
 use std::alloc::Global;
 use types::{
     MOST_FUEL, MOST_LIMIT, MOST_MODULE_BYTES, MOST_PAGES, MOST_THREADS, Name, Sequence, Value,
@@ -40,20 +40,13 @@ fn count_at<'a>(word: &[u8], max: u32, bytes: &'a [u8]) -> Option<(u32, &'a [u8]
     ensures reads { Reads (λ r. (r.0, r.1.now)) result (count_at word.now max bytes.now) }
     ensures within { IfSome result (λ r. r.0 ≤ max) }
 {
-    let rest = after(word, bytes)?;
-    let (number, rest) = u32_then(max, b"\n", rest)?;
+    let Some((number, rest)) = u32_behind(word, max, b"\n", bytes) else {
+        return None;
+    };
     if number == 0 {
         return None;
     }
     Some((number, rest))
-}
-
-fn module_at(bytes: &[u8]) -> Option<(u32, &[u8])>
-    ensures { Reads (λ r. (r.0, r.1.now)) result (module_at bytes.now) }
-{
-    let rest = after(b"module ", bytes)?;
-    let (length, rest) = u32_then(MOST_MODULE_BYTES as u32, b"\n", rest)?;
-    Some((length, rest))
 }
 
 /// The first line, and in version 2 the three behind it.
@@ -74,7 +67,8 @@ fn scale_in(bytes: &[u8]) -> Result<(Scale, &[u8]), RecordFault>
     let Some(rest) = after(b"wathread-record 2\n", bytes) else {
         return Err(RecordFault::Header(1));
     };
-    let Some((module_len, rest)) = module_at(rest) else {
+    let most = MOST_MODULE_BYTES as u32;
+    let Some((module_len, rest)) = u32_behind(b"module ", most, b"\n", rest) else {
         return Err(RecordFault::Header(2));
     };
     let Some((threads, rest)) = count_at(b"threads ", MOST_THREADS as u32, rest) else {
@@ -144,18 +138,19 @@ fn args_in(
     Ok((Sequence::from_vec(args), rest))
 }
 
-fn fuel_at(bytes: &[u8]) -> Option<(u64, &[u8])>
-    ensures { Reads (λ r. (r.0, r.1.now)) result (fuel_at bytes.now) }
+/// The lines of the fuel and of the limit.
+fn budget_in(line: usize, bytes: &[u8]) -> Result<((u64, u32), &[u8]), RecordFault>
+    requires { line ≤ 7 }
+    ensures limit { IfOk result (λ r. r.0.1 ≤ most_limit) }
+    ensures gives { Gives (λ r. (r.0, r.1.now)) result (both fuel_at limit_at bytes.now) }
 {
-    let rest = after(b"fuel ", bytes)?;
-    number_then(MOST_FUEL, b"\n", rest)
-}
-
-fn limit_at(bytes: &[u8]) -> Option<(u32, &[u8])>
-    ensures reads { Reads (λ r. (r.0, r.1.now)) result (limit_at bytes.now) }
-    ensures within { IfSome result (λ r. r.0 ≤ most_limit) }
-{
-    count_at(b"limit ", MOST_LIMIT, bytes)
+    let Some((fuel, rest)) = number_behind(b"fuel ", MOST_FUEL, b"\n", bytes) else {
+        return Err(RecordFault::Header(line));
+    };
+    let Some((limit, rest)) = count_at(b"limit ", MOST_LIMIT, rest) else {
+        return Err(RecordFault::Header(line + 1));
+    };
+    Ok(((fuel, limit), rest))
 }
 
 /// The lines before the entries.
@@ -175,12 +170,7 @@ pub fn header_in(alloc: Global, bytes: &[u8]) -> Result<(Header, &[u8]), RecordF
     let last = scale.version.header_lines();
     let (invoke, rest) = invoke_in(alloc, last - 3, rest)?;
     let (args, rest) = args_in(alloc, last - 2, rest)?;
-    let Some((fuel, rest)) = fuel_at(rest) else {
-        return Err(RecordFault::Header(last - 1));
-    };
-    let Some((limit, rest)) = limit_at(rest) else {
-        return Err(RecordFault::Header(last));
-    };
+    let ((fuel, limit), rest) = budget_in(last - 1, rest)?;
     let header = Header {
         scale,
         invoke,

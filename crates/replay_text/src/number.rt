@@ -1,25 +1,44 @@
-//! Reading numbers of 32 bits.
+//! Reading numbers behind words, and numbers of 32 bits.
 
 ghost use Rattle.std.specs.Prelude.{◌≤◌, IfSome};
-ghost use Rattle.replay_forms.specs.Reading.{Reads, number_within, number_then};
+ghost use Rattle.replay_forms.specs.Reading.{Reads, behind, number_then};
 
-use replay_forms::{after, number_within};
+use replay_forms::{after, number_then};
 
-/// A decimal of at most `max`, without leading zeros.
-pub fn u32_within(max: u32, bytes: &[u8]) -> Option<(u32, &[u8])>
-    ensures reads { Reads (λ r. (r.0, r.1.now)) result (number_within max bytes.now) }
+/// A decimal of at most `max`, without leading zeros, and the word behind it.
+pub fn u32_then<'a>(max: u32, end: &[u8], bytes: &'a [u8]) -> Option<(u32, &'a [u8])>
+    ensures reads { Reads (λ r. (r.0, r.1.now)) result (number_then max end.now bytes.now) }
     ensures within { IfSome result (λ r. r.0 ≤ max) }
 {
-    let (n, rest) = number_within(max as u64, bytes)?;
+    let Some((n, rest)) = number_then(max as u64, end, bytes) else {
+        return None;
+    };
     Some((n as u32, rest))
 }
 
-/// A decimal of at most `max`, without leading zeros, and the word behind it.
-pub fn u32_then<'a>(max: u32, word: &[u8], bytes: &'a [u8]) -> Option<(u32, &'a [u8])>
-    ensures reads { Reads (λ r. (r.0, r.1.now)) result (number_then max word.now bytes.now) }
+/// A word, a decimal of at most `max` without leading zeros, and the word behind it.
+pub fn number_behind<'a>(
+    word: &[u8],
+    max: u64,
+    end: &[u8],
+    bytes: &'a [u8],
+) -> Option<(u64, &'a [u8])>
+    ensures reads { Reads (λ r. (r.0, r.1.now)) result (behind word.now (number_then max end.now) bytes.now) }
     ensures within { IfSome result (λ r. r.0 ≤ max) }
 {
-    let (n, rest) = u32_within(max, bytes)?;
-    let rest = after(word, rest)?;
-    Some((n, rest))
+    let Some(rest) = after(word, bytes) else {
+        return None;
+    };
+    number_then(max, end, rest)
+}
+
+/// The same of 32 bits.
+pub fn u32_behind<'a>(word: &[u8], max: u32, end: &[u8], bytes: &'a [u8]) -> Option<(u32, &'a [u8])>
+    ensures reads { Reads (λ r. (r.0, r.1.now)) result (behind word.now (number_then max end.now) bytes.now) }
+    ensures within { IfSome result (λ r. r.0 ≤ max) }
+{
+    let Some(rest) = after(word, bytes) else {
+        return None;
+    };
+    u32_then(max, end, rest)
 }

@@ -3,23 +3,30 @@
 ghost use Rattle.replay_forms.specs.Reading.{Reads};
 ghost use Rattle.replay_text.specs.Reading.{i32_at, i64_at, value_at};
 
-use crate::number::u32_within;
 use replay_forms::{Item, after, number_within};
 use types::Value;
 
 fn i32_at(bytes: &[u8]) -> Option<(Value, &[u8])>
     ensures { Reads (λ r. (r.0, r.1.now)) result (i32_at bytes.now) }
 {
-    let rest = after(b"i32:", bytes)?;
-    let (n, rest) = u32_within(u32::MAX, rest)?;
-    Some((Value::I32(n), rest))
+    let Some(rest) = after(b"i32:", bytes) else {
+        return None;
+    };
+    let Some((n, rest)) = number_within(u32::MAX as u64, rest) else {
+        return None;
+    };
+    Some((Value::I32(n as u32), rest))
 }
 
 fn i64_at(bytes: &[u8]) -> Option<(Value, &[u8])>
     ensures { Reads (λ r. (r.0, r.1.now)) result (i64_at bytes.now) }
 {
-    let rest = after(b"i64:", bytes)?;
-    let (n, rest) = number_within(u64::MAX, rest)?;
+    let Some(rest) = after(b"i64:", bytes) else {
+        return None;
+    };
+    let Some((n, rest)) = number_within(u64::MAX, rest) else {
+        return None;
+    };
     Some((Value::I64(n), rest))
 }
 
@@ -44,8 +51,9 @@ impl Item for Argument {
     ghost at = { λ kind place. arg_at };
 
     fn read<'a>(&self, _place: usize, bytes: &'a [u8]) -> Option<(Value, &'a [u8])> {
-        let rest = after(b" ", bytes)?;
-        let (value, rest) = value_at(rest)?;
-        Some((value, rest))
+        let Some(rest) = after(b" ", bytes) else {
+            return None;
+        };
+        value_at(rest)
     }
 }

@@ -10,7 +10,7 @@ pub const FIRST_THREADS: u32 = 16;
 pub const FIRST_PAGES: u32 = 64;
 
 /// Which of its two texts a record has.
-#[derive(Clone, Copy, PartialEq, Eq, Debug)]
+#[derive(Clone, Copy, PartialEq, Eq)]
 pub enum Version {
     /// It says nothing of the module, and a run has 16 threads and a memory 64 pages at most.
     One,

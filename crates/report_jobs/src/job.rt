@@ -1,5 +1,5 @@
 //! Checks, runs and replays of a module's bytes: what is printed, and with which status they end.
-ghost use Rattle.std.specs.Prelude.{◌≡◌, ◌≤◌, ◌⊎◌, ℕ, List, OnOk};
+ghost use Rattle.std.specs.Prelude.{◌≡◌, ◌≤◌, ◌⊎◌, ℕ, List, length, Option, IfOk, IfErr, OnOk};
 ghost use Rattle.std.specs.Io.KnownBytes.{Appends};
 ghost use Rattle.report_lines.specs.Lines.{functions_line};
 ghost use Rattle.types.specs.declared.parts.Parts.{Parts};
@@ -19,6 +19,7 @@ use std::alloc::Global;
 use std::io::{self, Write};
 use std::sync::Wait;
 use std::thread::Threads;
+use types::Module;
 use validate_typing::ValidFault;
 
 /// The statuses with which the program ends, beside 0 and 1 for a run.
@@ -39,10 +40,32 @@ pub fn check<W: Write, E: Write>(alloc: Global, bytes: &[u8], out: &mut W, err: 
     ensures refused { result ≡ 2 → IsNoValidModule bytes.now }
     ensures status { (result ≡ 0) ⊎ (result ≡ 2) ⊎ (result ≡ 5) }
 {
-    match load_checked(alloc, bytes) {
-        Ok(found) => accept(found.parts().functions.len(), out, err),
+    match functions_in(alloc, bytes) {
+        Ok(functions) => accept(functions, out, err),
         Err(refusal) => refuse(err, refusal),
     }
+}
+
+/// How many functions of its own the valid module has which the bytes spell.
+fn functions_in(alloc: Global, bytes: &[u8]) -> Result<usize, Refusal>
+    ensures ok { IfOk result (λ count. (old new : Option (List ℕ)) → Appends old new (functions_line count)
+        → IsAccepted bytes.now old new) }
+    ensures err { IfErr result (λ e. IsRefused bytes.now e) }
+{
+    match load_checked(alloc, bytes) {
+        Ok(found) => {
+            let functions = count_functions(&found);
+            drop(found);
+            Ok(functions)
+        }
+        Err(refusal) => Err(refusal),
+    }
+}
+
+fn count_functions(of: &Module) -> usize
+    ensures { result ≡ length of.now.functions }
+{
+    of.parts().functions.len()
 }
 
 /// Writes the line of an accepted module, and answers the status: 0, or 5 where the stream failed.

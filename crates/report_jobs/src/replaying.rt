@@ -8,7 +8,7 @@ ghost use Rattle.report_jobs.specs.Jobs.{PrintsReplay, IsUnfit};
 
 use crate::running::print;
 use replay::{ReplayFault, replay};
-use replay_text::{RecordFault, read_record};
+use replay_text::{Record, RecordFault, read_record};
 use std::alloc::Global;
 use std::io::Write;
 use validate::ValidModule;
@@ -38,18 +38,32 @@ pub(crate) fn replay_record<W: Write>(
     ensures prints { IfOk result (PrintsReplay «module».now.parts saved.now dump (W.contents out.old) (W.contents out.new)) }
     ensures unfit { IfErr result (λ unfit. IsUnfit «module».now.parts saved.now unfit) }
 {
-    let record = match read_record(alloc, saved) {
-        Ok(record) => record,
-        Err(RecordFault::NoMemory) => return Err(Unfit::NoMemory),
-        Err(fault) => return Err(Unfit::Unread(fault)),
-    };
-    let end = match replay(alloc, module, &record) {
-        Ok(end) => end,
-        Err(fault) => return Err(misfit(fault)),
-    };
-    match print(out, &end, dump) {
-        Ok(status) => Ok(status),
-        Err(_) => Err(Unfit::Output),
+    match read_record(alloc, saved) {
+        Ok(record) => print_replay(alloc, module, &record, dump, out),
+        Err(RecordFault::NoMemory) => Err(Unfit::NoMemory),
+        Err(fault) => Err(Unfit::Unread(fault)),
+    }
+}
+
+/// The same of a record that was read.
+fn print_replay<W: Write>(
+    alloc: Global,
+    module: &ValidModule,
+    recorded: &Record,
+    dump: u32,
+    out: &mut W,
+) -> Result<u8, Unfit>
+    requires { IsRecord recorded.now }
+    ensures prints { IfOk result (λ status. (saved : List ℕ) → saved ≡ record_text recorded.now
+        → PrintsReplay «module».now.parts saved dump (W.contents out.old) (W.contents out.new) status) }
+    ensures unfit { IfErr result (λ unfit. (saved : List ℕ) → saved ≡ record_text recorded.now → IsUnfit «module».now.parts saved unfit) }
+{
+    match replay(alloc, module, recorded) {
+        Ok(end) => match print(out, &end, dump) {
+            Ok(status) => Ok(status),
+            Err(_) => Err(Unfit::Output),
+        },
+        Err(fault) => Err(misfit(fault)),
     }
 }
 

@@ -1,5 +1,5 @@
 //! Runs of modules by the program: over which memory, and what is printed.
-ghost use Rattle.std.specs.Prelude.{◌≡◌, ◌≤◌, true, map, IfOk, IfErr, OnOk};
+ghost use Rattle.std.specs.Prelude.{◌≡◌, ◌≤◌, ◌⊎◌, true, false, map, is_some, IfOk, IfErr, OnOk};
 ghost use Rattle.std.specs.Io.KnownBytes.{Appends};
 ghost use Rattle.std.specs.List.{list_all};
 ghost use Rattle.types.specs.Limits.{most_fuel};
@@ -8,7 +8,7 @@ ghost use Rattle.spawn_host.specs.Entries.{Takes};
 ghost use Rattle.replay_text.specs.Text.{record_text};
 ghost use Rattle.report_jobs.specs.Arguments.{AreSpelled};
 ghost use Rattle.report_jobs.specs.Prints as specified;
-ghost use Rattle.report_jobs.specs.Prints.{change, Prints, PrintsRun};
+ghost use Rattle.report_jobs.specs.Prints.{Change, change, Prints, PrintsRun};
 ghost use Rattle.report_jobs.specs.Troubles.{IsTrouble, request_of, trouble_of, trouble_of_recording};
 ghost use Rattle.report_jobs.specs.declared.running.Trouble.TheVariants as troubles;
 
@@ -146,20 +146,91 @@ where
     ensures trouble { IfErr result (IsTrouble «module».now.parts wanted.now.invoke.now (map (λ text. text.now) wanted.now.args.now)) }
 {
     let args = args_of(alloc, module, wanted)?;
+    if wanted.on_words {
+        run_unrecorded(rt, alloc, module, wanted, &args, out)
+    } else {
+        run_recorded(rt, alloc, module, wanted, &args, out, save)
+    }
+}
+
+/// The same by these arguments, over the row of words.
+fn run_unrecorded<R, W>(
+    rt: &R,
+    alloc: Global,
+    module: &ValidModule,
+    wanted: &Wanted,
+    args: &[Value],
+    out: &mut W,
+) -> Result<u8, Trouble>
+where
+    R: Threads + Wait + Sync,
+    W: Write,
+    requires memory { wanted.now.on_words ≡ true }
+    requires spelled { AreSpelled (map (λ text. text.now) wanted.now.args.now) args.now }
+    requires takes { Takes «module».now.parts wanted.now.invoke.now args.now }
+    ensures made { IfOk result (λ status. (saved : Change) → PrintsRun «module».now.parts (request_of wanted.now)
+        (change (W.contents out.old) (W.contents out.new)) saved status) }
+    ensures trouble { IfErr result (IsTrouble «module».now.parts wanted.now.invoke.now (map (λ text. text.now) wanted.now.args.now)) }
+{
     let call = Call {
         name: wanted.invoke,
-        args: &args,
+        args,
         fuel: wanted.fuel,
     };
     show_distinct(module);
-    if wanted.on_words {
-        let end = run_on_words(rt, alloc, module, call, &OpenGate)?;
-        let status = print(out, &end, wanted.dump)?;
-        return Ok(status);
-    }
+    let end = run_on_words(rt, alloc, module, call, &OpenGate)?;
+    print(out, &end, wanted.dump)
+}
+
+/// The same by these arguments, over the memory that records.
+fn run_recorded<R, W, S>(
+    rt: &R,
+    alloc: Global,
+    module: &ValidModule,
+    wanted: &Wanted,
+    args: &[Value],
+    out: &mut W,
+    save: &mut S,
+) -> Result<u8, Trouble>
+where
+    R: Threads + Wait + Sync,
+    W: Write,
+    S: Write,
+    requires fuel { wanted.now.fuel ≤ most_fuel }
+    requires memory { wanted.now.on_words ≡ false }
+    requires spelled { AreSpelled (map (λ text. text.now) wanted.now.args.now) args.now }
+    requires takes { Takes «module».now.parts wanted.now.invoke.now args.now }
+    ensures made { IfOk result (PrintsRun «module».now.parts (request_of wanted.now)
+        (change (W.contents out.old) (W.contents out.new)) (change (S.contents save.old) (S.contents save.new))) }
+    ensures trouble { IfErr result (IsTrouble «module».now.parts wanted.now.invoke.now (map (λ text. text.now) wanted.now.args.now)) }
+{
+    let call = Call {
+        name: wanted.invoke,
+        args,
+        fuel: wanted.fuel,
+    };
+    show_distinct(module);
     let (record, end) = record_run(rt, alloc, module, call, wanted.limit, &OpenGate)?;
-    let status = print(out, &end, wanted.dump)?;
-    keep(&record, wanted.save.is_some(), save)?;
+    let status = print_and_keep(&record, &end, wanted, out, save);
+    drop(record);
+    drop(end);
+    status
+}
+
+/// Prints the lines of a recorded run, and writes the record where it is wanted.
+fn print_and_keep<W: Write, S: Write>(
+    recorded: &Record,
+    end: &EndState,
+    wanted: &Wanted,
+    out: &mut W,
+    save: &mut S,
+) -> Result<u8, Trouble>
+    ensures made { IfOk result (λ status. Prints end.now wanted.now.dump (change (W.contents out.old) (W.contents out.new)) status
+        × (is_some wanted.now.save ≡ true → Appends (S.contents save.old) (S.contents save.new) (record_text recorded.now))) }
+    ensures trouble { IfErr result (λ trouble. (trouble ≡ troubles.Output) ⊎ (trouble ≡ troubles.Save)) }
+{
+    let status = print(out, end, wanted.dump)?;
+    keep(recorded, wanted.save.is_some(), save)?;
     Ok(status)
 }
 

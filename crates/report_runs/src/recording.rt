@@ -1,5 +1,6 @@
 //! A run over the memory that records.
-ghost use Rattle.std.specs.Prelude.{◌≡◌, ◌≤◌, ◌+◌, ◌++◌, [], length, vec_len, vec_capacity, IfOk, IfErr};
+ghost use Rattle.std.specs.Prelude.{◌≡◌, ◌≤◌, ◌+◌, ◌++◌, ℕ, List, [], length, vec_len, vec_capacity, IfOk, IfErr};
+ghost use Rattle.types.specs.declared.value.Value.{Value};
 ghost use Rattle.types.specs.Limits.{most_threads, most_limit, most_fuel};
 ghost use Rattle.spawn_host.specs.Runs.{opening_memory};
 ghost use Rattle.replay.specs.Runs.{IsRunOf};
@@ -149,16 +150,48 @@ where
         limit r.0 r.1) }
     ensures fault { IfErr result (λ fault. IsRecordingFault «module».now.parts call.entry.name.now call.entry.args.now limit fault) }
 {
-    show_memory_opens(module);
-    let header = Header {
-        invoke: Name::from_string(String::from_str(alloc, call.name)?),
-        args: Sequence::from_vec(Vec::from_slice(alloc, call.args)?),
-        fuel: call.fuel,
-        ends: Vec::with_capacity(alloc, MOST_THREADS)?,
+    let header = header_of(alloc, call)?;
+    let prepared = match prepare(alloc, module, limit) {
+        Ok(prepared) => prepared,
+        Err(fault) => {
+            drop(header);
+            return Err(fault);
+        }
     };
+    record_named::<Brand, _, _>(rt, alloc, module, prepared, header, limit, gate)
+}
+
+/// What a record says of the call, and room for its ends.
+fn header_of(alloc: Global, call: Call) -> Result<Header, AllocError>
+    ensures invoke { IfOk result (λ h. h.invoke ≡ call.entry.name.now) }
+    ensures args { IfOk result (λ h. h.args ≡ call.entry.args.now) }
+    ensures fuel { IfOk result (λ h. h.fuel ≡ call.entry.fuel) }
+    ensures ends { IfOk result (λ h. h.ends.items ≡ []) }
+    ensures room { IfOk result (λ h. most_threads ≤ vec_capacity h.ends) }
+{
+    let invoke = String::from_str(alloc, call.name)?;
+    let args = Vec::from_slice(alloc, call.args)?;
+    let ends = Vec::with_capacity(alloc, MOST_THREADS)?;
+    Ok(Header {
+        invoke: Name::from_string(invoke),
+        args: Sequence::from_vec(args),
+        fuel: call.fuel,
+        ends,
+    })
+}
+
+/// What a memory that records is made of, where it is the module's.
+fn prepare(alloc: Global, module: &ValidModule, limit: u32) -> Result<Prepared, RecordRunFault>
+    requires range { (1 ≤ limit) × (limit ≤ most_limit) }
+    ensures opening { IfOk result (λ p. p.opening ≡ opening_memory «module».now.parts) }
+    ensures limit { IfOk result (λ p. p.limit ≡ limit) }
+    ensures fault { IfErr result (λ fault. (name : List ℕ) (args : List Value) → Takes «module».now.parts name args
+        → IsRecordingFault «module».now.parts name args limit fault) }
+{
+    show_memory_opens(module);
     let image = module.image(alloc)?;
     let prepared = Prepared::new(alloc, &image, module.pages_max(), limit)?;
-    record_named::<Brand, _, _>(rt, alloc, module, prepared, header, limit, gate)
+    Ok(prepared)
 }
 
 /// The same, over a recorder whose type has been named.
@@ -187,20 +220,27 @@ where
     ensures made { IfOk result (λ r. RecordsRun «module».now.parts header.invoke header.args header.fuel limit r.0 r.1) }
     ensures fault { IfErr result (λ fault. IsRecordingFault «module».now.parts header.invoke header.args limit fault) }
 {
+    let (memory, seats) = LockedRecorder::<B, &R>::open(alloc, rt, prepared)?;
+    let call = Call {
+        name: header.invoke.as_str(),
+        args: header.args.as_slice(),
+        fuel: header.fuel,
+    };
+    let end = match run(rt, alloc, module, call, &memory, seats, gate) {
+        Ok(end) => end,
+        Err(fault) => {
+            drop(memory);
+            drop(header);
+            return Err(RecordRunFault::Run(fault));
+        }
+    };
+    let finished = memory.finish(end.seats);
     let Header {
         invoke,
         args,
         fuel,
         mut ends,
     } = header;
-    let (memory, seats) = LockedRecorder::<B, &R>::open(alloc, rt, prepared)?;
-    let call = Call {
-        name: invoke.as_str(),
-        args: args.as_slice(),
-        fuel,
-    };
-    let end = run(rt, alloc, module, call, &memory, seats, gate)?;
-    let finished = memory.finish(end.seats);
     copy_reports(&end.threads, &mut ends);
     let parts = RecordParts {
         version: Version::Two,

@@ -1,5 +1,4 @@
 use Rattle.std.proofs.Common.{◌≡◌, ◌++◌, ℕ, List, length, Some, false, refl, sym, ◌∙◌, ap, subst, arith}
-use Rattle.std.proofs.lemmas.Result.{err_from_is_err_and}
 use Rattle.types.specs.declared.value.Value.{Value}
 use Rattle.types.specs.declared.outcome.ThreadReport.{ThreadReport}
 use Rattle.types.specs.declared.parts.Parts.{Parts}
@@ -22,22 +21,20 @@ run-requires-clause-right g c κs within = λ d. seat_right (λ s. s.caller) c.i
 
 pub copy_reports-requires : goal.copy_reports-requires
 copy_reports-requires g c =
-    let few = few_reports _ _ _ _ _ c.in_ok-end.end.threads.items c.in_ok-end.end.seats.items c.in_ok-end.ensures.run in
-    let same : length c.deref.result.now ≡ length c.in_ok-end.end.threads.items = ap length c.deref.ensures.value in
+    let few = few_reports _ _ _ _ _ c.in-Ok.end.threads.items c.in-Ok.end.seats.items c.in-Ok.ensures.run in
+    let same : length c.deref.result.now ≡ length c.in-Ok.end.threads.items = ap length c.deref.ensures.value in
     let none : length c.args.header.ends.items ≡ 0 = ap length c.requires.ends in
     let long = c.args.header.ends.ok in
     let room = c.requires.room in
     omega arith
 
-pub returns-in_err-end-clause-fault : goal.returns-in_err-end-clause-fault
-returns-in_err-end-clause-fault g c =
-    let p = err_from_is_err_and c.from_residual-in_err-end.result c.from_residual-in_err-end.ensures.1 in
+pub returns-in-Err-clause-fault : goal.returns-in-Err-clause-fault
+returns-in-Err-clause-fault g c =
     let m = c.args.module.now.parts in
-    let f = c.in_err-end.field-0.0 in
-    rw (p.1, p.2) (
+    let f = c.in-Err.fault in (
       c.requires.range,
       subst (λ (n : List ℕ). IsFaultOf m n c.args.header.args f) c.as_str.ensures
-          (subst (λ (a : List Value). IsFaultOf m c.as_str.result.now a f) c.as_slice.ensures c.in_err-end.ensures.fault),
+          (subst (λ (a : List Value). IsFaultOf m c.as_str.result.now a f) c.as_slice.ensures c.in-Err.ensures.fault),
     )
 
 pub returns-clause-made : goal.returns-clause-made
@@ -60,8 +57,8 @@ returns-clause-made g c =
       ends_run =
           the_same c.args.module.now.parts c.args.header.fuel false _ _ _ _ _ _ _ log c.from_vec.result c.as_str.ensures
           c.as_slice.ensures (ap Some c.requires.bound) (sym c.from_vec.ensures)
-          (leaves (λ s. s.caller) (λ s. Begins s.caller log) _ _ _ _ _ _ _ c.in_ok-end.end.seats.items log _
-          c.in_ok-end.ensures.run c.finish-finished.ensures.record.others
+          (leaves (λ s. s.caller) (λ s. Begins s.caller log) _ _ _ _ _ _ _ c.in-Ok.end.seats.items log _
+          c.in-Ok.ensures.run c.finish-finished.ensures.record.others
           (λ s b. (b.begins, b.own)) c.finish-finished.ensures.seats
           (c.finish-finished.ensures.record.pages_after ∙ ap (λ (o : Memory). pages (memory_after o log)) c.requires.image)
           (c.finish-finished.ensures.record.bytes_after ∙ ap (λ (o : Memory). (memory_after o log).bytes) c.requires.image));
