@@ -6,18 +6,13 @@ ghost use Rattle.types.specs.declared.event.RmwOp.TheVariants.{Add};
 use shared_memory::SharedMemory;
 use std::alloc::Global;
 use std::test::Fail;
-use types::{Event, PAGE_SIZE, Reply, RmwOp};
-
-/// Two pages of zeros.
-pub(crate) const IMAGE: [u8; TWO_PAGES] = [0; TWO_PAGES];
-
-const TWO_PAGES: usize = 2 * PAGE_SIZE;
-
-/// How many pages a memory may have that grows.
-pub(crate) const THREE_PAGES: u32 = 3;
+use std::thread;
+use std::thread::Threads;
+use test_answers::hold;
+use types::{Event, Reply, RmwOp};
 
 /// How many threads add at once.
-pub(crate) const THREADS: usize = 8;
+const THREADS: usize = 8;
 
 /// An addition of 1.
 pub(crate) fn add(addr: u64, width: u8) -> Event
@@ -32,11 +27,7 @@ pub(crate) fn add(addr: u64, width: u8) -> Event
 }
 
 /// Tries to add 1 to the eight bytes at 8, so many times; answers the seat, and how many tries got a value.
-pub(crate) fn add_all<M: SharedMemory>(
-    memory: &M,
-    mut seat: M::Seat,
-    times: u32,
-) -> (M::Seat, u32) {
+fn add_all<M: SharedMemory>(memory: &M, mut seat: M::Seat, times: u32) -> (M::Seat, u32) {
     let mut added = 0;
     for _ in 0..times {
         let reply = memory.access(&mut seat, add(8, 8));
@@ -48,7 +39,7 @@ pub(crate) fn add_all<M: SharedMemory>(
 }
 
 /// The seats of the threads that add.
-pub(crate) fn take_seats<S: Drop>(alloc: Global, seats: &mut Vec<S>) -> Result<Vec<S>, Fail> {
+fn take_seats<S: Drop>(alloc: Global, seats: &mut Vec<S>) -> Result<Vec<S>, Fail> {
     let mut taken = Vec::new(alloc);
     for _ in 0..THREADS {
         let Some(seat) = seats.pop() else {
@@ -60,11 +51,26 @@ pub(crate) fn take_seats<S: Drop>(alloc: Global, seats: &mut Vec<S>) -> Result<V
 }
 
 /// Puts seats back, and adds up how many tries got a value.
-pub(crate) fn put_back<S: Drop>(seats: &mut Vec<S>, done: Vec<(S, u32)>) -> Result<u64, Fail> {
+fn put_back<S: Drop>(seats: &mut Vec<S>, done: Vec<(S, u32)>) -> Result<u64, Fail> {
     let mut added = 0u64;
     for (seat, count) in done {
         added = added.saturating_add(u64::from(count));
         seats.push(seat)?;
     }
     Ok(added)
+}
+
+/// Eight threads that add at once, each so many times; as many tries have to get a value as `wanted` says.
+pub(crate) fn add_at_once<M: SharedMemory + Sync, R: Threads + Sync>(
+    rt: &R,
+    alloc: Global,
+    memory: &M,
+    seats: &mut Vec<M::Seat>,
+    times: u32,
+    wanted: u64,
+) -> Result<(), Fail> {
+    let jobs = take_seats(alloc, seats)?;
+    let done = thread::map_vec(rt, jobs, &|seat| add_all(memory, seat, times))?;
+    let added = put_back(seats, done)?;
+    hold(&[("the additions", added == wanted)])
 }

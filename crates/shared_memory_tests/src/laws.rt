@@ -1,8 +1,7 @@
 //! The laws of histories and of lanes, each called once; and two seats of a recorder that agree.
-ghost use Rattle.std.specs.Prelude.{◌≡◌};
 
-use crate::adding::{IMAGE, THREE_PAGES, add};
-use locked_recorder::{Finished, LockedRecorder, Naming, Prepared};
+use crate::adding::add;
+use crate::trial::{IMAGE, THREE_PAGES, Trial, try_at_recorder};
 use shared_memory::SharedMemory;
 use shared_memory_lanes::{lane_elsewhere, lane_of_with_lane};
 use shared_memory_laws::{
@@ -12,10 +11,8 @@ use shared_memory_laws::{
     every_answer_taken_answers_one_question, most_pages, notify_wakes_the_longest_asleep,
     one_history_per_longest_list, somebody_alive_is_awake, timeout_ends_only_where_all_sleep,
 };
-use std::alloc::Global;
-use std::marker::Brand;
-use std::sync::Wait;
 use std::test::Fail;
+use test_answers::hold;
 
 #[test]
 fn laws_of_histories_ask_for_nothing() {
@@ -38,34 +35,22 @@ fn laws_of_lanes_ask_for_nothing() {
     lane_elsewhere();
 }
 
-/// The most pages of a recorder, and what is left of it where two seats added once each, and then met.
-fn agree_after_two<B: Naming + Send + Sync, R: Wait>(
-    rt: &R,
-    alloc: Global,
-    prepared: Prepared,
-) -> Result<(u32, Finished), Fail>
-    requires table { prepared.table ≡ B.table }
-    requires opening { prepared.opening ≡ B.opening }
-    requires limit { prepared.limit ≡ B.limit }
-{
-    let (memory, mut seats) = LockedRecorder::<B, &R>::open(alloc, rt, prepared)?;
-    let (Some(mut a), Some(mut b)) = (seats.pop(), seats.pop()) else {
+/// Two seats that add once each, and then meet.
+pub(crate) fn agree_after_two<M: SharedMemory>(
+    memory: &M,
+    seats: &mut Vec<M::Seat>,
+) -> Result<(), Fail> {
+    let [.., b, a] = seats.as_mut_slice() else {
         return Err(Fail::new("no seats"));
     };
-    let _ = memory.access(&mut a, add(8, 8));
-    let _ = memory.access(&mut b, add(8, 8));
-    agree(&memory, &mut a, &mut b);
-    seats.push(a)?;
-    seats.push(b)?;
-    Ok((most_pages(&memory), memory.finish(seats)))
+    let _ = memory.access(a, add(8, 8));
+    let _ = memory.access(b, add(8, 8));
+    agree(memory, a, b);
+    hold(&[("the most pages", most_pages(memory) == THREE_PAGES)])
 }
 
 #[test]
 fn two_seats_agree(rt: HostRuntime) -> Result<(), Fail> {
-    let alloc = rt.alloc();
-    let prepared = Prepared::new(alloc, &IMAGE, THREE_PAGES, 5000)?;
-    let (most, end) = agree_after_two::<Brand, HostRuntime>(&rt, alloc, prepared)?;
-    assert_eq!(rt; most, THREE_PAGES);
-    assert_eq!(rt; end.log.len(), 2);
-    Ok(())
+    let end = try_at_recorder(&rt, rt.alloc(), &IMAGE, THREE_PAGES, 5000, Trial::Agreement)?;
+    hold(&[("the log's length", end.log.len() == 2)])
 }

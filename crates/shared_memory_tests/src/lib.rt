@@ -5,6 +5,8 @@
 #[cfg(test)]
 mod adding;
 #[cfg(test)]
+mod beside;
+#[cfg(test)]
 mod lanes;
 #[cfg(test)]
 mod laws;
@@ -19,6 +21,10 @@ mod script;
 #[cfg(test)]
 mod sequential;
 #[cfg(test)]
+mod sharing;
+#[cfg(test)]
 mod singles;
+#[cfg(test)]
+mod trial;
 #[cfg(test)]
 mod two_callers;

@@ -1,15 +1,12 @@
 //! A row of words by one caller: the faults of opening, and a row opened, used and closed.
-ghost use Rattle.std.specs.Prelude.{◌≡◌};
 
+use crate::trial::{PAGE, Trial, try_at_row};
 use shared_memory::SharedMemory;
 use std::alloc::Global;
-use std::marker::Brand;
 use std::test::Fail;
+use test_answers::hold;
 use types::{Event, Reply};
-use word_row::{Naming, OpenFault, Prepared, WordRow};
-
-/// A page of zeros.
-const PAGE: [u8; 65536] = [0; 65536];
+use word_row::{OpenFault, Prepared};
 
 /// Two pages, of which the byte before the last is 7.
 fn image(alloc: Global) -> Result<Vec<u8>, Fail> {
@@ -21,12 +18,8 @@ fn image(alloc: Global) -> Result<Vec<u8>, Fail> {
 }
 
 /// One caller stores at the end of the second page, grows to a third, and loads there and past it.
-fn use_alone<B: Naming + Send + Sync>(alloc: Global, prepared: Prepared) -> Result<(), Fail>
-    requires table { prepared.table ≡ B.table }
-    requires opening { prepared.opening ≡ B.opening }
-{
-    let (row, mut seats) = WordRow::<B>::open(alloc, prepared)?;
-    let Some(mut seat) = seats.pop() else {
+pub(crate) fn use_alone<M: SharedMemory>(memory: &M, seats: &mut Vec<M::Seat>) -> Result<(), Fail> {
+    let Some(seat) = seats.last_mut() else {
         return Err(Fail::new("no seats"));
     };
     let load = Event::Load {
@@ -40,52 +33,59 @@ fn use_alone<B: Naming + Send + Sync>(alloc: Global, prepared: Prepared) -> Resu
         reach: 131_072,
         value: 9,
     };
-    let replies = [
-        row.access(&mut seat, load),
-        row.access(&mut seat, store),
-        row.access(&mut seat, Event::Grow(1)),
-        row.access(&mut seat, load),
-        row.access(&mut seat, Event::Grow(2)),
-        row.access(&mut seat, Event::Size),
-    ];
-    let expected = [
-        Reply::OutOfBounds,
-        Reply::Done,
-        Reply::Value(2),
-        Reply::Value(0x907),
-        Reply::Value(4_294_967_295),
-        Reply::Value(3),
-    ];
-    if replies != expected {
-        return Err(Fail::new("other replies"));
-    }
-    let about = (row.name(&seat), row.limit(), row.pages_max());
-    seats.push(seat)?;
-    let end = row.close(seats);
-    let bytes = (end.byte(131_070), end.byte(131_071), end.byte(131_072));
-    if about != (64, None, 4) || end.pages() != 3 || bytes != (Some(7), Some(9), Some(0)) {
-        return Err(Fail::new("another end"));
-    }
-    if end.byte(196_607) != Some(0) || end.byte(196_608).is_some() {
-        return Err(Fail::new("another length"));
-    }
-    Ok(())
+    let refused = Reply::Value(4_294_967_295);
+    hold(&[
+        (
+            "a load past the end",
+            memory.access(seat, load) == Reply::OutOfBounds,
+        ),
+        ("a store", memory.access(seat, store) == Reply::Done),
+        (
+            "growth",
+            memory.access(seat, Event::Grow(1)) == Reply::Value(2),
+        ),
+        ("a load", memory.access(seat, load) == Reply::Value(0x907)),
+        (
+            "too much growth",
+            memory.access(seat, Event::Grow(2)) == refused,
+        ),
+        (
+            "the page count",
+            memory.access(seat, Event::Size) == Reply::Value(3),
+        ),
+        ("the name", memory.name(seat) == 64),
+        ("the limit", memory.limit().is_none()),
+        ("the most pages", memory.pages_max() == 4),
+    ])
 }
 
 #[test]
 fn one_caller(rt: HostRuntime) -> Result<(), Fail> {
     let image = image(rt.alloc())?;
-    let prepared = Prepared::new(rt.alloc(), &image, 4)?;
-    use_alone::<Brand>(rt.alloc(), prepared)
+    let end = try_at_row(&rt, rt.alloc(), &image, 4, Trial::Alone)?;
+    hold(&[
+        ("the page count", end.pages() == 3),
+        ("the byte that was there", end.byte(131_070) == Some(7)),
+        ("the byte stored", end.byte(131_071) == Some(9)),
+        ("the first new byte", end.byte(131_072) == Some(0)),
+        ("the last byte", end.byte(196_607) == Some(0)),
+        ("no byte behind it", end.byte(196_608).is_none()),
+    ])
+}
+
+/// Whether a row over these bytes and so many pages is refused, as past a limit.
+fn is_past_limit(alloc: Global, image: &[u8], max: u32) -> bool {
+    matches!(Prepared::new(alloc, image, max), Err(OpenFault::PastLimit))
 }
 
 #[test]
 fn faults_of_opening(rt: HostRuntime) -> Result<(), Fail> {
     let alloc = rt.alloc();
-    assert!(rt; matches!(Prepared::new(alloc, &[0], 1), Err(OpenFault::PastLimit)));
-    assert!(rt; matches!(Prepared::new(alloc, &PAGE, 0), Err(OpenFault::PastLimit)));
-    assert!(rt; matches!(Prepared::new(alloc, &PAGE, 257), Err(OpenFault::PastLimit)));
-    assert!(rt; Prepared::new(alloc, &PAGE, 256).is_ok());
-    assert!(rt; Prepared::new(alloc, &[], 0).is_ok());
-    Ok(())
+    hold(&[
+        ("one byte", is_past_limit(alloc, &[0], 1)),
+        ("more bytes than pages", is_past_limit(alloc, &PAGE, 0)),
+        ("257 pages", is_past_limit(alloc, &PAGE, 257)),
+        ("256 pages", Prepared::new(alloc, &PAGE, 256).is_ok()),
+        ("no page", Prepared::new(alloc, &[], 0).is_ok()),
+    ])
 }

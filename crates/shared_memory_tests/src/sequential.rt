@@ -1,10 +1,11 @@
 //! What the sequential memory answers, with the expected values written out by hand.
 
+use crate::trial::IMAGE;
 use shared_memory::is_event;
 use shared_memory_sequential::{OneMemory, OpenFault};
 use std::alloc::Global;
-use std::process::Abort;
 use std::test::Fail;
+use test_answers::hold;
 use types::{Answer, Event, MOST_PAGES, PAGE_SIZE, Question, Reply, RmwOp};
 
 /// The bytes of a page.
@@ -28,11 +29,13 @@ fn open_filled(alloc: Global, pages: u8, max: u32) -> Result<OneMemory, Fail> {
 }
 
 /// Makes events, each of which has its reply.
-fn follow(rt: &impl Abort, memory: &mut OneMemory, steps: &[(Event, Reply)]) {
+fn follow(memory: &mut OneMemory, steps: &[(Event, Reply)]) -> Result<(), Fail> {
     for (place, (event, reply)) in steps.iter().enumerate() {
-        assert!(rt; is_event(*event), "{place}: {event:?}");
-        assert_eq!(rt; memory.step(event), *reply, "{place}: {event:?}");
+        if !is_event(*event) || memory.step(event) != *reply {
+            return Err(Fail::new(format_args!("{place}: {event:?}")));
+        }
     }
+    Ok(())
 }
 
 /// The widths of atomic accesses, each with the greatest number of that width.
@@ -81,7 +84,7 @@ fn operators(rt: HostRuntime) -> Result<(), Fail> {
                 (Event::Load { addr: 7, width: 1, reach: 8 }, Reply::Value(0xaa)),
                 (Event::Load { addr: 16, width: 8, reach: 24 }, FILLED),
             ];
-            follow(&rt, &mut memory, &steps);
+            follow(&mut memory, &steps)?;
         }
     }
     Ok(())
@@ -157,84 +160,121 @@ fn answers_in_turn(rt: HostRuntime) -> Result<(), Fail> {
         (1, NARROW_EXCHANGES.as_slice()),
         (1, QUESTIONS.as_slice()),
     ] {
-        follow(&rt, &mut open_filled(rt.alloc(), 1, max)?, steps);
+        follow(&mut open_filled(rt.alloc(), 1, max)?, steps)?;
     }
     Ok(())
 }
 
-/// The old bytes stay, and the new ones are 0.
-#[test]
-fn growth(rt: HostRuntime) -> Result<(), Fail> {
-    let mut memory = open_filled(rt.alloc(), 1, 3)?;
-    follow(&rt, &mut memory, &GROWTH);
-    assert_eq!(rt; (memory.pages(), memory.max()), (3, 3));
-    let bytes = memory.into_bytes();
-    assert_eq!(rt; bytes.len(), 3 * PAGE_SIZE);
+/// The first page is as it was filled, and all else is 0.
+fn is_filled(bytes: &[u8]) -> Result<(), Fail> {
     for (i, byte) in bytes.iter().enumerate() {
-        assert_eq!(rt; *byte, if i < PAGE_SIZE { 0xaa } else { 0 }, "at {i}");
-    }
-    Ok(())
-}
-
-#[test]
-fn bytes_lowest_first(rt: HostRuntime) -> Result<(), Fail> {
-    let mut memory = open_filled(rt.alloc(), 1, 1)?;
-    let store = Event::Store {
-        addr: 1,
-        width: 3,
-        reach: 4,
-        value: 0x03_0201,
-    };
-    follow(&rt, &mut memory, &[(store, Reply::Done)]);
-    assert_eq!(rt;
-        memory.bytes().get(..6),
-        Some([0xaa, 1, 2, 3, 0xaa, 0xaa].as_slice())
-    );
-    Ok(())
-}
-
-#[test]
-fn opening(rt: HostRuntime) -> Result<(), Fail> {
-    let image = vec![in rt.alloc(); 0; 2 * PAGE_SIZE]?;
-    let rows = [
-        (0, 0, true),
-        (0, MOST_PAGES, true),
-        (0, MOST_PAGES + 1, false),
-        (0, u32::MAX, false),
-        (1, 1, false),
-        (PAGE_SIZE - 1, 1, false),
-        (PAGE_SIZE, 1, true),
-        (PAGE_SIZE, 0, false),
-        (PAGE_SIZE + 1, 2, false),
-        (2 * PAGE_SIZE, 1, false),
-        (2 * PAGE_SIZE, 2, true),
-    ];
-    for (length, max, opens) in rows {
-        assert!(rt; length <= image.len());
-        match OneMemory::open(rt.alloc(), &image[..length], max) {
-            Ok(memory) => {
-                assert!(rt; opens);
-                assert_eq!(rt; memory.bytes().len(), length);
-                assert_eq!(rt; memory.max(), max);
-            }
-            Err(fault) => {
-                assert!(rt; !opens);
-                assert_eq!(rt; fault, OpenFault::PastLimit);
-            }
+        let wanted = if i < PAGE_SIZE { 0xaa } else { 0 };
+        if *byte != wanted {
+            return Err(Fail::new(format_args!("the byte at {i}")));
         }
     }
     Ok(())
 }
 
+/// The old bytes stay, and the new ones are 0.
+fn grow(memory: &mut OneMemory) -> Result<(), Fail> {
+    follow(memory, &GROWTH)?;
+    hold(&[
+        ("the page count", memory.pages() == 3),
+        ("the most pages", memory.max() == 3),
+        ("how many bytes", memory.bytes().len() == 3 * PAGE_SIZE),
+    ])?;
+    is_filled(memory.bytes())
+}
+
 #[test]
-fn faults(rt: HostRuntime) -> Result<(), Fail> {
-    let rows = [
-        (OpenFault::NoMemory, 1, "no memory"),
-        (OpenFault::PastLimit, 2, "past a limit"),
-    ];
-    for (fault, number, words) in rows {
-        assert_eq!(rt; fault.number(), number);
-        assert_eq!(rt; format!(in rt.alloc(); "{fault}")?.as_str(), words);
+fn growth(rt: HostRuntime) -> Result<(), Fail> {
+    grow(&mut open_filled(rt.alloc(), 1, 3)?)
+}
+
+/// Three bytes at 1.
+static THREE_BYTES: [(Event, Reply); 1] = [(
+    Event::Store {
+        addr: 1,
+        width: 3,
+        reach: 4,
+        value: 0x03_0201,
+    },
+    Reply::Done,
+)];
+
+#[test]
+fn bytes_lowest_first(rt: HostRuntime) -> Result<(), Fail> {
+    let mut memory = open_filled(rt.alloc(), 1, 1)?;
+    let stored = follow(&mut memory, &THREE_BYTES);
+    let wanted = [0xaa, 1, 2, 3, 0xaa, 0xaa];
+    stored?;
+    hold(&[(
+        "the first bytes",
+        memory.bytes().get(..6) == Some(wanted.as_slice()),
+    )])
+}
+
+/// Lengths of an image of zeros, the most pages, and whether a memory can be opened so.
+static OPENINGS: [(usize, u32, bool); 11] = [
+    (0, 0, true),
+    (0, MOST_PAGES, true),
+    (0, MOST_PAGES + 1, false),
+    (0, u32::MAX, false),
+    (1, 1, false),
+    (PAGE_SIZE - 1, 1, false),
+    (PAGE_SIZE, 1, true),
+    (PAGE_SIZE, 0, false),
+    (PAGE_SIZE + 1, 2, false),
+    (2 * PAGE_SIZE, 1, false),
+    (2 * PAGE_SIZE, 2, true),
+];
+
+/// Whether a memory can be opened over these bytes and so many pages; or else it has to be past a limit.
+fn opens(alloc: Global, image: &[u8], max: u32) -> Result<bool, Fail> {
+    match OneMemory::open(alloc, image, max) {
+        Ok(memory) => {
+            if memory.bytes().len() != image.len() || memory.max() != max {
+                return Err(Fail::new("another memory"));
+            }
+            Ok(true)
+        }
+        Err(OpenFault::PastLimit) => Ok(false),
+        Err(OpenFault::NoMemory) => Err(Fail::new("no memory")),
+    }
+}
+
+#[test]
+fn opening(rt: HostRuntime) -> Result<(), Fail> {
+    for (length, max, opened) in &OPENINGS {
+        let Some(image) = IMAGE.get(..*length) else {
+            return Err(Fail::new("a longer image"));
+        };
+        if opens(rt.alloc(), image, *max)? != *opened {
+            return Err(Fail::new(format_args!("{length} bytes, {max} pages")));
+        }
     }
     Ok(())
+}
+
+/// Whether a fault is printed as this text.
+fn is_printed(alloc: Global, fault: OpenFault, text: &str) -> Result<bool, Fail> {
+    Ok(format!(in alloc; "{fault}")?.as_str() == text)
+}
+
+#[test]
+fn faults(rt: HostRuntime) -> Result<(), Fail> {
+    let alloc = rt.alloc();
+    hold(&[
+        ("the number of no memory", OpenFault::NoMemory.number() == 1),
+        (
+            "no memory",
+            is_printed(alloc, OpenFault::NoMemory, "no memory")?,
+        ),
+        ("the number of a limit", OpenFault::PastLimit.number() == 2),
+        (
+            "a limit",
+            is_printed(alloc, OpenFault::PastLimit, "past a limit")?,
+        ),
+    ])
 }

@@ -1,24 +1,19 @@
 //! Runs of two callers over one recorder, with the expected values written out by hand.
-ghost use Rattle.std.specs.Prelude.{◌≡◌};
 
-use locked_recorder::{Finished, LockedRecorder, LockedSeat, Naming, OpenFault, Prepared};
+use crate::trial::{PAGE, Trial, try_at_recorder};
+use locked_recorder::{Finished, OpenFault, Prepared};
 use shared_memory::SharedMemory;
-use std::alloc::{AllocError, Global};
-use std::marker::Brand;
-use std::sync::Wait;
 use std::test::Fail;
 use std::thread;
 use std::thread::Threads;
+use test_answers::hold;
 use types::{Event, Reply, RmwOp};
 
-/// A page of zeros.
-const PAGE: [u8; 65536] = [0; 65536];
-
 /// Adds 1 to byte 0, so many times.
-fn add_all<M: SharedMemory>(memory: &M, mut seat: M::Seat, times: u32) -> M::Seat {
+fn add_all<M: SharedMemory>(memory: &M, seat: &mut M::Seat, times: u32) {
     for _ in 0..times {
         let _ = memory.access(
-            &mut seat,
+            seat,
             Event::Rmw {
                 op: RmwOp::Add,
                 addr: 0,
@@ -27,7 +22,6 @@ fn add_all<M: SharedMemory>(memory: &M, mut seat: M::Seat, times: u32) -> M::Sea
             },
         );
     }
-    seat
 }
 
 /// Loads byte 8.
@@ -55,181 +49,119 @@ fn store<M: SharedMemory>(memory: &M, seat: &mut M::Seat) -> Reply {
     )
 }
 
-/// Hands all seats in: the first two, and the others.
-fn finish<B: Naming, W: Wait + Drop>(
-    alloc: Global,
-    memory: LockedRecorder<B, W>,
-    first: LockedSeat<B>,
-    second: LockedSeat<B>,
-    others: Vec<LockedSeat<B>>,
-) -> Result<Finished, AllocError> {
-    let mut seats = Vec::new(alloc);
-    seats.push(first)?;
-    seats.push(second)?;
-    for seat in others {
-        seats.push(seat)?;
-    }
-    Ok(memory.finish(seats))
-}
-
 /// Two threads that each add 1 to byte 0 a thousand times.
-fn add_in_turn<B: Naming + Send + Sync, R: Threads + Wait + Sync>(
+pub(crate) fn add_in_turn<M: SharedMemory + Sync, R: Threads>(
     rt: &R,
-    alloc: Global,
-    prepared: Prepared,
-) -> Result<Finished, Fail>
-    requires table { prepared.table ≡ B.table }
-    requires opening { prepared.opening ≡ B.opening }
-    requires limit { prepared.limit ≡ B.limit }
-{
-    let (memory, mut seats) = LockedRecorder::<B, &R>::open(alloc, rt, prepared)?;
-    seats.reverse();
-    let (Some(one), Some(other)) = (seats.pop(), seats.pop()) else {
+    memory: &M,
+    seats: &mut Vec<M::Seat>,
+) -> Result<(), Fail> {
+    let [one, other, ..] = seats.as_mut_slice() else {
         return Err(Fail::new("no seats"));
     };
-    let shared = &memory;
-    let (one, other) = thread::join(
+    let ((), ()) = thread::join(
         rt,
-        move || add_all(shared, one, 1000),
-        move || add_all(shared, other, 1000),
+        move || add_all(memory, one, 1000),
+        move || add_all(memory, other, 1000),
     );
-    Ok(finish(alloc, memory, one, other, seats)?)
+    Ok(())
 }
 
 /// What one caller stores and grows, and what another finds after a meeting.
-fn tell<B: Naming + Send + Sync, R: Wait>(
-    rt: &R,
-    alloc: Global,
-    prepared: Prepared,
-) -> Result<([Reply; 4], Finished), Fail>
-    requires table { prepared.table ≡ B.table }
-    requires opening { prepared.opening ≡ B.opening }
-    requires limit { prepared.limit ≡ B.limit }
-{
-    let (memory, mut seats) = LockedRecorder::<B, &R>::open(alloc, rt, prepared)?;
-    seats.reverse();
-    let (Some(mut one), Some(mut other)) = (seats.pop(), seats.pop()) else {
+pub(crate) fn tell<M: SharedMemory>(memory: &M, seats: &mut Vec<M::Seat>) -> Result<(), Fail> {
+    let [one, other, ..] = seats.as_mut_slice() else {
         return Err(Fail::new("no seats"));
     };
-    let stored = store(&memory, &mut one);
-    let grown = memory.access(&mut one, Event::Grow(1));
-    memory.meet(&mut one, &mut other);
-    let found = load(&memory, &mut other);
-    let size = memory.access(&mut other, Event::Size);
-    Ok((
-        [stored, grown, found, size],
-        finish(alloc, memory, one, other, seats)?,
-    ))
+    let stored = store(memory, one);
+    let grown = memory.access(one, Event::Grow(1));
+    memory.meet(one, other);
+    let found = load(memory, other);
+    let size = memory.access(other, Event::Size);
+    hold(&[
+        ("the store", stored == Reply::Done),
+        ("the growth", grown == Reply::Value(1)),
+        ("the load", found == Reply::Value(9)),
+        ("the page count", size == Reply::Value(2)),
+    ])
 }
 
-/// Four loads by one caller, and what the recorder says of itself.
-fn load_four_times<B: Naming + Send + Sync, R: Wait>(
-    rt: &R,
-    alloc: Global,
-    prepared: Prepared,
-) -> Result<([Reply; 4], Option<u32>, u32, u32, Finished), Fail>
-    requires table { prepared.table ≡ B.table }
-    requires opening { prepared.opening ≡ B.opening }
-    requires limit { prepared.limit ≡ B.limit }
-{
-    let (memory, mut seats) = LockedRecorder::<B, &R>::open(alloc, rt, prepared)?;
-    seats.reverse();
-    let (Some(mut one), Some(other)) = (seats.pop(), seats.pop()) else {
+/// Four loads by one caller, and what the memory says of itself.
+pub(crate) fn load_four_times<M: SharedMemory>(
+    memory: &M,
+    seats: &mut Vec<M::Seat>,
+) -> Result<(), Fail> {
+    let [one, other, ..] = seats.as_mut_slice() else {
         return Err(Fail::new("no seats"));
     };
-    let replies = [
-        load(&memory, &mut one),
-        load(&memory, &mut one),
-        load(&memory, &mut one),
-        load(&memory, &mut one),
-    ];
-    let limit = memory.limit();
-    let pages_max = memory.pages_max();
-    let name = memory.name(&other);
-    let end = finish(alloc, memory, one, other, seats)?;
-    Ok((replies, limit, pages_max, name, end))
+    hold(&[
+        ("the first", load(memory, one) == Reply::Value(0)),
+        ("the second", load(memory, one) == Reply::Value(0)),
+        ("the third", load(memory, one) == Reply::Value(0)),
+        ("the fourth", load(memory, one) == Reply::Full),
+        ("the limit", memory.limit() == Some(3)),
+        ("the most pages", memory.pages_max() == 1),
+        ("the other's name", memory.name(other) == 1),
+    ])
 }
 
-#[test]
-fn two_threads_add(rt: HostRuntime) -> Result<(), Fail> {
-    let prepared = Prepared::new(rt.alloc(), &PAGE, 1, 5000)?;
-    let end = add_in_turn::<Brand, HostRuntime>(&rt, rt.alloc(), prepared)?;
-    assert_eq!(rt; end.log.len(), 2000);
-    let mut first = 0u32;
+/// How many entries of a log are of thread 0.
+fn count_of_first(end: &Finished) -> usize {
+    let mut first = 0usize;
     for entry in &end.log {
         if entry.thread == 0 {
             first = first.saturating_add(1);
         }
     }
-    assert_eq!(rt; first, 1000);
-    assert_eq!(rt; end.bytes.first().copied(), Some(208));
-    assert_eq!(rt; end.pages, 1);
-    Ok(())
+    first
+}
+
+#[test]
+fn two_threads_add(rt: HostRuntime) -> Result<(), Fail> {
+    let end = try_at_recorder(&rt, rt.alloc(), &PAGE, 1, 5000, Trial::AddInTurn)?;
+    hold(&[
+        ("the log's length", end.log.len() == 2000),
+        ("the entries of thread 0", count_of_first(&end) == 1000),
+        ("the first byte", end.bytes.first() == Some(&208)),
+        ("the page count", end.pages == 1),
+    ])
 }
 
 #[test]
 fn a_meeting_tells(rt: HostRuntime) -> Result<(), Fail> {
-    let prepared = Prepared::new(rt.alloc(), &PAGE, 2, 100)?;
-    let (replies, end) = tell::<Brand, HostRuntime>(&rt, rt.alloc(), prepared)?;
-    assert_eq!(rt;
-        replies,
-        [
-            Reply::Done,
-            Reply::Value(1),
-            Reply::Value(9),
-            Reply::Value(2)
-        ]
-    );
-    assert_eq!(rt; end.log.len(), 4);
-    assert_eq!(rt; end.pages, 2);
-    assert_eq!(rt; end.bytes.len(), 131072);
-    Ok(())
+    let end = try_at_recorder(&rt, rt.alloc(), &PAGE, 2, 100, Trial::Telling)?;
+    hold(&[
+        ("the log's length", end.log.len() == 4),
+        ("the page count", end.pages == 2),
+        ("how many bytes", end.bytes.len() == 131072),
+    ])
 }
 
 #[test]
 fn a_full_log_holds_back(rt: HostRuntime) -> Result<(), Fail> {
-    let prepared = Prepared::new(rt.alloc(), &PAGE, 1, 3)?;
-    let (replies, limit, pages_max, name, end) = load_four_times::<Brand, HostRuntime>(
-        &rt,
-        rt.alloc(),
-        prepared,
-    )?;
-    assert_eq!(rt;
-        replies,
-        [
-            Reply::Value(0),
-            Reply::Value(0),
-            Reply::Value(0),
-            Reply::Full
-        ]
-    );
-    assert_eq!(rt; limit, Some(3));
-    assert_eq!(rt; pages_max, 1);
-    assert_eq!(rt; name, 1);
-    assert_eq!(rt; end.log.len(), 3);
-    Ok(())
+    let end = try_at_recorder(&rt, rt.alloc(), &PAGE, 1, 3, Trial::FourLoads)?;
+    hold(&[("the log's length", end.log.len() == 3)])
+}
+
+/// Whether a recorder over these bytes, so many pages and so many entries is refused, as past a limit.
+fn is_past_limit(rt: &HostRuntime, image: &[u8], max: u32, limit: u32) -> bool {
+    matches!(
+        Prepared::new(rt.alloc(), image, max, limit),
+        Err(OpenFault::PastLimit)
+    )
 }
 
 #[test]
 fn faults_of_opening(rt: HostRuntime) -> Result<(), Fail> {
-    let alloc = rt.alloc();
-    assert!(rt; matches!(Prepared::new(alloc, &[0], 1, 3), Err(OpenFault::PastLimit)));
-    assert!(rt; matches!(Prepared::new(alloc, &PAGE, 0, 3), Err(OpenFault::PastLimit)));
-    assert!(rt;
-        matches!(
-            Prepared::new(alloc, &PAGE, 257, 3),
-            Err(OpenFault::PastLimit)
-        )
-    );
-    assert!(rt; matches!(Prepared::new(alloc, &PAGE, 1, 0), Err(OpenFault::PastLimit)));
-    assert!(rt;
-        matches!(
-            Prepared::new(alloc, &PAGE, 1, 1_000_001),
-            Err(OpenFault::PastLimit)
-        )
-    );
-    assert!(rt; Prepared::new(alloc, &PAGE, 1, 1_000_000).is_ok());
-    assert_eq!(rt; OpenFault::NoMemory.number(), 1);
-    assert_eq!(rt; OpenFault::PastLimit.number(), 2);
-    Ok(())
+    hold(&[
+        ("one byte", is_past_limit(&rt, &[0], 1, 3)),
+        ("more bytes than pages", is_past_limit(&rt, &PAGE, 0, 3)),
+        ("257 pages", is_past_limit(&rt, &PAGE, 257, 3)),
+        ("no entry", is_past_limit(&rt, &PAGE, 1, 0)),
+        ("too many entries", is_past_limit(&rt, &PAGE, 1, 1_000_001)),
+        (
+            "a million entries",
+            Prepared::new(rt.alloc(), &PAGE, 1, 1_000_000).is_ok(),
+        ),
+        ("the number of no memory", OpenFault::NoMemory.number() == 1),
+        ("the number of a limit", OpenFault::PastLimit.number() == 2),
+    ])
 }
