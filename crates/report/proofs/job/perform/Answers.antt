@@ -10,8 +10,8 @@ pub returns-in_default : goal.returns-in_default
 returns-in_default g c =
     let job = c.args.job.now in
     performs job c.args.module.now c.args.saved.now (change (g.W.Write.contents c.args.out.now) (g.W.Write.contents c.perform_plain.new.out))
-      (change (g.S.Write.contents c.args.save.now) (g.S.Write.contents c.perform_plain.new.save)) c.perform_plain.result
-      (is_plain job c.in_default.not-Show c.in_default.not-Search) c.perform_plain.ensures
+    (change (g.S.Write.contents c.args.save.now) (g.S.Write.contents c.perform_plain.new.save)) c.perform_plain.result
+    (is_plain job c.in_default.not-Show c.in_default.not-Search) c.perform_plain.ensures
 
 pub returns-in-Show : goal.returns-in-Show
 returns-in-Show g c =
