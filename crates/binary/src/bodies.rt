@@ -8,17 +8,7 @@ ghost use Rattle.binary.specs.Reading.{groups_at, locals_at, body_at, bodies_at,
 use binary_instructions::{read_expression, read_val_type};
 use binary_wire::{Fault, ReadFault, Reader};
 use std::alloc::{AllocError, Global};
-use types::{Body, FuncType, MOST_BODY_BYTES, MOST_LOCALS, Sequence, ValType};
-
-/// The parameters of the type with this index, none if there is no such type.
-fn param_count(types: &[FuncType], index: u32) -> usize
-    ensures { result ≡ param_count types.now index }
-{
-    match types.get(index as usize) {
-        Some(func_type) => func_type.params.len(),
-        None => 0,
-    }
-}
+use types::{Body, FuncType, MOST_BODY_BYTES, MOST_LOCALS, Sequence, ValType, param_count};
 
 /// So many locals more of one type.
 fn push_locals(locals: &mut Vec<ValType>, number: u32, val_type: ValType) -> Result<(), AllocError>

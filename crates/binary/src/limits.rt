@@ -25,23 +25,19 @@ fn read_limits_after(
     ensures keeps { reader.new.bounds ≡ reader.old.bounds }
 {
     let min = reader.read_u32_within(most_min)?;
-    match flag {
-        LimitsFlag::Min => Ok(Limits {
-            min,
-            max: None,
-            shared: false,
-        }),
-        LimitsFlag::MinMax => Ok(Limits {
-            min,
-            max: Some(reader.read_u32_within(most_max)?),
-            shared: false,
-        }),
-        LimitsFlag::SharedMinMax => Ok(Limits {
-            min,
-            max: Some(reader.read_u32_within(most_max)?),
-            shared: true,
-        }),
-    }
+    let shared = match flag {
+        LimitsFlag::Min => {
+            return Ok(Limits {
+                min,
+                max: None,
+                shared: false,
+            });
+        }
+        LimitsFlag::MinMax => false,
+        LimitsFlag::SharedMinMax => true,
+    };
+    let max = Some(reader.read_u32_within(most_max)?);
+    Ok(Limits { min, max, shared })
 }
 
 /// A table type (Core specification 1.0, section 5.3.6).

@@ -5,7 +5,6 @@ ghost use Rattle.binary_wire.specs.declared.fault.Fault.TheVariants as faults;
 ghost use Rattle.binary_wire.specs.Faults.{refused};
 ghost use Rattle.binary_wire.specs.Reading.{◌>>=◌ as ◌⇛◌, Gives, GivesInMemory, Refuses};
 ghost use Rattle.binary.specs.Counts.{function_room};
-ghost use Rattle.types.specs.Within.{is_func};
 ghost use Rattle.binary.specs.Grammar.{IsModuleText};
 ghost use Rattle.binary.specs.Reading.{customs_at, finish_at, signatures_at, stores_at, contents_at, sections_at, module_at};
 ghost use Rattle.types.specs.declared.parts.Parts.{Parts};
@@ -18,8 +17,8 @@ use crate::segments::{DataItem, ElementItem};
 use binary_wire::{Fault, IndexItem, ReadFault, Reader, Refusal};
 use std::alloc::Global;
 use types::{
-    Body, DataSegment, ElementSegment, Export, FuncType, Import, ImportDesc, Limits,
-    MOST_FUNCTIONS, MOST_ITEMS, MOST_MODULE_BYTES, Parts, Sequence,
+    Body, DataSegment, ElementSegment, Export, FuncType, Import, Limits, MOST_FUNCTIONS,
+    MOST_ITEMS, MOST_MODULE_BYTES, Parts, Sequence, imported_functions,
 };
 
 /// The most items of most sections.
@@ -51,21 +50,11 @@ struct Contents {
     data: Sequence<DataSegment>,
 }
 
-fn is_func(import: &Import) -> bool
-    ensures { result ≡ is_func import.now.desc }
-{
-    match import.desc {
-        ImportDesc::Func(_) => true,
-        _ => false,
-    }
-}
-
 /// How many functions a module with these imports may have of its own.
 fn function_room(imports: &[Import]) -> u32
     ensures { result ≡ function_room imports.now }
 {
-    let imported = imports.iter().filter(|import| is_func(import)).count();
-    MOST_FUNCTIONS.saturating_sub(imported) as u32
+    MOST_FUNCTIONS.saturating_sub(imported_functions(imports)) as u32
 }
 
 #[tactic(auto, unfolding(crate::specs::Reading::signatures_at))]

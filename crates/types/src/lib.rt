@@ -33,3 +33,4 @@ pub use parts::{
 };
 pub use sequence::{Labels, Name, Sequence};
 pub use value::{ValType, Value};
+pub use within::{imported_functions, param_count};

@@ -55,7 +55,7 @@ fn is_imported_function(import: &Import) -> bool
 }
 
 /// How many functions are imported.
-fn imported_functions(imports: &[Import]) -> usize
+pub fn imported_functions(imports: &[Import]) -> usize
     ensures { result ≡ count_by (λ i. is_func i.desc) imports.now }
 {
     imports
@@ -65,7 +65,7 @@ fn imported_functions(imports: &[Import]) -> usize
 }
 
 /// The parameters of the type with this index, none if there is no such type.
-fn params(types: &[FuncType], index: u32) -> usize
+pub fn param_count(types: &[FuncType], index: u32) -> usize
     ensures { result ≡ param_count types.now index }
 {
     match types.get(index as usize) {
@@ -77,7 +77,7 @@ fn params(types: &[FuncType], index: u32) -> usize
 fn is_body_in(types: &[FuncType], index: u32, body: &Body) -> bool
     ensures { result ≡ is_body_within types.now index body.now }
 {
-    let params = params(types, index);
+    let params = param_count(types, index);
     params <= MOST_LOCALS && body.locals.len() <= MOST_LOCALS - params
 }
 
