@@ -19,7 +19,7 @@ ghost use Rattle.validate_typing.specs.Faults.{fault_kind};
 ghost use Rattle.validate_typing.specs.declared.fault.Fault.TheVariants as faults;
 
 use crate::alone::check_alone;
-use crate::check::{Findings, check_parts};
+use crate::check::{Findings, check_parts, func_type};
 use crate::image::opening_image;
 use crate::operands::{local_types, operand_types};
 use std::alloc::{AllocError, Global};
@@ -184,8 +184,11 @@ impl ValidModule {
             × (slice_get self.now.parts.types index ≡ Some t.now)) }
     {
         let parts = self.parts();
-        let index = *parts.functions.as_slice().get(own)?;
-        parts.types.as_slice().get(index as usize)
+        if own < parts.functions.len() {
+            Some(func_type(parts, own))
+        } else {
+            None
+        }
     }
 
     /// The types of a function's locals, the parameters first (Core specification 1.0, section 3.4.1); functions of the
@@ -227,6 +230,19 @@ impl ValidModule {
     }
 }
 
+/// The valid module that was checked.
+fn keep(alloc: Global, checked: Checked) -> Result<ValidModule, ValidFault>
+    requires validated { IsValidated (record { parts = checked.module; tables = checked.findings.tables.items }) }
+    requires imported { checked.findings.imported ≡ length (imported_functions checked.module) }
+    requires memory { checked.findings.memory ≡ slice_get (memories_of checked.module) 0 }
+    requires flats { checked.findings.flats.items ≡ all_flats checked.module.bodies checked.findings.tables.items }
+    ensures ok { IfOk result (λ v. v ≡ record { parts = checked.module; tables = checked.findings.tables.items }) }
+    ensures err { IfErr result (λ fault. fault ≡ ValidFault.OutOfMemory) }
+{
+    let checked = Box::new(alloc, checked)?;
+    Ok(ValidModule { checked })
+}
+
 /// Validates a module.
 ///
 /// # Errors
@@ -242,10 +258,7 @@ pub fn validate(alloc: Global, module: Module) -> Result<ValidModule, ValidFault
     ensures outside { IfSome (fault_outside «module») (λ kind. IsErrAnd result (λ fault. IsRefusal kind fault)) }
 {
     match check_parts(alloc, module.parts()) {
-        Ok(findings) => {
-            let checked = Box::new(alloc, Checked { module, findings })?;
-            Ok(ValidModule { checked })
-        }
+        Ok(findings) => keep(alloc, Checked { module, findings }),
         Err(fault) => Err(fault),
     }
 }

@@ -5,12 +5,8 @@ use Rattle.validate.specs.Refusals.{IsRefusal, IsRefused}
 use Rattle.validate.proofs.TableLaws.{none_has, valid_refused, memory_refused}
 use Rattle.validate.proofs.valid_module.validate.Goals as goal
 
-pub returns-in_ok-checked-in-Ok-clause-outside : goal.returns-in_ok-checked-in-Ok-clause-outside
-returns-in_ok-checked-in-Ok-clause-outside c =
-    subst (λ (m : Parts). IfSome (fault_outside m) (λ _. ⊥)) c.parts.ensures.parts c.in-Ok.ensures.outside
-
-pub returns-in_err-checked-in-Ok-clause-outside : goal.returns-in_err-checked-in-Ok-clause-outside
-returns-in_err-checked-in-Ok-clause-outside c = none_has _ _
+pub returns-in-Ok-clause-outside : goal.returns-in-Ok-clause-outside
+returns-in-Ok-clause-outside c = none_has _ _
     (subst (λ (m : Parts). IfSome (fault_outside m) (λ _. ⊥)) c.parts.ensures.parts c.in-Ok.ensures.outside)
 
 pub returns-in-Err-clause-outside : goal.returns-in-Err-clause-outside
