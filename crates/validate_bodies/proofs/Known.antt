@@ -4,7 +4,7 @@ use Rattle.std.proofs.Common.{Option, Some, None, Bool, true, false, refl, sym, 
 use Rattle.std.proofs.Common.{Result, Ok, Err, IfOk}
 use Rattle.std.specs.Option.{MatchOption}
 use Rattle.std.specs.List.{flat_map, Contains}
-use Rattle.std.proofs.lemmas.List.{append_cancel_left, reverse-append, reverse-reverse, take-take}
+use Rattle.std.proofs.lemmas.List.{append_cancel_left, reverse-append, reverse-reverse, take-take, take_more, map-append}
 use Rattle.std.proofs.lemmas.List.Concat.{flat_map-append}
 use Rattle.std.proofs.lemmas.List.Elements.{Contains-append_cases}
 use Rattle.types.specs.declared.value.ValType.{ValType}
@@ -213,3 +213,20 @@ types_known c code place blocks operands items (Ok (Some v)) l h g e k = known_r
 types_known c code place blocks operands items (Ok None) l h g e k =
     absurd (never_unknown c code place blocks h g (subst (λ (ks : List (Option ValType)). Contains ks None) e k))
 types_known c code place blocks operands items (Err x) l h g e k = tt
+
+-- the operands of one block more
+pub operands_more : (blocks : List OpenBlock) (i : ℕ) (b : OpenBlock) (before own after : List (Option ValType)) → i < length blocks → b ≡ get_or blocks i b →
+    before ≡ flat_map (λ (b : OpenBlock). b.operands.items) (take i blocks) → own ≡ b.operands.items → after ≡ before ++ own →
+    after ≡ flat_map (λ (b : OpenBlock). b.operands.items) (take (i + 1) blocks)
+operands_more blocks i b before own after h e k o a =
+    let f : OpenBlock → List (Option ValType) = λ x. x.operands.items in
+    let split : take (i + 1) blocks ≡ take i blocks ++ (b ∷ []) = take_more blocks i b h ∙ ap (λ x. take i blocks ++ (x ∷ [])) (sym e) in
+    let more : flat_map f (take (i + 1) blocks) ≡ flat_map f (take i blocks) ++ (b.operands.items ++ []) =
+    ap (flat_map f) split ∙ flat_map-append f (take i blocks) (b ∷ []) in
+    a ∙ rw (k, o) (sym (more ∙ ap (λ xs. flat_map f (take i blocks) ++ xs) (append-nil b.operands.items)))
+
+-- one type more is known
+pub known_more : (ks : List (Option ValType)) (i : ℕ) (d : Option ValType) (t : ValType) (old new : List ValType) → i < length ks → get_or ks i d ≡ Some t →
+    map Some old ≡ take i ks → new ≡ old ++ (t ∷ []) → map Some new ≡ take (i + 1) ks
+known_more ks i d t old new h e k a =
+    ap (map Some) a ∙ map-append Some old (t ∷ []) ∙ ap (λ xs. xs ++ (Some t ∷ [])) k ∙ ap (λ o. take i ks ++ (o ∷ [])) (sym e) ∙ sym (take_more ks i d h)

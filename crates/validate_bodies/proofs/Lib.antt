@@ -1,3 +1,4 @@
+pub mod Innermost
 pub mod Moves
 pub mod Fitting
 pub mod Labels

@@ -1,14 +1,14 @@
 -- Operands that are taken and put, one after another.
-use Rattle.std.proofs.Common.{◌≡◌, ◌≢◌, ℕ, ◌+◌, ◌<◌, List, [], ◌∷◌, ◌++◌, length, map, take, drop, get_or, Option, Some, None}
+use Rattle.std.proofs.Common.{◌≡◌, ◌≢◌, ℕ, ◌+◌, ◌<◌, ◌≤◌, List, [], ◌∷◌, ◌++◌, length, take, drop, get_or, Option, Some, None}
 use Rattle.std.proofs.Common.{Result, Ok, Err, MatchResult, IsErrAnd, reverse, refl, sym, ◌∙◌, ap, subst, append_assoc, arith}
-use denote.Ref.{Bor}
 use Rattle.std.proofs.lemmas.Result.{MatchResult-weaker}
 use Rattle.std.proofs.lemmas.Grind.{common_steps}
 use Rattle.validate_typing.specs.declared.fault.Fault.{Fault}
 use Rattle.validate_typing.specs.declared.fault.Fault.TheVariants.{TypeMismatch}
 use Rattle.validate_bodies.specs.declared.problem.Problem.{Problem}
 use Rattle.validate_bodies.specs.declared.problem.Problem.TheVariants.{OutOfMemory, Wrong}
-use Rattle.std.proofs.lemmas.List.{take_more, map-append, reverse-append}
+use Rattle.std.proofs.lemmas.List.{take_more, reverse-append, take-append-drop}
+use Rattle.std.proofs.Math.ListN.{drop_of_length-le}
 use Rattle.types.specs.declared.value.ValType.{ValType}
 use Rattle.types.specs.declared.value.ValType.TheVariants.{I32}
 use Rattle.validate_bodies.specs.declared.block.Flow.{Flow}
@@ -86,23 +86,30 @@ pub takes_more : (xs : List ValType) (i : ℕ) (d : ValType) (a b c : OpenBlock)
     → Takes (take i xs) a b → Takes (get_or xs i d ∷ []) b c → Takes (take (i + 1) xs) a c
 takes_more xs i d a b c h x y = rw (take_more xs i d h) (takes_then (take i xs) (get_or xs i d ∷ []) a b c x y)
 
--- the same for items of an iterator
-abbrev pub seen : List (Bor ValType) → List ValType
-seen ys = map (λ (t : Bor ValType). t.now) ys
+-- the same from the last on
+take_off : (xs : List ValType) (n i : ℕ) (d : ValType) → n ≡ i + 1 → n ≤ length xs → drop i xs ≡ get_or xs i d ∷ drop n xs
+take_off xs n i d e h = grind (arith, common_steps)
 
-pub takes_next : (ys : List (Bor ValType)) (y : Bor ValType) (a b c : OpenBlock) → Takes (seen ys) a b
-    → Takes (y.now ∷ []) b c → Takes (seen (ys ++ (y ∷ []))) a c
-takes_next ys y a b c x z =
+last_off : (xs : List ValType) (n i : ℕ) (d : ValType) → n ≡ i + 1 → n ≤ length xs → reverse (drop i xs) ≡ reverse (drop n xs) ++ (get_or xs i d ∷ [])
+last_off xs n i d e h = ap reverse (take_off xs n i d e h) ∙ reverse-append (get_or xs i d ∷ []) (drop n xs)
+
+pub takes_start : (xs : List ValType) (n : ℕ) (a : OpenBlock) → length xs ≤ n → Takes (reverse (drop n xs)) a a
+takes_start xs n a h = let none : drop n xs ≡ [] = drop_of_length-le xs h in rw none (takes_none a)
+
+pub puts_start : (xs : List ValType) (n : ℕ) (a : OpenBlock) → length xs ≤ n → Puts (drop n xs) a a
+puts_start xs n a h = let none : drop n xs ≡ [] = drop_of_length-le xs h in rw none (puts_none a)
+
+pub takes_down : (xs : List ValType) (n i : ℕ) (d : ValType) (a b c : OpenBlock) → n ≡ i + 1 → n ≤ length xs
+    → Takes (reverse (drop n xs)) a b → Takes (get_or xs i d ∷ []) b c → Takes (reverse (drop i xs)) a c
+takes_down xs n i d a b c e h x y =
     let P : List ValType → Type 0 = λ ts. Takes ts a c in
-    subst P (sym (map-append (λ (t : Bor ValType). t.now) ys (y ∷ []))) (takes_then (seen ys) (y.now ∷ []) a b c x z)
+    subst P (sym (last_off xs n i d e h)) (takes_then (reverse (drop n xs)) (get_or xs i d ∷ []) a b c x y)
 
-pub puts_next : (ys : List (Bor ValType)) (y : Bor ValType) (a b c : OpenBlock) → Puts (reverse (seen ys)) a b
-    → Puts (y.now ∷ []) b c → Puts (reverse (seen (ys ++ (y ∷ [])))) a c
-puts_next ys y a b c x z =
+pub puts_down : (xs : List ValType) (n i : ℕ) (d : ValType) (a b c : OpenBlock) → n ≡ i + 1 → n ≤ length xs
+    → Puts (drop n xs) a b → Puts (get_or xs i d ∷ []) b c → Puts (drop i xs) a c
+puts_down xs n i d a b c e h x y =
     let P : List ValType → Type 0 = λ ts. Puts ts a c in
-    let e : reverse (seen (ys ++ (y ∷ []))) ≡ y.now ∷ reverse (seen ys) =
-    ap reverse (map-append (λ (t : Bor ValType). t.now) ys (y ∷ [])) ∙ reverse-append (seen ys) (y.now ∷ []) in
-    subst P (sym e) (puts_more y.now (reverse (seen ys)) a b c x z)
+    subst P (sym (take_off xs n i d e h)) (puts_more (get_or xs i d) (drop n xs) a b c x y)
 
 -- What can't be taken.
 
@@ -168,13 +175,15 @@ lacks_at xs i d a b e h x y =
     let P : List ValType → Type 0 = λ ts. Lacks ts a e in
     subst P (sym (split_at xs i d h)) (lacks_after (take i xs) ((get_or xs i d ∷ []) ++ drop (i + 1) xs) a b e x (lacks_more (get_or xs i d ∷ []) (drop (i + 1) xs) b e y))
 
--- the same for items of an iterator
-pub lacks_turn : (xs ts : List ValType) (i : ℕ) (t : ValType) (a b : OpenBlock) (e : Problem) → ts ≡ take i xs
-    → (i < length xs) × (t ≡ get_or xs i t) → Takes ts a b → Lacks (t ∷ []) b e → Lacks xs a e
-lacks_turn xs ts i t a b e g h x y =
-    let P : List ValType → Type 0 = λ us. Takes us a b in
-    let Q : ValType → Type 0 = λ u. Lacks (u ∷ []) b e in
-    lacks_at xs i t a b e h.0 (subst P g x) (subst Q h.1 y)
+-- the same from the last on
+pub lacks_down : (xs : List ValType) (n i : ℕ) (d : ValType) (a b : OpenBlock) (e : Problem) → n ≡ i + 1 → n ≤ length xs
+    → Takes (reverse (drop n xs)) a b → Lacks (get_or xs i d ∷ []) b e → Lacks (reverse xs) a e
+lacks_down xs n i d a b e g h x y =
+    let P : List ValType → Type 0 = λ ts. Lacks ts a e in
+    let whole : reverse xs ≡ reverse (drop i xs) ++ reverse (take i xs) =
+    ap reverse (sym (take-append-drop i xs)) ∙ reverse-append (take i xs) (drop i xs) in
+    let last = lacks_after (reverse (drop n xs)) (get_or xs i d ∷ []) a b e x y in
+    subst P (sym whole) (lacks_more (reverse (drop i xs)) (reverse (take i xs)) a e (subst P (sym (last_off xs n i d g h)) last))
 
 abbrev pub Moving : List ValType → List ValType → OpenBlock → OpenBlock → Result (Unit {0}) Problem → Type 0
 Moving ts gs a b r = MatchResult r (λ _. Moved ts gs a b) (CantMove ts a)

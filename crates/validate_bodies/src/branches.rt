@@ -1,6 +1,6 @@
 //! Instructions that never go on, and branches (Core specification 1.0, section 3.3.5).
 
-ghost use Rattle.std.specs.Prelude.{◌≡◌, [], Some, OnOk, IfErr, MatchResult, true, false};
+ghost use Rattle.std.specs.Prelude.{◌≡◌, ◌↔◌, [], Some, IsTrue, OnOk, IfErr, MatchResult, true, false};
 ghost use Rattle.std.specs.List.{slice_get, All};
 ghost use Rattle.types.specs.declared.instr.PlainInstr.TheVariants as plain;
 ghost use Rattle.validate_typing.specs.Typing.{results_of};
@@ -97,6 +97,13 @@ pub fn check_br_if(
     Ok(())
 }
 
+/// Whether two labels carry the same.
+fn carry_alike(label: BlockLabel, other: BlockLabel) -> bool
+    ensures { IsTrue result ↔ label.carries ≡ other.carries }
+{
+    label.carries == other.carries
+}
+
 /// The targets of these labels, each of which has to be there and to carry what the default does. The default comes
 /// last.
 fn table_row(
@@ -114,7 +121,7 @@ fn table_row(
 {
     for index in indices {
         let label = find_label(block, outer, *index)?;
-        if label.carries != default.carries {
+        if !carry_alike(label, default) {
             return Err(Problem::Wrong(Fault::TypeMismatch));
         }
         row.push(label.target())?;

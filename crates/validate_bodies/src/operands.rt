@@ -60,8 +60,8 @@ pub fn take_all(block: &mut OpenBlock, wanted: &[ValType]) -> Result<(), Problem
 pub fn take_params(block: &mut OpenBlock, params: &[ValType]) -> Result<(), Problem>
     ensures { MatchResult result (λ _. Takes (reverse params.now) block.old block.new) (Lacks (reverse params.now) block.old) }
 {
-    for val_type in params.iter().rev() {
-        take_one(block, *val_type)?;
+    for index in (0..params.len()).rev() {
+        take_one(block, params[index])?;
     }
     Ok(())
 }
@@ -95,8 +95,8 @@ pub fn put_result(block: &mut OpenBlock, given: Option<ValType>) -> Result<(), P
 pub fn put_all(block: &mut OpenBlock, given: &[ValType]) -> Result<(), Problem>
     ensures { MatchResult result (λ _. Puts given.now block.old block.new) (λ e. e ≡ problems.OutOfMemory) }
 {
-    for val_type in given.iter().rev() {
-        put_one(block, *val_type)?;
+    for index in (0..given.len()).rev() {
+        put_one(block, given[index])?;
     }
     Ok(())
 }

@@ -2,13 +2,13 @@
 
 ghost use Rattle.std.specs.Prelude.{◌≡◌};
 ghost use Rattle.validate_bodies.specs.Refused.{fault_at};
-ghost use Rattle.validate_bodies.specs.declared.problem.Problem.TheVariants.{OutOfMemory, Wrong};
+ghost use Rattle.validate_bodies.specs.declared.problem.Problem.TheVariants.{OutOfMemory};
 
 use std::alloc::{AllocError, AllocFailed};
 use validate_typing::{Fault, ValidFault};
 
 /// Why an instruction is refused.
-#[derive(Clone, Copy, PartialEq, Eq)]
+#[derive(Clone, Copy)]
 pub enum Problem {
     /// Memory ran out.
     OutOfMemory,
@@ -29,14 +29,6 @@ impl Problem {
                 instruction,
             },
         }
-    }
-}
-
-impl From<Fault> for Problem {
-    ghost from_gives = { λ kind e. e ≡ Wrong kind };
-
-    fn from(kind: Fault) -> Problem {
-        Problem::Wrong(kind)
     }
 }
 

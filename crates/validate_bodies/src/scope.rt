@@ -33,6 +33,17 @@ pub struct Scope<'m> {
     pub result: Option<ValType>,
 }
 
+/// The item with this index, or this fault where there is none.
+fn item<T>(items: &[T], index: usize, missing: Fault) -> Result<&T, Problem>
+    ensures { MatchResult result (λ found. slice_get items.now index ≡ Some found.now)
+        (Misses (slice_get items.now index) missing) }
+{
+    match items.get(index) {
+        Some(found) => Ok(found),
+        None => Err(Problem::Wrong(missing)),
+    }
+}
+
 impl<'m> Scope<'m> {
     /// The type of a local; parameters come first.
     pub fn local(&self, index: u32) -> Result<ValType, Problem>
@@ -43,10 +54,8 @@ impl<'m> Scope<'m> {
         if index < self.params.len() {
             return Ok(self.params[index]);
         }
-        match self.locals.get(index - self.params.len()) {
-            Some(local) => Ok(*local),
-            None => Err(Problem::Wrong(Fault::UnknownLocal)),
-        }
+        let local = item(self.locals, index - self.params.len(), Fault::UnknownLocal)?;
+        Ok(*local)
     }
 
     /// The type of a global.
@@ -54,10 +63,8 @@ impl<'m> Scope<'m> {
         ensures { MatchResult result (λ g. slice_get (context_of self.now).globals index ≡ Some g)
             (Misses (slice_get (context_of self.now).globals index) faults.UnknownGlobal) }
     {
-        match self.declared.globals.get(index as usize) {
-            Some(global) => Ok(global.global_type),
-            None => Err(Problem::Wrong(Fault::UnknownGlobal)),
-        }
+        let global = item(self.declared.globals, index as usize, Fault::UnknownGlobal)?;
+        Ok(global.global_type)
     }
 
     /// A type.
@@ -65,10 +72,7 @@ impl<'m> Scope<'m> {
         ensures { MatchResult result (λ t. slice_get (context_of self.now).types index ≡ Some t.now)
             (Misses (slice_get (context_of self.now).types index) faults.UnknownType) }
     {
-        match self.declared.types.get(index as usize) {
-            Some(func_type) => Ok(func_type),
-            None => Err(Problem::Wrong(Fault::UnknownType)),
-        }
+        item(self.declared.types, index as usize, Fault::UnknownType)
     }
 
     /// The index of a function's type.
@@ -76,10 +80,12 @@ impl<'m> Scope<'m> {
         ensures { MatchResult result (λ t. slice_get (context_of self.now).functions index ≡ Some t)
             (Misses (slice_get (context_of self.now).functions index) faults.UnknownFunction) }
     {
-        match self.declared.functions.get(index as usize) {
-            Some(type_index) => Ok(*type_index),
-            None => Err(Problem::Wrong(Fault::UnknownFunction)),
-        }
+        let type_index = item(
+            self.declared.functions,
+            index as usize,
+            Fault::UnknownFunction,
+        )?;
+        Ok(*type_index)
     }
 
     /// That there is a table.

@@ -1,4 +1,4 @@
-use Rattle.std.proofs.Common.{rules, ◌≡◌, ◌∙◌, ap, Some, take, arith}
+use Rattle.std.proofs.Common.{◌≡◌, sym, true, false, ◌∙◌, ap, Some, take, arith}
 use Rattle.std.proofs.lemmas.List.{take_all}
 use Rattle.std.proofs.lemmas.List.Elements.{All-nil, All-more}
 use Rattle.validate_typing.specs.Typing.{results_of}
@@ -17,7 +17,7 @@ pub loop-index-preserved : goal.loop-index-preserved
 loop-index-preserved c =
     let labels = labels_at c.args.block.now c.args.outer.now in
     let l = c.in_ok-label.label in
-    let same : l.carries ≡ c.args.default.carries = search rules in
+    let same : l.carries ≡ c.args.default.carries = c.carry_alike.ensures.0 c.if-not-carry_alike.false in
     record {
       row = row_step labels c.args.indices.now c.loop-index.index-index 0 (as_label l) _ _ _ (omega arith)
           c.loop-index.invariant.row c.in_ok-label.ensures c.target.ensures c.in_ok-push.ensures.items;
@@ -32,10 +32,11 @@ returns-in_err-label-clause-differs c =
     (differs_missing (labels_at c.args.block.now c.args.outer.now) c.args.indices.now c.loop-index.index-index 0 _ _ (omega arith)
     c.in_err-label.ensures.0 c.in_err-label.ensures.1)
 
-pub returns-then-ne-clause-differs : goal.returns-then-ne-clause-differs
-returns-then-ne-clause-differs c =
+pub returns-then-not-carry_alike-clause-differs : goal.returns-then-not-carry_alike-clause-differs
+returns-then-not-carry_alike-clause-differs c =
     differs_here (labels_at c.args.block.now c.args.outer.now) c.args.indices.now c.loop-index.index-index 0 c.args.default.carries c.in_ok-label.label
-    (omega arith) c.in_ok-label.ensures (search rules)
+    (omega arith) c.in_ok-label.ensures
+    (λ alike. let never : true ≡ false = sym (c.carry_alike.ensures.1 alike) ∙ c.if-not-carry_alike.true in cc)
 
 pub returns-clause-row : goal.returns-clause-row
 returns-clause-row c =
