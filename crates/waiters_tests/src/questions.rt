@@ -10,9 +10,9 @@ use shared_memory::SharedMemory;
 use shared_memory_sequential::OneMemory;
 use std::alloc::Global;
 use std::marker::Brand;
-use std::process::Abort;
 use std::sync::Wait;
 use std::test::Fail;
+use test_answers::hold;
 use types::{Answer, Event, MOST_THREADS, PAGE_SIZE, Question, Reply};
 use waiters::Queue;
 
@@ -32,7 +32,7 @@ const NOTIFY: Question = Question::Notify { addr: 8, count: 1 };
 const SPAWN: Question = Question::Spawn { arg: 5 };
 
 /// The reply to a question, its answer, and the reply to taking that.
-#[derive(Clone, Copy, PartialEq, Eq, Debug)]
+#[derive(Clone, Copy, PartialEq)]
 struct Heard {
     asked: Reply,
     answer: Answer,
@@ -188,22 +188,28 @@ fn ask_alone(one: &mut OneMemory, waited: Heard) -> [Heard; 4] {
     [waited, notified, spawned, alone(one, Question::Leave, 0)]
 }
 
-/// Thread 0 entered four questions and their answers, and the bytes are those of the sequential memory.
-fn check_end(rt: &impl Abort, end: &Finished, one: &OneMemory) {
-    assert!(rt; end.log.len() == 8);
-    assert!(rt; end.log.as_slice().iter().all(|entry| entry.thread == 0));
-    assert!(rt; end.bytes.as_slice() == one.bytes());
+/// Thread 0 of a recorder heard what it hears beside the sequential memory. It entered four questions and their answers, and
+/// the bytes are those of that memory.
+fn is_alike(heard: Option<[Heard; 4]>, end: &Finished, one: &mut OneMemory) -> Result<(), Fail> {
+    let waited = alone(one, WAIT, 1);
+    let wanted = ask_alone(one, waited);
+    hold(&[
+        ("what the wait loaded", waited.asked == Reply::Value(0)),
+        ("what was heard", heard == Some(wanted)),
+        ("the log's length", end.log.len() == 8),
+        (
+            "who entered",
+            end.log.as_slice().iter().all(|entry| entry.thread == 0),
+        ),
+        ("the bytes", end.bytes.as_slice() == one.bytes()),
+    ])
 }
 
 #[test]
 fn each_question_is_answered_at_once(rt: HostRuntime) -> Result<(), Fail> {
     let alloc = rt.alloc();
+    let mut one = OneMemory::open(alloc, &PAGE, 1)?;
     let prepared = Prepared::new(alloc, &PAGE, 1, 100)?;
     let (heard, end) = ask_at_recorder::<Brand, HostRuntime>(&rt, alloc, prepared)?;
-    let mut one = OneMemory::open(alloc, &PAGE, 1)?;
-    let waited = alone(&mut one, WAIT, 1);
-    assert!(rt; waited.asked == Reply::Value(0));
-    assert!(rt; heard == Some(ask_alone(&mut one, waited)));
-    check_end(&rt, &end, &one);
-    Ok(())
+    is_alike(heard, &end, &mut one)
 }

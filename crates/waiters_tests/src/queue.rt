@@ -1,16 +1,17 @@
 //! Scripts that drive a queue. What each step answers was worked out by hand from the rules of waiting, notifying,
 //! spawning and settling.
-use std::fmt::Debug;
-use std::process::Abort;
 use std::test::Fail;
 use types::{Answer, MOST_THREADS, Question};
 use waiters::Queue;
 
 /// A step of a script, with what it has to answer.
-#[derive(Clone, Copy)]
 enum Step {
     /// Thread 0 spawns so many threads, the first of a run, with the arguments 101, 102 and so on.
     Spawns(u32),
+    /// A thread waits at an address, for a value of 4 bytes that is there, with a timeout.
+    Sleeps(u32, u64, i64),
+    /// A thread notifies at an address, at most so many.
+    Notifies(u32, u64, u32),
     /// A thread asks, where the loaded value is 0.
     Asks(u32, Question),
     /// A thread takes this answer.
@@ -27,302 +28,296 @@ enum Step {
     HasArg(u32, Option<u32>),
 }
 
-use Step::{Asks, HasArg, IsAlive, IsAsleep, IsOver, Spawns, Takes, Waits};
+use Answer::{ForGood, Number};
+use Step::{Asks, HasArg, IsAlive, IsAsleep, IsOver, Notifies, Sleeps, Spawns, Takes, Waits};
 
-/// A wait of 4 bytes on the value that is there.
-fn wait(addr: u64, timeout: i64) -> Question {
-    Question::Wait {
+/// Puts a question, and answers whether the thread may ask.
+fn ask(queue: &mut Queue, thread: u32, question: &Question) -> bool {
+    if queue.told(thread).is_some() || !queue.is_alive(thread) || queue.is_asleep(thread) {
+        return false;
+    }
+    queue.ask(thread, question, 0);
+    true
+}
+
+/// Spawns so many threads, and answers whether each gets the next number.
+fn spawn_all(queue: &mut Queue, count: u32) -> bool {
+    for id in 1..=count.min(63) {
+        let asked = ask(queue, 0, &Question::Spawn { arg: 100 + id });
+        if !asked || queue.told(0) != Some(Number(id)) {
+            return false;
+        }
+    }
+    true
+}
+
+/// Waits for the value of 4 bytes that is there.
+fn sleep(queue: &mut Queue, thread: u32, addr: u64, timeout: i64) -> bool {
+    let wait = Question::Wait {
         addr,
         width: 4,
         expected: 0,
         timeout,
+    };
+    ask(queue, thread, &wait)
+}
+
+/// Makes a step, and answers whether that goes as it has to.
+fn take_step(queue: &mut Queue, step: &Step) -> bool {
+    match *step {
+        Spawns(count) => spawn_all(queue, count),
+        Sleeps(thread, addr, timeout) => sleep(queue, thread, addr, timeout),
+        Notifies(thread, addr, count) => ask(queue, thread, &Question::Notify { addr, count }),
+        Asks(thread, question) => ask(queue, thread, &question),
+        Takes(thread, answer) => queue.told(thread) == Some(answer),
+        Waits(thread) => queue.told(thread).is_none(),
+        IsAlive(thread, alive) => queue.is_alive(thread) == alive,
+        IsAsleep(thread, asleep) => queue.is_asleep(thread) == asleep,
+        IsOver(over) => queue.is_over() == over,
+        HasArg(thread, arg) => queue.arg_of(thread) == arg,
     }
 }
 
-fn number(n: u32) -> Answer {
-    Answer::Number(n)
-}
-
-fn notify(addr: u64, count: u32) -> Question {
-    Question::Notify { addr, count }
-}
-
-fn ask(rt: &impl Abort, queue: &mut Queue, thread: u32, question: &Question) {
-    assert!(rt;
-        queue.told(thread).is_none(),
-        "an answer is due to thread {thread}"
-    );
-    assert!(rt; queue.is_alive(thread), "thread {thread} isn't alive");
-    assert!(rt; !queue.is_asleep(thread), "thread {thread} is asleep");
-    queue.ask(thread, question, 0);
-}
-
-fn spawn_all(rt: &impl Abort, queue: &mut Queue, count: u32) {
-    for id in 1..=count.min(63) {
-        ask(rt, queue, 0, &Question::Spawn { arg: 100 + id });
-        assert_eq!(rt; queue.told(0), Some(Answer::Number(id)));
-    }
-}
-
-/// Asserts that a step answers what it has to.
-fn equal<T: PartialEq + Debug>(rt: &impl Abort, at: usize, found: &T, wanted: &T) {
-    assert_eq!(rt; found, wanted, "step {at}");
-}
-
-fn take_step(rt: &impl Abort, queue: &mut Queue, at: usize, step: Step) {
-    match step {
-        Spawns(count) => spawn_all(rt, queue, count),
-        Asks(thread, question) => ask(rt, queue, thread, &question),
-        Takes(thread, answer) => equal(rt, at, &queue.told(thread), &Some(answer)),
-        Waits(thread) => equal(rt, at, &queue.told(thread), &None),
-        IsAlive(thread, alive) => equal(rt, at, &queue.is_alive(thread), &alive),
-        IsAsleep(thread, asleep) => equal(rt, at, &queue.is_asleep(thread), &asleep),
-        IsOver(over) => equal(rt, at, &queue.is_over(), &over),
-        HasArg(thread, arg) => equal(rt, at, &queue.arg_of(thread), &arg),
-    }
-}
-
-fn play(rt: &impl Abort, steps: &[Step]) {
+/// Plays a script on a new queue, and fails with the first step that doesn't go as it has to.
+fn play(steps: &[Step]) -> Result<(), Fail> {
     let mut queue = Queue::new(MOST_THREADS as u32);
     for (at, step) in steps.iter().enumerate() {
-        take_step(rt, &mut queue, at, *step);
+        if !take_step(&mut queue, step) {
+            return Err(Fail::new(format_args!("step {at}")));
+        }
     }
-}
-
-#[test]
-fn notify_wakes_who_slept_longest(rt: HostRuntime) -> Result<(), Fail> {
-    play(
-        &rt,
-        &[
-            Spawns(3),
-            Asks(2, wait(8, -1)),
-            Asks(1, wait(8, -1)),
-            Asks(3, wait(16, -1)),
-            Asks(0, notify(8, 1)),
-            Takes(0, number(1)),
-            Waits(1),
-            Waits(3),
-            Takes(2, number(0)),
-            Asks(0, notify(8, 2)),
-            Takes(0, number(1)),
-            Takes(1, number(0)),
-            Asks(0, notify(8, 1)),
-            Takes(0, number(0)),
-            IsAsleep(3, true),
-            IsAsleep(1, false),
-        ],
-    );
     Ok(())
 }
 
-#[test]
-fn notify_counts_without_sign(rt: HostRuntime) -> Result<(), Fail> {
-    let wide = Question::Wait {
-        addr: 8,
-        width: 8,
-        expected: 0,
-        timeout: -1,
-    };
-    play(
-        &rt,
-        &[
-            Spawns(4),
-            Asks(1, wait(8, -1)),
-            Asks(2, wide),
-            Asks(3, wait(12, -1)),
-            Asks(4, wait(8, 7)),
-            Asks(0, notify(8, 0)),
-            Takes(0, number(0)),
-            Waits(1),
-            Asks(0, notify(8, 4_294_967_295)),
-            Takes(0, number(3)),
-            Takes(1, number(0)),
-            Takes(2, number(0)),
-            Takes(4, number(0)),
-            Waits(3),
-        ],
-    );
-    Ok(())
-}
+/// Three sleep, and two of them at one address.
+static LONGEST: [Step; 16] = [
+    Spawns(3),
+    Sleeps(2, 8, -1),
+    Sleeps(1, 8, -1),
+    Sleeps(3, 16, -1),
+    Notifies(0, 8, 1),
+    Takes(0, Number(1)),
+    Waits(1),
+    Waits(3),
+    Takes(2, Number(0)),
+    Notifies(0, 8, 2),
+    Takes(0, Number(1)),
+    Takes(1, Number(0)),
+    Notifies(0, 8, 1),
+    Takes(0, Number(0)),
+    IsAsleep(3, true),
+    IsAsleep(1, false),
+];
 
 #[test]
-fn some_waits_are_answered_at_once(rt: HostRuntime) -> Result<(), Fail> {
-    let other = Question::Wait {
-        addr: 8,
-        width: 4,
-        expected: 7,
-        timeout: 0,
-    };
-    play(
-        &rt,
-        &[
-            Asks(0, other),
-            IsAsleep(0, false),
-            Takes(0, number(1)),
-            Waits(0),
-            Asks(0, wait(8, 0)),
-            IsAsleep(0, false),
-            Takes(0, number(2)),
-            Waits(0),
-            Asks(0, notify(8, 1)),
-            Takes(0, number(0)),
-            Waits(16),
-            Waits(4_294_967_295),
-        ],
-    );
-    Ok(())
+fn notify_wakes_who_slept_longest() -> Result<(), Fail> {
+    play(&LONGEST)
 }
 
-#[test]
-fn the_least_timeout_ends(rt: HostRuntime) -> Result<(), Fail> {
-    play(
-        &rt,
-        &[
-            Spawns(2),
-            Asks(1, wait(8, 50)),
-            Asks(2, wait(16, 30)),
-            Asks(0, wait(24, 40)),
-            Waits(0),
-            Waits(1),
-            Takes(2, number(2)),
-            Asks(2, wait(16, 60)),
-            Waits(1),
-            Waits(2),
-            Takes(0, number(2)),
-            Asks(0, wait(8, -1)),
-            Waits(0),
-            Waits(2),
-            Takes(1, number(2)),
-            IsAsleep(0, true),
-            IsAsleep(2, true),
-        ],
-    );
-    Ok(())
-}
+/// Four sleep, two of them at the word of 8 bytes and at another address.
+static WITHOUT_SIGN: [Step; 14] = [
+    Spawns(4),
+    Sleeps(1, 8, -1),
+    Asks(
+        2,
+        Question::Wait {
+            addr: 8,
+            width: 8,
+            expected: 0,
+            timeout: -1,
+        },
+    ),
+    Sleeps(3, 12, -1),
+    Sleeps(4, 8, 7),
+    Notifies(0, 8, 0),
+    Takes(0, Number(0)),
+    Waits(1),
+    Notifies(0, 8, 4_294_967_295),
+    Takes(0, Number(3)),
+    Takes(1, Number(0)),
+    Takes(2, Number(0)),
+    Takes(4, Number(0)),
+    Waits(3),
+];
 
 #[test]
-fn ties_end_at_the_lowest_thread(rt: HostRuntime) -> Result<(), Fail> {
-    play(
-        &rt,
-        &[
-            Spawns(2),
-            Asks(2, wait(8, 5)),
-            Asks(1, wait(8, 5)),
-            Asks(0, wait(8, 9)),
-            Waits(2),
-            Waits(0),
-            Takes(1, number(2)),
-            Asks(1, wait(8, 5)),
-            Waits(2),
-            Takes(1, number(2)),
-            Asks(1, wait(8, 6)),
-            Waits(1),
-            Takes(2, number(2)),
-            Asks(2, wait(8, 6)),
-            Waits(2),
-            Takes(1, number(2)),
-        ],
-    );
-    Ok(())
+fn notify_counts_without_sign() -> Result<(), Fail> {
+    play(&WITHOUT_SIGN)
 }
 
-#[test]
-fn all_sleep_for_good_where_no_timeout_ends(rt: HostRuntime) -> Result<(), Fail> {
-    play(
-        &rt,
-        &[
-            Spawns(2),
-            Asks(2, wait(8, -1)),
-            Asks(1, wait(8, i64::MIN)),
-            Waits(1),
-            Asks(0, wait(8, 3)),
-            Waits(1),
-            Waits(2),
-            Takes(0, number(2)),
-            Asks(0, wait(16, -3)),
-            IsAsleep(1, false),
-            Takes(0, Answer::ForGood),
-            Takes(1, Answer::ForGood),
-            Takes(2, Answer::ForGood),
-            Waits(0),
-        ],
-    );
-    Ok(())
-}
+/// Another value, and a timeout of 0.
+static AT_ONCE: [Step; 12] = [
+    Asks(
+        0,
+        Question::Wait {
+            addr: 8,
+            width: 4,
+            expected: 7,
+            timeout: 0,
+        },
+    ),
+    IsAsleep(0, false),
+    Takes(0, Number(1)),
+    Waits(0),
+    Sleeps(0, 8, 0),
+    IsAsleep(0, false),
+    Takes(0, Number(2)),
+    Waits(0),
+    Notifies(0, 8, 1),
+    Takes(0, Number(0)),
+    Waits(16),
+    Waits(4_294_967_295),
+];
 
 #[test]
-fn who_was_woken_is_awake(rt: HostRuntime) -> Result<(), Fail> {
-    play(
-        &rt,
-        &[
-            Spawns(2),
-            Asks(1, wait(8, 5)),
-            Asks(2, wait(16, -1)),
-            Asks(0, notify(8, 1)),
-            Takes(0, number(1)),
-            Asks(0, wait(8, 7)),
-            Waits(0),
-            Waits(2),
-            Takes(1, number(0)),
-            Waits(0),
-            Asks(1, wait(8, -1)),
-            Takes(0, number(2)),
-            Waits(1),
-            Waits(2),
-        ],
-    );
-    Ok(())
+fn some_waits_are_answered_at_once() -> Result<(), Fail> {
+    play(&AT_ONCE)
 }
 
-#[test]
-fn numbers_are_not_used_again(rt: HostRuntime) -> Result<(), Fail> {
-    play(
-        &rt,
-        &[
-            Spawns(62),
-            Asks(62, Question::Leave),
-            Takes(62, number(0)),
-            IsAlive(62, false),
-            HasArg(62, Some(162)),
-            HasArg(63, None),
-            Asks(1, Question::Spawn { arg: 7 }),
-            Takes(1, number(63)),
-            IsAlive(63, true),
-            Asks(63, Question::Spawn { arg: 8 }),
-            Takes(63, number(4_294_967_295)),
-            IsAlive(64, false),
-            HasArg(0, None),
-            HasArg(1, Some(101)),
-            HasArg(63, Some(7)),
-            HasArg(64, None),
-            HasArg(4_294_967_295, None),
-        ],
-    );
-    Ok(())
-}
+/// Three sleep with timeouts, so that one ends.
+static LEAST_TIMEOUT: [Step; 17] = [
+    Spawns(2),
+    Sleeps(1, 8, 50),
+    Sleeps(2, 16, 30),
+    Sleeps(0, 24, 40),
+    Waits(0),
+    Waits(1),
+    Takes(2, Number(2)),
+    Sleeps(2, 16, 60),
+    Waits(1),
+    Waits(2),
+    Takes(0, Number(2)),
+    Sleeps(0, 8, -1),
+    Waits(0),
+    Waits(2),
+    Takes(1, Number(2)),
+    IsAsleep(0, true),
+    IsAsleep(2, true),
+];
 
 #[test]
-fn leaving_settles_the_others(rt: HostRuntime) -> Result<(), Fail> {
-    play(
-        &rt,
-        &[
-            Spawns(2),
-            Asks(1, wait(8, 5)),
-            Asks(2, wait(8, -1)),
-            Asks(0, Question::Leave),
-            IsAlive(0, false),
-            Takes(0, number(0)),
-            Waits(2),
-            Takes(1, number(2)),
-            IsOver(false),
-            Asks(1, Question::Leave),
-            Takes(1, number(0)),
-            Takes(2, Answer::ForGood),
-            IsOver(false),
-            Asks(2, Question::Leave),
-            IsOver(true),
-            Takes(2, number(0)),
-        ],
-    );
-    Ok(())
+fn the_least_timeout_ends() -> Result<(), Fail> {
+    play(&LEAST_TIMEOUT)
+}
+
+/// Two sleep with the same timeout.
+static TIES: [Step; 16] = [
+    Spawns(2),
+    Sleeps(2, 8, 5),
+    Sleeps(1, 8, 5),
+    Sleeps(0, 8, 9),
+    Waits(2),
+    Waits(0),
+    Takes(1, Number(2)),
+    Sleeps(1, 8, 5),
+    Waits(2),
+    Takes(1, Number(2)),
+    Sleeps(1, 8, 6),
+    Waits(1),
+    Takes(2, Number(2)),
+    Sleeps(2, 8, 6),
+    Waits(2),
+    Takes(1, Number(2)),
+];
+
+#[test]
+fn ties_end_at_the_lowest_thread() -> Result<(), Fail> {
+    play(&TIES)
+}
+
+/// Timeouts below 0 never end.
+static FOR_GOOD: [Step; 14] = [
+    Spawns(2),
+    Sleeps(2, 8, -1),
+    Sleeps(1, 8, i64::MIN),
+    Waits(1),
+    Sleeps(0, 8, 3),
+    Waits(1),
+    Waits(2),
+    Takes(0, Number(2)),
+    Sleeps(0, 16, -3),
+    IsAsleep(1, false),
+    Takes(0, ForGood),
+    Takes(1, ForGood),
+    Takes(2, ForGood),
+    Waits(0),
+];
+
+#[test]
+fn all_sleep_for_good_where_no_timeout_ends() -> Result<(), Fail> {
+    play(&FOR_GOOD)
+}
+
+/// A thread that was woken has not taken its answer yet.
+static WOKEN: [Step; 14] = [
+    Spawns(2),
+    Sleeps(1, 8, 5),
+    Sleeps(2, 16, -1),
+    Notifies(0, 8, 1),
+    Takes(0, Number(1)),
+    Sleeps(0, 8, 7),
+    Waits(0),
+    Waits(2),
+    Takes(1, Number(0)),
+    Waits(0),
+    Sleeps(1, 8, -1),
+    Takes(0, Number(2)),
+    Waits(1),
+    Waits(2),
+];
+
+#[test]
+fn who_was_woken_is_awake() -> Result<(), Fail> {
+    play(&WOKEN)
+}
+
+/// All 63 threads are spawned, and one more.
+static NUMBERS: [Step; 17] = [
+    Spawns(62),
+    Asks(62, Question::Leave),
+    Takes(62, Number(0)),
+    IsAlive(62, false),
+    HasArg(62, Some(162)),
+    HasArg(63, None),
+    Asks(1, Question::Spawn { arg: 7 }),
+    Takes(1, Number(63)),
+    IsAlive(63, true),
+    Asks(63, Question::Spawn { arg: 8 }),
+    Takes(63, Number(4_294_967_295)),
+    IsAlive(64, false),
+    HasArg(0, None),
+    HasArg(1, Some(101)),
+    HasArg(63, Some(7)),
+    HasArg(64, None),
+    HasArg(4_294_967_295, None),
+];
+
+#[test]
+fn numbers_are_not_used_again() -> Result<(), Fail> {
+    play(&NUMBERS)
+}
+
+/// Each of three threads ends.
+static LEAVING: [Step; 16] = [
+    Spawns(2),
+    Sleeps(1, 8, 5),
+    Sleeps(2, 8, -1),
+    Asks(0, Question::Leave),
+    IsAlive(0, false),
+    Takes(0, Number(0)),
+    Waits(2),
+    Takes(1, Number(2)),
+    IsOver(false),
+    Asks(1, Question::Leave),
+    Takes(1, Number(0)),
+    Takes(2, ForGood),
+    IsOver(false),
+    Asks(2, Question::Leave),
+    IsOver(true),
+    Takes(2, Number(0)),
+];
+
+#[test]
+fn leaving_settles_the_others() -> Result<(), Fail> {
+    play(&LEAVING)
 }

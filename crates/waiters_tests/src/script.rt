@@ -128,7 +128,7 @@ pub fn end_all<M: SharedMemory, W: Wait + Drop>(
 }
 
 /// All answers of the script.
-#[derive(Clone, Copy, PartialEq, Eq, Debug)]
+#[derive(Clone, Copy, PartialEq)]
 pub struct Script {
     pub spawned: [u32; 4],
     pub woke: [Notified; 3],

@@ -14,6 +14,7 @@ use std::sync::Wait;
 use std::test::Fail;
 use std::thread::Threads;
 use std::time::Clock;
+use test_answers::hold;
 use types::{Answer, Event, MOST_SPAWNED, MOST_THREADS, PAGE_SIZE, Question};
 use waiters_desk::{Asked, Desk, Full, Notified};
 
@@ -35,7 +36,7 @@ enum Trial {
 }
 
 /// What was heard there.
-#[derive(Clone, Copy, PartialEq, Eq, Debug)]
+#[derive(Clone, Copy, PartialEq)]
 enum Heard {
     Script(Option<Script>),
     ShortLog(Option<(Result<Notified, Full>, [Answer; 2])>),
@@ -123,9 +124,25 @@ fn try_at<R: Threads + Wait + Clock + Sync>(
     make_at_recorder::<Brand, R>(rt, alloc, prepared, trial)
 }
 
+/// Makes a trial over a page of zeros and a log of at most `limit` entries, where this has to be heard, and the log has to
+/// have so many entries then.
+fn hears<R: Threads + Wait + Clock + Sync>(
+    rt: &R,
+    alloc: Global,
+    limit: u32,
+    trial: Trial,
+    wanted: Heard,
+    entries: usize,
+) -> Result<(), Fail> {
+    let (heard, end) = try_at(rt, alloc, limit, trial)?;
+    hold(&[
+        ("what was heard", heard == wanted),
+        ("the log's length", end.log.len() == entries),
+    ])
+}
+
 #[test]
 fn the_script_answers_step_by_step(rt: HostRuntime) -> Result<(), Fail> {
-    let (heard, end) = try_at(&rt, rt.alloc(), 1000, Trial::Script)?;
     let woken = Answer::Number(0);
     let timed_out = Answer::Number(2);
     let script = Script {
@@ -136,89 +153,113 @@ fn the_script_answers_step_by_step(rt: HostRuntime) -> Result<(), Fail> {
         ended: [timed_out, timed_out],
         never: None,
     };
-    assert_eq!(rt; heard, Heard::Script(Some(script)));
-    assert_eq!(rt; end.log.len(), 29);
-    Ok(())
+    hears(
+        &rt,
+        rt.alloc(),
+        1000,
+        Trial::Script,
+        Heard::Script(Some(script)),
+        29,
+    )
+}
+
+/// The entry that the notify would have had is the end of thread 0.
+fn leaves_seventh(end: &Finished) -> bool {
+    let seventh = end.log.get(6).map(|entry| (entry.thread, entry.event));
+    seventh == Some((0, Event::Ask(Question::Leave)))
 }
 
 #[test]
 fn a_full_log_wakes_nobody(rt: HostRuntime) -> Result<(), Fail> {
     let (heard, end) = try_at(&rt, rt.alloc(), 6, Trial::ShortLog)?;
     let for_good = [Answer::ForGood, Answer::ForGood];
-    assert_eq!(rt; heard, Heard::ShortLog(Some((Err(Full), for_good))));
-    assert_eq!(rt; end.log.len(), 10);
-    let seventh = end.log.get(6).map(|entry| (entry.thread, entry.event));
-    assert_eq!(rt; seventh, Some((0, Event::Ask(Question::Leave))));
-    Ok(())
+    hold(&[
+        (
+            "what was heard",
+            heard == Heard::ShortLog(Some((Err(Full), for_good))),
+        ),
+        ("the log's length", end.log.len() == 10),
+        ("the seventh entry", leaves_seventh(&end)),
+    ])
 }
 
 #[test]
 fn who_waits_alone_sleeps_for_good(rt: HostRuntime) -> Result<(), Fail> {
-    let (heard, end) = try_at(&rt, rt.alloc(), 1000, Trial::Alone)?;
-    assert_eq!(rt; heard, Heard::Alone(Some(Answer::ForGood)));
-    assert_eq!(rt; end.log.len(), 2);
-    Ok(())
+    let for_good = Heard::Alone(Some(Answer::ForGood));
+    hears(&rt, rt.alloc(), 1000, Trial::Alone, for_good, 2)
 }
 
 #[test]
 fn the_sixty_fourth_spawn_is_refused(rt: HostRuntime) -> Result<(), Fail> {
-    let (heard, end) = try_at(&rt, rt.alloc(), 1000, Trial::AllIds)?;
     let mut ids = [Ok(u32::MAX); MOST_THREADS];
     for i in 0..MOST_SPAWNED as u32 {
         ids[i as usize] = Ok(i + 1);
     }
-    assert_eq!(rt; heard, Heard::AllIds(ids));
-    assert_eq!(rt; end.log.len(), 128);
-    Ok(())
+    hears(
+        &rt,
+        rt.alloc(),
+        1000,
+        Trial::AllIds,
+        Heard::AllIds(ids),
+        128,
+    )
 }
 
 #[test]
 fn a_blocked_thread_is_woken_by_another(rt: HostRuntime) -> Result<(), Fail> {
-    let (heard, end) = try_at(&rt, rt.alloc(), 100_000, Trial::Together)?;
     let together = Together {
         begun: 7,
         told: Answer::Number(0),
         woke: Notified::Woke(1),
     };
-    assert_eq!(rt; heard, Heard::Together(Some(together)));
-    assert_eq!(rt; end.log.len(), 2006);
-    Ok(())
+    hears(
+        &rt,
+        rt.alloc(),
+        100_000,
+        Trial::Together,
+        Heard::Together(Some(together)),
+        2006,
+    )
 }
 
 #[test]
 fn blocked_threads_are_woken_in_turn(rt: HostRuntime) -> Result<(), Fail> {
-    let (heard, end) = try_at(&rt, rt.alloc(), 1000, Trial::InTurn)?;
     let told = [
         (Answer::Number(0), Ok(Notified::Woke(1))),
         (Answer::Number(0), Ok(Notified::Woke(1))),
         (Answer::Number(0), Ok(Notified::Woke(0))),
     ];
-    assert_eq!(rt; heard, Heard::InTurn(Some((Ok(Notified::Woke(1)), told))));
-    assert_eq!(rt; end.log.len(), 20);
-    Ok(())
+    let in_turn = Heard::InTurn(Some((Ok(Notified::Woke(1)), told)));
+    hears(&rt, rt.alloc(), 1000, Trial::InTurn, in_turn, 20)
 }
 
 #[test]
 fn a_timeout_ends_when_another_sleeps(rt: HostRuntime) -> Result<(), Fail> {
-    let (heard, end) = try_at(&rt, rt.alloc(), 1000, Trial::Asleep)?;
     let told = (Answer::Number(2), Some(Answer::ForGood));
-    assert_eq!(rt; heard, Heard::Asleep(Some(told)));
-    assert_eq!(rt; end.log.len(), 8);
-    Ok(())
+    hears(
+        &rt,
+        rt.alloc(),
+        1000,
+        Trial::Asleep,
+        Heard::Asleep(Some(told)),
+        8,
+    )
 }
 
 #[test]
 fn blocked_threads_begin_when_spawned(rt: HostRuntime) -> Result<(), Fail> {
-    let (heard, end) = try_at(&rt, rt.alloc(), 1000, Trial::Spawned)?;
-    assert_eq!(rt; heard, Heard::Begun([Some(100), Some(101), Some(102)]));
-    assert_eq!(rt; end.log.len(), 6);
-    Ok(())
+    let begun = Heard::Begun([Some(100), Some(101), Some(102)]);
+    hears(&rt, rt.alloc(), 1000, Trial::Spawned, begun, 6)
 }
 
 #[test]
 fn blocked_threads_go_home_when_all_is_over(rt: HostRuntime) -> Result<(), Fail> {
-    let (heard, end) = try_at(&rt, rt.alloc(), 1000, Trial::Over)?;
-    assert_eq!(rt; heard, Heard::Begun([None, None, None]));
-    assert_eq!(rt; end.log.len(), 2);
-    Ok(())
+    hears(
+        &rt,
+        rt.alloc(),
+        1000,
+        Trial::Over,
+        Heard::Begun([None, None, None]),
+        2,
+    )
 }

@@ -11,7 +11,7 @@ use types::Answer;
 use waiters_desk::{Desk, Notified};
 
 /// What both threads heard.
-#[derive(Clone, Copy, PartialEq, Eq, Debug)]
+#[derive(Clone, Copy, PartialEq)]
 pub struct Together {
     /// The argument with which the spawned thread began.
     pub begun: u32,
