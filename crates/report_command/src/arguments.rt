@@ -1,6 +1,7 @@
 //! The arguments of commands as rows of tables, and the commands that these make.
 
-use clap::{Arg, ArgAction, Command, value_parser};
+use clap::builder::{ValueParser, ValueRange};
+use clap::{Arg, Command};
 use std::alloc::{AllocError, Global};
 
 /// How an argument stands among the words.
@@ -14,23 +15,26 @@ pub(crate) enum Form {
     Option,
     /// As an option with a value, which has to be there.
     Required,
+    /// As an option with values, with commas between.
+    List,
     /// As an option without a value.
     Flag,
 }
 
-/// What the value of an argument may be. Of a range the second number is the first one past it.
-#[derive(Clone, Copy)]
-pub(crate) enum Values {
-    /// Any text.
-    Text,
-    /// One of these texts.
-    OneOf(&'static [&'static str]),
-    /// A number of 32 bits in a range.
-    Number(i64, i64),
-    /// A number of 64 bits in a range.
-    Long(i64, i64),
-    /// Numbers of 32 bits in a range, with commas between.
-    Numbers(i64, i64),
+impl Form {
+    /// How many values a use takes.
+    fn count(self) -> ValueRange {
+        match self {
+            Form::Rest => ValueRange::new(0..),
+            Form::Flag => ValueRange::EMPTY,
+            Form::Place | Form::Option | Form::Required | Form::List => ValueRange::SINGLE,
+        }
+    }
+
+    /// Whether it has to be there.
+    fn is_required(self) -> bool {
+        matches!(self, Form::Place | Form::Required)
+    }
 }
 
 /// An argument of a command.
@@ -43,13 +47,14 @@ pub(crate) struct Argument {
     /// What help says of it.
     pub help: &'static str,
     pub form: Form,
-    pub values: Values,
-    /// Its value where it isn't given.
-    pub default: Option<&'static str>,
+    /// What a value may be: `Signed` for numbers of 32 bits, and `Unsigned` for those of 64.
+    pub parser: ValueParser<'static>,
+    /// Its values where it isn't given.
+    pub defaults: &'static [&'static str],
     /// The arguments that can't stand beside it.
     pub conflicts: &'static [&'static str],
-    /// The argument without which it can't stand.
-    pub needs: Option<&'static str>,
+    /// The arguments without which it can't stand.
+    pub needs: &'static [&'static str],
     /// Whether usage and the list of options leave it out.
     pub is_hidden: bool,
 }
@@ -60,17 +65,26 @@ pub(crate) const OPTION: Argument = Argument {
     value: "",
     help: "",
     form: Form::Option,
-    values: Values::Text,
-    default: None,
+    parser: ValueParser::String,
+    defaults: &[],
     conflicts: &[],
-    needs: None,
+    needs: &[],
     is_hidden: false,
+};
+
+/// An option without a value that goes with all others, under no name yet.
+pub(crate) const FLAG: Argument = Argument {
+    form: Form::Flag,
+    parser: ValueParser::Bool,
+    ..OPTION
 };
 
 /// A command.
 #[derive(Clone, Copy)]
 pub(crate) struct CommandRow {
     pub name: &'static str,
+    /// How it is called.
+    pub call: &'static str,
     /// What help says of it.
     pub about: &'static str,
     /// The last line of its help.
@@ -79,54 +93,42 @@ pub(crate) struct CommandRow {
     pub arguments: &'static [Argument],
 }
 
-/// An argument that takes what its values say.
-fn with_values<'a>(argument: Arg<'a>, values: Values) -> Arg<'a> {
-    match values {
-        Values::Text => argument,
-        Values::OneOf(texts) => argument.value_parser(texts),
-        Values::Number(from, to) => argument.value_parser(value_parser!(u32).range(from..to)),
-        Values::Long(from, to) => argument.value_parser(value_parser!(u64).range(from..to)),
-        Values::Numbers(from, to) => argument
-            .value_delimiter(',')
-            .value_parser(value_parser!(u32).range(from..to)),
-    }
-}
-
-/// An argument of this form.
-fn formed<'a>(argument: Arg<'a>, row: &Argument) -> Arg<'a> {
-    match row.form {
-        Form::Place => argument.value_name(row.value).required(true),
-        Form::Rest => argument.value_name(row.value).num_args(0..),
-        Form::Option => argument.long(row.name).value_name(row.value),
-        Form::Required => argument.long(row.name).value_name(row.value).required(true),
-        Form::Flag => argument.long(row.name).action(ArgAction::SetTrue),
-    }
-}
-
 /// The argument of a row.
 fn argument_of<'a>(alloc: Global, row: &Argument) -> Result<Arg<'a>, AllocError> {
-    let argument = Arg::new(alloc, row.name).help(row.help).hide(row.is_hidden);
-    let mut argument = with_values(formed(argument, row), row.values);
-    if let Some(default) = row.default {
-        argument = argument.default_value(default);
+    let argument = Arg::new(alloc, row.name)
+        .help(row.help)
+        .hide(row.is_hidden)
+        .value_name(row.value)
+        .value_parser(row.parser)
+        .default_values(row.defaults)
+        .num_args(row.form.count())
+        .required(row.form.is_required());
+    let argument = match row.form {
+        Form::Place | Form::Rest => argument,
+        Form::Option | Form::Required | Form::Flag => argument.long(row.name),
+        Form::List => argument.long(row.name).value_delimiter(','),
+    };
+    argument
+        .conflicts_with_all(row.conflicts)?
+        .requires_all(row.needs)
+}
+
+/// The arguments of these rows.
+fn arguments_of<'a>(alloc: Global, rows: &[Argument]) -> Result<Vec<Arg<'a>>, AllocError> {
+    let mut arguments = Vec::new(alloc);
+    for row in rows {
+        arguments.push(argument_of(alloc, row)?)?;
     }
-    for other in row.conflicts {
-        argument = argument.conflicts_with(*other)?;
-    }
-    match row.needs {
-        Some(other) => argument.requires_arg(other),
-        None => Ok(argument),
-    }
+    Ok(arguments)
 }
 
 /// The command of a row.
 pub(crate) fn command_of<'a>(alloc: Global, row: &CommandRow) -> Result<Command<'a>, AllocError> {
-    let mut command = Command::new(alloc, row.name).about(row.about);
-    if let Some(line) = row.after_help {
-        command = command.after_help(line);
-    }
-    for argument in row.arguments {
-        command = command.arg(argument_of(alloc, argument)?)?;
-    }
-    Ok(command)
+    let arguments = arguments_of(alloc, row.arguments)?;
+    let command = Command::new(alloc, row.name).about(row.about);
+    let command = match row.after_help {
+        Some(line) => command.after_help(line),
+        None => command,
+    };
+    command.args(arguments)
 }

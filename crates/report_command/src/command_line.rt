@@ -4,9 +4,10 @@ ghost use Rattle.types.specs.Limits.{most_limit, most_fuel};
 ghost use Rattle.report_command.specs.Jobs.{IsInRange, KeepsItsModule};
 ghost use Rattle.report_command.specs.FaultNumbers.{usage_number, IsWrong};
 
-use crate::arguments::{Argument, CommandRow, Form, OPTION, Values, command_of};
+use crate::arguments::{Argument, CommandRow, FLAG, Form, OPTION, command_of};
 use crate::search::{SEARCH, Search, search_job};
 use crate::show::{SHOW, View, misread, show_job};
+use clap::builder::ValueParser;
 use clap::error::ErrorKind;
 use clap::{ArgMatches, Command, Error};
 use show_choice::Look;
@@ -17,7 +18,7 @@ use types::{MOST_FUEL, MOST_LIMIT};
 pub const DUMP_MOST: u32 = 4096;
 
 /// What the command line asks for.
-#[derive(PartialEq, Eq, Drop)]
+#[derive(Drop)]
 pub enum Job<'a> {
     /// Read and validate a module, and say how many functions of its own it has.
     Check {
@@ -131,8 +132,7 @@ pub(crate) const RECORD: Argument = Argument {
 const EXPLAIN: Argument = Argument {
     name: "explain",
     help: "Say on standard error, behind a refusal, where and why it is, and what to do",
-    form: Form::Flag,
-    ..OPTION
+    ..FLAG
 };
 
 /// How many bytes a dump shows.
@@ -140,8 +140,8 @@ pub(crate) const DUMP: Argument = Argument {
     name: "dump",
     value: "N",
     help: "Print the first N bytes of the memory, 0 to 4096",
-    values: Values::Number(0, 4097),
-    default: Some("0"),
+    parser: ValueParser::Signed(0, 4096),
+    defaults: &["0"],
     ..OPTION
 };
 
@@ -168,8 +168,8 @@ pub(crate) const FUEL: Argument = Argument {
     name: "fuel",
     value: "N",
     help: "How many units each thread may spend, 0 to 1000000000000",
-    values: Values::Long(0, 1_000_000_000_001),
-    default: Some("1000000000"),
+    parser: ValueParser::Unsigned(0, 1_000_000_000_000),
+    defaults: &["1000000000"],
     ..OPTION
 };
 
@@ -178,8 +178,8 @@ pub(crate) const LIMIT: Argument = Argument {
     name: "limit",
     value: "N",
     help: "How many entries the log takes, 1 to 1000000",
-    values: Values::Number(1, 1_000_001),
-    default: Some("100000"),
+    parser: ValueParser::Signed(1, 1_000_000),
+    defaults: &["100000"],
     ..OPTION
 };
 
@@ -188,8 +188,8 @@ const MEMORY: Argument = Argument {
     name: "memory",
     value: "KIND",
     help: "Which memory: one behind a lock, which records, or a row of atomic words",
-    values: Values::OneOf(&["locked", "words"]),
-    default: Some("locked"),
+    parser: ValueParser::Names(&["locked", "words"]),
+    defaults: &["locked"],
     ..OPTION
 };
 
@@ -204,6 +204,7 @@ const SAVE: Argument = Argument {
 /// `check FILE [--explain]`
 static CHECK: CommandRow = CommandRow {
     name: "check",
+    call: "wathread check",
     about: "Reads a module, and says how many functions of its own it has",
     after_help: None,
     arguments: &[FILE, EXPLAIN],
@@ -213,6 +214,7 @@ static CHECK: CommandRow = CommandRow {
 /// [--explain] [ARG..]`
 static RUN: CommandRow = CommandRow {
     name: "run",
+    call: "wathread run",
     about: "Runs a function of a module, and prints how its threads ended",
     after_help: None,
     arguments: &[FILE, INVOKE, MEMORY, SAVE, FUEL, LIMIT, DUMP, EXPLAIN, ARGS],
@@ -221,30 +223,74 @@ static RUN: CommandRow = CommandRow {
 /// `replay FILE RECORD [--dump N] [--explain]`
 static REPLAY: CommandRow = CommandRow {
     name: "replay",
+    call: "wathread replay",
     about: "Runs a record again by one thread, and prints what the run printed",
     after_help: None,
     arguments: &[FILE, RECORD, DUMP, EXPLAIN],
 };
 
-/// The whole command line.
-fn commands<'a>(alloc: Global) -> Result<Command<'a>, AllocError> {
-    let mut commands = Command::new(alloc, "wathread")
-        .version("0.1.0")
-        .about("A proved interpreter of WebAssembly modules whose threads share one linear memory")
-        .subcommand_required(true);
-    for row in [&CHECK, &RUN, &REPLAY, &SHOW, &SEARCH] {
-        commands = commands.subcommand(command_of(alloc, row)?)?;
+/// The commands by their names.
+#[derive(Clone, Copy)]
+enum CommandName {
+    Check,
+    Run,
+    Replay,
+    Show,
+    Search,
+}
+
+/// All of them, in the order of the help.
+static COMMAND_NAMES: [CommandName; 5] = [
+    CommandName::Check,
+    CommandName::Run,
+    CommandName::Replay,
+    CommandName::Show,
+    CommandName::Search,
+];
+
+impl CommandName {
+    /// The command's row.
+    fn row(self) -> &'static CommandRow {
+        match self {
+            CommandName::Check => &CHECK,
+            CommandName::Run => &RUN,
+            CommandName::Replay => &REPLAY,
+            CommandName::Show => &SHOW,
+            CommandName::Search => &SEARCH,
+        }
+    }
+}
+
+/// The commands.
+fn subcommands<'a>(alloc: Global) -> Result<Vec<Command<'a>>, AllocError> {
+    let mut commands = Vec::new(alloc);
+    for name in &COMMAND_NAMES {
+        commands.push(command_of(alloc, name.row())?)?;
     }
     Ok(commands)
+}
+
+/// The whole command line.
+fn commands<'a>(alloc: Global) -> Result<Command<'a>, AllocError> {
+    let subcommands = subcommands(alloc)?;
+    Command::new(alloc, "wathread")
+        .version("0.1.0")
+        .about("A proved interpreter of WebAssembly modules whose threads share one linear memory")
+        .subcommand_required(true)
+        .subcommands(subcommands)
 }
 
 /// The numbers of a run, where they are there and in range, as the parser sees to.
 pub(crate) fn bounds_of(matches: &ArgMatches) -> Option<(u64, u32, u32)>
     ensures { IfSome result (λ n. (n.0 ≤ most_fuel) × (1 ≤ n.1) × (n.1 ≤ most_limit) × (n.2 ≤ 4096)) }
 {
-    let fuel = matches.get_one::<u64>("fuel")?;
-    let limit = matches.get_one::<u32>("limit")?;
-    let dump = matches.get_one::<u32>("dump")?;
+    let (Some(fuel), Some(limit), Some(dump)) = (
+        matches.get_one::<u64>("fuel"),
+        matches.get_one::<u32>("limit"),
+        matches.get_one::<u32>("dump"),
+    ) else {
+        return None;
+    };
     if fuel <= MOST_FUEL && limit >= 1 && limit <= MOST_LIMIT && dump <= DUMP_MOST {
         Some((fuel, limit, dump))
     } else {
@@ -260,6 +306,16 @@ pub(crate) fn args_of<'a>(
     match matches.get_strs("args") {
         Some(texts) => Vec::from_slice(alloc, texts),
         None => Ok(Vec::new(alloc)),
+    }
+}
+
+/// The job of `check`.
+fn check_job<'a>(matches: &ArgMatches<'a>) -> Option<Job<'a>>
+    ensures { IfSome result IsInRange }
+{
+    match matches.get_str("file") {
+        Some(file) => Some(Job::Check { file }),
+        None => None,
     }
 }
 
@@ -293,9 +349,13 @@ fn run_job<'a>(alloc: Global, matches: &ArgMatches<'a>) -> Result<Option<Job<'a>
 fn replay_job<'a>(matches: &ArgMatches<'a>) -> Option<Job<'a>>
     ensures { IfSome result IsInRange }
 {
-    let file = matches.get_str("file")?;
-    let saved = matches.get_str("record")?;
-    let dump = matches.get_one::<u32>("dump")?;
+    let (Some(file), Some(saved), Some(dump)) = (
+        matches.get_str("file"),
+        matches.get_str("record"),
+        matches.get_one::<u32>("dump"),
+    ) else {
+        return None;
+    };
     if dump <= DUMP_MOST {
         Some(Job::Replay { file, saved, dump })
     } else {
@@ -303,27 +363,25 @@ fn replay_job<'a>(matches: &ArgMatches<'a>) -> Option<Job<'a>>
     }
 }
 
-/// The job of the words, if they name one.
-fn job_of<'a>(alloc: Global, matches: &ArgMatches<'a>) -> Result<Option<Job<'a>>, AllocError>
+/// The job of the command with this name, if its words are one.
+fn job_of<'a>(
+    alloc: Global,
+    name: &str,
+    matches: &ArgMatches<'a>,
+) -> Result<Option<Job<'a>>, AllocError>
     ensures { IfOk result (λ job. IfSome job IsInRange) }
 {
-    let Some((name, matches)) = matches.subcommand() else {
-        return Ok(None);
-    };
     match name {
         "run" => run_job(alloc, matches),
         "replay" => Ok(replay_job(matches)),
         "show" => show_job(alloc, matches),
-        "search" => match search_job(alloc, matches)? {
-            Some(search) => Ok(Some(Job::Search(search))),
-            None => Ok(None),
-        },
-        _ => Ok(matches.get_str("file").map(|file| Job::Check { file })),
+        "search" => search_job(alloc, matches),
+        _ => Ok(check_job(matches)),
     }
 }
 
 /// Why words are no job, though the parser takes each of them.
-#[derive(Clone, Copy, PartialEq, Eq, Debug)]
+#[derive(Clone, Copy)]
 pub enum Misuse {
     /// A word isn't UTF-8.
     NotText,
@@ -366,16 +424,16 @@ impl Misuse {
         }
     }
 
-    /// The command whose words they are, and how it is called, where it is known.
-    fn command(self) -> Option<(&'static CommandRow, &'static str)> {
+    /// The command whose words they are, where it is known.
+    fn command(self) -> Option<CommandName> {
         match self {
             Misuse::NotText | Misuse::Unreadable => None,
-            Misuse::RecordsWords | Misuse::ReplacesModule => Some((&RUN, "wathread run")),
+            Misuse::RecordsWords | Misuse::ReplacesModule => Some(CommandName::Run),
             Misuse::NoLines | Misuse::NoAddresses | Misuse::NoBytes | Misuse::ReplacesRead => {
-                Some((&SHOW, "wathread show"))
+                Some(CommandName::Show)
             }
             Misuse::RecordsNothing | Misuse::FindReplacesModule | Misuse::Strategy => {
-                Some((&SEARCH, "wathread search"))
+                Some(CommandName::Search)
             }
         }
     }
@@ -422,13 +480,21 @@ pub fn misused(alloc: Global, misuse: Misuse) -> Usage
     }
 }
 
+/// The command whose usage is shown: that of the words, or the whole command line.
+fn command_for<'a>(alloc: Global, misuse: Misuse) -> Result<Command<'a>, AllocError> {
+    let Some(name) = misuse.command() else {
+        return commands(alloc);
+    };
+    let row = name.row();
+    command_of(alloc, row)?.bin_name(row.call)
+}
+
 /// The error with its text, and the usage of the command whose words they are.
 fn error_of(alloc: Global, misuse: Misuse) -> Result<Error, AllocError> {
-    let mut usage = match misuse.command() {
-        None => commands(alloc)?,
-        Some((row, name)) => command_of(alloc, row)?.bin_name(name)?,
-    };
-    usage.error(misuse.kind(), misuse.text())
+    match command_for(alloc, misuse) {
+        Ok(mut command) => command.error(misuse.kind(), misuse.text()),
+        Err(error) => Err(error),
+    }
 }
 
 /// Why the numbers and paths of a job don't go together, if they don't.
@@ -480,9 +546,9 @@ pub struct Order<'a> {
 }
 
 /// Whether more is said of a refusal, by commands that have the option.
-fn explains(matches: &ArgMatches) -> bool {
-    match matches.subcommand() {
-        Some(("check" | "run" | "replay", matches)) => matches.get_flag("explain"),
+fn explains(name: &str, matches: &ArgMatches) -> bool {
+    match name {
+        "check" | "run" | "replay" => matches.get_flag("explain"),
         _ => false,
     }
 }
@@ -501,11 +567,34 @@ pub fn command<'a>(alloc: Global, words: &'a [&'a str]) -> Result<Job<'a>, Usage
     }
 }
 
-/// Why words that the parser takes name no job: its parser sees to all but the strategy of a search.
-fn unreadable(matches: &ArgMatches) -> Misuse {
-    match matches.subcommand() {
-        Some(("search", _)) => Misuse::Strategy,
+/// Why words of the command with this name are no job: the parser sees to all but the strategy of a search.
+fn unreadable(name: &str) -> Misuse {
+    match name {
+        "search" => Misuse::Strategy,
         _ => Misuse::Unreadable,
+    }
+}
+
+/// What words ask for that the parser takes.
+fn order_of<'a>(alloc: Global, matches: &ArgMatches<'a>) -> Result<Order<'a>, Usage>
+    ensures range { IfOk result (λ asked. IsInRange asked.job) }
+    ensures kept { IfOk result (λ asked. KeepsItsModule asked.job) }
+{
+    let Some((name, matches)) = matches.subcommand() else {
+        return Err(misused(alloc, Misuse::Unreadable));
+    };
+    if let Some(misuse) = misread(name, matches) {
+        return Err(misused(alloc, misuse));
+    }
+    let Some(job) = job_of(alloc, name, matches)? else {
+        return Err(misused(alloc, unreadable(name)));
+    };
+    match misuse_of(&job) {
+        None => Ok(Order {
+            explain: explains(name, matches),
+            job,
+        }),
+        Some(misuse) => Err(misused(alloc, misuse)),
     }
 }
 
@@ -519,17 +608,5 @@ pub fn asked<'a>(alloc: Global, words: &'a [&'a str]) -> Result<Order<'a>, Usage
     ensures kept { IfOk result (λ asked. KeepsItsModule asked.job) }
 {
     let matches = commands(alloc)?.try_get_matches_from(words)?;
-    if let Some(misuse) = misread(&matches) {
-        return Err(misused(alloc, misuse));
-    }
-    let Some(job) = job_of(alloc, &matches)? else {
-        return Err(misused(alloc, unreadable(&matches)));
-    };
-    match misuse_of(&job) {
-        None => Ok(Order {
-            explain: explains(&matches),
-            job,
-        }),
-        Some(misuse) => Err(misused(alloc, misuse)),
-    }
+    order_of(alloc, &matches)
 }

@@ -1,15 +1,17 @@
 //! The command line of a search.
 ghost use Rattle.std.specs.Prelude.{◌≤◌, IfOk, IfSome};
-ghost use Rattle.report_command.specs.Searches.{IsSearchInRange, most_runs, most_states};
+ghost use Rattle.report_command.specs.Jobs.{IsInRange};
+ghost use Rattle.report_command.specs.Searches.{most_runs, most_states};
 
-use crate::arguments::{Argument, CommandRow, Form, OPTION, Values};
-use crate::command_line::{ARGS, DUMP, FILE, FUEL, INVOKE, LIMIT, args_of, bounds_of};
+use crate::arguments::{Argument, CommandRow, FLAG, OPTION};
+use crate::command_line::{ARGS, DUMP, FILE, FUEL, INVOKE, Job, LIMIT, args_of, bounds_of};
 use clap::ArgMatches;
+use clap::builder::ValueParser;
 use search_strategies::{MOST_DEPTH, Way};
 use std::alloc::{AllocError, Global};
 
 /// A search through runs of a function of a module.
-#[derive(PartialEq, Eq, Drop)]
+#[derive(Drop)]
 pub struct Search<'a> {
     /// The path of the module.
     pub file: &'a str,
@@ -71,8 +73,8 @@ const RUNS: Argument = Argument {
     name: "runs",
     value: "N",
     help: "How many runs are made at most",
-    values: Values::Long(1, 1_000_000_000_001),
-    default: Some("1000"),
+    parser: ValueParser::Unsigned(1, 1_000_000_000_000),
+    defaults: &["1000"],
     ..OPTION
 };
 
@@ -81,8 +83,8 @@ const FROM: Argument = Argument {
     name: "from",
     value: "I",
     help: "The number of the first run",
-    values: Values::Long(1, 1_000_000_000_001),
-    default: Some("1"),
+    parser: ValueParser::Unsigned(1, 1_000_000_000_000),
+    defaults: &["1"],
     ..OPTION
 };
 
@@ -91,8 +93,8 @@ const SEED: Argument = Argument {
     name: "seed",
     value: "S",
     help: "The seed: run I of a seed is the same on every machine",
-    values: Values::Long(0, 1_000_000_000_000_000_001),
-    default: Some("1"),
+    parser: ValueParser::Unsigned(0, 1_000_000_000_000_000_000),
+    defaults: &["1"],
     ..OPTION
 };
 
@@ -101,7 +103,7 @@ const STRATEGY: Argument = Argument {
     name: "strategy",
     value: "WAY",
     help: "Who goes on: random, or pct:D for priorities that change at D - 1 points, D of 1 to 32",
-    default: Some("random"),
+    defaults: &["random"],
     ..OPTION
 };
 
@@ -110,7 +112,7 @@ const JOBS: Argument = Argument {
     name: "jobs",
     value: "N",
     help: "How many threads make runs, 1 to 256; without it as many as there are processors",
-    values: Values::Number(1, 257),
+    parser: ValueParser::Signed(1, 256),
     ..OPTION
 };
 
@@ -118,9 +120,8 @@ const JOBS: Argument = Argument {
 const ALL: Argument = Argument {
     name: "all",
     help: "In place of drawn runs, go through every order of the threads' entries, by each state once",
-    form: Form::Flag,
     conflicts: &["runs", "from", "seed", "strategy", "jobs"],
-    ..OPTION
+    ..FLAG
 };
 
 /// How many states.
@@ -128,8 +129,8 @@ const MET: Argument = Argument {
     name: "states",
     value: "N",
     help: "With --all: how many states are met at most, 1 to 1000000000; without it 1000000",
-    values: Values::Number(1, 1_000_000_001),
-    needs: Some("all"),
+    parser: ValueParser::Signed(1, 1_000_000_000),
+    needs: &["all"],
     ..OPTION
 };
 
@@ -161,8 +162,7 @@ const SAVE: Argument = Argument {
 const SHRINK: Argument = Argument {
     name: "shrink",
     help: "Look for a run that ends as the one that was found, with few switches of threads",
-    form: Form::Flag,
-    ..OPTION
+    ..FLAG
 };
 
 /// The file that ends it. The launcher adds this option to the words of every search: what is said of words that are wrong is the same
@@ -179,6 +179,7 @@ const UNTIL: Argument = Argument {
 /// [--find WORDS] [--expect WORDS] [--record OUT] [--shrink] [--until PATH] [--fuel N] [--limit N] [--dump N] [ARG..]`
 pub(crate) static SEARCH: CommandRow = CommandRow {
     name: "search",
+    call: "wathread search",
     about: "Runs a function of a module on one thread along many schedules, and prints how the runs end",
     after_help: Some(UNTIL_HELP),
     arguments: &[
@@ -192,21 +193,46 @@ fn way_of(word: &str) -> Option<Way> {
     if word == "random" {
         return Some(Way::Random);
     }
-    let depth = word.strip_prefix("pct:")?.parse::<u32>().ok()?;
-    if depth == 0 || depth > MOST_DEPTH {
+    let Some(depth) = word.strip_prefix("pct:") else {
         return None;
+    };
+    match depth.parse::<u32>() {
+        Ok(depth) if depth >= 1 && depth <= MOST_DEPTH => Some(Way::Priorities(depth)),
+        _ => None,
     }
-    Some(Way::Priorities(depth))
 }
 
-/// How many runs are made and which is the first, where these are there and in range, as the parser sees to.
-fn runs_of(matches: &ArgMatches) -> Option<(u64, u64)>
-    ensures { IfSome result (λ n. (n.0 ≤ most_runs) × (n.1 ≤ most_runs)) }
+/// Which runs are drawn: by which strategy, how many, which is the first, and from which seed.
+#[derive(Clone, Copy)]
+struct Draws {
+    way: Way,
+    runs: u64,
+    from: u64,
+    seed: u64,
+}
+
+/// The runs that are drawn, where the numbers are there and in range, as the parser sees to, and the strategy is one.
+fn draws_of(matches: &ArgMatches) -> Option<Draws>
+    ensures { IfSome result (λ draws. (draws.runs ≤ most_runs) × (draws.from ≤ most_runs)) }
 {
-    let runs = matches.get_one::<u64>("runs")?;
-    let from = matches.get_one::<u64>("from")?;
+    let (Some(word), Some(runs), Some(from), Some(seed)) = (
+        matches.get_str("strategy"),
+        matches.get_one::<u64>("runs"),
+        matches.get_one::<u64>("from"),
+        matches.get_one::<u64>("seed"),
+    ) else {
+        return None;
+    };
+    let Some(way) = way_of(word) else {
+        return None;
+    };
     if runs <= MOST_RUNS && from <= MOST_RUNS {
-        Some((runs, from))
+        Some(Draws {
+            way,
+            runs,
+            from,
+            seed,
+        })
     } else {
         None
     }
@@ -223,35 +249,28 @@ fn all_of(matches: &ArgMatches) -> Option<u32>
     Some(states.clamp(1, MOST_STATES))
 }
 
-/// The search that the words ask for, where its numbers are there and in range, as the parser sees to, and its strategy is one.
+/// The job of `search`, where its numbers are there and in range, as the parser sees to, and its strategy is one.
 pub(crate) fn search_job<'a>(
     alloc: Global,
     matches: &ArgMatches<'a>,
-) -> Result<Option<Search<'a>>, AllocError>
-    ensures { IfOk result (λ search. IfSome search IsSearchInRange) }
+) -> Result<Option<Job<'a>>, AllocError>
+    ensures { IfOk result (λ job. IfSome job IsInRange) }
 {
-    let (Some(file), Some(invoke), Some((fuel, limit, dump)), Some(word)) = (
+    let (Some(file), Some(invoke), Some((fuel, limit, dump)), Some(draws)) = (
         matches.get_str("file"),
         matches.get_str("invoke"),
         bounds_of(matches),
-        matches.get_str("strategy"),
+        draws_of(matches),
     ) else {
         return Ok(None);
     };
-    let (Some(way), Some((runs, from)), Some(seed)) = (
-        way_of(word),
-        runs_of(matches),
-        matches.get_one::<u64>("seed"),
-    ) else {
-        return Ok(None);
-    };
-    Ok(Some(Search {
+    Ok(Some(Job::Search(Search {
         file,
         invoke,
-        way,
-        runs,
-        from,
-        seed,
+        way: draws.way,
+        runs: draws.runs,
+        from: draws.from,
+        seed: draws.seed,
         find: matches.get_str("find"),
         expect: matches.get_str("expect"),
         shrink: matches.get_flag("shrink"),
@@ -263,5 +282,5 @@ pub(crate) fn search_job<'a>(
         save: matches.get_str("record"),
         dump,
         args: args_of(alloc, matches)?,
-    }))
+    })))
 }

@@ -4,9 +4,10 @@ ghost use Rattle.std.specs.Prelude.{◌≡◌, ◌≤◌, IfOk, IfSome};
 ghost use Rattle.report_command.specs.Jobs.{IsInRange};
 ghost use Rattle.report_command.specs.Views.{IsViewInRange, path_of};
 
-use crate::arguments::{Argument, CommandRow, OPTION, Values};
+use crate::arguments::{Argument, CommandRow, Form, OPTION};
 use crate::command_line::{DUMP_MOST, FILE, Job, Misuse, RECORD};
 use clap::ArgMatches;
+use clap::builder::ValueParser;
 use show_choice::{Choice, Color, Look, Span};
 use std::alloc::{AllocError, Global};
 use types::MOST_THREADS;
@@ -17,7 +18,7 @@ pub const NARROWEST: u32 = 40;
 pub const WIDEST: u32 = 1000;
 
 /// A line of a record, before which threads and memory are shown.
-#[derive(Clone, Copy, PartialEq, Eq)]
+#[derive(Clone, Copy)]
 pub struct At {
     pub line: u64,
     /// The bytes of the memory that are shown: the first one's address, and how many, 0 to 4096.
@@ -26,7 +27,7 @@ pub struct At {
 }
 
 /// What is made of a record.
-#[derive(Clone, Copy, PartialEq, Eq)]
+#[derive(Clone, Copy)]
 pub enum View<'a> {
     /// Rows on standard output.
     Rows,
@@ -54,9 +55,12 @@ impl<'a> View<'a> {
 fn bytes_of(text: &str) -> Option<(u64, u32)>
     ensures { IfSome result (λ bytes. bytes.1 ≤ 4096) }
 {
-    let (addr, count) = text.split_once(':')?;
-    let addr = addr.parse::<u64>().ok()?;
-    let count = count.parse::<u32>().ok()?;
+    let Some((addr, count)) = text.split_once(':') else {
+        return None;
+    };
+    let (Ok(addr), Ok(count)) = (addr.parse::<u64>(), count.parse::<u32>()) else {
+        return None;
+    };
     if count <= DUMP_MOST {
         Some((addr, count))
     } else {
@@ -69,7 +73,7 @@ const AT: Argument = Argument {
     name: "at",
     value: "LINE",
     help: "In place of rows, what threads and memory are like before this line of the record",
-    values: Values::Long(1, 2_000_001),
+    parser: ValueParser::Unsigned(1, 2_000_000),
     ..OPTION
 };
 
@@ -78,7 +82,7 @@ const BYTES: Argument = Argument {
     name: "dump",
     value: "A:N",
     help: "With --at: print N bytes of the memory from address A on, N up to 4096",
-    needs: Some("at"),
+    needs: &["at"],
     ..OPTION
 };
 
@@ -113,7 +117,8 @@ const THREADS: Argument = Argument {
     name: "thread",
     value: "T,..",
     help: "Only the entries of these threads, 0 to 63",
-    values: Values::Numbers(0, MOST_THREADS as i64),
+    form: Form::List,
+    parser: ValueParser::Signed(0, MOST_THREADS as i64 - 1),
     ..OPTION
 };
 
@@ -138,8 +143,8 @@ const WIDTH: Argument = Argument {
     name: "width",
     value: "N",
     help: "How many characters a row has room for, 40 to 1000",
-    values: Values::Number(40, 1001),
-    default: Some("120"),
+    parser: ValueParser::Signed(40, 1000),
+    defaults: &["120"],
     ..OPTION
 };
 
@@ -148,8 +153,8 @@ const COLOR: Argument = Argument {
     name: "color",
     value: "WHEN",
     help: "Whether threads have colors; auto: on a terminal alone",
-    values: Values::OneOf(&["auto", "always", "never"]),
-    default: Some("auto"),
+    parser: ValueParser::Names(&["auto", "always", "never"]),
+    defaults: &["auto"],
     ..OPTION
 };
 
@@ -157,6 +162,7 @@ const COLOR: Argument = Argument {
 /// [--trace OUT]`, and `show FILE RECORD --at LINE [--dump A:N] [--names FILE2]`
 pub(crate) static SHOW: CommandRow = CommandRow {
     name: "show",
+    call: "wathread show",
     about: "Shows the entries of a record in words, with the place in the module of each",
     after_help: None,
     arguments: &[
@@ -169,16 +175,23 @@ fn span_of(matches: &ArgMatches, name: &str) -> Option<Span> {
     Span::read(matches.get_str(name)?)
 }
 
-/// Which of the arguments of `show` is no span, if one is.
-pub(crate) fn misread(matches: &ArgMatches) -> Option<Misuse> {
-    let (name, matches) = matches.subcommand()?;
+/// Whether the argument is given and no span.
+fn is_no_span(matches: &ArgMatches, name: &str) -> bool {
+    match matches.get_str(name) {
+        Some(text) => Span::read(text).is_none(),
+        None => false,
+    }
+}
+
+/// Which of the arguments of `show` can't be read, if one can't.
+pub(crate) fn misread(name: &str, matches: &ArgMatches) -> Option<Misuse> {
     if name != "show" {
         return None;
     }
-    if matches.get_str("lines").is_some() && span_of(matches, "lines").is_none() {
+    if is_no_span(matches, "lines") {
         return Some(Misuse::NoLines);
     }
-    if matches.get_str("addr").is_some() && span_of(matches, "addr").is_none() {
+    if is_no_span(matches, "addr") {
         return Some(Misuse::NoAddresses);
     }
     match matches.get_str("dump") {
@@ -206,12 +219,17 @@ fn choice_of(alloc: Global, matches: &ArgMatches) -> Result<Choice, AllocError> 
 fn moment_of(matches: &ArgMatches) -> Option<At>
     ensures { IfSome result (λ at. at.count ≤ 4096) }
 {
-    let line = matches.get_one::<u64>("at")?;
-    let (addr, count) = match matches.get_str("dump") {
-        Some(text) => bytes_of(text)?,
-        None => (0, 0),
+    let Some(line) = matches.get_one::<u64>("at") else {
+        return None;
     };
-    Some(At { line, addr, count })
+    let bytes = match matches.get_str("dump") {
+        Some(text) => bytes_of(text),
+        None => Some((0, 0)),
+    };
+    match bytes {
+        Some((addr, count)) => Some(At { line, addr, count }),
+        None => None,
+    }
 }
 
 /// What is to be made of the record.
@@ -252,13 +270,13 @@ pub(crate) fn show_job<'a>(
         Some("never") => Color::Never,
         _ => Color::Auto,
     };
+    let names = matches.get_str("names");
+    let view = view_of(matches);
     let look = Look {
         choice: choice_of(alloc, matches)?,
         width: width as usize,
         color,
     };
-    let names = matches.get_str("names");
-    let view = view_of(matches);
     Ok(Some(Job::Show {
         file,
         saved,

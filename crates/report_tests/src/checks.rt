@@ -41,56 +41,88 @@ fn checks_every_front(rt: HostRuntime) -> Result<(), Fail> {
     Ok(())
 }
 
-/// Whether the words are a job that this one is.
-fn is_read(alloc: Global, words: &[&str], wanted: &Job) -> bool {
-    match command(alloc, words) {
-        Ok(job) => job == *wanted,
+/// The words of a run of `a.wasm` that keeps no record, and what they ask for.
+struct Asked {
+    words: &'static [&'static str],
+    invoke: &'static str,
+    on_words: bool,
+    fuel: u64,
+    limit: u32,
+    dump: u32,
+    args: &'static [&'static str],
+}
+
+static ASKED: [Asked; 2] = [
+    Asked {
+        words: &["wathread", "run", "a.wasm", "--invoke", "f"],
+        invoke: "f",
+        on_words: false,
+        fuel: 1_000_000_000,
+        limit: 100_000,
+        dump: 0,
+        args: &[],
+    },
+    Asked {
+        words: &[
+            "wathread",
+            "run",
+            "a.wasm",
+            "--invoke",
+            "g",
+            "--memory",
+            "words",
+            "--fuel",
+            "1000000000000",
+            "--limit",
+            "1",
+            "--dump",
+            "4096",
+            "7",
+            "8",
+        ],
+        invoke: "g",
+        on_words: true,
+        fuel: 1_000_000_000_000,
+        limit: 1,
+        dump: 4096,
+        args: &["7", "8"],
+    },
+];
+
+/// Whether the job is the run.
+fn is_run(job: &Job, asked: &Asked) -> bool {
+    match job {
+        Job::Run {
+            file,
+            invoke,
+            on_words,
+            fuel,
+            limit,
+            save: None,
+            dump,
+            args,
+        } => {
+            (*file, *invoke) == ("a.wasm", asked.invoke)
+                && *on_words == asked.on_words
+                && (*fuel, *limit, *dump) == (asked.fuel, asked.limit, asked.dump)
+                && args.as_slice() == asked.args
+        }
+        _ => false,
+    }
+}
+
+/// Whether the words are read as what they ask for.
+fn is_read(alloc: Global, asked: &Asked) -> bool {
+    match command(alloc, asked.words) {
+        Ok(job) => is_run(&job, asked),
         Err(_) => false,
     }
 }
 
 #[test]
 fn reads_a_run(rt: HostRuntime) -> Result<(), Fail> {
-    let alloc = rt.alloc();
-    let usual = Job::Run {
-        file: "a.wasm",
-        invoke: "f",
-        on_words: false,
-        fuel: 1_000_000_000,
-        limit: 100_000,
-        save: None,
-        dump: 0,
-        args: Vec::new(alloc),
-    };
-    let words = ["wathread", "run", "a.wasm", "--invoke", "f"];
-    assert!(rt; is_read(alloc, &words, &usual));
-    let full = Job::Run {
-        file: "a.wasm",
-        invoke: "g",
-        on_words: true,
-        fuel: 1_000_000_000_000,
-        limit: 1,
-        save: None,
-        dump: 4096,
-        args: Vec::from_slice(alloc, &["7", "8"])?,
-    };
-    let words = [
-        "wathread",
-        "run",
-        "a.wasm",
-        "--invoke",
-        "g",
-        "--memory",
-        "words",
-        "--fuel",
-        "1000000000000",
-        "--limit",
-        "1",
-        "--dump",
-        "4096",
-        "7",
-        "8",
-    ];
-    assert!(rt; is_read(alloc, &words, &full));
+    for asked in &ASKED {
+        assert!(rt; is_read(rt.alloc(), asked));
+    }
     Ok(())
 }

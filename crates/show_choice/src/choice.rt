@@ -43,7 +43,7 @@ impl Span {
 
 /// Which entries are shown: those of these lines of the record, of these threads and at these addresses. What isn't given
 /// chooses all, and no threads are all.
-#[derive(PartialEq, Eq, Drop)]
+#[derive(Drop)]
 pub struct Choice {
     pub lines: Option<Span>,
     pub threads: Vec<u32>,
@@ -93,7 +93,7 @@ pub enum Color {
 }
 
 /// How a record is shown: what is chosen of it, in how many characters a row, and whether with colors.
-#[derive(PartialEq, Eq, Drop)]
+#[derive(Drop)]
 pub struct Look {
     pub choice: Choice,
     pub width: usize,
