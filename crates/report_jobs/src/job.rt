@@ -62,6 +62,7 @@ fn functions_in(alloc: Global, bytes: &[u8]) -> Result<usize, Refusal>
     }
 }
 
+/// How many functions of its own a module has.
 fn count_functions(of: &Module) -> usize
     ensures { result ≡ length of.now.functions }
 {
