@@ -25,6 +25,8 @@ mod sharing;
 #[cfg(test)]
 mod singles;
 #[cfg(test)]
+mod steps;
+#[cfg(test)]
 mod trial;
 #[cfg(test)]
 mod two_callers;

@@ -1,11 +1,12 @@
 //! A row of words by one caller: the faults of opening, and a row opened, used and closed.
 
+use crate::steps::follow;
 use crate::trial::{PAGE, Trial, try_at_row};
 use shared_memory::SharedMemory;
 use std::alloc::Global;
 use std::test::Fail;
 use test_answers::hold;
-use types::{Event, Reply};
+use types::{Event, PAGE_SIZE, Reply};
 use word_row::{OpenFault, Prepared};
 
 /// Two pages, of which the byte before the last is 7.
@@ -17,42 +18,38 @@ fn image(alloc: Global) -> Result<Vec<u8>, Fail> {
     Ok(image)
 }
 
+/// A load of the last two bytes of the second page, whose instruction reaches into a third.
+const LOAD: Event = Event::Load {
+    addr: 131_070,
+    width: 2,
+    reach: 131_076,
+};
+
+/// A store at the end of the second page.
+const STORE: Event = Event::Store {
+    addr: 131_071,
+    width: 1,
+    reach: 131_072,
+    value: 9,
+};
+
+/// What one caller makes, and what it is answered.
+static STEPS: [(Event, Reply); 6] = [
+    (LOAD, Reply::OutOfBounds),
+    (STORE, Reply::Done),
+    (Event::Grow(1), Reply::Value(2)),
+    (LOAD, Reply::Value(0x907)),
+    (Event::Grow(2), Reply::Value(4_294_967_295)),
+    (Event::Size, Reply::Value(3)),
+];
+
 /// One caller stores at the end of the second page, grows to a third, and loads there and past it.
 pub(crate) fn use_alone<M: SharedMemory>(memory: &M, seats: &mut Vec<M::Seat>) -> Result<(), Fail> {
     let Some(seat) = seats.last_mut() else {
         return Err(Fail::new("no seats"));
     };
-    let load = Event::Load {
-        addr: 131_070,
-        width: 2,
-        reach: 131_076,
-    };
-    let store = Event::Store {
-        addr: 131_071,
-        width: 1,
-        reach: 131_072,
-        value: 9,
-    };
-    let refused = Reply::Value(4_294_967_295);
+    follow(memory, seat, &STEPS)?;
     hold(&[
-        (
-            "a load past the end",
-            memory.access(seat, load) == Reply::OutOfBounds,
-        ),
-        ("a store", memory.access(seat, store) == Reply::Done),
-        (
-            "growth",
-            memory.access(seat, Event::Grow(1)) == Reply::Value(2),
-        ),
-        ("a load", memory.access(seat, load) == Reply::Value(0x907)),
-        (
-            "too much growth",
-            memory.access(seat, Event::Grow(2)) == refused,
-        ),
-        (
-            "the page count",
-            memory.access(seat, Event::Size) == Reply::Value(3),
-        ),
         ("the name", memory.name(seat) == 64),
         ("the limit", memory.limit().is_none()),
         ("the most pages", memory.pages_max() == 4),
@@ -73,18 +70,26 @@ fn one_caller(rt: HostRuntime) -> Result<(), Fail> {
     ])
 }
 
-/// Whether a row over these bytes and so many pages is refused, as past a limit.
-fn is_past_limit(alloc: Global, image: &[u8], max: u32) -> bool {
-    matches!(Prepared::new(alloc, image, max), Err(OpenFault::PastLimit))
+/// Lengths of an image of zeros, and the most pages, where no row can be prepared.
+static PAST_LIMITS: [(usize, u32); 3] = [(1, 1), (PAGE_SIZE, 0), (PAGE_SIZE, 257)];
+
+/// Whether a row is refused over so many bytes and so many pages, as past a limit.
+fn is_past_limit(alloc: Global, length: usize, max: u32) -> bool {
+    match PAGE.get(..length) {
+        Some(image) => matches!(Prepared::new(alloc, image, max), Err(OpenFault::PastLimit)),
+        None => false,
+    }
 }
 
 #[test]
 fn faults_of_opening(rt: HostRuntime) -> Result<(), Fail> {
     let alloc = rt.alloc();
+    for (length, max) in &PAST_LIMITS {
+        if !is_past_limit(alloc, *length, *max) {
+            return Err(Fail::new(format_args!("{length} bytes, {max} pages")));
+        }
+    }
     hold(&[
-        ("one byte", is_past_limit(alloc, &[0], 1)),
-        ("more bytes than pages", is_past_limit(alloc, &PAGE, 0)),
-        ("257 pages", is_past_limit(alloc, &PAGE, 257)),
         ("256 pages", Prepared::new(alloc, &PAGE, 256).is_ok()),
         ("no page", Prepared::new(alloc, &[], 0).is_ok()),
     ])

@@ -2,10 +2,10 @@
 //! seat that remembers fewer pages than there are.
 
 use crate::sharing::{Task, begins_with};
+use crate::steps::follow;
 use crate::trial::{IMAGE, THREE_PAGES, Trial, try_at_row};
 use shared_memory::SharedMemory;
 use std::test::Fail;
-use test_answers::hold;
 use types::{Event, Reply};
 
 /// The address of the third page.
@@ -29,8 +29,31 @@ fn lanes_of_one_word_at_once(rt: HostRuntime) -> Result<(), Fail> {
     begins_with(&end, &LANES)
 }
 
-/// One seat remembers two pages, and another grows to a third and stores there. What the first one hears before and after
-/// the two have met: the page count, and a load in the third page.
+/// A load in the third page.
+const LOAD: Event = Event::Load {
+    addr: THIRD_PAGE,
+    width: 8,
+    reach: THIRD_PAGE + 8,
+};
+
+/// A store in the third page.
+const STORE: Event = Event::Store {
+    addr: THIRD_PAGE,
+    width: 8,
+    reach: THIRD_PAGE + 8,
+    value: 9,
+};
+
+/// What the first seat hears before the two have met.
+static BEFORE: [(Event, Reply); 2] = [(Event::Size, Reply::Value(2)), (LOAD, Reply::OutOfBounds)];
+
+/// What the second seat does.
+static GROWTH: [(Event, Reply); 2] = [(Event::Grow(1), Reply::Value(2)), (STORE, Reply::Done)];
+
+/// What the first seat hears afterwards.
+static AFTER: [(Event, Reply); 2] = [(Event::Size, Reply::Value(3)), (LOAD, Reply::Value(9))];
+
+/// One seat remembers two pages, and another grows to a third and stores there, before the two meet.
 pub(crate) fn meet_after_growth<M: SharedMemory>(
     memory: &M,
     seats: &mut Vec<M::Seat>,
@@ -38,30 +61,10 @@ pub(crate) fn meet_after_growth<M: SharedMemory>(
     let [.., other, one] = seats.as_mut_slice() else {
         return Err(Fail::new("no seats"));
     };
-    let load = Event::Load {
-        addr: THIRD_PAGE,
-        width: 8,
-        reach: THIRD_PAGE + 8,
-    };
-    let store = Event::Store {
-        addr: THIRD_PAGE,
-        width: 8,
-        reach: THIRD_PAGE + 8,
-        value: 9,
-    };
-    let size = memory.access(one, Event::Size);
-    let loaded = memory.access(one, load);
-    let _ = memory.access(other, Event::Grow(1));
-    let _ = memory.access(other, store);
+    follow(memory, one, &BEFORE)?;
+    follow(memory, other, &GROWTH)?;
     memory.meet(one, other);
-    let grown = memory.access(one, Event::Size);
-    let stored = memory.access(one, load);
-    hold(&[
-        ("the page count before", size == Reply::Value(2)),
-        ("the load before", loaded == Reply::OutOfBounds),
-        ("the page count after", grown == Reply::Value(3)),
-        ("the load after", stored == Reply::Value(9)),
-    ])
+    follow(memory, one, &AFTER)
 }
 
 #[test]

@@ -1,13 +1,15 @@
 //! Runs of two callers over one recorder, with the expected values written out by hand.
 
+use crate::steps::follow;
 use crate::trial::{PAGE, Trial, try_at_recorder};
 use locked_recorder::{Finished, OpenFault, Prepared};
 use shared_memory::SharedMemory;
+use std::alloc::Global;
 use std::test::Fail;
 use std::thread;
 use std::thread::Threads;
 use test_answers::hold;
-use types::{Event, Reply, RmwOp};
+use types::{Event, PAGE_SIZE, Reply, RmwOp};
 
 /// Adds 1 to byte 0, so many times.
 fn add_all<M: SharedMemory>(memory: &M, seat: &mut M::Seat, times: u32) {
@@ -24,30 +26,20 @@ fn add_all<M: SharedMemory>(memory: &M, seat: &mut M::Seat, times: u32) {
     }
 }
 
-/// Loads byte 8.
-fn load<M: SharedMemory>(memory: &M, seat: &mut M::Seat) -> Reply {
-    memory.access(
-        seat,
-        Event::Load {
-            addr: 8,
-            width: 1,
-            reach: 9,
-        },
-    )
-}
+/// A load of byte 8.
+const LOAD: Event = Event::Load {
+    addr: 8,
+    width: 1,
+    reach: 9,
+};
 
-/// Stores 9 in byte 8.
-fn store<M: SharedMemory>(memory: &M, seat: &mut M::Seat) -> Reply {
-    memory.access(
-        seat,
-        Event::Store {
-            addr: 8,
-            width: 1,
-            reach: 9,
-            value: 9,
-        },
-    )
-}
+/// A store of 9 in byte 8.
+const STORE: Event = Event::Store {
+    addr: 8,
+    width: 1,
+    reach: 9,
+    value: 9,
+};
 
 /// Two threads that each add 1 to byte 0 a thousand times.
 pub(crate) fn add_in_turn<M: SharedMemory + Sync, R: Threads>(
@@ -66,23 +58,29 @@ pub(crate) fn add_in_turn<M: SharedMemory + Sync, R: Threads>(
     Ok(())
 }
 
-/// What one caller stores and grows, and what another finds after a meeting.
+/// What one caller stores and grows.
+static TOLD: [(Event, Reply); 2] = [(STORE, Reply::Done), (Event::Grow(1), Reply::Value(1))];
+
+/// What another finds after a meeting.
+static FOUND: [(Event, Reply); 2] = [(LOAD, Reply::Value(9)), (Event::Size, Reply::Value(2))];
+
+/// One caller stores and grows, and another finds that after a meeting.
 pub(crate) fn tell<M: SharedMemory>(memory: &M, seats: &mut Vec<M::Seat>) -> Result<(), Fail> {
     let [one, other, ..] = seats.as_mut_slice() else {
         return Err(Fail::new("no seats"));
     };
-    let stored = store(memory, one);
-    let grown = memory.access(one, Event::Grow(1));
+    follow(memory, one, &TOLD)?;
     memory.meet(one, other);
-    let found = load(memory, other);
-    let size = memory.access(other, Event::Size);
-    hold(&[
-        ("the store", stored == Reply::Done),
-        ("the growth", grown == Reply::Value(1)),
-        ("the load", found == Reply::Value(9)),
-        ("the page count", size == Reply::Value(2)),
-    ])
+    follow(memory, other, &FOUND)
 }
+
+/// Four loads where the log has room for three.
+static LOADS: [(Event, Reply); 4] = [
+    (LOAD, Reply::Value(0)),
+    (LOAD, Reply::Value(0)),
+    (LOAD, Reply::Value(0)),
+    (LOAD, Reply::Full),
+];
 
 /// Four loads by one caller, and what the memory says of itself.
 pub(crate) fn load_four_times<M: SharedMemory>(
@@ -92,12 +90,9 @@ pub(crate) fn load_four_times<M: SharedMemory>(
     let [one, other, ..] = seats.as_mut_slice() else {
         return Err(Fail::new("no seats"));
     };
+    follow(memory, one, &LOADS)?;
     hold(&[
-        ("the first", load(memory, one) == Reply::Value(0)),
-        ("the second", load(memory, one) == Reply::Value(0)),
-        ("the third", load(memory, one) == Reply::Value(0)),
-        ("the fourth", load(memory, one) == Reply::Full),
-        ("the limit", memory.limit() == Some(3)),
+        ("the limit", matches!(memory.limit(), Some(3))),
         ("the most pages", memory.pages_max() == 1),
         ("the other's name", memory.name(other) == 1),
     ])
@@ -141,25 +136,38 @@ fn a_full_log_holds_back(rt: HostRuntime) -> Result<(), Fail> {
     hold(&[("the log's length", end.log.len() == 3)])
 }
 
-/// Whether a recorder over these bytes, so many pages and so many entries is refused, as past a limit.
-fn is_past_limit(rt: &HostRuntime, image: &[u8], max: u32, limit: u32) -> bool {
-    matches!(
-        Prepared::new(rt.alloc(), image, max, limit),
-        Err(OpenFault::PastLimit)
-    )
+/// Lengths of an image of zeros, the most pages, and the limit of the log, where no recorder can be prepared.
+static PAST_LIMITS: [(usize, u32, u32); 5] = [
+    (1, 1, 3),
+    (PAGE_SIZE, 0, 3),
+    (PAGE_SIZE, 257, 3),
+    (PAGE_SIZE, 1, 0),
+    (PAGE_SIZE, 1, 1_000_001),
+];
+
+/// Whether a recorder is refused over so many bytes, so many pages and so many entries, as past a limit.
+fn is_past_limit(alloc: Global, length: usize, max: u32, limit: u32) -> bool {
+    match PAGE.get(..length) {
+        Some(image) => matches!(
+            Prepared::new(alloc, image, max, limit),
+            Err(OpenFault::PastLimit)
+        ),
+        None => false,
+    }
 }
 
 #[test]
 fn faults_of_opening(rt: HostRuntime) -> Result<(), Fail> {
+    let alloc = rt.alloc();
+    for (length, max, limit) in &PAST_LIMITS {
+        if !is_past_limit(alloc, *length, *max, *limit) {
+            return Err(Fail::new(format_args!("{length} bytes, {max} pages, {limit} entries")));
+        }
+    }
     hold(&[
-        ("one byte", is_past_limit(&rt, &[0], 1, 3)),
-        ("more bytes than pages", is_past_limit(&rt, &PAGE, 0, 3)),
-        ("257 pages", is_past_limit(&rt, &PAGE, 257, 3)),
-        ("no entry", is_past_limit(&rt, &PAGE, 1, 0)),
-        ("too many entries", is_past_limit(&rt, &PAGE, 1, 1_000_001)),
         (
             "a million entries",
-            Prepared::new(rt.alloc(), &PAGE, 1, 1_000_000).is_ok(),
+            Prepared::new(alloc, &PAGE, 1, 1_000_000).is_ok(),
         ),
         ("the number of no memory", OpenFault::NoMemory.number() == 1),
         ("the number of a limit", OpenFault::PastLimit.number() == 2),
