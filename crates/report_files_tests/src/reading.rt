@@ -2,9 +2,12 @@
 
 use crate::room::{make_room, path_in};
 use report_files::{Unread, read_front, read_module, read_saved};
+use std::alloc::Global;
 use std::fs;
 use std::io::{self, Read};
+use std::path::PathBuf;
 use std::test::Fail;
+use test_answers::hold;
 
 /// A reader without an end, and how many bytes it gave.
 #[derive(Drop)]
@@ -19,27 +22,34 @@ impl Read for Endless {
     }
 }
 
+/// Whether as many bytes as asked are read of what has no end, and no more are taken from it.
+fn reads_only(alloc: Global, most: u64) -> Result<bool, Fail> {
+    let mut endless = Endless { gave: 0 };
+    let bytes = read_front(alloc, &mut endless, most)?;
+    Ok(bytes.len() as u64 == most && endless.gave as u64 == most)
+}
+
 #[test]
 fn no_more_is_read_than_was_asked(rt: HostRuntime) -> Result<(), Fail> {
     for most in [0u64, 1, 31, 32, 33, 100_000] {
-        let mut endless = Endless { gave: 0 };
-        let bytes = read_front(rt.alloc(), &mut endless, most)?;
-        assert_eq!(rt; (bytes.len() as u64, endless.gave as u64), (most, most));
+        if !reads_only(rt.alloc(), most)? {
+            return Err(Fail::new(format_args!("{most} bytes")));
+        }
     }
     Ok(())
 }
 
+/// Whether at most so many of three bytes are read as these.
+fn reads_front(alloc: Global, most: u64, wanted: &[u8]) -> Result<bool, Fail> {
+    Ok(read_front(alloc, b"abc".as_slice(), most)?.as_slice() == wanted)
+}
+
 #[test]
 fn all_is_read_of_a_short_file(rt: HostRuntime) -> Result<(), Fail> {
-    assert_eq!(rt;
-        read_front(rt.alloc(), b"abc".as_slice(), 4)?.as_slice(),
-        b"abc".as_slice()
-    );
-    assert_eq!(rt;
-        read_front(rt.alloc(), b"abc".as_slice(), 2)?.as_slice(),
-        b"ab".as_slice()
-    );
-    Ok(())
+    hold(&[
+        ("more than there is", reads_front(rt.alloc(), 4, b"abc")?),
+        ("less than there is", reads_front(rt.alloc(), 2, b"ab")?),
+    ])
 }
 
 /// Files by their length, and how much is read of each: as a module, and as a record that begins as none.
@@ -51,25 +61,50 @@ static LENGTHS: [(usize, usize, usize); 5] = [
     (2_000_000, 1_048_577, 16),
 ];
 
+/// Writes a file of so many bytes.
+fn write_sevens(rt: &HostRuntime, path: &str, length: usize) -> Result<(), Fail> {
+    let mut bytes = Vec::new(rt.alloc());
+    bytes.resize(length, b'7')?;
+    Ok(fs::write(rt, path, bytes.as_slice())?)
+}
+
+/// How many bytes are read of a file as a module.
+fn length_of_module(rt: &HostRuntime, path: &str) -> Result<usize, Unread> {
+    read_module(rt, path).map(|it| it.len())
+}
+
+/// How many bytes are read of a file as a record.
+fn length_of_saved(rt: &HostRuntime, path: &str) -> Result<usize, Unread> {
+    read_saved(rt, path).map(|it| it.len())
+}
+
+/// Files at this path are read as far as their lengths say.
+fn read_lengths(rt: &HostRuntime, path: &str) -> Result<(), Fail> {
+    for (length, module, saved) in &LENGTHS {
+        write_sevens(rt, path, *length)?;
+        if length_of_module(rt, path) != Ok(*module) || length_of_saved(rt, path) != Ok(*saved) {
+            return Err(Fail::new(format_args!("{length} bytes")));
+        }
+    }
+    Ok(())
+}
+
+/// Reads files at this path in a room, which is taken away then.
+fn read_all(rt: &HostRuntime, room: &PathBuf, path: &str) -> Result<(), Fail> {
+    read_lengths(rt, path)?;
+    fs::write(rt, path, "wathread-record 1\nand more\n")?;
+    let record = length_of_saved(rt, path);
+    fs::remove_dir_all(rt, room.as_path())?;
+    hold(&[
+        ("a record", record == Ok(27)),
+        ("no module", length_of_module(rt, path) == Err(Unread::File)),
+        ("a folder", length_of_saved(rt, "/") == Err(Unread::File)),
+    ])
+}
+
 #[test]
 fn files_are_read_in_part(rt: HostRuntime) -> Result<(), Fail> {
     let room = make_room(&rt, "reading")?;
     let path = path_in(&rt, &room, "file")?;
-    for (length, module, saved) in LENGTHS {
-        let mut bytes = Vec::new(rt.alloc());
-        bytes.resize(length, b'7')?;
-        fs::write(&rt, path.as_str(), bytes.as_slice())?;
-        let of_module = read_module(&rt, &path).map(|it| it.len());
-        let of_saved = read_saved(&rt, &path).map(|it| it.len());
-        assert_eq!(rt; (of_module, of_saved), (Ok(module), Ok(saved)));
-    }
-    fs::write(&rt, path.as_str(), "wathread-record 1\nand more\n")?;
-    assert_eq!(rt; read_saved(&rt, &path).map(|it| it.len()), Ok(27));
-    fs::remove_dir_all(&rt, room.as_path())?;
-    assert_eq!(rt;
-        read_module(&rt, &path).map(|it| it.len()),
-        Err(Unread::File)
-    );
-    assert_eq!(rt; read_saved(&rt, "/").map(|it| it.len()), Err(Unread::File));
-    Ok(())
+    read_all(&rt, &room, &path)
 }

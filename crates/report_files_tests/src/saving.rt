@@ -5,10 +5,12 @@ use report_files::{Place, SavedFile, is_one_file};
 use std::fs;
 use std::io::{self, Write};
 use std::os::unix::fs::symlink;
+use std::path::PathBuf;
 use std::test::Fail;
+use test_answers::hold;
 
 /// What becomes of a record that is written.
-#[derive(Clone, Copy, PartialEq, Eq, Debug)]
+#[derive(Clone, Copy)]
 enum End {
     Kept,
     GivenUp,
@@ -44,23 +46,65 @@ static SAVED: [(Option<&str>, End, Option<&str>); 4] = [
     (Some("old"), End::GivenUp, Some("old")),
 ];
 
+/// Writes a record, and answers whether all went as it has to: what is there before stays, and what is there behind it is
+/// the only file of the room.
+fn is_saved(
+    rt: &HostRuntime,
+    room: &PathBuf,
+    path: &str,
+    before: Option<&str>,
+    end: End,
+    after: Option<&str>,
+) -> Result<bool, Fail> {
+    let stayed = save(rt, path, before, end)?;
+    let count = count_in(rt, room)?;
+    Ok(stayed && has(rt, path, after) && count == usize::from(after.is_some()))
+}
+
+/// Writes a record for each row, at this path in a room.
+fn save_all(rt: &HostRuntime, room: &PathBuf, path: &str) -> Result<(), Fail> {
+    for (place, (before, end, after)) in SAVED.iter().enumerate() {
+        if let Some(text) = before {
+            fs::write(rt, path, *text)?;
+        }
+        if !is_saved(rt, room, path, *before, *end, *after)? {
+            return Err(Fail::new(format_args!("row {place}")));
+        }
+        if after.is_some() {
+            fs::remove_file(rt, path)?;
+        }
+    }
+    Ok(())
+}
+
 #[test]
 fn what_is_there_stays_until_all_is_written(rt: HostRuntime) -> Result<(), Fail> {
     let room = make_room(&rt, "saving")?;
     let path = path_in(&rt, &room, "a.record")?;
-    for (before, end, after) in SAVED {
-        if let Some(text) = before {
-            fs::write(&rt, path.as_str(), text)?;
-        }
-        assert!(rt; save(&rt, &path, before, end)?, "{before:?} {end:?}");
-        assert!(rt; has(&rt, &path, after), "{before:?} {end:?}");
-        assert_eq!(rt; count_in(&rt, &room)?, usize::from(after.is_some()));
-        if after.is_some() {
-            fs::remove_file(&rt, path.as_str())?;
-        }
-    }
-    fs::remove_dir_all(&rt, room.as_path())?;
-    Ok(())
+    save_all(&rt, &room, &path)?;
+    Ok(fs::remove_dir_all(&rt, room.as_path())?)
+}
+
+/// A record at `link` goes to the file that is at `path`, and `other` is another file.
+fn follow_link(rt: &HostRuntime, path: &str, link: &str, other: &str) -> Result<(), Fail> {
+    fs::write(rt, path, "old")?;
+    fs::write(rt, other, "old")?;
+    symlink(rt, path, link)?;
+    hold(&[
+        ("one file", is_one_file(rt, path, link)),
+        ("another file", !is_one_file(rt, path, other)),
+        ("a folder", !is_one_file(rt, "/", "/")),
+        ("no path", !is_one_file(rt, "", "")),
+        (
+            "what was there stays",
+            save(rt, link, Some("old"), End::Kept)?,
+        ),
+        (
+            "the link stays",
+            fs::symlink_metadata(rt, link)?.is_symlink(),
+        ),
+        ("the file is new", has(rt, path, Some("new"))),
+    ])
 }
 
 #[test]
@@ -69,30 +113,36 @@ fn links_lead_to_one_file_and_stay(rt: HostRuntime) -> Result<(), Fail> {
     let path = path_in(&rt, &room, "a.record")?;
     let link = path_in(&rt, &room, "link")?;
     let other = path_in(&rt, &room, "other")?;
-    fs::write(&rt, path.as_str(), "old")?;
-    fs::write(&rt, other.as_str(), "old")?;
-    symlink(&rt, path.as_str(), link.as_str())?;
-    assert!(rt; is_one_file(&rt, &path, &link) && !is_one_file(&rt, &path, &other));
-    assert!(rt; !is_one_file(&rt, "/", "/") && !is_one_file(&rt, "", ""));
-    assert!(rt; save(&rt, &link, Some("old"), End::Kept)?);
-    assert!(rt;
-        fs::symlink_metadata(&rt, link.as_str())?.is_symlink() && has(&rt, &path, Some("new"))
-    );
-    fs::remove_dir_all(&rt, room.as_path())?;
-    Ok(())
+    follow_link(&rt, &path, &link, &other)?;
+    Ok(fs::remove_dir_all(&rt, room.as_path())?)
+}
+
+/// Whether a path in a room takes no record.
+fn is_refused(rt: &HostRuntime, room: &PathBuf, name: &str) -> Result<bool, Fail> {
+    let path = path_in(rt, room, name)?;
+    Ok(Place::new(rt, &path).is_err())
+}
+
+/// A room with a link to nothing takes no record at these places, and nothing is made there.
+fn refuse_all(rt: &HostRuntime, room: &PathBuf) -> Result<(), Fail> {
+    let link = path_in(rt, room, "link")?;
+    symlink(rt, "nothing", link.as_str())?;
+    hold(&[
+        ("the room itself", is_refused(rt, room, "")?),
+        (
+            "a folder that isn't there",
+            is_refused(rt, room, "nowhere/a.record")?,
+        ),
+        ("a name of a folder", is_refused(rt, room, "a.record/")?),
+        ("a link to nothing", is_refused(rt, room, "link")?),
+        ("no path", Place::new(rt, "").is_err()),
+        ("how many names", count_in(rt, room)? == 1),
+    ])
 }
 
 #[test]
 fn places_that_take_no_record(rt: HostRuntime) -> Result<(), Fail> {
     let room = make_room(&rt, "places")?;
-    let link = path_in(&rt, &room, "link")?;
-    symlink(&rt, "nothing", link.as_str())?;
-    for name in ["", "nowhere/a.record", "a.record/", "link"] {
-        let path = path_in(&rt, &room, name)?;
-        assert!(rt; Place::new(&rt, &path).is_err(), "{name}");
-    }
-    assert!(rt; Place::new(&rt, "").is_err());
-    assert_eq!(rt; count_in(&rt, &room)?, 1);
-    fs::remove_dir_all(&rt, room.as_path())?;
-    Ok(())
+    refuse_all(&rt, &room)?;
+    Ok(fs::remove_dir_all(&rt, room.as_path())?)
 }
