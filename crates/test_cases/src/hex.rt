@@ -10,14 +10,17 @@ fn digit(letter: char) -> Option<u8> {
     }
 }
 
-/// The bytes that pairs of digits spell, in small letters; what is no digit, as spaces and line feeds, is passed over, and so is
-/// a last digit without another one.
-pub fn from_hex(alloc: Global, text: &str) -> Result<Vec<u8>, AllocError> {
+/// The bytes that pairs of digits spell, in small letters; spaces and line feeds may stand anywhere. Answers nothing for a text that
+/// has something else, or a digit too many.
+pub fn from_hex(alloc: Global, text: &str) -> Result<Option<Vec<u8>>, AllocError> {
     let mut bytes = Vec::new(alloc);
     let mut first = None;
     for letter in text.chars() {
-        let Some(value) = digit(letter) else {
+        if letter.is_ascii_whitespace() {
             continue;
+        }
+        let Some(value) = digit(letter) else {
+            return Ok(None);
         };
         first = match first {
             None => Some(value),
@@ -27,5 +30,5 @@ pub fn from_hex(alloc: Global, text: &str) -> Result<Vec<u8>, AllocError> {
             }
         };
     }
-    Ok(bytes)
+    Ok(if first.is_none() { Some(bytes) } else { None })
 }

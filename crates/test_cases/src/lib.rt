@@ -14,6 +14,8 @@
 
 mod case;
 mod hex;
+mod trials;
 
 pub use case::{Case, cases};
 pub use hex::from_hex;
+pub use trials::{Tally, Trials, compare, read_file, tell_row, try_files};
