@@ -1,7 +1,7 @@
 //! What a test has to find, row by row.
 #![tactic(auto)]
 
-ghost use Rattle.std.specs.Prelude.{◌≡◌, true, All, OnOk};
+ghost use Rattle.std.specs.Prelude.{◌≡◌, ◌↔◌, true, All, IsOk};
 
 use std::test::Fail;
 
@@ -10,7 +10,7 @@ use std::test::Fail;
 /// # Errors
 /// That text, where there is such a row.
 pub fn hold(rows: &[(&str, bool)]) -> Result<(), Fail>
-    ensures { OnOk result (All (λ row. row.1 ≡ true) rows.now) }
+    ensures { IsOk result ↔ All (λ row. row.1 ≡ true) rows.now }
 {
     for (text, holds) in rows {
         if !holds {
