@@ -8,8 +8,11 @@ use report_files::{read_module, read_saved};
 /// another one.
 #[derive(Drop)]
 pub struct Input {
+    /// The module's bytes, at most one more than a module may have.
     pub module: Vec<u8>,
+    /// The record's bytes, or nothing.
     pub saved: Vec<u8>,
+    /// The bytes of the file that has the names.
     pub names: Option<Vec<u8>>,
 }
 

@@ -3,7 +3,6 @@
 use crate::telling::{tell_file_fault, tell_no_memory, tell_usage};
 use report_command::Usage;
 use report_files::Unread;
-use std::alloc::AllocError;
 use std::io;
 
 /// Why a job isn't done.
@@ -13,12 +12,6 @@ pub(crate) enum Stop<'a> {
     /// The file at this path failed.
     File(&'a str),
     NoMemory,
-}
-
-impl From<AllocError> for Stop<'_> {
-    fn from(_: AllocError) -> Self {
-        Stop::NoMemory
-    }
 }
 
 impl From<io::Error> for Stop<'_> {

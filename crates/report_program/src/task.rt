@@ -21,8 +21,11 @@ const RECORD: usize = 65_536;
 #[derive(Drop)]
 pub struct Task<'a, W: Write + Drop> {
     pub input: Input,
+    /// Its lines, which standard output gets in one piece.
     pub out: BufWriter<Copied<Noted<W>>>,
+    /// What is said on standard error when it ends.
     pub err: Vec<u8>,
+    /// The file that it makes, which gets its path when it ends.
     pub save: BufWriter<SavedFile<'a>>,
 }
 
@@ -130,7 +133,11 @@ fn prepare<'a, 'j, W: Write + Drop>(
 }
 
 /// Begins a job: reads its files, and takes the place of the file that it makes and the memory of its streams. Where it is to explain, a
-/// copy of its lines is kept. If that fails it says so on standard error, and answers the status.
+/// copy of its lines is kept.
+///
+/// # Errors
+/// The status, once it was said on standard error why: 3 where the file would take the place of one that is read, 5 where a file or memory
+/// failed.
 pub fn open_task<'a, W: Write + Drop>(
     rt: &'a HostRuntime,
     stdout: W,
