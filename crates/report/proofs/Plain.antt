@@ -10,7 +10,8 @@ use Rattle.report_jobs.specs.Plain.{IsPlain, PerformsPlain}
 use Rattle.report_jobs.specs.Prints.{Change}
 use Rattle.report.specs.Jobs.{Performs}
 
-pub is_plain : (job : Job) → ((file saved : Bor (List ℕ)) (names : Option (Bor (List ℕ))) (look : Look) (view : View) → job ≡ Show file saved names look view → ⊥)
+pub is_plain : (job : Job)
+    → ((file saved : Bor (List ℕ)) (names : Option (Bor (List ℕ))) (look : Look) (view : View) → job ≡ Show file saved names look view → ⊥)
     → ((s : Search) → job ≡ jobs.Search s → ⊥) → IsPlain job
 is_plain (Check file) no_show no_search = tt
 is_plain (Run file invoke on_words fuel limit path dump args) no_show no_search = tt

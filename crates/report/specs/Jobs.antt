@@ -1,11 +1,12 @@
 -- The jobs of the command line.
-use Rattle.std.specs.Prelude.{ℕ, ◌≡◌, ◌≤◌, ◌⊎◌, List, map, is_some}
+use Rattle.std.specs.Prelude.{ℕ, ◌≡◌, ◌≤◌, ◌⊎◌, List}
 use Rattle.report_command.specs.declared.command_line.Job.{Job}
-use Rattle.report_command.specs.declared.command_line.Job.TheVariants.{Check, Run, Replay, Show}
+use Rattle.report_command.specs.declared.command_line.Job.TheVariants.{Show}
 use Rattle.report_command.specs.declared.command_line.Job.TheVariants as jobs
 use Rattle.report_command.specs.declared.search.Search.{Search}
-use Rattle.report_jobs.specs.Prints.{Change, request}
-use Rattle.report_jobs.specs.Jobs.{IsNoValidModule, IsNoRecordOf, IsRecordOf, HasNoSuchCall, Checks, Runs, Replays}
+use Rattle.report_jobs.specs.Prints.{Change}
+use Rattle.report_jobs.specs.Jobs.{IsNoValidModule, IsNoRecordOf, IsRecordOf, HasNoSuchCall}
+use Rattle.report_jobs.specs.Plain.{PerformsPlain}
 use Rattle.report_searches.specs.Searches.{HasSearched, request_of_search}
 
 -- What the status of a show says: 0 of a record of a run, 2 of a refused module, 4 of a record of no run. 5 is that memory or a stream
@@ -24,11 +25,8 @@ pub record Searches (bytes : List ℕ) (s : Search) (save : Change) (status : �
   pub cannot : status ≡ 3 → HasNoSuchCall bytes (request_of_search s)
   pub statuses : (status ≤ 3) ⊎ (status ≡ 5)
 
--- What the status of a job says.
+-- What the status of a job says: of one that is no show and no search, what it says of a plain job.
 abbrev pub Performs : Job → List ℕ → List ℕ → Change → Change → ℕ → Type 0
-Performs (Check file) bytes saved out save status = Checks bytes out status
-Performs (Run file invoke on_words fuel limit path dump args) bytes saved out save status =
-    Runs bytes (request invoke.now (map (λ text. text.now) args.items) fuel limit on_words (is_some path) dump) out save status
-Performs (Replay file record_path dump) bytes saved out save status = Replays bytes saved dump out status
 Performs (Show file record_path names look at) bytes saved out save status = Shows bytes saved status
 Performs (jobs.Search s) bytes saved out save status = Searches bytes s save status
+Performs job bytes saved out save status = PerformsPlain job bytes saved out save status
