@@ -14,6 +14,6 @@ mod strategy;
 pub use along::Along;
 pub use chosen::Chosen;
 pub use draws::Draws;
-pub use pct::{MOST_DEPTH, Pct};
+pub use pct::Pct;
 pub use random::Random;
-pub use strategy::{Strategy, Way};
+pub use strategy::Strategy;

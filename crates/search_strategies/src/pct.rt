@@ -7,9 +7,6 @@ use crate::strategy::Strategy;
 use arrayvec::ArrayVec;
 use types::MOST_THREADS;
 
-/// The largest depth.
-pub const MOST_DEPTH: u32 = 32;
-
 /// How many points of change there are at most.
 const CHANGES: usize = 31;
 

@@ -10,12 +10,3 @@ pub trait Strategy {
         requires few { length ready.now ≤ most_threads }
         ensures { result < length ready.now };
 }
-
-/// The strategies by which runs are drawn.
-#[derive(Clone, Copy, PartialEq, Eq, Debug)]
-pub enum Way {
-    /// Each thread that can go on alike.
-    Random,
-    /// The one with the highest priority; these change at one point less than the depth, which is 1 to 32.
-    Priorities(u32),
-}

@@ -3,8 +3,9 @@
 use crate::modules::{LOOKING, LOST_UPDATE};
 use crate::runs::{Trouble, WAYS, load, run, run_drawn};
 use replay_text::Record;
+use search_choice::Way;
 use search_scheduled::Made;
-use search_strategies::{Along, Way};
+use search_strategies::Along;
 use std::alloc::{AllocError, Global};
 use std::process::Abort;
 use std::test::Fail;

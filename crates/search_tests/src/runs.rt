@@ -2,9 +2,10 @@
 
 use binary::read;
 use replay::{ReplayFault, replay};
+use search_choice::{MOST_DEPTH, Way};
 use search_endings::{Ending, ending_of};
 use search_scheduled::{Made, SearchFault, run_along};
-use search_strategies::{MOST_DEPTH, Pct, Random, Strategy, Way};
+use search_strategies::{Pct, Random, Strategy};
 use spawn_host::Call;
 use std::alloc::{AllocError, Global};
 use types::Value;

@@ -2,9 +2,9 @@
 
 use crate::modules::LOST_UPDATE;
 use crate::runs::{FUEL, LIMIT, Trouble, load};
+use search_choice::Way;
 use search_finds::{Halt, Searched, Sought, first_found};
 use search_reach::{Follows, Wish};
-use search_strategies::Way;
 use spawn_host::Call;
 use std::alloc::Global;
 use std::test::Fail;
