@@ -3,8 +3,8 @@
 ghost use Rattle.std.specs.Prelude.{◌≤◌};
 ghost use Rattle.types.specs.Limits.{most_fuel};
 
-use crate::modules::{BROKEN, MUTEX, PETERSON, SEQLOCK, TICKETS, WAKEUP};
-use binary::read;
+use crate::all_runs::examples::{BROKEN, MUTEX, PETERSON, SEQLOCK, TICKETS, WAKEUP};
+use crate::runs::FUEL;
 use search_endings::Ending;
 use search_modules::all_endings;
 use search_parts::Ending as Ended;
@@ -13,19 +13,13 @@ use spawn_host::Call;
 use std::alloc::{AllocError, Global};
 use std::test::Fail;
 use types::Value;
-use validate::{ValidModule, validate};
+use validate::ValidModule;
 
 /// How many first bytes of the memory belong to an ending.
 pub(crate) const DUMP: u32 = 16;
 
 /// More states than any of the modules has.
 pub(crate) const MOST: usize = 10_000;
-
-/// The units of each thread, more than any spends.
-const FUEL: u64 = 1_000_000_000;
-
-/// More entries than any log has.
-pub(crate) const LIMIT: u32 = 100_000;
 
 /// A call of a module, and what another enumeration says of it (`bench/endings.py --dump 16`): the endings, and how many states it met.
 pub(crate) struct Gone {
@@ -108,12 +102,6 @@ pub(crate) static MODULES: [Gone; 9] = [
         states: 239,
     },
 ];
-
-/// A valid module of these bytes.
-pub(crate) fn load(alloc: Global, bytes: &[u8]) -> Result<ValidModule, Fail> {
-    let module = read(alloc, bytes)?;
-    Ok(validate(alloc, module)?)
-}
 
 /// The call.
 pub(crate) fn call_of(gone: &Gone) -> Call<'static>

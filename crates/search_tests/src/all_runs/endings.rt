@@ -1,6 +1,7 @@
 //! The endings of small modules beside another enumeration, and over how many states.
 
-use crate::rows::{Gone, MODULES, MOST, as_of_run, gone_through, load};
+use crate::all_runs::rows::{Gone, MODULES, MOST, as_of_run, gone_through};
+use crate::runs::load;
 use search_endings::Ending;
 use search_reach::Verdict;
 use std::alloc::{AllocError, Global};

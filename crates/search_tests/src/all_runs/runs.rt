@@ -1,6 +1,7 @@
 //! Runs of small modules beside the list of all endings.
 
-use crate::rows::{DUMP, Gone, LIMIT, MODULES, MOST, as_of_run, call_of, gone_through, load};
+use crate::all_runs::rows::{DUMP, Gone, MODULES, MOST, as_of_run, call_of, gone_through};
+use crate::runs::{LIMIT, load};
 use interp_trait::OpenGate;
 use report_runs::{record_run, run_on_words};
 use search_endings::{Ending, ending_of};

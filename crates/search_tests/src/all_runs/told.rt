@@ -1,6 +1,7 @@
 //! A search through all orders that is told to end.
 
-use crate::rows::{DUMP, Gone, MODULES, MOST, call_of, load};
+use crate::all_runs::rows::{DUMP, Gone, MODULES, MOST, call_of};
+use crate::runs::load;
 use search_modules::all_endings;
 use search_reach::{Follows, Verdict, Wish};
 use std::alloc::Global;
