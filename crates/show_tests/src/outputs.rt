@@ -1,12 +1,12 @@
 //! Traces and pages, by hand.
 
 use crate::asserts::is_text;
+use crate::data::TOLD;
 use replay_text::Record;
 use show_choice::{Choice, Color, Look};
 use show_events::write_trace;
 use show_page::write_page;
 use show_rows::{CodeMap, Shown};
-use show_walk_tests::data::TOLD;
 use std::alloc::Global;
 use std::process::Abort;
 use std::test::Fail;
