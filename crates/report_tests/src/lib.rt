@@ -1,5 +1,8 @@
 //! What cases can't say of the program's jobs: each front of a module, command lines as values, the modules of one atomic add,
-//! long runs and long records, and writers that fail. `report_cases` has command lines and what they print.
+//! long runs and long records, and writers that fail; files of which a front is read, records that take the place of a file once
+//! all of them is there, and streams that nobody reads. `report_cases` has command lines and what they print.
+//!
+//! The scheduled machine is stepped along the schedules of real runs, and each law of schedules and of walks is called once.
 #![tactic(auto)]
 
 #[cfg(test)]
@@ -7,8 +10,22 @@ mod checks;
 #[cfg(test)]
 mod first;
 #[cfg(test)]
+mod laws;
+#[cfg(test)]
 mod long;
 #[cfg(test)]
+mod reading;
+#[cfg(test)]
+mod room;
+#[cfg(test)]
+mod saving;
+#[cfg(test)]
+mod schedules;
+#[cfg(test)]
+mod streams;
+#[cfg(test)]
 mod units;
+#[cfg(test)]
+mod walk_laws;
 #[cfg(test)]
 mod writers;

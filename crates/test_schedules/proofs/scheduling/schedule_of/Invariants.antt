@@ -1,5 +1,5 @@
 use Rattle.schedule_machine.specs.Runs.{IsSomewhere}
-use Rattle.schedule_tests.proofs.scheduling.schedule_of.Given as goal
+use Rattle.test_schedules.proofs.scheduling.schedule_of.Given as goal
 
 abbrev pub invariant-loop-entry : goal.invariant-loop-entry
 invariant-loop-entry g l = let m = g.T.TakesTurns in IsSomewhere m.meaning l.machine

@@ -3,7 +3,7 @@ use Rattle.schedule.specs.Machine.{Thread.Absent}
 use Rattle.interp_trait.specs.Turns.{Running}
 use Rattle.schedule_machine.specs.Threads.{Setting, IsPrepared}
 use Rattle.schedule_machine.specs.Runs.{AreThreads}
-use Rattle.schedule_tests.proofs.opening.add_absent.Given as goal
+use Rattle.test_schedules.proofs.opening.add_absent.Given as goal
 
 abbrev pub invariant-loop-thread : goal.invariant-loop-thread
 invariant-loop-thread g l =

@@ -4,7 +4,7 @@ ghost use Rattle.schedule.specs.Machine.{Thread.Absent};
 ghost use Rattle.interp_trait.specs.Turns.{Running};
 ghost use Rattle.schedule_machine.specs.Threads.{Setting, IsPrepared};
 ghost use Rattle.schedule_machine.specs.Runs.{AreThreads};
-ghost use Rattle.schedule_tests.specs.Machines.{IsMachineOf};
+ghost use Rattle.test_schedules.specs.Machines.{IsMachineOf};
 ghost use Rattle.interp.specs.Threads.{meaning_in};
 
 use interp::Thread;

@@ -3,10 +3,10 @@ use Rattle.schedule.specs.Machine.{Thread.Runs}
 use Rattle.interp_machine.specs.State.{At}
 use Rattle.interp.specs.Starts.{start_of}
 use Rattle.interp.specs.Threads.{meaning_in}
-use Rattle.schedule_tests.specs.Machines.{setting_of}
-use Rattle.schedule_tests.proofs.Filling.{are_alone, count_alone, absent_past}
-use Rattle.schedule_tests.proofs.Machines.{worker_in, prepared, calls_start, opened_is, at_start}
-use Rattle.schedule_tests.proofs.opening.machine_of.Goals as goal
+use Rattle.test_schedules.specs.Machines.{setting_of}
+use Rattle.test_schedules.proofs.Filling.{are_alone, count_alone, absent_past}
+use Rattle.test_schedules.proofs.Machines.{worker_in, prepared, calls_start, opened_is, at_start}
+use Rattle.test_schedules.proofs.opening.machine_of.Goals as goal
 
 pub running-requires : goal.running-requires
 running-requires c =

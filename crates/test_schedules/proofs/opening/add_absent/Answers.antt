@@ -3,8 +3,8 @@ use Rattle.std.specs.Prelude.{option_to_list, IfSome}
 use Rattle.std.proofs.lemmas.List.Elements.{All-pop}
 use Rattle.schedule_machine.specs.Threads.{IsPrepared}
 use Rattle.schedule_machine.specs.Runs.{AreThreads}
-use Rattle.schedule_tests.proofs.Filling.{are_pushed}
-use Rattle.schedule_tests.proofs.opening.add_absent.Goals as goal
+use Rattle.test_schedules.proofs.Filling.{are_pushed}
+use Rattle.test_schedules.proofs.opening.add_absent.Goals as goal
 
 pub absent-requires : goal.absent-requires
 absent-requires g c =

@@ -1,6 +1,5 @@
 //! Runs of real threads, and the scheduled machine along the schedules of their logs.
 
-use crate::{MachineFault, machine_of, schedule_of};
 use interp_trait::OpenGate;
 use report_jobs::load;
 use report_runs::{EndState, record_run};
@@ -15,6 +14,7 @@ use test_modules::{
     ADDING, COUNTING, ENDLESS, GROWING, OUTSIDE, RACING, SUMMING, SUMMING_ALL, TIMEOUTS, TRAPPING,
     WAITING_FOR_GOOD,
 };
+use test_schedules::{MachineFault, machine_of, schedule_of};
 use types::{Entry, Event, MOST_FUEL, Outcome, Stop, ThreadReport, Value};
 use validate::ValidModule;
 

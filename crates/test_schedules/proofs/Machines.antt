@@ -21,7 +21,7 @@ use Rattle.schedule_machine.specs.Threads.{IsPrepared}
 use Rattle.schedule_machine.specs.Runs as runs
 use Rattle.schedule_machine.specs.Runs.{AreThreads, IsAt, first_thread}
 use Rattle.schedule_machine.specs.declared.stepping.Machine.{Machine}
-use Rattle.schedule_tests.specs.Machines.{setting_of}
+use Rattle.test_schedules.specs.Machines.{setting_of}
 
 -- the memory opens as the module's does
 abbrev memory_with : List ℕ → ℕ → Memory

@@ -1,0 +1,8 @@
+//! The scheduled machine of a module, and the schedule of a log: along the schedules of real runs tests step the machine.
+#![tactic(auto)]
+
+mod opening;
+mod scheduling;
+
+pub use opening::{MachineFault, machine_of};
+pub use scheduling::schedule_of;
