@@ -1,6 +1,6 @@
 //! What a record holds.
 
-use crate::texts::ADDED;
+use crate::records::texts::ADDED;
 use replay_text::{Record, RecordParts, read_record};
 use std::test::Fail;
 

@@ -1,6 +1,6 @@
 //! Writers that fail while a record is written to them.
 
-use crate::texts::{ADDED, ADDED_TWO};
+use crate::records::texts::{ADDED, ADDED_TWO};
 use replay_text::{Record, WriteFault, read_record, write_record};
 use std::alloc::Global;
 use std::io::{self, Write};

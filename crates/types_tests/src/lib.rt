@@ -1,5 +1,0 @@
-//! Tests of the types: names, widths and the words that a program prints.
-#![tactic(auto)]
-
-#[cfg(test)]
-mod tests;
