@@ -2,47 +2,8 @@
 
 use crate::reading::{KEPT, comes_to};
 use std::alloc::AllocError;
-use std::{fs, io};
-use test_cases::Case;
+use test_cases::{Case, Stop, Tally, read_file};
 use test_edits::{Edit, edited};
-
-/// Why the cases come to no end.
-#[derive(Drop)]
-pub(crate) enum Stop {
-    NoMemory,
-    /// A file can't be read, or isn't what it should be.
-    Unread,
-}
-
-impl From<AllocError> for Stop {
-    fn from(_: AllocError) -> Stop {
-        Stop::NoMemory
-    }
-}
-
-impl From<io::Error> for Stop {
-    fn from(_: io::Error) -> Stop {
-        Stop::Unread
-    }
-}
-
-/// What came of the texts of a file.
-#[derive(Drop)]
-pub(crate) struct Tally {
-    /// How many were read.
-    pub(crate) texts: u64,
-    /// Whether one of them came to something else than wanted.
-    pub(crate) is_wrong: bool,
-}
-
-impl Tally {
-    pub(crate) fn new() -> Tally {
-        Tally {
-            texts: 0,
-            is_wrong: false,
-        }
-    }
-}
 
 /// Reads a text, and says where it comes to something else than wanted.
 fn try_text(
@@ -53,12 +14,12 @@ fn try_text(
     tally: &mut Tally,
 ) -> Result<(), AllocError> {
     let given = comes_to(rt.alloc(), text)?;
-    tally.texts = tally.texts.saturating_add(1);
-    if given.as_str() != wanted {
+    let is_right = given.as_str() == wanted;
+    if !is_right {
         let text = str::from_utf8(text).unwrap_or("no text\n");
         let _ = println!(rt; "{title}: {given} in place of {wanted}:\n{text}");
-        tally.is_wrong = true;
     }
+    tally.add(is_right);
     Ok(())
 }
 
@@ -120,7 +81,7 @@ fn try_cuts(
 /// The text of a case.
 fn text_of(rt: &HostRuntime, case: &Case) -> Result<Vec<u8>, Stop> {
     if let Some(file) = case.get("record-file") {
-        return Ok(fs::read(rt, file)?);
+        return read_file(rt, file);
     }
     let mut text = case.text(rt.alloc(), "record")?;
     text.extend_from_slice(case.get("record-rest").unwrap_or("").as_bytes())?;
@@ -132,8 +93,8 @@ fn has_rows(case: &Case) -> bool {
     case.get("kept").is_some() || case.get("refused").is_some() || case.get("cut").is_some()
 }
 
-/// Reads each text of a case.
-pub(crate) fn try_case(rt: &HostRuntime, case: &Case, tally: &mut Tally) -> Result<(), Stop> {
+/// Reads each text of a case, counts them, and says of each that comes to something else than wanted.
+pub fn try_case(rt: &HostRuntime, case: &Case, tally: &mut Tally) -> Result<(), Stop> {
     let text = text_of(rt, case)?;
     if !has_rows(case) {
         let wanted = case.get("fault").unwrap_or(KEPT);

@@ -3,13 +3,13 @@
 use crate::input::{module_of, names_of, saved_of};
 use crate::program::Input;
 use crate::rows::{try_cuts, try_edits, try_forged};
-use crate::telling::{Place, Stop, Tally};
+use crate::telling::Place;
 use crate::trial::{Trial, try_line};
-use crate::wanted::Texts;
+use crate::wanted::{Texts, Wanted};
 use search_reach::Wish;
 use std::sync::Wait;
 use std::thread::Threads;
-use test_cases::Case;
+use test_cases::{Case, Stop, Tally};
 
 /// Does a command line for each row that changes the record, or once where there is none.
 fn try_rows<R: Threads + Wait + Sync>(
@@ -27,29 +27,16 @@ fn try_rows<R: Threads + Wait + Sync>(
     try_cuts(rt, threads, trial, tally)
 }
 
-/// Does each command line of a case.
-pub(crate) fn try_case<'a, R: Threads + Wait + Sync>(
+/// Does each command line of a case on this input.
+fn try_words<'a, R: Threads + Wait + Sync>(
     rt: &HostRuntime,
     threads: &R,
     place: Place<'a>,
     case: &'a Case<'a>,
+    input: Input<'a>,
+    wanted: Wanted<'a>,
     tally: &mut Tally,
 ) -> Result<(), Stop> {
-    let texts = Texts::of(rt.alloc(), case)?;
-    let module = module_of(rt, case)?;
-    let saved = saved_of(rt, case)?;
-    let names = names_of(rt, case)?;
-    let wish = match case.get("told") {
-        Some(_) => Wish::End,
-        None => Wish::GoOn,
-    };
-    let input = Input {
-        module: &module,
-        saved: &saved,
-        names: &names,
-        wish,
-    };
-    let wanted = texts.wanted();
     for words in case.all(rt.alloc(), "words")?.iter() {
         let trial = Trial {
             place,
@@ -61,4 +48,37 @@ pub(crate) fn try_case<'a, R: Threads + Wait + Sync>(
         try_rows(rt, threads, trial, tally)?;
     }
     Ok(())
+}
+
+/// What is wished of a search that a case makes.
+fn wish_of(case: &Case) -> Wish {
+    match case.get("told") {
+        Some(_) => Wish::End,
+        None => Wish::GoOn,
+    }
+}
+
+/// Does each command line of a case of a file, counts them, and says what came out otherwise than wanted.
+pub fn try_case<'a, R: Threads + Wait + Sync>(
+    rt: &HostRuntime,
+    threads: &R,
+    file: &'a str,
+    case: &'a Case<'a>,
+    tally: &mut Tally,
+) -> Result<(), Stop> {
+    let place = Place {
+        file,
+        title: case.title,
+    };
+    let texts = Texts::of(rt.alloc(), case)?;
+    let module = module_of(rt, case)?;
+    let saved = saved_of(rt, case)?;
+    let names = names_of(rt, case)?;
+    let input = Input {
+        module: &module,
+        saved: &saved,
+        names: &names,
+        wish: wish_of(case),
+    };
+    try_words(rt, threads, place, case, input, texts.wanted(), tally)
 }

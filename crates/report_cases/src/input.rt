@@ -1,9 +1,7 @@
 //! What a case has its command lines read.
 
-use crate::reader::read_file;
-use crate::telling::Stop;
 use std::alloc::{AllocError, Global};
-use test_cases::{Case, from_hex};
+use test_cases::{Case, Stop, from_hex, read_file};
 use test_modules::{I32, I64, PLAIN, SHARED, Small};
 
 /// The bytes that a key's digits spell.

@@ -1,11 +1,12 @@
 //! Rows of a case that change its record.
 
 use crate::program::Input;
-use crate::telling::{Place, Stop, Tally};
+use crate::telling::Place;
 use crate::trial::{Trial, try_line};
 use crate::wanted::Wanted;
 use std::sync::Wait;
 use std::thread::Threads;
+use test_cases::{Stop, Tally};
 use test_edits::{Edit, edited};
 
 /// Says of a row that it can't be read.

@@ -1,45 +1,4 @@
-//! What is said of a case whose answer is another than wanted, and how many there are.
-
-use std::alloc::AllocError;
-use std::io;
-
-/// Why the cases come to no end.
-#[derive(Drop)]
-pub(crate) enum Stop {
-    NoMemory,
-    /// A file can't be read, or isn't what it should be.
-    Unread,
-}
-
-impl From<AllocError> for Stop {
-    fn from(_: AllocError) -> Stop {
-        Stop::NoMemory
-    }
-}
-
-impl From<io::Error> for Stop {
-    fn from(_: io::Error) -> Stop {
-        Stop::Unread
-    }
-}
-
-/// What came of the cases of a file.
-#[derive(Drop)]
-pub(crate) struct Tally {
-    /// How many command lines were done.
-    pub(crate) lines: u64,
-    /// Whether one of them came out otherwise than wanted.
-    pub(crate) is_wrong: bool,
-}
-
-impl Tally {
-    pub(crate) fn new() -> Tally {
-        Tally {
-            lines: 0,
-            is_wrong: false,
-        }
-    }
-}
+//! What is said of a case whose answer is another than wanted.
 
 /// A case of a file.
 #[derive(Clone, Copy)]

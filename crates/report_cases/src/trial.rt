@@ -2,12 +2,12 @@
 
 use crate::program::{Gave, Input, program};
 use crate::record::{Kept, is_kept};
-use crate::telling::{Place, Stop, Tally};
+use crate::telling::Place;
 use crate::wanted::{Wanted, number_of, wrote};
 use std::alloc::{AllocError, Global};
 use std::sync::Wait;
 use std::thread::Threads;
-use test_cases::Case;
+use test_cases::{Case, Stop, Tally};
 
 /// A command line: its words as they stand in the case, what it reads, and what is wanted of it.
 #[derive(Clone, Copy)]
@@ -143,8 +143,7 @@ fn try_over<R: Threads + Wait + Sync>(
     let is_right = wrote(rt, trial.place, &words, trial.wanted, &gave)
         && is_kept(rt, trial.place, trial.case, over.record(), &gave)?
         && comes_again(rt, threads, trial, over, &gave)?;
-    tally.lines = tally.lines.saturating_add(1);
-    tally.is_wrong |= !is_right;
+    tally.add(is_right);
     Ok(())
 }
 

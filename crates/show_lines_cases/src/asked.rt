@@ -66,8 +66,8 @@ fn tell_asked(
     }
 }
 
-/// Writes what a case asks of its module.
-pub(crate) fn tell(
+/// Writes what a case asks of its module, which has these bytes.
+pub fn tell(
     alloc: Global,
     case: Case,
     module: &[u8],

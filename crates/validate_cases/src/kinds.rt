@@ -92,7 +92,7 @@ fn tell_text(alloc: Global, kind: Kind, text: &str, given: &mut String) -> Resul
 }
 
 /// Writes what is said of the bytes of a case.
-pub(crate) fn tell(alloc: Global, case: Case, given: &mut String) -> Result<(), AllocError> {
+pub fn tell(alloc: Global, case: Case, given: &mut String) -> Result<(), AllocError> {
     for (key, kind) in &KINDS {
         let texts = case.all(alloc, key)?;
         for text in &texts {

@@ -1,7 +1,4 @@
-//! Files, and the keys of their lines.
-
-use crate::telling::Stop;
-use std::fs;
+//! The keys of lines.
 
 /// The keys that there are.
 const KEYS: [&str; 25] = [
@@ -32,19 +29,8 @@ const KEYS: [&str; 25] = [
     "again",
 ];
 
-/// The bytes of a file. Says which, where it can't be read.
-pub(crate) fn read_file(rt: &HostRuntime, path: &str) -> Result<Vec<u8>, Stop> {
-    match fs::read(rt, path) {
-        Ok(bytes) => Ok(bytes),
-        Err(_) => {
-            let _ = println!(rt; "{path}:");
-            Err(Stop::Unread)
-        }
-    }
-}
-
-/// A key of a line that is none, if there is one.
-pub(crate) fn unknown_key(text: &str) -> Option<&str> {
+/// A key of a line of a file of cases that is none, if there is one.
+pub fn unknown_key(text: &str) -> Option<&str> {
     let (_, cases) = text.split_once("\n== ")?;
     for line in cases.lines().skip(1) {
         let (key, _) = line.split_once(' ').unwrap_or((line, ""));

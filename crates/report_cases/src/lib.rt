@@ -1,7 +1,5 @@
-//! Does what files of cases say: command lines of the program, on modules and records, with what each is to print. Prints each
-//! answer that is another than wanted, and then a line for each file: how many cases it has, and how many command lines were
-//! done. The words on its own command line are the files' names; they and the files that cases name lie in the folder where it
-//! runs.
+//! Cases of runs: command lines of the program, on modules and records, with what each is to print. The files that cases name lie
+//! in the folder where they are tried.
 //!
 //! A file of cases is one for the library `test_cases`: `== TITLE`, and below it lines of a key, a space and what the key has.
 //!
@@ -47,83 +45,13 @@
 
 mod case;
 mod input;
+mod keys;
 mod program;
-mod reader;
 mod record;
 mod rows;
 mod telling;
 mod trial;
 mod wanted;
 
-use crate::case::try_case;
-use crate::reader::{read_file, unknown_key};
-use crate::telling::{Place, Stop, Tally};
-use std::alloc::Global;
-use std::env;
-use std::process::ExitCode;
-use std::sync::Wait;
-use std::thread::Threads;
-use test_cases::cases;
-
-/// Does the cases of a text.
-fn try_text<'a, R: Threads + Wait + Sync>(
-    rt: &HostRuntime,
-    threads: &R,
-    file: &'a str,
-    text: &'a str,
-    tally: &mut Tally,
-) -> Result<usize, Stop> {
-    if let Some(key) = unknown_key(text) {
-        let _ = println!(rt; "{file}: there is no key {key}");
-        tally.is_wrong = true;
-    }
-    let found = cases(rt.alloc(), text)?;
-    for case in found.iter() {
-        let place = Place {
-            file,
-            title: case.title,
-        };
-        try_case(rt, threads, place, case, tally)?;
-    }
-    Ok(found.len())
-}
-
-/// Does the cases of a file, and says how many there were. Answers whether each came out as wanted.
-fn try_file<R: Threads + Wait + Sync>(
-    rt: &HostRuntime,
-    threads: &R,
-    file: &str,
-) -> Result<bool, Stop> {
-    let bytes = read_file(rt, file)?;
-    let text = str::from_utf8(&bytes).map_err(|_| Stop::Unread)?;
-    let mut tally = Tally::new();
-    let count = try_text(rt, threads, file, text, &mut tally)?;
-    let lines = tally.lines;
-    let _ = println!(rt; "{file}: {count} cases, {lines} command lines");
-    Ok(!tally.is_wrong)
-}
-
-/// Does the cases of all files that the words name.
-fn try_files<R: Threads + Wait + Sync>(rt: &HostRuntime, threads: &R) -> Result<bool, Stop> {
-    let words: Vec<String> = env::args(rt)?.collect(rt.alloc())?;
-    let mut is_right = true;
-    for file in words.iter().skip(1) {
-        is_right = try_file(rt, threads, file.as_str())? && is_right;
-    }
-    Ok(is_right)
-}
-
-fn main(rt: HostRuntime) -> ExitCode {
-    let is_right = match try_files(&rt, &rt) {
-        Ok(is_right) => is_right,
-        Err(Stop::NoMemory) => {
-            let _ = println!(rt; "no memory");
-            false
-        }
-        Err(Stop::Unread) => {
-            let _ = println!(rt; "a file can't be read");
-            false
-        }
-    };
-    ExitCode::from(u8::from(!is_right))
-}
+pub use case::try_case;
+pub use keys::unknown_key;
