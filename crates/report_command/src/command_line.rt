@@ -575,26 +575,51 @@ fn unreadable(name: &str) -> Misuse {
     }
 }
 
-/// What words ask for that the parser takes.
-fn order_of<'a>(alloc: Global, matches: &ArgMatches<'a>) -> Result<Order<'a>, Usage>
+/// Why there is no order.
+#[derive(Clone, Copy)]
+enum Refused {
+    Misuse(Misuse),
+    NoMemory,
+}
+
+impl From<AllocError> for Refused {
+    fn from(_: AllocError) -> Refused {
+        Refused::NoMemory
+    }
+}
+
+/// What words ask for that the parser takes, or why they ask for nothing.
+fn sorted_order<'a>(alloc: Global, matches: &ArgMatches<'a>) -> Result<Order<'a>, Refused>
     ensures range { IfOk result (λ asked. IsInRange asked.job) }
     ensures kept { IfOk result (λ asked. KeepsItsModule asked.job) }
 {
     let Some((name, matches)) = matches.subcommand() else {
-        return Err(misused(alloc, Misuse::Unreadable));
+        return Err(Refused::Misuse(Misuse::Unreadable));
     };
     if let Some(misuse) = misread(name, matches) {
-        return Err(misused(alloc, misuse));
+        return Err(Refused::Misuse(misuse));
     }
     let Some(job) = job_of(alloc, name, matches)? else {
-        return Err(misused(alloc, unreadable(name)));
+        return Err(Refused::Misuse(unreadable(name)));
     };
     match misuse_of(&job) {
         None => Ok(Order {
             explain: explains(name, matches),
             job,
         }),
-        Some(misuse) => Err(misused(alloc, misuse)),
+        Some(misuse) => Err(Refused::Misuse(misuse)),
+    }
+}
+
+/// What words ask for that the parser takes.
+fn order_of<'a>(alloc: Global, matches: &ArgMatches<'a>) -> Result<Order<'a>, Usage>
+    ensures range { IfOk result (λ asked. IsInRange asked.job) }
+    ensures kept { IfOk result (λ asked. KeepsItsModule asked.job) }
+{
+    match sorted_order(alloc, matches) {
+        Ok(order) => Ok(order),
+        Err(Refused::Misuse(misuse)) => Err(misused(alloc, misuse)),
+        Err(Refused::NoMemory) => Err(Usage::NoMemory),
     }
 }
 
