@@ -284,11 +284,13 @@ fn commands<'a>(alloc: Global) -> Result<Command<'a>, AllocError> {
 pub(crate) fn bounds_of(matches: &ArgMatches) -> Option<(u64, u32, u32)>
     ensures { IfSome result (λ n. (n.0 ≤ most_fuel) × (1 ≤ n.1) × (n.1 ≤ most_limit) × (n.2 ≤ 4096)) }
 {
-    let (Some(fuel), Some(limit), Some(dump)) = (
-        matches.get_one::<u64>("fuel"),
-        matches.get_one::<u32>("limit"),
-        matches.get_one::<u32>("dump"),
-    ) else {
+    let Some(fuel) = matches.get_one::<u64>("fuel") else {
+        return None;
+    };
+    let Some(limit) = matches.get_one::<u32>("limit") else {
+        return None;
+    };
+    let Some(dump) = matches.get_one::<u32>("dump") else {
         return None;
     };
     if fuel <= MOST_FUEL && limit >= 1 && limit <= MOST_LIMIT && dump <= DUMP_MOST {
@@ -575,51 +577,26 @@ fn unreadable(name: &str) -> Misuse {
     }
 }
 
-/// Why there is no order.
-#[derive(Clone, Copy)]
-enum Refused {
-    Misuse(Misuse),
-    NoMemory,
-}
-
-impl From<AllocError> for Refused {
-    fn from(_: AllocError) -> Refused {
-        Refused::NoMemory
-    }
-}
-
-/// What words ask for that the parser takes, or why they ask for nothing.
-fn sorted_order<'a>(alloc: Global, matches: &ArgMatches<'a>) -> Result<Order<'a>, Refused>
+/// What words ask for that the parser takes.
+fn order_of<'a>(alloc: Global, matches: &ArgMatches<'a>) -> Result<Order<'a>, Usage>
     ensures range { IfOk result (λ asked. IsInRange asked.job) }
     ensures kept { IfOk result (λ asked. KeepsItsModule asked.job) }
 {
     let Some((name, matches)) = matches.subcommand() else {
-        return Err(Refused::Misuse(Misuse::Unreadable));
+        return Err(misused(alloc, Misuse::Unreadable));
     };
     if let Some(misuse) = misread(name, matches) {
-        return Err(Refused::Misuse(misuse));
+        return Err(misused(alloc, misuse));
     }
     let Some(job) = job_of(alloc, name, matches)? else {
-        return Err(Refused::Misuse(unreadable(name)));
+        return Err(misused(alloc, unreadable(name)));
     };
     match misuse_of(&job) {
         None => Ok(Order {
             explain: explains(name, matches),
             job,
         }),
-        Some(misuse) => Err(Refused::Misuse(misuse)),
-    }
-}
-
-/// What words ask for that the parser takes.
-fn order_of<'a>(alloc: Global, matches: &ArgMatches<'a>) -> Result<Order<'a>, Usage>
-    ensures range { IfOk result (λ asked. IsInRange asked.job) }
-    ensures kept { IfOk result (λ asked. KeepsItsModule asked.job) }
-{
-    match sorted_order(alloc, matches) {
-        Ok(order) => Ok(order),
-        Err(Refused::Misuse(misuse)) => Err(misused(alloc, misuse)),
-        Err(Refused::NoMemory) => Err(Usage::NoMemory),
+        Some(misuse) => Err(misused(alloc, misuse)),
     }
 }
 
