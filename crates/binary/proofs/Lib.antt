@@ -2,6 +2,5 @@ pub mod Laws
 pub mod Loops
 pub mod Modules
 pub mod Nested
-pub mod Rest
 pub mod SectionLaws
 pub mod Whole

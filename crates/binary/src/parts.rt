@@ -6,7 +6,7 @@ ghost use Rattle.binary_wire.specs.Faults.{refused};
 ghost use Rattle.binary_wire.specs.Reading.{◌>>=◌ as ◌⇛◌, Gives, GivesInMemory, Refuses};
 ghost use Rattle.binary.specs.Counts.{function_room};
 ghost use Rattle.binary.specs.Grammar.{IsModuleText};
-ghost use Rattle.binary.specs.Reading.{customs_at, finish_at, signatures_at, stores_at, contents_at, sections_at, module_at};
+ghost use Rattle.binary.specs.Reading.{customs_at, finish_at, signatures_at, stores_at, contents_at, parts_of, sections_at, module_at};
 ghost use Rattle.types.specs.declared.parts.Parts.{Parts};
 
 use crate::externals::{ExportItem, ImportItem};
@@ -129,23 +129,32 @@ fn read_rest(reader: &mut Reader, functions: usize, bodies: usize) -> Result<(),
     Ok(())
 }
 
-/// The sections of a module of so many bytes, behind the opening bytes: nothing is left behind them.
-#[tactic(auto, unfolding(crate::specs::Reading::sections_at))]
-fn read_sections(reader: &mut Reader, alloc: Global, length: u32) -> Result<Parts, ReadFault>
-    ensures { GivesInMemory (λ m. m) result (sections_at length reader.old.bounds reader.old.rest.now) }
+/// The contents of a module with these types and functions, behind which nothing is left. There have to be as many bodies as functions.
+fn read_last(
+    reader: &mut Reader,
+    alloc: Global,
+    types: &[FuncType],
+    functions: &[u32],
+) -> Result<Contents, ReadFault>
+    ensures { GivesInMemory (λ x. x) result
+        ((contents_at types.now functions.now reader.old.bounds reader.old.rest.now) ⇛ (λ contents. (customs_at
+        (length contents.1) reader.old.bounds contents.1) ⇛ (λ rest. (finish_at reader.old.bounds rest)
+        ⇛ (λ whole. if nat_eq (length functions.now) (length contents.0.bodies) then Ok contents.0
+        else Err (refused faults.CountsDiffer reader.old.bounds rest))))) }
 {
-    let Signatures {
-        types,
-        imports,
-        functions,
-    } = read_signatures(reader, alloc)?;
-    let stores = read_stores(reader, alloc)?;
-    let contents = read_contents(reader, alloc, types.as_slice(), functions.as_slice())?;
+    let contents = read_contents(reader, alloc, types, functions)?;
     read_rest(reader, functions.len(), contents.bodies.len())?;
-    Ok(Parts {
-        types,
-        imports,
-        functions,
+    Ok(contents)
+}
+
+/// The parts of a module of so many bytes, with these sections.
+fn parts_of(length: u32, signatures: Signatures, stores: Stores, contents: Contents) -> Parts
+    ensures { result ≡ parts_of length signatures stores contents }
+{
+    Parts {
+        types: signatures.types,
+        imports: signatures.imports,
+        functions: signatures.functions,
         tables: stores.tables,
         memories: stores.memories,
         globals: stores.globals,
@@ -155,7 +164,19 @@ fn read_sections(reader: &mut Reader, alloc: Global, length: u32) -> Result<Part
         bodies: contents.bodies,
         data: contents.data,
         length,
-    })
+    }
+}
+
+/// The sections of a module of so many bytes, behind the opening bytes: nothing is left behind them.
+#[tactic(auto, unfolding(crate::specs::Reading::sections_at))]
+fn read_sections(reader: &mut Reader, alloc: Global, length: u32) -> Result<Parts, ReadFault>
+    ensures { GivesInMemory (λ m. m) result (sections_at length reader.old.bounds reader.old.rest.now) }
+{
+    let signatures = read_signatures(reader, alloc)?;
+    let stores = read_stores(reader, alloc)?;
+    let (types, functions) = (signatures.types.as_slice(), signatures.functions.as_slice());
+    let contents = read_last(reader, alloc, types, functions)?;
+    Ok(parts_of(length, signatures, stores, contents))
 }
 
 #[tactic(auto, unfolding(crate::specs::Reading::module_at))]

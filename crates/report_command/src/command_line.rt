@@ -284,11 +284,13 @@ fn commands<'a>(alloc: Global) -> Result<Command<'a>, AllocError> {
 pub(crate) fn bounds_of(matches: &ArgMatches) -> Option<(u64, u32, u32)>
     ensures { IfSome result (λ n. (n.0 ≤ most_fuel) × (1 ≤ n.1) × (n.1 ≤ most_limit) × (n.2 ≤ 4096)) }
 {
-    let (Some(fuel), Some(limit), Some(dump)) = (
-        matches.get_one::<u64>("fuel"),
-        matches.get_one::<u32>("limit"),
-        matches.get_one::<u32>("dump"),
-    ) else {
+    let Some(fuel) = matches.get_one::<u64>("fuel") else {
+        return None;
+    };
+    let Some(limit) = matches.get_one::<u32>("limit") else {
+        return None;
+    };
+    let Some(dump) = matches.get_one::<u32>("dump") else {
         return None;
     };
     if fuel <= MOST_FUEL && limit >= 1 && limit <= MOST_LIMIT && dump <= DUMP_MOST {

@@ -215,15 +215,19 @@ struct Draws {
 fn draws_of(matches: &ArgMatches) -> Option<Draws>
     ensures { IfSome result (λ draws. (draws.runs ≤ most_runs) × (draws.from ≤ most_runs)) }
 {
-    let (Some(word), Some(runs), Some(from), Some(seed)) = (
-        matches.get_str("strategy"),
-        matches.get_one::<u64>("runs"),
-        matches.get_one::<u64>("from"),
-        matches.get_one::<u64>("seed"),
-    ) else {
+    let Some(word) = matches.get_str("strategy") else {
         return None;
     };
     let Some(way) = way_of(word) else {
+        return None;
+    };
+    let Some(runs) = matches.get_one::<u64>("runs") else {
+        return None;
+    };
+    let Some(from) = matches.get_one::<u64>("from") else {
+        return None;
+    };
+    let Some(seed) = matches.get_one::<u64>("seed") else {
         return None;
     };
     if runs <= MOST_RUNS && from <= MOST_RUNS {

@@ -172,7 +172,10 @@ pub(crate) static SHOW: CommandRow = CommandRow {
 
 /// The span in an argument, if that is given.
 fn span_of(matches: &ArgMatches, name: &str) -> Option<Span> {
-    Span::read(matches.get_str(name)?)
+    match matches.get_str(name) {
+        Some(text) => Span::read(text),
+        None => None,
+    }
 }
 
 /// Whether the argument is given and no span.

@@ -27,7 +27,7 @@ impl<W> Copied<W> {
 
     /// The copy, if one was wanted.
     pub fn copy(&self) -> Option<&[u8]> {
-        self.copy.as_ref().map(|copy| copy.as_slice())
+        self.copy.as_deref()
     }
 }
 

@@ -2,7 +2,7 @@
 
 use crate::stop::Stop;
 use report_command::{Job, Search};
-use report_files::{read_module, read_saved};
+use report_files::{Unread, read_module, read_saved};
 
 /// What a job reads: a module, a record where one is replayed or shown, and the file that has the names, where it is
 /// another one.
@@ -16,6 +16,14 @@ pub struct Input {
     pub names: Option<Vec<u8>>,
 }
 
+/// The bytes that were read of the file at this path, or why that stops the job.
+fn bytes_of(path: &str, read: Result<Vec<u8>, Unread>) -> Result<Vec<u8>, Stop<'_>> {
+    match read {
+        Ok(bytes) => Ok(bytes),
+        Err(why) => Err(Stop::unread(path, why)),
+    }
+}
+
 /// Reads what a job wants.
 pub(crate) fn read<'a>(rt: &HostRuntime, job: &Job<'a>) -> Result<Input, Stop<'a>> {
     let (Job::Check { file }
@@ -23,18 +31,18 @@ pub(crate) fn read<'a>(rt: &HostRuntime, job: &Job<'a>) -> Result<Input, Stop<'a
     | Job::Replay { file, .. }
     | Job::Show { file, .. }
     | Job::Search(Search { file, .. })) = job;
-    let module = read_module(rt, file).map_err(|why| Stop::unread(file, why))?;
+    let module = bytes_of(file, read_module(rt, file))?;
     let saved = match job {
         Job::Check { .. } | Job::Run { .. } | Job::Search(_) => Vec::new(rt.alloc()),
         Job::Replay { saved, .. } | Job::Show { saved, .. } => {
-            read_saved(rt, saved).map_err(|why| Stop::unread(saved, why))?
+            bytes_of(saved, read_saved(rt, saved))?
         }
     };
     let names = match job {
         Job::Show {
             names: Some(path),
             ..
-        } => Some(read_module(rt, path).map_err(|why| Stop::unread(path, why))?),
+        } => Some(bytes_of(path, read_module(rt, path))?),
         _ => None,
     };
     Ok(Input {
