@@ -50,8 +50,8 @@ returns-clause-stands c = λ t body f.
       operands = search rules;
       results = c.len-2.ensures ∙ ap (λ (x : FuncType). length x.results) type_is;
       values = means_same _ _ _ (ap (λ (ts : List ValType). c.args.args.now ++ map zero_of ts) locals) c.in_ok-values.ensures.items;
-      globals = c.in_ok-opening_globals.ensures ∙ ap opening_globals c.parts-parts.ensures.parts;
-      callers = c.in_ok-with_capacity.ensures.items;
+      globals = c.in_ok-globals.ensures ∙ ap opening_globals c.parts-parts.ensures.parts;
+      callers = c.in_ok-callers.ensures.items;
       progress = refl;
       few = few_values m c.args.own t body c.args.args.now c.parts-parts.ensures.tested f fit;
     })
