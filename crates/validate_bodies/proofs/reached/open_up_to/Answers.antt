@@ -4,18 +4,18 @@ use Rattle.validate_bodies.specs.Scope.{context_of}
 use Rattle.validate_bodies.specs.Forth.{AreDone}
 use Rattle.validate_bodies.proofs.Whole.{on_start, on_step}
 use Rattle.validate_bodies.proofs.Known.{comes_first, comes_next, comes_done, begins_none}
-use Rattle.validate_bodies.proofs.reached.blocks_at.Goals as goal
+use Rattle.validate_bodies.proofs.reached.open_up_to.Goals as goal
 
 pub loop-here-init : goal.loop-here-init
 loop-here-init c = record {
-  on = rw (c.in_ok-push.ensures.items, c.new-blocks.ensures.items)
+  on = rw (c.in_ok-push.ensures.items, c.requires.none_open)
       (on_start (context_of c.args.scope.now) c.args.code.now c.own_block.result _ c.own_block.ensures c.requires.expression c.in-Ok.ensures);
-  comes = rw (c.in_ok-push.ensures.items, c.new-blocks.ensures.items)
+  comes = rw (c.in_ok-push.ensures.items, c.requires.none_open)
       (comes_first (context_of c.args.scope.now) c.args.code.now (length c.args.code.now) c.own_block.result c.own_block.ensures);
 }
 
-pub returns-in-Err-Wrong : goal.returns-in-Err-Wrong
-returns-in-Err-Wrong c =
+pub returns-in-Err-Wrong-clause-none : goal.returns-in-Err-Wrong-clause-none
+returns-in-Err-Wrong-clause-none c = λ _.
     let at : slice_get c.args.code.now c.loop-here.here ≡ Some c.index-code-here.result =
     slice_get_read c.args.code.now _ _ _ refl (omega arith) c.index-code-here.is in
     begins_none (context_of c.args.scope.now) c.args.code.now c.loop-here.here c.args.place _ c.loop-here.blocks.items
@@ -34,8 +34,8 @@ loop-here-preserved c =
           at c.in-Ok-pass.ensures.forth c.loop-here.invariant.comes;
     }
 
-pub returns : goal.returns
-returns c =
+pub returns-clause-done : goal.returns-clause-done
+returns-clause-done c = λ _.
     let here : c.loop-here.here ≡ c.args.place = omega arith in
     let done : AreDone (context_of c.args.scope.now) (take c.loop-here.here c.args.code.now) (reverse c.loop-here.blocks.items) =
     comes_done (context_of c.args.scope.now) c.args.code.now c.loop-here.here (reverse c.loop-here.blocks.items) _ c.requires.expression
