@@ -32,11 +32,7 @@ pub struct Kept {
 }
 
 /// A copy, with room for at least so many items.
-fn copied_with_room<T: Copy>(
-    alloc: Global,
-    items: &[T],
-    room: usize,
-) -> Result<Vec<T>, AllocError>
+fn copied_with_room<T: Copy>(alloc: Global, items: &[T], room: usize) -> Result<Vec<T>, AllocError>
     ensures items { IfOk result (λ v. v.items ≡ items.now) }
     ensures room { IfOk result (λ v. room ≤ vec_capacity v) }
 {

@@ -32,7 +32,7 @@ returns c =
     let places = c.loop-segment.places.items in
     let first = ap (λ x. slice_get x 0) c.as_slice.ensures in
     let size : c.match-first.size ≡ size_of_table (slice_get c.args.parts.now.tables 0) = elim c.match-first.branch [
-      in-Some w ↦ w.size-is ∙ ap size_of_table (w.in-Some.ensures.value ∙ first)
+      | in-Some w ↦ w.size-is ∙ ap size_of_table (w.in-Some.ensures.value ∙ first)
       | in-None w ↦ w.size-is ∙ ap size_of_table (w.in-None.ensures.value ∙ first)
     ] in
     let all = drop_all c.loop-segment.segment-index elements (rw c.as_slice-segment-items.ensures at c.loop-segment-test.false) in
@@ -45,7 +45,7 @@ write_at-requires c =
     let segment = c.segment-item.result in
     let first = ap (λ x. slice_get x 0) c.as_slice.ensures in
     let size : c.match-first.size ≡ size_of_table (slice_get tables 0) = elim c.match-first.branch [
-      in-Some w ↦ w.size-is ∙ ap size_of_table (w.in-Some.ensures.value ∙ first)
+      | in-Some w ↦ w.size-is ∙ ap size_of_table (w.in-Some.ensures.value ∙ first)
       | in-None w ↦ w.size-is ∙ ap size_of_table (w.in-None.ensures.value ∙ first)
     ] in
     let fits : offset_of segment.offset + length segment.functions ≤ size_of_table (slice_get tables 0) =
