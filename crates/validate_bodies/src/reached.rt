@@ -1,6 +1,7 @@
 //! The types of the operands at a place of a body: those of the open blocks of the pass over what comes before it.
 
-ghost use Rattle.std.specs.Prelude.{◌≡◌, ◌<◌, ◌≤◌, [], length, map, take, reverse, Some, None, Ok, IfOk, true, false};
+ghost use Rattle.std.specs.Prelude.{◌≡◌, ◌<◌, ◌≤◌, [], length, map, take, reverse, Some, None, IfOk};
+ghost use Rattle.std.specs.Bool.{MatchBool};
 ghost use Rattle.std.specs.Option.{MatchOption};
 ghost use Rattle.std.specs.List.{flat_map, Contains};
 ghost use Rattle.types.specs.Nesting.{IsExpression};
@@ -31,8 +32,8 @@ fn open_up_to(
     requires expression { IsExpression code.now }
     requires within { place < length code.now }
     requires none_open { blocks.old.items ≡ [] }
-    ensures done { result ≡ Ok true → AreDone (context_of scope.now) (take place code.now) (reverse blocks.new.items) }
-    ensures none { result ≡ Ok false → BeginsNone (context_of scope.now) code.now place }
+    ensures { IfOk result (λ typed. MatchBool typed (AreDone (context_of scope.now) (take place code.now) (reverse blocks.new.items))
+        (BeginsNone (context_of scope.now) code.now place)) }
 {
     blocks.push(own_block(alloc, scope, code.len()))?;
     let Ok(mut ends) = BlockEnds::of(alloc, code) else {

@@ -14,8 +14,8 @@ loop-here-init c = record {
       (comes_first (context_of c.args.scope.now) c.args.code.now (length c.args.code.now) c.own_block.result c.own_block.ensures);
 }
 
-pub returns-in-Err-Wrong-clause-none : goal.returns-in-Err-Wrong-clause-none
-returns-in-Err-Wrong-clause-none c = λ _.
+pub returns-in-Err-Wrong : goal.returns-in-Err-Wrong
+returns-in-Err-Wrong c =
     let at : slice_get c.args.code.now c.loop-here.here ≡ Some c.index-code-here.result =
     slice_get_read c.args.code.now _ _ _ refl (omega arith) c.index-code-here.is in
     begins_none (context_of c.args.scope.now) c.args.code.now c.loop-here.here c.args.place _ c.loop-here.blocks.items
@@ -34,8 +34,8 @@ loop-here-preserved c =
           at c.in-Ok-pass.ensures.forth c.loop-here.invariant.comes;
     }
 
-pub returns-clause-done : goal.returns-clause-done
-returns-clause-done c = λ _.
+pub returns : goal.returns
+returns c =
     let here : c.loop-here.here ≡ c.args.place = omega arith in
     let done : AreDone (context_of c.args.scope.now) (take c.loop-here.here c.args.code.now) (reverse c.loop-here.blocks.items) =
     comes_done (context_of c.args.scope.now) c.args.code.now c.loop-here.here (reverse c.loop-here.blocks.items) _ c.requires.expression
