@@ -1,7 +1,6 @@
 //! The types of the operands at a place of a body: those of the open blocks of the pass over what comes before it.
 
-ghost use Rattle.std.specs.Prelude.{◌≡◌, ◌<◌, ◌≤◌, [], length, map, take, reverse, Some, None, IfOk};
-ghost use Rattle.std.specs.Bool.{MatchBool};
+ghost use Rattle.std.specs.Prelude.{◌≡◌, ◌<◌, ◌≤◌, length, map, take, reverse, Some, None, IfOk};
 ghost use Rattle.std.specs.Option.{MatchOption};
 ghost use Rattle.std.specs.List.{flat_map, Contains};
 ghost use Rattle.types.specs.Nesting.{IsExpression};
@@ -18,37 +17,6 @@ use crate::problem::Problem;
 use crate::scope::{Declared, Scope};
 use std::alloc::{AllocError, Global};
 use types::{Body, FuncType, Instr, ValType};
-use validate_typing::Target;
-
-/// Opens the blocks that are open at a place, where none is yet, and says whether typed code begins with what comes before it.
-fn open_up_to(
-    alloc: Global,
-    scope: &Scope,
-    code: &[Instr],
-    place: usize,
-    blocks: &mut Vec<OpenBlock>,
-    row: &mut Vec<Target>,
-) -> Result<bool, AllocError>
-    requires expression { IsExpression code.now }
-    requires within { place < length code.now }
-    requires none_open { blocks.old.items ≡ [] }
-    ensures { IfOk result (λ typed. MatchBool typed (AreDone (context_of scope.now) (take place code.now) (reverse blocks.new.items))
-        (BeginsNone (context_of scope.now) code.now place)) }
-{
-    blocks.push(own_block(alloc, scope, code.len()))?;
-    let Ok(mut ends) = BlockEnds::of(alloc, code) else {
-        return Err(AllocError);
-    };
-    for here in 0..place {
-        row.clear();
-        match pass(alloc, scope, blocks, &mut ends, &code[here], here, row) {
-            Ok(()) => {}
-            Err(Problem::OutOfMemory) => return Err(AllocError),
-            Err(Problem::Wrong(_)) => return Ok(false),
-        }
-    }
-    Ok(true)
-}
 
 /// The blocks that are open at a place, the innermost last. `None` where no typed code begins with what comes before it.
 fn blocks_at(
@@ -63,12 +31,28 @@ fn blocks_at(
         (λ blocks. AreDone (context_of scope.now) (take place code.now) (reverse blocks.items))) }
 {
     let mut blocks = Vec::new(alloc);
+    blocks.push(own_block(alloc, scope, code.len()))?;
+    let Ok(mut ends) = BlockEnds::of(alloc, code) else {
+        return Err(AllocError);
+    };
     let mut row = Vec::new(alloc);
-    match open_up_to(alloc, scope, code, place, &mut blocks, &mut row) {
-        Ok(true) => Ok(Some(blocks)),
-        Ok(false) => Ok(None),
-        Err(refused) => Err(refused),
+    for here in 0..place {
+        row.clear();
+        match pass(
+            alloc,
+            scope,
+            &mut blocks,
+            &mut ends,
+            &code[here],
+            here,
+            &mut row,
+        ) {
+            Ok(()) => {}
+            Err(Problem::OutOfMemory) => return Err(AllocError),
+            Err(Problem::Wrong(_)) => return Ok(None),
+        }
     }
+    Ok(Some(blocks))
 }
 
 /// Whether the innermost block goes on.

@@ -2,7 +2,7 @@ use Rattle.std.proofs.Common.{reverse, take}
 use Rattle.validate_bodies.specs.Scope.{context_of}
 use Rattle.validate_bodies.specs.Forth.{Comes}
 use Rattle.validate_bodies.proofs.Whole.{CheckedOn}
-use Rattle.validate_bodies.proofs.reached.open_up_to.Given as goal
+use Rattle.validate_bodies.proofs.reached.blocks_at.Given as goal
 
 abbrev pub invariant-loop-here : goal.invariant-loop-here
 invariant-loop-here l = record {

@@ -4,13 +4,13 @@ use Rattle.validate_bodies.specs.Scope.{context_of}
 use Rattle.validate_bodies.specs.Forth.{AreDone}
 use Rattle.validate_bodies.proofs.Whole.{on_start, on_step}
 use Rattle.validate_bodies.proofs.Known.{comes_first, comes_next, comes_done, begins_none}
-use Rattle.validate_bodies.proofs.reached.open_up_to.Goals as goal
+use Rattle.validate_bodies.proofs.reached.blocks_at.Goals as goal
 
 pub loop-here-init : goal.loop-here-init
 loop-here-init c = record {
-  on = rw (c.in_ok-push.ensures.items, c.requires.none_open)
+  on = rw (c.in_ok-push.ensures.items, c.new-blocks.ensures.items)
       (on_start (context_of c.args.scope.now) c.args.code.now c.own_block.result _ c.own_block.ensures c.requires.expression c.in-Ok.ensures);
-  comes = rw (c.in_ok-push.ensures.items, c.requires.none_open)
+  comes = rw (c.in_ok-push.ensures.items, c.new-blocks.ensures.items)
       (comes_first (context_of c.args.scope.now) c.args.code.now (length c.args.code.now) c.own_block.result c.own_block.ensures);
 }
 
