@@ -32,6 +32,8 @@ pub(crate) fn start<'m>(
         unreachable!();
     };
     let values = opening_values(alloc, args, body.locals.as_slice())?;
+    let globals = opening_globals(alloc, parts)?;
+    let callers = Vec::with_capacity(alloc, MOST_FRAMES)?;
     let program = program(alloc, valid)?;
     let code = code_of(&program, own);
     Ok(State {
@@ -45,8 +47,8 @@ pub(crate) fn start<'m>(
         operands: values.len(),
         results: func_type.results.len(),
         values,
-        globals: opening_globals(alloc, parts)?,
-        callers: Vec::with_capacity(alloc, MOST_FRAMES)?,
+        globals,
+        callers,
         progress: Progress::Fresh,
     })
 }

@@ -1,8 +1,8 @@
 //! A thread between two turns, in few bytes, and the thread that goes on from there.
 
-ghost use Rattle.std.specs.Prelude.{◌≡◌, IfOk};
+ghost use Rattle.std.specs.Prelude.{◌≡◌, ◌≤◌, IfOk, vec_capacity};
 
-use crate::opening::{program, push_all};
+use crate::opening::program;
 use crate::thread::Thread;
 use interp_state::{Caller, Progress, State, code_of};
 use std::alloc::{AllocError, Global};
@@ -31,13 +31,21 @@ pub struct Kept {
     pub progress: Progress,
 }
 
+/// A copy, with room for at least so many items.
+fn copied_with_room<T: Copy>(alloc: Global, items: &[T], room: usize) -> Result<Vec<T>, AllocError>
+    ensures items { IfOk result (λ v. v.items ≡ items.now) }
+    ensures room { IfOk result (λ v. room ≤ vec_capacity v) }
+{
+    let mut all = Vec::with_capacity(alloc, room)?;
+    all.extend_from_slice(items)?;
+    Ok(all)
+}
+
 /// A copy.
 fn copied<T: Copy>(alloc: Global, items: &[T]) -> Result<Vec<T>, AllocError>
     ensures { IfOk result (λ v. v.items ≡ items.now) }
 {
-    let mut all = Vec::with_capacity(alloc, items.len())?;
-    all.extend_from_slice(items)?;
-    Ok(all)
+    copied_with_room(alloc, items, items.len())
 }
 
 impl Kept {
@@ -109,12 +117,11 @@ impl<'m> Thread<'m> {
         requires { (c : Config) × IsKept valid.now kept.now c }
         ensures { IfOk result (IsResumed valid.now kept.now fuel) }
     {
+        let values = copied_with_room(alloc, kept.values.as_slice(), MOST_VALUES)?;
+        let callers = copied_with_room(alloc, kept.callers.as_slice(), MOST_FRAMES)?;
+        let globals = copied(alloc, kept.globals.as_slice())?;
         let program = program(alloc, valid)?;
         let code = code_of(&program, kept.function);
-        let mut values = Vec::with_capacity(alloc, MOST_VALUES)?;
-        push_all(&mut values, kept.values.as_slice());
-        let mut callers = Vec::with_capacity(alloc, MOST_FRAMES)?;
-        push_all(&mut callers, kept.callers.as_slice());
         let state = State {
             program,
             function: kept.function,
@@ -126,7 +133,7 @@ impl<'m> Thread<'m> {
             operands: kept.operands,
             results: kept.results,
             values,
-            globals: copied(alloc, kept.globals.as_slice())?,
+            globals,
             callers,
             progress: kept.progress,
         };

@@ -99,17 +99,6 @@ pub(crate) fn program<'m>(alloc: Global, valid: &'m ValidModule) -> Result<Progr
     })
 }
 
-/// Puts values on top.
-pub(crate) fn push_all<T: Copy>(values: &mut Vec<T>, more: &[T])
-    requires { vec_len values.old + length more.now ≤ vec_capacity values.old }
-    ensures items { values.new.items ≡ values.old.items ++ more.now }
-    ensures capacity { vec_capacity values.new ≡ vec_capacity values.old }
-{
-    for value in more {
-        values.push_reserved(*value);
-    }
-}
-
 /// Puts the words of values on top.
 pub(crate) fn push_words(words: &mut Vec<u64>, values: &[Value])
     requires { vec_len words.old + length values.now ≤ vec_capacity words.old }

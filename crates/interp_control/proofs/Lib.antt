@@ -5,3 +5,4 @@ pub mod Numbers
 pub mod Keeping
 pub mod Follow
 pub mod Branching
+pub mod Computing

@@ -1,4 +1,4 @@
-use Rattle.std.proofs.Common.{rules, ◌≡◌, ◌<◌, ◌++◌, List, [], Some, length, get_or, map, refl, ◌∙◌, ap, arith}
+use Rattle.std.proofs.Common.{◌≡◌, ◌<◌, ◌++◌, List, [], Some, length, get_or, map, refl, ◌∙◌, ap, arith}
 use Rattle.std.proofs.lemmas.Option.{slice_get-get_or, slice_get_within}
 use Rattle.std.specs.List.{slice_get}
 use Rattle.types.specs.declared.value.ValType.{ValType}
@@ -9,13 +9,13 @@ use Rattle.types.specs.Values.{type_of}
 use Rattle.interp_machine.specs.Program.{zero_of, opening_globals}
 use Rattle.interp_state.proofs.Words.{means_same}
 use Rattle.interp.proofs.Begun.{one_function}
-use Rattle.interp.proofs.Starting.{starts, few_values}
+use Rattle.interp.proofs.Starting.{one_found, starts, few_values}
 use Rattle.interp.proofs.entry.start.Goals as goal
 
 pub opening_values-requires : goal.opening_values-requires
 opening_values-requires c =
     let r = c.requires in
-    let same : c.in-Some-body.body.now ≡ r.1 = (let x = r.2.body_is in let y = c.in-Some-body.ensures in cc) in
+    let same = one_found _ _ _ c.in-Some-body.ensures r.2.body_is in
     let locals : c.as_slice.result.now ≡ r.1.locals = c.as_slice.ensures ∙ ap (λ (b : Body). b.locals) same in
     let l = ap length locals in
     let few = few_values c.args.valid.now.parts c.args.own r.0 r.1 c.args.args.now c.parts-parts.ensures.tested r.2 r.3 in
@@ -27,11 +27,10 @@ returns-clause-stands c = λ t body f.
     let m = c.args.valid.now.parts in
     let one = one_function m c.args.own r.0 t r.1 body r.2 f in
     let fit : map type_of c.args.args.now ≡ t.params = r.3 ∙ ap (λ (x : FuncType). x.params) one.0 in
-    let same : c.in-Some-body.body.now ≡ body = (let x = f.body_is in let y = c.in-Some-body.ensures in cc) in
+    let same = one_found _ _ _ c.in-Some-body.ensures f.body_is in
     let found = c.in-Some.ensures in
-    let index : found.0 ≡ f.index = (let x = f.typed in let y = found.1 in cc) in
-    let type_is : c.in-Some.func_type.now ≡ t =
-    (let x = f.type_is in let y = ap (λ i. slice_get m.types i) index in let z = found.2 in cc) in
+    let index = one_found _ _ _ found.1 f.typed in
+    let type_is = one_found _ _ _ found.2 (ap (λ i. slice_get m.types i) index ∙ f.type_is) in
     let locals : c.as_slice.result.now ≡ body.locals = c.as_slice.ensures ∙ ap (λ (b : Body). b.locals) same in
     let within : c.args.own < length c.args.valid.now.tables =
     (let h = slice_get_within m.bodies c.args.own body f.body_is in let e = c.parts-parts.ensures.validated.long in omega arith) in
@@ -47,11 +46,11 @@ returns-clause-stands c = λ t body f.
       table = c.code_of-code.ensures.table rows (ap (λ x. slice_get x c.args.own) c.in_ok-program.ensures.tables ∙ there);
       pc = refl;
       base = refl;
-      operands = search rules;
+      operands = c.len.ensures ∙ c.in_ok-values.values.ok.0;
       results = c.len-2.ensures ∙ ap (λ (x : FuncType). length x.results) type_is;
       values = means_same _ _ _ (ap (λ (ts : List ValType). c.args.args.now ++ map zero_of ts) locals) c.in_ok-values.ensures.items;
-      globals = c.in_ok-opening_globals.ensures ∙ ap opening_globals c.parts-parts.ensures.parts;
-      callers = c.in_ok-with_capacity.ensures.items;
+      globals = c.in_ok-globals.ensures ∙ ap opening_globals c.parts-parts.ensures.parts;
+      callers = c.in_ok-callers.ensures.items;
       progress = refl;
       few = few_values m c.args.own t body c.args.args.now c.parts-parts.ensures.tested f fit;
     })
