@@ -98,7 +98,11 @@ fn write_event<W: Write>(writer: &mut W, event: Event) -> io::Result<()>
             width,
             expected,
             replacement,
-        } => write_numbers(writer, "cmpxchg", &[addr, width as u64, expected, replacement]),
+        } => write_numbers(
+            writer,
+            "cmpxchg",
+            &[addr, width as u64, expected, replacement],
+        ),
         Event::Ask(question) => write_question(writer, question),
         Event::Told(Answer::Number(n)) => write_numbers(writer, "told", &[n as u64]),
         Event::Told(Answer::ForGood) => write_numbers(writer, "told stop", &[]),
