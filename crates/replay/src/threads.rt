@@ -2,7 +2,7 @@
 ghost use Rattle.std.specs.Prelude.{◌≡◌, IfOk, IfErr};
 ghost use Rattle.replay.specs.Runs.{invoke_line};
 ghost use Rattle.spawn_host.specs.Threads.{IsFirst};
-ghost use Rattle.replay.specs.Threads.{AreThreads, IsCallFault};
+ghost use Rattle.replay.specs.Threads.{AreThreads, AreOthers, IsCallFault};
 ghost use Rattle.interp.specs.Threads.{meaning_in};
 
 use crate::fault::ReplayFault;
@@ -10,7 +10,7 @@ use interp::Thread;
 use replay_text::{RecordParts, Version};
 use spawn_host::{Call, first_thread, spawnable_threads};
 use spawn_host_workers::RunFault;
-use std::alloc::Global;
+use std::alloc::{AllocError, Global};
 use validate::ValidModule;
 
 /// Thread 0, and behind it the 63 that can be spawned where the module can start threads.
@@ -23,13 +23,24 @@ pub(crate) fn threads_of<'m>(
     ensures fault { IfErr result (λ fault. IsCallFault «module».now.parts parts.now fault) }
 {
     let first = first_of(alloc, module, parts)?;
-    let mut threads = if module.starts_threads() {
-        spawnable_threads(alloc, module, parts.fuel)?
-    } else {
-        Vec::new(alloc)
-    };
+    let mut threads = others_of(alloc, module, parts.fuel)?;
     threads.insert(0, first)?;
     Ok(threads)
+}
+
+/// The 63 threads that can be spawned, where the module can start threads.
+fn others_of<'m>(
+    alloc: Global,
+    module: &'m ValidModule,
+    fuel: u64,
+) -> Result<Vec<Thread<'m>>, AllocError>
+    ensures { IfOk result (λ others. AreOthers meaning_in «module».now.parts fuel others.items) }
+{
+    if module.starts_threads() {
+        spawnable_threads(alloc, module, fuel)
+    } else {
+        Ok(Vec::new(alloc))
+    }
 }
 
 /// The line of the name. That of the arguments stands behind it.

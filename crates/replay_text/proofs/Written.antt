@@ -1,6 +1,6 @@
 -- Lines written piece by piece.
 use Rattle.std.proofs.Common.{◌≡◌, ℕ, ◌+◌, List, [], ◌∷◌, ◌++◌, Option, refl, sym, ap, subst, ◌∙◌, append_assoc, map}
-use Rattle.std.specs.Prelude.{codes}
+use Rattle.std.specs.Prelude.{codes, OnOk, Result, Ok, Err}
 use Rattle.std.specs.Fmt.{decimal}
 use Rattle.std.specs.Io.KnownBytes.{Appends}
 use Rattle.types.specs.declared.event.Entry.{Entry}
@@ -14,6 +14,11 @@ use Rattle.replay_text.specs.Text.{name_word, scale_lines, call_lines, header_li
 use Rattle.replay_text.specs.declared.parts.RecordParts.{RecordParts}
 use Rattle.replay_text.specs.Words.{event_words, reply_word, entry_words, outcome_words, end_words}
 
+-- what follows from the answer of the last call follows from the function's, which is the same
+pub on_ok : {E A B : Type 0} (r : Result (Unit {0}) E) → OnOk r A → (A → B) → OnOk r B
+on_ok (Ok u) h f = f h
+on_ok (Err e) h f = h
+
 spaced_front : (words : List (List ℕ)) (rest : List ℕ) → spaced words [] ++ rest ≡ spaced words rest
 spaced_front [] rest = refl
 spaced_front (w ∷ words) rest = append_assoc w (32 ∷ spaced words []) rest ∙ ap (λ (t : List ℕ). w ++ 32 ∷ t) (spaced_front words rest)
@@ -24,6 +29,18 @@ three : (words : List (List ℕ)) (front word : List ℕ) (more : List (List ℕ
 three words front word more = append_assoc front (32 ∷ []) (spaced words [] ++ (word ++ words_line more []))
     ∙ ap (λ (t : List ℕ). front ++ t) (ap (λ (t : List ℕ). 32 ∷ t) (spaced_front words (word ++ words_line more []))
     ∙ sym (words_line_spaced words word more []))
+
+number_pieces : (i : ℕ) (numbers : List ℕ) → pieces (λ place number. decimal number ++ 32 ∷ []) i numbers ≡ spaced (map decimal numbers) []
+number_pieces i [] = refl
+number_pieces i (n ∷ numbers) = append_assoc (decimal n) (32 ∷ []) (pieces (λ place number. decimal number ++ 32 ∷ []) (i + 1) numbers)
+    ∙ ap (λ (t : List ℕ). decimal n ++ 32 ∷ t) (number_pieces (i + 1) numbers)
+
+pub numbers_append : (word numbers : List ℕ) (a b c : Option (List ℕ)) → Appends a b (word ++ 32 ∷ [])
+    → Appends b c (pieces (λ place number. decimal number ++ 32 ∷ []) 0 numbers) → Appends a c (spaced (word ∷ map decimal numbers) [])
+numbers_append word numbers a b c p q = subst (λ (t : List ℕ). Appends a c t)
+    (append_assoc word (32 ∷ []) (pieces (λ place number. decimal number ++ 32 ∷ []) 0 numbers)
+    ∙ ap (λ (t : List ℕ). word ++ 32 ∷ t) (number_pieces 0 numbers))
+    (appends_then a b c _ _ p q)
 
 pub entry_appends : (e : Entry) (a b c d : Option (List ℕ)) → Appends a b (decimal e.thread ++ 32 ∷ [])
     → Appends b c (spaced (event_words e.event) []) → Appends c d (line (codes "=" ∷ reply_word e.reply ∷ []) [])

@@ -1,6 +1,7 @@
 //! Writing a record.
 
-ghost use Rattle.std.specs.Prelude.{◌≡◌, OnOk, codes, [], ◌∷◌};
+ghost use Rattle.std.specs.Prelude.{◌≡◌, OnOk, codes, [], ◌∷◌, ◌++◌, map};
+ghost use Rattle.std.specs.Fmt.{decimal};
 ghost use Rattle.std.specs.Io.KnownBytes.{Appends};
 ghost use Rattle.replay_forms.specs.Texts.{line, spaced, lines_text};
 ghost use Rattle.replay_text.specs.Text.{record_text, name_word, scale_lines, header_lines};
@@ -17,17 +18,41 @@ use replay_forms::{HexByte, Printed, write_items};
 use std::io::{self, Write};
 use types::{Answer, Entry, Event, Outcome, Question, Reply, RmwOp, ThreadReport, Value};
 
-fn op_word(op: RmwOp) -> &'static str
-    ensures { result.now ≡ op_word op }
+fn rmw_words(op: RmwOp) -> &'static str
+    ensures { result.now ≡ codes "rmw " ++ op_word op }
 {
     match op {
-        RmwOp::Add => "add",
-        RmwOp::Sub => "sub",
-        RmwOp::And => "and",
-        RmwOp::Or => "or",
-        RmwOp::Xor => "xor",
-        RmwOp::Xchg => "xchg",
+        RmwOp::Add => "rmw add",
+        RmwOp::Sub => "rmw sub",
+        RmwOp::And => "rmw and",
+        RmwOp::Or => "rmw or",
+        RmwOp::Xor => "rmw xor",
+        RmwOp::Xchg => "rmw xchg",
     }
+}
+
+/// Numbers, a space behind each.
+struct SpacedNumber;
+
+impl Printed for SpacedNumber {
+    ghost use Rattle.std.specs.Prelude.{[], ◌∷◌, ◌++◌};
+    ghost use Rattle.std.specs.Fmt.{decimal};
+
+    type Value = u64;
+
+    ghost piece = { λ place number. decimal number ++ 32 ∷ [] };
+
+    fn write<W: Write>(writer: &mut W, _place: usize, number: u64) -> io::Result<()> {
+        write!(writer, "{number} ")
+    }
+}
+
+/// Writes a word and numbers, a space behind each.
+fn write_numbers<W: Write>(writer: &mut W, word: &str, numbers: &[u64]) -> io::Result<()>
+    ensures { OnOk result (Appends (W.contents writer.old) (W.contents writer.new) (spaced (word.now ∷ map decimal numbers.now) [])) }
+{
+    write!(writer, "{word} ")?;
+    write_items::<SpacedNumber, W>(writer, numbers)
 }
 
 fn write_question<W: Write>(writer: &mut W, question: Question) -> io::Result<()>
@@ -40,9 +65,9 @@ fn write_question<W: Write>(writer: &mut W, question: Question) -> io::Result<()
             expected,
             timeout,
         } => write!(writer, "wait {addr} {width} {expected} {timeout} "),
-        Question::Notify { addr, count } => write!(writer, "notify {addr} {count} "),
-        Question::Spawn { arg } => write!(writer, "spawn {arg} "),
-        Question::Leave => write!(writer, "leave "),
+        Question::Notify { addr, count } => write_numbers(writer, "notify", &[addr, count as u64]),
+        Question::Spawn { arg } => write_numbers(writer, "spawn", &[arg as u64]),
+        Question::Leave => write_numbers(writer, "leave", &[]),
     }
 }
 
@@ -51,33 +76,36 @@ fn write_event<W: Write>(writer: &mut W, event: Event) -> io::Result<()>
     ensures { OnOk result (Appends (W.contents writer.old) (W.contents writer.new) (spaced (event_words event) [])) }
 {
     match event {
-        Event::Size => write!(writer, "size "),
-        Event::Grow(more) => write!(writer, "grow {more} "),
-        Event::Load { addr, width, reach } => write!(writer, "load {addr} {width} {reach} "),
+        Event::Size => write_numbers(writer, "size", &[]),
+        Event::Grow(more) => write_numbers(writer, "grow", &[more as u64]),
+        Event::Load { addr, width, reach } => {
+            write_numbers(writer, "load", &[addr, width as u64, reach])
+        }
         Event::Store {
             addr,
             width,
             reach,
             value,
-        } => write!(writer, "store {addr} {width} {reach} {value} "),
+        } => write_numbers(writer, "store", &[addr, width as u64, reach, value]),
         Event::Rmw {
             op,
             addr,
             width,
             value,
-        } => {
-            let op = op_word(op);
-            write!(writer, "rmw {op} {addr} {width} {value} ")
-        }
+        } => write_numbers(writer, rmw_words(op), &[addr, width as u64, value]),
         Event::Cmpxchg {
             addr,
             width,
             expected,
             replacement,
-        } => write!(writer, "cmpxchg {addr} {width} {expected} {replacement} "),
+        } => write_numbers(
+            writer,
+            "cmpxchg",
+            &[addr, width as u64, expected, replacement],
+        ),
         Event::Ask(question) => write_question(writer, question),
-        Event::Told(Answer::Number(n)) => write!(writer, "told {n} "),
-        Event::Told(Answer::ForGood) => write!(writer, "told stop "),
+        Event::Told(Answer::Number(n)) => write_numbers(writer, "told", &[n as u64]),
+        Event::Told(Answer::ForGood) => write_numbers(writer, "told stop", &[]),
     }
 }
 
@@ -86,10 +114,10 @@ fn write_reply<W: Write>(writer: &mut W, reply: Reply) -> io::Result<()>
 {
     match reply {
         Reply::Value(value) => write!(writer, "= {value}\n"),
-        Reply::Done => write!(writer, "= done\n"),
-        Reply::OutOfBounds => write!(writer, "= out\n"),
-        Reply::Again => write!(writer, "= again\n"),
-        Reply::Full => write!(writer, "= full\n"),
+        Reply::Done => writer.write_all(b"= done\n"),
+        Reply::OutOfBounds => writer.write_all(b"= out\n"),
+        Reply::Again => writer.write_all(b"= again\n"),
+        Reply::Full => writer.write_all(b"= full\n"),
     }
 }
 
@@ -97,16 +125,10 @@ fn write_outcome<W: Write>(writer: &mut W, outcome: Outcome) -> io::Result<()>
     ensures { OnOk result (Appends (W.contents writer.old) (W.contents writer.new) (spaced (outcome_words outcome) [])) }
 {
     match outcome {
-        Outcome::Done(None) => write!(writer, "ok - "),
+        Outcome::Done(None) => write_numbers(writer, "ok -", &[]),
         Outcome::Done(Some(value)) => write!(writer, "ok {value} "),
-        Outcome::Trap(trap) => {
-            let number = trap.number();
-            write!(writer, "trap {number} ")
-        }
-        Outcome::Stop(stop) => {
-            let number = stop.number();
-            write!(writer, "stop {number} ")
-        }
+        Outcome::Trap(trap) => write_numbers(writer, "trap", &[trap.number() as u64]),
+        Outcome::Stop(stop) => write_numbers(writer, "stop", &[stop.number() as u64]),
     }
 }
 
@@ -119,13 +141,11 @@ impl Printed for EntryLine {
 
     ghost piece = { λ place entry. line (entry_words entry) [] };
 
-    #[tactic(auto, using(crate::proofs::Written::entry_appends))]
     fn write<W: Write>(writer: &mut W, _place: usize, entry: Entry) -> io::Result<()> {
         let thread = entry.thread;
         write!(writer, "{thread} ")?;
         write_event(writer, entry.event)?;
-        write_reply(writer, entry.reply)?;
-        Ok(())
+        write_reply(writer, entry.reply)
     }
 }
 
@@ -138,13 +158,11 @@ impl Printed for EndLine {
 
     ghost piece = { λ place report. line (end_words place report) [] };
 
-    #[tactic(auto, using(crate::proofs::Written::end_appends))]
     fn write<W: Write>(writer: &mut W, place: usize, report: ThreadReport) -> io::Result<()> {
         write!(writer, "end {place} ")?;
         write_outcome(writer, report.outcome)?;
         let spent = report.spent;
-        write!(writer, "{spent}\n")?;
-        Ok(())
+        write!(writer, "{spent}\n")
     }
 }
 
@@ -165,7 +183,7 @@ fn write_invoke<W: Write>(writer: &mut W, name: &str) -> io::Result<()>
     ensures { OnOk result (Appends (W.contents writer.old) (W.contents writer.new) (name_word name.now)) }
 {
     if name.is_empty() {
-        return write!(writer, "-");
+        return writer.write_all(b"-");
     }
     write_items::<HexByte, W>(writer, name.as_bytes())
 }
@@ -176,7 +194,7 @@ fn write_scale<W: Write>(writer: &mut W, parts: &RecordParts) -> io::Result<()>
         (lines_text (scale_lines parts.now.version parts.now.module_len parts.now.threads parts.now.max_pages))) }
 {
     match parts.version {
-        Version::One => write!(writer, "wathread-record 1\n"),
+        Version::One => writer.write_all(b"wathread-record 1\n"),
         Version::Two => {
             let module_len = parts.module_len;
             let threads = parts.threads;
@@ -193,14 +211,13 @@ fn write_header<W: Write>(writer: &mut W, parts: &RecordParts) -> io::Result<()>
     ensures { OnOk result (Appends (W.contents writer.old) (W.contents writer.new) (lines_text (header_lines parts.now))) }
 {
     write_scale(writer, parts)?;
-    write!(writer, "invoke ")?;
+    writer.write_all(b"invoke ")?;
     write_invoke(writer, parts.invoke.as_str())?;
-    write!(writer, "\nargs")?;
+    writer.write_all(b"\nargs")?;
     write_items::<Argument, W>(writer, parts.args.as_slice())?;
     let fuel = parts.fuel;
     let limit = parts.limit;
-    write!(writer, "\nfuel {fuel}\nlimit {limit}\n")?;
-    Ok(())
+    write!(writer, "\nfuel {fuel}\nlimit {limit}\n")
 }
 
 fn write_parts<W: Write>(writer: &mut W, parts: &RecordParts) -> io::Result<()>
@@ -210,8 +227,7 @@ fn write_parts<W: Write>(writer: &mut W, parts: &RecordParts) -> io::Result<()>
     write_items::<EntryLine, W>(writer, parts.log.as_slice())?;
     write_items::<EndLine, W>(writer, parts.ends.as_slice())?;
     let pages = parts.pages;
-    write!(writer, "pages {pages}\nfinish\n")?;
-    Ok(())
+    write!(writer, "pages {pages}\nfinish\n")
 }
 
 /// Writes the text of the record. Where it answers no error, the writer took exactly that text.

@@ -62,6 +62,9 @@ pub fn load_checked(alloc: Global, bytes: &[u8]) -> Result<Module, Refusal>
     let module = read_text(alloc, bytes)?;
     match check_module(alloc, &module) {
         Ok(()) => Ok(module),
-        Err(fault) => Err(Refusal::Validity(fault)),
+        Err(fault) => {
+            drop(module);
+            Err(Refusal::Validity(fault))
+        }
     }
 }

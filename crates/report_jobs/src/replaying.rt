@@ -39,7 +39,11 @@ pub(crate) fn replay_record<W: Write>(
     ensures unfit { IfErr result (λ unfit. IsUnfit «module».now.parts saved.now unfit) }
 {
     match read_record(alloc, saved) {
-        Ok(record) => print_replay(alloc, module, &record, dump, out),
+        Ok(record) => {
+            let status = print_replay(alloc, module, &record, dump, out);
+            drop(record);
+            status
+        }
         Err(RecordFault::NoMemory) => Err(Unfit::NoMemory),
         Err(fault) => Err(Unfit::Unread(fault)),
     }

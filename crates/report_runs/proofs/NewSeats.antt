@@ -1,5 +1,5 @@
 -- The seats of a new memory, place by place.
-use Rattle.std.proofs.Common.{◌≡◌, ℕ, zero, suc, ◌+◌, ◌<◌, true, List, [], ◌∷◌, map, slice_index_or, ◌∙◌, ap, arith}
+use Rattle.std.proofs.Common.{◌≡◌, ℕ, zero, suc, ◌+◌, ◌<◌, true, List, [], ◌∷◌, map, slice_index_or, length, ◌∙◌, refl, ap, arith}
 use Rattle.types.specs.Limits.{desk_name, seat_count}
 use Rattle.shared_memory_on_table.specs.declared.view.Caller.{Caller}
 use Rattle.shared_memory_on_table.specs.Callers.{fresh, fresh_from}
@@ -15,6 +15,14 @@ fresh_at caller (suc count) n (s ∷ seats) h (suc k) d less =
     let e : n + 1 + k ≡ n + suc k = omega arith in let l : k < count = omega arith in
     fresh_at caller count (n + 1) seats t k d l ∙ ap fresh e
 
+fresh_count : {S : Type 0} (caller : S → Caller) (count n : ℕ) (seats : List S) → map caller seats ≡ fresh_from count n → length seats ≡ count
+fresh_count caller zero n [] h = refl
+fresh_count caller zero n (s ∷ seats) h = absurd (cc h)
+fresh_count caller (suc count) n [] h = absurd (cc h)
+fresh_count caller (suc count) n (s ∷ seats) h =
+    let t : map caller seats ≡ fresh_from count (n + 1) = cc h in
+    let rest = fresh_count caller count (n + 1) seats t in omega arith
+
 -- each of the 65 has its place as its name, and has seen nothing; the last has the queue right
 module _ {S : Type 0} (caller : S → Caller) (seats : List S) (new : map caller seats ≡ fresh_from seat_count 0) where
   pub seat_name : (k : ℕ) (d : S) → k < seat_count → (caller (slice_index_or seats k d)).name ≡ k
@@ -25,3 +33,6 @@ module _ {S : Type 0} (caller : S → Caller) (seats : List S) (new : map caller
 
   pub seat_right : (d : S) → (caller (slice_index_or seats desk_name d)).has_queue_right ≡ true
   seat_right d = ap (λ (c : Caller). c.has_queue_right) (fresh_at caller seat_count 0 seats new desk_name d (search arith))
+
+  pub seat_many : length seats ≡ seat_count
+  seat_many = fresh_count caller seat_count 0 seats new

@@ -1,6 +1,7 @@
-use Rattle.std.proofs.Common.{◌≡◌, ◌+◌, Some, None, sym, ◌∙◌, ap, subst, slice_get}
+use Rattle.std.proofs.Common.{◌≡◌, ◌+◌, Some, None, sym, ◌∙◌, ap, subst, slice_get, arith}
 use Rattle.std.proofs.lemmas.Bool.{both_ways}
-use Rattle.std.proofs.lemmas.Option.{slice_get-get_or}
+use Rattle.std.proofs.lemmas.Bool.Decides.{nat_tests}
+use Rattle.std.proofs.lemmas.Option.{slice_get-get_or, slice_get_within}
 use Rattle.types.specs.declared.outcome.ThreadReport.{ThreadReport}
 use Rattle.interp_trait.specs.Turns.{left_of}
 use Rattle.replay.proofs.Lines.{seen, left}
@@ -41,3 +42,11 @@ returns-clause-other g c = λ no s r e h.
     let is_some : Some c.in-Some-Some.outcome ≡ Some c.args.report.now.outcome = sym c.in-Some-Some.field-0-is ∙ (ended.1 None ∙ is.outcome) in
     let outcome : c.in-Some-Some.outcome ≡ c.args.report.now.outcome = cc is_some in
     c.is_same_report.ensures.other no (λ i. record { outcome = outcome i; spent = spent i })
+
+pub returns-in_default-clause-other : goal.returns-in_default-clause-other
+returns-in_default-clause-other g c = λ no s r e h.
+    let is = seen g.T.TakesTurns.meaning s c.args.threads.now c.args.stage.now.queue c.args.stage.now.started c.args.stage.now.ends r e
+    c.args.number c.args.report.now h in
+    let there = slice_get_within c.args.threads.now c.args.number is.thread is.at in
+    let none = c.in_default.ensures.lookup.0 in
+    absurd (grind (arith, nat_tests, none, there))

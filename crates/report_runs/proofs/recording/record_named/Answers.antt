@@ -6,9 +6,15 @@ use Rattle.shared_memory.specs.Memory.{Memory, pages}
 use Rattle.shared_memory.specs.History.{memory_after}
 use Rattle.locked_recorder.specs.Promises.{Begins}
 use Rattle.spawn_host.specs.Faults.{IsFaultOf}
-use Rattle.report_runs.proofs.NewSeats.{seat_name, seat_new, seat_right}
+use Rattle.report_runs.proofs.NewSeats.{seat_name, seat_new, seat_right, seat_many}
 use Rattle.report_runs.proofs.Leaving.{leaves, few_reports, limited_by, the_same}
 use Rattle.report_runs.proofs.recording.record_named.Goals as goal
+
+pub run-requires-clause-len : goal.run-requires-clause-len
+run-requires-clause-len g c κs within =
+    let many = seat_many (λ s. s.caller) c.in_ok-memory.seats.items c.in_ok-memory.ensures.seats in
+    let long = c.in_ok-memory.seats.ok in
+    omega arith
 
 pub run-requires-clause-names : goal.run-requires-clause-names
 run-requires-clause-names g c κs within = λ k d less. seat_name (λ s. s.caller) c.in_ok-memory.seats.items c.in_ok-memory.ensures.seats k d less

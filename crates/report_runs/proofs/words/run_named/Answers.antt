@@ -3,7 +3,7 @@ use Rattle.std.proofs.lemmas.Result.{err_from_is_err_and}
 use Rattle.shared_memory.specs.Memory.{Memory, pages}
 use Rattle.shared_memory.specs.History.{memory_after}
 use Rattle.shared_memory_on_table.specs.Callers.{GoesOn}
-use Rattle.report_runs.proofs.NewSeats.{seat_name, seat_new, seat_right}
+use Rattle.report_runs.proofs.NewSeats.{seat_name, seat_new, seat_right, seat_many}
 use Rattle.report_runs.proofs.Whole.{of_no_seat, went_on}
 use Rattle.report_runs.proofs.Leaving.{leaves}
 use Rattle.replay.proofs.Openable.{max_kept}
@@ -11,6 +11,12 @@ use Rattle.report_runs.proofs.words.run_named.Goals as goal
 
 pub run-requires-clause-right : goal.run-requires-clause-right
 run-requires-clause-right g c κs within = λ d. seat_right (λ s. s.caller) c.in_ok-memory.seats.items c.in_ok-memory.ensures.seats d
+
+pub run-requires-clause-len : goal.run-requires-clause-len
+run-requires-clause-len g c κs within =
+    let many = seat_many (λ s. s.caller) c.in_ok-memory.seats.items c.in_ok-memory.ensures.seats in
+    let long = c.in_ok-memory.seats.ok in
+    omega arith
 
 pub run-requires-clause-names : goal.run-requires-clause-names
 run-requires-clause-names g c κs within = λ k d less. seat_name (λ s. s.caller) c.in_ok-memory.seats.items c.in_ok-memory.ensures.seats k d less

@@ -51,3 +51,21 @@ returns-in-Some-ends-clause-told g c = λ yes s st.
     c.args.self.now.started c.args.self.now.ends) (sym after)
     (gone_on g.T.TakesTurns.meaning s c.args.threads.now c.args.self.now.queue c.args.self.now.started c.args.self.now.ends st c.args.n c.args.answer
     is c.in-Some-ends.field-0 c.in-Some-ends.is)
+
+pub returns-in_default-clause-told : goal.returns-in_default-clause-told
+returns-in_default-clause-told g c = λ yes. absurd (cc yes)
+
+pub returns-then-not-is_same_answer-clause-told : goal.returns-then-not-is_same_answer-clause-told
+returns-then-not-is_same_answer-clause-told g c = λ yes. absurd (cc yes)
+
+pub returns-in-None-clause-refused : goal.returns-in-None-clause-refused
+returns-in-None-clause-refused g c = λ no. absurd (cc no)
+
+pub returns-in-None-clause-kept : goal.returns-in-None-clause-kept
+returns-in-None-clause-kept g c = λ no. absurd (cc no)
+
+pub returns-in-Some-ends-clause-refused : goal.returns-in-Some-ends-clause-refused
+returns-in-Some-ends-clause-refused g c = λ no. absurd (cc no)
+
+pub returns-in-Some-ends-clause-kept : goal.returns-in-Some-ends-clause-kept
+returns-in-Some-ends-clause-kept g c = λ no. absurd (cc no)

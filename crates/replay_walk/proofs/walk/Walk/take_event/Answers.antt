@@ -15,6 +15,7 @@ use Rattle.replay_walk.proofs.Settled.{within, ready, settled}
 use Rattle.replay_walk.proofs.Watched.{wants_at}
 use Rattle.replay_walk.proofs.Taken.{room_for, can_event, took_as}
 use Rattle.replay_walk.proofs.Refused.{refused_gone, refused_full, refused_other, refused_reply}
+use Rattle.replay_walk.proofs.Replaced.{count_back}
 use Rattle.replay_walk.proofs.walk.Walk.take_event.Goals as goal
 use Rattle.replay_walk.proofs.walk.Walk.take_event.Goals.{then-at-limit-via-then-at-limit, then-at-limit-via-else-at-limit+then-not-is_going}
 
@@ -161,3 +162,15 @@ returns-in_default-clause-taken g c = λ yes. absurd (cc yes)
 
 pub returns-then-not-is_same_event-clause-taken : goal.returns-then-not-is_same_event-clause-taken
 returns-then-not-is_same_event-clause-taken g c = λ yes. absurd (cc yes)
+
+pub returns-in_default-clause-count : goal.returns-in_default-clause-count
+returns-in_default-clause-count g c = count_back c.settle_at-turn.new.threads c.as_mut_slice-threads.result.now _ _ _
+    c.settle_at-turn.ensures.count c.as_mut_slice-threads.ensures.value c.as_mut_slice-threads.ensures.len
+
+pub returns-then-not-is_same_event-clause-count : goal.returns-then-not-is_same_event-clause-count
+returns-then-not-is_same_event-clause-count g c = count_back c.settle_at-turn.new.threads c.as_mut_slice-threads.result.now _ _ _
+    c.settle_at-turn.ensures.count c.as_mut_slice-threads.ensures.value c.as_mut_slice-threads.ensures.len
+
+pub returns-clause-count : goal.returns-clause-count
+returns-clause-count g c = count_back c.make.new.threads c.as_mut_slice-threads.result.now _ _ _
+    (c.make.ensures.count ∙ c.settle_at-turn.ensures.count) c.as_mut_slice-threads.ensures.value c.as_mut_slice-threads.ensures.len

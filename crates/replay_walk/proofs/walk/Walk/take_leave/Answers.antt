@@ -18,6 +18,7 @@ use Rattle.replay_walk.proofs.Acts.{leave_act}
 use Rattle.replay_walk.proofs.Settled.{within, ready, settled}
 use Rattle.replay_walk.proofs.Taken.{Leaves, leaves_ended, leaves_full, took_as}
 use Rattle.replay_walk.proofs.Refused.{refused_gone, refused_leave}
+use Rattle.replay_walk.proofs.Replaced.{count_back}
 use Rattle.replay_walk.proofs.walk.Walk.take_leave.Goals as goal
 use Rattle.replay_walk.proofs.walk.Walk.take_leave.Goals.{in-Ended, in-Wants+else-at-limit}
 
@@ -130,3 +131,15 @@ returns-in_default-clause-taken g c = λ yes. absurd (cc yes)
 
 pub returns-clause-refused : goal.returns-clause-refused
 returns-clause-refused g c = λ no. absurd (cc no)
+
+pub returns-in_default-clause-count : goal.returns-in_default-clause-count
+returns-in_default-clause-count g c = count_back c.settle_at-turn.new.threads c.deref_mut.result.now _ _ _
+    c.settle_at-turn.ensures.count c.deref_mut.ensures.value c.deref_mut.ensures.len
+
+pub returns-then-at-limit-clause-count : goal.returns-then-at-limit-clause-count
+returns-then-at-limit-clause-count g c = count_back c.settle_at-turn.new.threads c.deref_mut.result.now _ _ _
+    c.settle_at-turn.ensures.count c.deref_mut.ensures.value c.deref_mut.ensures.len
+
+pub returns-clause-count : goal.returns-clause-count
+returns-clause-count g c = count_back c.settle_at-turn.new.threads c.deref_mut.result.now _ _ _
+    c.settle_at-turn.ensures.count c.deref_mut.ensures.value c.deref_mut.ensures.len

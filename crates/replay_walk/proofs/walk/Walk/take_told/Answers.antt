@@ -4,6 +4,7 @@ use Rattle.schedule.specs.System.{Act.Heard}
 use Rattle.replay_walk.specs.Standing.{IsStanding}
 use Rattle.replay_walk.specs.Walked.{HasTaken}
 use Rattle.replay_walk.proofs.Taken.{took_told}
+use Rattle.replay_walk.proofs.Replaced.{count_back}
 use Rattle.replay_walk.proofs.walk.Walk.take_told.Goals as goal
 
 pub returns-clause-taken : goal.returns-clause-taken
@@ -28,3 +29,7 @@ tell-requires g c =
             c.args.self.now.stage.queue c.args.self.now.stage.started c.args.self.now.stage.ends) (sym c.deref_mut.ensures.value) c.requires.standing.1,
       );
     }
+
+pub returns-clause-count : goal.returns-clause-count
+returns-clause-count g c = count_back c.tell.new.threads c.deref_mut.result.now _ _ _
+    c.tell.ensures.count c.deref_mut.ensures.value c.deref_mut.ensures.len

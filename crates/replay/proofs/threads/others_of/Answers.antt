@@ -1,0 +1,13 @@
+use Rattle.std.proofs.Common.{refl, inl, inr}
+use Rattle.std.proofs.lemmas.Result.{IfOk-weaker}
+use Rattle.interp.specs.Threads.{meaning_in}
+use Rattle.replay.specs.Threads.{AreOthers}
+use Rattle.replay.proofs.threads.others_of.Goals as goal
+
+pub returns-then-starts_threads : goal.returns-then-starts_threads
+returns-then-starts_threads c =
+    IfOk-weaker c.spawnable_threads.result _ (λ others. AreOthers meaning_in c.args.module.now.parts c.args.fuel others.items)
+    (λ others spawnable. inl (_, c.if-starts_threads.ensures.0 refl, spawnable)) c.spawnable_threads.ensures
+
+pub returns-else-starts_threads : goal.returns-else-starts_threads
+returns-else-starts_threads c = inr (λ starts. absurd (cc (c.if-starts_threads.ensures.1 starts)), c.new.ensures.items)
