@@ -52,3 +52,12 @@ returns-clause-duties g c =
     let none = c.in-None.ensures.steps.0 in
     so_far_all (IsDuty c.args.memory.now) _ _ _ _ _ c.loop-seat.invariant.duties
     (none_of threads.items (sym threads.ok.0 ∙ (c.loop-seat.invariant.same ∙ none))) (none_of seats.items (sym seats.ok.0 ∙ none))
+
+pub returns-in_default-clause-duties : goal.returns-in_default-clause-duties
+returns-in_default-clause-duties g c = tt
+
+pub returns-in_default-clause-len : goal.returns-in_default-clause-len
+returns-in_default-clause-len g c = tt
+
+pub returns-clause-fault : goal.returns-clause-fault
+returns-clause-fault g c = tt
