@@ -1,5 +1,5 @@
 -- Rounds of meetings.
-use Rattle.std.proofs.Common.{◌≡◌, ◌≢◌, ℕ, ◌+◌, ◌<◌, ◌≤◌, Bool, List, length, ap, subst, sym, ◌∙◌, arith, get_or, set}
+use Rattle.std.proofs.Common.{◌≡◌, ◌≢◌, ℕ, ◌+◌, ◌<◌, ◌≤◌, Bool, true, List, refl, length, ap, subst, sym, ◌∙◌, arith, get_or, set}
 use Rattle.std.proofs.Common.{inl, inr, get_or-set_same, get_or-set_other, length-set, below_more}
 use Rattle.std.proofs.lemmas.List.{get_or_read}
 use mathlib.Core.List.{IsPrefix}
@@ -14,6 +14,23 @@ use Rattle.spawn_host_workers.specs.Level.{HubGoes, SeatGoes, Round, Level}
 met_first : (opening : Memory) (m n : ℕ) (right right' : Bool) (a b both : List Entry) → Meets opening m n right right' a b both → IsPrefix b a → both ≡ a
 met_first opening m n right right' a b both met begins =
     elim met.longer [ inl e ↦ e | inr e ↦ prefix_both both a (subst (λ (w : List Entry). IsPrefix w a) (sym e) begins) met.begins_a ]
+
+pub same_from_both : (a b : ℕ) → a ≤ b → b ≤ a → a ≡ b
+same_from_both a b up down = omega (arith, up, down)
+
+-- before the first has met the hub
+pub round_none : {S : Type 0} (opening : Memory) (name : S → ℕ) (right : S → Bool) (seen : S → List Entry) (hub : S) (seats : List S)
+    → right hub ≡ true → Round opening name right seen hub hub seats seats 0
+round_none opening name right seen hub seats has = record {
+  hub_goes = record { name_is = refl; right_is = has; grows = prefix_same (seen hub) (seen hub) refl; owned = refl; queue = refl };
+  len = refl;
+  goes = λ k d lt. absurd (omega (arith, lt));
+  holds = λ k d lt. absurd (omega (arith, lt));
+  begins = λ k d lt. absurd (omega (arith, lt));
+  rest = λ k d le. refl;
+  still = λ all. (refl, λ k d lt. absurd (omega (arith, lt)));
+  legal = λ some. absurd (omega (arith, some));
+}
 
 module _
     {S : Type 0} (opening : Memory) (name : S → ℕ) (right : S → Bool) (seen : S → List Entry) (hub0 hub hub1 : S)

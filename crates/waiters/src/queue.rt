@@ -88,7 +88,9 @@ impl Queue {
         ensures after { MatchOption result (self.new ≡ self.old) (λ _. self.new ≡ after_answer self.old thread) }
     {
         let place = thread as usize;
-        let answer = *self.due.get(place)?;
+        let Some(&answer) = self.due.get(place) else {
+            return None;
+        };
         if answer.is_some() {
             self.due.as_mut_slice()[place] = None;
         }

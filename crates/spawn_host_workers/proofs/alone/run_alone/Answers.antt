@@ -51,3 +51,12 @@ returns-clause-composed g c =
     c.push_reserved-2.ensures.items c.level_all.ensures.level c.close-hub.ensures.legal c.close-hub.ensures.name
     c.close-hub.ensures.silent c.push_reserved.new.self.items
     (c.push_reserved.ensures.items ∙ ap (λ (l : List ThreadReport). l ++ report ∷ []) c.in-Ok.ensures.items)
+
+pub run_thread-outcome-requires-clause-here : goal.run_thread-outcome-requires-clause-here
+run_thread-outcome-requires-clause-here g c κs within = c.requires.here
+
+pub returns-in_default-clause-composed : goal.returns-in_default-clause-composed
+returns-in_default-clause-composed g c = tt
+
+pub returns-clause-fault : goal.returns-clause-fault
+returns-clause-fault g c = tt

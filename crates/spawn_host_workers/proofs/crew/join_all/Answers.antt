@@ -1,6 +1,6 @@
-use Rattle.std.proofs.Common.{rules, vec_items}
+use Rattle.std.proofs.Common.{rules, vec_items, sym, ◌∙◌}
 use Rattle.spawn_host_workers.specs.Duties.{IsDone}
-use Rattle.spawn_host_workers.proofs.Pairing.{joined_none, joined_more}
+use Rattle.spawn_host_workers.proofs.Pairing.{joined_none, joined_more, joined_all, none_of}
 use Rattle.spawn_host_workers.proofs.crew.join_all.Goals as goal
 
 pub loop-handle-init : goal.loop-handle-init
@@ -24,3 +24,11 @@ loop-handle-preserved g c =
           (vec_items c.args.ends.now)
           (vec_items c.loop-handle.ends) _ _ c.in-Some.handle c.join.result i.joined step.0 c.join.ensures);
     }
+
+pub returns : goal.returns
+returns g c =
+    let m = g.M.SharedMemory in
+    let t = g.T.TakesTurns in
+    let rest = c.loop-handle.handle-iterator.rest in
+    joined_all (IsDone m t.meaning) (vec_items c.args.handles) (vec_items c.args.ends.now) (vec_items c.loop-handle.ends) rest.items
+    c.loop-handle.invariant.joined (none_of rest.items (sym rest.ok.0 ∙ c.in-None.ensures.steps.0))

@@ -1,8 +1,8 @@
-use Rattle.std.proofs.Common.{rules, ◌≡◌, [], All, sym, subst, vec_items}
+use Rattle.std.proofs.Common.{rules, ◌≡◌, [], All, sym, subst, vec_items, ◌∙◌}
 use Rattle.shared_memory.specs.History.{entries_of}
 use Rattle.interp_trait.specs.Turns.{MayBeSpawned}
 use Rattle.spawn_host_workers.specs.Duties.{IsDuty}
-use Rattle.spawn_host_workers.proofs.Pairing.{so_far_none, so_far_more, all_first, all_rest}
+use Rattle.spawn_host_workers.proofs.Pairing.{so_far_none, so_far_more, so_far_all, none_of, all_first, all_rest}
 use Rattle.spawn_host_workers.proofs.crew.start_workers.Goals as goal
 
 pub loop-seat-init : goal.loop-seat-init
@@ -44,3 +44,20 @@ loop-seat-preserved g c =
           c.in-Some-next.thread c.in-Some.seat c.in_ok-handle.handle i.duties next.0 step.0
           c.in_ok-handle.ensures.duty);
     }
+
+pub returns-clause-duties : goal.returns-clause-duties
+returns-clause-duties g c =
+    let seats = c.loop-seat.seat-iterator.rest in
+    let threads = c.loop-seat.threads.rest in
+    let none = c.in-None.ensures.steps.0 in
+    so_far_all (IsDuty c.args.memory.now) _ _ _ _ _ c.loop-seat.invariant.duties
+    (none_of threads.items (sym threads.ok.0 ∙ (c.loop-seat.invariant.same ∙ none))) (none_of seats.items (sym seats.ok.0 ∙ none))
+
+pub returns-in_default-clause-duties : goal.returns-in_default-clause-duties
+returns-in_default-clause-duties g c = tt
+
+pub returns-in_default-clause-len : goal.returns-in_default-clause-len
+returns-in_default-clause-len g c = tt
+
+pub returns-clause-fault : goal.returns-clause-fault
+returns-clause-fault g c = tt

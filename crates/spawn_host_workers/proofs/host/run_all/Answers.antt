@@ -68,3 +68,21 @@ returns-clause-composed g c =
     c.deal-seat.ensures.parts c.deal-seat.ensures.len c.requires.names c.requires.new c.in_ok-ends.ensures.crew c.bring_home.ensures.threads level.0
     (seats_of ends.items) level.1 refl
     level.2 level.3 c.close-hub.ensures.legal c.close-hub.ensures.name c.close-hub.ensures.silent
+
+pub run_threads-requires-clause-here : goal.run_threads-requires-clause-here
+run_threads-requires-clause-here g c κs within = c.requires.here
+
+pub run_threads-requires-clause-begins : goal.run_threads-requires-clause-begins
+run_threads-requires-clause-begins g c κs within = c.requires.begins
+
+pub bring_home-requires-clause-right : goal.bring_home-requires-clause-right
+bring_home-requires-clause-right g c κs within = c.close-hub.ensures.right
+
+pub returns-in_default-clause-composed : goal.returns-in_default-clause-composed
+returns-in_default-clause-composed g c = tt
+
+pub returns-in_default-with_capacity-clause-composed : goal.returns-in_default-with_capacity-clause-composed
+returns-in_default-with_capacity-clause-composed g c = tt
+
+pub returns-clause-fault : goal.returns-clause-fault
+returns-clause-fault g c = tt

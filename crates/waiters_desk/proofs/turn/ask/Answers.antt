@@ -1,4 +1,4 @@
-use Rattle.std.proofs.Common.{refl, sym}
+use Rattle.std.proofs.Common.{refl, sym, ◌∙◌}
 use Rattle.waiters_desk.proofs.Turning.{may_enter, gains_beside, answers_beside, value_reply, done_reply, asks_with, asks_step, asks_outside, asks_refused}
 use Rattle.waiters_desk.proofs.turn.ask.Goals as goal
 
@@ -51,3 +51,69 @@ returns-in-Full-clause-beside g c = let full = c.in-Full.ensures.outcome in gain
 
 pub returns-in-Full-clause-full : goal.returns-in-Full-clause-full
 returns-in-Full-clause-full g c = asks_refused _ _ _ _ _ c.args.question _ _ c.requires.right c.requires.beside c.requires.free c.in-Full.ensures.outcome
+
+pub access-requires-clause-event : goal.access-requires-clause-event
+access-requires-clause-event g c = c.requires.question
+
+pub returns-in-Value-clause-name : goal.returns-in-Value-clause-name
+returns-in-Value-clause-name g c = c.access.ensures.name
+
+pub returns-in-Value-clause-right : goal.returns-in-Value-clause-right
+returns-in-Value-clause-right g c = c.access.ensures.right ∙ c.requires.right
+
+pub returns-in-Value-clause-full : goal.returns-in-Value-clause-full
+returns-in-Value-clause-full g c = tt
+
+pub returns-in-Value-clause-unchanged : goal.returns-in-Value-clause-unchanged
+returns-in-Value-clause-unchanged g c = tt
+
+pub returns-in-Value-clause-exempt : goal.returns-in-Value-clause-exempt
+returns-in-Value-clause-exempt g c = tt
+
+pub returns-in-Done-clause-name : goal.returns-in-Done-clause-name
+returns-in-Done-clause-name g c = c.access.ensures.name
+
+pub returns-in-Done-clause-right : goal.returns-in-Done-clause-right
+returns-in-Done-clause-right g c = c.access.ensures.right ∙ c.requires.right
+
+pub returns-in-Done-clause-full : goal.returns-in-Done-clause-full
+returns-in-Done-clause-full g c = tt
+
+pub returns-in-Done-clause-unchanged : goal.returns-in-Done-clause-unchanged
+returns-in-Done-clause-unchanged g c = tt
+
+pub returns-in-Done-clause-exempt : goal.returns-in-Done-clause-exempt
+returns-in-Done-clause-exempt g c = tt
+
+pub returns-in-OutOfBounds-clause-name : goal.returns-in-OutOfBounds-clause-name
+returns-in-OutOfBounds-clause-name g c = c.access.ensures.name
+
+pub returns-in-OutOfBounds-clause-right : goal.returns-in-OutOfBounds-clause-right
+returns-in-OutOfBounds-clause-right g c = c.access.ensures.right ∙ c.requires.right
+
+pub returns-in-OutOfBounds-clause-asleep : goal.returns-in-OutOfBounds-clause-asleep
+returns-in-OutOfBounds-clause-asleep g c = tt
+
+pub returns-in-OutOfBounds-clause-full : goal.returns-in-OutOfBounds-clause-full
+returns-in-OutOfBounds-clause-full g c = tt
+
+pub returns-in-OutOfBounds-clause-unchanged : goal.returns-in-OutOfBounds-clause-unchanged
+returns-in-OutOfBounds-clause-unchanged g c = tt
+
+pub returns-in-OutOfBounds-clause-exempt : goal.returns-in-OutOfBounds-clause-exempt
+returns-in-OutOfBounds-clause-exempt g c = tt
+
+pub returns-in-Full-clause-name : goal.returns-in-Full-clause-name
+returns-in-Full-clause-name g c = c.access.ensures.name
+
+pub returns-in-Full-clause-right : goal.returns-in-Full-clause-right
+returns-in-Full-clause-right g c = c.access.ensures.right ∙ c.requires.right
+
+pub returns-in-Full-clause-step : goal.returns-in-Full-clause-step
+returns-in-Full-clause-step g c = tt
+
+pub returns-in-Full-clause-asleep : goal.returns-in-Full-clause-asleep
+returns-in-Full-clause-asleep g c = tt
+
+pub returns-in-Full-clause-asked : goal.returns-in-Full-clause-asked
+returns-in-Full-clause-asked g c = tt

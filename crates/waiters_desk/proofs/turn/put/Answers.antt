@@ -37,3 +37,78 @@ returns-clause-asked g c =
     let heard = rw (c.in_ok-entered.ensures.name) at (c.in-Number.ensures.heard) in
     puts_told _ _ c.args.queue.now c.ask.new.queue c.hear.new.queue _ c.in-Some.entered.loaded _ _ _ _ c.requires.free (sound_beside _ _ c.requires.beside)
     (c.in-Number.ensures.beside) heard due took c.args.question c.in-Number.number asked step (sym asleep ∙ c.if-entered.false) refl
+
+pub returns-in_err-entered-clause-name : goal.returns-in_err-entered-clause-name
+returns-in_err-entered-clause-name g c = c.ask.ensures.name
+
+pub returns-in_err-entered-clause-right : goal.returns-in_err-entered-clause-right
+returns-in_err-entered-clause-right g c = c.ask.ensures.right
+
+pub returns-in_err-entered-clause-tries : goal.returns-in_err-entered-clause-tries
+returns-in_err-entered-clause-tries g c = c.ask.ensures.tries
+
+pub returns-in_err-entered-clause-beside : goal.returns-in_err-entered-clause-beside
+returns-in_err-entered-clause-beside g c = c.ask.ensures.beside
+
+pub returns-in_default-clause-name : goal.returns-in_default-clause-name
+returns-in_default-clause-name g c = c.ask.ensures.name
+
+pub returns-in_default-clause-right : goal.returns-in_default-clause-right
+returns-in_default-clause-right g c = c.ask.ensures.right
+
+pub returns-in_default-clause-tries : goal.returns-in_default-clause-tries
+returns-in_default-clause-tries g c = c.ask.ensures.tries
+
+pub returns-in_default-clause-beside : goal.returns-in_default-clause-beside
+returns-in_default-clause-beside g c = c.ask.ensures.beside
+
+pub returns-in_default-clause-full : goal.returns-in_default-clause-full
+returns-in_default-clause-full g c = tt
+
+pub returns-in_default-clause-unchanged : goal.returns-in_default-clause-unchanged
+returns-in_default-clause-unchanged g c = tt
+
+pub returns-in_default-clause-exempt : goal.returns-in_default-clause-exempt
+returns-in_default-clause-exempt g c = tt
+
+pub returns-then-entered-clause-name : goal.returns-then-entered-clause-name
+returns-then-entered-clause-name g c = c.ask.ensures.name
+
+pub returns-then-entered-clause-right : goal.returns-then-entered-clause-right
+returns-then-entered-clause-right g c = c.ask.ensures.right
+
+pub returns-then-entered-clause-tries : goal.returns-then-entered-clause-tries
+returns-then-entered-clause-tries g c = c.ask.ensures.tries
+
+pub returns-then-entered-clause-beside : goal.returns-then-entered-clause-beside
+returns-then-entered-clause-beside g c = c.ask.ensures.beside
+
+pub returns-then-entered-clause-full : goal.returns-then-entered-clause-full
+returns-then-entered-clause-full g c = tt
+
+pub returns-then-entered-clause-unchanged : goal.returns-then-entered-clause-unchanged
+returns-then-entered-clause-unchanged g c = tt
+
+pub returns-then-entered-clause-exempt : goal.returns-then-entered-clause-exempt
+returns-then-entered-clause-exempt g c = tt
+
+pub returns-clause-name : goal.returns-clause-name
+returns-clause-name g c = c.hear.ensures.name ∙ c.ask.ensures.name
+
+pub returns-clause-right : goal.returns-clause-right
+returns-clause-right g c = c.hear.ensures.right
+
+pub returns-clause-tries : goal.returns-clause-tries
+returns-clause-tries g c = c.hear.ensures.tries ∙ c.ask.ensures.tries
+
+pub returns-clause-beside : goal.returns-clause-beside
+returns-clause-beside g c = c.hear.ensures.beside
+
+pub returns-clause-full : goal.returns-clause-full
+returns-clause-full g c = tt
+
+pub returns-clause-unchanged : goal.returns-clause-unchanged
+returns-clause-unchanged g c = tt
+
+pub returns-clause-exempt : goal.returns-clause-exempt
+returns-clause-exempt g c = tt

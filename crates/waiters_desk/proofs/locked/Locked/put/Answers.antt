@@ -61,3 +61,15 @@ returns-clause-full g c =
 
 pub returns-clause-reads : goal.returns-clause-reads
 returns-clause-reads g c = reads_after _ _ c.meet-2.ensures.longer.seen.legal
+
+pub put-asked-requires-clause-question : goal.put-asked-requires-clause-question
+put-asked-requires-clause-question g c κs within = c.requires.question
+
+pub returns-clause-name : goal.returns-clause-name
+returns-clause-name g c = c.meet-2.ensures.names.0 ∙ c.put-asked.ensures.name ∙ c.meet.ensures.names.0
+
+pub returns-clause-unchanged : goal.returns-clause-unchanged
+returns-clause-unchanged g c = c.put-asked.ensures.unchanged
+
+pub returns-clause-exempt : goal.returns-clause-exempt
+returns-clause-exempt g c = c.put-asked.ensures.exempt

@@ -1,15 +1,17 @@
-use Rattle.std.proofs.Common.{ℕ, ◌≡◌, true, false, None, ap, sym, subst, ◌∙◌}
+use Rattle.std.proofs.Common.{ℕ, ◌≡◌, true, false, Option, Some, None, ap, sym, subst, ◌∙◌}
 use Rattle.types.specs.declared.event.Event.{Event}
+use Rattle.types.specs.declared.event.Reply.{Reply}
 use Rattle.shared_memory.specs.Memory.{Memory}
 use Rattle.shared_memory.specs.Access.{Accesses}
 use Rattle.shared_memory_on_table.specs.declared.view.Caller.{Caller}
 use Rattle.types.specs.declared.event.Event.TheVariants.{Grow}
 use Rattle.word_row_rules.specs.Words.{IsStored}
 use Rattle.word_row_rules.specs.Answers.{size_answer}
-use Rattle.word_row_rules.specs.Rule.{Steps}
+use Rattle.word_row_rules.specs.Rule.{Steps, caller_after}
+use Rattle.word_row_rules.proofs.Settling.{size_is_answer}
 use Rattle.word_row.specs.Rows.{HasPages}
 use Rattle.word_row.proofs.Counts.{found-HasPages, accesses-HasPages}
-use Rattle.word_row.proofs.Access.{few_pages, shows, accesses-after, tries-after}
+use Rattle.word_row.proofs.Access.{few_pages, answered, answered_tries, shows, accesses-after, tries-after}
 use Rattle.word_row.proofs.row.WordRow.note.Goals as goal
 
 pub by_size-requires : goal.by_size-requires
@@ -87,3 +89,70 @@ returns g c =
       counted = accesses-HasPages opening w.name w.has_queue_right event w.seen c.touch.new.caller.seen c.touch.result count c.args.self.now.row.stored
           c.touch.ensures.outcome (counted_by opening event count c.args.caller.now w c.args.self.now.row.stored c.note-pages.ensures);
     }
+
+pub returns-in-Some-clause-name : goal.returns-in-Some-clause-name
+returns-in-Some-clause-name g c =
+    let opening : Memory = g.B.Naming.opening in
+    let event : Event = c.args.event in
+    let count : ℕ = c.note-pages.result in
+    let answer : size_answer opening.max event count ≡ Some c.in-Some.reply = ap (λ k. size_answer k event count)
+    (sym c.args.self.now.sized) ∙ sym c.by_size.ensures ∙ c.in-Some.is in
+    let s = c.note-pages.ensures in
+    ap (λ (x : Caller). x.name) s.list ∙ ap (λ (a : Option Reply). (caller_after false event a s.log c.args.caller.now).name) answer
+
+pub returns-in-Grow-clause-name : goal.returns-in-Grow-clause-name
+returns-in-Grow-clause-name g c =
+    let opening : Memory = g.B.Naming.opening in
+    let event : Event = c.args.event in
+    let count : ℕ = c.note-pages.result in
+    let none : size_answer opening.max event count ≡ None = ap (λ k. size_answer k event count)
+    (sym c.args.self.now.sized) ∙ sym c.by_size.ensures ∙ c.in_default.is in
+    let sh = shows opening false event (size_answer opening.max event count) 0 count c.args.caller.now c.note-pages.new.caller c.note-pages.ensures none in
+    c.exchange.ensures.name ∙ ap (λ (x : Caller). x.name) sh.same
+
+pub returns-in-Some-clause-right : goal.returns-in-Some-clause-right
+returns-in-Some-clause-right g c =
+    let opening : Memory = g.B.Naming.opening in
+    let event : Event = c.args.event in
+    let count : ℕ = c.note-pages.result in
+    let answer : size_answer opening.max event count ≡ Some c.in-Some.reply = ap (λ k. size_answer k event count)
+    (sym c.args.self.now.sized) ∙ sym c.by_size.ensures ∙ c.in-Some.is in
+    let s = c.note-pages.ensures in
+    ap (λ (x : Caller). x.has_queue_right) s.list ∙ ap (λ (a : Option Reply). (caller_after false event a s.log c.args.caller.now).has_queue_right) answer
+
+pub returns-in-Grow-clause-right : goal.returns-in-Grow-clause-right
+returns-in-Grow-clause-right g c =
+    let opening : Memory = g.B.Naming.opening in
+    let event : Event = c.args.event in
+    let count : ℕ = c.note-pages.result in
+    let none : size_answer opening.max event count ≡ None = ap (λ k. size_answer k event count)
+    (sym c.args.self.now.sized) ∙ sym c.by_size.ensures ∙ c.in_default.is in
+    let sh = shows opening false event (size_answer opening.max event count) 0 count c.args.caller.now c.note-pages.new.caller c.note-pages.ensures none in
+    c.exchange.ensures.right ∙ ap (λ (x : Caller). x.has_queue_right) sh.same
+
+pub returns-in-Some-clause-outcome : goal.returns-in-Some-clause-outcome
+returns-in-Some-clause-outcome g c =
+    let opening : Memory = g.B.Naming.opening in
+    let event : Event = c.args.event in
+    let count : ℕ = c.note-pages.result in
+    let answer : size_answer opening.max event count ≡ Some c.in-Some.reply = ap (λ k. size_answer k event count)
+    (sym c.args.self.now.sized) ∙ sym c.by_size.ensures ∙ c.in-Some.is in
+    answered opening false event (size_answer opening.max event count) 0 count c.args.caller.now c.note-pages.new.caller c.in-Some.reply
+    c.note-pages.ensures answer (size_is_answer opening.max event count)
+
+pub returns-in-Some-clause-tries : goal.returns-in-Some-clause-tries
+returns-in-Some-clause-tries g c =
+    let opening : Memory = g.B.Naming.opening in
+    let event : Event = c.args.event in
+    let count : ℕ = c.note-pages.result in
+    let answer : size_answer opening.max event count ≡ Some c.in-Some.reply = ap (λ k. size_answer k event count)
+    (sym c.args.self.now.sized) ∙ sym c.by_size.ensures ∙ c.in-Some.is in
+    answered_tries opening false event (size_answer opening.max event count) 0 count c.args.caller.now c.note-pages.new.caller c.in-Some.reply
+    c.note-pages.ensures answer (size_is_answer opening.max event count)
+
+pub returns-in-Grow-clause-few : goal.returns-in-Grow-clause-few
+returns-in-Grow-clause-few g c =
+    let opening : Memory = g.B.Naming.opening in
+    let count : ℕ = c.note-pages.result in
+    few_pages opening false c.args.event (size_answer opening.max c.args.event count) count
+    c.args.caller.now c.note-pages.new.caller c.args.self.now.row.stored c.note-pages.ensures

@@ -1,8 +1,14 @@
-use Rattle.std.proofs.Common.{ℕ, ◌∙◌, sym, ap, subst}
+use Rattle.std.proofs.Common.{ℕ, ◌≡◌, ◌≤◌, true, false, Some, None, length, refl, ◌∙◌, sym, ap, subst}
+use Rattle.types.specs.declared.event.Event.{Event}
 use Rattle.types.specs.declared.event.Event.TheVariants.{Store}
-use Rattle.shared_memory.specs.Events.{IsEvent}
-use Rattle.word_row_rules.specs.Answers.{IsMadeBy}
+use Rattle.types.specs.declared.event.Reply.TheVariants.{Done}
+use Rattle.shared_memory.specs.Events.{IsEvent, is_of_queue}
+use Rattle.shared_memory.specs.History.{memory_after}
+use Rattle.shared_memory_on_table.specs.Rule.{AccessesIn}
+use Rattle.shared_memory_on_table.specs.declared.view.Caller.{Caller}
+use Rattle.word_row_rules.specs.Answers.{IsMadeBy, end_of, is_access, place_of}
 use Rattle.word_row_rules.proofs.Singles.{store_made}
+use Rattle.word_row.proofs.Access.{answered, answered_tries}
 use Rattle.word_row.proofs.row.WordRow.touch.Goals as goal
 
 pub store-requires-clause-makes : goal.store-requires-clause-makes
@@ -15,3 +21,88 @@ store-requires-clause-makes g c =
 
 pub fetch-word-requires-clause-makes : goal.fetch-word-requires-clause-makes
 fetch-word-requires-clause-makes g c = c.in-Some.ensures.made
+
+pub store-requires-clause-row : goal.store-requires-clause-row
+store-requires-clause-row g c = c.args.self.now.row
+
+pub store-requires-clause-event : goal.store-requires-clause-event
+store-requires-clause-event g c = subst IsEvent c.in-Store.is c.requires.event
+
+pub store-requires-clause-right : goal.store-requires-clause-right
+store-requires-clause-right g c = subst (λ (e : Event). is_of_queue e ≡ true → c.args.caller.now.has_queue_right ≡ true) c.in-Store.is c.requires.right
+
+pub store-requires-clause-within : goal.store-requires-clause-within
+store-requires-clause-within g c =
+    subst (λ (e : Event). end_of e ≤ length (memory_after g.B.Naming.opening c.args.caller.now.seen).bytes) c.in-Store.is c.requires.within
+
+pub fetch-word-requires-clause-row : goal.fetch-word-requires-clause-row
+fetch-word-requires-clause-row g c = c.args.self.now.row
+
+pub fetch-word-requires-clause-event : goal.fetch-word-requires-clause-event
+fetch-word-requires-clause-event g c = subst IsEvent c.in-Rmw.is c.requires.event
+
+pub fetch-word-requires-clause-right : goal.fetch-word-requires-clause-right
+fetch-word-requires-clause-right g c = subst (λ (e : Event). is_of_queue e ≡ true → c.args.caller.now.has_queue_right ≡ true) c.in-Rmw.is c.requires.right
+
+pub fetch-word-requires-clause-within : goal.fetch-word-requires-clause-within
+fetch-word-requires-clause-within g c =
+    subst (λ (e : Event). end_of e ≤ length (memory_after g.B.Naming.opening c.args.caller.now.seen).bytes) c.in-Rmw.is c.requires.within
+
+pub replace-requires-clause-event : goal.replace-requires-clause-event
+replace-requires-clause-event g c = subst IsEvent c.in-Rmw.is c.requires.event
+
+pub replace-requires-clause-right : goal.replace-requires-clause-right
+replace-requires-clause-right g c = subst (λ (e : Event). is_of_queue e ≡ true → c.args.caller.now.has_queue_right ≡ true) c.in-Rmw.is c.requires.right
+
+pub replace-requires-clause-access : goal.replace-requires-clause-access
+replace-requires-clause-access g c = subst (λ (e : Event). is_access e ≡ true) c.in-Rmw.is c.requires.access
+
+pub replace-requires-clause-within : goal.replace-requires-clause-within
+replace-requires-clause-within g c =
+    subst (λ (e : Event). end_of e ≤ length (memory_after g.B.Naming.opening c.args.caller.now.seen).bytes) c.in-Rmw.is c.requires.within
+
+pub returns-in-None-clause-name : goal.returns-in-None-clause-name
+returns-in-None-clause-name g c = c.replace.ensures.name
+
+pub returns-in-None-clause-right : goal.returns-in-None-clause-right
+returns-in-None-clause-right g c = c.replace.ensures.right
+
+pub returns-in-None-clause-outcome : goal.returns-in-None-clause-outcome
+returns-in-None-clause-outcome g c =
+    subst (λ (e : Event). AccessesIn true g.B.Naming.opening None c.args.caller.now e c.replace.new.caller.seen c.replace.result) (sym c.in-Rmw.is)
+    c.replace.ensures.outcome
+
+pub returns-in-None-clause-tries : goal.returns-in-None-clause-tries
+returns-in-None-clause-tries g c = c.replace.ensures.tries
+
+pub returns-in_default-clause-name : goal.returns-in_default-clause-name
+returns-in_default-clause-name g c = c.replace-in_default.ensures.name
+
+pub returns-in_default-clause-right : goal.returns-in_default-clause-right
+returns-in_default-clause-right g c = c.replace-in_default.ensures.right
+
+pub returns-in_default-clause-tries : goal.returns-in_default-clause-tries
+returns-in_default-clause-tries g c = c.replace-in_default.ensures.tries
+
+pub returns-in-Store-clause-name : goal.returns-in-Store-clause-name
+returns-in-Store-clause-name g c = ap (λ (x : Caller). x.name) c.store.ensures.1.list
+
+pub returns-in-Store-clause-right : goal.returns-in-Store-clause-right
+returns-in-Store-clause-right g c = ap (λ (x : Caller). x.has_queue_right) c.store.ensures.1.list
+
+pub returns-in-Some-clause-name : goal.returns-in-Some-clause-name
+returns-in-Some-clause-name g c = ap (λ (x : Caller). x.name) c.fetch-word.ensures.list
+
+pub returns-in-Some-clause-right : goal.returns-in-Some-clause-right
+returns-in-Some-clause-right g c = ap (λ (x : Caller). x.has_queue_right) c.fetch-word.ensures.list
+
+pub returns-in-Store-clause-outcome : goal.returns-in-Store-clause-outcome
+returns-in-Store-clause-outcome g c =
+    let e : Event = Store c.in-Store.addr c.in-Store.width c.in-Store.reach c.in-Store.value in
+    subst (λ (w : Event). AccessesIn true g.B.Naming.opening None c.args.caller.now w c.store.new.caller.seen Done) (sym c.in-Store.is)
+    (answered g.B.Naming.opening false e (Some Done) (place_of e) c.store.ensures.0 c.args.caller.now c.store.new.caller Done c.store.ensures.1 refl tt)
+
+pub returns-in-Store-clause-tries : goal.returns-in-Store-clause-tries
+returns-in-Store-clause-tries g c =
+    let e : Event = Store c.in-Store.addr c.in-Store.width c.in-Store.reach c.in-Store.value in
+    answered_tries g.B.Naming.opening false e (Some Done) (place_of e) c.store.ensures.0 c.args.caller.now c.store.new.caller Done c.store.ensures.1 refl tt
