@@ -30,5 +30,5 @@ module _ (bytes : List ℕ) where
   -- a fault of validity, where a valid module has no other than out of memory
   pub of_fault : (m : Parts) (e : ValidFault) → IsModuleText bytes m → (IsValid m → e ≡ OutOfMemory) → IsRefused bytes (Validity e)
   of_fault m OutOfMemory text only = tt
-  of_fault m (Outside kind) text only = record { parts = m; text = text; invalid = λ valid. cc (only valid); }
-  of_fault m (InBody kind function place) text only = record { parts = m; text = text; invalid = λ valid. cc (only valid); }
+  of_fault m (Outside kind) text only = record { parts = m; text = text; invalid = λ valid. cc (only valid) }
+  of_fault m (InBody kind function place) text only = record { parts = m; text = text; invalid = λ valid. cc (only valid) }
