@@ -1,5 +1,5 @@
 -- The law of modules, and what a reader answers by it.
-use Rattle.std.proofs.Common.{◌≡◌, ℕ, ◌≤◌, cond, eqb, ltb, List, [], ◌∷◌, length, None, Result, Ok, Err, refl, sym, subst, ◌∙◌, arith}
+use Rattle.std.proofs.Common.{◌≡◌, ℕ, ◌≤◌, cond, eqb, ltb, List, [], ◌∷◌, length, None, Result, Ok, Err, refl, sym, ap, subst, ◌∙◌, arith}
 use Rattle.std.specs.Prelude.{IfOk, MatchResult}
 use Rattle.std.proofs.lemmas.Bool.{eqb-true, eq-eqb, ltb-false, le-ltb}
 use Rattle.binary_wire.specs.declared.bounds.Bounds.{Bounds}
@@ -23,7 +23,7 @@ use Rattle.binary.specs.Grammar.{IsFuncType, IsImport, IsTable, IsMemory, IsGlob
 use Rattle.binary.specs.Grammar.{IsData, IsCodeSection, IsSection, IsSectionPart, IsModuleText}
 use Rattle.binary.specs.Reading.{func_type_at, import_at, table_at, memory_at, global_at, export_at, element_at}
 use Rattle.binary.specs.Reading.{data_at, section_at, start_at, code_at, customs_at, finish_at, opening_at, signatures_at}
-use Rattle.binary.specs.Reading.{stores_at, contents_at, sections_at, parts_of, module_at}
+use Rattle.binary.specs.Reading.{stores_at, contents_at, last_at, sections_at, parts_of, module_at}
 use Rattle.binary.proofs.Laws.{func_type_law, import_law, table_law, memory_law, global_law, export_law, element_law, data_law}
 use Rattle.binary.proofs.SectionLaws.{section_law, start_law, code_law, customs_take, customs_again, opening_takes, opening_again}
 
@@ -159,25 +159,27 @@ finish_case s [] r y e = (refl, e)
 finish_case s (b ∷ left) r y e = absurd cc
 
 pub module_takes : (bytes : List ℕ) (m : Parts) → module_at bytes ≡ Ok m → IsModuleText bytes m
-unfolding module_at sections_at
+unfolding module_at sections_at last_at
 module_takes bytes m e0 =
     let s = input bytes in
     let fits = unless_ok (ltb most_module_bytes (length bytes)) (refusal faults.Limit most_module_bytes) _ m e0 in
     one_case (opening_at s bytes) _ _ fits.1 (λ opened o1 o2.
     bind_case (signatures_at s opened) _ _ o2 (λ x c x1 x2.
     bind_case (stores_at s c) _ _ x2 (λ y h y1 y2.
-    bind_case (contents_at x.types x.functions s h) _ _ y2 (λ z k z1 z2.
+    one_case (last_at x.types x.functions s h) _ _ y2 (λ found f1 f2.
+    bind_case (contents_at x.types x.functions s h) _ _ (sym f1) (λ z k z1 z2.
     one_case (customs_at (length k) s k) _ _ z2 (λ rest r1 r2.
-    let made = parts_of (length bytes) x y z in
     let wrong = refused faults.CountsDiffer s rest in
-    let t = finish_case s rest (cond (eqb (length x.functions) (length z.bodies)) (good made) (bad wrong)) m r2 in
-    let w = when_ok (eqb (length x.functions) (length z.bodies)) (good made) wrong m t.1 in
+    let t = finish_case s rest (cond (eqb (length x.functions) (length z.bodies)) (good z) (bad wrong)) found r2 in
+    let w = when_ok (eqb (length x.functions) (length z.bodies)) (good z) wrong found t.1 in
+    let is : parts_of (length bytes) x y z ≡ m =
+    ap (parts_of (length bytes) x y) (good_is z found w.1) ∙ good_is (parts_of (length bytes) x y found) m f2 in
     let customs = customs_take (length k) s k [] (omega arith) (rw t.0 at (sym r1)) in
     let signatures = signatures_take s opened x c (sym x1) in
     let stores = stores_take s c y h (sym y1) in
     let contents = contents_take x.types x.functions s h z k (sym z1) in
     let size : length bytes ≤ most_module_bytes = ltb-false _ _ fits.0 in
-    subst (IsModuleText bytes) (good_is made m w.1) (record {
+    subst (IsModuleText bytes) is (record {
       size = size;
       counted = refl;
       before_types = opened;
@@ -207,10 +209,10 @@ module_takes bytes m e0 =
       customs_at_end = customs.0;
       end = customs.1;
       counts = eqb-true _ _ w.0;
-    }))))))
+    })))))))
 
 pub module_again : (bytes : List ℕ) (m : Parts) → IsModuleText bytes m → module_at bytes ≡ Ok m
-unfolding module_at sections_at
+unfolding module_at sections_at last_at
 module_again bytes m h =
     let s = input bytes in
     let x : Signatures = record { types = m.types; imports = m.imports; functions = m.functions } in

@@ -242,17 +242,21 @@ parts_of size signatures stores contents = record {
   length = size;
 }
 
--- The sections of a module of so many bytes, behind the opening bytes: nothing is left behind them.
+-- The contents of a module with these types and functions, one body for each: custom sections may stand behind them, and nothing else.
+unfoldable pub last_at : List FuncType → List ℕ → Bounds → List ℕ → Result Contents Refusal
+last_at types functions s bytes = do
+  contents ← contents_at types functions s bytes
+  rest ← customs_at (length contents.1) s contents.1
+  whole ← finish_at s rest
+  if nat_eq (length functions) (length contents.0.bodies) then Ok contents.0 else Err (refused faults.CountsDiffer s rest)
+
+-- The sections of a module of so many bytes, behind the opening bytes.
 unfoldable pub sections_at : ℕ → Bounds → List ℕ → Result Parts Refusal
 sections_at size s bytes = do
   signatures ← signatures_at s bytes
   stores ← stores_at s signatures.1
-  contents ← contents_at signatures.0.types signatures.0.functions s stores.1
-  rest ← customs_at (length contents.1) s contents.1
-  whole ← finish_at s rest
-  if nat_eq (length signatures.0.functions) (length contents.0.bodies)
-      then Ok (parts_of size signatures.0 stores.0 contents.0)
-      else Err (refused faults.CountsDiffer s rest)
+  contents ← last_at signatures.0.types signatures.0.functions s stores.1
+  Ok (parts_of size signatures.0 stores.0 contents)
 
 -- The module that the bytes spell, or the first fault from front to back, and its offset.
 unfoldable pub module_at : List ℕ → Result Parts Refusal

@@ -6,7 +6,7 @@ ghost use Rattle.binary_wire.specs.Faults.{refused};
 ghost use Rattle.binary_wire.specs.Reading.{◌>>=◌ as ◌⇛◌, Gives, GivesInMemory, Refuses};
 ghost use Rattle.binary.specs.Counts.{function_room};
 ghost use Rattle.binary.specs.Grammar.{IsModuleText};
-ghost use Rattle.binary.specs.Reading.{customs_at, finish_at, signatures_at, stores_at, contents_at, parts_of, sections_at, module_at};
+ghost use Rattle.binary.specs.Reading.{customs_at, finish_at, signatures_at, stores_at, contents_at, last_at, parts_of, sections_at, module_at};
 ghost use Rattle.types.specs.declared.parts.Parts.{Parts};
 
 use crate::externals::{ExportItem, ImportItem};
@@ -130,17 +130,14 @@ fn read_rest(reader: &mut Reader, functions: usize, bodies: usize) -> Result<(),
 }
 
 /// The contents of a module with these types and functions, behind which nothing is left. There have to be as many bodies as functions.
+#[tactic(auto, unfolding(crate::specs::Reading::last_at))]
 fn read_last(
     reader: &mut Reader,
     alloc: Global,
     types: &[FuncType],
     functions: &[u32],
 ) -> Result<Contents, ReadFault>
-    ensures { GivesInMemory (λ x. x) result
-        ((contents_at types.now functions.now reader.old.bounds reader.old.rest.now) ⇛ (λ contents. (customs_at
-        (length contents.1) reader.old.bounds contents.1) ⇛ (λ rest. (finish_at reader.old.bounds rest)
-        ⇛ (λ whole. if nat_eq (length functions.now) (length contents.0.bodies) then Ok contents.0
-        else Err (refused faults.CountsDiffer reader.old.bounds rest))))) }
+    ensures { GivesInMemory (λ x. x) result (last_at types.now functions.now reader.old.bounds reader.old.rest.now) }
 {
     let contents = read_contents(reader, alloc, types, functions)?;
     read_rest(reader, functions.len(), contents.bodies.len())?;
