@@ -1,14 +1,16 @@
 //! Priorities that change at few points (Burckhardt, Kothari, Musuvathi, Nagarakatte: A randomized scheduler with probabilistic
 //! guarantees of finding bugs. ASPLOS 2010).
 ghost use Rattle.std.specs.Prelude.{◌<◌, ◌≤◌, length};
+ghost use Rattle.search_choice.specs.Depths.{most_depth};
 
 use crate::draws::Draws;
 use crate::strategy::Strategy;
 use arrayvec::ArrayVec;
+use search_choice::MOST_DEPTH;
 use types::MOST_THREADS;
 
 /// How many points of change there are at most.
-const CHANGES: usize = 31;
+const CHANGES: usize = MOST_DEPTH as usize - 1;
 
 /// How many events a thread makes in a row, while others could go on, before it is put behind all.
 const PATIENCE: u32 = 200;
@@ -30,9 +32,9 @@ pub struct Pct {
 }
 
 impl Pct {
-    /// Run number `run` of a seed, with a depth of 1 to 32, and points of change among the first `events` events, 1 at least.
+    /// Run number `run` of a seed, with a depth of 1 to 32 (`MOST_DEPTH`), and points of change among the first `events` events, 1 at least.
     pub fn new(seed: u64, run: u64, depth: u32, events: u32) -> Pct
-        requires depth { depth ≤ 32 }
+        requires depth { depth ≤ most_depth }
         requires events { 0 < events }
     {
         let mut draws = Draws::new(seed, run);
