@@ -11,7 +11,7 @@ use test_cases::{Stop, Tally, cases, read_file};
 fn tell_key(rt: &HostRuntime, subject: Subject, file: &str, text: &str, tally: &mut Tally) {
     let unknown = match subject {
         Subject::Runs => unknown_key(text),
-        Subject::Modules | Subject::Lines | Subject::Records => None,
+        Subject::Modules | Subject::Lines | Subject::Records | Subject::Mutants => None,
     };
     if let Some(key) = unknown {
         let _ = println!(rt; "{file}: there is no key {key}");
@@ -41,6 +41,7 @@ fn tell_count(rt: &HostRuntime, subject: Subject, file: &str, count: usize, trie
         Subject::Modules | Subject::Lines => println!(rt; "{file}: {count} cases"),
         Subject::Records => println!(rt; "{file}: {count} cases, {tried} texts"),
         Subject::Runs => println!(rt; "{file}: {count} cases, {tried} command lines"),
+        Subject::Mutants => println!(rt; "{file}: {count} cases, {tried} mutants"),
     };
 }
 

@@ -5,7 +5,7 @@
 //! cases modules numbers.cases sections.cases runs waits.cases
 //! ```
 //!
-//! A word that is a subject (`modules`, `lines`, `records` or `runs`) says of what the cases are of the files behind it. Each other
+//! A word that is a subject (`modules`, `lines`, `records`, `runs` or `mutants`) says of what the cases are of the files behind it. Each other
 //! word is a file of cases. The files, and those that cases name, lie in the folder where the program runs.
 #![tactic(auto)]
 

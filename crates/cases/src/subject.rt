@@ -11,6 +11,8 @@ pub(crate) enum Subject {
     Records,
     /// Command lines of the program.
     Runs,
+    /// Modules and records whose bytes are changed.
+    Mutants,
 }
 
 impl Subject {
@@ -21,6 +23,7 @@ impl Subject {
             "lines" => Some(Subject::Lines),
             "records" => Some(Subject::Records),
             "runs" => Some(Subject::Runs),
+            "mutants" => Some(Subject::Mutants),
             _ => None,
         }
     }

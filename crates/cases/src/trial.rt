@@ -64,5 +64,6 @@ pub(crate) fn try_case<'a, R: Threads + Wait + Sync>(
         Subject::Lines => try_lines(rt, file, case, tally),
         Subject::Records => replay_text_cases::try_case(rt, case, tally),
         Subject::Runs => report_cases::try_case(rt, threads, file, case, tally),
+        Subject::Mutants => report_jobs_cases::try_case(rt, threads, case, tally),
     }
 }

@@ -8,8 +8,8 @@ mod small;
 mod threads;
 
 pub use examples::{
-    ATOMIC_ADD, BROKEN_LOCK, C_COUNTER, C_ONE_WORD_LOCK, C_TICKET_LOCK, CONDITION, COUNTING, FAC,
-    FIB, HASH, RACING, SIEVE, TICKET_LOCK,
+    ATOMIC_ADD, BROKEN_LOCK, C_COUNTER, C_ONE_WORD_LOCK, C_TICKET_LOCK, CONDITION, COUNTING,
+    RACING, TICKET_LOCK,
 };
 pub use large::{CODE, Large};
 pub use module::Module;

@@ -79,9 +79,9 @@ pub(crate) enum Over {
 
 /// What is called in a module.
 #[derive(Clone, Copy)]
-pub(crate) struct Called {
-    pub(crate) name: &'static str,
-    pub(crate) arg: Option<&'static str>,
+pub(crate) struct Called<'a> {
+    pub(crate) name: &'a str,
+    pub(crate) arg: Option<&'a str>,
 }
 
 /// Runs a module, and keeps its record where the memory has one.
