@@ -4,7 +4,7 @@ use crate::entry::start;
 use crate::thread::Thread;
 use std::alloc::{AllocError, Global};
 use types::Value;
-use validate::ValidModule;
+use validate_module::ValidModule;
 
 impl<'m> Thread<'m> {
     ghost use Rattle.std.specs.Prelude.{◌≡◌, map, IfOk};

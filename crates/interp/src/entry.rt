@@ -10,7 +10,7 @@ use crate::opening::{opening_globals, opening_values, program};
 use interp_state::{Progress, State, code_of};
 use std::alloc::{AllocError, Global};
 use types::{MOST_FRAMES, Value};
-use validate::ValidModule;
+use validate_module::ValidModule;
 
 /// The state in which a function of the module itself starts with these arguments.
 pub(crate) fn start<'m>(

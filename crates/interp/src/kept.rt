@@ -7,7 +7,7 @@ use crate::thread::Thread;
 use interp_state::{Caller, Progress, State, code_of};
 use std::alloc::{AllocError, Global};
 use types::{MOST_FRAMES, MOST_VALUES, Value};
-use validate::ValidModule;
+use validate_module::ValidModule;
 
 /// What of a thread that runs two of one module may differ in, their units aside. Equal ones stand for the same
 /// configurations.

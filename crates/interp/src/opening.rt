@@ -12,7 +12,7 @@ ghost use Rattle.interp_state.specs.Stands.{IsProgram};
 use interp_state::{Program, push_zeros, word};
 use std::alloc::{AllocError, Global};
 use types::{Instr, MOST_VALUES, Parts, PlainInstr, ValType, Value};
-use validate::ValidModule;
+use validate_module::ValidModule;
 use validate_module_rules::{IndexSpaces, offset};
 
 /// The value of a constant expression.

@@ -20,9 +20,9 @@ use Rattle.types.specs.Modules.{IsModule}
 use Rattle.types.specs.Within.{IsMemoryWithin, IsDescWithin}
 use Rattle.validate_typing.specs.Context.{memory_of, memories_of}
 use Rattle.validate_typing.specs.Image.{min_of, max_of, max_of_limits, opening_pages, pages_max_of, offset_of, with_segment, opening_image}
-use Rattle.validate.specs.Pages.{IsWithinPages, HasPagesWithin}
+use Rattle.validate_module.specs.Pages.{IsWithinPages, HasPagesWithin}
 use Rattle.validate_typing.specs.Validity.{IsValid, IsValidMemory}
-use Rattle.validate.proofs.ImageLaws.{IsWithin, segments_within}
+use Rattle.validate_module.proofs.ImageLaws.{IsWithin, segments_within}
 use Rattle.shared_memory.specs.Memory.{Memory, can_grow, state_after}
 use Rattle.shared_memory.specs.History.{memory_after}
 use Rattle.shared_memory_sequential.specs.Opening.{can_open}

@@ -1,7 +1,7 @@
 -- Of which runs of a module a record is, and which of its lines is the first that doesn't fit.
 use Rattle.std.specs.Prelude.{ℕ, ◌≡◌, ◌+◌, ◌⊎◌, length}
 use Rattle.types.specs.declared.parts.Parts.{Parts}
-use Rattle.validate.specs.Pages.{HasPagesWithin}
+use Rattle.validate_module.specs.Pages.{HasPagesWithin}
 use Rattle.shared_memory.specs.Memory.{Memory}
 use Rattle.schedule_runs.specs.Runs.{Start}
 use Rattle.spawn_host.specs.Entries.{IsUnknown, Refuses}

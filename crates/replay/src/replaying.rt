@@ -13,7 +13,7 @@ use replay_text::{Record, RecordParts, Version};
 use replay_walk::{Unwatched, Watch};
 use shared_memory_sequential::OneMemory;
 use std::alloc::Global;
-use validate::ValidModule;
+use validate_module::ValidModule;
 
 /// Runs a recorded run of a module again, by one thread along the record's log, and gives what the run left: the ends and
 /// pages of the record, and the bytes of the memory.

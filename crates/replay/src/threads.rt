@@ -11,7 +11,7 @@ use replay_text::{RecordParts, Version};
 use spawn_host::{Call, first_thread, spawnable_threads};
 use spawn_host_workers::RunFault;
 use std::alloc::{AllocError, Global};
-use validate::ValidModule;
+use validate_module::ValidModule;
 
 /// Thread 0, and behind it the 63 that can be spawned where the module can start threads.
 pub(crate) fn threads_of<'m>(

@@ -4,7 +4,7 @@ use Rattle.types.specs.declared.value.Value.{Value}
 use Rattle.types.specs.declared.outcome.ThreadReport.{ThreadReport}
 use Rattle.types.specs.declared.parts.Parts.{Parts}
 use Rattle.types.specs.Limits.{most_fuel, most_pages, most_module_bytes}
-use Rattle.validate.specs.Pages.{HasPagesWithin}
+use Rattle.validate_module.specs.Pages.{HasPagesWithin}
 use Rattle.shared_memory.specs.History.{memory_after}
 use Rattle.schedule_runs.specs.Runs.{Start}
 use Rattle.spawn_host.specs.Runs.{opening_memory, opening_within, start_by, Tells, IsRunHistory}

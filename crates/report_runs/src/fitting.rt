@@ -4,7 +4,7 @@ ghost use Rattle.std.specs.List.{All};
 ghost use Rattle.std.specs.Prelude.{◌≡◌, ◌≤◌, true};
 ghost use Rattle.std.specs.Str.{is_utf8};
 ghost use Rattle.types.specs.Limits.{most_module_bytes, most_pages};
-ghost use Rattle.validate.specs.Pages.{HasPagesWithin};
+ghost use Rattle.validate_module.specs.Pages.{HasPagesWithin};
 ghost use Rattle.shared_memory_sequential.specs.Opening.{can_open};
 ghost use Rattle.spawn_host.specs.Runs.{opening_memory};
 ghost use Rattle.replay_text.specs.Conditions.{IsValue, IsOutcome};
@@ -12,7 +12,7 @@ ghost use Rattle.replay_rules.specs.Ranges.{EntryFits, ReportFits, AreTyped};
 
 use replay_text::RecordParts;
 use types::{Entry, ThreadReport, Value};
-use validate::ValidModule;
+use validate_module::ValidModule;
 
 /// The opening memory of a valid module can be opened.
 pub(crate) fn show_memory_opens(module: &ValidModule)

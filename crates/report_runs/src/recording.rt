@@ -24,7 +24,7 @@ use std::sync::Wait;
 use std::thread::Threads;
 use thiserror::Error;
 use types::{MOST_LIMIT, MOST_PAGES, MOST_THREADS, Name, Sequence, ThreadReport, Value};
-use validate::ValidModule;
+use validate_module::ValidModule;
 
 /// Why there is no run over a memory of its own. All come before the first turn.
 #[derive(Clone, Copy, PartialEq, Eq, Debug, Error)]

@@ -16,7 +16,7 @@ use std::marker::Brand;
 use std::sync::Wait;
 use std::thread::Threads;
 use types::PAGE_SIZE;
-use validate::ValidModule;
+use validate_module::ValidModule;
 use word_row::{ClosedRow, Naming, Prepared, WordRow};
 
 /// Runs an exported function over a new row of words, and gives what the run leaves. The call may have any fuel.

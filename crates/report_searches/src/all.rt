@@ -17,7 +17,7 @@ use search_reach::{Ended as AllEnded, Follows, Verdict};
 use spawn_host::Call;
 use std::alloc::{AllocError, Global};
 use std::io::{self, Write};
-use validate::ValidModule;
+use validate_module::ValidModule;
 
 /// The endings of a call, each with a path to it, and whether they are all.
 type All = AllEnded<Ended>;

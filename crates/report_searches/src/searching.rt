@@ -24,7 +24,7 @@ use spawn_host::Call;
 use std::alloc::Global;
 use std::io::{self, Write};
 use std::thread::{self, Threads};
-use validate::ValidModule;
+use validate_module::ValidModule;
 
 /// What a search asks of the library.
 pub(crate) fn sought_by<'a>(search: &Search<'a>) -> Sought<'a>

@@ -17,7 +17,7 @@ use show_text::Unwritten;
 use show_walk::{Row, Rows};
 use std::alloc::Global;
 use std::io::Write;
-use validate::ValidModule;
+use validate_module::ValidModule;
 
 /// Shows the entries of the record whose text `saved` is: each in words, with its place in the module. `names` are the bytes
 /// that have the names of functions and the lines of source: those of the module, or of another build of its code. `view` may

@@ -16,7 +16,7 @@ use test_modules::{
 };
 use test_schedules::{MachineFault, machine_of, schedule_of};
 use types::{Entry, Event, MOST_FUEL, Outcome, Stop, ThreadReport, Value};
-use validate::ValidModule;
+use validate_module::ValidModule;
 
 /// How many turns of its own a thread makes at most between two entries.
 const MOST: u32 = 100_000;

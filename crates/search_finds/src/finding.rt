@@ -15,7 +15,7 @@ use search_strategies::{Along, Pct, Random};
 use spawn_host::Call;
 use std::alloc::{AllocError, Global};
 use std::thread::{Threads, map_indices};
-use validate::ValidModule;
+use validate_module::ValidModule;
 
 /// How many runs a job makes before the endings are looked at.
 const PIECE: usize = 128;

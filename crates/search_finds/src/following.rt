@@ -8,7 +8,7 @@ use search_scheduled::{Made, SearchFault, run_along};
 use search_strategies::Chosen;
 use spawn_host::Call;
 use std::alloc::Global;
-use validate::ValidModule;
+use validate_module::ValidModule;
 
 /// The run in which the threads that can go on are chosen so, where it ends as is said, by so many bytes of the memory.
 ///

@@ -9,7 +9,7 @@ use search_scheduled::{Made, SearchFault, run_along};
 use search_strategies::Along;
 use spawn_host::Call;
 use std::alloc::{AllocError, Global};
-use validate::ValidModule;
+use validate_module::ValidModule;
 
 /// How many runs are made at most.
 const TRIES: u32 = 10_000;

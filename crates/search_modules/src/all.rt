@@ -12,7 +12,7 @@ use search_states::search_all;
 use spawn_host::Call;
 use spawn_host_workers::RunFault;
 use std::alloc::Global;
-use validate::ValidModule;
+use validate_module::ValidModule;
 
 /// All endings of a call of an exported function, each with so many first bytes of the memory: its threads are gone through in every
 /// order of their events, until there are no more states, more than `most_states` were met, or the follower tells it to end.

@@ -4,7 +4,7 @@ ghost use Rattle.std.specs.Prelude.{◌≡◌, true};
 ghost use Rattle.search_modules.specs.Searching.{is_callable};
 
 use types::Value;
-use validate::ValidModule;
+use validate_module::ValidModule;
 
 /// A call of a function of a module, and how many first bytes of the memory are looked at in the end.
 #[derive(Drop)]

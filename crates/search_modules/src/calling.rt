@@ -11,7 +11,7 @@ use crate::called::Searched;
 use spawn_host::{Call, first_thread};
 use spawn_host_workers::RunFault;
 use std::alloc::Global;
-use validate::ValidModule;
+use validate_module::ValidModule;
 
 /// The number of the function that spawned threads call, where the module can start some.
 fn thread_start(valid: &ValidModule) -> Option<usize>

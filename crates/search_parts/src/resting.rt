@@ -20,7 +20,7 @@ use crate::event::{Begun, Made};
 use search_walkers::{Standing, begin, hear, take};
 use std::alloc::{AllocError, Global};
 use types::{Answer, Value};
-use validate::ValidModule;
+use validate_module::ValidModule;
 
 /// Where a thread that a spawn starts first comes to rest, or nothing where it makes more turns of its own than there is patience
 /// for, or no function is known for it.

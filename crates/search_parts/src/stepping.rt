@@ -13,7 +13,7 @@ use crate::shared::{Common, Walker};
 use search_memory::step;
 use search_walkers::wanted;
 use std::alloc::{AllocError, Global};
-use validate::ValidModule;
+use validate_module::ValidModule;
 use waiters::Queue;
 
 /// The event that thread n wants to make, if it wants one: what is shared after it, and what it makes.

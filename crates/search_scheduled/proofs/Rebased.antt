@@ -3,7 +3,7 @@ use Rattle.std.proofs.Common.{ℕ, ◌≡◌, List, sym, ◌∙◌, ap, subst}
 use Rattle.types.specs.declared.value.Value.{Value}
 use Rattle.types.specs.declared.parts.Parts.{Parts}
 use Rattle.types.specs.Limits.{most_pages}
-use Rattle.validate.specs.Pages.{HasPagesWithin}
+use Rattle.validate_module.specs.Pages.{HasPagesWithin}
 use Rattle.shared_memory.specs.Memory.{Memory}
 use Rattle.schedule_runs.specs.Runs.{Start}
 use Rattle.spawn_host.specs.Runs.{Beginning, start_by, opening_memory, opening_within}

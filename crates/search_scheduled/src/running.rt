@@ -2,7 +2,7 @@
 ghost use Rattle.std.specs.Prelude.{◌≡◌, IfOk, IfErr, OnOk};
 ghost use Rattle.types.specs.Limits.{most_pages, most_threads};
 ghost use Rattle.validate_typing.specs.Validity.{HasDistinctNames};
-ghost use Rattle.validate.specs.Pages.{HasPagesWithin};
+ghost use Rattle.validate_module.specs.Pages.{HasPagesWithin};
 ghost use Rattle.interp.specs.Threads.{meaning_in};
 ghost use Rattle.replay.specs.Runs.{IsRunOf};
 ghost use Rattle.search_scheduled.specs.Faults.{IsFaultOf};
@@ -20,7 +20,7 @@ use search_walk::Course;
 use spawn_host::Call;
 use std::alloc::{AllocError, Global};
 use types::{MOST_PAGES, MOST_THREADS, Name, Sequence};
-use validate::ValidModule;
+use validate_module::ValidModule;
 
 /// A run that was made: its record, and what it left.
 #[derive(Drop)]

@@ -17,7 +17,7 @@ use spawn_host::{Call, first_thread, spawnable_threads};
 use spawn_host_workers::RunFault;
 use std::alloc::{AllocError, Global};
 use types::MOST_SPAWNED;
-use validate::ValidModule;
+use validate_module::ValidModule;
 
 /// Threads of a module that can be spawned and that no run has started, for one run after another. A run takes 63 of them, and those
 /// that it didn't start come back: so that hardly more threads are made than are started.

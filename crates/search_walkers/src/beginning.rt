@@ -16,7 +16,7 @@ use crate::walker::Standing;
 use interp::Thread;
 use std::alloc::{AllocError, Global};
 use types::Value;
-use validate::ValidModule;
+use validate_module::ValidModule;
 
 /// Where a thread first comes to rest that calls a function of the module itself, from 0 without the imported ones, with these
 /// arguments; or nothing where it makes more turns of its own than there is patience for.

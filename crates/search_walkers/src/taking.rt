@@ -17,7 +17,7 @@ use interp::{Kept, Thread};
 use interp_trait::{Given, TakesTurns, Turn};
 use std::alloc::{AllocError, Global};
 use types::{Answer, Reply};
-use validate::ValidModule;
+use validate_module::ValidModule;
 
 /// Where a thread that runs comes to rest after it was given something, or nothing where it makes more turns of its
 /// own then than there is patience for.

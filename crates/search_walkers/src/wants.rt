@@ -16,7 +16,7 @@ use interp::{Kept, Thread};
 use interp_trait::{Given, TakesTurns, Turn};
 use std::alloc::{AllocError, Global};
 use types::{Event, Question};
-use validate::ValidModule;
+use validate_module::ValidModule;
 
 /// The event that a thread wants that runs, if it wants one.
 fn wanted_by(alloc: Global, valid: &ValidModule, kept: &Kept) -> Result<Option<Event>, AllocError>

@@ -8,7 +8,8 @@ use show_text::{Context, Unwritten};
 use std::alloc::Global;
 use std::io::{self, Write};
 use types::{Entry, Event, MOST_THREADS, Question, ValType, Value};
-use validate::ValidModule;
+use validate::operand_types;
+use validate_module::ValidModule;
 
 /// How many bytes stand in a line.
 const IN_A_LINE: usize = 16;
@@ -142,7 +143,7 @@ impl Scene<'_, '_, '_, '_, '_, '_, '_, '_, '_> {
     fn write_function<W: Write>(&self, out: &mut W, open: OpenFunction) -> Result<(), Unwritten> {
         let Place { function, instr } = open.place;
         let locals = self.valid.local_types(self.alloc, function)?;
-        let operands = self.valid.operand_types(self.alloc, function, instr)?;
+        let operands = operand_types(self.alloc, self.valid, function, instr)?;
         let spot = self.shown.code.spot(open.place);
         write!(out, "    {spot}")?;
         write_words(out, "locals", open.locals, locals.as_deref())?;

@@ -6,7 +6,7 @@ ghost use Rattle.interp.specs.Starts.{IsFunction};
 ghost use Rattle.spawn_host.specs.Entries.{Exports, IsUnknown};
 
 use types::FuncType;
-use validate::ValidModule;
+use validate_module::ValidModule;
 
 /// A function of the module itself.
 #[derive(Clone, Copy)]

@@ -13,7 +13,7 @@ use spawn_host_workers::{RunEnd, RunFault, run_all, run_alone};
 use std::alloc::Global;
 use std::sync::Wait;
 use std::thread::Threads;
-use validate::ValidModule;
+use validate_module::ValidModule;
 
 /// Runs an exported function of a module with arguments, and the threads that are spawned meanwhile, each as a real thread over
 /// the memory. Each has the budget of the call.

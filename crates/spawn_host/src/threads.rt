@@ -17,7 +17,7 @@ use interp::Thread;
 use spawn_host_workers::RunFault;
 use std::alloc::{AllocError, Global};
 use types::{MOST_FUNCTIONS, MOST_ITEMS, MOST_SPAWNED, Value};
-use validate::ValidModule;
+use validate_module::ValidModule;
 
 /// What stands in place of a spawned thread's number and argument.
 const PLACEHOLDERS: [Value; 2] = [Value::I32(0), Value::I32(0)];

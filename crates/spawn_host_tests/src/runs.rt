@@ -9,7 +9,7 @@ use std::alloc::{AllocError, Global};
 use std::sync::Wait;
 use std::thread::Threads;
 use types::{MOST_FUEL, MOST_LIMIT, Outcome, ThreadReport, Value};
-use validate::ValidModule;
+use validate_module::ValidModule;
 
 /// Over which memory, and how many entries its log takes.
 #[derive(Clone, Copy, PartialEq, Eq, Debug)]

@@ -16,7 +16,7 @@ use spawn_host_workers::RunFault;
 use std::alloc::{AllocError, Global};
 use thiserror::Error;
 use types::MOST_THREADS;
-use validate::ValidModule;
+use validate_module::ValidModule;
 
 /// Why there is no machine.
 #[derive(Clone, Copy, PartialEq, Eq, Debug, Error)]

@@ -8,7 +8,8 @@ use Rattle.types.specs.declared.parts.Parts.{Parts}
 use Rattle.validate_typing.specs.Context.{Context, context_of, in_function}
 use Rattle.validate_typing.specs.Validity.{IsValid}
 use Rattle.validate_bodies.specs.Reached.{Reached, Unreached}
-use Rattle.validate.specs.Operands.{IsOwn, HasOwnOperands, LacksOperands}
+use Rattle.validate_module.specs.Own.{IsOwn}
+use Rattle.validate.specs.Operands.{HasOwnOperands, LacksOperands}
 use Rattle.validate.proofs.TableLaws.{valid_own}
 
 -- a place of a typed body without operands

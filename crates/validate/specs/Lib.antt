@@ -1,4 +1,3 @@
 pub mod Tables
 pub mod Refusals
-pub mod Pages
 pub mod Operands

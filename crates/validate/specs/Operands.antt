@@ -1,5 +1,5 @@
--- The types of the locals of a function of a valid module, and of the operands at a place of it. Functions of the module itself are
--- counted from 0 without the imported ones.
+-- The types of the operands at a place of a function of a valid module. Functions of the module itself are counted from 0 without
+-- the imported ones.
 use Rattle.std.specs.Prelude.{◌≡◌, ◌⊎◌, ℕ, ◌≤◌, List, length, Some}
 use Rattle.std.specs.List.{slice_get}
 use Rattle.types.specs.declared.value.ValType.{ValType}
@@ -8,20 +8,7 @@ use Rattle.types.specs.declared.parts.Body.{Body}
 use Rattle.types.specs.declared.parts.Parts.{Parts}
 use Rattle.validate_typing.specs.Context.{context_of, in_function}
 use Rattle.validate_bodies.specs.Reached.{Reached, CutOff}
-
--- The function with this number has this type and this body.
-pub record IsOwn (m : Parts) (own : ℕ) (func_type : FuncType) (body : Body) : Type 0 where
-  pub index : ℕ
-  pub has_index : slice_get m.functions own ≡ Some index
-  pub has_type : slice_get m.types index ≡ Some func_type
-  pub has_body : slice_get m.bodies own ≡ Some body
-
--- Its locals have these types, the parameters first (Core specification 1.0, section 3.4.1).
-pub record HasLocals (m : Parts) (own : ℕ) (types : List ValType) : Type 0 where
-  pub func_type : FuncType
-  pub body : Body
-  pub is_own : IsOwn m own func_type body
-  pub locals : types ≡ (in_function (context_of m) func_type body).locals
+use Rattle.validate_module.specs.Own.{IsOwn}
 
 -- Before its instruction with this number its frame has operands of these types, the topmost last.
 pub record HasOwnOperands (m : Parts) (own place : ℕ) (types : List ValType) : Type 0 where

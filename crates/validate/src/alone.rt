@@ -7,7 +7,7 @@ ghost use Rattle.validate_module_rules.specs.Spaces.{IsSpacesOf};
 ghost use Rattle.validate_module_rules.specs.Exported.{HasValidBodies};
 ghost use Rattle.validate_module_rules.specs.Faults.{fault_outside};
 ghost use Rattle.validate.specs.Refusals.{IsRefusal, RefusedBodies, IsRefused};
-ghost use Rattle.validate.specs.Tables.{HasTypedFunctions};
+ghost use Rattle.validate_module.specs.Own.{HasTypedFunctions};
 
 use crate::check::table_of;
 use std::alloc::Global;

@@ -5,8 +5,9 @@
 
 mod alone;
 mod check;
-mod image;
 mod operands;
-mod valid_module;
+mod whole;
 
-pub use valid_module::{ValidModule, check_module, validate};
+pub use operands::operand_types;
+pub use validate_module::ValidModule;
+pub use whole::{check_module, validate};

@@ -5,7 +5,7 @@ use crate::modules::valid_of;
 use std::alloc::{AllocError, Global};
 use std::fmt::Write;
 use types::ValType;
-use validate::ValidModule;
+use validate::{ValidModule, operand_types};
 
 /// Writes types in brackets, or `-` for none.
 fn write_types(types: Option<&[ValType]>, given: &mut String) -> Result<(), AllocError> {
@@ -52,7 +52,7 @@ fn write_places(
 ) -> Result<(), AllocError> {
     write!(given, "function {own}, operands:")?;
     for place in 0..=size_of(valid, own) {
-        let types = valid.operand_types(alloc, own, place)?;
+        let types = operand_types(alloc, valid, own, place)?;
         write_types(types.as_deref(), given)?;
     }
     writeln!(given, "")

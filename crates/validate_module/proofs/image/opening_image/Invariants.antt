@@ -2,7 +2,7 @@ use Rattle.std.proofs.Common.{◌≡◌, ◌*◌, length, drop, replicate}
 use Rattle.std.specs.List.{fold}
 use Rattle.types.specs.Limits.{page_size}
 use Rattle.validate_typing.specs.Image.{with_segment}
-use Rattle.validate.proofs.image.opening_image.Given as goal
+use Rattle.validate_module.proofs.image.opening_image.Given as goal
 
 -- what is written so far, with the rest written over it, is the whole
 abbrev pub invariant-loop-segment : goal.invariant-loop-segment

@@ -1,7 +1,7 @@
 use Rattle.std.proofs.Common.{subst, sym}
 use Rattle.validate_typing.specs.Validity.{IsValid}
 use Rattle.validate.proofs.TableLaws.{complete_from, memory_from}
-use Rattle.validate.proofs.valid_module.check_module.Goals as goal
+use Rattle.validate.proofs.whole.check_module.Goals as goal
 
 pub returns-clause-complete : goal.returns-clause-complete
 returns-clause-complete c =

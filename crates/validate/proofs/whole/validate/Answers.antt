@@ -3,10 +3,14 @@ use Rattle.types.specs.declared.parts.Parts.{Parts}
 use Rattle.validate_module_rules.specs.Faults.{fault_outside}
 use Rattle.validate.specs.Refusals.{IsRefusal, IsRefused}
 use Rattle.validate.proofs.TableLaws.{none_has, valid_refused, memory_refused}
-use Rattle.validate.proofs.valid_module.validate.Goals as goal
+use Rattle.validate.proofs.whole.validate.Goals as goal
 
-pub returns-in-Ok-clause-outside : goal.returns-in-Ok-clause-outside
-returns-in-Ok-clause-outside c = none_has _ _
+pub returns-in_ok-new-in-Ok-clause-outside : goal.returns-in_ok-new-in-Ok-clause-outside
+returns-in_ok-new-in-Ok-clause-outside c = none_has _ _
+    (subst (λ (m : Parts). IfSome (fault_outside m) (λ _. ⊥)) c.parts.ensures.parts c.in-Ok.ensures.outside)
+
+pub returns-in_err-new-in-Ok-clause-outside : goal.returns-in_err-new-in-Ok-clause-outside
+returns-in_err-new-in-Ok-clause-outside c = none_has _ _
     (subst (λ (m : Parts). IfSome (fault_outside m) (λ _. ⊥)) c.parts.ensures.parts c.in-Ok.ensures.outside)
 
 pub returns-in-Err-clause-outside : goal.returns-in-Err-clause-outside

@@ -1,33 +1,39 @@
 //! Valid modules.
 
-ghost use Rattle.std.specs.Prelude.{◌≡◌, ◌↔◌, ℕ, ◌+◌, ◌<◌, ◌≤◌, length, Some, None, IsTrue, IfOk, IfErr, IfSome, IsErrAnd, IsOkUnless};
+ghost use Rattle.std.specs.Prelude.{◌≡◌, ◌↔◌, ℕ, ◌+◌, ◌<◌, ◌≤◌, length, Some, None, IsTrue, IfOk};
 ghost use Rattle.std.specs.Option.{MatchOption};
 ghost use Rattle.std.specs.List.{slice_get};
 ghost use Rattle.types.specs.Modules.{IsModule};
-ghost use Rattle.validate_typing.specs.Context.{imported_functions, memories_of};
 ghost use Rattle.types.specs.Limits.{most_pages};
+ghost use Rattle.validate_typing.specs.Context.{imported_functions, memories_of};
 ghost use Rattle.validate_typing.specs.Image.{opening_image, opening_pages, pages_max_of};
-ghost use Rattle.validate.specs.Pages.{HasPagesWithin};
-ghost use Rattle.validate.specs.Operands.{HasLocals, HasOwnOperands, LacksOperands};
 ghost use Rattle.validate_typing.specs.Tabled.{IsValidated, target_at};
-ghost use Rattle.validate_module_rules.specs.Exported.{IsExported};
-ghost use Rattle.validate_module_rules.specs.Faults.{fault_outside};
 ghost use Rattle.validate_flat.specs.Flattening.{all_flats};
-ghost use Rattle.validate.specs.Refusals.{IsRefusal, IsRefused};
-ghost use Rattle.validate_typing.specs.Validity.{IsValid};
-ghost use Rattle.validate_typing.specs.Faults.{fault_kind};
-ghost use Rattle.validate_typing.specs.declared.fault.Fault.TheVariants as faults;
+ghost use Rattle.validate_module_rules.specs.Exported.{IsExported};
+ghost use Rattle.validate_module.specs.Pages.{HasPagesWithin};
+ghost use Rattle.validate_module.specs.Own.{HasLocals};
 
-use crate::alone::check_alone;
-use crate::check::{Findings, check_parts, func_type};
 use crate::image::opening_image;
-use crate::operands::{local_types, operand_types};
+use crate::own::{func_type, local_types};
 use std::alloc::{AllocError, Global};
 use std::marker::Model;
-use types::{Body, FuncType, MOST_PAGES, Module, Parts, Sequence, ValType};
+use types::{Body, FuncType, Limits, MOST_PAGES, Module, Parts, Sequence, ValType};
 use validate_flat::Flat;
 use validate_module_rules::exported_function;
-use validate_typing::{Table, Target, ValidFault};
+use validate_typing::{Table, Target};
+
+/// What is found out about a valid module.
+#[derive(Drop)]
+pub struct Findings {
+    /// The table of branches of each body, in order.
+    pub tables: Vec<Table>,
+    /// The flat instructions of each body, in order.
+    pub flats: Vec<Sequence<Flat>>,
+    /// How many functions are imported.
+    pub imported: usize,
+    /// The memory, imported or not.
+    pub memory: Option<Limits>,
+}
 
 /// A valid module with the table of branches of each body. In contracts it is the module's parts and the tables' rows.
 ///
@@ -62,6 +68,21 @@ impl Model for ValidModule {
 }
 
 impl ValidModule {
+    /// The valid module that this module is, with what was found out about it. `validate` makes it so.
+    ///
+    /// # Errors
+    /// Where memory is refused.
+    pub fn new(alloc: Global, module: Module, findings: Findings) -> Result<ValidModule, AllocError>
+        requires validated { IsValidated (record { parts = «module»; tables = findings.tables.items }) }
+        requires imported { findings.imported ≡ length (imported_functions «module») }
+        requires memory { findings.memory ≡ slice_get (memories_of «module») 0 }
+        requires flats { findings.flats.items ≡ all_flats («module»).bodies findings.tables.items }
+        ensures { IfOk result (λ v. v ≡ record { parts = «module»; tables = findings.tables.items }) }
+    {
+        let checked = Box::new(alloc, Checked { module, findings })?;
+        Ok(ValidModule { checked })
+    }
+
     /// The module's parts.
     pub fn parts(&self) -> &Parts
         ensures parts { result.now ≡ self.now.parts }
@@ -197,24 +218,6 @@ impl ValidModule {
         local_types(alloc, self.parts(), own)
     }
 
-    /// The types of the operands of a function's frame before the instruction with this number, the topmost last;
-    /// functions of the module itself, from 0. `None` where there is no such instruction, and where the place can't be
-    /// reached: behind an instruction that never goes on any operands may lie (Core specification 1.0, section 3.3).
-    ///
-    /// # Errors
-    /// Where memory is refused.
-    pub fn operand_types(
-        &self,
-        alloc: Global,
-        own: usize,
-        place: usize,
-    ) -> Result<Option<Vec<ValType>>, AllocError>
-        ensures { IfOk result (λ found. MatchOption found (LacksOperands self.now.parts own place)
-            (λ types. HasOwnOperands self.now.parts own place types.items)) }
-    {
-        operand_types(alloc, self.parts(), own, place)
-    }
-
     /// The function of the module itself, from 0, that is exported by a name. None where no export has the name, or what
     /// it names isn't a function of the module itself.
     pub fn exported(&self, name: &str) -> Option<usize>
@@ -222,52 +225,4 @@ impl ValidModule {
     {
         exported_function(self.parts(), self.imported_functions(), name)
     }
-}
-
-/// The valid module that was checked.
-fn keep(alloc: Global, checked: Checked) -> Result<ValidModule, ValidFault>
-    requires validated { IsValidated (record { parts = checked.module; tables = checked.findings.tables.items }) }
-    requires imported { checked.findings.imported ≡ length (imported_functions checked.module) }
-    requires memory { checked.findings.memory ≡ slice_get (memories_of checked.module) 0 }
-    requires flats { checked.findings.flats.items ≡ all_flats checked.module.bodies checked.findings.tables.items }
-    ensures ok { IfOk result (λ v. v ≡ record { parts = checked.module; tables = checked.findings.tables.items }) }
-    ensures err { IfErr result (λ fault. fault ≡ ValidFault.OutOfMemory) }
-{
-    let checked = Box::new(alloc, checked)?;
-    Ok(ValidModule { checked })
-}
-
-/// Validates a module.
-///
-/// # Errors
-/// `ValidFault::OutOfMemory` where memory is refused. Otherwise the first fault: of the rules outside bodies in the
-/// order types, imports, types of functions, tables, memories, globals, exports, start, element segments, data segments
-/// and the entry of threads, then of the bodies in order. A fault in a body has its place: no typed body begins with
-/// the instructions up to there. A valid module is refused only where memory is.
-pub fn validate(alloc: Global, module: Module) -> Result<ValidModule, ValidFault>
-    ensures valid { IfOk result (λ v. (v.parts ≡ «module») × IsValidated v) }
-    ensures refused { IfErr result (IsRefused «module») }
-    ensures complete { IsValid «module» → IsOkUnless result ValidFault.OutOfMemory }
-    ensures memory { IfErr result (λ fault. fault_kind fault ≡ faults.OutOfMemory → fault ≡ ValidFault.OutOfMemory) }
-    ensures outside { IfSome (fault_outside «module») (λ kind. IsErrAnd result (λ fault. IsRefusal kind fault)) }
-{
-    match check_parts(alloc, module.parts()) {
-        Ok(findings) => keep(alloc, Checked { module, findings }),
-        Err(fault) => Err(fault),
-    }
-}
-
-/// Checks whether a module is valid, as `validate` does, but makes none of what a run of it wants. It has memory for the
-/// table of one body at a time.
-///
-/// # Errors
-/// Those of `validate`.
-pub fn check_module(alloc: Global, module: &Module) -> Result<(), ValidFault>
-    ensures valid { IfOk result (λ _. IsValid «module».now) }
-    ensures refused { IfErr result (IsRefused «module».now) }
-    ensures complete { IsValid «module».now → IsOkUnless result ValidFault.OutOfMemory }
-    ensures memory { IfErr result (λ fault. fault_kind fault ≡ faults.OutOfMemory → fault ≡ ValidFault.OutOfMemory) }
-    ensures outside { IfSome (fault_outside «module».now) (λ kind. IsErrAnd result (λ fault. IsRefusal kind fault)) }
-{
-    check_alone(alloc, module.parts())
 }

@@ -1,7 +1,7 @@
 use Rattle.std.proofs.Common.{◌∙◌, sym, ap}
 use Rattle.validate_module_rules.specs.Faults.{exported_in}
 use Rattle.validate_module_rules.proofs.ExportLaws.{exported_from, exported_is}
-use Rattle.validate.proofs.valid_module.ValidModule.exported.Goals as goal
+use Rattle.validate_module.proofs.valid_module.ValidModule.exported.Goals as goal
 
 pub returns : goal.returns
 returns c own =

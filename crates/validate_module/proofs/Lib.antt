@@ -1,0 +1,2 @@
+pub mod ImageLaws
+pub mod OwnLaws
