@@ -2,17 +2,24 @@
 
 use crate::changes::{Numbers, change};
 use crate::trials::{Called, Over, module_is_right, record_is_right, run};
-use std::alloc::Global;
 use std::sync::Wait;
 use std::thread::Threads;
 use test_cases::{Case, Stop, Tally, read_file};
 
-/// A module, what is called in it, and how often it is changed.
+/// A module with the title of its case, what is called in it, and how often it is changed.
 #[derive(Clone, Copy)]
 struct Example<'a> {
+    title: &'a str,
     module: &'a [u8],
     called: Called<'a>,
     times: u64,
+}
+
+/// Of what the bytes are that are changed.
+#[derive(Clone, Copy)]
+enum Changed {
+    Module,
+    Record,
 }
 
 /// How many came to which status.
@@ -53,7 +60,6 @@ impl Counts {
 fn try_fronts<R: Threads + Wait + Sync>(
     rt: &HostRuntime,
     threads: &R,
-    title: &str,
     example: Example,
     tally: &mut Tally,
 ) -> Result<Counts, Stop> {
@@ -61,52 +67,30 @@ fn try_fronts<R: Threads + Wait + Sync>(
     for length in 0..example.module.len() {
         let front = &example.module[..length];
         let status = module_is_right(threads, rt.alloc(), front, example.called)?;
-        counts.add(rt, title, status, front, tally);
+        counts.add(rt, example.title, status, front, tally);
     }
     Ok(counts)
 }
 
-/// Tries changed modules.
-fn try_modules<R: Threads + Wait + Sync>(
+/// Tries changed bytes, of a module or of a record of its run.
+fn try_changed<R: Threads + Wait + Sync>(
     rt: &HostRuntime,
     threads: &R,
-    title: &str,
     example: Example,
+    changed: Changed,
+    whole: &[u8],
     numbers: &mut Numbers,
     tally: &mut Tally,
 ) -> Result<Counts, Stop> {
     let mut counts = Counts::new();
     for _ in 0..example.times {
-        let mut module = Vec::from_slice(rt.alloc(), example.module)?;
-        change(numbers, &mut module)?;
-        let status = module_is_right(threads, rt.alloc(), &module, example.called)?;
-        counts.add(rt, title, status, &module, tally);
-    }
-    Ok(counts)
-}
-
-/// Tries changed records of a run.
-fn try_records<R: Threads + Wait + Sync>(
-    rt: &HostRuntime,
-    threads: &R,
-    title: &str,
-    example: Example,
-    numbers: &mut Numbers,
-    tally: &mut Tally,
-) -> Result<Counts, Stop> {
-    let ran = run(
-        threads,
-        rt.alloc(),
-        example.module,
-        example.called,
-        Over::Recorder,
-    )?;
-    let mut counts = Counts::new();
-    for _ in 0..example.times {
-        let mut saved = Vec::from_slice(rt.alloc(), &ran.record)?;
-        change(numbers, &mut saved)?;
-        let status = record_is_right(threads, rt.alloc(), example.module, &saved);
-        counts.add(rt, title, status, &saved, tally);
+        let mut bytes = Vec::from_slice(rt.alloc(), whole)?;
+        change(numbers, &mut bytes)?;
+        let status = match changed {
+            Changed::Module => module_is_right(threads, rt.alloc(), &bytes, example.called)?,
+            Changed::Record => record_is_right(threads, rt.alloc(), example.module, &bytes),
+        };
+        counts.add(rt, example.title, status, &bytes, tally);
     }
     Ok(counts)
 }
@@ -119,10 +103,43 @@ fn number_of(case: &Case, key: &str) -> u64 {
     }
 }
 
-/// Says how many came to which status.
-fn tell_counts(rt: &HostRuntime, title: &str, what: &str, counts: &Counts) {
-    let counts = counts.counts;
-    let _ = eprintln!(rt; "{title}: {what} by status: {counts:?}");
+/// Tries fronts, changed modules and changed records, and says how many came to which status.
+fn try_example<R: Threads + Wait + Sync>(
+    rt: &HostRuntime,
+    threads: &R,
+    example: Example,
+    seed: u64,
+    tally: &mut Tally,
+) -> Result<(), Stop> {
+    let mut numbers = Numbers::new(seed);
+    let fronts = try_fronts(rt, threads, example, tally)?.counts;
+    let whole = example.module;
+    let modules = try_changed(
+        rt,
+        threads,
+        example,
+        Changed::Module,
+        whole,
+        &mut numbers,
+        tally,
+    )?
+    .counts;
+    let ran = run(threads, rt.alloc(), whole, example.called, Over::Recorder)?;
+    let records = try_changed(
+        rt,
+        threads,
+        example,
+        Changed::Record,
+        &ran.record,
+        &mut numbers,
+        tally,
+    )?
+    .counts;
+    let title = example.title;
+    let _ = eprintln!(rt;
+        "{title}, by status: fronts {fronts:?}, modules {modules:?}, records {records:?}"
+    );
+    Ok(())
 }
 
 /// Tries each front of the module of a case, and so many changed modules and records as it says. Counts them, and prints the bytes
@@ -141,6 +158,7 @@ pub fn try_case<R: Threads + Wait + Sync>(
     };
     let module = read_file(rt, file)?;
     let example = Example {
+        title: case.title,
         module: &module,
         called: Called {
             name,
@@ -148,12 +166,5 @@ pub fn try_case<R: Threads + Wait + Sync>(
         },
         times: number_of(case, "times"),
     };
-    let mut numbers = Numbers::new(number_of(case, "seed"));
-    let fronts = try_fronts(rt, threads, case.title, example, tally)?;
-    tell_counts(rt, case.title, "fronts", &fronts);
-    let modules = try_modules(rt, threads, case.title, example, &mut numbers, tally)?;
-    tell_counts(rt, case.title, "modules", &modules);
-    let records = try_records(rt, threads, case.title, example, &mut numbers, tally)?;
-    tell_counts(rt, case.title, "records", &records);
-    Ok(())
+    try_example(rt, threads, example, number_of(case, "seed"), tally)
 }

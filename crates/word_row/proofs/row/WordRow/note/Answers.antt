@@ -1,4 +1,4 @@
-use Rattle.std.proofs.Common.{ℕ, ◌≡◌, true, false, Option, Some, None, ap, sym, subst, ◌∙◌}
+use Rattle.std.proofs.Common.{ℕ, ◌≡◌, true, false, Option, None, ap, sym, subst, ◌∙◌}
 use Rattle.types.specs.declared.event.Event.{Event}
 use Rattle.types.specs.declared.event.Reply.{Reply}
 use Rattle.shared_memory.specs.Memory.{Memory}
@@ -11,8 +11,20 @@ use Rattle.word_row_rules.specs.Rule.{Steps, caller_after}
 use Rattle.word_row_rules.proofs.Settling.{size_is_answer}
 use Rattle.word_row.specs.Rows.{HasPages}
 use Rattle.word_row.proofs.Counts.{found-HasPages, accesses-HasPages}
-use Rattle.word_row.proofs.Access.{few_pages, answered, answered_tries, shows, accesses-after, tries-after}
+use Rattle.word_row.proofs.Access.{few_pages, answered, answered_tries, Shows, shows, accesses-after, tries-after}
 use Rattle.word_row.proofs.row.WordRow.note.Goals as goal
+
+-- what the page count answers, by the row's own maximum
+told : (most max : ℕ) (event : Event) (count : ℕ) (by answer : Option Reply) → max ≡ most → by ≡ size_answer max event count → by ≡ answer
+    → size_answer most event count ≡ answer
+told most max event count by answer sized e is = ap (λ k. size_answer k event count) (sym sized) ∙ sym e ∙ is
+
+-- where it answers nothing, the note showed the history
+shown : (opening : Memory) (max : ℕ) (event : Event) (count : ℕ) (by : Option Reply) (c w : Caller) → max ≡ opening.max
+    → by ≡ size_answer max event count → by ≡ None → Steps opening false event (size_answer opening.max event count) 0 c count w
+    → Shows opening false 0 c count w
+shown opening max event count by c w sized e is s =
+    shows opening false event (size_answer opening.max event count) 0 count c w s (told opening.max max event count by None sized e is)
 
 pub by_size-requires : goal.by_size-requires
 by_size-requires g c =
@@ -26,9 +38,8 @@ returns-in-Grow-clause-outcome g c =
     let opening : Memory = g.B.Naming.opening in
     let event : Event = c.args.event in
     let count : ℕ = c.note-pages.result in
-    let none : size_answer opening.max event count ≡ None = ap (λ k. size_answer k event count)
-    (sym c.args.self.now.sized) ∙ sym c.by_size.ensures ∙ c.in_default.is in
-    let sh = shows opening false event (size_answer opening.max event count) 0 count c.args.caller.now c.note-pages.new.caller c.note-pages.ensures none in
+    let sh = shown opening _ event count _ c.args.caller.now c.note-pages.new.caller c.args.self.now.sized c.by_size.ensures c.in_default.is
+    c.note-pages.ensures in
     let w : Caller = c.note-pages.new.caller in
     let outcome = subst (λ (e : Event). Accesses true opening None w.name w.has_queue_right e w.seen
     c.exchange.new.caller.seen c.exchange.result) (sym c.in-Grow.is) c.exchange.ensures.outcome in
@@ -39,9 +50,8 @@ returns-in-Grow-clause-tries g c =
     let opening : Memory = g.B.Naming.opening in
     let event : Event = c.args.event in
     let count : ℕ = c.note-pages.result in
-    let none : size_answer opening.max event count ≡ None = ap (λ k. size_answer k event count)
-    (sym c.args.self.now.sized) ∙ sym c.by_size.ensures ∙ c.in_default.is in
-    let sh = shows opening false event (size_answer opening.max event count) 0 count c.args.caller.now c.note-pages.new.caller c.note-pages.ensures none in
+    let sh = shown opening _ event count _ c.args.caller.now c.note-pages.new.caller c.args.self.now.sized c.by_size.ensures c.in_default.is
+    c.note-pages.ensures in
     tries-after opening 0 count c.args.caller.now c.note-pages.new.caller c.exchange.new.caller.lost c.exchange.result sh c.exchange.ensures.tries
 
 -- the page count that the note found
@@ -75,9 +85,8 @@ returns g c =
     let event : Event = c.args.event in
     let count : ℕ = c.note-pages.result in
     let w : Caller = c.note-pages.new.caller in
-    let none : size_answer opening.max event count ≡ None = ap (λ k. size_answer k event count)
-    (sym c.args.self.now.sized) ∙ sym c.by_size.ensures ∙ c.in_default.is in
-    let sh = shows opening false event (size_answer opening.max event count) 0 count c.args.caller.now c.note-pages.new.caller c.note-pages.ensures none in
+    let sh = shown opening _ event count _ c.args.caller.now c.note-pages.new.caller c.args.self.now.sized c.by_size.ensures c.in_default.is
+    c.note-pages.ensures in
     record {
       name = c.touch.ensures.name ∙ ap (λ (x : Caller). x.name) sh.same;
       right = c.touch.ensures.right ∙ ap (λ (x : Caller). x.has_queue_right) sh.same;
@@ -95,8 +104,7 @@ returns-in-Some-clause-name g c =
     let opening : Memory = g.B.Naming.opening in
     let event : Event = c.args.event in
     let count : ℕ = c.note-pages.result in
-    let answer : size_answer opening.max event count ≡ Some c.in-Some.reply = ap (λ k. size_answer k event count)
-    (sym c.args.self.now.sized) ∙ sym c.by_size.ensures ∙ c.in-Some.is in
+    let answer = told opening.max _ event count _ _ c.args.self.now.sized c.by_size.ensures c.in-Some.is in
     let s = c.note-pages.ensures in
     ap (λ (x : Caller). x.name) s.list ∙ ap (λ (a : Option Reply). (caller_after false event a s.log c.args.caller.now).name) answer
 
@@ -105,9 +113,8 @@ returns-in-Grow-clause-name g c =
     let opening : Memory = g.B.Naming.opening in
     let event : Event = c.args.event in
     let count : ℕ = c.note-pages.result in
-    let none : size_answer opening.max event count ≡ None = ap (λ k. size_answer k event count)
-    (sym c.args.self.now.sized) ∙ sym c.by_size.ensures ∙ c.in_default.is in
-    let sh = shows opening false event (size_answer opening.max event count) 0 count c.args.caller.now c.note-pages.new.caller c.note-pages.ensures none in
+    let sh = shown opening _ event count _ c.args.caller.now c.note-pages.new.caller c.args.self.now.sized c.by_size.ensures c.in_default.is
+    c.note-pages.ensures in
     c.exchange.ensures.name ∙ ap (λ (x : Caller). x.name) sh.same
 
 pub returns-in-Some-clause-right : goal.returns-in-Some-clause-right
@@ -115,8 +122,7 @@ returns-in-Some-clause-right g c =
     let opening : Memory = g.B.Naming.opening in
     let event : Event = c.args.event in
     let count : ℕ = c.note-pages.result in
-    let answer : size_answer opening.max event count ≡ Some c.in-Some.reply = ap (λ k. size_answer k event count)
-    (sym c.args.self.now.sized) ∙ sym c.by_size.ensures ∙ c.in-Some.is in
+    let answer = told opening.max _ event count _ _ c.args.self.now.sized c.by_size.ensures c.in-Some.is in
     let s = c.note-pages.ensures in
     ap (λ (x : Caller). x.has_queue_right) s.list ∙ ap (λ (a : Option Reply). (caller_after false event a s.log c.args.caller.now).has_queue_right) answer
 
@@ -125,9 +131,8 @@ returns-in-Grow-clause-right g c =
     let opening : Memory = g.B.Naming.opening in
     let event : Event = c.args.event in
     let count : ℕ = c.note-pages.result in
-    let none : size_answer opening.max event count ≡ None = ap (λ k. size_answer k event count)
-    (sym c.args.self.now.sized) ∙ sym c.by_size.ensures ∙ c.in_default.is in
-    let sh = shows opening false event (size_answer opening.max event count) 0 count c.args.caller.now c.note-pages.new.caller c.note-pages.ensures none in
+    let sh = shown opening _ event count _ c.args.caller.now c.note-pages.new.caller c.args.self.now.sized c.by_size.ensures c.in_default.is
+    c.note-pages.ensures in
     c.exchange.ensures.right ∙ ap (λ (x : Caller). x.has_queue_right) sh.same
 
 pub returns-in-Some-clause-outcome : goal.returns-in-Some-clause-outcome
@@ -135,8 +140,7 @@ returns-in-Some-clause-outcome g c =
     let opening : Memory = g.B.Naming.opening in
     let event : Event = c.args.event in
     let count : ℕ = c.note-pages.result in
-    let answer : size_answer opening.max event count ≡ Some c.in-Some.reply = ap (λ k. size_answer k event count)
-    (sym c.args.self.now.sized) ∙ sym c.by_size.ensures ∙ c.in-Some.is in
+    let answer = told opening.max _ event count _ _ c.args.self.now.sized c.by_size.ensures c.in-Some.is in
     answered opening false event (size_answer opening.max event count) 0 count c.args.caller.now c.note-pages.new.caller c.in-Some.reply
     c.note-pages.ensures answer (size_is_answer opening.max event count)
 
@@ -145,8 +149,7 @@ returns-in-Some-clause-tries g c =
     let opening : Memory = g.B.Naming.opening in
     let event : Event = c.args.event in
     let count : ℕ = c.note-pages.result in
-    let answer : size_answer opening.max event count ≡ Some c.in-Some.reply = ap (λ k. size_answer k event count)
-    (sym c.args.self.now.sized) ∙ sym c.by_size.ensures ∙ c.in-Some.is in
+    let answer = told opening.max _ event count _ _ c.args.self.now.sized c.by_size.ensures c.in-Some.is in
     answered_tries opening false event (size_answer opening.max event count) 0 count c.args.caller.now c.note-pages.new.caller c.in-Some.reply
     c.note-pages.ensures answer (size_is_answer opening.max event count)
 
