@@ -13,7 +13,7 @@ use Rattle.binary_wire.specs.Faults.{refused, inside, input}
 use Rattle.binary_wire.specs.Reading.{◌>>=◌, unsigned_at, u32_within_at, end_at, block_at, sized_at, items_at, vector_at, name_at}
 use Rattle.binary_instructions.specs.Reading.{val_type_at}
 use Rattle.binary.specs.Reading.{block_within_at, body_contents_at, locals_at, groups_at, body_at, bodies_at, code_section_at, part_at, section_at}
-use Rattle.binary.specs.Reading.{code_at, contents_at, customs_at, sections_at, signatures_at, stores_at, func_type_at, memory_at, coded_at}
+use Rattle.binary.specs.Reading.{code_at, contents_at, customs_at, last_at, sections_at, signatures_at, stores_at, func_type_at, memory_at, coded_at}
 use Rattle.binary.specs.Reading.{global_at, data_at, finish_at, parts_of, limits_after_at, export_at, export_desc_at, start_at, opening_at, fixed_at, module_at}
 use Rattle.binary_wire.specs.declared.fault.Fault.TheVariants as faults
 use Rattle.types.specs.declared.parts.ExportDesc.TheVariants as exports
@@ -103,26 +103,24 @@ module _ (a v : ℕ) (below : a < 64) (small : v < 64) where
       section_at 7 most_items export_at s globals.1 >>= λ exported. start_at s exported.1 >>= λ start.
       Ok (record { tables = []; memories = memories.0; globals = globals.0; exports = exported.0; start = start.0 }, start.1))
 
+  last_read : (s : Bounds) → last_at (first_type ∷ []) (0 ∷ []) s tail_bytes
+      ≡ Ok (record { elements = []; bodies = first_body a v ∷ []; «data» = [] })
+  unfolding last_at customs_at
+  last_read s =
+      along (contents_read s) (λ r. r >>= λ contents. customs_at (length contents.1) s contents.1 >>= λ rest. finish_at s rest >>= λ whole.
+      if nat_eq 1 (length contents.0.bodies) then Ok contents.0 else Err (refused faults.CountsDiffer s rest))
+
   -- what is left to do behind each of them
   sections_read : (s : Bounds) → sections_at 46 s types_bytes ≡ Ok (first_parts a v)
-  unfolding sections_at customs_at
+  unfolding sections_at
   sections_read s =
       along (signatures_read s) (λ r. r >>= λ before. stores_at s before.1 >>= λ middle.
-      contents_at before.0.types before.0.functions s middle.1 >>= λ contents.
-      customs_at (length contents.1) s contents.1 >>= λ rest. finish_at s rest >>= λ whole.
-      if nat_eq (length before.0.functions) (length contents.0.bodies) then Ok (parts_of 46 before.0 middle.0 contents.0)
-      else Err (refused faults.CountsDiffer s rest))
-      ∙ (along (stores_read s) (λ r. r >>= λ middle. contents_at (first_type ∷ []) (0 ∷ []) s middle.1 >>= λ contents.
-      customs_at (length contents.1) s contents.1 >>= λ rest. finish_at s rest >>= λ whole.
-      if nat_eq 1 (length contents.0.bodies)
-      then Ok (parts_of 46 (record { types = first_type ∷ []; imports = []; functions = 0 ∷ [] }) middle.0 contents.0)
-      else Err (refused faults.CountsDiffer s rest))
-      ∙ along (contents_read s) (λ r. r >>= λ contents.
-      customs_at (length contents.1) s contents.1 >>= λ rest. finish_at s rest >>= λ whole.
-      if nat_eq 1 (length contents.0.bodies)
-      then Ok (parts_of 46 (record { types = first_type ∷ []; imports = []; functions = 0 ∷ [] })
-      (record { tables = []; memories = one_memory ∷ []; globals = []; exports = the_export ∷ []; start = None }) contents.0)
-      else Err (refused faults.CountsDiffer s rest)))
+      last_at before.0.types before.0.functions s middle.1 >>= λ contents. Ok (parts_of 46 before.0 middle.0 contents))
+      ∙ (along (stores_read s) (λ r. r >>= λ middle. last_at (first_type ∷ []) (0 ∷ []) s middle.1 >>= λ contents.
+      Ok (parts_of 46 (record { types = first_type ∷ []; imports = []; functions = 0 ∷ [] }) middle.0 contents))
+      ∙ along (last_read s) (λ r. r >>= λ contents.
+      Ok (parts_of 46 (record { types = first_type ∷ []; imports = []; functions = 0 ∷ [] })
+      (record { tables = []; memories = one_memory ∷ []; globals = []; exports = the_export ∷ []; start = None }) contents)))
 
   pub module_read : module_at (first_module a v) ≡ Ok (first_parts a v)
   unfolding module_at opening_at fixed_at
