@@ -58,10 +58,13 @@ fn is_imported_function(import: &Import) -> bool
 pub fn imported_functions(imports: &[Import]) -> usize
     ensures { result ≡ count_by (λ i. is_func i.desc) imports.now }
 {
-    imports
-        .iter()
-        .filter(|import| is_imported_function(import))
-        .count()
+    let mut count = 0;
+    for import in imports {
+        if is_imported_function(import) {
+            count += 1;
+        }
+    }
+    count
 }
 
 /// The parameters of the type with this index, none if there is no such type.
@@ -139,12 +142,15 @@ fn are_elements_in(elements: &[ElementSegment]) -> bool
 
 /// Whether each body has no more locals than it may have with the parameters of its function.
 fn are_bodies_in(types: &[FuncType], functions: &[u32], bodies: &[Body]) -> bool
+    requires { length functions.now ≡ length bodies.now }
     ensures { result ≡ list_all (λ f. is_body_within types.now f.0 f.1) (zip functions.now bodies.now) }
 {
-    functions
-        .iter()
-        .zip(bodies.iter())
-        .all(|(index, body)| is_body_in(types, *index, body))
+    for (i, index) in functions.iter().enumerate() {
+        if !is_body_in(types, *index, &bodies[i]) {
+            return false;
+        }
+    }
+    true
 }
 
 /// Whether each item keeps the limits on it.
