@@ -108,6 +108,12 @@ pub fn has_few_items_in(parts: &Parts) -> bool
         && parts.length as usize <= MOST_MODULE_BYTES
 }
 
+fn is_element_in(segment: &ElementSegment) -> bool
+    ensures { result ≡ nat_le (length segment.now.functions) most_functions }
+{
+    segment.functions.len() <= MOST_FUNCTIONS
+}
+
 fn are_types_in(types: &[FuncType]) -> bool
     ensures { result ≡ list_all is_type_within types.now }
 {
@@ -135,9 +141,7 @@ fn are_memories_in(memories: &[Limits]) -> bool
 fn are_elements_in(elements: &[ElementSegment]) -> bool
     ensures { result ≡ list_all (λ e. nat_le (length e.functions) most_functions) elements.now }
 {
-    elements
-        .iter()
-        .all(|segment| segment.functions.len() <= MOST_FUNCTIONS)
+    elements.iter().all(is_element_in)
 }
 
 /// Whether each body has no more locals than it may have with the parameters of its function.
