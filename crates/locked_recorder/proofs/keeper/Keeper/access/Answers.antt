@@ -1,4 +1,4 @@
-use Rattle.std.proofs.Common.{◌≡◌, ◌<◌, ◌++◌, ◌∷◌, [], true, false, ℕ, length, List, sym, ap, ◌∙◌, subst, arith, rules}
+use Rattle.std.proofs.Common.{◌≡◌, ◌<◌, ◌++◌, ◌∷◌, [], true, false, ℕ, length, List, sym, ap, ◌∙◌, subst, arith}
 use Rattle.std.specs.Prelude.{Some, vec_capacity}
 use Rattle.atomic_table.specs.Table.{Me}
 use Rattle.types.specs.declared.event.Entry.{Entry}
@@ -123,6 +123,3 @@ returns-clause-tries g c =
     let same = ap (λ (m : Me ℕ View). (caller_in m.0).lost) (seen_by g made_so) in
     same ∙ ap (λ (x : Caller). x.lost) c.seat.view_is
     ∙ never_lost c.self.inside.memory c.args.event c.step-reply.result c.args.seat.now.lost c.step-reply.ensures.reply
-
-pub returns-then-len-self : goal.returns-then-len-self
-returns-then-len-self g c = search rules

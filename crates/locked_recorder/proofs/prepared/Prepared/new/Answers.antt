@@ -23,4 +23,4 @@ returns-in_default-of_words-clause-within c = tt
 
 pub of_words-requires : goal.of_words-requires
 of_words-requires c =
-    record { log = []; words = refl; seated = seated-open 1 (opened true) (omega arith) refl refl; }
+    record { log = []; words = refl; seated = seated-open 1 (opened true) (omega arith) refl refl }
