@@ -64,11 +64,13 @@ pub fn read_reserved(reader: &mut Reader, instr: PlainInstr) -> Result<Instr, Re
     ensures keeps { reader.new.bounds ≡ reader.old.bounds }
 {
     let offset = reader.offset();
-    if reader.read_byte()? != 0x00 {
-        return Err(ReadFault::Malformed {
+    let refusal = match reader.read_byte() {
+        Ok(0x00) => return Ok(Instr::Plain(instr)),
+        Ok(_) => Refusal {
             kind: Fault::UnknownByte,
             offset,
-        });
-    }
-    Ok(Instr::Plain(instr))
+        },
+        Err(refusal) => refusal,
+    };
+    Err(refusal.into())
 }

@@ -121,36 +121,52 @@ fn is_expression_in(code: &[Instr]) -> bool
     opens.len() == 0
 }
 
+fn is_global_nested(global: &Global) -> bool
+    ensures { result ≡ is_expression global.now.init }
+{
+    is_expression_in(global.init.as_slice())
+}
+
 fn are_globals_nested(globals: &[Global]) -> bool
     ensures { result ≡ list_all (λ g. is_expression g.init) globals.now }
 {
-    globals
-        .iter()
-        .all(|global| is_expression_in(global.init.as_slice()))
+    globals.iter().all(is_global_nested)
+}
+
+fn is_element_nested(segment: &ElementSegment) -> bool
+    ensures { result ≡ is_expression segment.now.offset }
+{
+    is_expression_in(segment.offset.as_slice())
 }
 
 fn are_elements_nested(segments: &[ElementSegment]) -> bool
     ensures { result ≡ list_all (λ e. is_expression e.offset) segments.now }
 {
-    segments
-        .iter()
-        .all(|segment| is_expression_in(segment.offset.as_slice()))
+    segments.iter().all(is_element_nested)
+}
+
+fn is_datum_nested(segment: &DataSegment) -> bool
+    ensures { result ≡ is_expression segment.now.offset }
+{
+    is_expression_in(segment.offset.as_slice())
 }
 
 fn are_data_nested(segments: &[DataSegment]) -> bool
     ensures { result ≡ list_all (λ d. is_expression d.offset) segments.now }
 {
-    segments
-        .iter()
-        .all(|segment| is_expression_in(segment.offset.as_slice()))
+    segments.iter().all(is_datum_nested)
+}
+
+fn is_body_nested(body: &Body) -> bool
+    ensures { result ≡ is_expression body.now.code }
+{
+    is_expression_in(body.code.as_slice())
 }
 
 fn are_bodies_nested(bodies: &[Body]) -> bool
     ensures { result ≡ list_all (λ b. is_expression b.code) bodies.now }
 {
-    bodies
-        .iter()
-        .all(|body| is_expression_in(body.code.as_slice()))
+    bodies.iter().all(is_body_nested)
 }
 
 /// Whether all expressions are nested blocks with a final end.

@@ -101,27 +101,6 @@ impl Labels {
     }
 }
 
-/// Equal labels in equal number.
-impl PartialEq for Labels {
-    ghost use Rattle.std.specs.Prelude.{nat_eq};
-    ghost use Rattle.std.specs.Cmp.{partial_equiv_from_equiv};
-    ghost use Rattle.std.specs.Cmp.Lexicographic.{pointwise, nat_list_eq_equiv};
-
-    ghost eq = { λ x y. pointwise nat_eq x y };
-
-    ghost laws = { partial_equiv_from_equiv nat_list_eq_equiv };
-
-    fn eq(&self, other: &Self) -> bool {
-        self.as_slice() == other.as_slice()
-    }
-}
-
-impl Eq for Labels {
-    ghost use Rattle.std.specs.Cmp.Lexicographic.{nat_list_eq_equiv};
-
-    ghost laws = { nat_list_eq_equiv };
-}
-
 /// A name: a text in UTF-8 (Core specification 1.0, section 2.2.4). In contracts it is the list of its bytes.
 #[derive(Drop)]
 pub struct Name {

@@ -58,10 +58,13 @@ fn is_imported_function(import: &Import) -> bool
 pub fn imported_functions(imports: &[Import]) -> usize
     ensures { result ≡ count_by (λ i. is_func i.desc) imports.now }
 {
-    imports
-        .iter()
-        .filter(|import| is_imported_function(import))
-        .count()
+    let mut count = 0;
+    for import in imports {
+        if is_imported_function(import) {
+            count += 1;
+        }
+    }
+    count
 }
 
 /// The parameters of the type with this index, none if there is no such type.
@@ -105,6 +108,12 @@ pub fn has_few_items_in(parts: &Parts) -> bool
         && parts.length as usize <= MOST_MODULE_BYTES
 }
 
+fn is_element_in(segment: &ElementSegment) -> bool
+    ensures { result ≡ nat_le (length segment.now.functions) most_functions }
+{
+    segment.functions.len() <= MOST_FUNCTIONS
+}
+
 fn are_types_in(types: &[FuncType]) -> bool
     ensures { result ≡ list_all is_type_within types.now }
 {
@@ -132,19 +141,20 @@ fn are_memories_in(memories: &[Limits]) -> bool
 fn are_elements_in(elements: &[ElementSegment]) -> bool
     ensures { result ≡ list_all (λ e. nat_le (length e.functions) most_functions) elements.now }
 {
-    elements
-        .iter()
-        .all(|segment| segment.functions.len() <= MOST_FUNCTIONS)
+    elements.iter().all(is_element_in)
 }
 
 /// Whether each body has no more locals than it may have with the parameters of its function.
 fn are_bodies_in(types: &[FuncType], functions: &[u32], bodies: &[Body]) -> bool
+    requires { length functions.now ≡ length bodies.now }
     ensures { result ≡ list_all (λ f. is_body_within types.now f.0 f.1) (zip functions.now bodies.now) }
 {
-    functions
-        .iter()
-        .zip(bodies.iter())
-        .all(|(index, body)| is_body_in(types, *index, body))
+    for (i, index) in functions.iter().enumerate() {
+        if !is_body_in(types, *index, &bodies[i]) {
+            return false;
+        }
+    }
+    true
 }
 
 /// Whether each item keeps the limits on it.
