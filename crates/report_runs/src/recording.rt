@@ -1,5 +1,5 @@
 //! A run over the memory that records.
-ghost use Rattle.std.specs.Prelude.{◌≡◌, ◌≤◌, ◌+◌, ◌++◌, ℕ, List, [], length, vec_len, vec_capacity, IfOk, IfErr};
+ghost use Rattle.std.specs.Prelude.{◌≡◌, ◌≤◌, ◌+◌, ◌++◌, ℕ, List, [], length, vec_len, vec_capacity, IfOk, OnOk, IfErr};
 ghost use Rattle.types.specs.declared.value.Value.{Value};
 ghost use Rattle.types.specs.Limits.{most_threads, most_limit, most_fuel};
 ghost use Rattle.spawn_host.specs.Runs.{opening_memory};
@@ -9,6 +9,9 @@ ghost use Rattle.report_runs.specs.FaultNumbers.{record_run_fault_number};
 ghost use Rattle.report_runs.specs.RunFaults.{IsRecordingFault};
 ghost use Rattle.report_runs.specs.declared.recording.RecordRunFault.TheVariants as faults;
 ghost use Rattle.spawn_host.specs.Entries.{Takes};
+ghost use Rattle.spawn_host.specs.Faults.{IsFaultOf};
+ghost use Rattle.replay_text.specs.Text.{IsRecord};
+ghost use Rattle.replay_rules.specs.Ranges.{AreTyped};
 
 use crate::fitting::{show_memory_opens, show_module_fits, show_parts_fit};
 use interp_trait::Gate;
@@ -119,11 +122,33 @@ where
         return Err(RecordRunFault::Open(OpenFault::PastLimit));
     }
     show_module_fits(module);
-    // Before the memory takes room, so that a call that can't be made is told as such.
-    let _ = first_thread(alloc, module, call)?;
-    let (parts, end) = run_recorded(rt, alloc, module, call, limit, gate)?;
+    if let Err(fault) = check_call(alloc, module, call) {
+        return Err(RecordRunFault::Run(fault));
+    }
+    match run_recorded(rt, alloc, module, call, limit, gate) {
+        Ok((parts, end)) => Ok((record_of(parts), end)),
+        Err(fault) => Err(fault),
+    }
+}
+
+/// Looks whether the call can be made, before a memory takes room, so that one that can't be is told as such.
+pub(crate) fn check_call(alloc: Global, module: &ValidModule, call: Call) -> Result<(), RunFault>
+    ensures takes { OnOk result (Takes «module».now.parts call.entry.name.now call.entry.args.now) }
+    ensures fault { IfErr result (λ fault. IsFaultOf «module».now.parts call.entry.name.now call.entry.args.now fault) }
+{
+    match first_thread(alloc, module, call) {
+        Ok(_) => Ok(()),
+        Err(fault) => Err(fault),
+    }
+}
+
+/// The record of a run's parts, which are in range.
+fn record_of(parts: RecordParts) -> Record
+    requires { AreTyped parts → IsRecord parts }
+    ensures { result ≡ parts }
+{
     match Record::new(parts) {
-        Ok(record) => Ok((record, end)),
+        Ok(record) => record,
         Err(parts) => {
             // Never: this shows that the parts are in range.
             show_parts_fit(&parts);
@@ -150,7 +175,9 @@ where
         limit r.0 r.1) }
     ensures fault { IfErr result (λ fault. IsRecordingFault «module».now.parts call.entry.name.now call.entry.args.now limit fault) }
 {
-    let header = header_of(alloc, call)?;
+    let Ok(header) = header_of(alloc, call) else {
+        return Err(RecordRunFault::NoMemory);
+    };
     let prepared = match prepare(alloc, module, limit) {
         Ok(prepared) => prepared,
         Err(fault) => {
@@ -169,9 +196,15 @@ fn header_of(alloc: Global, call: Call) -> Result<Header, AllocError>
     ensures ends { IfOk result (λ h. h.ends.items ≡ []) }
     ensures room { IfOk result (λ h. most_threads ≤ vec_capacity h.ends) }
 {
-    let invoke = String::from_str(alloc, call.name)?;
-    let args = Vec::from_slice(alloc, call.args)?;
-    let ends = Vec::with_capacity(alloc, MOST_THREADS)?;
+    let Ok(invoke) = String::from_str(alloc, call.name) else {
+        return Err(AllocError);
+    };
+    let Ok(args) = Vec::from_slice(alloc, call.args) else {
+        return Err(AllocError);
+    };
+    let Ok(ends) = Vec::with_capacity(alloc, MOST_THREADS) else {
+        return Err(AllocError);
+    };
     Ok(Header {
         invoke: Name::from_string(invoke),
         args: Sequence::from_vec(args),
@@ -189,9 +222,13 @@ fn prepare(alloc: Global, module: &ValidModule, limit: u32) -> Result<Prepared, 
         → IsRecordingFault «module».now.parts name args limit fault) }
 {
     show_memory_opens(module);
-    let image = module.image(alloc)?;
-    let prepared = Prepared::new(alloc, &image, module.pages_max(), limit)?;
-    Ok(prepared)
+    let Ok(image) = module.image(alloc) else {
+        return Err(RecordRunFault::NoMemory);
+    };
+    match Prepared::new(alloc, &image, module.pages_max(), limit) {
+        Ok(prepared) => Ok(prepared),
+        Err(fault) => Err(RecordRunFault::Open(fault)),
+    }
 }
 
 /// The same, over a recorder whose type has been named.
@@ -220,7 +257,10 @@ where
     ensures made { IfOk result (λ r. RecordsRun «module».now.parts header.invoke header.args header.fuel limit r.0 r.1) }
     ensures fault { IfErr result (λ fault. IsRecordingFault «module».now.parts header.invoke header.args limit fault) }
 {
-    let (memory, seats) = LockedRecorder::<B, &R>::open(alloc, rt, prepared)?;
+    let Ok((memory, seats)) = LockedRecorder::<B, &R>::open(alloc, rt, prepared) else {
+        drop(header);
+        return Err(RecordRunFault::Open(OpenFault::NoMemory));
+    };
     let call = Call {
         name: header.invoke.as_str(),
         args: header.args.as_slice(),

@@ -1,5 +1,6 @@
 //! A run over the row of words.
-ghost use Rattle.std.specs.Prelude.{◌≡◌, ◌≤◌, ◌*◌, [], length, vec_capacity, IfOk, IfErr};
+ghost use Rattle.std.specs.Prelude.{◌≡◌, ◌≤◌, ◌*◌, ℕ, List, [], length, vec_capacity, IfOk, IfErr};
+ghost use Rattle.types.specs.declared.value.Value.{Value};
 ghost use Rattle.types.specs.Limits.{page_size};
 ghost use Rattle.spawn_host.specs.Entries.{Takes};
 ghost use Rattle.spawn_host.specs.Runs.{opening_memory};
@@ -7,10 +8,11 @@ ghost use Rattle.replay.specs.RunEnds.{EndsRunOnWords};
 ghost use Rattle.report_runs.specs.RunFaults.{IsWordsFault};
 
 use crate::fitting::show_memory_opens;
-use crate::recording::RecordRunFault;
+use crate::recording::{RecordRunFault, check_call};
 use interp_trait::Gate;
 use replay::EndState;
-use spawn_host::{Call, first_thread, run};
+use shared_memory_sequential::OpenFault;
+use spawn_host::{Call, run};
 use std::alloc::Global;
 use std::marker::Brand;
 use std::sync::Wait;
@@ -43,13 +45,19 @@ where
     ensures end { IfOk result (λ end. EndsRunOnWords «module».now.parts call.entry.name.now call.entry.args.now call.entry.fuel end) }
     ensures fault { IfErr result (λ fault. IsWordsFault «module».now.parts call.entry.name.now call.entry.args.now fault) }
 {
-    // Before the memory takes room, so that a call that can't be made is told as such.
-    let _ = first_thread(alloc, module, call)?;
-    show_memory_opens(module);
-    let bytes = Vec::with_capacity(alloc, PAGE_SIZE * module.pages_max() as usize)?;
-    let image = module.image(alloc)?;
-    let prepared = Prepared::new(alloc, &image, module.pages_max())?;
-    run_named::<Brand, _, _>(rt, alloc, module, prepared, bytes, call, gate)
+    if let Err(fault) = check_call(alloc, module, call) {
+        return Err(RecordRunFault::Run(fault));
+    }
+    let Ok(bytes) = Vec::with_capacity(alloc, PAGE_SIZE * module.pages_max() as usize) else {
+        return Err(RecordRunFault::NoMemory);
+    };
+    match prepare(alloc, module) {
+        Ok(prepared) => { run_named::<Brand, _, _>(rt, alloc, module, prepared, bytes, call, gate) }
+        Err(fault) => {
+            drop(bytes);
+            Err(fault)
+        }
+    }
 }
 
 /// The same, over a row whose type has been named.
@@ -75,8 +83,13 @@ where
     ensures end { IfOk result (λ end. EndsRunOnWords «module».now.parts call.entry.name.now call.entry.args.now call.entry.fuel end) }
     ensures fault { IfErr result (λ fault. IsWordsFault «module».now.parts call.entry.name.now call.entry.args.now fault) }
 {
-    let (memory, seats) = WordRow::<B>::open(alloc, prepared)?;
-    let end = run(rt, alloc, module, call, &memory, seats, gate)?;
+    let Ok((memory, seats)) = WordRow::<B>::open(alloc, prepared) else {
+        return Err(RecordRunFault::Open(OpenFault::NoMemory));
+    };
+    let end = match run(rt, alloc, module, call, &memory, seats, gate) {
+        Ok(end) => end,
+        Err(fault) => return Err(RecordRunFault::Run(fault)),
+    };
     let closed = memory.close(end.seats);
     let pages = closed.pages();
     copy_bytes(&closed, &mut bytes);
@@ -85,6 +98,22 @@ where
         pages,
         bytes,
     })
+}
+
+/// What a row of words is made of, where it is the module's.
+fn prepare(alloc: Global, module: &ValidModule) -> Result<Prepared, RecordRunFault>
+    ensures opening { IfOk result (λ p. p.opening ≡ opening_memory «module».now.parts) }
+    ensures fault { IfErr result (λ fault. (name : List ℕ) (args : List Value) → Takes «module».now.parts name args
+        → IsWordsFault «module».now.parts name args fault) }
+{
+    show_memory_opens(module);
+    let Ok(image) = module.image(alloc) else {
+        return Err(RecordRunFault::NoMemory);
+    };
+    match Prepared::new(alloc, &image, module.pages_max()) {
+        Ok(prepared) => Ok(prepared),
+        Err(fault) => Err(RecordRunFault::Open(fault)),
+    }
 }
 
 /// Copies the bytes of a closed row into the room that was kept for them.

@@ -12,23 +12,23 @@ use Rattle.report_runs.proofs.recording.record_named.Goals as goal
 
 pub run-requires-clause-len : goal.run-requires-clause-len
 run-requires-clause-len g c κs within =
-    let many = seat_many (λ s. s.caller) c.in_ok-memory.seats.items c.in_ok-memory.ensures.seats in
-    let long = c.in_ok-memory.seats.ok in
+    let many = seat_many (λ s. s.caller) c.in-Ok.seats.items c.in-Ok.ensures.seats in
+    let long = c.in-Ok.seats.ok in
     omega arith
 
 pub run-requires-clause-names : goal.run-requires-clause-names
-run-requires-clause-names g c κs within = λ k d less. seat_name (λ s. s.caller) c.in_ok-memory.seats.items c.in_ok-memory.ensures.seats k d less
+run-requires-clause-names g c κs within = λ k d less. seat_name (λ s. s.caller) c.in-Ok.seats.items c.in-Ok.ensures.seats k d less
 
 pub run-requires-clause-new : goal.run-requires-clause-new
-run-requires-clause-new g c κs within = λ k d less. seat_new (λ s. s.caller) c.in_ok-memory.seats.items c.in_ok-memory.ensures.seats k d less
+run-requires-clause-new g c κs within = λ k d less. seat_new (λ s. s.caller) c.in-Ok.seats.items c.in-Ok.ensures.seats k d less
 
 pub run-requires-clause-right : goal.run-requires-clause-right
-run-requires-clause-right g c κs within = λ d. seat_right (λ s. s.caller) c.in_ok-memory.seats.items c.in_ok-memory.ensures.seats d
+run-requires-clause-right g c κs within = λ d. seat_right (λ s. s.caller) c.in-Ok.seats.items c.in-Ok.ensures.seats d
 
 pub copy_reports-requires : goal.copy_reports-requires
 copy_reports-requires g c =
-    let few = few_reports _ _ _ _ _ c.in-Ok.end.threads.items c.in-Ok.end.seats.items c.in-Ok.ensures.run in
-    let same : length c.deref.result.now ≡ length c.in-Ok.end.threads.items = ap length c.deref.ensures.value in
+    let few = few_reports _ _ _ _ _ c.in-Ok-run.end.threads.items c.in-Ok-run.end.seats.items c.in-Ok-run.ensures.run in
+    let same : length c.deref.result.now ≡ length c.in-Ok-run.end.threads.items = ap length c.deref.ensures.value in
     let none : length c.args.header.ends.items ≡ 0 = ap length c.requires.ends in
     let long = c.args.header.ends.ok in
     let room = c.requires.room in
@@ -63,8 +63,8 @@ returns-clause-made g c =
       ends_run =
           the_same c.args.module.now.parts c.args.header.fuel false _ _ _ _ _ _ _ log c.from_vec.result c.as_str.ensures
           c.as_slice.ensures (ap Some c.requires.bound) (sym c.from_vec.ensures)
-          (leaves (λ s. s.caller) (λ s. Begins s.caller log) _ _ _ _ _ _ _ c.in-Ok.end.seats.items log _
-          c.in-Ok.ensures.run c.finish-finished.ensures.record.others
+          (leaves (λ s. s.caller) (λ s. Begins s.caller log) _ _ _ _ _ _ _ c.in-Ok-run.end.seats.items log _
+          c.in-Ok-run.ensures.run c.finish-finished.ensures.record.others
           (λ s b. (b.begins, b.own)) c.finish-finished.ensures.seats
           (c.finish-finished.ensures.record.pages_after ∙ ap (λ (o : Memory). pages (memory_after o log)) c.requires.image)
           (c.finish-finished.ensures.record.bytes_after ∙ ap (λ (o : Memory). (memory_after o log).bytes) c.requires.image));

@@ -10,7 +10,7 @@ returns-in-Err-clause-fault g c = c.in-Err.ensures.fault c.args.call.name.now c.
 pub returns-clause-fault : goal.returns-clause-fault
 returns-clause-fault g c =
     let m = c.args.module.now.parts in
-    let header = c.in_ok-header.ensures in
+    let header = c.in-Ok.ensures in
     subst (λ (n : List ℕ). IfErr c.record_named.result (λ f. IsRecordingFault m n c.args.call.args.now c.args.limit f)) header.invoke
-    (subst (λ (a : List Value). IfErr c.record_named.result (λ f. IsRecordingFault m c.in_ok-header.header.invoke a c.args.limit f)) header.args
+    (subst (λ (a : List Value). IfErr c.record_named.result (λ f. IsRecordingFault m c.in-Ok.header.invoke a c.args.limit f)) header.args
     c.record_named.ensures.fault)

@@ -1,5 +1,4 @@
 use Rattle.std.proofs.Common.{◌∙◌, ap, arith}
-use Rattle.std.proofs.lemmas.Result.{err_from_is_err_and}
 use Rattle.shared_memory.specs.Memory.{Memory, pages}
 use Rattle.shared_memory.specs.History.{memory_after}
 use Rattle.shared_memory_on_table.specs.Callers.{GoesOn}
@@ -10,19 +9,19 @@ use Rattle.replay.proofs.Openable.{max_kept}
 use Rattle.report_runs.proofs.words.run_named.Goals as goal
 
 pub run-requires-clause-right : goal.run-requires-clause-right
-run-requires-clause-right g c κs within = λ d. seat_right (λ s. s.caller) c.in_ok-memory.seats.items c.in_ok-memory.ensures.seats d
+run-requires-clause-right g c κs within = λ d. seat_right (λ s. s.caller) c.in-Ok.seats.items c.in-Ok.ensures.seats d
 
 pub run-requires-clause-len : goal.run-requires-clause-len
 run-requires-clause-len g c κs within =
-    let many = seat_many (λ s. s.caller) c.in_ok-memory.seats.items c.in_ok-memory.ensures.seats in
-    let long = c.in_ok-memory.seats.ok in
+    let many = seat_many (λ s. s.caller) c.in-Ok.seats.items c.in-Ok.ensures.seats in
+    let long = c.in-Ok.seats.ok in
     omega arith
 
 pub run-requires-clause-names : goal.run-requires-clause-names
-run-requires-clause-names g c κs within = λ k d less. seat_name (λ s. s.caller) c.in_ok-memory.seats.items c.in_ok-memory.ensures.seats k d less
+run-requires-clause-names g c κs within = λ k d less. seat_name (λ s. s.caller) c.in-Ok.seats.items c.in-Ok.ensures.seats k d less
 
 pub run-requires-clause-new : goal.run-requires-clause-new
-run-requires-clause-new g c κs within = λ k d less. seat_new (λ s. s.caller) c.in_ok-memory.seats.items c.in_ok-memory.ensures.seats k d less
+run-requires-clause-new g c κs within = λ k d less. seat_new (λ s. s.caller) c.in-Ok.seats.items c.in-Ok.ensures.seats k d less
 
 pub copy_bytes-requires-clause-room : goal.copy_bytes-requires-clause-room
 copy_bytes-requires-clause-room g c =
@@ -33,17 +32,12 @@ copy_bytes-requires-clause-room g c =
     let room = c.requires.room in
     omega (arith, same, within, room)
 
-pub returns-in_err-end-clause-fault : goal.returns-in_err-end-clause-fault
-returns-in_err-end-clause-fault g c =
-    let p = err_from_is_err_and c.from_residual-in_err-end.result c.from_residual-in_err-end.ensures.1 in
-    rw (p.1, p.2) c.in_err-end.ensures.fault
-
 pub returns-clause-end : goal.returns-clause-end
 returns-clause-end g c =
     let close = c.close-closed.ensures in (
       close.0,
-      leaves (λ s. s.caller) (λ s. GoesOn s.caller close.0) _ _ _ _ _ _ _ c.in_ok-end.end.seats.items close.0 _
-          c.in_ok-end.ensures.run (λ n large. of_no_seat close.0 n close.2.entries large)
+      leaves (λ s. s.caller) (λ s. GoesOn s.caller close.0) _ _ _ _ _ _ _ c.in-Ok-run.end.seats.items close.0 _
+          c.in-Ok-run.ensures.run (λ n large. of_no_seat close.0 n close.2.entries large)
           (λ s x. went_on s.caller close.0 x) close.1
           (c.pages-pages.ensures.count ∙ ap pages close.3 ∙ ap (λ (o : Memory). pages (memory_after o close.0)) c.requires.image)
           (c.copy_bytes.ensures ∙ ap (λ (m : Memory). m.bytes) close.3 ∙ ap (λ (o : Memory). (memory_after o close.0).bytes) c.requires.image),
