@@ -196,15 +196,9 @@ fn header_of(alloc: Global, call: Call) -> Result<Header, AllocError>
     ensures ends { IfOk result (λ h. h.ends.items ≡ []) }
     ensures room { IfOk result (λ h. most_threads ≤ vec_capacity h.ends) }
 {
-    let Ok(invoke) = String::from_str(alloc, call.name) else {
-        return Err(AllocError);
-    };
-    let Ok(args) = Vec::from_slice(alloc, call.args) else {
-        return Err(AllocError);
-    };
-    let Ok(ends) = Vec::with_capacity(alloc, MOST_THREADS) else {
-        return Err(AllocError);
-    };
+    let invoke = String::from_str(alloc, call.name)?;
+    let args = Vec::from_slice(alloc, call.args)?;
+    let ends = Vec::with_capacity(alloc, MOST_THREADS)?;
     Ok(Header {
         invoke: Name::from_string(invoke),
         args: Sequence::from_vec(args),
