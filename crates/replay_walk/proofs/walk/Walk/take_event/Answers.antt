@@ -10,6 +10,7 @@ use Rattle.interp_trait.specs.declared.turn.Turn.{Turn}
 use Rattle.interp_trait.specs.declared.turn.Turn.TheVariants as turns
 use Rattle.replay_walk.specs.Standing.{Says}
 use Rattle.replay_walk.specs.Walked.{IsRefused}
+use Rattle.replay_walk.proofs.Apart.{isnt_true, same_wanted}
 use Rattle.replay_walk.proofs.Acts.{event_act, answered}
 use Rattle.replay_walk.proofs.Settled.{within, ready, settled}
 use Rattle.replay_walk.proofs.Watched.{wants_at}
@@ -74,7 +75,7 @@ returns-then-not-is_same_event-clause-refused g c = λ no s st same.
     (refused_other g.T.TakesTurns.meaning s c.args.self.now.threads.items c.args.self.now.stage.queue
     c.args.self.now.stage.started c.args.self.now.stage.ends st c.args.entry.now.thread c.args.limit
     c.args.at going c.settle_at-turn.result c.settle_at-turn.new.threads d c.args.entry.now.event c.args.entry.now.reply c.requires.kind
-    (λ is. let apart : c.in-Wants.wanted ≡ c.args.entry.now.event = cc (is, c.in-Wants.is) in c.is_same_event.ensures.other c.if-not-is_same_event.true apart))
+    (λ is. let apart : c.in-Wants.wanted ≡ c.args.entry.now.event = same_wanted c.in-Wants.is is in c.is_same_event.ensures.other c.if-not-is_same_event.true apart))
 
 pub show_event-requires-clause-within : goal.show_event-requires-clause-within
 show_event-requires-clause-within g c =
@@ -155,13 +156,13 @@ returns-clause-refused g c = λ no s st same.
     (λ is. c.make.ensures.refused no (is ∙ ap (λ (m : Memory). reply_of m c.args.entry.now.event) same)))
 
 pub returns-then-at-limit-clause-taken : goal.returns-then-at-limit-clause-taken
-returns-then-at-limit-clause-taken g c = λ yes. absurd (cc yes)
+returns-then-at-limit-clause-taken g c = λ yes. isnt_true yes
 
 pub returns-in_default-clause-taken : goal.returns-in_default-clause-taken
-returns-in_default-clause-taken g c = λ yes. absurd (cc yes)
+returns-in_default-clause-taken g c = λ yes. isnt_true yes
 
 pub returns-then-not-is_same_event-clause-taken : goal.returns-then-not-is_same_event-clause-taken
-returns-then-not-is_same_event-clause-taken g c = λ yes. absurd (cc yes)
+returns-then-not-is_same_event-clause-taken g c = λ yes. isnt_true yes
 
 pub returns-in_default-clause-count : goal.returns-in_default-clause-count
 returns-in_default-clause-count g c = count_back c.settle_at-turn.new.threads c.as_mut_slice-threads.result.now _ _ _
