@@ -53,8 +53,7 @@ where
     R: Wait + Sync,
     requires new { entries_of (M.name seat) (M.seen seat) ≡ [] }
     requires begins { MayBeSpawned (T.meaning thread) }
-    ensures duty { IfOk result (λ handle. IsDuty memory.now thread seat handle) }
-    ensures fault { IfErr result (λ fault. IsOfSystem fault) }
+    ensures { MatchResult result (λ handle. IsDuty memory.now thread seat handle) IsOfSystem }
 {
     let duty = Duty {
         memory: Snapshot::of(memory),
@@ -95,9 +94,8 @@ where
     requires len { vec_len threads ≡ vec_len seats }
     requires new { All (λ (s : M.Seat). entries_of (M.name s) (M.seen s) ≡ []) seats.items }
     requires begins { All (λ (t : T). MayBeSpawned (T.meaning t)) threads.items }
-    ensures duties { IfOk result (λ handles. AllThree (IsDuty memory.now) threads.items seats.items handles.items) }
-    ensures len { IfOk result (λ handles. vec_len handles ≡ vec_len seats) }
-    ensures fault { IfErr result (λ fault. IsOfSystem fault) }
+    ensures { MatchResult result (λ handles. AllThree (IsDuty memory.now) threads.items seats.items handles.items
+        × (vec_len handles ≡ vec_len seats)) IsOfSystem }
 {
     let Ok(mut handles) = Vec::with_capacity(alloc, seats.len()) else {
         return Err(RunFault::NoMemory);
@@ -107,8 +105,10 @@ where
         let Some(thread) = threads.next() else {
             unreachable!()
         };
-        let handle = start_worker(scope, rt, thread, memory, seat, desk, gate)?;
-        handles.push_reserved(handle);
+        match start_worker(scope, rt, thread, memory, seat, desk, gate) {
+            Ok(handle) => handles.push_reserved(handle),
+            Err(fault) => return Err(fault),
+        }
     }
     Ok(handles)
 }

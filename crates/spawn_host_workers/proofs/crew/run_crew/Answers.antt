@@ -9,7 +9,7 @@ returns g c =
     crew_of m t.meaning c.args.memory.now c.args.first c.args.seat c.args.threads.items c.args.seats.items
     c.in-Ok-start_workers.handles.items c.lead.result _ _ c.lead.ensures (c.push_reserved.ensures.items
     ∙ ap (λ w. w ++ c.lead.result ∷ []) c.in-Ok.ensures.items)
-    c.in-Ok-start_workers.ensures.duties c.join_all.ensures
+    c.in-Ok-start_workers.ensures.0 c.join_all.ensures
 
 pub start_workers-requires-clause-len : goal.start_workers-requires-clause-len
 start_workers-requires-clause-len g c κs within = c.args.threads.ok.0 ∙ (c.requires.start.len ∙ sym c.args.seats.ok.0)
@@ -33,4 +33,4 @@ pub returns-in_default : goal.returns-in_default
 returns-in_default g c = tt
 
 pub returns-in-Err : goal.returns-in-Err
-returns-in-Err g c = c.in-Err.ensures.fault
+returns-in-Err g c = c.in-Err.ensures

@@ -1,4 +1,5 @@
 use Rattle.std.proofs.Common.{arith, ap, refl, sym, ◌∙◌, ◌≡◌, vec_len}
+use Rattle.std.proofs.lemmas.Result.{err_from_is_err_and, IfOk-from_err}
 use Rattle.shared_memory.specs.History.{entries_of, of_queue}
 use Rattle.types.specs.Limits.{most_threads, desk_name}
 use Rattle.spawn_host_workers.specs.OverMemory.{over}
@@ -82,3 +83,22 @@ returns-in_default-with_capacity-clause-composed g c = tt
 
 pub returns-clause-fault : goal.returns-clause-fault
 returns-clause-fault g c = tt
+
+pub deal-seat-requires : goal.deal-seat-requires
+deal-seat-requires g c = c.requires.len
+
+pub bring_home-requires-clause-empty : goal.bring_home-requires-clause-empty
+bring_home-requires-clause-empty g c κs within = (c.in-Ok.ensures.items, c.in-Ok-with_capacity.ensures.items)
+
+pub returns-in_default-clause-fault : goal.returns-in_default-clause-fault
+returns-in_default-clause-fault g c = tt
+
+pub returns-in_default-with_capacity-clause-fault : goal.returns-in_default-with_capacity-clause-fault
+returns-in_default-with_capacity-clause-fault g c = tt
+
+pub returns-in_err-ends-clause-fault : goal.returns-in_err-ends-clause-fault
+returns-in_err-ends-clause-fault g c =
+    let p = err_from_is_err_and c.from_residual.result c.from_residual.ensures.1 in rw (p.1, p.2) c.in_err-ends.ensures
+
+pub returns-in_err-ends-clause-composed : goal.returns-in_err-ends-clause-composed
+returns-in_err-ends-clause-composed g c = IfOk-from_err _ _ c.from_residual.ensures.0
