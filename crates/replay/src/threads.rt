@@ -26,7 +26,7 @@ pub(crate) fn threads_of<'m>(
     led_by(first, others_of(alloc, module, parts.fuel))
 }
 
-/// One behind which the others stand.
+/// The first thread and the others behind it, if there was memory for them.
 fn led_by<T: Drop>(first: T, others: Result<Vec<T>, AllocError>) -> Result<Vec<T>, ReplayFault>
     ensures threads { IfOk result (λ threads. IsOkAnd others (λ rest. threads.items ≡ first ∷ rest.items)) }
     ensures fault { IfErr result (λ fault. fault ≡ ReplayFault.NoMemory) }

@@ -149,9 +149,13 @@ where
         desk,
     } = deal(seats);
     let desk = Desk::open(rt, memory, desk);
-    let ends = run_threads(
+    match run_threads(
         rt, alloc, first, spawned, memory, seat, workers, &desk, gate,
-    )?;
-    let hub = desk.close();
-    Ok(bring_home(memory, ends, hub, reports, home))
+    ) {
+        Ok(ends) => {
+            let hub = desk.close();
+            Ok(bring_home(memory, ends, hub, reports, home))
+        }
+        Err(fault) => Err(fault),
+    }
 }

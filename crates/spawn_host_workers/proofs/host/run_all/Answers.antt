@@ -1,5 +1,4 @@
 use Rattle.std.proofs.Common.{arith, ap, refl, sym, ◌∙◌, ◌≡◌, vec_len}
-use Rattle.std.proofs.lemmas.Result.{err_from_is_err_and, IfOk-from_err}
 use Rattle.shared_memory.specs.History.{entries_of, of_queue}
 use Rattle.types.specs.Limits.{most_threads, desk_name}
 use Rattle.spawn_host_workers.specs.OverMemory.{over}
@@ -50,25 +49,25 @@ pub bring_home-requires-clause-room : goal.bring_home-requires-clause-room
 bring_home-requires-clause-room g c κs within =
     let m = g.M.SharedMemory in
     let t = g.T.TakesTurns in
-    let ends = c.in_ok-ends.ends in
+    let ends = c.in-Ok-run_threads.ends in
     let count = crew_length (over m c.args.memory.now) t.meaning c.args.first c.deal-seat.result.first c.args.spawned.items
-    c.deal-seat.result.workers.items ends.items c.in_ok-ends.ensures in
+    c.deal-seat.result.workers.items ends.items c.in-Ok-run_threads.ensures in
     let here : vec_len ends ≡ most_threads = omega (arith, count, ends.ok.0, c.deal-seat.ensures.len) in (
       omega (arith, here, c.in-Ok.ensures.len, c.in-Ok.ensures.capacity),
       omega (arith, here, c.in-Ok-with_capacity.ensures.len, c.in-Ok-with_capacity.ensures.capacity),
     )
 
-pub returns-clause-composed : goal.returns-clause-composed
-returns-clause-composed g c =
+pub returns-in-Ok-run_threads-clause-composed : goal.returns-in-Ok-run_threads-clause-composed
+returns-in-Ok-run_threads-clause-composed g c =
     let m = g.M.SharedMemory in
     let t = g.T.TakesTurns in
-    let ends = c.in_ok-ends.ends in
+    let ends = c.in-Ok-run_threads.ends in
     let end = c.bring_home.result in
     let level = c.bring_home.ensures.seats in
     composed (over m c.args.memory.now) m.has_queue_right t.meaning c.args.first c.args.spawned.items
     c.args.seats.items c.deal-seat.result.first c.deal-seat.result.desk c.deal-seat.result.workers.items c.close-hub.result
     ends.items end.threads.items end.seats.items
-    c.deal-seat.ensures.parts c.deal-seat.ensures.len c.requires.names c.requires.new c.in_ok-ends.ensures c.bring_home.ensures.threads level.0
+    c.deal-seat.ensures.parts c.deal-seat.ensures.len c.requires.names c.requires.new c.in-Ok-run_threads.ensures c.bring_home.ensures.threads level.0
     (seats_of ends.items) level.1 refl
     level.2 level.3 c.close-hub.ensures.legal c.close-hub.ensures.name c.close-hub.ensures.silent
 
@@ -81,8 +80,8 @@ returns-in_default-clause-composed g c = tt
 pub returns-in_default-with_capacity-clause-composed : goal.returns-in_default-with_capacity-clause-composed
 returns-in_default-with_capacity-clause-composed g c = tt
 
-pub returns-clause-fault : goal.returns-clause-fault
-returns-clause-fault g c = tt
+pub returns-in-Ok-run_threads-clause-fault : goal.returns-in-Ok-run_threads-clause-fault
+returns-in-Ok-run_threads-clause-fault g c = tt
 
 pub deal-seat-requires : goal.deal-seat-requires
 deal-seat-requires g c = c.requires.len
@@ -96,9 +95,8 @@ returns-in_default-clause-fault g c = tt
 pub returns-in_default-with_capacity-clause-fault : goal.returns-in_default-with_capacity-clause-fault
 returns-in_default-with_capacity-clause-fault g c = tt
 
-pub returns-in_err-ends-clause-fault : goal.returns-in_err-ends-clause-fault
-returns-in_err-ends-clause-fault g c =
-    let p = err_from_is_err_and c.from_residual.result c.from_residual.ensures.1 in rw (p.1, p.2) c.in_err-ends.ensures
+pub returns-in-Err-clause-fault : goal.returns-in-Err-clause-fault
+returns-in-Err-clause-fault g c = c.in-Err.ensures
 
-pub returns-in_err-ends-clause-composed : goal.returns-in_err-ends-clause-composed
-returns-in_err-ends-clause-composed g c = IfOk-from_err _ _ c.from_residual.ensures.0
+pub returns-in-Err-clause-composed : goal.returns-in-Err-clause-composed
+returns-in-Err-clause-composed g c = tt
