@@ -1,5 +1,5 @@
 //! The threads of a run by a record, before their first turn.
-ghost use Rattle.std.specs.Prelude.{◌≡◌, IfOk, IfErr};
+ghost use Rattle.std.specs.Prelude.{◌≡◌, ◌∷◌, IfOk, IfErr, IsOkAnd};
 ghost use Rattle.replay.specs.Runs.{invoke_line};
 ghost use Rattle.spawn_host.specs.Threads.{IsFirst};
 ghost use Rattle.replay.specs.Threads.{AreThreads, AreOthers, IsCallFault};
@@ -23,7 +23,15 @@ pub(crate) fn threads_of<'m>(
     ensures fault { IfErr result (λ fault. IsCallFault «module».now.parts parts.now fault) }
 {
     let first = first_of(alloc, module, parts)?;
-    let mut threads = others_of(alloc, module, parts.fuel)?;
+    led_by(first, others_of(alloc, module, parts.fuel))
+}
+
+/// The first thread and the others behind it, if there was memory for them.
+fn led_by<T: Drop>(first: T, others: Result<Vec<T>, AllocError>) -> Result<Vec<T>, ReplayFault>
+    ensures threads { IfOk result (λ threads. IsOkAnd others (λ rest. threads.items ≡ first ∷ rest.items)) }
+    ensures fault { IfErr result (λ fault. fault ≡ ReplayFault.NoMemory) }
+{
+    let mut threads = others?;
     threads.insert(0, first)?;
     Ok(threads)
 }

@@ -8,6 +8,7 @@ pub mod Made
 pub mod Spawned
 pub mod Asked
 pub mod Leaving
+pub mod Apart
 pub mod Acts
 pub mod Ending
 pub mod Settled

@@ -97,7 +97,10 @@ pub fn spawnable_threads<'m>(
     let own = thread_start(valid);
     let mut threads = Vec::with_capacity(alloc, MOST_SPAWNED)?;
     for _ in 0..MOST_SPAWNED {
-        threads.push_reserved(calling(alloc, valid, own, &PLACEHOLDERS, fuel)?);
+        match calling(alloc, valid, own, &PLACEHOLDERS, fuel) {
+            Ok(thread) => threads.push_reserved(thread),
+            Err(refused) => return Err(refused),
+        }
     }
     Ok(threads)
 }

@@ -1,15 +1,28 @@
 -- What the threads of a run bring back.
-use Rattle.std.specs.Prelude.{ℕ, ◌≡◌, Bool, List, ◌∷◌, Option, Some, None}
+use Rattle.std.specs.Prelude.{ℕ, ◌≡◌, ◌<◌, Bool, List, [], ◌∷◌, length, All, Option, Some, None}
 use mathlib.Core.List.{IsPrefix}
 use Rattle.types.specs.declared.event.Entry.{Entry}
 use Rattle.types.specs.declared.outcome.ThreadReport.{ThreadReport}
+use Rattle.types.specs.Limits.{most_threads}
 use Rattle.shared_memory.specs.Memory.{Memory}
-use Rattle.interp_trait.specs.Turns.{Running, Meaning, IsHere}
+use Rattle.shared_memory.specs.History.{entries_of, queue_after}
+use Rattle.shared_memory.specs.WaitQueue.{IsFree}
+use Rattle.interp_trait.specs.Turns.{Running, Meaning, IsHere, MayRun, MayBeSpawned}
 use Rattle.spawn_host_thread.specs.Ends.{IsLast, RunsOut}
 use Rattle.spawn_host_workers.specs.declared.worker.WorkerEnd.{WorkerEnd}
 use Rattle.spawn_host_workers.specs.Pairs.{AllThree}
 use Rattle.spawn_host_workers.specs.OverMemory.{OverMemory}
 use Rattle.spawn_host_workers.specs.Works.{EndsWork}
+
+-- What a crew begins with: a first thread with its seat, and others that weren't spawned yet, each with a seat that is new.
+pub record MayStart {S T : Type 0} (name : S → ℕ) (seen : S → List Entry) (meaning : T → Meaning) (first : T) (seat : S)
+    (threads : List T) (seats : List S) : Type 0 where
+  pub here : MayRun (meaning first)
+  pub free : IsFree (queue_after (seen seat)) (name seat)
+  pub len : length threads ≡ length seats
+  pub few : length seats < most_threads
+  pub new : All (λ (s : S). entries_of (name s) (seen s) ≡ []) seats
+  pub begins : All (λ (t : T). MayBeSpawned (meaning t)) threads
 
 -- The first thread ran from its start to its end.
 pub record RunsFirst (loses : Bool) (opening : Memory) (limit : Option ℕ) (n : ℕ) (m : Meaning) (report : ThreadReport)

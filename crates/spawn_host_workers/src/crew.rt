@@ -1,13 +1,12 @@
 //! The threads of a run, in one scope.
-ghost use Rattle.std.specs.Prelude.{◌≡◌, ◌≤◌, ◌<◌, ◌+◌, [], All, IfOk, IfErr, vec_len, vec_capacity};
-ghost use Rattle.types.specs.Limits.{most_threads};
+ghost use Rattle.std.specs.Prelude.{◌≡◌, ◌≤◌, ◌+◌, [], All, IfOk, IfErr, MatchResult, vec_len, vec_capacity};
 ghost use Rattle.shared_memory.specs.History.{entries_of, queue_after};
 ghost use Rattle.shared_memory.specs.WaitQueue.{IsFree};
 ghost use Rattle.interp_trait.specs.Turns.{MayRun, MayBeSpawned};
 ghost use Rattle.spawn_host_workers.specs.OverMemory.{over};
 ghost use Rattle.spawn_host_workers.specs.Pairs.{AllThree};
 ghost use Rattle.spawn_host_workers.specs.Works.{EndsWork};
-ghost use Rattle.spawn_host_workers.specs.Crew.{EndsFirst, IsCrew};
+ghost use Rattle.spawn_host_workers.specs.Crew.{EndsFirst, MayStart, IsCrew};
 ghost use Rattle.spawn_host_workers.specs.Faults.{IsOfSystem};
 ghost use Rattle.spawn_host_workers.specs.Duties.{IsDuty, IsDone, Joined};
 
@@ -54,8 +53,7 @@ where
     R: Wait + Sync,
     requires new { entries_of (M.name seat) (M.seen seat) ≡ [] }
     requires begins { MayBeSpawned (T.meaning thread) }
-    ensures duty { IfOk result (λ handle. IsDuty memory.now thread seat handle) }
-    ensures fault { IfErr result (λ fault. IsOfSystem fault) }
+    ensures { MatchResult result (λ handle. IsDuty memory.now thread seat handle) IsOfSystem }
 {
     let duty = Duty {
         memory: Snapshot::of(memory),
@@ -96,9 +94,8 @@ where
     requires len { vec_len threads ≡ vec_len seats }
     requires new { All (λ (s : M.Seat). entries_of (M.name s) (M.seen s) ≡ []) seats.items }
     requires begins { All (λ (t : T). MayBeSpawned (T.meaning t)) threads.items }
-    ensures duties { IfOk result (λ handles. AllThree (IsDuty memory.now) threads.items seats.items handles.items) }
-    ensures len { IfOk result (λ handles. vec_len handles ≡ vec_len seats) }
-    ensures fault { IfErr result (λ fault. IsOfSystem fault) }
+    ensures { MatchResult result (λ handles. AllThree (IsDuty memory.now) threads.items seats.items handles.items
+        × (vec_len handles ≡ vec_len seats)) IsOfSystem }
 {
     let Ok(mut handles) = Vec::with_capacity(alloc, seats.len()) else {
         return Err(RunFault::NoMemory);
@@ -108,8 +105,10 @@ where
         let Some(thread) = threads.next() else {
             unreachable!()
         };
-        let handle = start_worker(scope, rt, thread, memory, seat, desk, gate)?;
-        handles.push_reserved(handle);
+        match start_worker(scope, rt, thread, memory, seat, desk, gate) {
+            Ok(handle) => handles.push_reserved(handle),
+            Err(fault) => return Err(fault),
+        }
     }
     Ok(handles)
 }
@@ -148,14 +147,9 @@ where
     W: Wait + Drop + Sync,
     G: Gate + Sync,
     R: Threads + Wait + Sync,
-    requires here { MayRun (T.meaning first) }
-    requires free { IsFree (queue_after (M.seen seat)) (M.name seat) }
-    requires len { vec_len threads ≡ vec_len seats }
-    requires few { vec_len seats < most_threads }
-    requires new { All (λ (s : M.Seat). entries_of (M.name s) (M.seen s) ≡ []) seats.items }
-    requires begins { All (λ (t : T). MayBeSpawned (T.meaning t)) threads.items }
-    ensures fault { IfErr result (λ fault. IsOfSystem fault) }
-    ensures crew { IfOk result (λ ends. IsCrew (over M.SharedMemory memory.now) T.meaning first seat threads.items seats.items ends.items) }
+    requires start { MayStart M.name M.seen T.meaning first seat threads.items seats.items }
+    ensures { MatchResult result
+        (λ ends. IsCrew (over M.SharedMemory memory.now) T.meaning first seat threads.items seats.items ends.items) IsOfSystem }
 {
     let mut seat = seat;
     let Ok(mut ends) = Vec::with_capacity(alloc, MOST_THREADS) else {

@@ -1,12 +1,10 @@
 //! A run of real threads.
-ghost use Rattle.std.specs.Prelude.{◌≡◌, ◌≤◌, ◌<◌, ◌+◌, ℕ, true, List, [], ◌∷◌, ◌++◌, All, IfOk, IfErr, slice_index_or, vec_len, vec_capacity};
-ghost use Rattle.types.specs.Limits.{most_threads, most_spawned, desk_name, seat_count};
-ghost use Rattle.shared_memory.specs.History.{entries_of, queue_after};
-ghost use Rattle.shared_memory.specs.WaitQueue.{IsFree};
+ghost use Rattle.std.specs.Prelude.{◌≡◌, ◌≤◌, ◌<◌, ◌+◌, ℕ, true, List, [], ◌∷◌, ◌++◌, All, IfOk, IfErr, MatchResult, slice_index_or, vec_len, vec_capacity};
+ghost use Rattle.types.specs.Limits.{most_spawned, desk_name, seat_count};
 ghost use Rattle.interp_trait.specs.Turns.{MayRun, MayBeSpawned};
 ghost use Rattle.spawn_host_workers.specs.OverMemory.{over};
 ghost use Rattle.spawn_host_workers.specs.Level.{Level};
-ghost use Rattle.spawn_host_workers.specs.Crew.{IsCrew};
+ghost use Rattle.spawn_host_workers.specs.Crew.{MayStart, IsCrew};
 ghost use Rattle.spawn_host_workers.specs.Faults.{IsOfSystem};
 ghost use Rattle.spawn_host_workers.specs.Composed.{IsComposed, reported, seats_of};
 
@@ -60,28 +58,17 @@ where
     M: SharedMemory + Sync,
     G: Gate + Sync,
     R: Threads + Wait + Sync,
-    requires here { MayRun (T.meaning first) }
-    requires free { IsFree (queue_after (M.seen seat)) (M.name seat) }
-    requires len { vec_len threads ≡ vec_len seats }
-    requires few { vec_len seats < most_threads }
-    requires new { All (λ (s : M.Seat). entries_of (M.name s) (M.seen s) ≡ []) seats.items }
-    requires begins { All (λ (t : T). MayBeSpawned (T.meaning t)) threads.items }
-    ensures fault { IfErr result (λ fault. IsOfSystem fault) }
-    ensures crew { IfOk result (λ ends. IsCrew (over M.SharedMemory memory.now) T.meaning first seat threads.items seats.items ends.items) }
+    requires start { MayStart M.name M.seen T.meaning first seat threads.items seats.items }
+    ensures { MatchResult result
+        (λ ends. IsCrew (over M.SharedMemory memory.now) T.meaning first seat threads.items seats.items ends.items) IsOfSystem }
 {
     thread::scope(
         thread::scope_env(),
         rt,
         move |scope| -> Result<Vec<WorkerEnd<M::Seat>>, RunFault>
-            requires here { MayRun (T.meaning first) }
-            requires free { IsFree (queue_after (M.seen seat)) (M.name seat) }
-            requires len { vec_len threads ≡ vec_len seats }
-            requires few { vec_len seats < most_threads }
-            requires new { All (λ (s : M.Seat). entries_of (M.name s) (M.seen s) ≡ []) seats.items }
-            requires begins { All (λ (t : T). MayBeSpawned (T.meaning t)) threads.items }
-            ensures fault { IfErr result (λ fault. IsOfSystem fault) }
-            ensures crew { IfOk result (λ ends. IsCrew (over M.SharedMemory memory.entry.now) T.meaning first seat
-                threads.items seats.items ends.items) }
+            requires start { MayStart M.name M.seen T.meaning first seat threads.items seats.items }
+            ensures { MatchResult result (λ ends. IsCrew (over M.SharedMemory memory.entry.now) T.meaning first seat
+                threads.items seats.items ends.items) IsOfSystem }
         {
             run_crew(
                 scope, rt, alloc, first, threads, memory, seat, seats, desk, gate,
@@ -162,9 +149,13 @@ where
         desk,
     } = deal(seats);
     let desk = Desk::open(rt, memory, desk);
-    let ends = run_threads(
+    match run_threads(
         rt, alloc, first, spawned, memory, seat, workers, &desk, gate,
-    )?;
-    let hub = desk.close();
-    Ok(bring_home(memory, ends, hub, reports, home))
+    ) {
+        Ok(ends) => {
+            let hub = desk.close();
+            Ok(bring_home(memory, ends, hub, reports, home))
+        }
+        Err(fault) => Err(fault),
+    }
 }

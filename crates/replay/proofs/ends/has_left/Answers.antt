@@ -1,11 +1,13 @@
-use Rattle.std.proofs.Common.{◌≡◌, ◌+◌, Some, None, sym, ◌∙◌, ap, subst, slice_get, arith}
-use Rattle.std.proofs.lemmas.Bool.{both_ways}
-use Rattle.std.proofs.lemmas.Bool.Decides.{nat_tests}
+use Rattle.std.proofs.Common.{◌≡◌, ◌+◌, Some, None, sym, ◌∙◌, ap, subst, slice_get, length}
+use Rattle.std.proofs.lemmas.Bool.{both_ways, lt-ltb}
 use Rattle.std.proofs.lemmas.Option.{slice_get-get_or, slice_get_within}
 use Rattle.types.specs.declared.outcome.ThreadReport.{ThreadReport}
 use Rattle.interp_trait.specs.Turns.{left_of}
 use Rattle.replay.proofs.Lines.{seen, left}
 use Rattle.replay.proofs.ends.has_left.Goals as goal
+
+same_some : {A : Type 0} {a b : A} → Some a ≡ Some b → a ≡ b
+same_some e = cc e
 
 pub returns-then-has_open_question-clause-other : goal.returns-then-has_open_question-clause-other
 returns-then-has_open_question-clause-other g c = λ no s r e h.
@@ -34,13 +36,13 @@ returns-clause-other g c = λ no s r e h.
     let there : slice_get c.args.threads.now c.args.number ≡ Some c.in-Some.thread.now =
     slice_get-get_or c.args.threads.now c.args.number c.in-Some.thread.now thread.0 ∙ ap (λ z. Some z)
     (sym (thread.1 c.in-Some.thread.now)) in
-    let same : c.in-Some.thread.now ≡ is.thread = cc (there, is.at) in
+    let same : c.in-Some.thread.now ≡ is.thread = same_some (sym there ∙ is.at) in
     let spent : c.spent.result ≡ c.args.report.now.spent =
     is.spent c.spent.result (λ t stands. c.spent.ensures t (subst (λ x. (g.T.TakesTurns.meaning x).stands t)
     (sym same) stands) ∙ ap
     (λ z. (g.T.TakesTurns.meaning z).fuel) same) in
-    let is_some : Some c.in-Some-Some.outcome ≡ Some c.args.report.now.outcome = sym c.in-Some-Some.field-0-is ∙ (ended.1 None ∙ is.outcome) in
-    let outcome : c.in-Some-Some.outcome ≡ c.args.report.now.outcome = cc is_some in
+    let outcome : c.in-Some-Some.outcome ≡ c.args.report.now.outcome =
+    same_some (sym c.in-Some-Some.field-0-is ∙ (ended.1 None ∙ is.outcome)) in
     c.is_same_report.ensures.other no (λ i. record { outcome = outcome i; spent = spent i })
 
 pub returns-in_default-clause-other : goal.returns-in_default-clause-other
@@ -48,5 +50,4 @@ returns-in_default-clause-other g c = λ no s r e h.
     let is = seen g.T.TakesTurns.meaning s c.args.threads.now c.args.stage.now.queue c.args.stage.now.started c.args.stage.now.ends r e
     c.args.number c.args.report.now h in
     let there = slice_get_within c.args.threads.now c.args.number is.thread is.at in
-    let none = c.in_default.ensures.lookup.0 in
-    absurd (grind (arith, nat_tests, none, there))
+    both_ways _ (sym c.in_default.ensures.lookup.0) (lt-ltb c.args.number (length c.args.threads.now) there)

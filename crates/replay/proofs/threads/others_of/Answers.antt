@@ -1,4 +1,5 @@
-use Rattle.std.proofs.Common.{refl, inl, inr}
+use Rattle.std.proofs.Common.{false, refl, inl, inr}
+use Rattle.std.proofs.lemmas.Bool.{both_ways}
 use Rattle.std.proofs.lemmas.Result.{IfOk-weaker}
 use Rattle.interp.specs.Threads.{meaning_in}
 use Rattle.replay.specs.Threads.{AreOthers}
@@ -10,4 +11,4 @@ returns-then-starts_threads c =
     (λ others spawnable. inl (_, c.if-starts_threads.ensures.0 refl, spawnable)) c.spawnable_threads.ensures
 
 pub returns-else-starts_threads : goal.returns-else-starts_threads
-returns-else-starts_threads c = inr (λ starts. absurd (cc (c.if-starts_threads.ensures.1 starts)), c.new.ensures.items)
+returns-else-starts_threads c = inr (λ starts. absurd (both_ways false refl (c.if-starts_threads.ensures.1 starts)), c.new.ensures.items)

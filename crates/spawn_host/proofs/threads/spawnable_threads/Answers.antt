@@ -10,7 +10,7 @@ loop-preserved c =
     let P = Calls c.args.valid.now.parts c.thread_start-own.result c.args.fuel in record {
       count = omega (arith, pushed.len, i.count);
       room = omega (arith, pushed.capacity, i.room);
-      calls = subst (All P) (sym pushed.items) (All-push P c.loop.threads.items c.in_ok-calling.field-0 i.calls c.in_ok-calling.ensures);
+      calls = subst (All P) (sym pushed.items) (All-push P c.loop.threads.items c.in-Ok.thread i.calls c.in-Ok.ensures);
     }
 
 pub returns : goal.returns

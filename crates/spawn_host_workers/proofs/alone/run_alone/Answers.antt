@@ -1,4 +1,4 @@
-use Rattle.std.proofs.Common.{◌∷◌, ◌++◌, [], List, ◌∙◌, ap}
+use Rattle.std.proofs.Common.{◌∷◌, ◌++◌, [], List, refl, ◌∙◌, ap}
 use Rattle.shared_memory.specs.History.{entries_of, of_queue}
 use Rattle.types.specs.declared.outcome.ThreadReport.{ThreadReport}
 use Rattle.types.specs.Limits.{desk_name}
@@ -60,3 +60,9 @@ returns-in_default-clause-composed g c = tt
 
 pub returns-clause-fault : goal.returns-clause-fault
 returns-clause-fault g c = tt
+
+pub deal-seat-requires : goal.deal-seat-requires
+deal-seat-requires g c = c.requires.len
+
+pub returns-in_default-clause-fault : goal.returns-in_default-clause-fault
+returns-in_default-clause-fault g c = refl

@@ -1,4 +1,5 @@
 use Rattle.std.proofs.Common.{rules, vec_items, sym, ◌∙◌}
+use Rattle.std.specs.Vec.Iter.{into_iter_items}
 use Rattle.spawn_host_workers.specs.Duties.{IsDone}
 use Rattle.spawn_host_workers.proofs.Pairing.{joined_none, joined_more, joined_all, none_of}
 use Rattle.spawn_host_workers.proofs.crew.join_all.Goals as goal
@@ -22,7 +23,8 @@ loop-handle-preserved g c =
       joined = rw (c.push_reserved.ensures.items)
           (joined_more (IsDone m t.meaning) (vec_items c.args.handles)
           (vec_items c.args.ends.now)
-          (vec_items c.loop-handle.ends) _ _ c.in-Some.handle c.join.result i.joined step.0 c.join.ensures);
+          (vec_items c.loop-handle.ends) (into_iter_items c.loop-handle.handle-iterator) (into_iter_items c.next.new.self)
+          c.in-Some.handle c.join.result i.joined step.0 c.join.ensures);
     }
 
 pub returns : goal.returns

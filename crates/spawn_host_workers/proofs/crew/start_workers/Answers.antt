@@ -1,4 +1,5 @@
-use Rattle.std.proofs.Common.{rules, ◌≡◌, [], All, sym, subst, vec_items, ◌∙◌}
+use Rattle.std.proofs.Common.{rules, arith, ◌≡◌, [], All, sym, subst, vec_items, ◌∙◌}
+use Rattle.std.specs.Vec.Iter.{into_iter_items}
 use Rattle.shared_memory.specs.History.{entries_of}
 use Rattle.interp_trait.specs.Turns.{MayBeSpawned}
 use Rattle.spawn_host_workers.specs.Duties.{IsDuty}
@@ -21,11 +22,13 @@ loop-seat-init g c =
 pub start_worker-requires-clause-new : goal.start_worker-requires-clause-new
 start_worker-requires-clause-new g c κs within =
     let m = g.M.SharedMemory in
-    all_first (λ s. entries_of (m.name s) (m.seen s) ≡ []) _ _ c.in-Some.seat c.loop-seat.invariant.new c.in-Some.ensures.steps.0
+    all_first (λ s. entries_of (m.name s) (m.seen s) ≡ []) (into_iter_items c.loop-seat.seat-iterator) (into_iter_items c.next.new.self)
+    c.in-Some.seat c.loop-seat.invariant.new c.in-Some.ensures.steps.0
 
 pub start_worker-requires-clause-begins : goal.start_worker-requires-clause-begins
 start_worker-requires-clause-begins g c κs within =
-    all_first (λ t. MayBeSpawned (g.T.TakesTurns.meaning t)) _ _ c.in-Some-next.thread c.loop-seat.invariant.begins c.in-Some-next.ensures.cases.0
+    all_first (λ t. MayBeSpawned (g.T.TakesTurns.meaning t)) (into_iter_items c.loop-seat.threads) (into_iter_items c.next-in-loop-seat.new.self)
+    c.in-Some-next.thread c.loop-seat.invariant.begins c.in-Some-next.ensures.cases.0
 
 pub loop-seat-preserved : goal.loop-seat-preserved
 loop-seat-preserved g c =
@@ -36,28 +39,32 @@ loop-seat-preserved g c =
       len = search rules;
       room = search rules;
       same = search rules;
-      new = all_rest (λ s. entries_of (m.name s) (m.seen s) ≡ []) _ _ c.in-Some.seat i.new step.0;
-      begins = all_rest (λ t. MayBeSpawned (g.T.TakesTurns.meaning t)) _ _ c.in-Some-next.thread i.begins next.0;
+      new = all_rest (λ s. entries_of (m.name s) (m.seen s) ≡ []) (into_iter_items c.loop-seat.seat-iterator) (into_iter_items c.next.new.self)
+          c.in-Some.seat i.new step.0;
+      begins = all_rest (λ t. MayBeSpawned (g.T.TakesTurns.meaning t)) (into_iter_items c.loop-seat.threads) (into_iter_items c.next-in-loop-seat.new.self)
+          c.in-Some-next.thread i.begins next.0;
       duties = rw (c.push_reserved.ensures.items)
           (so_far_more (IsDuty c.args.memory.now) (vec_items c.args.threads) (vec_items c.args.seats)
-          (vec_items c.loop-seat.handles) _ _ _ _
-          c.in-Some-next.thread c.in-Some.seat c.in_ok-handle.handle i.duties next.0 step.0
-          c.in_ok-handle.ensures.duty);
+          (vec_items c.loop-seat.handles) (into_iter_items c.loop-seat.threads) (into_iter_items c.next-in-loop-seat.new.self)
+          (into_iter_items c.loop-seat.seat-iterator) (into_iter_items c.next.new.self)
+          c.in-Some-next.thread c.in-Some.seat c.in-Ok-start_worker.handle i.duties next.0 step.0
+          c.in-Ok-start_worker.ensures);
     }
 
-pub returns-clause-duties : goal.returns-clause-duties
-returns-clause-duties g c =
+pub returns : goal.returns
+returns g c =
     let seats = c.loop-seat.seat-iterator.rest in
     let threads = c.loop-seat.threads.rest in
-    let none = c.in-None.ensures.steps.0 in
-    so_far_all (IsDuty c.args.memory.now) _ _ _ _ _ c.loop-seat.invariant.duties
-    (none_of threads.items (sym threads.ok.0 ∙ (c.loop-seat.invariant.same ∙ none))) (none_of seats.items (sym seats.ok.0 ∙ none))
+    let i = c.loop-seat.invariant in
+    let none = c.in-None.ensures.steps.0 in (
+      so_far_all (IsDuty c.args.memory.now) (vec_items c.args.threads) (vec_items c.args.seats) (vec_items c.loop-seat.handles)
+          threads.items seats.items i.duties
+          (none_of threads.items (sym threads.ok.0 ∙ (i.same ∙ none))) (none_of seats.items (sym seats.ok.0 ∙ none)),
+      omega (arith, i.len, none),
+    )
 
-pub returns-in_default-clause-duties : goal.returns-in_default-clause-duties
-returns-in_default-clause-duties g c = tt
+pub returns-in_default : goal.returns-in_default
+returns-in_default g c = tt
 
-pub returns-in_default-clause-len : goal.returns-in_default-clause-len
-returns-in_default-clause-len g c = tt
-
-pub returns-clause-fault : goal.returns-clause-fault
-returns-clause-fault g c = tt
+pub returns-in-Err : goal.returns-in-Err
+returns-in-Err g c = c.in-Err.ensures

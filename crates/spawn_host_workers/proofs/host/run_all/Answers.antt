@@ -1,4 +1,4 @@
-use Rattle.std.proofs.Common.{arith, ap, refl, ◌≡◌, vec_len}
+use Rattle.std.proofs.Common.{arith, ap, refl, sym, ◌∙◌, ◌≡◌, vec_len}
 use Rattle.shared_memory.specs.History.{entries_of, of_queue}
 use Rattle.types.specs.Limits.{most_threads, desk_name}
 use Rattle.spawn_host_workers.specs.OverMemory.{over}
@@ -9,15 +9,15 @@ use Rattle.spawn_host_workers.proofs.host.run_all.Goals as goal
 use Rattle.spawn_host_workers.proofs.host.run_all.Goals.{After-deal-seat}
 
 -- the first seat and the last are taken off
-dealt : (g : given.Over) (c : After-deal-seat g)
+dealt_of : (g : given.Over) (c : After-deal-seat g)
     → Unpacked c.args.seats.items c.deal-seat.result.first c.deal-seat.result.workers.items c.deal-seat.result.desk
-dealt g c = record { parts = c.deal-seat.ensures.parts; len = c.deal-seat.ensures.len }
+dealt_of g c = record { parts = c.deal-seat.ensures.parts; len = c.deal-seat.ensures.len }
 
 desk : (g : given.Over) (c : After-deal-seat g)
     → IsDeskSeat g.M.SharedMemory.name g.M.SharedMemory.has_queue_right g.M.SharedMemory.seen c.deal-seat.result.desk
 desk g c =
     desk_new g.M.SharedMemory.name g.M.SharedMemory.seen c.args.seats.items c.deal-seat.result.first c.deal-seat.result.workers.items
-    c.deal-seat.result.desk (dealt g c) c.requires.names c.requires.new g.M.SharedMemory.has_queue_right c.requires.right
+    c.deal-seat.result.desk (dealt_of g c) c.requires.names c.requires.new g.M.SharedMemory.has_queue_right c.requires.right
 
 pub open-desk-requires-clause-right : goal.open-desk-requires-clause-right
 open-desk-requires-clause-right g c κs within = (desk g (goal.at.open-desk-requires-clause-right g c).After-deal-seat).may_ask
@@ -31,49 +31,45 @@ open-desk-requires-clause-quiet g c κs within = ap of_queue (desk g (goal.at.op
 pub open-desk-requires-clause-silent : goal.open-desk-requires-clause-silent
 open-desk-requires-clause-silent g c κs within = ap (entries_of desk_name) (desk g (goal.at.open-desk-requires-clause-silent g c).After-deal-seat).fresh
 
-pub run_threads-requires-clause-free : goal.run_threads-requires-clause-free
-run_threads-requires-clause-free g c κs within =
+pub run_threads-requires-clause-start : goal.run_threads-requires-clause-start
+run_threads-requires-clause-start g c κs within =
     let m = g.M.SharedMemory in
-    let u = dealt g (goal.at.run_threads-requires-clause-free g c).After-deal-seat in
-    lead_may_ask m.name m.seen c.args.seats.items c.deal-seat.result.first c.deal-seat.result.workers.items c.deal-seat.result.desk u c.requires.names c.requires.new
-
-pub run_threads-requires-clause-new : goal.run_threads-requires-clause-new
-run_threads-requires-clause-new g c κs within =
-    let m = g.M.SharedMemory in
-    let u = dealt g (goal.at.run_threads-requires-clause-new g c).After-deal-seat in
-    workers_new m.name m.seen c.args.seats.items c.deal-seat.result.first c.deal-seat.result.workers.items c.deal-seat.result.desk u c.requires.names c.requires.new
+    let dealt = c.deal-seat.result in
+    let u = dealt_of g (goal.at.run_threads-requires-clause-start g c).After-deal-seat in
+    record {
+      here = c.requires.here;
+      free = lead_may_ask m.name m.seen c.args.seats.items dealt.first dealt.workers.items dealt.desk u c.requires.names c.requires.new;
+      len = sym c.args.spawned.ok.0 ∙ (c.requires.count ∙ sym c.deal-seat.ensures.len);
+      few = omega (arith, c.deal-seat.ensures.len);
+      new = workers_new m.name m.seen c.args.seats.items dealt.first dealt.workers.items dealt.desk u c.requires.names c.requires.new;
+      begins = c.requires.begins;
+    }
 
 pub bring_home-requires-clause-room : goal.bring_home-requires-clause-room
 bring_home-requires-clause-room g c κs within =
     let m = g.M.SharedMemory in
     let t = g.T.TakesTurns in
-    let ends = c.in_ok-ends.ends in
+    let ends = c.in-Ok-run_threads.ends in
     let count = crew_length (over m c.args.memory.now) t.meaning c.args.first c.deal-seat.result.first c.args.spawned.items
-    c.deal-seat.result.workers.items ends.items c.in_ok-ends.ensures.crew in
+    c.deal-seat.result.workers.items ends.items c.in-Ok-run_threads.ensures in
     let here : vec_len ends ≡ most_threads = omega (arith, count, ends.ok.0, c.deal-seat.ensures.len) in (
       omega (arith, here, c.in-Ok.ensures.len, c.in-Ok.ensures.capacity),
       omega (arith, here, c.in-Ok-with_capacity.ensures.len, c.in-Ok-with_capacity.ensures.capacity),
     )
 
-pub returns-clause-composed : goal.returns-clause-composed
-returns-clause-composed g c =
+pub returns-in-Ok-run_threads-clause-composed : goal.returns-in-Ok-run_threads-clause-composed
+returns-in-Ok-run_threads-clause-composed g c =
     let m = g.M.SharedMemory in
     let t = g.T.TakesTurns in
-    let ends = c.in_ok-ends.ends in
+    let ends = c.in-Ok-run_threads.ends in
     let end = c.bring_home.result in
     let level = c.bring_home.ensures.seats in
     composed (over m c.args.memory.now) m.has_queue_right t.meaning c.args.first c.args.spawned.items
     c.args.seats.items c.deal-seat.result.first c.deal-seat.result.desk c.deal-seat.result.workers.items c.close-hub.result
     ends.items end.threads.items end.seats.items
-    c.deal-seat.ensures.parts c.deal-seat.ensures.len c.requires.names c.requires.new c.in_ok-ends.ensures.crew c.bring_home.ensures.threads level.0
+    c.deal-seat.ensures.parts c.deal-seat.ensures.len c.requires.names c.requires.new c.in-Ok-run_threads.ensures c.bring_home.ensures.threads level.0
     (seats_of ends.items) level.1 refl
     level.2 level.3 c.close-hub.ensures.legal c.close-hub.ensures.name c.close-hub.ensures.silent
-
-pub run_threads-requires-clause-here : goal.run_threads-requires-clause-here
-run_threads-requires-clause-here g c κs within = c.requires.here
-
-pub run_threads-requires-clause-begins : goal.run_threads-requires-clause-begins
-run_threads-requires-clause-begins g c κs within = c.requires.begins
 
 pub bring_home-requires-clause-right : goal.bring_home-requires-clause-right
 bring_home-requires-clause-right g c κs within = c.close-hub.ensures.right
@@ -84,5 +80,23 @@ returns-in_default-clause-composed g c = tt
 pub returns-in_default-with_capacity-clause-composed : goal.returns-in_default-with_capacity-clause-composed
 returns-in_default-with_capacity-clause-composed g c = tt
 
-pub returns-clause-fault : goal.returns-clause-fault
-returns-clause-fault g c = tt
+pub returns-in-Ok-run_threads-clause-fault : goal.returns-in-Ok-run_threads-clause-fault
+returns-in-Ok-run_threads-clause-fault g c = tt
+
+pub deal-seat-requires : goal.deal-seat-requires
+deal-seat-requires g c = c.requires.len
+
+pub bring_home-requires-clause-empty : goal.bring_home-requires-clause-empty
+bring_home-requires-clause-empty g c κs within = (c.in-Ok.ensures.items, c.in-Ok-with_capacity.ensures.items)
+
+pub returns-in_default-clause-fault : goal.returns-in_default-clause-fault
+returns-in_default-clause-fault g c = tt
+
+pub returns-in_default-with_capacity-clause-fault : goal.returns-in_default-with_capacity-clause-fault
+returns-in_default-with_capacity-clause-fault g c = tt
+
+pub returns-in-Err-clause-fault : goal.returns-in-Err-clause-fault
+returns-in-Err-clause-fault g c = c.in-Err.ensures
+
+pub returns-in-Err-clause-composed : goal.returns-in-Err-clause-composed
+returns-in-Err-clause-composed g c = tt

@@ -9,6 +9,7 @@ use Rattle.shared_memory.specs.Memory.{Memory, reply_of}
 use Rattle.shared_memory.specs.WaitQueue.{WaitQueue, next_id}
 use Rattle.shared_memory.specs.History.{queue_step}
 use Rattle.replay_walk.specs.Standing.{made_by}
+use Rattle.replay_walk.proofs.Apart.{isnt_true, isnt_false}
 use Rattle.replay_walk.proofs.Made.{is_free, right, has_taken, spawn_ready, made_plain, nobody, queue_stays}
 use Rattle.replay_walk.proofs.Asked.{made_question}
 use Rattle.replay_walk.proofs.stage.Stage.make.Goals as goal
@@ -55,8 +56,8 @@ returns-in_default g c = record {
             c.args.event c.args.reply c.requires.kind reply none wants c.turn_at.new.threads taken (nobody s c.args.n c.args.event other)
             ((on.standing).started ∙ ap next_id (sym stays))),
       );
-  refused = λ no. absurd (cc no);
-  kept = λ no. absurd (cc no);
+  refused = λ no. isnt_false no;
+  kept = λ no. isnt_false no;
 }
 
 pub returns-in-Ask-clause-made : goal.returns-in-Ask-clause-made
@@ -80,13 +81,13 @@ returns-in-Ask-clause-made g c = λ yes s t on memory none wants.
     )
 
 pub returns-then-not-is_same_reply-clause-made : goal.returns-then-not-is_same_reply-clause-made
-returns-then-not-is_same_reply-clause-made g c = λ is. absurd (cc is)
+returns-then-not-is_same_reply-clause-made g c = λ yes. isnt_true yes
 
 pub returns-in-Ask-clause-refused : goal.returns-in-Ask-clause-refused
-returns-in-Ask-clause-refused g c = λ is. absurd (cc is)
+returns-in-Ask-clause-refused g c = λ no. isnt_false no
 
 pub returns-in-Ask-clause-kept : goal.returns-in-Ask-clause-kept
-returns-in-Ask-clause-kept g c = λ is. absurd (cc is)
+returns-in-Ask-clause-kept g c = λ no. isnt_false no
 
 pub turn_at-requires-clause-within : goal.turn_at-requires-clause-within
 turn_at-requires-clause-within g c = slice_get_within _ _ _ c.requires.settled.2.at

@@ -1,6 +1,7 @@
 use Rattle.std.proofs.Common.{◌≡◌, ℕ, length, refl, subst, take, arith}
 use Rattle.std.proofs.lemmas.List.{length-take-le}
 use Rattle.replay_walk.specs.Walked.{IsFirstMisfit, standing_in}
+use Rattle.replay_walk.proofs.Apart.{isnt_none, isnt_some, same_some}
 use Rattle.replay_walk.proofs.Along.{goes_in, stops_in, ends_in}
 use Rattle.replay_walk.proofs.walk.Walk.along_watched.Goals as goal
 
@@ -16,7 +17,7 @@ take-requires-clause-standing g c =
 pub returns-then-not-take-clause-misfit : goal.returns-then-not-take-clause-misfit
 returns-then-not-take-clause-misfit g c = λ k is r walked limit.
     let w = c.loop-at.invariant r walked limit in
-    let here : c.loop-at.at ≡ k = cc is in
+    let here : c.loop-at.at ≡ k = same_some is in
     subst (λ (j : ℕ). IsFirstMisfit r c.args.log.now j) here
     (stops_in g.T.TakesTurns.meaning r c.args.log.now c.loop-at.self.threads.items c.loop-at.self.memory
     c.loop-at.self.stage.queue c.loop-at.self.stage.started c.loop-at.self.stage.ends c.loop-at.at
@@ -50,10 +51,10 @@ pub take-requires-clause-entry : goal.take-requires-clause-entry
 take-requires-clause-entry g c = c.requires.entries c.loop-at.at _ c.loop-at-test.true
 
 pub returns-then-not-take-clause-whole : goal.returns-then-not-take-clause-whole
-returns-then-not-take-clause-whole g c = λ whole. absurd (cc whole)
+returns-then-not-take-clause-whole g c = λ whole. isnt_none whole
 
 pub returns-clause-misfit : goal.returns-clause-misfit
-returns-clause-misfit g c = λ k misfit. absurd (cc misfit)
+returns-clause-misfit g c = λ k misfit. isnt_some misfit
 
 pub came-requires-2 : goal.came-requires-2
 came-requires-2 g c =

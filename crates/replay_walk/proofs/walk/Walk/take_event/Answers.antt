@@ -10,6 +10,7 @@ use Rattle.interp_trait.specs.declared.turn.Turn.{Turn}
 use Rattle.interp_trait.specs.declared.turn.Turn.TheVariants as turns
 use Rattle.replay_walk.specs.Standing.{Says}
 use Rattle.replay_walk.specs.Walked.{IsRefused}
+use Rattle.replay_walk.proofs.Apart.{isnt_true, same_wanted}
 use Rattle.replay_walk.proofs.Acts.{event_act, answered}
 use Rattle.replay_walk.proofs.Settled.{within, ready, settled}
 use Rattle.replay_walk.proofs.Watched.{wants_at}
@@ -56,7 +57,8 @@ returns-in_default-clause-refused g c = λ no s st same.
     let going = c.is_going.ensures.going c.if-not-is_going.false s c.args.self.now.threads.items st in
     let d = settled g.T.TakesTurns.meaning s c.args.self.now.threads.items c.args.self.now.stage.queue
     c.args.self.now.stage.started c.args.self.now.stage.ends st c.args.entry.now.thread going
-    c.as_mut_slice-threads.result.now c.as_mut_slice-threads.ensures.value c.settle_at-turn.result c.settle_at-turn.new.threads c.settle_at-turn.ensures.settled in
+    c.as_mut_slice-threads.result.now c.as_mut_slice-threads.ensures.value c.settle_at-turn.result c.settle_at-turn.new.threads
+    c.settle_at-turn.ensures.settled in
     subst (λ (a : Act Event Reply Answer). IsRefused s c.args.limit c.args.at c.args.entry.now.thread a) (sym act)
     (refused_other g.T.TakesTurns.meaning s c.args.self.now.threads.items c.args.self.now.stage.queue
     c.args.self.now.stage.started c.args.self.now.stage.ends st c.args.entry.now.thread c.args.limit
@@ -69,12 +71,13 @@ returns-then-not-is_same_event-clause-refused g c = λ no s st same.
     let going = c.is_going.ensures.going c.if-not-is_going.false s c.args.self.now.threads.items st in
     let d = settled g.T.TakesTurns.meaning s c.args.self.now.threads.items c.args.self.now.stage.queue
     c.args.self.now.stage.started c.args.self.now.stage.ends st c.args.entry.now.thread going
-    c.as_mut_slice-threads.result.now c.as_mut_slice-threads.ensures.value c.settle_at-turn.result c.settle_at-turn.new.threads c.settle_at-turn.ensures.settled in
+    c.as_mut_slice-threads.result.now c.as_mut_slice-threads.ensures.value c.settle_at-turn.result c.settle_at-turn.new.threads
+    c.settle_at-turn.ensures.settled in
     subst (λ (a : Act Event Reply Answer). IsRefused s c.args.limit c.args.at c.args.entry.now.thread a) (sym act)
     (refused_other g.T.TakesTurns.meaning s c.args.self.now.threads.items c.args.self.now.stage.queue
     c.args.self.now.stage.started c.args.self.now.stage.ends st c.args.entry.now.thread c.args.limit
     c.args.at going c.settle_at-turn.result c.settle_at-turn.new.threads d c.args.entry.now.event c.args.entry.now.reply c.requires.kind
-    (λ is. let apart : c.in-Wants.wanted ≡ c.args.entry.now.event = cc (is, c.in-Wants.is) in c.is_same_event.ensures.other c.if-not-is_same_event.true apart))
+    (λ is. c.is_same_event.ensures.other c.if-not-is_same_event.true (same_wanted c.in-Wants.is is)))
 
 pub show_event-requires-clause-within : goal.show_event-requires-clause-within
 show_event-requires-clause-within g c =
@@ -91,7 +94,8 @@ show_event-requires-clause-wants g c = λ x at.
     let going = c.is_going.ensures.going c.if-not-is_going.false s c.args.self.now.threads.items st in
     let d = settled g.T.TakesTurns.meaning s c.args.self.now.threads.items c.args.self.now.stage.queue
     c.args.self.now.stage.started c.args.self.now.stage.ends st c.args.entry.now.thread going
-    c.as_mut_slice-threads.result.now c.as_mut_slice-threads.ensures.value c.settle_at-turn.result c.settle_at-turn.new.threads c.settle_at-turn.ensures.settled in
+    c.as_mut_slice-threads.result.now c.as_mut_slice-threads.ensures.value c.settle_at-turn.result c.settle_at-turn.new.threads
+    c.settle_at-turn.ensures.settled in
     let same : c.in-Wants.wanted ≡ c.args.entry.now.event = c.is_same_event.ensures.same c.if-not-is_same_event.false in
     let says = subst (λ (t : Turn). Says s.program d.thread t) (c.in-Wants.is ∙ ap (λ (e : Event). turns.Wants e) same) d.says in
     wants_at g.T.TakesTurns.meaning s c.settle_at-turn.new.threads c.args.self.now.stage.queue c.args.self.now.stage.started
@@ -109,7 +113,8 @@ make-requires-clause-room g c = λ arg is.
     let going = c.is_going.ensures.going c.if-not-is_going.false s c.args.self.now.threads.items st in
     let d = settled g.T.TakesTurns.meaning s c.args.self.now.threads.items c.args.self.now.stage.queue
     c.args.self.now.stage.started c.args.self.now.stage.ends st c.args.entry.now.thread going
-    c.as_mut_slice-threads.result.now c.as_mut_slice-threads.ensures.value c.settle_at-turn.result c.settle_at-turn.new.threads c.settle_at-turn.ensures.settled in
+    c.as_mut_slice-threads.result.now c.as_mut_slice-threads.ensures.value c.settle_at-turn.result c.settle_at-turn.new.threads
+    c.settle_at-turn.ensures.settled in
     let same : c.in-Wants.wanted ≡ c.args.entry.now.event = c.is_same_event.ensures.same c.if-not-is_same_event.false in
     let says = subst (λ (t : Turn). Says s.program d.thread t) (c.in-Wants.is ∙ ap (λ (e : Event). turns.Wants e) same) d.says in
     c.settle_at-turn.ensures.count ∙ (ap (λ (l : List g.row.T.Denot). length l) c.as_mut_slice-threads.ensures.value
@@ -121,7 +126,8 @@ make-requires-clause-settled g c =
     let going = c.is_going.ensures.going c.if-not-is_going.false s c.args.self.now.threads.items st in
     let d = settled g.T.TakesTurns.meaning s c.args.self.now.threads.items c.args.self.now.stage.queue
     c.args.self.now.stage.started c.args.self.now.stage.ends st c.args.entry.now.thread going
-    c.as_mut_slice-threads.result.now c.as_mut_slice-threads.ensures.value c.settle_at-turn.result c.settle_at-turn.new.threads c.settle_at-turn.ensures.settled in
+    c.as_mut_slice-threads.result.now c.as_mut_slice-threads.ensures.value c.settle_at-turn.result c.settle_at-turn.new.threads
+    c.settle_at-turn.ensures.settled in
     let same : c.in-Wants.wanted ≡ c.args.entry.now.event = c.is_same_event.ensures.same c.if-not-is_same_event.false in
     let says = subst (λ (t : Turn). Says s.program d.thread t) (c.in-Wants.is ∙ ap (λ (e : Event). turns.Wants e) same) d.says in
     (s, d.thread, d.on, c.requires.standing.2, says.0, says.1)
@@ -132,7 +138,8 @@ returns-clause-taken g c = λ yes s st same.
     let going = c.is_going.ensures.going c.if-not-is_going.false s c.args.self.now.threads.items st in
     let d = settled g.T.TakesTurns.meaning s c.args.self.now.threads.items c.args.self.now.stage.queue
     c.args.self.now.stage.started c.args.self.now.stage.ends st c.args.entry.now.thread going
-    c.as_mut_slice-threads.result.now c.as_mut_slice-threads.ensures.value c.settle_at-turn.result c.settle_at-turn.new.threads c.settle_at-turn.ensures.settled in
+    c.as_mut_slice-threads.result.now c.as_mut_slice-threads.ensures.value c.settle_at-turn.result c.settle_at-turn.new.threads
+    c.settle_at-turn.ensures.settled in
     let alike : c.in-Wants.wanted ≡ c.args.entry.now.event = c.is_same_event.ensures.same c.if-not-is_same_event.false in
     let says = subst (λ (t : Turn). Says s.program d.thread t) (c.in-Wants.is ∙ ap (λ (e : Event). turns.Wants e) alike) d.says in
     let made = c.make.ensures.made yes s d.thread d.on same says.0 says.1 in
@@ -155,13 +162,13 @@ returns-clause-refused g c = λ no s st same.
     (λ is. c.make.ensures.refused no (is ∙ ap (λ (m : Memory). reply_of m c.args.entry.now.event) same)))
 
 pub returns-then-at-limit-clause-taken : goal.returns-then-at-limit-clause-taken
-returns-then-at-limit-clause-taken g c = λ yes. absurd (cc yes)
+returns-then-at-limit-clause-taken g c = λ yes. isnt_true yes
 
 pub returns-in_default-clause-taken : goal.returns-in_default-clause-taken
-returns-in_default-clause-taken g c = λ yes. absurd (cc yes)
+returns-in_default-clause-taken g c = λ yes. isnt_true yes
 
 pub returns-then-not-is_same_event-clause-taken : goal.returns-then-not-is_same_event-clause-taken
-returns-then-not-is_same_event-clause-taken g c = λ yes. absurd (cc yes)
+returns-then-not-is_same_event-clause-taken g c = λ yes. isnt_true yes
 
 pub returns-in_default-clause-count : goal.returns-in_default-clause-count
 returns-in_default-clause-count g c = count_back c.settle_at-turn.new.threads c.as_mut_slice-threads.result.now _ _ _

@@ -12,6 +12,7 @@ use Rattle.schedule.specs.System.{Act}
 use Rattle.schedule_threads.specs.Shared.{act_of}
 use Rattle.interp_trait.specs.declared.turn.Turn.{Turn}
 use Rattle.replay_walk.specs.Standing.{Says}
+use Rattle.replay_walk.proofs.Apart.{isnt_true, isnt_false, ended_wants}
 use Rattle.replay_walk.proofs.Made.{is_free}
 use Rattle.replay_walk.specs.Walked.{IsRefused}
 use Rattle.replay_walk.proofs.Acts.{leave_act}
@@ -56,7 +57,7 @@ returns-then-at-limit-clause-refused g c = λ no s st.
     subst (λ (a : Act Event Reply Answer). IsRefused s c.args.limit c.args.at c.args.entry.now.thread a) (sym act)
     (refused_leave g.T.TakesTurns.meaning s c.args.self.now.threads.items c.args.self.now.stage.queue
     c.args.self.now.stage.started c.args.self.now.stage.ends st c.args.entry.now.thread c.args.limit
-    c.args.at going c.settle_at-turn.result c.settle_at-turn.new.threads d (λ o is. cc (is, c.in-Wants.is)) (λ e is. c.if-at-limit.true))
+    c.args.at going c.settle_at-turn.result c.settle_at-turn.new.threads d (λ o is. ended_wants is c.in-Wants.is) (λ e is. c.if-at-limit.true))
 
 pub returns-in_default-clause-refused : goal.returns-in_default-clause-refused
 returns-in_default-clause-refused g c = λ no s st.
@@ -121,16 +122,16 @@ returns-clause-taken g c = λ yes s st same.
     (c.leave.ensures.stands s d.thread l.thread c.settle_at-turn.new.threads d.on (l.can).wants l.ended l.left l.here)
 
 pub returns-then-not-is_going-clause-taken : goal.returns-then-not-is_going-clause-taken
-returns-then-not-is_going-clause-taken g c = λ yes. absurd (cc yes)
+returns-then-not-is_going-clause-taken g c = λ yes. isnt_true yes
 
 pub returns-then-at-limit-clause-taken : goal.returns-then-at-limit-clause-taken
-returns-then-at-limit-clause-taken g c = λ yes. absurd (cc yes)
+returns-then-at-limit-clause-taken g c = λ yes. isnt_true yes
 
 pub returns-in_default-clause-taken : goal.returns-in_default-clause-taken
-returns-in_default-clause-taken g c = λ yes. absurd (cc yes)
+returns-in_default-clause-taken g c = λ yes. isnt_true yes
 
 pub returns-clause-refused : goal.returns-clause-refused
-returns-clause-refused g c = λ no. absurd (cc no)
+returns-clause-refused g c = λ no. isnt_false no
 
 pub returns-in_default-clause-count : goal.returns-in_default-clause-count
 returns-in_default-clause-count g c = count_back c.settle_at-turn.new.threads c.deref_mut.result.now _ _ _
