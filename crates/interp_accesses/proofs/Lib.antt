@@ -1,5 +1,8 @@
 pub mod Cuts
-pub mod Replies
+pub mod Replied
 pub mod Loading
 pub mod Storing
 pub mod Paging
+pub mod Rest
+pub mod Taken
+pub mod Turns

@@ -1,1 +1,3 @@
 pub mod Done
+pub mod Requests
+pub mod Replies

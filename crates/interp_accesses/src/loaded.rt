@@ -7,7 +7,7 @@ ghost use Rattle.interp_state.specs.Words.{word_of, IsWord};
 
 use interp_numeric::sign_extended;
 use interp_state::word;
-use shared_memory_lanes::low_bytes;
+use shared_memory_sequential::low_bytes;
 use types::LoadOp;
 
 /// The word of the value that a load makes of a number in memory: the bits that it takes, with zeros or copies of the sign

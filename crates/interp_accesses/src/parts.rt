@@ -4,7 +4,7 @@
 ghost use Rattle.std.specs.Prelude.{◌≡◌, ◌+◌, ◌*◌, ◌%◌, ◌^◌, ◌<◌, ◌≤◌, true, false};
 ghost use Rattle.interp_machine.specs.Access as access;
 
-use shared_memory_lanes::low_bytes;
+use shared_memory_sequential::low_bytes;
 use types::Event;
 
 /// How many bytes of an access lie in its first word.

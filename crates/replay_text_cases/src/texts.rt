@@ -3,7 +3,7 @@
 use crate::reading::{KEPT, comes_to};
 use std::alloc::AllocError;
 use test_cases::{Case, Stop, Tally, read_file};
-use test_edits::{Edit, edited};
+use test_cases::{Edit, edited};
 
 /// Reads a text, and says where it comes to something else than wanted.
 fn try_text(

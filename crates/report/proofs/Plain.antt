@@ -1,6 +1,6 @@
 -- The plain jobs among all jobs.
 use Rattle.std.proofs.Common.{ℕ, ◌≡◌, List, Option, Bor, refl}
-use Rattle.show_choice.specs.declared.choice.Look.{Look}
+use Rattle.report_choice.specs.declared.choice.Look.{Look}
 use Rattle.report_command.specs.declared.command_line.Job.{Job}
 use Rattle.report_command.specs.declared.command_line.Job.TheVariants.{Check, Run, Replay, Show}
 use Rattle.report_command.specs.declared.command_line.Job.TheVariants as jobs

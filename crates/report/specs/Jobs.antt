@@ -7,7 +7,7 @@ use Rattle.report_command.specs.declared.search.Search.{Search}
 use Rattle.report_jobs.specs.Prints.{Change}
 use Rattle.report_jobs.specs.Jobs.{IsNoValidModule, IsNoRecordOf, IsRecordOf, HasNoSuchCall}
 use Rattle.report_jobs.specs.Plain.{PerformsPlain}
-use Rattle.report_searches.specs.Searches.{HasSearched, request_of_search}
+use Rattle.report.specs.Searches.{HasSearched, request_of_search}
 
 -- What the status of a show says: 0 of a record of a run, 2 of a refused module, 4 of a record of no run. 5 is that memory or a stream
 -- failed.

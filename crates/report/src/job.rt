@@ -4,13 +4,13 @@ ghost use Rattle.report_command.specs.Jobs.{IsInRange};
 ghost use Rattle.report_command.specs.Searches.{IsSearchInRange};
 ghost use Rattle.report_jobs.specs.Jobs.{HasNoSuchCall, IsRecordOf, IsNoRecordOf, IsNoValidModule};
 ghost use Rattle.report_jobs.specs.Prints.{change};
-ghost use Rattle.report_searches.specs.Searches.{HasSearched, request_of_search};
+ghost use Rattle.report.specs.Searches.{HasSearched, request_of_search};
 ghost use Rattle.report.specs.Jobs.{Performs};
 
 use report_command::{Job, Look, Search, View};
 use report_jobs::{complain, load, perform_plain, refuse};
-use report_searches::search_module;
-use report_shows::show_saved;
+use crate::search_module;
+use crate::show_saved;
 use search_reach::Follows;
 use std::alloc::Global;
 use std::io::Write;

@@ -7,7 +7,7 @@ use crate::wanted::Wanted;
 use std::sync::Wait;
 use std::thread::Threads;
 use test_cases::{Stop, Tally};
-use test_edits::{Edit, edited};
+use test_cases::{Edit, edited};
 
 /// Says of a row that it can't be read.
 fn tell_row(rt: &HostRuntime, place: Place, row: &str, tally: &mut Tally) {

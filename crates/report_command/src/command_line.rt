@@ -10,7 +10,7 @@ use crate::show::{SHOW, View, misread, show_job};
 use clap::builder::ValueParser;
 use clap::error::ErrorKind;
 use clap::{ArgMatches, Command, Error};
-use show_choice::Look;
+use report_choice::Look;
 use std::alloc::{AllocError, Global};
 use types::{MOST_FUEL, MOST_LIMIT};
 

@@ -8,6 +8,6 @@ mod show;
 
 pub use command_line::{Job, Misuse, Order, Usage, asked, command, misused};
 pub use search::Search;
-pub use search_choice::Way;
+pub use report_choice::Way;
 pub use show::{At, View};
-pub use show_choice::{Color, Look};
+pub use report_choice::{Color, Look};

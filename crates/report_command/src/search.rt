@@ -7,7 +7,7 @@ use crate::arguments::{Argument, CommandRow, FLAG, OPTION};
 use crate::command_line::{ARGS, DUMP, FILE, FUEL, INVOKE, Job, LIMIT, args_of, bounds_of};
 use clap::ArgMatches;
 use clap::builder::ValueParser;
-use search_choice::{MOST_DEPTH, Way};
+use report_choice::{MOST_DEPTH, Way};
 use std::alloc::{AllocError, Global};
 
 /// A search through runs of a function of a module.

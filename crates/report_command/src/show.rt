@@ -8,7 +8,7 @@ use crate::arguments::{Argument, CommandRow, Form, OPTION};
 use crate::command_line::{DUMP_MOST, FILE, Job, Misuse, RECORD};
 use clap::ArgMatches;
 use clap::builder::ValueParser;
-use show_choice::{Choice, Color, Look, Span};
+use report_choice::{Choice, Color, Look, Span};
 use std::alloc::{AllocError, Global};
 use types::MOST_THREADS;
 

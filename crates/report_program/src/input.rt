@@ -2,7 +2,7 @@
 
 use crate::stop::Stop;
 use report_command::{Job, Search};
-use report_files::{Unread, read_module, read_saved};
+use crate::{Unread, read_module, read_saved};
 
 /// What a job reads: a module, a record where one is replayed or shown, and the file that has the names, where it is
 /// another one.

@@ -1,15 +1,23 @@
-//! A program but for what it does of its jobs: the command line, the files and the streams.
+//! A program but for what it does of its jobs: the command line, the files and the streams. Of files there are the front of one that
+//! is read, and a record that takes the place of one once all of it is there; of streams one whose reader went away.
 #![tactic(auto)]
 
+mod beside;
 mod copied;
 mod input;
 mod order;
+mod reading;
+mod saving;
 mod stop;
+mod streams;
 mod task;
 mod telling;
 
 pub use copied::Copied;
 pub use input::Input;
 pub use order::{order_of, words_of};
+pub use reading::{Unread, read_front, read_module, read_saved};
+pub use saving::{Place, SavedFile, is_one_file};
+pub use streams::Noted;
 pub use task::{Task, open_task};
 pub use telling::{tell, tell_usage};

@@ -2,7 +2,7 @@
 
 use crate::telling::{tell_file_fault, tell_no_memory, tell_usage};
 use report_command::Usage;
-use report_files::Unread;
+use crate::Unread;
 use std::io;
 
 /// Why a job isn't done.

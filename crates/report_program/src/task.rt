@@ -5,7 +5,7 @@ use crate::input::{Input, read};
 use crate::stop::Stop;
 use crate::telling::{tell, tell_file_fault};
 use report_command::{Job, Misuse, Search, misused};
-use report_files::{Noted, Place, SavedFile, is_one_file};
+use crate::{Noted, Place, SavedFile, is_one_file};
 use std::io::{self, BufWriter, ErrorKind, Write};
 
 /// The bytes of standard output, which is written in one piece: 64 lines of threads, one of pages and 4096 bytes shown fit.

@@ -2,14 +2,14 @@
 
 ghost use Rattle.std.specs.Prelude.{◌≡◌, IfOk, IfErr};
 ghost use Rattle.std.specs.String.{string_bytes};
-ghost use Rattle.show_reasons.specs.Added.{IsAddedTo};
+ghost use Rattle.report_reasons.specs.Added.{IsAddedTo};
 
 use crate::misfit::{Unfit, unfit_in};
 use binary::read;
 use binary_wire::ReadFault;
 use replay_text::{Record, RecordFault, read_record};
 use report_command::Job;
-use show_reasons::{Misfit, Refused, explain};
+use crate::{Misfit, Refused, explain};
 use std::alloc::{AllocError, Global};
 use std::str::from_utf8;
 use types::Module;

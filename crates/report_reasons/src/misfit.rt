@@ -7,7 +7,7 @@ use replay::{ReplayFault, replay_watched};
 use replay_text::Record;
 use replay_walk::{Walk, Watch};
 use shared_memory_sequential::OneMemory;
-use show_reasons::Instead;
+use crate::Instead;
 use show_rows::CodeMap;
 use std::alloc::{AllocError, Global};
 use types::{Entry, Parts};

@@ -1,13 +1,13 @@
 //! How much is read.
 
 use crate::room::{make_room, path_in};
-use report_files::{Unread, read_front, read_module, read_saved};
+use report_program::{Unread, read_front, read_module, read_saved};
 use std::alloc::Global;
 use std::fs;
 use std::io::{self, Read};
 use std::path::PathBuf;
 use std::test::Fail;
-use test_answers::hold;
+use test_cases::hold;
 
 /// A reader without an end, and how many bytes it gave.
 #[derive(Drop)]

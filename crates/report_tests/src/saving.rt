@@ -1,13 +1,13 @@
 //! What is at a record's path before, while and after it is written.
 
 use crate::room::{count_in, make_room, path_in};
-use report_files::{Place, SavedFile, is_one_file};
+use report_program::{Place, SavedFile, is_one_file};
 use std::fs;
 use std::io::{self, Write};
 use std::os::unix::fs::symlink;
 use std::path::PathBuf;
 use std::test::Fail;
-use test_answers::hold;
+use test_cases::hold;
 
 /// What becomes of a record that is written.
 #[derive(Clone, Copy)]

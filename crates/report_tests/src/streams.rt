@@ -1,9 +1,9 @@
 //! Whether a stream was closed.
 
-use report_files::Noted;
+use report_program::Noted;
 use std::io::{self, ErrorKind, Write};
 use std::test::Fail;
-use test_answers::hold;
+use test_cases::hold;
 
 /// A stream that fails with this error.
 #[derive(Drop)]

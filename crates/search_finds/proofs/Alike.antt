@@ -1,8 +1,8 @@
 -- To end alike goes on from run to run.
 use Rattle.std.proofs.Common.{ℕ, refl, sym, ◌∙◌}
 use Rattle.replay.specs.declared.end.EndState.{EndState}
-use Rattle.search_endings.specs.declared.ending.Ending.{Ending}
-use Rattle.search_endings.specs.Endings.{HaveOneEnding, IsEndingOf, AreOneEnding}
+use Rattle.search_finds.specs.declared.ending.Ending.{Ending}
+use Rattle.search_finds.specs.Endings.{HaveOneEnding, IsEndingOf, AreOneEnding}
 
 pub alike_itself : (dump : ℕ) (x : EndState) → HaveOneEnding dump x x
 alike_itself dump x = record { outcomes = refl; pages = refl; bytes = refl }

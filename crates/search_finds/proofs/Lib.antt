@@ -1,2 +1,4 @@
 mod Alike
 mod Popped
+mod Differing
+pub mod Noting

@@ -6,9 +6,9 @@ use Rattle.replay.specs.Runs.{IsRunOf}
 use Rattle.spawn_host.specs.declared.call.Call.{Call}
 use Rattle.search_scheduled.specs.Headers.{IsOfCall}
 use Rattle.search_scheduled.specs.declared.running.Made.{Made}
-use Rattle.search_endings.specs.declared.ending.Ending.{Ending}
-use Rattle.search_endings.specs.Endings.{IsEndingOf}
-use Rattle.search_endings.specs.Words.{HasLineWith, LacksInThread0}
+use Rattle.search_finds.specs.declared.ending.Ending.{Ending}
+use Rattle.search_finds.specs.Endings.{IsEndingOf}
+use Rattle.search_finds.specs.Words.{HasLineWith, LacksInThread0}
 use Rattle.search_finds.specs.declared.sought.Sought.{Sought}
 
 -- Its record is of a run of the module by this call, which left what it says.

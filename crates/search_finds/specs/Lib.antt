@@ -1,2 +1,5 @@
 pub mod Finds
 pub mod Halts
+pub mod Endings
+pub mod Words
+pub mod Tables

@@ -7,8 +7,8 @@ ghost use Rattle.search_finds.specs.Halts.{IfFound};
 
 use crate::sought::Sought;
 use replay::EndState;
-use search_choice::{MOST_DEPTH, Way};
-use search_endings::{Ending, Table, ending_of};
+use report_choice::{MOST_DEPTH, Way};
+use crate::{Ending, Table, ending_of};
 use search_reach::{Follows, Wish};
 use search_scheduled::{Made, SearchFault, Spares, run_along, run_with_spares};
 use search_strategies::{Along, Pct, Random};

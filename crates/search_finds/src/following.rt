@@ -1,9 +1,9 @@
 //! The run to an ending.
 ghost use Rattle.std.specs.Prelude.{IfOk, IfSome};
-ghost use Rattle.search_endings.specs.Endings.{IsEndingOf};
+ghost use Rattle.search_finds.specs.Endings.{IsEndingOf};
 ghost use Rattle.search_finds.specs.Finds.{IsFind};
 
-use search_endings::{Ending, ending_of};
+use crate::{Ending, ending_of};
 use search_scheduled::{Made, SearchFault, run_along};
 use search_strategies::Chosen;
 use spawn_host::Call;

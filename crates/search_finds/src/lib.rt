@@ -2,6 +2,7 @@
 //! run with few switches of threads.
 //!
 //! - `Sought` says which runs are made, and what is looked for.
+//! - `Ending` is how a run ended, and `Table` counts the endings that were met.
 //! - `first_found` makes them one by one and notes their endings, up to the first that is looked for, or until it is told to end; `Halt`
 //!   says which.
 //! - `shrunk` tries parts of that run's schedule; a run that ends alike with fewer switches, or with as many and fewer entries, takes
@@ -12,14 +13,21 @@
 //! specs/Finds.antt).
 #![tactic(auto)]
 
+mod ending;
 mod finding;
 mod following;
+mod met;
 mod shrinking;
 mod size;
 mod sought;
+mod table;
+mod words;
 
+pub use ending::{Ending, ending_of, have_one_ending};
 pub use finding::{Found, Halt, Searched, first_found};
 pub use following::run_to;
+pub use met::{Met, Table};
 pub use shrinking::shrunk;
 pub use size::{Size, size_of};
 pub use sought::Sought;
+pub use words::{has_line_with, lacks_in_thread_0};

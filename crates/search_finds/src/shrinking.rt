@@ -1,10 +1,10 @@
 //! Of a run one with fewer switches of threads that ends alike.
 ghost use Rattle.std.specs.Prelude.{IfOk, IfSome};
-ghost use Rattle.search_endings.specs.Endings.{HaveOneEnding};
+ghost use Rattle.search_finds.specs.Endings.{HaveOneEnding};
 ghost use Rattle.search_finds.specs.Finds.{IsFind};
 
 use crate::size::{schedule_of, size_of};
-use search_endings::have_one_ending;
+use crate::have_one_ending;
 use search_scheduled::{Made, SearchFault, run_along};
 use search_strategies::Along;
 use spawn_host::Call;

@@ -1,10 +1,10 @@
 //! What is looked for.
 ghost use Rattle.std.specs.Prelude.{◌≡◌, ◌↔◌, true, IfOk, Some};
-ghost use Rattle.search_endings.specs.Words.{HasLineWith, LacksInThread0};
+ghost use Rattle.search_finds.specs.Words.{HasLineWith, LacksInThread0};
 ghost use Rattle.search_finds.specs.Finds.{IsLookedFor};
 
-use search_choice::Way;
-use search_endings::{Ending, has_line_with, lacks_in_thread_0};
+use report_choice::Way;
+use crate::{Ending, has_line_with, lacks_in_thread_0};
 use std::alloc::{AllocError, Global};
 
 /// Which runs are made, and what is looked for.

@@ -12,8 +12,8 @@ use Rattle.search_threads.specs.Budgets.{first_without}
 use Rattle.search_settled.specs.Settled.{Settles}
 use Rattle.search_settled.specs.Next.{IsBeginning}
 use Rattle.search_runs.specs.Called.{Called, Walker as Thread, system_of, first_state, first_shared}
-use Rattle.search_states.specs.Flat.{IsFlat}
-use Rattle.search_states.specs.declared.flat.Flat.{Flat}
+use Rattle.search_settled.specs.Flat.{IsFlat}
+use Rattle.search_settled.specs.declared.flat.Flat.{Flat}
 use Rattle.search_walkers.specs.Walkers.{RestsAt}
 use Rattle.search_walkers.specs.declared.walker.Standing.{Standing}
 use Rattle.search_walkers.specs.declared.walker.Standing.TheVariants as standings

@@ -26,7 +26,7 @@ use Rattle.spawn_host.specs.Entries.{StartsThreads, CallsThreadStart, Takes}
 use Rattle.spawn_host.specs.Runs.{Beginning}
 use Rattle.spawn_host.proofs.Calling.{is_there}
 use Rattle.replay.proofs.Openable.{module_opens}
-use Rattle.search_ends.specs.Returned.{IsCall}
+use Rattle.search_modules.specs.Returned.{IsCall}
 use Rattle.search_modules.specs.Searching.{type_at, call_by, call_of, takes, can_call, can_spawn, worker_of, called_of, is_callable}
 use Rattle.search_modules.specs.Endings.{IsWorkerOf}
 

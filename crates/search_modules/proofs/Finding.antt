@@ -14,8 +14,8 @@ use Rattle.search_settled.specs.Next.{IsFirstOf}
 use Rattle.search_runs.specs.Called.{Called, Walker as Thread, system_of, first_state}
 use Rattle.search_runs.specs.Ends.{Ending, HasEndedSo}
 use Rattle.search_runs.proofs.Tame.{scheduled}
-use Rattle.search_ends.specs.Returned.{IsCall, ending_of}
-use Rattle.search_ends.proofs.Returning.{what_runs_return_is_reached}
+use Rattle.search_modules.specs.Returned.{IsCall, ending_of}
+use Rattle.search_modules.proofs.Returning.{what_runs_return_is_reached}
 use Rattle.search_parts.specs.Endings.{is_same_ending}
 use Rattle.search_parts.specs.Equal.{equal_ones}
 use Rattle.search_parts.specs.Parts.{IsLost}

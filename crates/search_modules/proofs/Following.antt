@@ -7,7 +7,7 @@ use Rattle.schedule.specs.Scheduled.{after_event}
 use Rattle.schedule_threads.specs.Shared.{Shared}
 use Rattle.search_runs.specs.Called.{Walker as Thread, system_of, first_state}
 use Rattle.search_runs.proofs.Tame.{missing}
-use Rattle.search_states.specs.Flat.{RestsAfter, ComesAfter, BeginsAfter}
+use Rattle.search_settled.specs.Flat.{RestsAfter, ComesAfter, BeginsAfter}
 use Rattle.search_walkers.specs.Walkers.{RestsAt}
 use Rattle.search_walkers.specs.declared.walker.Standing.{Standing}
 use Rattle.search_walkers.specs.declared.walker.Standing.TheVariants as standings

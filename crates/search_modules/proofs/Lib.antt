@@ -4,3 +4,4 @@ pub mod Following
 pub mod Told
 pub mod Entries
 pub mod Finding
+pub mod Returning

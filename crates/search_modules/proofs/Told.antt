@@ -7,8 +7,8 @@ use Rattle.validate_typing.specs.Tabled.{WithTables}
 use Rattle.search_settled.specs.Next.{HasEnded, IsSomewhere}
 use Rattle.search_runs.specs.Called.{Called, Walker as Thread, system_of, first_state}
 use Rattle.search_runs.specs.Ends.{Ending, HasEndedSo}
-use Rattle.search_states.specs.Flat.{IsThreadOf, IsEventOf}
-use Rattle.search_states.specs.declared.flat.Flat.{Flat}
+use Rattle.search_settled.specs.Flat.{IsThreadOf, IsEventOf}
+use Rattle.search_settled.specs.declared.flat.Flat.{Flat}
 use Rattle.search_parts.specs.Endings.{IsStateOf}
 use Rattle.search_parts.specs.Sharing.{Shares, Makes, started_in}
 use Rattle.search_parts.specs.Parts.{IsRested, IsThreadIn}

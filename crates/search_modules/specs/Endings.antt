@@ -17,7 +17,7 @@ use Rattle.search_walkers.specs.Walkers.{patience}
 use Rattle.search_runs.specs.Called.{Called, Walker as Thread, system_of}
 use Rattle.search_runs.specs.Ends.{Ending, HasEndedSo}
 use Rattle.search_runs.specs.Theorems.{CanReach, IsScheduled}
-use Rattle.search_ends.specs.Returned.{IsCall, AllHadEnough, ending_of}
+use Rattle.search_modules.specs.Returned.{IsCall, AllHadEnough, ending_of}
 
 -- Every run of the module by this call, over a memory that loses tries or not, with a log or without one, and whatever its budget:
 -- where all its threads had units and room enough, its ending is there, with so many first bytes.

@@ -1,3 +1,4 @@
 pub mod Searching
 pub mod Moved
 pub mod Endings
+pub mod Returned

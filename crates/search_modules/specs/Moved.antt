@@ -4,8 +4,8 @@ use Rattle.types.specs.declared.event.Event.{Event}
 use Rattle.schedule.specs.System.{State}
 use Rattle.schedule_threads.specs.Shared.{Shared}
 use Rattle.search_runs.specs.Called.{Called, Walker as Thread, system_of, first_state}
-use Rattle.search_states.specs.Flat.{IsFlat, IsMadeBy}
-use Rattle.search_states.specs.declared.flat.Flat.{Flat}
+use Rattle.search_settled.specs.Flat.{IsFlat, IsMadeBy}
+use Rattle.search_settled.specs.declared.flat.Flat.{Flat}
 use Rattle.search_parts.specs.Sharing.{Shares, Makes, started_in}
 use Rattle.search_parts.specs.Parts.{IsRested, IsLost}
 use Rattle.search_parts.specs.declared.event.Made.{Made}

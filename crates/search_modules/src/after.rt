@@ -7,7 +7,7 @@ ghost use Rattle.schedule.specs.System.{State};
 ghost use Rattle.schedule.specs.Scheduled.{after_event};
 ghost use Rattle.schedule_threads.specs.Shared.{Shared};
 ghost use Rattle.search_runs.specs.Called.{Walker as Thread, system_of, first_state};
-ghost use Rattle.search_states.specs.Flat.{ComesAfter, BeginsAfter};
+ghost use Rattle.search_settled.specs.Flat.{ComesAfter, BeginsAfter};
 ghost use Rattle.search_walkers.specs.Walkers.{RestsAt};
 ghost use Rattle.search_parts.specs.Sharing.{Shares, Makes, started_in};
 ghost use Rattle.search_parts.specs.Parts.{IsAfter, IsLost};

@@ -8,7 +8,7 @@ ghost use Rattle.search_modules.specs.Endings.{HasEveryEnding, AllCanEndSo, CanB
 use crate::calling::searched;
 use search_parts::Ending;
 use search_reach::{Ended, Follows, Verdict, Wish};
-use search_states::search_all;
+use search_settled::search_all;
 use spawn_host::Call;
 use spawn_host_workers::RunFault;
 use std::alloc::Global;

@@ -7,7 +7,7 @@ ghost use Rattle.search_modules.specs.Moved.{called, IsState, IsStuck};
 
 use crate::called::Searched;
 use search_parts::{Common, SharedWalker, first_common, first_threads};
-use search_states::Flat;
+use search_settled::Flat;
 use search_walkers::begin;
 use std::alloc::{AllocError, Global};
 

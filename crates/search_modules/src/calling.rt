@@ -3,7 +3,7 @@
 ghost use Rattle.std.specs.Prelude.{◌≡◌, IfOk, IfErr};
 ghost use Rattle.validate_typing.specs.Validity.{HasDistinctNames};
 ghost use Rattle.spawn_host.specs.Faults.{IsFaultOf};
-ghost use Rattle.search_ends.specs.Returned.{IsCall};
+ghost use Rattle.search_modules.specs.Returned.{IsCall};
 ghost use Rattle.search_modules.specs.Endings.{IsWorkerOf};
 ghost use Rattle.search_modules.specs.Moved.{called};
 

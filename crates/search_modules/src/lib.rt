@@ -1,4 +1,8 @@
 //! All endings of a call of a module's function: its threads gone through in every order of their events.
+//!
+//! `report_runs::record_run` and `report_runs::run_on_words` say of what they answer that it is the end of a run (`EndsRun`,
+//! `EndsRunOnWords`). `specs/Returned.antt` says that such an end is one of those that the module's threads come to without
+//! budgets (crate `search_runs`), if no thread stopped for want of units or for a full log: so it is among what is found here.
 #![tactic(auto)]
 
 mod after;
@@ -7,7 +11,9 @@ mod beginning;
 mod called;
 mod calling;
 mod moves;
+mod returned;
 
 pub use all::all_endings;
+pub use returned::what_runs_return_is_reached;
 pub use search_parts::Ending;
 pub use search_reach::{Ended, Verdict};

@@ -4,7 +4,7 @@ use crate::after::{begun_after, thread_after};
 use crate::beginning::first_flat;
 use crate::called::Searched;
 use search_parts::{Common, Ending, Made, SharedWalker, ending_of, make_event};
-use search_states::{Flat, Moves};
+use search_settled::{Flat, Moves};
 use std::alloc::{AllocError, Global};
 
 impl Moves for Searched<'_> {

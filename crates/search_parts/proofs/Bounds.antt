@@ -22,15 +22,15 @@ use Rattle.search_settled.proofs.Reaching.{by_event}
 use Rattle.search_runs.proofs.Tame.{orderly, missing}
 use Rattle.search_runs.specs.Theorems.{CanReach}
 use Rattle.search_settled.specs.Next.{NobodyTurns}
-use Rattle.search_states.specs.Flat.{AreBounded}
+use Rattle.search_settled.specs.Flat.{AreBounded}
 use Rattle.search_runs.specs.Called.{Called, Walker, system_of, first_state, shared_by, begun_by}
 use Rattle.search_runs.specs.Ends.{HasEndedSo}
 use Rattle.validate_typing.specs.Tabled.{WithTables}
 use Rattle.search_memory.specs.contracts.beside.ChangesPartialEq.TheImpl as memories
 use Rattle.waiters.specs.contracts.kept.KeptQueuePartialEq.TheImpl as queues
 use Rattle.search_walkers.specs.contracts.walker.StandingPartialEq.TheImpl as standings
-use Rattle.search_same.proofs.Standings.{same_standing}
-use Rattle.search_same.proofs.SharedParts.{same_memory, same_queue}
+use Rattle.search_parts.proofs.Standings.{same_standing}
+use Rattle.search_parts.proofs.SharedParts.{same_memory, same_queue}
 use Rattle.search_parts.specs.Parts.{IsRested}
 use Rattle.search_parts.specs.Sharing.{Shares, started_in}
 use Rattle.search_parts.specs.declared.shared.Common.{Common}

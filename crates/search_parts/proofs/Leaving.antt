@@ -11,7 +11,7 @@ use Rattle.schedule_threads.specs.Shared.{Shared}
 use Rattle.search_memory.specs.Memories.{memory_of}
 use Rattle.search_threads.specs.Unlimited.{Unlimited.Away as Left}
 use Rattle.search_settled.specs.Next.{IsAt}
-use Rattle.search_states.specs.declared.flat.Flat.{Flat}
+use Rattle.search_settled.specs.declared.flat.Flat.{Flat}
 use Rattle.search_runs.specs.Called.{Called, Walker as Thread, system_of, first_state}
 use Rattle.search_runs.specs.Ends.{Ending, HasEndedSo}
 use Rattle.search_runs.proofs.Tame.{missing}

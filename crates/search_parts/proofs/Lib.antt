@@ -4,3 +4,6 @@ pub mod AtRest
 pub mod Opened
 pub mod Leaving
 pub mod Untouching
+pub mod Values
+pub mod Standings
+pub mod SharedParts

@@ -7,8 +7,8 @@ use Rattle.types.specs.contracts.outcome.OutcomePartialEq.TheImpl as outcomes
 use Rattle.validate_typing.specs.Tabled.{WithTables}
 use Rattle.schedule.specs.System.{State}
 use Rattle.schedule_threads.specs.Shared.{Shared}
-use Rattle.search_states.specs.declared.flat.Flat.{Flat}
-use Rattle.search_states.specs.Flat.{IsFlat}
+use Rattle.search_settled.specs.declared.flat.Flat.{Flat}
+use Rattle.search_settled.specs.Flat.{IsFlat}
 use Rattle.search_runs.specs.Called.{Called, Walker as Thread, system_of, first_state}
 use Rattle.search_runs.specs.Ends.{Ending}
 use Rattle.search_walkers.specs.declared.walker.Standing.{Standing}

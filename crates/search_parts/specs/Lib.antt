@@ -3,3 +3,4 @@ pub mod Parts
 pub mod Endings
 pub mod Equal
 pub mod Untouched
+pub mod Same

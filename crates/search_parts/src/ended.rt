@@ -10,7 +10,7 @@ ghost use Rattle.search_parts.specs.Endings.{outcome_away, HaveLeft, IsOneHere, 
 use crate::shared::Common;
 use crate::shared_walker::SharedWalker;
 use search_memory::memory;
-use search_states::Flat;
+use search_settled::Flat;
 use search_walkers::Standing;
 use std::alloc::{AllocError, Global};
 use std::hash::{Hash, Hasher};

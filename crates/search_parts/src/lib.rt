@@ -1,5 +1,5 @@
 //! The parts of a state of a search: what a module's threads share, and each of them at rest; what an event makes of them, and how
-//! they have ended.
+//! they have ended. What is equal in a search is the same.
 #![tactic(auto)]
 
 mod digest;
@@ -7,6 +7,7 @@ mod ended;
 mod event;
 mod opening;
 mod resting;
+mod same;
 mod shared;
 mod shared_walker;
 mod stepping;
@@ -16,6 +17,7 @@ pub use ended::{Ending, ending_of, equal_endings_are_the_same};
 pub use event::{Begun, Made};
 pub use opening::{first_common, first_threads};
 pub use resting::rest_after;
+pub use same::{equal_memories_are_the_same, equal_queues_are_the_same, equal_standings_are_the_same};
 pub use shared::{Common, Walker};
 pub use shared_walker::SharedWalker;
 pub use stepping::make_event;

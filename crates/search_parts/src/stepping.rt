@@ -4,7 +4,7 @@ ghost use Rattle.std.specs.Prelude.{IfOk};
 ghost use Rattle.schedule.specs.System.{State};
 ghost use Rattle.schedule_threads.specs.Shared.{Shared};
 ghost use Rattle.search_runs.specs.Called.{Called, Walker as Thread, system_of, first_state};
-ghost use Rattle.search_states.specs.Flat.{IsEventOf};
+ghost use Rattle.search_settled.specs.Flat.{IsEventOf};
 ghost use Rattle.search_parts.specs.Parts.{IsThreadIn, IsRested};
 ghost use Rattle.search_parts.specs.Sharing.{Shares, Makes, started_in};
 

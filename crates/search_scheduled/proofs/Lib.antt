@@ -2,3 +2,7 @@ pub mod Rebased
 pub mod SpareLaws
 pub mod Beginnings
 pub mod Unused
+pub mod Settling
+pub mod Answering
+pub mod Leaving
+pub mod Courses

@@ -8,8 +8,8 @@ use Rattle.schedule_runs.proofs.Places.{place_unstarted}
 use Rattle.interp_trait.specs.Turns.{Meaning, spawn_types}
 use Rattle.replay_walk.specs.Standing.{StandsAt, Standing, IsStanding}
 use Rattle.replay_walk.specs.Walked.{Run, standing_in}
-use Rattle.search_walk.specs.declared.course.Course.{Course}
-use Rattle.search_walk.specs.Courses.{CameAlong}
+use Rattle.search_scheduled.specs.declared.course.Course.{Course}
+use Rattle.search_scheduled.specs.Courses.{CameAlong}
 use Rattle.search_scheduled.specs.SpareThreads.{IsUnused}
 
 -- nothing lies behind the end of a list

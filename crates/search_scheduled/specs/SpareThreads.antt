@@ -15,8 +15,8 @@ use Rattle.spawn_host.specs.Threads.{IsFirst}
 use Rattle.replay_text.specs.declared.parts.RecordParts.{RecordParts}
 use Rattle.replay_walk.specs.Walked.{Run, start}
 use Rattle.replay.specs.Runs.{BeginsBy, start_of_record}
-use Rattle.search_walk.specs.declared.course.Course.{Course}
-use Rattle.search_walk.specs.Courses.{CameAlong}
+use Rattle.search_scheduled.specs.declared.course.Course.{Course}
+use Rattle.search_scheduled.specs.Courses.{CameAlong}
 
 -- So a spawned thread of the module begins, by its arguments.
 pub record IsWorker (m : Parts) (worker : List Value → Config) : Type 0 where

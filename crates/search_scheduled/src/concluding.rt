@@ -4,7 +4,7 @@ ghost use Rattle.shared_memory.specs.Memory.{Memory};
 ghost use Rattle.replay_text.specs.declared.parts.RecordParts.{RecordParts};
 ghost use Rattle.replay_rules.specs.Recorded.{IsRecordedRun};
 ghost use Rattle.replay_walk.specs.Walked.{Run, start};
-ghost use Rattle.search_walk.specs.Courses.{CameAlong};
+ghost use Rattle.search_scheduled.specs.Courses.{CameAlong};
 ghost use Rattle.search_scheduled.specs.Faults.{IsLater};
 ghost use Rattle.search_scheduled.specs.Headers.{HasHeaderOf, Concludes};
 ghost use Rattle.search_scheduled.specs.SpareThreads.{IsUnused};
@@ -14,7 +14,7 @@ use interp_trait::TakesTurns;
 use replay::{EndState, first_wrong_end};
 use replay_text::RecordParts;
 use replay_walk::Walk;
-use search_walk::Course;
+use crate::Course;
 use std::alloc::{AllocError, Global};
 use types::{Sequence, ThreadReport};
 

@@ -3,7 +3,7 @@ ghost use Rattle.std.specs.Prelude.{◌≡◌};
 ghost use Rattle.search_scheduled.specs.declared.fault.SearchFault.TheVariants.{NoMemory};
 ghost use Rattle.search_scheduled.specs.Faults.{IsLater};
 
-use search_walk::CourseFault;
+use crate::CourseFault;
 use std::alloc::{AllocError, AllocFailed};
 use thiserror::Error;
 

@@ -16,7 +16,7 @@ use interp::Thread;
 use replay::EndState;
 use replay_text::{Record, RecordParts, Version};
 use search_strategies::Strategy;
-use search_walk::Course;
+use crate::Course;
 use spawn_host::Call;
 use std::alloc::{AllocError, Global};
 use types::{MOST_PAGES, MOST_THREADS, Name, Sequence};

@@ -2,3 +2,5 @@ pub mod Resting
 pub mod Reaching
 pub mod Stepping
 pub mod Laws
+pub mod Threads
+pub mod Following

@@ -11,10 +11,19 @@
 //!   run, whatever the order of the turns.
 //! - `proofs/Resting.antt` and `proofs/Stepping.antt`: a turn from what comes to rest in a state stays there, or is the event of a
 //!   thread that rests. `proofs/Reaching.antt`: where threads come to rest can be reached, by their own turns.
+//! - `Flat` is a settled state as a value, `Moves` what a system supplies whose threads are moved one by one, and `search_all` the
+//!   search over these.
 #![tactic(auto)]
 
+mod flat;
+mod moves;
+mod next;
 mod settled;
+mod states;
 mod turns;
 
+pub use flat::Flat;
+pub use moves::Moves;
 pub use settled::SettledStates;
+pub use states::search_all;
 pub use turns::endings_of_turns;

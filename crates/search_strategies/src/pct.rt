@@ -1,12 +1,12 @@
 //! Priorities that change at few points (Burckhardt, Kothari, Musuvathi, Nagarakatte: A randomized scheduler with probabilistic
 //! guarantees of finding bugs. ASPLOS 2010).
 ghost use Rattle.std.specs.Prelude.{◌<◌, ◌≤◌, length};
-ghost use Rattle.search_choice.specs.Depths.{most_depth};
+ghost use Rattle.report_choice.specs.Depths.{most_depth};
 
 use crate::draws::Draws;
 use crate::strategy::Strategy;
 use arrayvec::ArrayVec;
-use search_choice::MOST_DEPTH;
+use report_choice::MOST_DEPTH;
 use types::MOST_THREADS;
 
 /// How many points of change there are at most.

@@ -2,8 +2,8 @@
 
 use binary::read;
 use replay::{ReplayFault, replay};
-use search_choice::{MOST_DEPTH, Way};
-use search_endings::{Ending, ending_of};
+use report_choice::{MOST_DEPTH, Way};
+use search_finds::{Ending, ending_of};
 use search_scheduled::{Made, SearchFault, run_along};
 use search_strategies::{Pct, Random, Strategy};
 use spawn_host::Call;

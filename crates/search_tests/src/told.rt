@@ -2,7 +2,7 @@
 
 use crate::modules::LOST_UPDATE;
 use crate::runs::{FUEL, LIMIT, Trouble, load};
-use search_choice::Way;
+use report_choice::Way;
 use search_finds::{Halt, Searched, Sought, first_found};
 use search_reach::{Follows, Wish};
 use spawn_host::Call;

@@ -4,7 +4,7 @@ ghost use Rattle.std.specs.List.{splice};
 ghost use Rattle.shared_memory.specs.Numbers.{le_number, le_bytes};
 ghost use Rattle.shared_memory.specs.Memory.{combined};
 
-use shared_memory_lanes::low_bytes;
+use crate::low_bytes;
 use types::RmwOp;
 
 /// The number in `width` bytes from `at` on.

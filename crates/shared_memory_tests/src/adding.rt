@@ -8,7 +8,7 @@ use std::alloc::Global;
 use std::test::Fail;
 use std::thread;
 use std::thread::Threads;
-use test_answers::hold;
+use test_cases::hold;
 use types::{Event, Reply, RmwOp};
 
 /// How many threads add at once.

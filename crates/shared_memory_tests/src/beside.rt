@@ -6,7 +6,7 @@ use shared_memory_script::{agree, script};
 use shared_memory_sequential::OneMemory;
 use std::alloc::Global;
 use std::test::Fail;
-use test_answers::hold;
+use test_cases::hold;
 use types::{Answer, Event};
 
 /// One seat along the script: each reply has to be the sequential memory's.

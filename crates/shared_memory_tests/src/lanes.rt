@@ -2,9 +2,9 @@
 
 ghost use Rattle.std.specs.Prelude.{◌<◌, ◌≤◌, ◌^◌};
 
-use shared_memory_lanes::{Part, lane, parts, with_lane};
+use shared_memory_sequential::{Part, lane, parts, with_lane};
 use std::test::Fail;
-use test_answers::hold;
+use test_cases::hold;
 
 const WORD: u64 = 0x1122_3344_5566_7788;
 

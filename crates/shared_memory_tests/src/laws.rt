@@ -3,7 +3,7 @@
 use crate::adding::add;
 use crate::trial::{IMAGE, THREE_PAGES, Trial, try_at_recorder};
 use shared_memory::SharedMemory;
-use shared_memory_lanes::{lane_elsewhere, lane_of_with_lane};
+use shared_memory_sequential::{lane_elsewhere, lane_of_with_lane};
 use shared_memory_laws::{
     a_prefix_of_a_legal_history_is_legal, a_question_is_open_until_its_answer_is_taken,
     a_worked_history, agree, an_answer_taken_leaves_the_queue_settled,
@@ -12,7 +12,7 @@ use shared_memory_laws::{
     one_history_per_longest_list, somebody_alive_is_awake, timeout_ends_only_where_all_sleep,
 };
 use std::test::Fail;
-use test_answers::hold;
+use test_cases::hold;
 
 #[test]
 fn laws_of_histories_ask_for_nothing() {

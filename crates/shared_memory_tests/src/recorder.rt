@@ -6,7 +6,7 @@ use locked_recorder::Finished;
 use shared_memory_script::replay;
 use shared_memory_sequential::OneMemory;
 use std::test::Fail;
-use test_answers::hold;
+use test_cases::hold;
 use types::{Event, MOST_LIMIT, Reply};
 
 #[test]

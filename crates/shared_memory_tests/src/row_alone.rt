@@ -5,7 +5,7 @@ use crate::trial::{PAGE, Trial, try_at_row};
 use shared_memory::SharedMemory;
 use std::alloc::Global;
 use std::test::Fail;
-use test_answers::hold;
+use test_cases::hold;
 use types::{Event, PAGE_SIZE, Reply};
 use word_row::{OpenFault, Prepared};
 

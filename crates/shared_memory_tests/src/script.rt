@@ -4,7 +4,7 @@ use shared_memory::is_event;
 use shared_memory_script::{is_of_memory, replay, script};
 use shared_memory_sequential::OneMemory;
 use std::test::Fail;
-use test_answers::hold;
+use test_cases::hold;
 use types::{Answer, Entry, Event, Question, Reply};
 
 /// The events of a list are of the memory.

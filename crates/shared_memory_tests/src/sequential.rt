@@ -5,7 +5,7 @@ use shared_memory::is_event;
 use shared_memory_sequential::{OneMemory, OpenFault};
 use std::alloc::Global;
 use std::test::Fail;
-use test_answers::hold;
+use test_cases::hold;
 use types::{Answer, Event, MOST_PAGES, PAGE_SIZE, Question, Reply, RmwOp};
 
 /// The bytes of a page.

@@ -10,7 +10,7 @@ use std::alloc::Global;
 use std::test::Fail;
 use std::thread;
 use std::thread::Threads;
-use test_answers::hold;
+use test_cases::hold;
 use types::{Event, Reply, RmwOp};
 use word_row::ClosedRow;
 

@@ -1,2 +1,3 @@
 pub mod Forward
 pub mod Lines
+pub mod Page

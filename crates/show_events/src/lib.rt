@@ -1,10 +1,15 @@
-//! The rows of a record as data: Trace Event JSON, an event a line, as Perfetto and chrome://tracing read it.
+//! The rows of a record as data: Trace Event JSON, an event a line, as Perfetto and chrome://tracing read it; and as a page that needs
+//! nothing else, with a lane for each thread, and its entries one below the other.
 #![tactic(auto)]
 
 mod event;
 mod line;
 mod links;
+mod page;
+mod script;
+mod style;
 mod write;
 
 pub use links::{Link, LinkKind, Links};
+pub use page::write_page;
 pub use write::{chosen_entries, write_events, write_trace};

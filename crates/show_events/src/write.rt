@@ -6,7 +6,7 @@ ghost use Rattle.show_events.specs.Lines.{AddsLine, AddsLines};
 use crate::event::{EntryArgs, entry_event, finish_event, name_event, start_event};
 use crate::line::{Front, write_event, write_line};
 use crate::links::{Link, LinkKind, Links};
-use show_choice::Look;
+use report_choice::Look;
 use show_rows::{Shown, Story};
 use show_text::Unwritten;
 use std::alloc::{AllocError, Global};

@@ -7,7 +7,7 @@ ghost use Rattle.show_lines.specs.Sections.{IsCustomOrEmpty};
 use crate::cursor::Cursor;
 use crate::fault::Fault;
 use crate::unit::read_unit;
-use show_sections::custom_section;
+use show_places::custom_section;
 use std::alloc::{AllocError, Global};
 
 /// Code that comes from one line of source: from an offset up to another, counted from the start of the code section's

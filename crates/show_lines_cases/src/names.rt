@@ -1,7 +1,7 @@
 //! Names of functions.
 
 use binary::read;
-use show_names::{function_name, read_names};
+use show_places::{function_name, read_names};
 use std::alloc::{AllocError, Global};
 use std::fmt::Write;
 use types::{Export, Module};

@@ -1,7 +1,7 @@
 //! Places of instructions.
 
 use show_places::{BodyPlaces, code_places};
-use show_sections::section_of;
+use show_places::section_of;
 use std::alloc::{AllocError, Global};
 use std::fmt::Write;
 

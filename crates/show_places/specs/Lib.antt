@@ -1,2 +1,4 @@
 pub mod Bodies
 pub mod Places
+pub mod Sections
+pub mod Names

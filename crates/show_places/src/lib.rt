@@ -1,11 +1,17 @@
-//! Where instructions stand in a module: the offsets of a function's instructions from the start of the code section's
-//! contents, as symbolizers count them.
+//! A module's bytes as debuggers count them, section by section (Core specification 1.0, sections 5.5.2 and 5.5.3): the sections
+//! of an id or a name, what functions are called, and where the instructions of a function stand, as offsets from the start of the
+//! code section's contents.
 //!
-//! `specs/Places.antt` computes the offsets from the bytes, beside the reading of crate `binary_instructions`.
+//! Nothing is asked of the bytes: where they are malformed, there is no section. `specs/Places.antt` computes the offsets from the
+//! bytes, beside the reading of crate `binary_instructions`.
 #![tactic(auto)]
 
 mod bodies;
+mod names;
 mod places;
+mod sections;
 
 pub use bodies::{BodyPlaces, code_places};
+pub use names::{FunctionName, Named, function_name, read_names};
 pub use places::{one_place_each, read_places};
+pub use sections::{Section, custom_section, next_section, section_of, subsection_of};

@@ -4,9 +4,9 @@ use crate::spot::Spot;
 use binary_wire::ReadFault;
 use interp::Place;
 use show_lines::{DebugSections, LineTable, read_lines};
-use show_names::{Named, function_name, read_names};
+use show_places::{Named, function_name, read_names};
 use show_places::{BodyPlaces, code_places};
-use show_sections::section_of;
+use show_places::section_of;
 use std::alloc::{AllocError, Global};
 use types::{Import, ImportDesc, Instr, Parts, PlainInstr, Sequence};
 

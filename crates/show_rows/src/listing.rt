@@ -3,9 +3,9 @@
 use crate::code::CodeMap;
 use interp::Place;
 use replay_text::RecordParts;
-use show_choice::{Color, Look};
+use report_choice::{Color, Look};
 use show_text::{Context, Sheet, Unwritten, Wake, Words, all_wakes, contexts};
-use show_walk::Row;
+use crate::Row;
 use std::alloc::{AllocError, Global};
 use std::fmt::Write as _;
 use std::io::Write;

@@ -1,6 +1,6 @@
 //! A place in a module, as it is printed.
 
-use show_names::FunctionName;
+use show_places::FunctionName;
 use show_text::Plain;
 use std::fmt::{self, Formatter, Write};
 

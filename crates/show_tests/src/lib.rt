@@ -9,6 +9,8 @@ mod data;
 #[cfg(test)]
 mod listings;
 #[cfg(test)]
+mod made;
+#[cfg(test)]
 mod outputs;
 #[cfg(test)]
 mod reasons;

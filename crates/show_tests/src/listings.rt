@@ -4,14 +4,14 @@ use crate::asserts::is_text;
 use crate::data::{KINDS, LATE, NAMES, RECORD, SMALL, TOLD, TOLD_2};
 use interp::Place;
 use replay_text::Record;
-use show_choice::{Choice, Color, Look, Span};
+use report_choice::{Choice, Color, Look, Span};
 use show_rows::{CodeMap, Shown, write_rows};
-use show_walk::Row;
+use show_rows::Row;
 use std::alloc::Global;
 use std::process::Abort;
 use std::test::Fail;
 use test_modules::TELLING;
-use test_runs::{module_of, record_of, rows_of};
+use crate::made::{module_of, record_of, rows_of};
 use validate::ValidModule;
 
 /// A record of a run of a module, with the names of a file, what is chosen of it, and what is printed.

@@ -3,15 +3,15 @@
 use crate::asserts::is_text;
 use crate::data::TOLD;
 use replay_text::Record;
-use show_choice::{Choice, Color, Look};
+use report_choice::{Choice, Color, Look};
 use show_events::write_trace;
-use show_page::write_page;
+use show_events::write_page;
 use show_rows::{CodeMap, Shown};
 use std::alloc::Global;
 use std::process::Abort;
 use std::test::Fail;
 use test_modules::TELLING;
-use test_runs::{module_of, record_of, rows_of};
+use crate::made::{module_of, record_of, rows_of};
 use validate::ValidModule;
 
 /// A name of function 1, by which a page's script would end.

@@ -4,7 +4,7 @@ use crate::asserts::same_text;
 use binary::read;
 use binary_wire::ReadFault;
 use replay_text::read_record;
-use show_reasons::{Instead, Misfit, Refused, explain};
+use report_reasons::{Instead, Misfit, Refused, explain};
 use std::alloc::Global;
 use std::process::Abort;
 use std::test::Fail;

@@ -1,6 +1,6 @@
 //! Spans, as they are written, and what is in one.
 
-use show_choice::Span;
+use report_choice::Span;
 use std::test::Fail;
 
 static SPANS: [(&str, Option<Span>); 9] = [

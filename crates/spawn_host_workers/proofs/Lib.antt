@@ -6,3 +6,9 @@ pub mod Arguments
 pub mod Home
 pub mod OneList
 pub mod Unspawned
+pub mod Entered
+pub mod Coming
+pub mod Turning
+pub mod Paying
+pub mod Attending
+pub mod Leaving

@@ -23,7 +23,7 @@ use Rattle.schedule.specs.Machine.{Thread.Runs}
 use Rattle.interp_machine.specs.State.{At}
 use Rattle.interp_machine.specs.Program.{Program}
 use Rattle.interp_trait.specs.Turns.{Running, Meaning, IsHere}
-use Rattle.spawn_host_thread.specs.Ends.{RunsOut}
+use Rattle.spawn_host_workers.specs.Ends.{RunsOut}
 use Rattle.spawn_host_workers.specs.declared.worker.WorkerEnd.{WorkerEnd}
 use Rattle.spawn_host_workers.specs.OverMemory.{OverMemory}
 use Rattle.spawn_host_workers.specs.Level.{Level}

@@ -32,7 +32,7 @@ use Rattle.schedule_threads.specs.Threads.{machine_of}
 use Rattle.schedule_threads.specs.Seeing.{Sees, SeesAll, event_of, entered}
 use Rattle.schedule_threads.proofs.Asking.{wants_spawn}
 use Rattle.interp_trait.specs.Turns.{Running, Meaning, IsHere}
-use Rattle.spawn_host_thread.specs.Ends.{RunsOut}
+use Rattle.spawn_host_workers.specs.Ends.{RunsOut}
 use Rattle.spawn_host_workers.specs.OverMemory.{OverMemory}
 use Rattle.spawn_host_workers.specs.Level.{Level}
 use Rattle.spawn_host_workers.specs.Composed.{IsReport, IsComposed}

@@ -17,7 +17,7 @@ use Rattle.interp_machine.specs.Program.{Program}
 use Rattle.interp_machine.specs.Config.{Config}
 use Rattle.interp_machine.specs.State.{At}
 use Rattle.interp_trait.specs.Turns.{Running, Meaning, IsHere}
-use Rattle.spawn_host_thread.specs.Ends.{RunsOut}
+use Rattle.spawn_host_workers.specs.Ends.{RunsOut}
 use Rattle.spawn_host_workers.specs.declared.worker.WorkerEnd.{WorkerEnd}
 use Rattle.spawn_host_workers.specs.OverMemory.{OverMemory}
 

@@ -8,7 +8,7 @@ use Rattle.shared_memory.specs.Memory.{Memory}
 use Rattle.shared_memory.specs.History.{entries_of, queue_after}
 use Rattle.shared_memory.specs.WaitQueue.{IsFree}
 use Rattle.interp_trait.specs.Turns.{Running, Meaning, IsHere, MayRun, MayBeSpawned}
-use Rattle.spawn_host_thread.specs.Ends.{IsLast, RunsOut}
+use Rattle.spawn_host_workers.specs.Ends.{IsLast, RunsOut}
 use Rattle.spawn_host_workers.specs.declared.worker.WorkerEnd.{WorkerEnd}
 use Rattle.spawn_host_workers.specs.Pairs.{AllThree}
 use Rattle.spawn_host_workers.specs.OverMemory.{OverMemory}

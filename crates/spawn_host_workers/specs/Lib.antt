@@ -6,3 +6,5 @@ pub mod Crew
 pub mod Duties
 pub mod Composed
 pub mod Faults
+pub mod Ends
+pub mod Serving

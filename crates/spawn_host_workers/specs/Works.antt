@@ -12,7 +12,7 @@ use Rattle.schedule.specs.Machine.{Thread.Runs}
 use Rattle.interp_machine.specs.Config.{Config}
 use Rattle.interp_machine.specs.State.{At}
 use Rattle.interp_trait.specs.Turns.{Meaning}
-use Rattle.spawn_host_thread.specs.Ends.{IsLast, RunsOut}
+use Rattle.spawn_host_workers.specs.Ends.{IsLast, RunsOut}
 use Rattle.spawn_host_workers.specs.declared.worker.WorkerEnd.{WorkerEnd}
 use Rattle.spawn_host_workers.specs.OverMemory.{OverMemory}
 

@@ -12,7 +12,7 @@ use crate::report::{RunEnd, RunFault};
 use crate::seats::{Dealt, deal};
 use interp_trait::{Gate, TakesTurns};
 use shared_memory::SharedMemory;
-use spawn_host_thread::{ThreadEnd, run_thread};
+use crate::{ThreadEnd, run_thread};
 use std::alloc::Global;
 use std::sync::Wait;
 use types::ThreadReport;

@@ -14,7 +14,7 @@ use crate::report::RunFault;
 use crate::worker::{WorkerEnd, work};
 use interp_trait::{Gate, TakesTurns};
 use shared_memory::SharedMemory;
-use spawn_host_thread::{ThreadEnd, run_thread};
+use crate::{ThreadEnd, run_thread};
 use std::alloc::Global;
 use std::snapshot::Snapshot;
 use std::sync::Wait;

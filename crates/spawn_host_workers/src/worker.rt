@@ -7,7 +7,7 @@ ghost use Rattle.interp_trait.specs.Turns.{MayBeSpawned};
 
 use interp_trait::{Gate, TakesTurns};
 use shared_memory::SharedMemory;
-use spawn_host_thread::{ThreadEnd, run_thread};
+use crate::{ThreadEnd, run_thread};
 use std::sync::Wait;
 use types::{ThreadReport, Value};
 use waiters_desk::Desk;

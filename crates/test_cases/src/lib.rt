@@ -10,14 +10,25 @@
 //! out thread 0: ok i32:0
 //! out pages 1
 //! ```
+//!
+//! A row of a file of cases may also replace lines of a text (`Edit`): `3-4 TEXT` puts the lines of TEXT in place of lines 3 and 4,
+//! counted from 1 on, and `3 TEXT` in place of line 3. In TEXT `\n` separates lines, and `\r` is a carriage return; where it is
+//! empty the lines are left out. Behind ` => ` a row says why a text so changed is refused.
+//!
+//! What isn't a case but a test says what it has to find row by row, to `hold`.
 #![tactic(auto)]
 
 mod case;
+mod edit;
 mod file;
 mod hex;
+mod letters;
+mod rows;
 mod tally;
 
 pub use case::{Case, cases};
+pub use edit::{Edit, edited};
 pub use file::read_file;
 pub use hex::from_hex;
+pub use rows::hold;
 pub use tally::{Stop, Tally};

@@ -8,7 +8,7 @@ ghost use Rattle.types.specs.Limits.{most_pages};
 ghost use Rattle.validate_typing.specs.Context.{imported_functions, memories_of};
 ghost use Rattle.validate_typing.specs.Image.{opening_image, opening_pages, pages_max_of};
 ghost use Rattle.validate_typing.specs.Tabled.{IsValidated, target_at};
-ghost use Rattle.validate_flat.specs.Flattening.{all_flats};
+ghost use Rattle.validate_typing.specs.Flattening.{all_flats};
 ghost use Rattle.validate_module_rules.specs.Exported.{IsExported};
 ghost use Rattle.validate_module.specs.Pages.{HasPagesWithin};
 ghost use Rattle.validate_module.specs.Own.{HasLocals};
@@ -18,7 +18,7 @@ use crate::own::{func_type, local_types};
 use std::alloc::{AllocError, Global};
 use std::marker::Model;
 use types::{Body, FuncType, Limits, MOST_PAGES, Module, Parts, Sequence, ValType};
-use validate_flat::Flat;
+use validate_typing::Flat;
 use validate_module_rules::exported_function;
 use validate_typing::{Table, Target};
 
@@ -55,7 +55,7 @@ impl Model for ValidModule {
     ghost use Rattle.std.specs.List.{slice_get};
     ghost use Rattle.validate_typing.specs.Context.{imported_functions, memories_of};
     ghost use Rattle.validate_typing.specs.Tabled.{WithTables, IsValidated};
-    ghost use Rattle.validate_flat.specs.Flattening.{all_flats};
+    ghost use Rattle.validate_typing.specs.Flattening.{all_flats};
 
     ghost Value = { WithTables };
 

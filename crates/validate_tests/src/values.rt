@@ -1,6 +1,6 @@
 //! What no clause says of the types, or says in other words: texts and widths.
 use std::test::Fail;
-use test_answers::hold;
+use test_cases::hold;
 use types::{AccessWidth, AtomicOp, LoadOp, Name, NarrowWidth, Outcome, Stop, ValType, Value};
 
 #[test]

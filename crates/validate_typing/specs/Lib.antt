@@ -7,3 +7,4 @@ pub mod Image
 pub mod Faults
 pub mod Tabled
 pub mod Nested
+pub mod Flattening

@@ -12,7 +12,7 @@ use std::alloc::Global;
 use std::marker::Brand;
 use std::sync::Wait;
 use std::test::Fail;
-use test_answers::hold;
+use test_cases::hold;
 use types::{Answer, Event, MOST_THREADS, PAGE_SIZE, Question, Reply};
 use waiters::Queue;
 

@@ -14,7 +14,7 @@ use std::sync::Wait;
 use std::test::Fail;
 use std::thread::Threads;
 use std::time::Clock;
-use test_answers::hold;
+use test_cases::hold;
 use types::{Answer, Event, MOST_SPAWNED, MOST_THREADS, PAGE_SIZE, Question};
 use waiters_desk::{Asked, Desk, Full, Notified};
 

@@ -18,12 +18,12 @@ use Rattle.shared_memory.proofs.Histories.{memory_after-append, AreEntries-prefi
 use Rattle.shared_memory_on_table.specs.declared.view.Caller.{Caller}
 use Rattle.shared_memory_on_table.specs.Callers.{GoesOn, seeing, losing_if}
 use Rattle.shared_memory_on_table.proofs.GoingOn.{none_of}
-use Rattle.word_row_rules.specs.Words.{words_of, IsStored}
-use Rattle.word_row_rules.specs.Answers.{end_of, place_of, size_answer, Makes, made_reply, exchange_answer}
-use Rattle.word_row_rules.specs.Rule.{caller_after, Steps}
-use Rattle.word_row_rules.proofs.Memories.{outlasts}
-use Rattle.word_row_rules.proofs.Settling.{IsAnswer, touched_is, expected_there, makes_may_lose, open_within, place_within}
-use Rattle.word_row_rules.proofs.Moves.{later_than}
+use Rattle.word_row.specs.Words.{words_of, IsStored}
+use Rattle.word_row.specs.Answers.{end_of, place_of, size_answer, Makes, made_reply, exchange_answer}
+use Rattle.word_row.specs.Rule.{caller_after, Steps}
+use Rattle.word_row.proofs.Memories.{outlasts}
+use Rattle.word_row.proofs.Settling.{IsAnswer, touched_is, expected_there, makes_may_lose, open_within, place_within}
+use Rattle.word_row.proofs.Moves.{later_than}
 
 abbrev L : Type 0
 L = List Entry

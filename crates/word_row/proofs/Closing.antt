@@ -11,12 +11,12 @@ use Rattle.shared_memory.specs.Numbers.{le_number}
 use Rattle.shared_memory.specs.Memory.{Memory, pages, loaded}
 use Rattle.shared_memory.specs.History.{memory_after}
 use Rattle.shared_memory_on_table.specs.declared.view.View.{View}
-use Rattle.shared_memory_lanes.specs.Words.{lane_of}
+use Rattle.shared_memory_sequential.specs.Words.{lane_of}
 use Rattle.shared_memory_sequential.specs.Opening.{IsSized}
-use Rattle.word_row_rules.specs.Words.{memory_of, words_of, IsStored}
-use Rattle.word_row_rules.specs.Rule.{KeptRow}
-use Rattle.word_row_rules.proofs.Memories.{outlasts, whole_pages, memory_of-words_of}
-use Rattle.word_row_rules.proofs.Settling.{InWord, lane_is_loaded}
+use Rattle.word_row.specs.Words.{memory_of, words_of, IsStored}
+use Rattle.word_row.specs.Rule.{KeptRow}
+use Rattle.word_row.proofs.Memories.{outlasts, whole_pages, memory_of-words_of}
+use Rattle.word_row.proofs.Settling.{InWord, lane_is_loaded}
 
 -- The words that the rule was kept of stand for the memory after the history.
 pub record StandsFor (max : ℕ) (words : List ℕ) (m : Memory) : Type 0 where

@@ -11,9 +11,9 @@ use Rattle.shared_memory.specs.History.{entry, AreEntries, memory_after}
 use Rattle.shared_memory.specs.Access.{Answers, Accesses}
 use Rattle.shared_memory.proofs.Histories.{memory_after-append, AreEntries-prefix, AreEntries-rest}
 use Rattle.shared_memory_on_table.specs.declared.view.Caller.{Caller}
-use Rattle.word_row_rules.specs.Words.{IsStored}
-use Rattle.word_row_rules.specs.Rule.{caller_after, Steps}
-use Rattle.word_row_rules.proofs.Memories.{outlasts}
+use Rattle.word_row.specs.Words.{IsStored}
+use Rattle.word_row.specs.Rule.{caller_after, Steps}
+use Rattle.word_row.proofs.Memories.{outlasts}
 use Rattle.word_row.specs.Rows.{HasPages}
 
 abbrev L : Type 0

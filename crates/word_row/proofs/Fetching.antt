@@ -6,9 +6,9 @@ use Rattle.shared_memory.specs.Memory.{Memory}
 use Rattle.shared_memory.specs.History.{memory_after}
 use Rattle.shared_memory_on_table.specs.declared.view.View.{View}
 use Rattle.shared_memory_on_table.specs.Moves.{IsOne, caller_in}
-use Rattle.word_row_rules.specs.Answers.{end_of, place_of, IsMadeBy}
-use Rattle.word_row_rules.specs.Rule.{KeptRow, MayTry, FetchesAs, StoresAs}
-use Rattle.word_row_rules.proofs.Moves.{fetches, stores}
+use Rattle.word_row.specs.Answers.{end_of, place_of, IsMadeBy}
+use Rattle.word_row.specs.Rule.{KeptRow, MayTry, FetchesAs, StoresAs}
+use Rattle.word_row.proofs.Moves.{fetches, stores}
 
 -- What is asked of the event that is tried, the one that the step is a try of.
 module _ (opening key : Memory) (slots id word : ℕ) (me : Me ℕ View) (event tried : Event) (same_key : key ≡ opening) (making : event ≡ tried)

@@ -4,3 +4,8 @@ pub mod Closing
 pub mod Opening
 pub mod Fetching
 pub mod Counts
+pub mod Words
+pub mod Memories
+pub mod Settling
+pub mod Moves
+pub mod Singles

@@ -1,7 +1,7 @@
 -- What the word of an access settles in the code: a reply, or a change of the word with the reply that it then has.
 use Rattle.std.specs.Prelude.{ℕ, ◌≡◌, Some, None}
 use Rattle.types.specs.declared.event.Event.{Event}
-use Rattle.word_row_rules.specs.Answers.{word_answer, Makes, made_reply}
+use Rattle.word_row.specs.Answers.{word_answer, Makes, made_reply}
 use Rattle.word_row.specs.declared.changes.Change.{Change}
 use Rattle.word_row.specs.declared.changes.Next.{Next}
 use Rattle.word_row.specs.declared.changes.Next.TheVariants.{Answer, Exchange}

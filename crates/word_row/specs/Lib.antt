@@ -1,2 +1,5 @@
 pub mod Changes
 pub mod Rows
+pub mod Words
+pub mod Answers
+pub mod Rule

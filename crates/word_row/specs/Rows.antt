@@ -8,8 +8,8 @@ use Rattle.shared_memory.specs.History.{memory_after}
 use Rattle.shared_memory.specs.Access.{IsSeen}
 use Rattle.shared_memory_on_table.specs.declared.view.View.{View}
 use Rattle.shared_memory_on_table.specs.Rule.{opened}
-use Rattle.word_row_rules.specs.Words.{memory_of, words_of, IsStored}
-use Rattle.word_row_rules.specs.Rule.{IsRow}
+use Rattle.word_row.specs.Words.{memory_of, words_of, IsStored}
+use Rattle.word_row.specs.Rule.{IsRow}
 
 -- All callers stand on one seat of the row's table, which has the words for a memory of so many pages at most.
 abbrev pub IsPrepared : TableId → Memory → TableId → Me ℕ View → ℕ → Type 0

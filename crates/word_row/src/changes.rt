@@ -3,14 +3,14 @@ ghost use Rattle.std.specs.Prelude.{◌≡◌, ◌+◌, ◌*◌, ◌%◌, ◌^�
 ghost use Rattle.types.specs.declared.event.Event.TheVariants.{Rmw};
 ghost use Rattle.types.specs.Limits.{page_size, most_pages};
 ghost use Rattle.shared_memory.specs.Events.{IsEvent};
-ghost use Rattle.shared_memory_lanes.specs.Words.{lane_of, IsWithLane};
-ghost use Rattle.word_row_rules.specs.Answers.{refusal, size_answer, is_access, end_of, place_of, after_single, IsMadeBy, is_single_rmw};
+ghost use Rattle.shared_memory_sequential.specs.Words.{lane_of, IsWithLane};
+ghost use Rattle.word_row.specs.Answers.{refusal, size_answer, is_access, end_of, place_of, after_single, IsMadeBy, is_single_rmw};
 ghost use Rattle.word_row.specs.Changes.{IsNext};
 
-use shared_memory_lanes::{lane, with_lane};
+use shared_memory_sequential::{lane, with_lane};
 use shared_memory_sequential::combine;
 use types::{Event, PAGE_SIZE, Question, Reply, RmwOp};
-use word_row_rules::Single;
+use crate::Single;
 
 /// The bytes of a page.
 const PAGE: u64 = PAGE_SIZE as u64;

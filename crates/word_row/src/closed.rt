@@ -4,7 +4,7 @@ ghost use Rattle.shared_memory.specs.Memory.{pages};
 ghost use Rattle.shared_memory_sequential.specs.Opening.{IsSized};
 
 use atomic_table::Closed;
-use shared_memory_lanes::lane;
+use shared_memory_sequential::lane;
 use std::alloc::Global;
 use std::marker::Model;
 use types::PAGE_SIZE;
@@ -22,7 +22,7 @@ impl Model for ClosedRow {
     ghost use Rattle.std.specs.Prelude.{◌≡◌};
     ghost use Rattle.std.specs.Mem.Slots.{slots_items, slots_len, IsFull};
     ghost use Rattle.shared_memory.specs.Memory.{Memory};
-    ghost use Rattle.word_row_rules.specs.Words.{memory_of};
+    ghost use Rattle.word_row.specs.Words.{memory_of};
     ghost use Rattle.word_row.specs.Rows.{StandFor};
 
     ghost Value = { Memory };

@@ -5,19 +5,27 @@
 //! of a whole word, and a bitwise one of any width, is then a single step on its word, and never lost. Any other access
 //! loads its word, and where it changes that word exchanges it whole, if it is still the one that was loaded. Where
 //! another thread has changed the word meanwhile, the try is lost, and may be made again.
+//!
+//! The rule of such a memory and the kinds of atomic step that it allows are types of `rule.rt` and `single.rt`; what each
+//! step tells stands in `specs/`, and that each keeps the rule in `proofs/`. One history of the whole run exists in the
+//! rule alone: a step of a caller puts the caller's entry behind it, and changes the one word that it is made on.
 #![tactic(auto)]
 
 mod changes;
 mod closed;
 mod prepared;
 mod row;
+mod rule;
 mod seat;
+mod single;
 mod steps;
 mod tries;
 
 pub use closed::ClosedRow;
 pub use prepared::Prepared;
 pub use row::WordRow;
+pub use rule::{Arrive, Board, Exchange, Fetch, Making, MemoryWords, Note, Read, Row, Store};
 pub use seat::WordSeat;
 pub use shared_memory_on_table::Naming;
 pub use shared_memory_sequential::OpenFault;
+pub use single::Single;

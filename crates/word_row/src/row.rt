@@ -8,9 +8,9 @@ ghost use Rattle.shared_memory.specs.History.{memory_after};
 ghost use Rattle.shared_memory.specs.Access.{lost_after};
 ghost use Rattle.shared_memory_on_table.specs.Callers.{GoesOn, AllGoOn, fresh_from};
 ghost use Rattle.shared_memory_on_table.specs.Rule.{AccessesIn, MeetsIn};
-ghost use Rattle.word_row_rules.specs.Words.{words_of};
-ghost use Rattle.word_row_rules.specs.Answers.{end_of, is_access, place_of, is_single};
-ghost use Rattle.word_row_rules.specs.Rule.{IsRow};
+ghost use Rattle.word_row.specs.Words.{words_of};
+ghost use Rattle.word_row.specs.Answers.{end_of, is_access, place_of, is_single};
+ghost use Rattle.word_row.specs.Rule.{IsRow};
 ghost use Rattle.word_row.specs.Changes.{IsChange};
 ghost use Rattle.word_row.specs.Rows.{EndsAfter, HasPages};
 
@@ -20,13 +20,13 @@ use crate::prepared::Prepared;
 use crate::seat::{WordSeat, take_seats};
 use crate::tries;
 use shared_memory::SharedMemory;
-use shared_memory_lanes::lane;
+use shared_memory_sequential::lane;
 use shared_memory_on_table::{Naming, Place, Standing, hand, meet};
 use shared_memory_sequential::OpenFault;
 use std::alloc::Global;
 use std::marker::PhantomData;
 use types::{Event, Reply};
-use word_row_rules::{Arrive, Board, Row};
+use crate::{Arrive, Board, Row};
 
 // The caller of a seat goes to another, for good.
 fn give_up<B: Naming>(row: &Row, host: &mut Place, seat: Standing<B>)

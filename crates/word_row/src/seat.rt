@@ -8,7 +8,7 @@ ghost use Rattle.word_row.specs.Rows.{HasPages};
 use shared_memory_on_table::{Naming, Place, Standing};
 use shared_memory_sequential::OneMemory;
 use std::alloc::{AllocError, Global};
-use word_row_rules::{MemoryWords, Row};
+use crate::{MemoryWords, Row};
 
 /// A caller's place at a row. It is made with the row, and never twice.
 #[derive(Drop)]

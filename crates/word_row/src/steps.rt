@@ -2,12 +2,12 @@
 ghost use Rattle.std.specs.Prelude.{◌≡◌, ◌<◌, ◌≤◌, true, length};
 ghost use Rattle.shared_memory.specs.History.{memory_after};
 ghost use Rattle.shared_memory_on_table.specs.Moves.{IsOne, caller_in};
-ghost use Rattle.word_row_rules.specs.Answers.{end_of, is_access, place_of, Makes, after_single, IsMadeBy};
-ghost use Rattle.word_row_rules.specs.Rule.{MayTry, NotesAs, ReadsAs, ExchangesAs, FetchesAs, StoresAs};
+ghost use Rattle.word_row.specs.Answers.{end_of, is_access, place_of, Makes, after_single, IsMadeBy};
+ghost use Rattle.word_row.specs.Rule.{MayTry, NotesAs, ReadsAs, ExchangesAs, FetchesAs, StoresAs};
 
 use shared_memory_on_table::{Naming, Place};
 use types::Event;
-use word_row_rules::{Exchange, Fetch, Making, Note, Read, Row, Single, Store};
+use crate::{Exchange, Fetch, Making, Note, Read, Row, Single, Store};
 
 /// The size word is loaded: the caller's event is entered where the page count settles its reply.
 #[inline(always)]

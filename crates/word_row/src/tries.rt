@@ -2,15 +2,15 @@
 ghost use Rattle.std.specs.Prelude.{◌≡◌, ◌≤◌, ℕ, true, false, length, Some};
 ghost use Rattle.shared_memory.specs.Events.{IsEvent, is_of_queue};
 ghost use Rattle.shared_memory.specs.History.{memory_after};
-ghost use Rattle.word_row_rules.specs.Answers.{end_of, is_access, place_of, size_answer, word_answer, Makes, made_reply, exchange_answer};
-ghost use Rattle.word_row_rules.specs.Answers.{after_single, IsMadeBy};
-ghost use Rattle.word_row_rules.specs.Rule.{IsRow, Steps};
+ghost use Rattle.word_row.specs.Answers.{end_of, is_access, place_of, size_answer, word_answer, Makes, made_reply, exchange_answer};
+ghost use Rattle.word_row.specs.Answers.{after_single, IsMadeBy};
+ghost use Rattle.word_row.specs.Rule.{IsRow, Steps};
 
 use crate::{changes, steps};
 use shared_memory_on_table::{Naming, Standing};
 use std::marker::Brand;
 use types::Event;
-use word_row_rules::{Row, Single};
+use crate::{Row, Single};
 
 /// Loads the page count.
 #[inline(always)]

@@ -2,7 +2,7 @@
 
 use crate::all_runs::rows::{Gone, MODULES, MOST, as_of_run, gone_through};
 use crate::runs::load;
-use search_endings::Ending;
+use search_finds::Ending;
 use search_reach::Verdict;
 use std::alloc::{AllocError, Global};
 use std::process::Abort;

@@ -5,7 +5,7 @@ ghost use Rattle.types.specs.Limits.{most_fuel};
 
 use crate::all_runs::examples::{BROKEN, MUTEX, PETERSON, SEQLOCK, TICKETS, WAKEUP};
 use crate::runs::FUEL;
-use search_endings::Ending;
+use search_finds::Ending;
 use search_modules::all_endings;
 use search_parts::Ending as Ended;
 use search_reach::Ended as AllEnded;

@@ -1,6 +1,6 @@
 use Rattle.std.proofs.Common.{◌<◌, ◌∷◌, length, reverse, refl, ap, ◌∙◌, rules}
 use Rattle.types.specs.Limits.{most_values}
-use Rattle.interp_accesses.proofs.Replies.{answer_room, tells}
+use Rattle.interp_accesses.proofs.Replied.{answer_room, tells}
 use Rattle.interp_accesses.proofs.answers.hear.Goals as goal
 
 pub push-requires : goal.push-requires

@@ -1,4 +1,4 @@
-use Rattle.report_searches.specs.Searches.{request_of_search}
+use Rattle.report.specs.Searches.{request_of_search}
 use Rattle.report.proofs.job.search.Goals as goal
 
 pub returns-in-Err-clause-refused : goal.returns-in-Err-clause-refused

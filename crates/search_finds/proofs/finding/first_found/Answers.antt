@@ -1,5 +1,5 @@
 use Rattle.std.proofs.Common.{arith}
-use Rattle.search_endings.proofs.Noting.{noted_all}
+use Rattle.search_finds.proofs.Noting.{noted_all}
 use Rattle.search_finds.specs.Finds.{IsMet}
 use Rattle.search_finds.proofs.finding.first_found.Goals as goal
 

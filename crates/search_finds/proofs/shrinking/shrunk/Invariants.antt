@@ -1,4 +1,4 @@
-use Rattle.search_endings.specs.Endings.{HaveOneEnding}
+use Rattle.search_finds.specs.Endings.{HaveOneEnding}
 use Rattle.search_finds.specs.Finds.{IsFind}
 use Rattle.search_finds.proofs.shrinking.shrunk.Given as goal
 

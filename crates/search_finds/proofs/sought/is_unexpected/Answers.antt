@@ -1,5 +1,5 @@
 use Rattle.std.proofs.Common.{◌≡◌, ℕ, List, Bor, subst}
-use Rattle.search_endings.specs.Words.{LacksInThread0}
+use Rattle.search_finds.specs.Words.{LacksInThread0}
 use Rattle.search_finds.proofs.sought.is_unexpected.Goals as goal
 
 pub returns-in_ok-lacks-in-Some : goal.returns-in_ok-lacks-in-Some

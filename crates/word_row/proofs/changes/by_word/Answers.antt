@@ -1,8 +1,8 @@
 use Rattle.std.proofs.Common.{ℕ, ◌*◌, ◌^◌, ◌<◌, sym, subst}
 use Rattle.shared_memory.specs.Events.{IsEvent}
 use Rattle.types.specs.declared.event.Event.TheVariants.{Rmw}
-use Rattle.shared_memory_lanes.proofs.Lanes.{lane_of-fits}
-use Rattle.word_row_rules.proofs.Settling.{atomic_in_word}
+use Rattle.shared_memory_sequential.proofs.Lanes.{lane_of-fits}
+use Rattle.word_row.proofs.Settling.{atomic_in_word}
 use Rattle.word_row.proofs.Combined.{combined-fits}
 use Rattle.word_row.proofs.changes.by_word.Goals as goal
 

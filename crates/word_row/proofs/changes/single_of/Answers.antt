@@ -3,10 +3,10 @@ use Rattle.types.specs.declared.event.Event.TheVariants.{Rmw}
 use Rattle.types.specs.declared.event.RmwOp.{RmwOp}
 use Rattle.types.specs.declared.event.RmwOp.TheVariants as ops
 use Rattle.shared_memory.specs.Events.{IsAtomic}
-use Rattle.word_row_rules.specs.Answers.{IsMadeBy, after_single}
-use Rattle.word_row_rules.specs.declared.single.Single.{Single}
-use Rattle.word_row_rules.specs.declared.single.Single.TheVariants as single
-use Rattle.word_row_rules.proofs.Singles.{swap_made, add_made, sub_made, and_made, or_made, xor_made}
+use Rattle.word_row.specs.Answers.{IsMadeBy, after_single}
+use Rattle.word_row.specs.declared.single.Single.{Single}
+use Rattle.word_row.specs.declared.single.Single.TheVariants as single
+use Rattle.word_row.proofs.Singles.{swap_made, add_made, sub_made, and_made, or_made, xor_made}
 use Rattle.word_row.proofs.changes.single_of.Goals as goal
 
 pub returns-in-And-clause-made : goal.returns-in-And-clause-made

@@ -2,9 +2,9 @@ use Rattle.std.proofs.Common.{ℕ, ◌≡◌, ◌+◌, ◌*◌, ◌++◌, ◌∷
 use Rattle.std.proofs.lemmas.List.{take_all}
 use Rattle.shared_memory.specs.Numbers.{le_number}
 use Rattle.shared_memory.specs.Memory.{Memory}
-use Rattle.word_row_rules.specs.Words.{words_of}
-use Rattle.word_row_rules.proofs.Memories.{length-words_of}
-use Rattle.word_row_rules.proofs.Settling.{words_of-more}
+use Rattle.word_row.specs.Words.{words_of}
+use Rattle.word_row.proofs.Memories.{length-words_of}
+use Rattle.word_row.proofs.Settling.{words_of-more}
 use Rattle.word_row.proofs.prepared.words.Goals as goal
 
 pub loop-k-preserved : goal.loop-k-preserved

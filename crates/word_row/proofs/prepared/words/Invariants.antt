@@ -1,6 +1,6 @@
 use Rattle.std.proofs.Common.{◌≡◌, ◌≤◌, ◌+◌, length, take}
 use Rattle.std.specs.Prelude.{vec_capacity}
-use Rattle.word_row_rules.specs.Words.{words_of}
+use Rattle.word_row.specs.Words.{words_of}
 use Rattle.word_row.proofs.prepared.words.Given as goal
 
 abbrev pub invariant-loop-k : goal.invariant-loop-k

@@ -5,9 +5,9 @@ use Rattle.types.specs.declared.event.Event.{Event}
 use Rattle.shared_memory.specs.Memory.{Memory}
 use Rattle.shared_memory.specs.History.{memory_after}
 use Rattle.shared_memory_on_table.specs.Moves.{caller_in}
-use Rattle.word_row_rules.specs.Answers.{end_of, place_of, Makes, exchange_answer}
-use Rattle.word_row_rules.specs.Rule.{KeptRow, MayTry, StepsAs}
-use Rattle.word_row_rules.proofs.Moves.{exchanges}
+use Rattle.word_row.specs.Answers.{end_of, place_of, Makes, exchange_answer}
+use Rattle.word_row.specs.Rule.{KeptRow, MayTry, StepsAs}
+use Rattle.word_row.proofs.Moves.{exchanges}
 use Rattle.word_row.proofs.steps.exchange.Goals as goal
 
 pub compare_exchange-requires : goal.compare_exchange-requires

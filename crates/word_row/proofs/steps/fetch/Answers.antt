@@ -1,7 +1,7 @@
 use Rattle.std.proofs.Common.{ℕ, ◌+◌, ◌%◌, ◌^◌, subst, mod-lt, bit_and, bit_or, bit_xor, arith}
 use Rattle.std.proofs.lemmas.Nat.{pow_pos, and_le_l, or_lt, xor_lt}
-use Rattle.word_row_rules.specs.Answers.{after_single, IsMadeBy}
-use Rattle.word_row_rules.specs.declared.single.Single.{Single}
+use Rattle.word_row.specs.Answers.{after_single, IsMadeBy}
+use Rattle.word_row.specs.declared.single.Single.{Single}
 use Rattle.word_row.proofs.Fetching.{fetching}
 use Rattle.word_row.proofs.steps.fetch.Goals as goal
 

@@ -3,9 +3,9 @@ use Rattle.atomic_table.specs.Table.{Allows}
 use Rattle.types.specs.declared.event.Event.{Event}
 use Rattle.shared_memory.specs.Memory.{Memory}
 use Rattle.shared_memory_on_table.specs.Moves.{caller_in}
-use Rattle.word_row_rules.specs.Answers.{size_answer}
-use Rattle.word_row_rules.specs.Rule.{KeptRow, MayTry, StepsAs}
-use Rattle.word_row_rules.proofs.Moves.{notes}
+use Rattle.word_row.specs.Answers.{size_answer}
+use Rattle.word_row.specs.Rule.{KeptRow, MayTry, StepsAs}
+use Rattle.word_row.proofs.Moves.{notes}
 use Rattle.word_row.proofs.steps.note.Goals as goal
 
 pub load-requires : goal.load-requires

@@ -4,9 +4,9 @@ use Rattle.types.specs.declared.event.Event.{Event}
 use Rattle.shared_memory.specs.Memory.{Memory}
 use Rattle.shared_memory.specs.History.{memory_after}
 use Rattle.shared_memory_on_table.specs.Moves.{caller_in}
-use Rattle.word_row_rules.specs.Answers.{end_of, is_access, place_of, word_answer}
-use Rattle.word_row_rules.specs.Rule.{KeptRow, MayTry, StepsAs}
-use Rattle.word_row_rules.proofs.Moves.{reads}
+use Rattle.word_row.specs.Answers.{end_of, is_access, place_of, word_answer}
+use Rattle.word_row.specs.Rule.{KeptRow, MayTry, StepsAs}
+use Rattle.word_row.proofs.Moves.{reads}
 use Rattle.word_row.proofs.steps.read.Goals as goal
 
 pub load-requires : goal.load-requires

@@ -3,7 +3,7 @@ use Rattle.shared_memory.specs.Memory.{Memory}
 use Rattle.shared_memory.specs.History.{memory_after}
 use Rattle.shared_memory_on_table.specs.declared.view.Caller.{Caller}
 use Rattle.shared_memory_on_table.specs.Moves.{caller_in}
-use Rattle.word_row_rules.specs.Answers.{end_of, place_of}
+use Rattle.word_row.specs.Answers.{end_of, place_of}
 use Rattle.word_row.proofs.Access.{place_in}
 use Rattle.word_row.proofs.tries.exchange.Goals as goal
 

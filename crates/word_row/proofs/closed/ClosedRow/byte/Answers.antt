@@ -2,9 +2,9 @@ use Rattle.std.proofs.Common.{◌≡◌, ◌<◌, ◌*◌, ◌+◌, ◌/◌, ℕ
 use Rattle.std.specs.Prelude.{slice_get}
 use Rattle.std.specs.Mem.Slots.{slots_items, slots_counts}
 use Rattle.shared_memory.specs.Memory.{Memory, pages}
-use Rattle.word_row_rules.specs.Words.{memory_of, words_of}
-use Rattle.word_row_rules.proofs.Memories.{length-words_of}
-use Rattle.word_row_rules.proofs.Settling.{holds}
+use Rattle.word_row.specs.Words.{memory_of, words_of}
+use Rattle.word_row.proofs.Memories.{length-words_of}
+use Rattle.word_row.proofs.Settling.{holds}
 use Rattle.word_row.proofs.Closing.{byte_within, byte_past, byte_is, found_at}
 use Rattle.word_row.proofs.closed.ClosedRow.byte.Goals as goal
 

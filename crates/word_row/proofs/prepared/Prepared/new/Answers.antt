@@ -2,10 +2,10 @@ use Rattle.std.proofs.Common.{ℕ, ◌≡◌, ◌+◌, ◌*◌, false, List, [],
 use Rattle.atomic_table.specs.Table.{opening}
 use Rattle.shared_memory.specs.Memory.{Memory}
 use Rattle.shared_memory_on_table.specs.Rule.{opened}
-use Rattle.word_row_rules.specs.Words.{words_of, IsStored}
-use Rattle.word_row_rules.specs.Rule.{KeptRow}
-use Rattle.word_row_rules.proofs.Memories.{length-words_of}
-use Rattle.word_row_rules.proofs.Moves.{opens}
+use Rattle.word_row.specs.Words.{words_of, IsStored}
+use Rattle.word_row.specs.Rule.{KeptRow}
+use Rattle.word_row.proofs.Memories.{length-words_of}
+use Rattle.word_row.proofs.Moves.{opens}
 use Rattle.word_row.proofs.prepared.Prepared.new.Goals as goal
 
 pub of_words-requires : goal.of_words-requires

@@ -1,8 +1,8 @@
 use Rattle.std.proofs.Common.{◌∙◌, subst, arith}
 use Rattle.std.specs.Mem.Slots.{slots_items}
 use Rattle.shared_memory.specs.Memory.{Memory}
-use Rattle.word_row_rules.specs.Rule.{KeptRow}
-use Rattle.word_row_rules.proofs.Moves.{arrives}
+use Rattle.word_row.specs.Rule.{KeptRow}
+use Rattle.word_row.proofs.Moves.{arrives}
 use Rattle.word_row.proofs.Closing.{stands_for}
 use Rattle.word_row.proofs.row.WordRow.close.Goals as goal
 

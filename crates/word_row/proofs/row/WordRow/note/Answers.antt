@@ -5,10 +5,10 @@ use Rattle.shared_memory.specs.Memory.{Memory}
 use Rattle.shared_memory.specs.Access.{Accesses}
 use Rattle.shared_memory_on_table.specs.declared.view.Caller.{Caller}
 use Rattle.types.specs.declared.event.Event.TheVariants.{Grow}
-use Rattle.word_row_rules.specs.Words.{IsStored}
-use Rattle.word_row_rules.specs.Answers.{size_answer}
-use Rattle.word_row_rules.specs.Rule.{Steps, caller_after}
-use Rattle.word_row_rules.proofs.Settling.{size_is_answer}
+use Rattle.word_row.specs.Words.{IsStored}
+use Rattle.word_row.specs.Answers.{size_answer}
+use Rattle.word_row.specs.Rule.{Steps, caller_after}
+use Rattle.word_row.proofs.Settling.{size_is_answer}
 use Rattle.word_row.specs.Rows.{HasPages}
 use Rattle.word_row.proofs.Counts.{found-HasPages, accesses-HasPages}
 use Rattle.word_row.proofs.Access.{few_pages, answered, answered_tries, Shows, shows, accesses-after, tries-after}

@@ -1,8 +1,8 @@
 use Rattle.std.proofs.Common.{ℕ, false}
 use Rattle.types.specs.declared.event.Event.{Event}
 use Rattle.shared_memory.specs.Memory.{Memory}
-use Rattle.word_row_rules.specs.Answers.{place_of, word_answer}
-use Rattle.word_row_rules.proofs.Settling.{word_is_answer}
+use Rattle.word_row.specs.Answers.{place_of, word_answer}
+use Rattle.word_row.proofs.Settling.{word_is_answer}
 use Rattle.word_row.proofs.Access.{answered, answered_tries, shows, accesses-after, tries-after, still_within}
 use Rattle.word_row.proofs.row.WordRow.replace.Goals as goal
 

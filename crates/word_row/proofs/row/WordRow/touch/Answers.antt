@@ -6,8 +6,8 @@ use Rattle.shared_memory.specs.Events.{IsEvent, is_of_queue}
 use Rattle.shared_memory.specs.History.{memory_after}
 use Rattle.shared_memory_on_table.specs.Rule.{AccessesIn}
 use Rattle.shared_memory_on_table.specs.declared.view.Caller.{Caller}
-use Rattle.word_row_rules.specs.Answers.{IsMadeBy, end_of, is_access, place_of}
-use Rattle.word_row_rules.proofs.Singles.{store_made}
+use Rattle.word_row.specs.Answers.{IsMadeBy, end_of, is_access, place_of}
+use Rattle.word_row.proofs.Singles.{store_made}
 use Rattle.word_row.proofs.Access.{answered, answered_tries}
 use Rattle.word_row.proofs.row.WordRow.touch.Goals as goal
 

@@ -1,3 +1,0 @@
-pub mod Rest
-pub mod Taken
-pub mod Turns

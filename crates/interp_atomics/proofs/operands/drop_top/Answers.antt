@@ -1,5 +1,0 @@
-use Rattle.interp_atomics.proofs.Rest.{left_below}
-use Rattle.interp_atomics.proofs.operands.drop_top.Goals as goal
-
-pub returns-clause-left : goal.returns-clause-left
-returns-clause-left c = let e = c.truncate.ensures.items in let l = c.len.ensures in let b = left_below c.args.values.now.items c.args.count c.requires in cc

@@ -1,9 +1,0 @@
-use Rattle.std.proofs.Common.{refl}
-use Rattle.types.specs.declared.value.ValType.TheVariants.{I32}
-use Rattle.types.specs.declared.operators.AtomicOp.TheVariants as atomic
-use Rattle.validate_typing.specs.Typing.{atomic_takes}
-use Rattle.interp_atomics.proofs.Rest.{word_at}
-use Rattle.interp_atomics.proofs.requests.load.Goals as goal
-
-pub address_at-requires-clause-operand : goal.address_at-requires-clause-operand
-address_at-requires-clause-operand c = word_at (atomic_takes (atomic.Load c.args.width)) _ 0 I32 c.requires refl

@@ -1,0 +1,199 @@
+//! The entries of a record by the program, in words: what is printed, or why there is nothing to print.
+ghost use Rattle.std.specs.Prelude.{◌≡◌, ◌⊎◌, ℕ, List, IfOk, IfErr};
+ghost use Rattle.types.specs.declared.parts.Parts.{Parts};
+ghost use Rattle.replay.specs.declared.end.EndState.{EndState};
+ghost use Rattle.replay.specs.Runs.{IsRunOf, ShowsNoRun};
+ghost use Rattle.report_jobs.specs.Jobs.{IsNoRecordOf, IsNoValidModule, IsUnfit, IsRecordOf, IsOfRun};
+
+use replay::{ReplayFault, replay_watched};
+use replay_text::{Record, RecordFault, RecordParts, read_record};
+use report_command::{At, Look, View};
+use report_jobs::{Unfit, load, misfit, refuse, reject};
+use show_events::write_trace;
+use show_moments::{Bytes, Moment, write_moment};
+use show_events::write_page;
+use show_rows::{CodeMap, Shown, write_rows};
+use show_text::Unwritten;
+use show_rows::{Row, Rows};
+use std::alloc::Global;
+use std::io::Write;
+use validate_module::ValidModule;
+
+/// Shows the entries of the record whose text `saved` is: each in words, with its place in the module. `names` are the bytes
+/// that have the names of functions and the lines of source: those of the module, or of another build of its code. `view` may
+/// ask for what threads and memory are like before a line, for a page or for a trace, in place of rows.
+///
+/// Answers 0 only where the record is of a run of the module, 4 only where the bytes are the text of no record of a run of it,
+/// 2 for a refused module, and 5 where memory or a stream failed.
+pub fn show_saved<W: Write, E: Write>(
+    alloc: Global,
+    module: &[u8],
+    names: &[u8],
+    saved: &[u8],
+    look: &Look,
+    view: View,
+    out: &mut W,
+    err: &mut E,
+) -> u8
+    ensures shown { result ≡ 0 → IsRecordOf «module».now saved.now }
+    ensures refused { result ≡ 2 → IsNoValidModule «module».now }
+    ensures none { result ≡ 4 → IsNoRecordOf «module».now saved.now }
+    ensures status { (result ≡ 0) ⊎ (result ≡ 2) ⊎ (result ≡ 4) ⊎ (result ≡ 5) }
+{
+    let valid = match load(alloc, module) {
+        Ok(valid) => valid,
+        Err(refusal) => return refuse(err, refusal),
+    };
+    match show_record(alloc, &valid, module, names, saved, look, view, out) {
+        Ok(()) => 0,
+        Err(unfit) => reject(err, unfit),
+    }
+}
+
+/// Shows the entries of the record whose text `saved` is. `bytes` are those of the module.
+fn show_record<W: Write>(
+    alloc: Global,
+    module: &ValidModule,
+    bytes: &[u8],
+    names: &[u8],
+    saved: &[u8],
+    look: &Look,
+    view: View,
+    out: &mut W,
+) -> Result<(), Unfit>
+    ensures shown { IfOk result (λ _. IsOfRun «module».now.parts saved.now) }
+    ensures unfit { IfErr result (λ unfit. IsUnfit «module».now.parts saved.now unfit) }
+{
+    let seen = rows_of(alloc, module, saved)?;
+    let wrote = match view {
+        View::Moment(at) => print_moment(alloc, module, &seen, bytes, names, at, out),
+        _ => print_rows(alloc, module, &seen, bytes, names, look, view, out),
+    };
+    match wrote {
+        Ok(()) => Ok(()),
+        Err(unwritten) => Err(unfit_of(unwritten)),
+    }
+}
+
+/// What rows that weren't written say of the record: nothing.
+fn unfit_of(unwritten: Unwritten) -> Unfit
+    ensures { (m : Parts) (saved : List ℕ) → IsUnfit m saved result }
+{
+    match unwritten {
+        Unwritten::NoMemory => Unfit::NoMemory,
+        Unwritten::Output => Unfit::Output,
+    }
+}
+
+/// A record of a run, and where each of its entries was made.
+#[derive(Drop)]
+struct SeenRun {
+    record: Record,
+    rows: Vec<Option<Row>>,
+}
+
+/// Replays the record whose text the bytes are, and sees where its entries are made.
+fn rows_of(alloc: Global, module: &ValidModule, saved: &[u8]) -> Result<SeenRun, Unfit>
+    ensures shown { IfOk result (λ _. IsOfRun «module».now.parts saved.now) }
+    ensures unfit { IfErr result (λ unfit. IsUnfit «module».now.parts saved.now unfit) }
+{
+    let record = match read_record(alloc, saved) {
+        Ok(record) => record,
+        Err(RecordFault::NoMemory) => return Err(Unfit::NoMemory),
+        Err(fault) => return Err(Unfit::Unread(fault)),
+    };
+    match watched(alloc, module, &record) {
+        Ok(rows) => Ok(SeenRun { record, rows }),
+        Err(fault) => Err(misfit(fault)),
+    }
+}
+
+/// The rows of a record's entries.
+fn watched(
+    alloc: Global,
+    module: &ValidModule,
+    record: &Record,
+) -> Result<Vec<Option<Row>>, ReplayFault>
+    ensures run { IfOk result (λ _. (end : EndState) × IsRunOf «module».now.parts «record».now end) }
+    ensures none { IfErr result (λ fault. ShowsNoRun «module».now.parts «record».now fault) }
+{
+    let mut rows = match Rows::new(alloc, record.parts().log.as_slice()) {
+        Ok(rows) => rows,
+        Err(_) => return Err(ReplayFault::NoMemory),
+    };
+    match replay_watched(alloc, module, record, &mut rows) {
+        Ok(_) => Ok(rows.rows),
+        Err(fault) => Err(fault),
+    }
+}
+
+/// Writes the rows, or the page or trace that has them, with the names and lines in `names`.
+fn print_rows<W: Write>(
+    alloc: Global,
+    module: &ValidModule,
+    seen: &SeenRun,
+    bytes: &[u8],
+    names: &[u8],
+    look: &Look,
+    view: View,
+    out: &mut W,
+) -> Result<(), Unwritten> {
+    let code = CodeMap::read(alloc, module.parts(), bytes, names)?;
+    let shown = Shown {
+        record: seen.record.parts(),
+        rows: seen.rows.as_slice(),
+        code: &code,
+    };
+    match view {
+        View::Page(_) => write_page(alloc, shown, look, out),
+        View::Trace(_) => write_trace(alloc, shown, look, out),
+        View::Rows | View::Moment(_) => write_rows(alloc, shown, look, out),
+    }
+}
+
+/// How many entries of a record stand before a line; all of them before a line behind the log.
+fn entries_before(parts: &RecordParts, line: u64) -> usize {
+    let first = parts.version.header_lines().saturating_add(1);
+    let line = usize::try_from(line).unwrap_or(usize::MAX);
+    line.saturating_sub(first).min(parts.log.as_slice().len())
+}
+
+/// The record before a line, seen by a second replay.
+fn moment_of<'r>(
+    alloc: Global,
+    module: &ValidModule,
+    record: &'r Record,
+    at: At,
+) -> Result<Moment<'r>, Unwritten> {
+    let parts = record.parts();
+    let wanted = Bytes {
+        addr: at.addr,
+        count: at.count,
+    };
+    let entries = entries_before(parts, at.line);
+    let mut moment = Moment::new(alloc, parts.log.as_slice(), entries, wanted)?;
+    match replay_watched(alloc, module, record, &mut moment) {
+        Ok(_) => Ok(moment),
+        Err(_) => Err(Unwritten::NoMemory),
+    }
+}
+
+/// Writes what threads and memory are like before a line.
+fn print_moment<W: Write>(
+    alloc: Global,
+    module: &ValidModule,
+    seen: &SeenRun,
+    bytes: &[u8],
+    names: &[u8],
+    at: At,
+    out: &mut W,
+) -> Result<(), Unwritten> {
+    let moment = moment_of(alloc, module, &seen.record, at)?;
+    let code = CodeMap::read(alloc, module.parts(), bytes, names)?;
+    let shown = Shown {
+        record: seen.record.parts(),
+        rows: seen.rows.as_slice(),
+        code: &code,
+    };
+    write_moment(alloc, module, shown, &moment, out)
+}

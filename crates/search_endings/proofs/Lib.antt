@@ -1,2 +1,0 @@
-mod Differing
-pub mod Noting

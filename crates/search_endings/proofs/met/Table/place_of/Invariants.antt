@@ -1,7 +1,0 @@
-use Rattle.std.proofs.Common.{ℕ, ◌<◌, get_or}
-use Rattle.search_endings.specs.declared.met.Met.{Met}
-use Rattle.search_endings.specs.Endings.{AreOneEnding}
-use Rattle.search_endings.proofs.met.Table.place_of.Given as goal
-
-abbrev pub invariant-loop-place : goal.invariant-loop-place
-invariant-loop-place l = (k : ℕ) → k < l.place → (d : Met) → AreOneEnding (get_or l.self.met.items k d).ending l.ending → ⊥

@@ -1,0 +1,62 @@
+//! How endings are noted.
+ghost use Rattle.std.specs.Prelude.{◌≡◌, ℕ, ◌<◌, ◌≤◌, ◌^◌, ◌-◌, IfOk, IfErr, MatchOption, All, length, slice_index_or};
+ghost use Rattle.search_finds.specs.Endings.{AreOneEnding};
+ghost use Rattle.search_finds.specs.Tables.{IsNoted, IsMetAgain};
+
+use crate::ending::Ending;
+use crate::met::{Met, Table};
+use std::alloc::{AllocError, Global};
+
+impl Table {
+    /// Before the first run.
+    pub fn new(alloc: Global) -> Table
+        ensures { (result.runs ≡ 0) × (length result.met.items ≡ 0) }
+    {
+        Table {
+            met: Vec::new(alloc),
+            runs: 0,
+        }
+    }
+
+    /// Where an ending stands that was met before.
+    fn place_of(&self, ending: &Ending) -> Option<usize>
+        ensures { MatchOption result (All (λ m. AreOneEnding m.ending ending.now → ⊥) self.now.met.items)
+            (λ place. (place < length self.now.met.items)
+            × (m : Met) × (slice_index_or self.now.met.items place m ≡ m) × AreOneEnding m.ending ending.now) }
+    {
+        for (place, met) in self.met.iter().enumerate() {
+            if met.ending.is_same(ending) {
+                return Some(place);
+            }
+        }
+        None
+    }
+
+    /// Notes the ending of a run, and says whether it is new. Fewer than 2^64 - 1 runs were noted before.
+    ///
+    /// # Errors
+    /// Where memory is refused; then the table is as it was.
+    pub fn note(&mut self, run: u64, ending: Ending) -> Result<bool, AllocError>
+        requires { self.old.runs < 2 ^ 64 - 1 }
+        ensures noted { IfOk result (λ is_new. IsNoted run ending is_new self.old self.new) }
+        ensures refused { IfErr result (λ _. (self.new.runs ≡ self.old.runs) × (self.new.met.items ≡ self.old.met.items)) }
+    {
+        match self.place_of(&ending) {
+            Some(place) => {
+                self.runs += 1;
+                self.met[place].times += 1;
+                Ok(false)
+            }
+            None => {
+                self.met.reserve(1)?;
+                self.met.push_reserved(Met {
+                    ending,
+                    times: 1,
+                    first: run,
+                });
+                self.runs += 1;
+                Ok(true)
+            }
+        }
+    }
+}

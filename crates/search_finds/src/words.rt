@@ -1,0 +1,43 @@
+//! What is looked for in the lines of a run's threads.
+ghost use Rattle.std.specs.Prelude.{◌↔◌, IfOk, IsTrue};
+ghost use Rattle.std.specs.Str.Iter.{HasSubslice};
+ghost use Rattle.search_finds.specs.Words.{line_of, HasLineWith, LacksInThread0};
+
+use crate::ending::Ending;
+use std::alloc::{AllocError, Global};
+use types::Outcome;
+
+/// Whether the line of a thread has the words.
+fn has_words(
+    alloc: Global,
+    thread: usize,
+    outcome: Outcome,
+    words: &str,
+) -> Result<bool, AllocError>
+    ensures { IfOk result (λ has. IsTrue has ↔ HasSubslice (line_of thread outcome) words.now) }
+{
+    let line = format!(in alloc; "thread {thread}: {outcome}")?;
+    Ok(line.contains(words))
+}
+
+/// Whether some thread's line has the words.
+pub fn has_line_with(alloc: Global, ending: &Ending, words: &str) -> Result<bool, AllocError>
+    ensures { IfOk result (λ has. IsTrue has ↔ HasLineWith words.now ending.now.outcomes.items) }
+{
+    for (thread, outcome) in ending.outcomes.iter().enumerate() {
+        if has_words(alloc, thread, *outcome, words)? {
+            return Ok(true);
+        }
+    }
+    Ok(false)
+}
+
+/// Whether the line of thread 0 doesn't have the words.
+pub fn lacks_in_thread_0(alloc: Global, ending: &Ending, words: &str) -> Result<bool, AllocError>
+    ensures { IfOk result (λ lacks. IsTrue lacks ↔ LacksInThread0 words.now ending.now.outcomes.items) }
+{
+    match ending.outcomes.first() {
+        Some(outcome) => Ok(!has_words(alloc, 0, *outcome, words)?),
+        None => Ok(true),
+    }
+}

@@ -1,5 +1,0 @@
-use Rattle.search_same.proofs.SharedParts.{same_memory}
-use Rattle.search_same.proofs.equal_memories_are_the_same.Goals as goal
-
-pub returns : goal.returns
-returns c = same_memory

@@ -1,5 +1,0 @@
-use Rattle.search_same.proofs.SharedParts.{same_queue}
-use Rattle.search_same.proofs.equal_queues_are_the_same.Goals as goal
-
-pub returns : goal.returns
-returns c = same_queue

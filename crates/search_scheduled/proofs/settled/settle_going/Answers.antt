@@ -1,0 +1,32 @@
+use Rattle.std.proofs.Common.{◌≡◌, ◌∙◌}
+use Rattle.std.proofs.lemmas.List.{take_at}
+use Rattle.replay_walk.proofs.Settled.{within, ready, settled}
+use Rattle.search_scheduled.proofs.Settling.{settles_on}
+use Rattle.search_scheduled.proofs.settled.settle_going.Goals as goal
+
+pub settle_at-requires-clause-within : goal.settle_at-requires-clause-within
+settle_at-requires-clause-within g c =
+    let s = c.requires.standing.0 in let st = c.requires.standing.1 in let budget = c.requires.standing.2 in
+    let w = c.args.walk.now in
+    let going = c.is_going.ensures.going c.if-not-is_going.false s w.threads.items st in
+    within g.T.TakesTurns.meaning s w.threads.items w.stage.queue w.stage.started w.stage.ends st c.args.n going
+    c.deref_mut.result.now c.deref_mut.ensures.value
+
+pub settle_at-requires-clause-here : goal.settle_at-requires-clause-here
+settle_at-requires-clause-here g c =
+    let s = c.requires.standing.0 in let st = c.requires.standing.1 in let budget = c.requires.standing.2 in
+    let w = c.args.walk.now in
+    let going = c.is_going.ensures.going c.if-not-is_going.false s w.threads.items st in
+    ready g.T.TakesTurns.meaning s w.threads.items w.stage.queue w.stage.started w.stage.ends st c.args.n going
+    c.deref_mut.result.now c.deref_mut.ensures.value c.args.fuel budget
+
+pub returns-clause-settled : goal.returns-clause-settled
+returns-clause-settled g c = λ turn is s st.
+    let w = c.args.walk.now in
+    let going = c.is_going.ensures.going c.if-not-is_going.false s w.threads.items st in
+    let d = settled g.T.TakesTurns.meaning s w.threads.items w.stage.queue w.stage.started w.stage.ends st c.args.n going
+    c.deref_mut.result.now c.deref_mut.ensures.value c.settle_at.result c.settle_at.new.threads c.settle_at.ensures.settled in
+    let same : c.settle_at.result ≡ turn = cc is in
+    settles_on g.T.TakesTurns.meaning s c.args.n c.settle_at.result turn same _ c.settle_at.new.threads
+    (take_at c.settle_at.new.threads _ w.threads.len (c.settle_at.ensures.count ∙ c.deref_mut.ensures.len))
+    d.thread d.on d.settles d.says

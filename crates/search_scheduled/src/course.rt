@@ -1,0 +1,157 @@
+//! A walk with the log that it makes.
+ghost use Rattle.std.specs.Prelude.{◌≡◌, ◌≤◌, length, [], OnOk};
+ghost use Rattle.types.specs.Limits.{most_threads};
+ghost use Rattle.replay_walk.specs.Walked.{Run, IsReady};
+ghost use Rattle.search_scheduled.specs.Courses.{CameAlong, IsOnARun, StaysOnItsRuns};
+
+use crate::hearing::hear;
+use crate::making::go_on;
+use crate::settled::settle_going;
+use arrayvec::ArrayVec;
+use interp_trait::TakesTurns;
+use replay_walk::Walk;
+use search_strategies::Strategy;
+use shared_memory_sequential::OneMemory;
+use std::alloc::{AllocFailed, Global};
+use thiserror::Error;
+use types::{Entry, Event, MOST_THREADS, PAST_LIMIT, Reply};
+
+/// Why a course came to no end.
+#[derive(Clone, Copy, PartialEq, Eq, Debug, Error)]
+pub enum CourseFault {
+    /// The system had too little memory left for the log.
+    #[error("no memory")]
+    NoMemory,
+    /// A thread that can go on makes no entry.
+    #[error("no entry")]
+    NoEntry,
+}
+
+impl<T: Drop> From<AllocFailed<T>> for CourseFault {
+    fn from(_: AllocFailed<T>) -> CourseFault {
+        CourseFault::NoMemory
+    }
+}
+
+/// A run on its way: a walk, the log that it has made, how many entries that takes, and how many units each thread may spend.
+#[derive(Drop)]
+pub struct Course<T> {
+    pub walk: Walk<T>,
+    pub log: Vec<Entry>,
+    pub fuel: u64,
+    pub limit: u32,
+}
+
+impl<T: TakesTurns> Course<T> {
+    /// Before the first turn: thread 0 is at its start, and the memory is the opening one. There may be 64 threads.
+    pub fn new(
+        alloc: Global,
+        threads: Vec<T>,
+        memory: OneMemory,
+        fuel: u64,
+        limit: u32,
+    ) -> Course<T>
+        ensures { (r : Run) → IsReady T.meaning r threads.items memory → r.threads ≡ most_threads → r.budget ≡ fuel
+            → r.limit ≡ limit → CameAlong T.meaning r result }
+    {
+        Course {
+            walk: Walk::new(threads, memory, MOST_THREADS as u32),
+            log: Vec::new(alloc),
+            fuel,
+            limit,
+        }
+    }
+
+    /// A thread takes the answer that is due to it, if one is.
+    fn hear(&mut self, n: u32) -> Result<(), CourseFault>
+        requires { IsOnARun T.meaning self.old }
+        ensures { OnOk result (StaysOnItsRuns T.meaning self.old self.new) }
+    {
+        if let Some(answer) = hear(&mut self.walk, n) {
+            self.log.push(Entry {
+                thread: n,
+                event: Event::Told(answer),
+                reply: Reply::Done,
+            })?;
+        }
+        Ok(())
+    }
+
+    /// All threads take the answers that are due to them.
+    fn hear_all(&mut self) -> Result<(), CourseFault>
+        requires { IsOnARun T.meaning self.old }
+        ensures { OnOk result (StaysOnItsRuns T.meaning self.old self.new) }
+    {
+        for n in 0..self.walk.stage.started {
+            self.hear(n)?;
+        }
+        Ok(())
+    }
+
+    /// A thread makes its turns of its own, and then its event, whose entry is given. One that can't go on makes none.
+    fn step(&mut self, n: u32) -> Result<Option<Entry>, CourseFault>
+        requires { IsOnARun T.meaning self.old }
+        ensures { OnOk result (StaysOnItsRuns T.meaning self.old self.new) }
+    {
+        let Some(turn) = settle_going(&mut self.walk, n, self.fuel) else {
+            return Ok(None);
+        };
+        let Some(entry) = go_on(&mut self.walk, n, turn, self.log.len(), self.limit) else {
+            return Err(CourseFault::NoEntry);
+        };
+        self.log.push(entry)?;
+        Ok(Some(entry))
+    }
+
+    /// A thread makes its next event, if it can go on. All threads take the answers that are due by it.
+    fn advance(&mut self, n: u32) -> Result<(), CourseFault>
+        requires { IsOnARun T.meaning self.old }
+        ensures { OnOk result (StaysOnItsRuns T.meaning self.old self.new) }
+    {
+        let made = self.step(n)?;
+        if let Some(
+            Entry {
+                event: Event::Ask(_),
+                ..
+            },
+        ) = made
+        {
+            self.hear_all()?;
+        }
+        Ok(())
+    }
+
+    /// The threads that can go on, in order.
+    fn ready(&self) -> ArrayVec<u32, MOST_THREADS>
+        ensures { length result.items ≤ most_threads }
+    {
+        let mut ready = ArrayVec::new();
+        let most = self.walk.stage.started.min(MOST_THREADS as u32);
+        for n in 0..most {
+            if self.walk.stage.is_going::<T>(n) {
+                ready.push(n);
+            }
+        }
+        ready
+    }
+
+    /// Goes on until nobody can: before each event the strategy says who makes it.
+    ///
+    /// # Errors
+    /// `NoMemory`; and `NoEntry`, after which the course stands nowhere.
+    pub fn go<S: Strategy>(&mut self, strategy: &mut S) -> Result<(), CourseFault>
+        requires { IsOnARun T.meaning self.old }
+        ensures { OnOk result (StaysOnItsRuns T.meaning self.old self.new) }
+    {
+        let most = self.limit as usize + PAST_LIMIT;
+        for _ in 0..most {
+            let ready = self.ready();
+            if ready.is_empty() {
+                return Ok(());
+            }
+            let place = strategy.choose(&ready);
+            self.advance(ready[place])?;
+        }
+        Ok(())
+    }
+}

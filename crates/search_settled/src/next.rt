@@ -1,0 +1,120 @@
+//! The next states: of each thread that wants an event, what comes of it.
+ghost use Rattle.std.specs.Prelude.{◌≡◌, ◌+◌, ◌<◌, ℕ, true, false, Some, None, IfOk, IfSome};
+ghost use Rattle.std.specs.List.{slice_get};
+ghost use Rattle.schedule.specs.System.{State};
+ghost use Rattle.schedule.specs.Scheduled.{after_event};
+ghost use Rattle.search_settled.specs.Next.{IsSomewhere, IsStuckAfter, HasNext};
+ghost use Rattle.search_settled.specs.Flat.{IsFlat, AreBefore, RestsBehind, IsMove, AllComeAfter, HasNextBelow};
+
+use crate::{Flat, Moves};
+use std::alloc::{AllocError, Global};
+
+/// Where thread m comes to rest after an event of thread n: it is one of these threads, or the event starts it.
+fn thread_after<M: Moves>(
+    alloc: Global,
+    system: &M,
+    made: &M::Made,
+    n: usize,
+    threads: &[M::Thread],
+    m: usize,
+) -> Result<Option<M::Thread>, AllocError>
+    requires event { (z : State M.X M.T) × (e : M.E) × AreBefore (M.system system.now) (M.beginning system.now) (M.count system.now)
+        (M.shares system.now) (M.is_thread system.now) (M.makes system.now) made.now n threads.now z e }
+    requires few { m < M.most system.now }
+    ensures rests { IfOk result (λ o. IfSome o (RestsBehind (M.system system.now) (M.beginning system.now) (M.count system.now)
+        (M.shares system.now) (M.is_thread system.now) (M.makes system.now) made.now n threads.now m)) }
+    ensures gives_up { IfOk result (λ o. o ≡ None → (z : State M.X M.T) (e : M.E) → AreBefore (M.system system.now)
+        (M.beginning system.now) (M.count system.now) (M.shares system.now) (M.is_thread system.now) (M.makes system.now)
+        made.now n threads.now z e → M.stuck system.now (after_event (M.system system.now) z n e)) }
+{
+    match threads.get(m) {
+        Some(thread) => system.after(alloc, made, n, thread, m),
+        None => system.first_after(alloc, made, n, m),
+    }
+}
+
+/// Where all threads come to rest after an event of thread n, those that it starts too.
+fn threads_after<M: Moves>(
+    alloc: Global,
+    system: &M,
+    shared: &M::Shared,
+    made: &M::Made,
+    n: usize,
+    threads: &[M::Thread],
+) -> Result<Option<Vec<M::Thread>>, AllocError>
+    requires { (z : State M.X M.T) × (e : M.E) × IsMove (M.system system.now) (M.beginning system.now) (M.count system.now)
+        (M.shares system.now) (M.is_thread system.now) (M.makes system.now) shared.now made.now n threads.now z e }
+    ensures rests { IfOk result (λ o. IfSome o (λ v. AllComeAfter (M.system system.now) (M.beginning system.now) (M.count system.now)
+        (M.shares system.now) (M.is_thread system.now) (M.makes system.now) shared.now made.now n threads.now v.items)) }
+    ensures gives_up { IfOk result (λ o. o ≡ None → (z : State M.X M.T) (e : M.E) → IsMove (M.system system.now)
+        (M.beginning system.now) (M.count system.now) (M.shares system.now) (M.is_thread system.now) (M.makes system.now)
+        shared.now made.now n threads.now z e → M.stuck system.now (after_event (M.system system.now) z n e)) }
+{
+    let count = system.started(shared);
+    let mut rested = Vec::with_capacity(alloc, count)?;
+    for m in 0..count {
+        let Some(thread) = thread_after(alloc, system, made, n, threads, m)? else {
+            return Ok(None);
+        };
+        rested.push(thread)?;
+    }
+    Ok(Some(rested))
+}
+
+/// Puts the next state by the event of thread n, if it wants one, behind those of the threads before it. It answers no where it
+/// cannot tell that state.
+fn put_next<M: Moves>(
+    alloc: Global,
+    system: &M,
+    flat: &Flat<M::Shared, M::Thread>,
+    thread: &M::Thread,
+    n: usize,
+    all: &mut Vec<Flat<M::Shared, M::Thread>>,
+) -> Result<bool, AllocError>
+    requires somewhere { IsSomewhere (M.system system.now) (M.beginning system.now) (IsFlat (M.system system.now) (M.beginning system.now)
+        (M.count system.now) (M.shares system.now) (M.is_thread system.now) (M.makes system.now)) flat.now }
+    requires thread { slice_get flat.now.threads.items n ≡ Some thread.now }
+    ensures next { IfOk result (λ told. told ≡ true → HasNextBelow (M.system system.now) (M.beginning system.now)
+        (M.count system.now) (M.shares system.now) (M.is_thread system.now) (M.makes system.now) flat.now n all.old.items
+        → HasNextBelow (M.system system.now) (M.beginning system.now)
+        (M.count system.now) (M.shares system.now) (M.is_thread system.now) (M.makes system.now) flat.now (n + 1) all.new.items) }
+    ensures gives_up { IfOk result (λ told. told ≡ false → IsStuckAfter (M.system system.now) (M.beginning system.now)
+        (IsFlat (M.system system.now) (M.beginning system.now) (M.count system.now) (M.shares system.now) (M.is_thread system.now)
+        (M.makes system.now)) (M.stuck system.now) flat.now) }
+{
+    let Some((shared, made)) = system.event(alloc, &flat.shared, thread, n)? else {
+        return Ok(true);
+    };
+    let Some(threads) = threads_after(alloc, system, &shared, &made, n, flat.threads.as_slice())?
+    else {
+        return Ok(false);
+    };
+    all.push(Flat { shared, threads })?;
+    Ok(true)
+}
+
+/// The next states of a settled state.
+pub(crate) fn next_states<M: Moves>(
+    alloc: Global,
+    system: &M,
+    flat: &Flat<M::Shared, M::Thread>,
+) -> Result<Option<Vec<Flat<M::Shared, M::Thread>>>, AllocError>
+    requires { IsSomewhere (M.system system.now) (M.beginning system.now) (IsFlat (M.system system.now) (M.beginning system.now)
+        (M.count system.now) (M.shares system.now) (M.is_thread system.now) (M.makes system.now)) flat.now }
+    ensures next { IfOk result (λ o. IfSome o (λ v. HasNext (M.system system.now) (M.beginning system.now)
+        (IsFlat (M.system system.now) (M.beginning system.now)
+        (M.count system.now) (M.shares system.now) (M.is_thread system.now) (M.makes system.now)) flat.now v.items)) }
+    ensures gives_up { IfOk result (λ o. o ≡ None → IsStuckAfter (M.system system.now) (M.beginning system.now)
+        (IsFlat (M.system system.now) (M.beginning system.now) (M.count system.now) (M.shares system.now) (M.is_thread system.now)
+        (M.makes system.now)) (M.stuck system.now) flat.now) }
+{
+    let mut all = Vec::new(alloc);
+    let mut n: usize = 0;
+    while let Some(thread) = flat.threads.get(n) {
+        if !put_next(alloc, system, flat, thread, n, &mut all)? {
+            return Ok(None);
+        }
+        n += 1;
+    }
+    Ok(Some(all))
+}

@@ -1,4 +1,0 @@
-pub mod Settling
-pub mod Answering
-pub mod Leaving
-pub mod Courses

@@ -1,5 +1,0 @@
-pub mod Bytes
-pub mod Lanes
-pub mod Memories
-pub mod Operators
-pub mod Ranges

@@ -1,5 +1,0 @@
-use Rattle.shared_memory_lanes.proofs.Lanes.{written_here}
-use Rattle.shared_memory_lanes.proofs.laws.lane_of_with_lane.Goals as goal
-
-pub returns : goal.returns
-returns c = written_here

@@ -1,0 +1,36 @@
+//! The page.
+
+ghost use Rattle.std.specs.Prelude.{OnOk};
+ghost use Rattle.show_events.specs.Page.{AddsPage};
+
+use crate::script::SCRIPT;
+use crate::style::{BODY, STYLE};
+use report_choice::Look;
+use crate::{chosen_entries, write_events};
+use show_rows::Shown;
+use show_text::Unwritten;
+use std::alloc::Global;
+use std::io::Write;
+
+/// Writes the entries that are chosen as a page of HTML.
+///
+/// It has the entries as data, in which no `<` is, and a script that draws them: threads as lanes, a wait as a bar up to
+/// its answer, arrows from a notify to whom it wakes and from a spawn to the first entry of its thread.
+pub fn write_page<W: Write>(
+    alloc: Global,
+    shown: Shown,
+    look: &Look,
+    out: &mut W,
+) -> Result<(), Unwritten>
+    ensures { OnOk result (AddsPage (W.contents out.old) (W.contents out.new)) }
+{
+    let chosen = chosen_entries(alloc, shown, look)?;
+    out.write_all(STYLE.as_bytes())?;
+    out.write_all(BODY.as_bytes())?;
+    out.write_all(b"<script type=\"application/json\" id=\"events\">")?;
+    write_events(alloc, shown, &chosen, out)?;
+    out.write_all(b"</script>")?;
+    out.write_all(SCRIPT.as_bytes())?;
+    out.flush()?;
+    Ok(())
+}

@@ -1,0 +1,119 @@
+//! A row for each entry of a log.
+
+ghost use Rattle.std.specs.Prelude.{◌≡◌, ◌<◌, length, replicate, Some, None, IfOk};
+ghost use Rattle.std.specs.List.{slice_get};
+ghost use Rattle.show_rows.specs.declared.rows.Row.{Row};
+ghost use Rattle.show_rows.specs.Rows.{StandsThere};
+
+use interp::{Place, Thread};
+use interp_trait::Turn;
+use replay_walk::{Walk, Watch};
+use shared_memory_sequential::OneMemory;
+use std::alloc::{AllocError, Global};
+use types::{Entry, Event, Question};
+
+/// Of an entry: where its thread stands, and what an access finds in memory.
+#[derive(Clone, Copy, PartialEq, Eq)]
+pub struct Row {
+    /// The function of the module itself, and the number of the instruction in its flat code.
+    pub place: Place,
+    /// The number in the bytes of an access before it, where it lies within the memory.
+    pub before: Option<u64>,
+}
+
+/// The rows of a log. Before a walk all are empty; a walk fills them up to the first entry that doesn't fit.
+#[derive(Drop)]
+pub struct Rows<'a> {
+    pub log: &'a [Entry],
+    pub rows: Vec<Option<Row>>,
+    /// How many entries the walk has come along.
+    pub came: usize,
+}
+
+impl<'a> Rows<'a> {
+    pub fn new(alloc: Global, log: &'a [Entry]) -> Result<Rows<'a>, AllocError>
+        ensures log { IfOk result (λ r. r.log.now ≡ log.now) }
+        ensures rows { IfOk result (λ r. r.rows.items ≡ replicate (length log.now) None) }
+    {
+        let rows = vec![in alloc; None; log.len()]?;
+        Ok(Rows { log, rows, came: 0 })
+    }
+}
+
+/// Where a thread stands.
+fn row_of(thread: &Thread, before: Option<u64>) -> Row
+    ensures { StandsThere thread.now result }
+{
+    Row {
+        place: thread.place(),
+        before,
+    }
+}
+
+/// The bytes that an event touches: the first one's address, and how many.
+fn touched(event: Event) -> Option<(u64, u8)> {
+    match event {
+        Event::Load { addr, width, .. }
+        | Event::Store { addr, width, .. }
+        | Event::Rmw { addr, width, .. }
+        | Event::Cmpxchg { addr, width, .. } => Some((addr, width)),
+        _ => None,
+    }
+}
+
+/// The number in the bytes that an event touches, if they lie within the memory.
+fn number_before(bytes: &[u8], event: Event) -> Option<u64> {
+    let (addr, width) = touched(event)?;
+    let start = usize::try_from(addr).ok()?;
+    let end = start.checked_add(usize::from(width))?;
+    let mut number = 0u64;
+    for b in bytes.get(start..end)?.iter().rev() {
+        number = number.wrapping_shl(8) | u64::from(*b);
+    }
+    Some(number)
+}
+
+impl Rows<'_> {
+    /// Gives the entry of this number a row: where its thread stands.
+    fn see(&mut self, at: usize, threads: &[Thread])
+        ensures { self.new.came ≡ self.old.came }
+    {
+        let Some(entry) = self.log.get(at) else {
+            return;
+        };
+        let Some(thread) = threads.get(entry.thread as usize) else {
+            return;
+        };
+        if let Some(row) = self.rows.get_mut(at) {
+            *row = Some(row_of(thread, None));
+        }
+    }
+}
+
+impl<'a, 'm> Watch<Thread<'m>> for Rows<'a> {
+    /// An answer that is heard stands where the thread stood before it, and a leave where the thread ended.
+    fn came(&mut self, entries: usize, walk: &Walk<Thread<'m>>)
+        ensures { self.new.came ≡ entries }
+    {
+        self.came = entries;
+        self.see(entries, &walk.threads);
+        if let Some(last) = entries.checked_sub(1)
+            && let Some(entry) = self.log.get(last)
+            && entry.event == Event::Ask(Question::Leave)
+        {
+            self.see(last, &walk.threads);
+        }
+    }
+
+    fn event(&mut self, entry: &Entry, thread: &Thread<'m>, memory: &OneMemory)
+        // The row of the entry that comes next is where the thread stands that wants it.
+        ensures { self.old.came < length self.old.rows.items → (row : Row)
+            × (slice_get self.new.rows.items self.old.came ≡ Some (Some row)) × StandsThere thread.now row }
+    {
+        if let Some(row) = self.rows.get_mut(self.came) {
+            *row = Some(row_of(thread, number_before(memory.bytes(), entry.event)));
+        }
+    }
+
+    fn settled(&mut self, _thread: u32, _turn: Turn) {}
+}

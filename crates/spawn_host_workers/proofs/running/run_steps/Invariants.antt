@@ -1,0 +1,21 @@
+use Rattle.shared_memory.specs.WaitQueue.{IsFree}
+use Rattle.shared_memory.specs.History.{queue_after}
+use Rattle.interp_trait.specs.Turns.{Running, IsHere, StaysAs}
+use Rattle.spawn_host_workers.specs.Ends.{SeatStays, watched}
+use Rattle.interp_trait.specs.declared.turn.Turn.TheVariants.{Moved}
+use Rattle.spawn_host_workers.specs.Serving.{Attends}
+use Rattle.spawn_host_workers.proofs.running.run_steps.Given as goal
+
+abbrev pub invariant-loop : goal.invariant-loop
+invariant-loop g l =
+    let m = g.M.SharedMemory in
+    let first = g.T.TakesTurns.meaning l.initial.thread in
+    let now = g.T.TakesTurns.meaning l.thread in
+    let n = m.name l.initial.seat in record {
+      stays : StaysAs first now;
+      seat : SeatStays m.name m.has_queue_right l.initial.seat l.seat;
+      free : IsFree (queue_after (m.seen l.seat)) n;
+      comes :
+          (t : Running) → first.stands t → IsHere t
+          → Attends first.program m.LOSES m.opening (m.limit l.memory) n t Moved now.stands (watched m.seen m.lost l.initial.seat) (watched m.seen m.lost l.seat);
+    }

@@ -1,0 +1,27 @@
+use Rattle.spawn_host_workers.specs.Ends.{watched}
+use Rattle.std.proofs.Common.{refl, subst}
+use Rattle.interp_trait.specs.Turns.{IsPaused, after_own}
+use Rattle.spawn_host_workers.proofs.Attending.{steps_own, steps_then}
+use Rattle.spawn_host_workers.proofs.running.step.Goals as goal
+
+pub returns-in-Wants-clause-stepped : goal.returns-in-Wants-clause-stepped
+returns-in-Wants-clause-stepped g c t stands here =
+    let m = g.M.SharedMemory in
+    let p = (g.T.TakesTurns.meaning c.args.thread.now).program in
+    let event = c.in-Wants.event in
+    let middle = (g.T.TakesTurns.meaning c.own_turns.new.self).stands in
+    let paused = subst (λ turn. IsPaused p t turn middle) c.in-Wants.is (c.own_turns.ensures.turned t stands here) in
+    let attended = rw (c.own_turns.ensures.stays.program) at c.attend.ensures.attended in
+    steps_then p t m.LOSES m.opening (m.limit c.args.memory.now) (m.name c.args.seat.now) (watched m.seen m.lost c.args.seat.now) event c.attend.result middle _
+    (watched m.seen m.lost c.attend.new.seat) here paused (attended (after_own p paused.turns t) (paused.after, paused.answer.0, paused.answer.1))
+
+pub returns-in_default : goal.returns-in_default
+returns-in_default g c =
+    let m = g.M.SharedMemory in record {
+      stays = c.own_turns.ensures.stays;
+      seat = record { name_is = refl; right_is = refl };
+      free = c.requires.free;
+      stepped = λ t stands here. steps_own (g.T.TakesTurns.meaning c.args.thread.now).program t m.LOSES m.opening
+          (m.limit c.args.memory.now) (m.name c.args.seat.now) (watched m.seen m.lost c.args.seat.now)
+          c.own_turns.result _ here c.in_default.not-Wants (c.own_turns.ensures.turned t stands here);
+    }

@@ -1,0 +1,149 @@
+//! A thread from its start to its end.
+ghost use Rattle.shared_memory.specs.Events.{IsEvent};
+ghost use Rattle.shared_memory.specs.WaitQueue.{IsFree};
+ghost use Rattle.shared_memory.specs.History.{queue_after};
+ghost use Rattle.interp_trait.specs.Turns.{Running, IsHere, MayBeGiven, MayRun, StaysAs, MakesTurn, WantsEvent};
+ghost use Rattle.interp_trait.specs.declared.turn.Turn.{Turn};
+ghost use Rattle.spawn_host_workers.specs.Ends.{IsLast, RunsOutTrying, SeatStays, watched};
+ghost use Rattle.spawn_host_workers.specs.Serving.{Attends, Steps};
+
+use crate::serving::{Served, serve};
+use interp_trait::{Gate, Given, TakesTurns, Turn};
+use shared_memory::SharedMemory;
+use std::sync::Wait;
+use types::{Event, Outcome, Reply};
+use waiters_desk::Desk;
+
+/// How a thread ended, with its seat and the units that it spent.
+#[derive(Drop)]
+pub struct ThreadEnd<S> {
+    pub outcome: Outcome,
+    pub seat: S,
+    pub spent: u64,
+}
+
+/// A turn behind the gate.
+fn advance<T: TakesTurns, G: Gate>(thread: &mut T, name: u32, gate: &G, given: Given) -> Turn
+    requires given { MayBeGiven (T.meaning thread.old) given }
+    ensures stays { StaysAs (T.meaning thread.old) (T.meaning thread.new) }
+    ensures turned { MakesTurn (T.meaning thread.old) given result (T.meaning thread.new) }
+{
+    gate.at(name, thread.spent());
+    thread.turn(given)
+}
+
+/// Makes one try of the event that the thread wants, and gives it what comes of it.
+fn attend<T: TakesTurns, M: SharedMemory, W: Wait + Drop, G: Gate>(
+    thread: &mut T,
+    memory: &M,
+    seat: &mut M::Seat,
+    desk: &Desk<M, W>,
+    gate: &G,
+    event: Event,
+) -> Turn
+    requires wanted { (t : Running) × WantsEvent (T.meaning thread.old) event t }
+    requires event { IsEvent event }
+    requires free { IsFree (queue_after (M.seen seat.old)) (M.name seat.old) }
+    ensures stays { StaysAs (T.meaning thread.old) (T.meaning thread.new) }
+    ensures seat { SeatStays M.name M.has_queue_right seat.old seat.new }
+    ensures free { IsFree (queue_after (M.seen seat.new)) (M.name seat.old) }
+    ensures attended { (t : Running) → WantsEvent (T.meaning thread.old) event t
+        → Steps (T.meaning thread.old).program M.LOSES M.opening (M.limit memory.now) (M.name seat.old) t result
+        (T.meaning thread.new).stands (watched M.seen M.lost seat.old) (watched M.seen M.lost seat.new) }
+{
+    let name = memory.name(seat);
+    match serve(memory, seat, desk, event) {
+        Served::Replied(reply) => advance(thread, name, gate, Given::Reply(reply)),
+        Served::Answered(answer) => {
+            advance(thread, name, gate, Given::Reply(Reply::Done));
+            advance(thread, name, gate, Given::Told(answer))
+        }
+        Served::Open => {
+            advance(thread, name, gate, Given::Reply(Reply::Done));
+            let answer = desk.collect(memory, seat);
+            advance(thread, name, gate, Given::Told(answer))
+        }
+    }
+}
+
+/// Makes turns of the thread's own, and then one try of the event that it wants.
+fn step<T: TakesTurns, M: SharedMemory, W: Wait + Drop, G: Gate>(
+    thread: &mut T,
+    memory: &M,
+    seat: &mut M::Seat,
+    desk: &Desk<M, W>,
+    gate: &G,
+) -> Turn
+    requires here { MayRun (T.meaning thread.old) }
+    requires free { IsFree (queue_after (M.seen seat.old)) (M.name seat.old) }
+    ensures stays { StaysAs (T.meaning thread.old) (T.meaning thread.new) }
+    ensures seat { SeatStays M.name M.has_queue_right seat.old seat.new }
+    ensures free { IsFree (queue_after (M.seen seat.new)) (M.name seat.old) }
+    ensures stepped { (t : Running) → (T.meaning thread.old).stands t → IsHere t
+        → Steps (T.meaning thread.old).program M.LOSES M.opening (M.limit memory.now) (M.name seat.old) t result
+        (T.meaning thread.new).stands (watched M.seen M.lost seat.old) (watched M.seen M.lost seat.new) }
+{
+    let name = memory.name(seat);
+    match thread.own_turns(name, gate) {
+        Turn::Wants(event) => attend(thread, memory, seat, desk, gate, event),
+        turn => turn,
+    }
+}
+
+/// Makes steps until the thread has ended.
+fn run_steps<T: TakesTurns, M: SharedMemory, W: Wait + Drop, G: Gate, R: Wait>(
+    rt: &R,
+    thread: &mut T,
+    memory: &M,
+    seat: &mut M::Seat,
+    desk: &Desk<M, W>,
+    gate: &G,
+) -> Outcome
+    requires here { MayRun (T.meaning thread.old) }
+    requires free { IsFree (queue_after (M.seen seat.old)) (M.name seat.old) }
+    ensures stays { StaysAs (T.meaning thread.old) (T.meaning thread.new) }
+    ensures seat { SeatStays M.name M.has_queue_right seat.old seat.new }
+    ensures free { IsFree (queue_after (M.seen seat.new)) (M.name seat.old) }
+    ensures ended { (t : Running) → (T.meaning thread.old).stands t → IsHere t
+        → Attends (T.meaning thread.old).program M.LOSES M.opening (M.limit memory.now) (M.name seat.old) t (Turn.Ended result)
+        (T.meaning thread.new).stands (watched M.seen M.lost seat.old) (watched M.seen M.lost seat.new) }
+{
+    for _ in rt.forever() {
+        if let Turn::Ended(outcome) = step(thread, memory, seat, desk, gate) {
+            return outcome;
+        }
+    }
+    unreachable!()
+}
+
+/// Runs a thread to its end, by turns of its own, tries of accesses and questions to the desk; then the thread leaves.
+///
+/// A lost try and a full log are given to the thread too, which says what they cost: the tries that the seat lost are as many
+/// as the lost tries among the thread's steps, and each costs a unit. The gate is called before each turn.
+/// It isn't promised that this returns: a call of the desk may wait, and a thread of whose configuration nothing is
+/// defined never ends.
+pub fn run_thread<T: TakesTurns + Drop, M: SharedMemory, W: Wait + Drop, G: Gate, R: Wait>(
+    rt: &R,
+    mut thread: T,
+    memory: &M,
+    mut seat: M::Seat,
+    desk: &Desk<M, W>,
+    gate: &G,
+) -> ThreadEnd<M::Seat>
+    requires here { MayRun (T.meaning thread) }
+    requires free { IsFree (queue_after (M.seen seat)) (M.name seat) }
+    ensures seat { SeatStays M.name M.has_queue_right seat result.seat }
+    ensures ran { (t : Running) → (T.meaning thread).stands t → IsHere t
+        → RunsOutTrying (T.meaning thread).program M.LOSES M.opening (M.limit memory.now) (M.name seat) t result.outcome result.spent
+        (T.meaning thread).fuel (watched M.seen M.lost seat) (watched M.seen M.lost result.seat) }
+    ensures last { IsLast M.opening (M.name seat) (M.seen result.seat) }
+{
+    let outcome = run_steps(rt, &mut thread, memory, &mut seat, desk, gate);
+    desk.end(memory, &mut seat);
+    let spent = thread.spent();
+    ThreadEnd {
+        outcome,
+        seat,
+        spent,
+    }
+}
