@@ -3,4 +3,3 @@ pub mod Config
 pub mod Access
 pub mod Step
 pub mod State
-pub mod Examples

@@ -9,7 +9,7 @@ use Rattle.spawn_host.specs.Entries.{Refuses}
 use Rattle.replay_text.specs.declared.parts.RecordParts.{RecordParts}
 use Rattle.replay_rules.specs.Recorded.{IsRecordedRun, IsFirstMisfit, IsFirstWrongEnd}
 use Rattle.replay.proofs.Schedules.{no_run_has_a_wrong_end, no_run_has_a_misfit}
-use Rattle.replay.specs.declared.end.EndState.{EndState}
+use Rattle.spawn_host.specs.declared.end.EndState.{EndState}
 use Rattle.replay.specs.declared.fault.ReplayFault.{ReplayFault}
 use Rattle.replay.specs.declared.fault.ReplayFault.TheVariants.{Line, EndLine, NoMemory}
 use Rattle.replay.specs.Runs.{BeginsBy, start_of_record, HasLength, HasPages, OfScale, IsRunOf, IsReplayFault, IsOfNoRun, ShowsNoRun}

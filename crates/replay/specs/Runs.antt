@@ -11,7 +11,7 @@ use Rattle.replay_text.specs.declared.version.Version.TheVariants as versions
 use Rattle.replay_text.specs.Versions.{header_count}
 use Rattle.replay_text.specs.declared.parts.RecordParts.{RecordParts}
 use Rattle.replay_rules.specs.Recorded.{IsRecordedRun, IsFirstMisfit, IsFirstWrongEnd}
-use Rattle.replay.specs.declared.end.EndState.{EndState}
+use Rattle.spawn_host.specs.declared.end.EndState.{EndState}
 use Rattle.replay.specs.declared.fault.ReplayFault.{ReplayFault}
 use Rattle.replay.specs.declared.fault.ReplayFault.TheVariants.{Line, EndLine, NoMemory}
 

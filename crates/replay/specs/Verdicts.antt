@@ -16,7 +16,7 @@ use Rattle.replay_text.specs.declared.parts.RecordParts.{RecordParts}
 use Rattle.replay_text.specs.Text.{IsRecord}
 use Rattle.replay_rules.specs.Walk.{Walks}
 use Rattle.replay_rules.specs.Recorded.{IsRecordedRun, IsFirstMisfit, IsFirstWrongEnd}
-use Rattle.replay.specs.declared.end.EndState.{EndState}
+use Rattle.spawn_host.specs.declared.end.EndState.{EndState}
 use Rattle.replay.specs.Ends.{AllAgree, IsFirstWrong}
 use Rattle.replay.specs.Runs.{IsRunOf}
 

@@ -11,7 +11,6 @@
 //!   doesn't fit, or some line is the first that doesn't agree; and no two of these.
 #![tactic(auto)]
 
-mod end;
 mod ends;
 mod fault;
 mod replaying;
@@ -19,7 +18,6 @@ mod threads;
 mod verdicts;
 mod walking;
 
-pub use end::EndState;
 pub use ends::first_wrong_end;
 pub use fault::ReplayFault;
 pub use replaying::{replay, replay_watched};

@@ -4,7 +4,6 @@ ghost use Rattle.validate_typing.specs.Validity.{HasDistinctNames};
 ghost use Rattle.spawn_host.specs.Runs.{opening_within};
 ghost use Rattle.replay.specs.Runs.{HasLength, HasPages, OfScale, IsRunOf, IsReplayFault, ShowsNoRun, pages_line};
 
-use crate::end::EndState;
 use crate::fault::ReplayFault;
 use crate::threads::threads_of;
 use crate::walking::walk;
@@ -12,6 +11,7 @@ use interp::Thread;
 use replay_text::{Record, RecordParts, Version};
 use replay_walk::{Unwatched, Watch};
 use shared_memory_sequential::OneMemory;
+use spawn_host::EndState;
 use std::alloc::Global;
 use validate_module::ValidModule;
 

@@ -1,6 +1,6 @@
 -- A run that ends as one that is looked for is looked for.
 use Rattle.std.proofs.Common.{ℕ, ◌∙◌}
-use Rattle.replay.specs.declared.end.EndState.{EndState}
+use Rattle.spawn_host.specs.declared.end.EndState.{EndState}
 use Rattle.search_finds.specs.Endings.{HaveOneEnding}
 use Rattle.search_finds.specs.declared.sought.Sought.{Sought}
 use Rattle.search_finds.specs.Finds.{EndsAsLookedFor}

@@ -7,7 +7,7 @@ use Rattle.validate_typing.specs.Validity.{IsValid}
 use Rattle.binary.specs.Grammar.{IsModuleText}
 use Rattle.replay_text.specs.declared.parts.RecordParts.{RecordParts}
 use Rattle.replay_text.specs.Text.{record_text}
-use Rattle.replay.specs.declared.end.EndState.{EndState}
+use Rattle.spawn_host.specs.declared.end.EndState.{EndState}
 use Rattle.replay.specs.Runs.{IsRunOf}
 use Rattle.search_scheduled.specs.Headers.{IsOfCall}
 use Rattle.search_finds.specs.declared.sought.Sought.{Sought}

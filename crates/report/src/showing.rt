@@ -1,7 +1,7 @@
 //! The entries of a record by the program, in words: what is printed, or why there is nothing to print.
 ghost use Rattle.std.specs.Prelude.{◌≡◌, ◌⊎◌, ℕ, List, IfOk, IfErr};
 ghost use Rattle.types.specs.declared.parts.Parts.{Parts};
-ghost use Rattle.replay.specs.declared.end.EndState.{EndState};
+ghost use Rattle.spawn_host.specs.declared.end.EndState.{EndState};
 ghost use Rattle.replay.specs.Runs.{IsRunOf, ShowsNoRun};
 ghost use Rattle.report_jobs.specs.Jobs.{IsNoRecordOf, IsNoValidModule, IsUnfit, IsRecordOf, IsOfRun};
 

@@ -16,8 +16,8 @@ use Rattle.interp.specs.Starts.{start_of}
 use Rattle.schedule_runs.specs.Runs.{Start}
 use Rattle.spawn_host.specs.Entries.{Exports}
 use Rattle.spawn_host.specs.Runs.{opening_memory, Tells, start_by, IsRunHistory}
-use Rattle.replay.specs.declared.end.EndState.{EndState}
-use Rattle.replay.specs.RunEnds.{EndsRun}
+use Rattle.spawn_host.specs.declared.end.EndState.{EndState}
+use Rattle.spawn_host.specs.RunEnds.{EndsRun}
 use Rattle.report_first.specs.First.{zeros, first_type, first_body, first_parts, page_after}
 use Rattle.report_first.specs.Laws.{IsFirstEnd, FirstModulesEndSo}
 use Rattle.report_first.proofs.Machine.{RunsOn}

@@ -9,9 +9,9 @@ use Rattle.types.specs.declared.outcome.Outcome.TheVariants as outcomes
 use Rattle.types.specs.declared.outcome.ThreadReport.{ThreadReport}
 use Rattle.types.specs.declared.event.Entry.{Entry}
 use Rattle.types.specs.declared.parts.Parts.{Parts}
-use Rattle.replay.specs.declared.end.EndState.{EndState}
+use Rattle.spawn_host.specs.declared.end.EndState.{EndState}
 use Rattle.report_lines.specs.Lines.{thread_line, pages_line, bytes_line, end_lines}
-use Rattle.replay.specs.RunEnds.{EndsRun}
+use Rattle.spawn_host.specs.RunEnds.{EndsRun}
 use Rattle.report_first.specs.First.{IsFirstModule, IsNoFirstModule, is_aligned, first_outcome, first_parts, page_after}
 use Rattle.report_first.specs.Laws.{IsFirstEnd}
 use Rattle.report_first.specs.Printed.{first_lines, first_status, IsFirstRun, status_of}

@@ -6,8 +6,8 @@ use Rattle.types.specs.declared.parts.Parts.{Parts}
 use Rattle.shared_memory.specs.Access.{HasReached}
 use Rattle.validate_typing.specs.Validity.{IsValid}
 use Rattle.binary.specs.Grammar.{IsModuleText}
-use Rattle.replay.specs.declared.end.EndState.{EndState}
-use Rattle.replay.specs.RunEnds.{EndsRun}
+use Rattle.spawn_host.specs.declared.end.EndState.{EndState}
+use Rattle.spawn_host.specs.RunEnds.{EndsRun}
 use Rattle.report_first.specs.First.{IsFirstModule, first_parts, first_outcome, page_after}
 
 -- The bytes spell one module, which is valid.

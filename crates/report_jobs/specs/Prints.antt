@@ -11,10 +11,11 @@ use Rattle.types.specs.declared.parts.Parts.{Parts}
 use Rattle.spawn_host.specs.Entries.{Takes}
 use Rattle.replay_text.specs.declared.parts.RecordParts.{RecordParts}
 use Rattle.replay_text.specs.Text.{record_text}
-use Rattle.replay.specs.declared.end.EndState.{EndState}
+use Rattle.spawn_host.specs.declared.end.EndState.{EndState}
 use Rattle.replay.specs.Runs.{IsRunOf}
 use Rattle.report_lines.specs.Lines.{end_lines}
-use Rattle.replay.specs.RunEnds.{RecordsRun, EndsRunOnWords}
+use Rattle.replay.specs.Recorded.{RecordsRun}
+use Rattle.spawn_host.specs.RunEnds.{EndsRunOnWords}
 use Rattle.report_jobs.specs.Arguments.{AreSpelled}
 
 -- A thread ended well: its function returned.

@@ -14,8 +14,8 @@ use Rattle.spawn_host.specs.Runs.{opening_memory, IsRun}
 use Rattle.locked_recorder.specs.Promises.{IsBounded}
 use Rattle.replay_text.specs.declared.parts.RecordParts.{RecordParts}
 use Rattle.replay_rules.specs.Ranges.{IsLimited}
-use Rattle.replay.specs.declared.end.EndState.{EndState}
-use Rattle.replay.specs.RunEnds.{EndsRun}
+use Rattle.spawn_host.specs.declared.end.EndState.{EndState}
+use Rattle.spawn_host.specs.RunEnds.{EndsRun}
 use Rattle.report_runs.specs.Logs.{of_callers}
 use Rattle.report_runs.proofs.Whole.{Knows, is_history}
 use Rattle.shared_memory.proofs.Soundness.{IsSound-after, few_spawned}

@@ -16,9 +16,10 @@ use Rattle.replay_rules.specs.Ranges.{AreTyped, IsWritten}
 use Rattle.replay_text.specs.declared.version.Version.{Version}
 use Rattle.replay_rules.proofs.Recording.{runs_are_recorded}
 use Rattle.replay_rules.proofs.Ranges.{runs_are_in_range}
-use Rattle.replay.specs.declared.end.EndState.{EndState}
+use Rattle.spawn_host.specs.declared.end.EndState.{EndState}
 use Rattle.replay.specs.Runs.{IsLengthOf, IsRunOf}
-use Rattle.replay.specs.RunEnds.{EndsRun, RecordsRun}
+use Rattle.replay.specs.Recorded.{RecordsRun}
+use Rattle.spawn_host.specs.RunEnds.{EndsRun}
 use Rattle.report_runs.proofs.Leaving.{the_same}
 
 module _ (m : Parts) (entry : List ℕ) (args : List Value) (fuel limit : ℕ) (r : RecordParts) (end : EndState)

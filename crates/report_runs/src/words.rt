@@ -4,15 +4,14 @@ ghost use Rattle.types.specs.declared.value.Value.{Value};
 ghost use Rattle.types.specs.Limits.{page_size};
 ghost use Rattle.spawn_host.specs.Entries.{Takes};
 ghost use Rattle.spawn_host.specs.Runs.{opening_memory};
-ghost use Rattle.replay.specs.RunEnds.{EndsRunOnWords};
+ghost use Rattle.spawn_host.specs.RunEnds.{EndsRunOnWords};
 ghost use Rattle.report_runs.specs.RunFaults.{IsWordsFault};
 
 use crate::fitting::show_memory_opens;
 use crate::recording::{RecordRunFault, check_call};
 use interp_trait::Gate;
-use replay::EndState;
 use shared_memory_sequential::OpenFault;
-use spawn_host::{Call, run};
+use spawn_host::{Call, EndState, run};
 use std::alloc::Global;
 use std::marker::Brand;
 use std::sync::Wait;

@@ -13,4 +13,3 @@ pub mod Orderly
 pub mod Covered
 pub mod Following
 pub mod Laws
-pub mod Worked

@@ -6,4 +6,3 @@ pub mod Tries
 pub mod Schedules
 pub mod Machine
 pub mod Theorems
-pub mod Example

@@ -17,7 +17,6 @@
 ghost use Rattle.schedule.specs.Theorems.{OneSchedule, ScheduleFollows, EveryOtherGivesTheSame};
 ghost use Rattle.schedule.specs.Theorems.{ThreadsWithBudgetsKeepTheLaws, ThreadsLeaveLast};
 ghost use Rattle.schedule.specs.Theorems.{ActsAndLossesFixTheEnd, ScheduledRunsGoOn};
-ghost use Rattle.schedule.specs.Example.{WorkedRun, AnotherSchedule, NoAnswerOfAnother, NoEntryAfterLeave};
 
 /// The schedule of a history makes the history, gives every thread's end and the shared state after the history.
 pub fn one_schedule<X, T, E, V, A>()
@@ -53,24 +52,4 @@ pub fn acts_and_losses_fix_the_end<X, T, E, V, A>()
 /// What the scheduled machine comes to is a function of its schedule alone, mark after mark.
 pub fn scheduled_runs_go_on<X, T, E, V, A>()
     ensures { ScheduledRunsGoOn X T E V A }
-{}
-
-/// A worked run: one thread starts another and sleeps, the other loses a try, adds and wakes it, and both leave.
-pub fn a_worked_run()
-    ensures { WorkedRun }
-{}
-
-/// Another schedule of that history, in which a thread loses its try earlier, gives the same ends.
-pub fn another_schedule_gives_the_same()
-    ensures { AnotherSchedule }
-{}
-
-/// An answer told to another thread is not legal.
-pub fn no_answer_of_another_thread()
-    ensures { NoAnswerOfAnother }
-{}
-
-/// No threads run so that one enters an event after it has left.
-pub fn no_entry_after_leave()
-    ensures { NoEntryAfterLeave }
 {}

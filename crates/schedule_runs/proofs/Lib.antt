@@ -11,5 +11,4 @@ pub mod Leaving
 pub mod Alive
 pub mod Turns
 pub mod Running
-pub mod Worked
 pub mod Later

@@ -7,7 +7,6 @@
 
 ghost use Rattle.schedule_runs.specs.Theorem.{ThreadsMakeOneRun};
 ghost use Rattle.schedule_runs.specs.Beginnings.{BeginningsStay, NobodyBeginsLater};
-ghost use Rattle.schedule_runs.specs.Example.{TwoThreadsRanTogether};
 
 /// Threads of a module that each ran to an end, and together made a history that is legal, made one run: its schedule gives
 /// every outcome, the units left to each thread and the memory, and so does every other schedule along the history.
@@ -23,9 +22,4 @@ pub fn beginnings_stay()
 /// A thread that hasn't begun where nobody is alive any more never begins.
 pub fn nobody_begins_later()
     ensures { NobodyBeginsLater }
-{}
-
-/// A worked run, so that what is asked of threads can be met: one spawns another and ends, and the other one ends meanwhile.
-pub fn two_threads_ran_together()
-    ensures { TwoThreadsRanTogether }
 {}

@@ -1,6 +1,6 @@
 -- To end alike goes on from run to run.
 use Rattle.std.proofs.Common.{ℕ, refl, sym, ◌∙◌}
-use Rattle.replay.specs.declared.end.EndState.{EndState}
+use Rattle.spawn_host.specs.declared.end.EndState.{EndState}
 use Rattle.search_finds.specs.declared.ending.Ending.{Ending}
 use Rattle.search_finds.specs.Endings.{HaveOneEnding, IsEndingOf, AreOneEnding}
 

@@ -1,7 +1,7 @@
 -- The ending of a run: how its threads ended, whatever they have spent, the page count, and the first bytes of the memory.
 use Rattle.std.specs.Prelude.{ℕ, ◌≡◌, List, map, take}
 use Rattle.types.specs.declared.outcome.Outcome.{Outcome}
-use Rattle.replay.specs.declared.end.EndState.{EndState}
+use Rattle.spawn_host.specs.declared.end.EndState.{EndState}
 use Rattle.search_finds.specs.declared.ending.Ending.{Ending}
 
 -- How the threads of a run ended, in order.

@@ -1,7 +1,7 @@
 -- What is found.
 use Rattle.std.specs.Prelude.{ℕ, ◌≡◌, ◌⊎◌, Some}
 use Rattle.types.specs.declared.parts.Parts.{Parts}
-use Rattle.replay.specs.declared.end.EndState.{EndState}
+use Rattle.spawn_host.specs.declared.end.EndState.{EndState}
 use Rattle.replay.specs.Runs.{IsRunOf}
 use Rattle.spawn_host.specs.declared.call.Call.{Call}
 use Rattle.search_scheduled.specs.Headers.{IsOfCall}

@@ -2,7 +2,7 @@
 ghost use Rattle.std.specs.Prelude.{◌≡◌, ◌↔◌, true, false, IfOk, IsTrue, map, take};
 ghost use Rattle.search_finds.specs.Endings.{IsEndingOf, HaveOneEnding, AreOneEnding};
 
-use replay::EndState;
+use spawn_host::EndState;
 use std::alloc::{AllocError, Global};
 use types::{Outcome, ThreadReport};
 

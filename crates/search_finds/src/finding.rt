@@ -6,13 +6,12 @@ ghost use Rattle.search_finds.specs.Finds.{IsFind, IsMet, EndsAsLookedFor};
 ghost use Rattle.search_finds.specs.Halts.{IfFound};
 
 use crate::sought::Sought;
-use replay::EndState;
 use report_choice::{MOST_DEPTH, Way};
 use crate::{Ending, Table, ending_of};
 use search_reach::{Follows, Wish};
 use search_scheduled::{Made, SearchFault, Spares, run_along, run_with_spares};
 use search_strategies::{Along, Pct, Random};
-use spawn_host::Call;
+use spawn_host::{Call, EndState};
 use std::alloc::{AllocError, Global};
 use std::thread::{Threads, map_indices};
 use validate_module::ValidModule;

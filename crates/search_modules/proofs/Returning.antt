@@ -20,9 +20,9 @@ use Rattle.schedule_runs.specs.Runs.{Start, RanTogether}
 use Rattle.spawn_host.specs.Runs.{start_by, opening_memory, IsRunHistory}
 use Rattle.replay_text.specs.declared.version.Version.TheVariants as versions
 use Rattle.replay_text.specs.declared.parts.RecordParts.{RecordParts}
-use Rattle.replay.specs.declared.end.EndState.{EndState}
+use Rattle.spawn_host.specs.declared.end.EndState.{EndState}
 use Rattle.replay.proofs.Same.{same_start}
-use Rattle.replay.specs.RunEnds.{EndsRun}
+use Rattle.spawn_host.specs.RunEnds.{EndsRun}
 use Rattle.search_runs.specs.Called.{Called, Walker, with_fuel}
 use Rattle.search_runs.specs.Ends.{HasEndedSo}
 use Rattle.search_runs.specs.Theorems.{CanReach, IsEndingOf}

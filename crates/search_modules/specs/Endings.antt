@@ -8,8 +8,8 @@ use Rattle.types.specs.declared.parts.Parts.{Parts}
 use Rattle.schedule.specs.System.{State}
 use Rattle.schedule_threads.specs.Shared.{Shared}
 use Rattle.spawn_host.specs.Entries.{StartsThreads, IsThreadStart}
-use Rattle.replay.specs.declared.end.EndState.{EndState}
-use Rattle.replay.specs.RunEnds.{EndsRun}
+use Rattle.spawn_host.specs.declared.end.EndState.{EndState}
+use Rattle.spawn_host.specs.RunEnds.{EndsRun}
 use Rattle.interp_trait.specs.Turns.{spawned_in}
 use Rattle.search_threads.specs.Unlimited.{Unlimited.Going}
 use Rattle.search_settled.specs.Settled.{MakesTurns}

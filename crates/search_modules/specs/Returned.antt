@@ -12,8 +12,8 @@ use Rattle.validate_typing.specs.Validity.{HasDistinctNames}
 use Rattle.schedule.specs.System as systems
 use Rattle.schedule_threads.specs.Shared.{Shared}
 use Rattle.spawn_host.specs.Runs.{Beginning, start_by}
-use Rattle.replay.specs.declared.end.EndState.{EndState}
-use Rattle.replay.specs.RunEnds.{EndsRun}
+use Rattle.spawn_host.specs.declared.end.EndState.{EndState}
+use Rattle.spawn_host.specs.RunEnds.{EndsRun}
 use Rattle.search_runs.specs.Called.{Called, Walker, with_fuel}
 use Rattle.search_runs.specs.Ends.{Ending, HasEndedSo}
 use Rattle.search_runs.specs.Theorems.{CanReach}

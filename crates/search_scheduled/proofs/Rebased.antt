@@ -10,7 +10,7 @@ use Rattle.spawn_host.specs.Runs.{Beginning, start_by, opening_memory, opening_w
 use Rattle.replay_text.specs.declared.version.Version.{Version}
 use Rattle.replay_text.specs.declared.parts.RecordParts.{RecordParts}
 use Rattle.replay_rules.specs.Recorded.{IsRecordedRun}
-use Rattle.replay.specs.declared.end.EndState.{EndState}
+use Rattle.spawn_host.specs.declared.end.EndState.{EndState}
 use Rattle.replay.specs.Runs.{BeginsBy, start_of_record, IsLengthOf, HasLength, HasPages, IsRunOf}
 use Rattle.search_scheduled.specs.Headers.{HasHeaderOf, IsOfCall, Concludes}
 

@@ -8,7 +8,7 @@ use Rattle.schedule_runs.specs.Runs.{Start}
 use Rattle.replay_text.specs.declared.version.Version.TheVariants as versions
 use Rattle.replay_text.specs.declared.parts.RecordParts.{RecordParts}
 use Rattle.replay_rules.specs.Recorded.{IsRecordedRun}
-use Rattle.replay.specs.declared.end.EndState.{EndState}
+use Rattle.spawn_host.specs.declared.end.EndState.{EndState}
 
 -- One record has the other's header: its version, the module's length, how many threads and pages there may be, its call, its
 -- budget and its limit.

@@ -11,7 +11,8 @@ ghost use Rattle.search_scheduled.specs.SpareThreads.{IsUnused};
 
 use crate::fault::SearchFault;
 use interp_trait::TakesTurns;
-use replay::{EndState, first_wrong_end};
+use replay::first_wrong_end;
+use spawn_host::EndState;
 use replay_text::RecordParts;
 use replay_walk::Walk;
 use crate::Course;

@@ -5,12 +5,12 @@ ghost use Rattle.search_finds.specs.Finds.{IsFind};
 
 use crate::modules::LOST_UPDATE;
 use crate::runs::{FUEL, LIMIT, Trouble, load};
-use replay::{EndState, replay};
+use replay::replay;
 use report_choice::Way;
 use search_finds::{Met, Table, have_one_ending};
 use search_finds::{Halt, Searched, Size, Sought, first_found, shrunk, size_of};
 use search_scheduled::Made;
-use spawn_host::Call;
+use spawn_host::{Call, EndState};
 use std::alloc::Global;
 use std::process::Abort;
 use std::test::Fail;

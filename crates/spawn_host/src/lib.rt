@@ -2,12 +2,14 @@
 #![tactic(auto)]
 
 mod call;
+mod end;
 mod exports;
 mod fit;
 mod running;
 mod threads;
 
 pub use call::Call;
+pub use end::EndState;
 pub use exports::{OwnFunction, own_function};
 pub use running::run;
 pub use threads::{first_thread, spawnable_threads};

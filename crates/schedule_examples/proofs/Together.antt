@@ -12,7 +12,7 @@ use Rattle.shared_memory.specs.Legal.{IsMemoryLegal, IsQueueLegal}
 use Rattle.schedule.specs.System.{Act.Made, Act.Heard, Step.Own, Step.Acts}
 use Rattle.interp_machine.specs.State.{State}
 use Rattle.schedule_runs.specs.Runs.{begins_in, HasRun, AllHaveRun, AreOfThreads}
-use Rattle.schedule_runs.specs.Example.{main, spawned, start, spawning, history, outcomes_of, lefts_of, TwoThreadsRanTogether}
+use Rattle.schedule_examples.specs.TwoThreads.{main, spawned, start, spawning, history, outcomes_of, lefts_of, TwoThreadsRanTogether}
 
 queue_legal : IsQueueLegal history
 unfolding IsQueueLegal first_queue after_question after_answer

@@ -7,8 +7,8 @@ ghost use Rattle.types.specs.declared.outcome.Trap.TheVariants.{StackExhausted, 
 ghost use Rattle.types.specs.declared.event.Event.TheVariants.{Store};
 ghost use Rattle.types.specs.declared.event.Reply.TheVariants as replies;
 ghost use Rattle.interp_machine.specs.State.{Over, gone_times, wanted, replied};
-ghost use Rattle.interp_machine.specs.Examples.{program_with, start_with, two_arms, one_arm, branch_out};
-ghost use Rattle.interp_machine.specs.Examples.{calls_itself, two_word_store, calls_place_of, with_table};
+ghost use Rattle.schedule_examples.specs.Functions.{program_with, start_with, two_arms, one_arm, branch_out};
+ghost use Rattle.schedule_examples.specs.Functions.{calls_itself, two_word_store, calls_place_of, with_table};
 
 /// An `if` with an `else` costs, beside what its arm costs, one unit for itself and one for the end of the arm, whichever
 /// arm is entered: 6 units in all, with two constants, a `nop` and the function's end.

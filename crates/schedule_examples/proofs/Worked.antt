@@ -9,12 +9,12 @@ use Rattle.schedule.specs.Schedules.{AllGone, AllHaveSeen, LoseAsMany, Makes, Th
 use Rattle.schedule.specs.System.{Act, Act.Heard, Act.Made, Entry, Step, Want.Gone, put}
 use Rattle.schedule.specs.ThreadRun.{IsThreadRun, Laws, acts, losses_between}
 use Rattle.schedule.specs.Tries.{HasRoom, HasSeen, SeesAct, SeesLost, is_act_exempt}
-use Rattle.schedule.specs.Example.{Event, Event.Add, Event.Wait, Event.Notify, Event.Spawn, Event.Leave, is_question}
-use Rattle.schedule.specs.Example.{Instruction.Think, Instruction.Do, Configuration, Configuration.At}
-use Rattle.schedule.specs.Example.{Configuration.Waiting, Outcome, Outcome.Done, wishes, goes_on, machine}
-use Rattle.schedule.specs.Example.{first_program, other_program, example, first_state, first_places, made, heard}
-use Rattle.schedule.specs.Example.{beginning, history, first_steps, other_steps, steps, ends, rules, WorkedRun}
-use Rattle.schedule.specs.Example.{another, AnotherSchedule, NoAnswerOfAnother, NoEntryAfterLeave}
+use Rattle.schedule_examples.specs.WorkedRun.{Event, Event.Add, Event.Wait, Event.Notify, Event.Spawn, Event.Leave, is_question}
+use Rattle.schedule_examples.specs.WorkedRun.{Instruction.Think, Instruction.Do, Configuration, Configuration.At}
+use Rattle.schedule_examples.specs.WorkedRun.{Configuration.Waiting, Outcome, Outcome.Done, wishes, goes_on, machine}
+use Rattle.schedule_examples.specs.WorkedRun.{first_program, other_program, example, first_state, first_places, made, heard}
+use Rattle.schedule_examples.specs.WorkedRun.{beginning, history, first_steps, other_steps, steps, ends, rules, WorkedRun}
+use Rattle.schedule_examples.specs.WorkedRun.{another, AnotherSchedule, NoAnswerOfAnother, NoEntryAfterLeave}
 use Rattle.schedule.proofs.Basics.{other_is, same_or_not, at_each, put-other}
 use Rattle.schedule.proofs.Budgets.{laws}
 use Rattle.schedule.proofs.Schedule.{one_schedule}

@@ -1,5 +1,0 @@
-use Rattle.schedule.proofs.no_answer_of_another_thread.Goals as goal
-use Rattle.schedule.proofs.Worked.{no_answer_of_another}
-
-pub returns : goal.returns
-returns c = no_answer_of_another

@@ -1,0 +1,3 @@
+pub mod WorkedRun
+pub mod TwoThreads
+pub mod Functions
