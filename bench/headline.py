@@ -1,7 +1,7 @@
 #!/usr/bin/env python3
 """Checks docs/HEADLINE.md: python3 bench/headline.py [--lines]
 
-The document names two clauses, and in its tables files with the definitions in them that have to be read. Checked is that
+The document names two clauses, and in its tables files with the definitions that have to be read. Checked is that
 - each clause, file and definition is there,
 - each definition that one of these names is in a row too, or is named under "What may be left unread",
 - nothing is in a row that no other needs,

@@ -1,4 +1,7 @@
 //! The concrete thread: it runs flat code by its table of branches, and makes its turns as the thread machine does.
+//!
+//! Proved: `Thread` keeps the clauses of `TakesTurns`: each turn is the thread machine's, with its units. `place` is
+//! where the instruction stands that comes next, and `callers` are the calling frames.
 #![tactic(auto)]
 
 mod called;

@@ -1,4 +1,6 @@
 //! Calls of functions, as steps of the thread machine over flat code with its table of branches.
+//!
+//! Proved: the same of calls, and of the question that spawns a thread.
 #![tactic(auto)]
 
 mod direct;

@@ -1,5 +1,7 @@
 //! Turns of a thread inside its functions: variables, numbers, blocks and branches, as steps of the thread machine over
 //! flat code with its table of branches.
+//!
+//! Proved: each function makes the machine's next step, whatever the flat state stands for.
 #![tactic(auto)]
 
 mod arithmetic;

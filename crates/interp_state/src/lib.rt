@@ -1,5 +1,7 @@
 //! The state of a thread over flat code with its table of branches, and which configuration of the thread machine it
 //! stands for.
+//!
+//! Proved: what becomes of the flat state becomes of every configuration that it stands for.
 #![tactic(auto)]
 
 mod functions;

@@ -1,4 +1,6 @@
 //! What it is to be a thread that makes its turns one by one, whoever gives the replies and the answers.
+//!
+//! Proved: these are definitions, and the trait in their words.
 #![tactic(auto)]
 
 mod gate;

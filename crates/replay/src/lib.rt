@@ -1,5 +1,8 @@
 //! The replay of a recorded run: one thread runs it again, all along the record's log.
 //!
+//! Proved: `replay` gives the end of the run that the record is of, or, of a record of no run, the first line that
+//! doesn't fit. Of both, memory may run out. Each record that it accepts has a legal log (`logs_of_runs_are_legal`).
+//!
 //! - `specs/Runs.antt` says of which runs of a module a record is, and which of its lines is the first that doesn't fit.
 //! - `threads_of` makes the threads (`specs/Threads.antt`), `walk` walks along the log and compares the lines behind it, whatever
 //!   the threads are (`specs/Walks.antt`), and `replay` puts both together.

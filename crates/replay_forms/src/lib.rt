@@ -1,5 +1,7 @@
 //! Texts of words and numbers, and readers that take exactly these: numbers have no leading zeros, and one space or
 //! one line feed stands behind a word.
+//!
+//! Proved: each reader takes what its definition reads, and nothing else.
 #![tactic(auto)]
 
 mod front;

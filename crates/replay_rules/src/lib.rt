@@ -1,6 +1,9 @@
 //! Which logs a schedule makes, the walk along a log that finds its first entry that no schedule makes, and of which runs a
 //! record is.
 //!
+//! Proved: what a walk takes, a schedule makes; every run of the log ends as the walk does; where it stops, no run
+//! goes on.
+//!
 //! The laws of the walk are stated over any system of threads (crate `schedule`), and look at no instruction. Each function does
 //! nothing, and its contract is a law; `X` are the shared states, `T` the threads, `E` the events, `V` the replies, `A` the
 //! answers, and `W` what events touch.

@@ -1,4 +1,7 @@
 //! The record of a run as a text: what a record holds, its one text, the writer and the reader of it.
+//!
+//! Proved: `write_record` writes the record's one text, and `read_record` gives a record exactly where the bytes are
+//! its text, or memory ran out. This is one contract for both versions.
 #![tactic(auto)]
 
 mod body;

@@ -1,5 +1,8 @@
 //! Replaying a recorded run by one thread: the walk along its log, entry by entry.
 //!
+//! Proved: `Walk::along` takes all of a log or names the first entry that doesn't fit, and stands where the machine
+//! does. A `Watch` is called, before each entry, where the walk came along those before it.
+//!
 //! How the pieces go together:
 //! - Crate `replay_rules` says what a recorded run is: some schedule without lost tries makes the log, and its scheduled run
 //!   ends as the end lines and the pages line say. It says too which entry is the first that doesn't fit, and which end line

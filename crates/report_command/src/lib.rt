@@ -1,4 +1,7 @@
 //! The command line as a job.
+//!
+//! Proved: a job's numbers are in their ranges; no run keeps a record in place of its module, or one of a memory of
+//! words.
 #![tactic(auto)]
 
 mod arguments;

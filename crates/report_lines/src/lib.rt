@@ -1,4 +1,6 @@
 //! The lines that a run's end is printed as.
+//!
+//! Proved: `write_end` writes exactly the lines of an end.
 #![tactic(auto)]
 
 mod lines;

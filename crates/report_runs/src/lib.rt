@@ -1,4 +1,7 @@
 //! Whole runs of a module: over the memory that records, with their record, and over the row of words.
+//!
+//! Proved: `record_run` and `run_on_words` are the headline; a record is of the run that was made. Of faults, one of
+//! the limit or of the call comes exactly where the limit or the call is wrong, whatever room there is.
 #![tactic(auto)]
 
 mod fitting;

@@ -1,6 +1,8 @@
 //! The theorem of one schedule: what threads did together over something shared, one thread that steps them all does
 //! again, along a schedule of their history.
 //!
+//! Proved: a legal history's schedule makes it; all its schedules with as many lost tries end alike.
+//!
 //! It is stated over any system of threads (`specs/System.antt`), so it never looks at an instruction. Each function here
 //! does nothing, and its contract is a law; `X` are the shared states, `T` the threads, `E` the events, `V` the replies,
 //! `A` the answers, `W` what events touch, `C` the configurations of a machine and `O` its outcomes.

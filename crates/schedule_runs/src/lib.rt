@@ -1,6 +1,10 @@
 //! The theorem of one schedule for the threads of a module: what they did together over one memory, one thread that steps
 //! them all does again, along a schedule of their history.
 //!
+//! Proved: threads of a module that made a legal history together made one run: its schedule gives the same ends and
+//! memory. So does every other schedule that makes the history, with as many lost tries of each thread between its
+//! entries and all threads gone. Each entry comes in its thread's turn.
+//!
 //! `specs/Runs.antt` says what a history and the runs of its threads are to that theorem, `specs/Theorem.antt` what comes
 //! of it.
 #![tactic(auto)]

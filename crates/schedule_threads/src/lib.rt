@@ -1,5 +1,7 @@
 //! The scheduled machine of a module: one thread steps all, over the sequential memory and the wait queue.
 //!
+//! Proved: the thread machine of any program keeps the laws that the theorem of one schedule asks of threads.
+//!
 //! `specs/Shared.antt` is what threads share, `specs/Threads.antt` the thread machine as the theorem of one schedule
 //! (crate `schedule`) asks for it.
 #![tactic(auto)]

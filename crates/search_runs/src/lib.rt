@@ -1,5 +1,8 @@
 //! The runs of a module's threads, as a search goes through them: without budgets.
 //!
+//! Proved: however threads ran together with units and room enough, threads without budgets come to the same end. What
+//! they come to, the scheduled machine comes to along some turns, with some budget.
+//!
 //! Each function here does nothing, and its contract is a law.
 //!
 //! - `specs/Called.antt`: the threads of a module without budgets, over the sequential memory and the wait queue.

@@ -1,5 +1,7 @@
 //! Settled states: a search over the turns of threads needs to look only where no thread wants a turn of its own.
 //!
+//! Proved: at `Verdict::All` the list has the ending of every run of turns, in any order, and no other ending.
+//!
 //! A thread's own turns change nobody else. So whoever goes through all runs of threads goes from settled state to settled state:
 //! one thread makes the event that it wants, and then each makes its turns of its own. It is stated over any system of threads
 //! (crate `schedule`), and searched by crate `search_reach`.

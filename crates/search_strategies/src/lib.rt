@@ -1,5 +1,7 @@
 //! Who goes on after each entry of a run that one thread steps.
 //!
+//! Proved: a strategy answers a place among the threads that can go on.
+//!
 //! A strategy is asked before each event of a run, with the threads that can go on. What it answers follows from what it was made of
 //! and from what it was asked: so run number I of a seed is the same run on every machine. `docs/PROFILE.md` says how each chooses.
 #![tactic(auto)]

@@ -1,6 +1,7 @@
-//! Runs along strategies. Run number I of a seed is one run, whose record is accepted by the replay, with the same end. Of a lost
-//! update all endings are met, those of runs by threads of the machine among them; nobody waits in a loop for good. What is found is one
-//! run on any number of jobs. A search that is told to end does so. And all runs of small modules, gone through.
+//! Searches: runs along strategies, and all runs of small modules. Run number I of a seed is one run, whose record is
+//! accepted by the replay, with the same end. Of a lost update all endings are met, those of runs by threads of the
+//! machine among them; nobody waits in a loop for good. What is found is one run on any number of jobs. A search that
+//! is told to end does so.
 #![tactic(auto)]
 
 #[cfg(test)]

@@ -1,5 +1,7 @@
 //! Threads without a budget, beside the threads with one of crate `schedule`.
 //!
+//! Proved: a run in which nobody stops for want of units or for a full log is a run of threads without budgets.
+//!
 //! Whoever looks for all runs can't go through all budgets: so it goes through the runs of threads that have none. Each function
 //! here does nothing, and its contract is a law; `C` are the configurations of a machine, `E` the events, `V` the replies, `A` the
 //! answers, `O` the outcomes and `X` the shared states.

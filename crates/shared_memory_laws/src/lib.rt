@@ -1,5 +1,11 @@
 //! The laws of the shared memory's histories, each as a function that does nothing and whose contract is the law; and what
 //! two callers that met can rely on.
+//!
+//! Proved: in each legal history an answer is of one open question, and where anybody is alive, somebody is awake. No
+//! thread is both asleep and owed an answer; a notify wakes those that have slept longest at its address, at most as
+//! many as it counts; a positive timeout ends only where every live thread is asleep, and the least ends first;
+//! threads sleep for good only where no timeout is left. Settling after an answer taken would change nothing. A prefix
+//! of a legal history is legal. Two callers that met have one list, which begins with the list of each.
 #![tactic(auto)]
 
 mod callers;

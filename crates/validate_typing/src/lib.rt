@@ -1,6 +1,8 @@
 //! The typing rules of code (Core specification 1.0, chapter 3; threads proposal), the rules of a valid module, the
 //! opening image of its memory, where branches lead in flat code, and why a module is refused.
 //!
+//! Proved: an expression stands for one nesting, and `flatten` gives the flat instruction of each instruction.
+//!
 //! `specs/Typing.antt` types nested instructions, `specs/Placed.antt` says that such instructions stand in flat code
 //! with the right table of branches, and `specs/Validity.antt` which modules are valid.
 //!

@@ -1,6 +1,6 @@
-//! Scripts that drive a queue. Threads at a desk over a recorder: a script on one thread, a full log, all ids, and two
-//! threads at once; questions and answers of a recorder beside the sequential memory; and the dealing of a recorder's
-//! seats, which the measurements share.
+//! Scripts that drive a queue and a desk, with threads. Over a recorder: a script on one thread, a full log, all ids,
+//! and two threads at once; questions and answers of a recorder beside the sequential memory; and the dealing of a
+//! recorder's seats, which the measurements share.
 #![tactic(auto)]
 
 #[cfg(test)]
