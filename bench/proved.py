@@ -2,7 +2,7 @@
 """The lines of docs/PROVED.md that say of each crate what is proved of it: python3 bench/proved.py [--write]
 
 A line is the first sentence behind `Proved:` in the head comment of the crate's lib.rt; where there is none, and of a
-program, the first sentence of that comment. The crates come as in crates.txt, below its comments. Where the document has
+program, the first sentence of that comment. The crates come as in crates.txt. Where the document has
 other lines, that is said, and the status is 1; with --write they are put there.
 """
 import os
