@@ -6,7 +6,7 @@
 //! record LINE            the lines of a record
 //! record-rest TEXT       a last piece of it, without a line feed
 //! record-file FILE       or the record is this file
-//! kept 3-4 TEXT          with these lines replaced, as `test_edits` says, it is a record, which is written as it was read;
+//! kept 3-4 TEXT          with these lines replaced, as `test_cases` says, it is a record, which is written as it was read;
 //!                          several such lines are as many texts
 //! refused 3 TEXT => WHY  the same, and it is no record for this reason, in the words of the fault
 //! cut 18 WHY             so is each front of the record with fewer than 18 bytes, but for those of the `cut` before; the

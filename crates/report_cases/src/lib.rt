@@ -22,7 +22,7 @@
 //!                          `--memory words`, but where it has a `--limit`; `over recorder` is the first alone
 //! times 100              how often each is done, once without this line
 //! told end               a search is told to end as soon as it is heard of
-//! edit 3-4 TEXT          with these lines of the record replaced, as `test_edits` says; several such lines are as many
+//! edit 3-4 TEXT          with these lines of the record replaced, as `test_cases` says; several such lines are as many
 //!                          command lines
 //! forged 3 TEXT => WHY   the same, and the record is to be refused: `record refused: WHY` is printed, with the status 4
 //! cut 18 WHY             so is each front of the record with fewer than 18 bytes, but for those of the `cut` before; the
