@@ -2,7 +2,7 @@
 """Checks docs/HEADLINE.md: python3 bench/headline.py [--lines]
 
 The document names two clauses, and in its tables files with the definitions that have to be read. Checked is that
-- each clause, file and definition is there,
+- each clause, file, definition and field is there,
 - each definition that one of these names is in a row too, or is named under "What may be left unread",
 - nothing is in a row that no other needs,
 - a part has at most as many lines as the document says.
@@ -273,6 +273,19 @@ def check_needed(read, unread, ahead, kinds):
         tell("%s of %s is in a row, and nothing needs it" % (name, path))
 
 
+def check_fields(text, read):
+    """Each field that the table of pieces names is one of `EndsRun`, or of a record that is one of its fields."""
+    for fields in re.findall(r"`([a-z_.]+)`", "\n".join(re.findall(r"^\|.*", text, re.M))):
+        record = "EndsRun"
+        for field in fields.split("."):
+            texts = [text_of(path, name) for path, name in read if name == record]
+            found = re.search(r"^ *pub %s : \W*(\w+)" % field, "\n".join(texts), re.M)
+            if not found:
+                tell("%s has no field %s, of %s" % (record, field, fields))
+                break
+            record = found.group(1)
+
+
 def text_of(path, name):
     return "\n".join(source(path).definitions[name])
 
@@ -280,6 +293,7 @@ def text_of(path, name):
 def main():
     sections = section_of(open(DOCUMENT, encoding="utf-8").read())
     read, counts = read_rows(sections)
+    check_fields(sections[""], read)
     ahead, kinds = roots_of(sections[""])
     check_needed(read, set(re.findall(r"`([^`]+)`", sections[UNREAD])), ahead, kinds)
     if "--lines" in sys.argv[1:]:
