@@ -40,7 +40,6 @@ class Source:
         self.definitions = {}
         self.parts = {}  # of a constructor, whose it is
         self.names = {}  # an imported name: the file and the definition; without a definition it stands for the file
-        self.clause_names = {}
         if path.endswith(".antt"):
             self.read_definitions()
         else:
