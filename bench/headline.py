@@ -3,8 +3,8 @@
 
 The document names two clauses, and in its tables files with the definitions that have to be read. Checked is that
 - each clause, file, definition and field is there,
-- each definition that one of these names is in a row too, or is named under "What may be left unread",
-- nothing is in a row that no other needs,
+- each definition that one of these names is in a row too, or in one of those of what may be left unread,
+- nothing is in a row that none of these names,
 - a part has at most as many lines as the document says.
 With --lines the lines of each row are printed. Where something is wrong, that is printed, and the status is 1.
 """
@@ -205,10 +205,13 @@ def rows_of(text):
 
 def read_rows(sections):
     """The definitions of all rows, and a line of counts for each row and each part."""
-    read, counts = set(), []
+    read, unread, counts = set(), set(), []
     for title, text in sections.items():
         sum_of, code_of = 0, 0
-        for path, names in rows_of(text) if title != UNREAD else []:
+        for path, names in rows_of(text):
+            if title == UNREAD:
+                unread |= {(path, name) for name in names}
+                continue
             lines = [line for n in names for line in source(path).definitions[n]]
             counts.append("%6d %6d  %s: %s" % (len(lines), len(code(lines)), path, ", ".join(names)))
             sum_of, code_of = sum_of + len(lines), code_of + len(code(lines))
@@ -221,7 +224,7 @@ def read_rows(sections):
             most = re.search(r"[Aa]t\s+most\s+([\d,]+)\s+lines", text)
             if not most or sum_of > int(most.group(1).replace(",", "")):
                 tell("%s has %d lines, more than it says" % (title, sum_of))
-    return read, counts
+    return read, unread, counts
 
 
 def roots_of(text):
@@ -243,7 +246,7 @@ def check_needed(read, unread, ahead, kinds):
     views = {(path, name) for path, name in read if name.startswith("impl ")}
     laws = {(path, name) for path, name in read if path.endswith(".rt") and "fn %s(" % name in text_of(path, name)}
     known = {name.split()[-1] for path, name in read if path.endswith(".rt")} | STANDARD
-    for kind in sorted(kinds - known - unread):
+    for kind in sorted(kinds - known - {name for path, name in unread}):
         tell("%s is in no row, and the two functions speak of it" % kind)
     for kind in sorted((known | kinds) & viewed() - {name.split()[-1] for path, name in views}):
         tell("the view of %s is in no row" % kind)
@@ -256,7 +259,7 @@ def check_needed(read, unread, ahead, kinds):
             continue
         reached.add((path, name))
         if (path, name) not in read:
-            if name not in unread and path[len("crates/") :] not in unread:
+            if (path, name) not in unread:
                 tell("%s of %s is in no row, and %s names it" % (name, path, by))
             continue
         lines = source(path).definitions[name]
@@ -268,8 +271,9 @@ def check_needed(read, unread, ahead, kinds):
                 if kind not in known:
                     tell("%s of %s has a %s, of which no row says what it is" % (name, path, kind))
                 ahead |= {(it, name) for it in read if it[1] == kind}
-    for path, name in sorted(read - reached):
-        tell("%s of %s is in a row, and nothing needs it" % (name, path))
+    for path, name in sorted((read | unread) - reached):
+        if name not in kinds:
+            tell("%s of %s is in a row, and nothing names it" % (name, path))
 
 
 def check_fields(text, read):
@@ -291,10 +295,10 @@ def text_of(path, name):
 
 def main():
     sections = section_of(open(DOCUMENT, encoding="utf-8").read())
-    read, counts = read_rows(sections)
+    read, unread, counts = read_rows(sections)
     check_fields(sections[""], read)
     ahead, kinds = roots_of(sections[""])
-    check_needed(read, set(re.findall(r"`([^`]+)`", sections[UNREAD])), ahead, kinds)
+    check_needed(read, unread, ahead, kinds)
     if "--lines" in sys.argv[1:]:
         print("\n".join(["lines   code", *counts]))
     for text in wrong:
