@@ -140,8 +140,10 @@ def needed(file, lines):
             path, item = file.names[first]
             item = item or (rest[0] if rest else None)
             other = source(path)
-            if other and item:
+            if item and other:
                 found.add((path, item if item in other.definitions else other.parts.get(item, item)))
+            elif item and os.path.isdir("/".join(path.split("/")[:2])):
+                tell("%s isn't there, and %s names %s of it" % (path, file.path, item))
         elif file.path.endswith(".antt") and first in file.definitions:
             found.add((file.path, first))
         elif file.path.endswith(".antt") and first in file.parts and first[0].isupper():
