@@ -260,11 +260,11 @@ def check_needed(read, unread, ahead, kinds):
         if (path, name) in reached:
             continue
         reached.add((path, name))
-        if (path, name) not in read:
-            if (path, name) not in unread:
-                tell("%s of %s is in no row, and %s names it" % (name, path, by))
+        if (path, name) in unread:
             continue
-        lines = source(path).definitions[name]
+        if (path, name) not in read:
+            tell("%s of %s is in no row, and %s names it" % (name, path, by))
+        lines = source(path).definitions.get(name, [])
         if (path, name) in views:
             lines = [line for line in lines if re.match(r"\s*ghost (Value|view)\b", line)]
         ahead |= {(it, "%s of %s" % (name, path)) for it in needed(source(path), lines)}
