@@ -256,7 +256,8 @@ def check_needed(read, unread, ahead, kinds):
     ahead |= {(it, DOCUMENT) for it in read if it in views | laws or it[1] in kinds}
     reached = set()
     while ahead:
-        (path, name), by = ahead.pop()
+        (path, name), by = first = min(ahead)
+        ahead.remove(first)
         if (path, name) in reached:
             continue
         reached.add((path, name))
