@@ -79,7 +79,7 @@ class Source:
 
     def read_items(self):
         """Structures, enumerations, functions and views of a program's file, up to the brace that closes them."""
-        start = re.compile(r"(?:pub(?:\(crate\))? )?(?:struct|enum|type|fn) (\w+)|(impl)(?:<.*?>)? (Model for \w+)")
+        start = re.compile(r"(?:pub(?:\(crate\))? )?(?:struct|enum|type|fn|const) (\w+)|(impl)(?:<.*?>)? (Model for \w+)")
         at = 0
         while at < len(self.lines):
             found = start.match(self.lines[at])
@@ -112,6 +112,8 @@ def file_of(module):
     parts = module.split(".")
     crate, rest = parts[0], parts[1:]
     if rest[:2] == ["specs", "declared"]:
+        if rest[-1] == "TheConstants":
+            return "crates/%s/src/%s.rt" % (crate, "/".join(rest[2:-1])), None
         rest = [p for p in rest[2:] if p != "TheVariants"]
         return "crates/%s/src/%s.rt" % (crate, "/".join(rest[:-1])), rest[-1]
     return "crates/%s/%s.antt" % (crate, "/".join(rest)), None
