@@ -4,3 +4,4 @@ pub mod Endings
 pub mod Equal
 pub mod Untouched
 pub mod Same
+pub mod Values
