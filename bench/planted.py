@@ -1,5 +1,5 @@
 #!/usr/bin/env python3
-"""planted.sh [CRATE | CRATE/BUG ..] [--part K/N]: tries the bugs of planted/ as the gate tries those of must-fail/, one by one.
+"""planted.sh [CRATE | CRATE/BUG ..] [--part K/N] [--front]: tries the bugs of planted/ as the gate tries those of must-fail/, one by one.
 
 It says of each what refused it: a proof, as it must be, and of which functions; the front end, before any proof, so that the bug shows
 nothing; a name alone, which the bug took away from a proof file; or nothing. Last it writes planted/TRIED.md, the list of when each crate's
@@ -7,11 +7,16 @@ bugs were tried. With --part it takes the crates of the Kth of N parts, which ha
 
 The libraries below a crate are built first, in the crates' out/, where a check hasn't left them. Crates are tried side by side, as many as
 processors and memory hold; RT_JOBS=1 takes one at a time. All of them take hours.
+
+With --front it tries in seconds a crate, and without libraries, only whether the bugs compile: as many at once as fit beside one another,
+and where the front end refuses these, half of them, and so on. Then it says nothing of proofs, or of bugs in specs/ and proofs/.
 """
 import collections
 import datetime
 import os
 import re
+import shutil
+import subprocess
 import sys
 import tempfile
 import threading
@@ -23,10 +28,11 @@ LIST = f"{TOP}/planted/TRIED.md"
 HEAD = """# When the planted bugs were tried
 
 `bench/planted.sh` tries the bugs of this folder and writes this list. A bug that is not refused by a proof shows nothing: it stands in the
-last column. The gate tries those of the crates' `must-fail` each time; they are not listed here.
+last column. `Compile` is when all of a crate's bugs were last seen to compile (`--front`). The gate tries those of the crates' `must-fail`
+each time; they are not listed here.
 
-| Crate | Bugs | Tried | Refused by a proof | On | What refused the others |
-|---|---|---|---|---|---|
+| Crate | Bugs | Compile | Tried | Refused by a proof | On | What refused the others |
+|---|---|---|---|---|---|---|
 """
 PROOF, NAME, FRONT, NOTHING, MISFIT = "a proof", "a name alone", "the front end", "nothing", "it doesn't fit"
 
@@ -43,7 +49,7 @@ def file_of(crate, bug):
 
 def fared(refused, text, said):
     """What refused a bug, and where, from what rt says of it and what the check printed."""
-    functions = re.findall(r"(?m)^fn (\S+): not proved", said)
+    functions = re.findall(r"(?m)^fn (\S+): (?:not proved|no proof)", said)
     first = re.search(r"(?m)^(\S+:\d+:\d+): error", said)
     if refused and "only because a proof file names" in text:
         return NAME, first[1] if first else ""
@@ -118,6 +124,70 @@ def try_all(rt, wanted):
     return tried.results
 
 
+def is_read(rt, crate, folder):
+    """Whether the front end takes the crate of the folder."""
+    is_built = all(os.path.isdir(it.rlib) for it in crate.below())
+    words = [rt.rtlib.RATTLE, "check", *crate.words(["--jobs", "1", "--only", ""], as_source=not is_built)]
+    how = {"cwd": folder, "stdin": subprocess.DEVNULL, "stdout": subprocess.PIPE, "stderr": subprocess.STDOUT, "errors": "replace"}
+    said = subprocess.run([*rt.rtlib.guarded(), *words], **how).stdout
+    return bool(re.search(r"(?m)^only=", said)) and not re.search(r"(?m)^(\S+:\d+:\d+: )?error(\[|:)", said)
+
+
+def put_together(rt, crate, bugs, room):
+    """Puts the bugs into a copy of the crate, one after the other, as far as each still fits. Returns those put, and those left."""
+    for part in rt.rtlib.PARTS:
+        if os.path.isdir(f"{crate.folder}/{part}"):
+            shutil.copytree(f"{crate.folder}/{part}", f"{room}/{part}")
+    put, left = [], []
+    for bug in bugs:
+        with open(file_of(crate.name, bug), encoding="utf-8") as file:
+            # (a comment may hide others)
+            is_comment = any("/*" in line for line in file if line.startswith("new:"))
+        texts, why = rt.read_edit(file_of(crate.name, bug), room)
+        if why or put and is_comment:
+            left.append(bug)
+            continue
+        put.append(bug)
+        for path, text in texts.items():
+            with open(f"{room}/{path}", "w", encoding="utf-8") as file:
+                file.write(text)
+        if is_comment:
+            return put, [it for it in bugs if it not in put]
+    return put, left
+
+
+def refused_by_front_end(rt, crate, bugs):
+    """The bugs that the front end refuses, or that don't fit."""
+    with tempfile.TemporaryDirectory(prefix="planted-") as room:
+        put, left = put_together(rt, crate, bugs, room)
+        if not put:
+            return left
+        found = [] if is_read(rt, crate, room) else put
+    if len(found) > 1:
+        half = len(found) // 2
+        found = refused_by_front_end(rt, crate, found[:half]) + refused_by_front_end(rt, crate, found[half:])
+    return found + (refused_by_front_end(rt, crate, left) if left else [])
+
+
+def front(rt, wanted):
+    """Prints which of the wanted bugs don't compile, and notes the crates of which all do."""
+    rt.rtlib.guarded()
+    known, bad = rows(), 0
+    for crate in rt.rtlib.crates_below(TOP):
+        if crate.name not in wanted:
+            continue
+        refused = refused_by_front_end(rt, crate, wanted[crate.name])
+        bad += len(refused)
+        for it in refused:
+            print(f"{crate.name}/{it}: BAD: refused by {FRONT}", flush=True)
+        print(f"{crate.name}: {len(wanted[crate.name]) - len(refused)} of {len(wanted[crate.name])} compile", flush=True)
+        if not refused and len(wanted[crate.name]) == len(bugs_of(crate.name)):
+            row = known.setdefault(f"`{crate.name}`", [""] * 6)
+            row[1] = datetime.date.today().isoformat()
+            write_rows(known)
+    return int(bad > 0)
+
+
 def rows():
     """The rows of the list, by their first column."""
     try:
@@ -125,7 +195,7 @@ def rows():
             found = [[cell.strip() for cell in line.split("|")[1:-1]] for line in file if line.startswith("| `")]
     except OSError:
         found = []
-    return {it[0]: it[1:] for it in found}
+    return {it[0]: (it[1:] + [""] * 6)[:6] for it in found}
 
 
 def write_list(wanted, results):
@@ -142,15 +212,21 @@ def write_list(wanted, results):
                 others[by].append(it)
         said = "; ".join(f"{by}: {', '.join(names)}" for by, names in others.items())
         refused = sum(by == PROOF for by, _ in ended.values())
+        compiled = known.get(f"`{crate}`", ["", ""])[1]
         if is_whole:
             known = {it: row for it, row in known.items() if not it.startswith(f"`{crate}`")}
         key = f"`{crate}`" if is_whole else f"`{crate}`: {', '.join(ended)}"
-        known[key] = [str(len(bugs_of(crate))), str(len(ended)), str(refused), today, said]
+        known[key] = ["", compiled if is_whole else "", str(len(ended)), str(refused), today, said]
+    write_rows(known)
+
+
+def write_rows(known):
+    """Writes the list, with a row for each crate that has bugs here."""
     folders = [it for it in sorted(os.listdir(f"{TOP}/planted")) if bugs_of(it)]
     with open(LIST, "w") as file:
         file.write(HEAD)
         for crate in folders:
-            known.setdefault(f"`{crate}`", ["", "", "", "", ""])
+            known.setdefault(f"`{crate}`", [""] * 6)
             for key in sorted(it for it in known if it.startswith(f"`{crate}`")):
                 cells = [key, str(len(bugs_of(crate))), *known[key][1:]]
                 file.write(f"| {' | '.join(cells)} |\n".replace("  ", " "))
@@ -164,7 +240,7 @@ def part(crates, which):
     with open(f"{TOP}/crates.txt") as file:
         order = [line.partition(":")[0] for line in file if not line.startswith("#")]
     all_bugs, before, found = sum(len(bugs_of(it)) for it in crates), 0, []
-    for crate in sorted(crates, key=order.index):
+    for crate in [it for it in order if it in crates]:
         if before * int(of) // all_bugs == int(at) - 1:
             found.append(crate)
         before += len(bugs_of(crate))
@@ -172,7 +248,8 @@ def part(crates, which):
 
 
 def main(words):
-    which = None
+    which, is_front = None, "--front" in words
+    words = [it for it in words if it != "--front"]
     if "--part" in words:
         at = words.index("--part")
         which, words = "".join(words[at + 1 : at + 2]), words[:at] + words[at + 2 :]
@@ -188,6 +265,8 @@ def main(words):
     if which:
         wanted = {it: wanted[it] for it in part(wanted, which)}
     os.chdir(TOP)
+    if is_front:
+        return front(gate.rt_module(), wanted)
     results = try_all(gate.rt_module(), wanted)
     write_list(wanted, results)
     many, refused = sum(map(len, wanted.values())), sum(by == PROOF for by, _ in results.values())
