@@ -1,15 +1,17 @@
 #!/usr/bin/env python3
-"""planted.sh [CRATE | CRATE/BUG ..] [--part K/N] [--front]: tries the bugs of planted/ as the gate tries those of must-fail/, one by one.
+"""planted.sh [CRATE | CRATE/BUG ..] [--part K/N] [--front]: tries planted/, as the gate tries must-fail/.
 
-It says of each what refused it: a proof, as it must be, and of which functions; the front end, before any proof, so that the bug shows
-nothing; a name alone, which the bug took away from a proof file; or nothing. Last it writes planted/TRIED.md, the list of when each crate's
-bugs were tried. With --part it takes the crates of the Kth of N parts, which have about as many bugs each.
+It says of each what refused it: a proof, as it must be, and of which functions; the front end, before any proof, so
+that the bug shows nothing; a name alone, which the bug took away from a proof file; or nothing. Last it writes
+planted/TRIED.md, the list of when each crate's bugs were tried. With --part it takes the crates of the Kth of N parts,
+which have about as many bugs each.
 
-The libraries below a crate are built first, in the crates' out/, where a check hasn't left them. Crates are tried side by side, as many as
-processors and memory hold; RT_JOBS=1 takes one at a time. All of them take hours.
+The libraries below a crate are built first, in the crates' out/, where a check hasn't left them. Crates are tried side
+by side, as many as processors and memory hold; RT_JOBS=1 takes one at a time. All of them take hours.
 
-With --front it tries in seconds a crate, and without libraries, only whether the bugs compile: as many at once as fit beside one another,
-and where the front end refuses these, half of them, and so on. Then it says nothing of proofs, or of bugs in specs/ and proofs/.
+With --front it tries in seconds a crate, and without libraries, only whether the bugs compile: as many at once as fit
+beside one another, and where the front end refuses these, half of them, and so on. Then it says nothing of proofs, or
+of bugs in specs/ and proofs/.
 """
 import collections
 import datetime
@@ -27,14 +29,15 @@ TOP = os.path.dirname(os.path.dirname(os.path.abspath(__file__)))
 LIST = f"{TOP}/planted/TRIED.md"
 HEAD = """# When the planted bugs were tried
 
-`bench/planted.sh` tries the bugs of this folder and writes this list. A bug that is not refused by a proof shows nothing: it stands in the
-last column. `Compile` is when all of a crate's bugs were last seen to compile (`--front`). The gate tries those of the crates' `must-fail`
-each time; they are not listed here.
+`bench/planted.sh` tries the bugs of this folder and writes this list. A bug that is not refused by a proof shows
+nothing: it stands in the last column. `Compile` is when all of a crate's bugs were last seen to compile (`--front`).
+The gate tries those of the crates' `must-fail` each time; they are not listed here.
 
 | Crate | Bugs | Compile | Tried | Refused by a proof | On | What refused the others |
 |---|---|---|---|---|---|---|
 """
 PROOF, NAME, FRONT, NOTHING, MISFIT = "a proof", "a name alone", "the front end", "nothing", "it doesn't fit"
+UNPROVED = "the crate isn't proved without it"
 
 
 def bugs_of(crate):
@@ -66,12 +69,15 @@ class Tried:
     """Tries bugs, and keeps what became of each: rt gives a verdict of a check, and this what the check printed too."""
 
     def __init__(self, rt):
-        self.rt, self.results, self.here, self.printing = rt, {}, threading.local(), threading.Lock()
+        self.rt, self.results, self.proved = rt, {}, set()
+        self.here, self.printing = threading.local(), threading.Lock()
         check, must_fail = rt.checked, rt.must_fail
 
-        def checked(*given):
-            ran = check(*given)
+        def checked(crate, texts, flags, kept=None):
+            ran = check(crate, texts, flags, kept)
             self.here.said = ran.stdout
+            if not texts and not ran.returncode:
+                self.proved.add(crate.name)
             return ran
 
         def one(crate, edit, flags, kept=None):
@@ -85,11 +91,14 @@ class Tried:
     def crate(self, crate, bugs):
         """Tries these bugs of a crate and prints a line for each."""
         self.rt.must_fail_all(crate, [file_of(crate.name, it) for it in bugs], ["--jobs", "1"])
+        # rt tries the crate as it stands too, but for one bug alone
+        if crate.name not in self.proved and self.rt.checked(crate, {}, ["--jobs", "1"]).returncode:
+            self.results.update({(crate.name, it): (UNPROVED, "") for it in bugs})
         with self.printing:
             for it in bugs:
                 by, where = self.results[crate.name, it]
                 how = {PROOF: "refused by a proof", NOTHING: "NOT REFUSED"}.get(by, f"BAD: refused by {by}")
-                how = f"BAD: {by}" if by == MISFIT else how
+                how = f"BAD: {by}" if by in (MISFIT, UNPROVED) else how
                 print(f"{crate.name}/{it}: {how}{': ' + where if where else ''}", flush=True)
 
 
@@ -112,29 +121,35 @@ def try_all(rt, wanted):
         sys.exit(f"planted.sh: no crate {', '.join(sorted(unknown))}")
     named = [it for it in crates if it.name in wanted]
     tried, tasks = Tried(rt), {}
+
+    def bugs(crate):
+        tried.crate(crate, wanted[crate.name])
+
     for it in sorted(crates, key=lambda it: len(it.below())):
         waits, lines, needs = [(below.name, "library") for below in it.below()], it.count(rb"\n"), rt.need(it)
+
+        def over_libraries(given, does, crate=it, waits=waits):
+            return all(given[below] for below in waits) and does(crate)
+
         if any(it in other.below() for other in named):
-            task = lambda given, _, it=it, waits=waits: all(given[below] for below in waits) and library(it)
-            tasks[it.name, "library"] = waits, lines, needs, task
+            tasks[it.name, "library"] = waits, lines, needs, lambda given, _, do=over_libraries: do(given, library)
         if it in named:
-            task = lambda given, _, it=it, waits=waits: all(given[below] for below in waits) and tried.crate(it, wanted[it.name])
-            tasks[it.name, "bugs"] = waits, lines, needs, task
+            tasks[it.name, "bugs"] = waits, lines, needs, lambda given, _, do=over_libraries: do(given, bugs)
     rt.in_lanes(tasks)
     return tried.results
 
 
 def is_read(rt, crate, folder):
     """Whether the front end takes the crate of the folder."""
-    is_built = all(os.path.isdir(it.rlib) for it in crate.below())
+    is_built = all(it.is_built() for it in crate.below())
     words = [rt.rtlib.RATTLE, "check", *crate.words(["--jobs", "1", "--only", ""], as_source=not is_built)]
-    how = {"cwd": folder, "stdin": subprocess.DEVNULL, "stdout": subprocess.PIPE, "stderr": subprocess.STDOUT, "errors": "replace"}
-    said = subprocess.run([*rt.rtlib.guarded(), *words], **how).stdout
+    how = {"stdin": subprocess.DEVNULL, "stdout": subprocess.PIPE, "stderr": subprocess.STDOUT, "errors": "replace"}
+    said = subprocess.run([*rt.rtlib.guarded(), *words], cwd=folder, **how).stdout
     return bool(re.search(r"(?m)^only=", said)) and not re.search(r"(?m)^(\S+:\d+:\d+: )?error(\[|:)", said)
 
 
 def put_together(rt, crate, bugs, room):
-    """Puts the bugs into a copy of the crate, one after the other, as far as each still fits. Returns those put, and those left."""
+    """Puts the bugs into a copy of the crate, as far as each still fits. Returns those put, and those left."""
     for part in rt.rtlib.PARTS:
         if os.path.isdir(f"{crate.folder}/{part}"):
             shutil.copytree(f"{crate.folder}/{part}", f"{room}/{part}")
@@ -180,8 +195,9 @@ def front(rt, wanted):
         bad += len(refused)
         for it in refused:
             print(f"{crate.name}/{it}: BAD: refused by {FRONT}", flush=True)
-        print(f"{crate.name}: {len(wanted[crate.name]) - len(refused)} of {len(wanted[crate.name])} compile", flush=True)
-        if not refused and len(wanted[crate.name]) == len(bugs_of(crate.name)):
+        many = len(wanted[crate.name])
+        print(f"{crate.name}: {many - len(refused)} of {many} compile", flush=True)
+        if not refused and many == len(bugs_of(crate.name)):
             row = known.setdefault(f"`{crate.name}`", [""] * 6)
             row[1] = datetime.date.today().isoformat()
             write_rows(known)
@@ -199,7 +215,7 @@ def rows():
 
 
 def write_list(wanted, results):
-    """Writes what was tried today into the list. A crate of which only some bugs were tried has a row for these; a whole try takes its place."""
+    """Writes what was tried today into the list. Where only some of a crate's bugs were tried, these have a row."""
     known, today = rows(), datetime.date.today().isoformat()
     for crate, bugs in wanted.items():
         ended = {it: results[crate, it] for it in bugs if (crate, it) in results}
