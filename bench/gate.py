@@ -30,13 +30,19 @@ def run_measured(file, words):
     os._exit(os.waitstatus_to_exitcode(status) & 0xFF)
 
 
-def gate(file, names):
-    """Runs rt ci with this script before each command."""
+def rt_module():
+    """The toolchain's rt, which is a Python script, as a module."""
     path = os.path.realpath(os.popen("command -v rt").read().strip())
     loader = machinery.SourceFileLoader("rt", path)
     rt = util.module_from_spec(util.spec_from_loader("rt", loader))
     sys.dont_write_bytecode, sys.argv[0], sys.modules["rt"] = True, path, rt
     loader.exec_module(rt)
+    return rt
+
+
+def gate(file, names):
+    """Runs rt ci with this script before each command."""
+    rt = rt_module()
     before = rt.rtlib.guarded
     rt.rtlib.guarded = lambda: [*before(), sys.executable, os.path.abspath(__file__), "--run", file]
     return rt.main(["ci", *names])

@@ -1,0 +1,294 @@
+#!/usr/bin/env python3
+"""planted.sh [CRATE | CRATE/BUG ..] [--part K/N] [--front]: tries planted/, as the gate tries must-fail/.
+
+It says of each what refused it: a proof, as it must be, and of which functions; the front end, before any proof, so
+that the bug shows nothing; a name alone, which the bug took away from a proof file; or nothing. Last it writes
+planted/TRIED.md, the list of when each crate's bugs were tried. With --part it takes the crates of the Kth of N parts,
+which have about as many bugs each.
+
+The libraries below a crate are built first, in the crates' out/, where a check hasn't left them. Crates are tried side
+by side, as many as processors and memory hold; RT_JOBS=1 takes one at a time. All of them take hours.
+
+With --front it tries in seconds a crate, and without libraries, only whether the bugs compile: as many at once as fit
+beside one another, and where the front end refuses these, half of them, and so on. Then it says nothing of proofs, or
+of bugs in specs/ and proofs/.
+"""
+import collections
+import datetime
+import os
+import re
+import shutil
+import subprocess
+import sys
+import tempfile
+import threading
+
+import gate
+
+TOP = os.path.dirname(os.path.dirname(os.path.abspath(__file__)))
+LIST = f"{TOP}/planted/TRIED.md"
+HEAD = """# When the planted bugs were tried
+
+`bench/planted.sh` tries the bugs of this folder and writes this list. A bug that is not refused by a proof shows
+nothing: it stands in the last column. `Compile` is when all of a crate's bugs were last seen to compile (`--front`).
+The gate tries those of the crates' `must-fail` each time; they are not listed here.
+
+| Crate | Bugs | Compile | Tried | Refused by a proof | On | What refused the others |
+|---|---|---|---|---|---|---|
+"""
+PROOF, NAME, FRONT, NOTHING, MISFIT = "a proof", "a name alone", "the front end", "nothing", "it doesn't fit"
+UNPROVED = "the crate isn't proved without it"
+
+
+def bugs_of(crate):
+    """The names of the crate's bugs in planted/."""
+    folder = f"{TOP}/planted/{crate}"
+    return sorted(it[:-5] for it in os.listdir(folder) if it.endswith(".edit")) if os.path.isdir(folder) else []
+
+
+def file_of(crate, bug):
+    return f"{TOP}/planted/{crate}/{bug}.edit"
+
+
+def fared(refused, text, said):
+    """What refused a bug, and where, from what rt says of it and what the check printed."""
+    functions = re.findall(r"(?m)^fn (\S+): (?:not proved|no proof)", said)
+    first = re.search(r"(?m)^(\S+:\d+:\d+): error", said)
+    if refused and "only because a proof file names" in text:
+        return NAME, first[1] if first else ""
+    if refused:
+        more = f" and {len(functions) - 3} more" if functions[3:] else ""
+        return PROOF, ", ".join(functions[:3]) + more or (first[1] if first else "")
+    if "NOT REFUSED" in text:
+        return NOTHING, ""
+    error = re.search(r"(?m)^.*\berror(?:\[|:).*", said)
+    return (FRONT, error[0].strip()[:160]) if said else (MISFIT, text.partition("BAD EDIT: ")[2][:160])
+
+
+class Tried:
+    """Tries bugs, and keeps what became of each: rt gives a verdict of a check, and this what the check printed too."""
+
+    def __init__(self, rt):
+        self.rt, self.results, self.proved = rt, {}, set()
+        self.here, self.printing = threading.local(), threading.Lock()
+        check, must_fail = rt.checked, rt.must_fail
+
+        def checked(crate, texts, flags, kept=None):
+            ran = check(crate, texts, flags, kept)
+            self.here.said = ran.stdout
+            if not texts and not ran.returncode:
+                self.proved.add(crate.name)
+            return ran
+
+        def one(crate, edit, flags, kept=None):
+            self.here.said = ""
+            refused, text = must_fail(crate, edit, flags, kept)
+            self.results[crate.name, os.path.basename(edit)[:-5]] = fared(refused, text, self.here.said)
+            return refused, text
+
+        rt.checked, rt.must_fail = checked, one
+
+    def crate(self, crate, bugs):
+        """Tries these bugs of a crate and prints a line for each."""
+        self.rt.must_fail_all(crate, [file_of(crate.name, it) for it in bugs], ["--jobs", "1"])
+        # rt tries the crate as it stands too, but for one bug alone
+        if crate.name not in self.proved and self.rt.checked(crate, {}, ["--jobs", "1"]).returncode:
+            self.results.update({(crate.name, it): (UNPROVED, "") for it in bugs})
+        with self.printing:
+            for it in bugs:
+                by, where = self.results[crate.name, it]
+                how = {PROOF: "refused by a proof", NOTHING: "NOT REFUSED"}.get(by, f"BAD: refused by {by}")
+                how = f"BAD: {by}" if by in (MISFIT, UNPROVED) else how
+                print(f"{crate.name}/{it}: {how}{': ' + where if where else ''}", flush=True)
+
+
+def library(crate):
+    """Builds a library where that was not done, and returns whether it is there."""
+    with tempfile.TemporaryFile("w+", errors="replace") as crate.out:
+        if not crate.build_rlib(["--jobs", "1"], anew=False):
+            return True
+        crate.out.seek(0)
+        print(f"{crate.out.read()[-3000:]}planted.sh: the library {crate.name} isn't proved", flush=True)
+        return False
+
+
+def try_all(rt, wanted):
+    """Tries the wanted bugs, by crate, and returns what became of each. A crate waits for the libraries below it."""
+    rt.rtlib.guarded()
+    crates = rt.rtlib.crates_below(TOP)
+    unknown = {*wanted} - {it.name for it in crates}
+    if unknown:
+        sys.exit(f"planted.sh: no crate {', '.join(sorted(unknown))}")
+    named = [it for it in crates if it.name in wanted]
+    tried, tasks = Tried(rt), {}
+
+    def bugs(crate):
+        tried.crate(crate, wanted[crate.name])
+
+    for it in sorted(crates, key=lambda it: len(it.below())):
+        waits, lines, needs = [(below.name, "library") for below in it.below()], it.count(rb"\n"), rt.need(it)
+
+        def over_libraries(given, does, crate=it, waits=waits):
+            return all(given[below] for below in waits) and does(crate)
+
+        if any(it in other.below() for other in named):
+            tasks[it.name, "library"] = waits, lines, needs, lambda given, _, do=over_libraries: do(given, library)
+        if it in named:
+            tasks[it.name, "bugs"] = waits, lines, needs, lambda given, _, do=over_libraries: do(given, bugs)
+    rt.in_lanes(tasks)
+    return tried.results
+
+
+def is_read(rt, crate, folder):
+    """Whether the front end takes the crate of the folder."""
+    is_built = all(it.is_built() for it in crate.below())
+    words = [rt.rtlib.RATTLE, "check", *crate.words(["--jobs", "1", "--only", ""], as_source=not is_built)]
+    how = {"stdin": subprocess.DEVNULL, "stdout": subprocess.PIPE, "stderr": subprocess.STDOUT, "errors": "replace"}
+    said = subprocess.run([*rt.rtlib.guarded(), *words], cwd=folder, **how).stdout
+    return bool(re.search(r"(?m)^only=", said)) and not re.search(r"(?m)^(\S+:\d+:\d+: )?error(\[|:)", said)
+
+
+def put_together(rt, crate, bugs, room):
+    """Puts the bugs into a copy of the crate, as far as each still fits. Returns those put, and those left."""
+    for part in rt.rtlib.PARTS:
+        if os.path.isdir(f"{crate.folder}/{part}"):
+            shutil.copytree(f"{crate.folder}/{part}", f"{room}/{part}")
+    put, left = [], []
+    for bug in bugs:
+        with open(file_of(crate.name, bug), encoding="utf-8") as file:
+            # (a comment may hide others)
+            is_comment = any("/*" in line for line in file if line.startswith("new:"))
+        texts, why = rt.read_edit(file_of(crate.name, bug), room)
+        if why or put and is_comment:
+            left.append(bug)
+            continue
+        put.append(bug)
+        for path, text in texts.items():
+            with open(f"{room}/{path}", "w", encoding="utf-8") as file:
+                file.write(text)
+        if is_comment:
+            return put, [it for it in bugs if it not in put]
+    return put, left
+
+
+def refused_by_front_end(rt, crate, bugs):
+    """The bugs that the front end refuses, or that don't fit."""
+    with tempfile.TemporaryDirectory(prefix="planted-") as room:
+        put, left = put_together(rt, crate, bugs, room)
+        if not put:
+            return left
+        found = [] if is_read(rt, crate, room) else put
+    if len(found) > 1:
+        half = len(found) // 2
+        found = refused_by_front_end(rt, crate, found[:half]) + refused_by_front_end(rt, crate, found[half:])
+    return found + (refused_by_front_end(rt, crate, left) if left else [])
+
+
+def front(rt, wanted):
+    """Prints which of the wanted bugs don't compile, and notes the crates of which all do."""
+    rt.rtlib.guarded()
+    known, bad = rows(), 0
+    for crate in rt.rtlib.crates_below(TOP):
+        if crate.name not in wanted:
+            continue
+        refused = refused_by_front_end(rt, crate, wanted[crate.name])
+        bad += len(refused)
+        for it in refused:
+            print(f"{crate.name}/{it}: BAD: refused by {FRONT}", flush=True)
+        many = len(wanted[crate.name])
+        print(f"{crate.name}: {many - len(refused)} of {many} compile", flush=True)
+        if not refused and many == len(bugs_of(crate.name)):
+            row = known.setdefault(f"`{crate.name}`", [""] * 6)
+            row[1] = datetime.date.today().isoformat()
+            write_rows(known)
+    return int(bad > 0)
+
+
+def rows():
+    """The rows of the list, by their first column."""
+    try:
+        with open(LIST) as file:
+            found = [[cell.strip() for cell in line.split("|")[1:-1]] for line in file if line.startswith("| `")]
+    except OSError:
+        found = []
+    return {it[0]: (it[1:] + [""] * 6)[:6] for it in found}
+
+
+def write_list(wanted, results):
+    """Writes what was tried today into the list. Where only some of a crate's bugs were tried, these have a row."""
+    known, today = rows(), datetime.date.today().isoformat()
+    for crate, bugs in wanted.items():
+        ended = {it: results[crate, it] for it in bugs if (crate, it) in results}
+        if not ended:
+            continue
+        is_whole = len(ended) == len(bugs_of(crate))
+        others = collections.defaultdict(list)
+        for it, (by, _) in ended.items():
+            if by != PROOF:
+                others[by].append(it)
+        said = "; ".join(f"{by}: {', '.join(names)}" for by, names in others.items())
+        refused = sum(by == PROOF for by, _ in ended.values())
+        compiled = known.get(f"`{crate}`", ["", ""])[1]
+        if is_whole:
+            known = {it: row for it, row in known.items() if not it.startswith(f"`{crate}`")}
+        key = f"`{crate}`" if is_whole else f"`{crate}`: {', '.join(ended)}"
+        known[key] = ["", compiled if is_whole else "", str(len(ended)), str(refused), today, said]
+    write_rows(known)
+
+
+def write_rows(known):
+    """Writes the list, with a row for each crate that has bugs here."""
+    folders = [it for it in sorted(os.listdir(f"{TOP}/planted")) if bugs_of(it)]
+    with open(LIST, "w") as file:
+        file.write(HEAD)
+        for crate in folders:
+            known.setdefault(f"`{crate}`", [""] * 6)
+            for key in sorted(it for it in known if it.startswith(f"`{crate}`")):
+                cells = [key, str(len(bugs_of(crate))), *known[key][1:]]
+                file.write(f"| {' | '.join(cells)} |\n".replace("  ", " "))
+
+
+def part(crates, which):
+    """The crates of one part of several, neighbours in crates.txt, which stand on the same libraries."""
+    at, _, of = which.partition("/")
+    if not (at.isdigit() and of.isdigit() and 0 < int(at) <= int(of)):
+        sys.exit("planted.sh: --part K/N, with K from 1 to N")
+    with open(f"{TOP}/crates.txt") as file:
+        order = [line.partition(":")[0] for line in file if not line.startswith("#")]
+    all_bugs, before, found = sum(len(bugs_of(it)) for it in crates), 0, []
+    for crate in [it for it in order if it in crates]:
+        if before * int(of) // all_bugs == int(at) - 1:
+            found.append(crate)
+        before += len(bugs_of(crate))
+    return found
+
+
+def main(words):
+    which, is_front = None, "--front" in words
+    words = [it for it in words if it != "--front"]
+    if "--part" in words:
+        at = words.index("--part")
+        which, words = "".join(words[at + 1 : at + 2]), words[:at] + words[at + 2 :]
+    if any(it.startswith("-") for it in words):
+        sys.exit(__doc__)
+    wanted = collections.defaultdict(list)
+    for word in words or [it for it in sorted(os.listdir(f"{TOP}/planted")) if bugs_of(it)]:
+        crate, _, bug = word.partition("/")
+        bugs = [it for it in bugs_of(crate) if it == bug or not bug]
+        if not bugs:
+            sys.exit(f"planted.sh: planted/{word} has no bug")
+        wanted[crate] = sorted({*wanted[crate], *bugs})
+    if which:
+        wanted = {it: wanted[it] for it in part(wanted, which)}
+    os.chdir(TOP)
+    if is_front:
+        return front(gate.rt_module(), wanted)
+    results = try_all(gate.rt_module(), wanted)
+    write_list(wanted, results)
+    many, refused = sum(map(len, wanted.values())), sum(by == PROOF for by, _ in results.values())
+    print(f"{refused} of {many} refused by a proof")
+    return int(refused < many)
+
+
+if __name__ == "__main__":
+    sys.exit(main(sys.argv[1:]))
