@@ -1,27 +1,5 @@
 -- Each move of the seats keeps the rule.
-use Rattle.std.proofs.Common.{
-  ◌≡◌,
-  ℕ,
-  ◌+◌,
-  ◌%◌,
-  ◌^◌,
-  ◌<◌,
-  true,
-  List,
-  [],
-  ◌∷◌,
-  ◌++◌,
-  length,
-  set,
-  get_or,
-  refl,
-  sym,
-  ap,
-  ◌∙◌,
-  subst,
-  arith,
-  length-append,
-}
+use Rattle.std.proofs.Common.{◌≡◌, ℕ, true, List, [], ◌∷◌, ◌++◌, set, get_or, refl, sym, ap, ◌∙◌, subst, arith}
 use Rattle.atomic_table.specs.Table.{State, Me, keeps, Allows}
 use Rattle.types.specs.declared.event.Entry.{Entry}
 use Rattle.shared_memory_on_table.specs.declared.view.Caller.{Caller}
@@ -100,5 +78,5 @@ opens = record { log = []; words = refl; seated = seated-open 1 (opened true) (o
 
 -- a caller on the keeper's seat
 pub guest_on : (d m : M) → IsKeeper d → IsOne m → together d.0 (first_goes m.0) ≡ keeper d.0.log (caller_in m.0 ∷ [])
-guest_on d m desk one = ap (λ (v : View). together v (first_goes m.0)) (ap (λ (x : M). x.0) desk)
+guest_on d m kept one = ap (λ (v : View). together v (first_goes m.0)) (ap (λ (x : M). x.0) kept)
     ∙ ap (λ (v : View). together (keeper d.0.log []) (first_goes v)) (ap (λ (x : M). x.0) one)

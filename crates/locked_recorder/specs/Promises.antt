@@ -17,6 +17,7 @@ use Rattle.shared_memory_sequential.specs.Opening.{can_open}
 use Rattle.shared_memory_on_table.specs.declared.view.Caller.{Caller}
 use Rattle.shared_memory_on_table.specs.declared.view.View.{View}
 use Rattle.shared_memory_on_table.specs.Moves.{keeper}
+use Rattle.shared_memory_on_table.specs.Names.{MemoryName}
 use Rattle.shared_memory_on_table.specs.Rule.{opened}
 use Rattle.locked_recorder.specs.Room.{HasSpare}
 
@@ -58,6 +59,10 @@ abbrev pub IsPrepared : TableId → TableId → Me ℕ View → ℕ → ℕ → 
 IsPrepared table own me limit capacity log =
     (own ≡ table) × (me ≡ (opened true, [])) × (table.words ≡ 1) × (limit ≤ most_limit) × (log ≡ [])
     × (limit + past_limit ≤ capacity)
+
+-- It is to record the accesses of a memory of these bytes and at most so many pages, by a log with this limit.
+abbrev pub IsOpenedFrom : List ℕ → ℕ → ℕ → MemoryName → Type 0
+IsOpenedFrom image max limit name = (name.opening ≡ record { bytes = image; max = max }) × (name.limit ≡ limit)
 
 -- A caller's list begins the log, which has no other entry of its name.
 pub record Begins (c : Caller) (log : List Entry) : Type 0 where

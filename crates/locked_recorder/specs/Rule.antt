@@ -9,6 +9,7 @@ use Rattle.shared_memory.specs.History.{entry}
 use Rattle.shared_memory_on_table.specs.declared.view.Caller.{Caller}
 use Rattle.shared_memory_on_table.specs.declared.view.View.{View}
 use Rattle.shared_memory_on_table.specs.Callers.{AllGoOn, seeing}
+use Rattle.shared_memory_on_table.specs.Moves.{caller_in, keeper, sees}
 
 -- The one word is 0, whatever the log.
 abbrev pub is_zero : List Entry → List ℕ → Type 0
@@ -18,9 +19,24 @@ is_zero log words = words ≡ 0 ∷ []
 abbrev pub log_with : Entry → View → List Entry
 log_with e v = v.log ++ e ∷ []
 
+-- The keeper's seat with this log, and no caller on it.
+abbrev pub keeps : List Entry → Me ℕ View
+keeps log = (keeper log [], [])
+
+-- One caller stands on the keeper's seat.
+abbrev pub HasGuest : Me ℕ View → Type 0
+HasGuest m = m.0 ≡ keeper m.0.log (caller_in m.0 ∷ [])
+
+-- A seat of one caller, when that has seen the keeper's log, longer by an entry.
+abbrev pub sees_with : Entry → Me ℕ View → Me ℕ View → Me ℕ View
+sees_with e kept m = sees (log_with e kept.0) m
+
 -- The keeper's log is longer by an entry, and all on its seat have seen that.
 abbrev pub entered : Entry → View → View
 entered e v = record { keeps = v.keeps; log = log_with e v; callers = map (seeing (log_with e v)) v.callers }
+
+abbrev pub after_entry : Entry → Me ℕ View → Me ℕ View
+after_entry e m = (entered e m.0, m.1)
 
 -- All on the keeper's seat have seen the log.
 abbrev pub learned : View → View

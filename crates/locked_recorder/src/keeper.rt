@@ -3,8 +3,7 @@ ghost use Rattle.std.specs.Prelude.{◌≡◌, ◌<◌, ◌++◌, ◌∷◌, [],
 ghost use Rattle.shared_memory.specs.Events.{IsEvent, is_of_queue, is_exempt};
 ghost use Rattle.shared_memory.specs.History.{entry};
 ghost use Rattle.shared_memory.specs.Legal.{MayEnter};
-ghost use Rattle.shared_memory.specs.Access.{lost_after};
-ghost use Rattle.shared_memory_on_table.specs.Rule.{AccessesIn};
+ghost use Rattle.shared_memory_on_table.specs.Rule.{MakesTry};
 ghost use Rattle.locked_recorder.specs.Promises.{is_full, is_held, log_after, Begins, IsRecord, IsBounded};
 
 use crate::rule::Row;
@@ -50,10 +49,7 @@ impl<B: Naming> Keeper<B> {
         requires event { IsEvent event }
         requires right { is_of_queue event ≡ true → seat.old.has_queue_right ≡ true }
         requires allowed { is_of_queue event ≡ true → MayEnter seat.old.name event seat.old.seen }
-        ensures name { seat.new.name ≡ seat.old.name }
-        ensures right { seat.new.has_queue_right ≡ seat.old.has_queue_right }
-        ensures outcome { AccessesIn false B.opening (Some B.limit) seat.old event seat.new.seen result }
-        ensures tries { seat.new.lost ≡ lost_after result seat.old.lost }
+        ensures tried { MakesTry false B.opening (Some B.limit) event result seat.old seat.new }
         ensures full { is_full result ≡ is_held B.limit event self.old }
         ensures log { self.new ≡ log_after (is_full result) self.old (entry seat.old.name event result) }
     {

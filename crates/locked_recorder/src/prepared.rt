@@ -1,6 +1,6 @@
 //! The opening of a recorder, up to its name.
 ghost use Rattle.std.specs.Prelude.{◌≡◌, ◌↔◌, true, false, IfOk, OnOk, IsErrOf};
-ghost use Rattle.locked_recorder.specs.Promises.{can_record};
+ghost use Rattle.locked_recorder.specs.Promises.{IsOpenedFrom, can_record};
 
 use crate::rule::Board;
 use shared_memory_on_table::Place;
@@ -14,7 +14,7 @@ use types::{Entry, MOST_LIMIT, PAST_LIMIT};
 #[derive(Drop)]
 pub struct Prepared {
     pub(crate) board: Board,
-    pub(crate) desk: Place,
+    pub(crate) keeper: Place,
     pub(crate) memory: OneMemory,
     pub(crate) limit: u32,
     pub(crate) log: Vec<Entry>,
@@ -29,7 +29,7 @@ impl Model for Prepared {
 
     ghost view = { λ p. record { table = p.board.shared.table_id; opening = p.memory; limit = p.limit } };
 
-    ghost invariant = { λ p. IsPrepared p.board.shared.table_id p.desk.table_id p.desk.me p.limit (vec_capacity p.log) p.log.items };
+    ghost invariant = { λ p. IsPrepared p.board.shared.table_id p.keeper.table_id p.keeper.me p.limit (vec_capacity p.log) p.log.items };
 }
 
 impl Prepared {
@@ -41,7 +41,7 @@ impl Prepared {
     /// `PastLimit` exactly where the image isn't whole pages of 65,536 bytes or passes `max` pages, `max` passes 256, or
     /// `limit` isn't 1 to 1,000,000; otherwise `NoMemory` where the room can't be had.
     pub fn new(alloc: Global, image: &[u8], max: u32, limit: u32) -> Result<Prepared, OpenFault>
-        ensures opened { IfOk result (λ p. (p.opening ≡ record { bytes = image.now; max = max }) × (p.limit ≡ limit)) }
+        ensures opened { IfOk result (IsOpenedFrom image.now max limit) }
         ensures within { OnOk result (can_record image.now max limit ≡ true) }
         ensures past_limit { IsErrOf result OpenFault.PastLimit ↔ (can_record image.now max limit ≡ false) }
     {
@@ -52,12 +52,12 @@ impl Prepared {
         let Ok(log) = Vec::with_capacity(alloc, limit as usize + PAST_LIMIT) else {
             return Err(OpenFault::NoMemory);
         };
-        let Ok((board, desk)) = Board::of_words(alloc, &[0], &()) else {
+        let Ok((board, keeper)) = Board::of_words(alloc, &[0], &()) else {
             return Err(OpenFault::NoMemory);
         };
         Ok(Prepared {
             board,
-            desk,
+            keeper,
             memory,
             limit,
             log,

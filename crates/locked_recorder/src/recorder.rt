@@ -21,7 +21,7 @@ use types::{Event, Reply};
 #[derive(Drop)]
 pub struct LockedRecorder<B: Naming, W: Wait + Drop> {
     board: Board,
-    desk: Mutex<Keeper<B>>,
+    keeper: Mutex<Keeper<B>>,
     limit: u32,
     pages_max: u32,
     rt: W,
@@ -51,17 +51,17 @@ impl<B: Naming, W: Wait + Drop> LockedRecorder<B, W> {
     {
         let Prepared {
             board,
-            mut desk,
+            keeper: mut place,
             memory,
             limit,
             log,
         } = prepared;
         let pages_max = memory.max();
-        let Ok(seats) = take_seats::<B, (), Unmoved>(alloc, &board.shared, &mut desk) else {
+        let Ok(seats) = take_seats::<B, (), Unmoved>(alloc, &board.shared, &mut place) else {
             return Err(OpenFault::NoMemory);
         };
         let keeper = Keeper {
-            place: desk,
+            place,
             memory,
             limit,
             log,
@@ -70,7 +70,7 @@ impl<B: Naming, W: Wait + Drop> LockedRecorder<B, W> {
         Ok((
             LockedRecorder {
                 board,
-                desk: Mutex::new(keeper),
+                keeper: Mutex::new(keeper),
                 limit,
                 pages_max,
                 rt,
@@ -89,12 +89,12 @@ impl<B: Naming, W: Wait + Drop> LockedRecorder<B, W> {
     {
         let LockedRecorder {
             board,
-            desk,
+            keeper: locked,
             limit: _,
             pages_max: _,
             rt: _,
         } = self;
-        let mut keeper = desk.into_inner();
+        let mut keeper = locked.into_inner();
         check_all(&board.shared, &mut keeper, seats);
         keeper.finish()
     }
@@ -131,7 +131,7 @@ impl<B: Naming + Send + Sync, W: Wait + Drop> SharedMemory for LockedRecorder<B,
     ghost whole = { λ m. m.whole };
 
     fn access(&self, seat: &mut LockedSeat<B>, event: Event) -> Reply {
-        self.desk
+        self.keeper
             .lock(&self.rt)
             .access(&self.board.shared, &mut seat.caller, event)
     }

@@ -1,8 +1,8 @@
 //! Moves of the seats, each made of single steps on the word.
-ghost use Rattle.std.specs.Prelude.{◌≡◌, ◌<◌, ◌∷◌, []};
+ghost use Rattle.std.specs.Prelude.{◌≡◌, ◌<◌};
 ghost use Rattle.shared_memory_on_table.specs.Callers.{GoesOn, AllGoOn};
-ghost use Rattle.shared_memory_on_table.specs.Moves.{IsOne, IsKeeper, caller_in, keeper, sees};
-ghost use Rattle.locked_recorder.specs.Rule.{MayMake, entered, log_with};
+ghost use Rattle.shared_memory_on_table.specs.Moves.{Becomes, IsOne, IsKeeper, caller_in, sees};
+ghost use Rattle.locked_recorder.specs.Rule.{HasGuest, MayMake, after_entry, keeps, log_with, sees_with};
 
 use crate::rule::{Enter, Learn, Making, Row};
 use shared_memory_on_table::{Place, hand};
@@ -10,45 +10,45 @@ use std::marker::Brand;
 use types::Entry;
 
 // The keeper makes an entry of the caller on its seat.
-fn enter<M: Making>(row: &Row, desk: &mut Place, entry: &Entry)
+fn enter<M: Making>(row: &Row, keeper: &mut Place, entry: &Entry)
     requires row { 0 < row.now.table_id.words }
-    requires own { desk.old.table_id ≡ row.now.table_id }
+    requires own { keeper.old.table_id ≡ row.now.table_id }
     requires entry { M.entry ≡ entry.now }
-    requires guest { desk.old.me.0 ≡ keeper desk.old.me.0.log (caller_in desk.old.me.0 ∷ []) }
-    requires may { MayMake (caller_in desk.old.me.0) entry.now }
-    ensures desk { (desk.new.table_id ≡ desk.old.table_id) × (desk.new.me ≡ (entered entry.now desk.old.me.0, desk.old.me.1)) }
-    ensures goes_on { AllGoOn desk.old.me.0.callers desk.old.me.0.log }
+    requires guest { HasGuest keeper.old.me }
+    requires may { MayMake (caller_in keeper.old.me.0) entry.now }
+    ensures keeper { Becomes keeper.old keeper.new (after_entry entry.now keeper.old.me) }
+    ensures goes_on { AllGoOn keeper.old.me.0.callers keeper.old.me.0.log }
 {
-    row.load::<Enter<M>>(desk, 0);
+    row.load::<Enter<M>>(keeper, 0);
 }
 
 /// The caller's entry is made: its view goes to the keeper's seat, grows there with the log, and comes back.
-pub fn record(row: &Row, desk: &mut Place, caller: &mut Place, entry: &Entry)
+pub fn record(row: &Row, keeper: &mut Place, caller: &mut Place, entry: &Entry)
     requires row { 0 < row.now.table_id.words }
-    requires own { (desk.old.table_id ≡ row.now.table_id) × (caller.old.table_id ≡ row.now.table_id) }
-    requires desk { IsKeeper desk.old.me }
+    requires own { (keeper.old.table_id ≡ row.now.table_id) × (caller.old.table_id ≡ row.now.table_id) }
+    requires keeper { IsKeeper keeper.old.me }
     requires caller { IsOne caller.old.me }
     requires may { MayMake (caller_in caller.old.me.0) entry.now }
-    ensures desk { (desk.new.table_id ≡ desk.old.table_id) × (desk.new.me ≡ (keeper (log_with entry.now desk.old.me.0) [], [])) }
-    ensures caller { (caller.new.table_id ≡ caller.old.table_id) × (caller.new.me ≡ sees (log_with entry.now desk.old.me.0) caller.old.me) }
-    ensures goes_on { GoesOn (caller_in caller.old.me.0) desk.old.me.0.log }
+    ensures keeper { Becomes keeper.old keeper.new (keeps (log_with entry.now keeper.old.me.0)) }
+    ensures caller { Becomes caller.old caller.new (sees_with entry.now keeper.old.me caller.old.me) }
+    ensures goes_on { GoesOn (caller_in caller.old.me.0) keeper.old.me.0.log }
 {
-    hand(row, caller, desk);
-    enter::<Brand>(row, desk, entry);
-    hand(row, desk, caller);
+    hand(row, caller, keeper);
+    enter::<Brand>(row, keeper, entry);
+    hand(row, keeper, caller);
 }
 
 /// The caller learns the log.
-pub fn look(row: &Row, desk: &mut Place, caller: &mut Place)
+pub fn look(row: &Row, keeper: &mut Place, caller: &mut Place)
     requires row { 0 < row.now.table_id.words }
-    requires own { (desk.old.table_id ≡ row.now.table_id) × (caller.old.table_id ≡ row.now.table_id) }
-    requires desk { IsKeeper desk.old.me }
+    requires own { (keeper.old.table_id ≡ row.now.table_id) × (caller.old.table_id ≡ row.now.table_id) }
+    requires keeper { IsKeeper keeper.old.me }
     requires caller { IsOne caller.old.me }
-    ensures desk { (desk.new.table_id ≡ desk.old.table_id) × (desk.new.me ≡ desk.old.me) }
-    ensures caller { (caller.new.table_id ≡ caller.old.table_id) × (caller.new.me ≡ sees desk.old.me.0.log caller.old.me) }
-    ensures goes_on { GoesOn (caller_in caller.old.me.0) desk.old.me.0.log }
+    ensures keeper { Becomes keeper.old keeper.new keeper.old.me }
+    ensures caller { Becomes caller.old caller.new (sees keeper.old.me.0.log caller.old.me) }
+    ensures goes_on { GoesOn (caller_in caller.old.me.0) keeper.old.me.0.log }
 {
-    hand(row, caller, desk);
-    row.load::<Learn>(desk, 0);
-    hand(row, desk, caller);
+    hand(row, caller, keeper);
+    row.load::<Learn>(keeper, 0);
+    hand(row, keeper, caller);
 }

@@ -7,3 +7,4 @@ pub mod Sound
 pub mod History
 pub mod Legal
 pub mod Access
+pub mod Seats

@@ -1,13 +1,14 @@
 -- The rule of a table of seats: one history, of which the words say something, and each caller has seen a beginning.
 use Rattle.std.specs.Prelude.{ℕ, ◌≡◌, ◌≤◌, Bool, List, [], Option}
 use Rattle.atomic_table.specs.Table.{State, Me}
+use Rattle.atomic_table.specs.declared.shared.Seat.{Seat}
 use Rattle.atomic_table.specs.Seated.{TableId}
 use Rattle.types.specs.declared.event.Entry.{Entry}
 use Rattle.types.specs.declared.event.Event.{Event}
 use Rattle.types.specs.declared.event.Reply.{Reply}
 use Rattle.types.specs.Limits.{desk_name, seat_count}
 use Rattle.shared_memory.specs.Memory.{Memory}
-use Rattle.shared_memory.specs.Access.{IsSeen, Accesses, Meets}
+use Rattle.shared_memory.specs.Access.{IsSeen, Accesses, Meets, lost_after}
 use Rattle.shared_memory_on_table.specs.declared.view.Caller.{Caller}
 use Rattle.shared_memory_on_table.specs.declared.view.View.{View}
 use Rattle.shared_memory_on_table.specs.Callers.{one_if, fresh_from}
@@ -25,6 +26,10 @@ pub record Kept (has_keeper : Bool) (agree : List Entry → List ℕ → Type 0)
 abbrev pub gathered : Bool → List Caller → View
 gathered has_keeper callers = record { keeps = has_keeper; log = []; callers = callers }
 
+-- These callers stand on a seat of the table before any entry.
+abbrev pub IsGathered : Bool → List Caller → Seat ℕ View → Type 0
+IsGathered has_keeper callers seat = seat.me ≡ (gathered has_keeper callers, [])
+
 -- At first all callers stand on one seat.
 abbrev pub opened : Bool → View
 opened has_keeper = gathered has_keeper (fresh_from seat_count 0)
@@ -38,7 +43,20 @@ StandsAlone table opening name own me =
 abbrev pub MeetsIn : Memory → Caller → Caller → List Entry → Type 0
 MeetsIn opening a b list = Meets opening a.name b.name a.has_queue_right b.has_queue_right a.seen b.seen list
 
+-- Two callers exchange the queue right.
+abbrev pub ExchangeRights : Caller → Caller → Caller → Caller → Type 0
+ExchangeRights a b a' b' = (a'.has_queue_right ≡ b.has_queue_right) × (b'.has_queue_right ≡ a.has_queue_right)
+
 -- What an access of a caller leaves it with, and answers.
 abbrev pub AccessesIn : Bool → Memory → Option ℕ → Caller → Event → List Entry → Reply → Type 0
 AccessesIn loses opening limit c event list reply =
     Accesses loses opening limit c.name c.has_queue_right event c.seen list reply
+
+-- One try of an event by a caller: it keeps its name and its queue right, has seen what an access leaves it with, and has
+-- lost a try more where the reply says so.
+pub record MakesTry (loses : Bool) (opening : Memory) (limit : Option ℕ) (event : Event) (reply : Reply) (before after : Caller)
+    : Type 0 where
+  pub name_is : after.name ≡ before.name
+  pub right_is : after.has_queue_right ≡ before.has_queue_right
+  pub outcome : AccessesIn loses opening limit before event after.seen reply
+  pub lost_is : after.lost ≡ lost_after reply before.lost

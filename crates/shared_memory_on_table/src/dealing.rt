@@ -3,7 +3,7 @@ ghost use Rattle.std.specs.Prelude.{◌≡◌, ◌<◌, ◌≤◌, ◌∷◌, []
 ghost use Rattle.types.specs.Limits.{desk_name, seat_count};
 ghost use Rattle.shared_memory_on_table.specs.Callers.{fresh, fresh_from};
 ghost use Rattle.shared_memory_on_table.specs.Moves.{others_of};
-ghost use Rattle.shared_memory_on_table.specs.Rule.{gathered, opened};
+ghost use Rattle.shared_memory_on_table.specs.Rule.{IsGathered, opened};
 
 use crate::naming::Naming;
 use crate::rule::{History, Row};
@@ -22,10 +22,10 @@ fn take_seat<B: Naming, K, H: History<K>>(
     requires row { (row.now.table_id ≡ B.table) × (0 < row.now.table_id.words) }
     requires name { name ≤ desk_name }
     requires here { all.old.table_id ≡ B.table }
-    requires all { all.old.me ≡ (gathered H.has_keeper (fresh name ∷ others_of all.old.me.0.callers), []) }
+    requires all { IsGathered H.has_keeper (fresh name ∷ others_of all.old.me.0.callers) all.old }
     ensures seat { result.caller ≡ fresh name }
     ensures here { all.new.table_id ≡ B.table }
-    ensures all { all.new.me ≡ (gathered H.has_keeper (others_of all.old.me.0.callers), []) }
+    ensures all { IsGathered H.has_keeper (others_of all.old.me.0.callers) all.new }
 {
     let place = row.split_seat::<FirstOff>(all);
     CallerSeat {
@@ -50,7 +50,7 @@ pub fn take_seats<B: Naming, K, H: History<K>>(
     requires row { (row.now.table_id ≡ B.table) × (0 < row.now.table_id.words) }
     requires all { (all.old.table_id ≡ B.table) × (all.old.me ≡ (opened H.has_keeper, [])) }
     ensures seats { IfOk result (λ v. map (λ s. s.caller) v.items ≡ fresh_from seat_count 0) }
-    ensures all { IfOk result (λ _. (all.new.table_id ≡ B.table) × (all.new.me ≡ (gathered H.has_keeper [], []))) }
+    ensures all { IfOk result (λ _. (all.new.table_id ≡ B.table) × IsGathered H.has_keeper [] all.new) }
 {
     let mut seats = Vec::with_capacity(alloc, SEATS as usize)?;
     for name in 0..SEATS {

@@ -1,7 +1,7 @@
 //! The seats of a memory, and the meeting of two of them.
 ghost use Rattle.std.specs.Prelude.{◌≡◌, ◌<◌, ◌≤◌};
 ghost use Rattle.types.specs.Limits.{desk_name};
-ghost use Rattle.shared_memory_on_table.specs.Rule.{MeetsIn};
+ghost use Rattle.shared_memory_on_table.specs.Rule.{ExchangeRights, MeetsIn};
 
 use crate::naming::Naming;
 use crate::rule::{History, Row};
@@ -53,7 +53,7 @@ pub struct CallerSeat<B: Naming> {
 pub fn meet<B: Naming, K, H: History<K>>(row: &Row<K, H>, a: &mut Standing<B>, b: &mut Standing<B>)
     requires row { (row.now.table_id ≡ B.table) × (0 < row.now.table_id.words) }
     ensures names { (a.new.name ≡ a.old.name) × (b.new.name ≡ b.old.name) }
-    ensures rights { (a.new.has_queue_right ≡ b.old.has_queue_right) × (b.new.has_queue_right ≡ a.old.has_queue_right) }
+    ensures rights { ExchangeRights a.old b.old a.new b.new }
     ensures one { b.new.seen ≡ a.new.seen }
     ensures longer { MeetsIn B.opening a.old b.old a.new.seen }
     ensures tries { (a.new.lost ≡ a.old.lost) × (b.new.lost ≡ b.old.lost) }

@@ -1,7 +1,7 @@
 //! Moves of the seats, each made of single steps on the table.
 ghost use Rattle.std.specs.Prelude.{◌≡◌, ◌<◌};
 ghost use Rattle.shared_memory_on_table.specs.Callers.{GoesOn};
-ghost use Rattle.shared_memory_on_table.specs.Moves.{IsOne, caller_in, others_stay, first_goes, together, longest, after_meeting};
+ghost use Rattle.shared_memory_on_table.specs.Moves.{Becomes, IsOne, caller_in, others_stay, first_goes, together, longest, after_meeting};
 
 use crate::rule::{History, Row};
 use crate::view::{FirstOff, Meeting, Place, Together};
@@ -10,8 +10,8 @@ use crate::view::{FirstOff, Meeting, Place, Together};
 pub fn hand<K, H: History<K>>(row: &Row<K, H>, from: &mut Place, to: &mut Place)
     requires row { 0 < row.now.table_id.words }
     requires own { (from.old.table_id ≡ row.now.table_id) × (to.old.table_id ≡ row.now.table_id) }
-    ensures from { (from.new.table_id ≡ from.old.table_id) × (from.new.me ≡ (others_stay from.old.me.0, from.old.me.1)) }
-    ensures to { (to.new.table_id ≡ to.old.table_id) × (to.new.me ≡ (together to.old.me.0 (first_goes from.old.me.0), to.old.me.1)) }
+    ensures from { Becomes from.old from.new (others_stay from.old.me.0, from.old.me.1) }
+    ensures to { Becomes to.old to.new (together to.old.me.0 (first_goes from.old.me.0), to.old.me.1) }
 {
     let goes = row.split_seat::<FirstOff>(from);
     row.join_seat::<Together>(to, goes);
@@ -23,8 +23,8 @@ pub(crate) fn meet<K, H: History<K>>(row: &Row<K, H>, a: &mut Place, b: &mut Pla
     requires own { (a.old.table_id ≡ row.now.table_id) × (b.old.table_id ≡ row.now.table_id) }
     requires a { IsOne a.old.me }
     requires b { IsOne b.old.me }
-    ensures a { (a.new.table_id ≡ a.old.table_id) × (a.new.me ≡ after_meeting a.old.me b.old.me (longest a.old.me b.old.me)) }
-    ensures b { (b.new.table_id ≡ b.old.table_id) × (b.new.me ≡ after_meeting b.old.me a.old.me (longest a.old.me b.old.me)) }
+    ensures a { Becomes a.old a.new (after_meeting a.old.me b.old.me (longest a.old.me b.old.me)) }
+    ensures b { Becomes b.old b.new (after_meeting b.old.me a.old.me (longest a.old.me b.old.me)) }
     ensures a_goes_on { GoesOn (caller_in a.old.me.0) (longest a.old.me b.old.me) }
     ensures b_goes_on { GoesOn (caller_in b.old.me.0) (longest a.old.me b.old.me) }
 {

@@ -12,3 +12,4 @@ pub mod Turning
 pub mod Paying
 pub mod Attending
 pub mod Leaving
+pub mod Staying

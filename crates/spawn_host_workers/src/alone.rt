@@ -1,18 +1,17 @@
 //! A run of one thread, of a program that starts no other.
-ghost use Rattle.std.specs.Prelude.{◌≡◌, ◌<◌, ℕ, true, [], IfOk, IsOkUnless, slice_index_or, vec_len};
+ghost use Rattle.std.specs.Prelude.{◌≡◌, true, [], IfOk, IsOkUnless, slice_index_or, vec_len};
 ghost use Rattle.types.specs.Limits.{desk_name, seat_count};
 ghost use Rattle.interp_trait.specs.Turns.{MayRun};
 ghost use Rattle.interp_machine.specs.Program.{Program};
-ghost use Rattle.spawn_host_workers.specs.OverMemory.{over};
 ghost use Rattle.spawn_host_workers.specs.declared.report.RunFault.{RunFault};
-ghost use Rattle.spawn_host_workers.specs.Composed.{IsComposed};
+ghost use Rattle.spawn_host_workers.specs.Seats.{AreInOrder, AreNew, GivesRun};
 
 use crate::host::level_all;
 use crate::report::{RunEnd, RunFault};
 use crate::seats::{Dealt, deal};
+use crate::{ThreadEnd, run_thread};
 use interp_trait::{Gate, TakesTurns};
 use shared_memory::SharedMemory;
-use crate::{ThreadEnd, run_thread};
 use std::alloc::Global;
 use std::sync::Wait;
 use types::ThreadReport;
@@ -38,12 +37,11 @@ where
     requires here { MayRun (T.meaning first) }
     requires alone { Program.imported (T.meaning first).program ≡ 0 }
     requires len { vec_len seats ≡ seat_count }
-    requires names { (k : ℕ) (d : M.Seat) → k < seat_count → M.name (slice_index_or seats.items k d) ≡ k }
-    requires new { (k : ℕ) (d : M.Seat) → k < seat_count → M.seen (slice_index_or seats.items k d) ≡ [] }
+    requires names { AreInOrder M.SharedMemory seats.items }
+    requires new { AreNew M.SharedMemory seats.items }
     requires right { (d : M.Seat) → M.has_queue_right (slice_index_or seats.items desk_name d) ≡ true }
     ensures fault { IsOkUnless result RunFault.NoMemory }
-    ensures composed { IfOk result (λ end. IsComposed (over M.SharedMemory memory.now) T.meaning first []
-        end.threads.items end.seats.items) }
+    ensures composed { IfOk result (GivesRun M.SharedMemory memory.now T.meaning first []) }
 {
     let Ok(mut threads) = Vec::with_capacity(alloc, 1) else {
         return Err(RunFault::NoMemory);

@@ -12,9 +12,9 @@ ghost use Rattle.spawn_host_workers.specs.Duties.{IsDuty, IsDone, Joined};
 
 use crate::report::RunFault;
 use crate::worker::{WorkerEnd, work};
+use crate::{ThreadEnd, run_thread};
 use interp_trait::{Gate, TakesTurns};
 use shared_memory::SharedMemory;
-use crate::{ThreadEnd, run_thread};
 use std::alloc::Global;
 use std::snapshot::Snapshot;
 use std::sync::Wait;

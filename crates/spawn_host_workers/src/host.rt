@@ -1,12 +1,12 @@
 //! A run of real threads.
-ghost use Rattle.std.specs.Prelude.{◌≡◌, ◌≤◌, ◌<◌, ◌+◌, ℕ, true, List, [], ◌∷◌, ◌++◌, All, IfOk, IfErr, MatchResult, slice_index_or, vec_len, vec_capacity};
+ghost use Rattle.std.specs.Prelude.{◌≡◌, ◌≤◌, ◌<◌, ◌+◌, true, [], All, IfOk, IfErr, MatchResult, slice_index_or, vec_len, vec_capacity};
 ghost use Rattle.types.specs.Limits.{most_spawned, desk_name, seat_count};
 ghost use Rattle.interp_trait.specs.Turns.{MayRun, MayBeSpawned};
 ghost use Rattle.spawn_host_workers.specs.OverMemory.{over};
-ghost use Rattle.spawn_host_workers.specs.Level.{Level};
 ghost use Rattle.spawn_host_workers.specs.Crew.{MayStart, IsCrew};
 ghost use Rattle.spawn_host_workers.specs.Faults.{IsOfSystem};
-ghost use Rattle.spawn_host_workers.specs.Composed.{IsComposed, reported, seats_of};
+ghost use Rattle.spawn_host_workers.specs.Composed.{reported, seats_of};
+ghost use Rattle.spawn_host_workers.specs.Seats.{AreInOrder, AreLevel, AreNew, ComeHome, GivesRun};
 
 use crate::crew::run_crew;
 use crate::report::{RunEnd, RunFault};
@@ -79,7 +79,7 @@ where
 
 pub(crate) fn level_all<M: SharedMemory>(memory: &M, hub: &mut M::Seat, seats: &mut Vec<M::Seat>)
     requires { M.has_queue_right hub.old ≡ true }
-    ensures level { Level M.opening M.name M.has_queue_right M.seen hub.old hub.new seats.old.items seats.new.items }
+    ensures level { AreLevel M.SharedMemory hub.old hub.new seats.old.items seats.new.items }
     ensures len { vec_len seats.new ≡ vec_len seats.old }
     ensures capacity { vec_capacity seats.new ≡ vec_capacity seats.old }
 {
@@ -99,8 +99,7 @@ fn bring_home<M: SharedMemory>(
     requires room { (vec_len threads + vec_len ends ≤ vec_capacity threads)
         × (vec_len seats + vec_len ends < vec_capacity seats) }
     ensures threads { result.threads.items ≡ reported ends.items }
-    ensures seats { (last : M.Seat) × (others : List M.Seat) × (result.seats.items ≡ others ++ last ∷ [])
-        × Level M.opening M.name M.has_queue_right M.seen hub last (seats_of ends.items) others }
+    ensures seats { ComeHome M.SharedMemory hub (seats_of ends.items) result.seats.items }
 {
     split(ends, &mut threads, &mut seats);
     level_all(memory, &mut hub, &mut seats);
@@ -130,12 +129,11 @@ where
     requires count { vec_len spawned ≡ most_spawned }
     requires begins { All (λ (t : T). MayBeSpawned (T.meaning t)) spawned.items }
     requires len { vec_len seats ≡ seat_count }
-    requires names { (k : ℕ) (d : M.Seat) → k < seat_count → M.name (slice_index_or seats.items k d) ≡ k }
-    requires new { (k : ℕ) (d : M.Seat) → k < seat_count → M.seen (slice_index_or seats.items k d) ≡ [] }
+    requires names { AreInOrder M.SharedMemory seats.items }
+    requires new { AreNew M.SharedMemory seats.items }
     requires right { (d : M.Seat) → M.has_queue_right (slice_index_or seats.items desk_name d) ≡ true }
     ensures fault { IfErr result (λ fault. IsOfSystem fault) }
-    ensures composed { IfOk result (λ end. IsComposed (over M.SharedMemory memory.now) T.meaning first spawned.items
-        end.threads.items end.seats.items) }
+    ensures composed { IfOk result (GivesRun M.SharedMemory memory.now T.meaning first spawned.items) }
 {
     let Ok(reports) = Vec::with_capacity(alloc, MOST_THREADS) else {
         return Err(RunFault::NoMemory);

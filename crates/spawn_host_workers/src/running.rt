@@ -2,10 +2,10 @@
 ghost use Rattle.shared_memory.specs.Events.{IsEvent};
 ghost use Rattle.shared_memory.specs.WaitQueue.{IsFree};
 ghost use Rattle.shared_memory.specs.History.{queue_after};
-ghost use Rattle.interp_trait.specs.Turns.{Running, IsHere, MayBeGiven, MayRun, StaysAs, MakesTurn, WantsEvent};
-ghost use Rattle.interp_trait.specs.declared.turn.Turn.{Turn};
-ghost use Rattle.spawn_host_workers.specs.Ends.{IsLast, RunsOutTrying, SeatStays, watched};
-ghost use Rattle.spawn_host_workers.specs.Serving.{Attends, Steps};
+ghost use Rattle.shared_memory.specs.Seats.{IsSameSeat};
+ghost use Rattle.interp_trait.specs.Turns.{Running, MayBeGiven, MayRun, StaysAs, MakesTurn, WantsEvent};
+ghost use Rattle.spawn_host_workers.specs.Ends.{IsLast};
+ghost use Rattle.spawn_host_workers.specs.Seats.{SeatAttends, SeatEnds, SeatRunsOut, SeatSteps, StaysFree};
 
 use crate::serving::{Served, serve};
 use interp_trait::{Gate, Given, TakesTurns, Turn};
@@ -44,12 +44,8 @@ fn attend<T: TakesTurns, M: SharedMemory, W: Wait + Drop, G: Gate>(
     requires wanted { (t : Running) × WantsEvent (T.meaning thread.old) event t }
     requires event { IsEvent event }
     requires free { IsFree (queue_after (M.seen seat.old)) (M.name seat.old) }
-    ensures stays { StaysAs (T.meaning thread.old) (T.meaning thread.new) }
-    ensures seat { SeatStays M.name M.has_queue_right seat.old seat.new }
-    ensures free { IsFree (queue_after (M.seen seat.new)) (M.name seat.old) }
-    ensures attended { (t : Running) → WantsEvent (T.meaning thread.old) event t
-        → Steps (T.meaning thread.old).program M.LOSES M.opening (M.limit memory.now) (M.name seat.old) t result
-        (T.meaning thread.new).stands (watched M.seen M.lost seat.old) (watched M.seen M.lost seat.new) }
+    ensures stays { StaysFree M.SharedMemory T.meaning thread.old thread.new seat.old seat.new }
+    ensures attended { SeatAttends M.SharedMemory memory.now T.meaning thread.old thread.new seat.old seat.new event result }
 {
     let name = memory.name(seat);
     match serve(memory, seat, desk, event) {
@@ -76,12 +72,8 @@ fn step<T: TakesTurns, M: SharedMemory, W: Wait + Drop, G: Gate>(
 ) -> Turn
     requires here { MayRun (T.meaning thread.old) }
     requires free { IsFree (queue_after (M.seen seat.old)) (M.name seat.old) }
-    ensures stays { StaysAs (T.meaning thread.old) (T.meaning thread.new) }
-    ensures seat { SeatStays M.name M.has_queue_right seat.old seat.new }
-    ensures free { IsFree (queue_after (M.seen seat.new)) (M.name seat.old) }
-    ensures stepped { (t : Running) → (T.meaning thread.old).stands t → IsHere t
-        → Steps (T.meaning thread.old).program M.LOSES M.opening (M.limit memory.now) (M.name seat.old) t result
-        (T.meaning thread.new).stands (watched M.seen M.lost seat.old) (watched M.seen M.lost seat.new) }
+    ensures stays { StaysFree M.SharedMemory T.meaning thread.old thread.new seat.old seat.new }
+    ensures stepped { SeatSteps M.SharedMemory memory.now T.meaning thread.old thread.new seat.old seat.new result }
 {
     let name = memory.name(seat);
     match thread.own_turns(name, gate) {
@@ -101,12 +93,8 @@ fn run_steps<T: TakesTurns, M: SharedMemory, W: Wait + Drop, G: Gate, R: Wait>(
 ) -> Outcome
     requires here { MayRun (T.meaning thread.old) }
     requires free { IsFree (queue_after (M.seen seat.old)) (M.name seat.old) }
-    ensures stays { StaysAs (T.meaning thread.old) (T.meaning thread.new) }
-    ensures seat { SeatStays M.name M.has_queue_right seat.old seat.new }
-    ensures free { IsFree (queue_after (M.seen seat.new)) (M.name seat.old) }
-    ensures ended { (t : Running) → (T.meaning thread.old).stands t → IsHere t
-        → Attends (T.meaning thread.old).program M.LOSES M.opening (M.limit memory.now) (M.name seat.old) t (Turn.Ended result)
-        (T.meaning thread.new).stands (watched M.seen M.lost seat.old) (watched M.seen M.lost seat.new) }
+    ensures stays { StaysFree M.SharedMemory T.meaning thread.old thread.new seat.old seat.new }
+    ensures ended { SeatEnds M.SharedMemory memory.now T.meaning thread.old thread.new seat.old seat.new result }
 {
     for _ in rt.forever() {
         if let Turn::Ended(outcome) = step(thread, memory, seat, desk, gate) {
@@ -132,10 +120,8 @@ pub fn run_thread<T: TakesTurns + Drop, M: SharedMemory, W: Wait + Drop, G: Gate
 ) -> ThreadEnd<M::Seat>
     requires here { MayRun (T.meaning thread) }
     requires free { IsFree (queue_after (M.seen seat)) (M.name seat) }
-    ensures seat { SeatStays M.name M.has_queue_right seat result.seat }
-    ensures ran { (t : Running) → (T.meaning thread).stands t → IsHere t
-        → RunsOutTrying (T.meaning thread).program M.LOSES M.opening (M.limit memory.now) (M.name seat) t result.outcome result.spent
-        (T.meaning thread).fuel (watched M.seen M.lost seat) (watched M.seen M.lost result.seat) }
+    ensures same { IsSameSeat M.SharedMemory seat result.seat }
+    ensures ran { SeatRunsOut M.SharedMemory memory.now T.meaning thread seat result }
     ensures last { IsLast M.opening (M.name seat) (M.seen result.seat) }
 {
     let outcome = run_steps(rt, &mut thread, memory, &mut seat, desk, gate);

@@ -5,7 +5,9 @@ ghost use Rattle.shared_memory.specs.Events.{IsEvent, IsQuestion};
 ghost use Rattle.shared_memory.specs.WaitQueue.{IsFree};
 ghost use Rattle.shared_memory.specs.History.{queue_after};
 ghost use Rattle.schedule_threads.specs.Threads.{IsOfThread};
-ghost use Rattle.spawn_host_workers.specs.Serving.{Serves, lost_by};
+ghost use Rattle.shared_memory.specs.Seats.{IsSameSeat};
+ghost use Rattle.spawn_host_workers.specs.Serving.{lost_by};
+ghost use Rattle.spawn_host_workers.specs.Seats.{SeatServes};
 
 use shared_memory::SharedMemory;
 use std::sync::Wait;
@@ -33,10 +35,9 @@ pub(crate) fn serve<M: SharedMemory, W: Wait + Drop>(
     requires event { IsEvent event }
     requires of_thread { IsOfThread event }
     requires free { IsFree (queue_after (M.seen seat.old)) (M.name seat.old) }
-    ensures name { M.name seat.new ≡ M.name seat.old }
-    ensures right { M.has_queue_right seat.new ≡ M.has_queue_right seat.old }
+    ensures same { IsSameSeat M.SharedMemory seat.old seat.new }
     ensures tries { M.lost seat.new ≡ lost_by result (M.lost seat.old) }
-    ensures served { Serves M.LOSES M.opening (M.limit memory.now) (M.name seat.old) event (M.seen seat.old) (M.seen seat.new) result }
+    ensures served { SeatServes M.SharedMemory memory.now seat.old seat.new event result }
 {
     match event {
         Event::Ask(question) => ask(memory, seat, desk, question),
@@ -55,11 +56,9 @@ fn ask<M: SharedMemory, W: Wait + Drop>(
     requires question { IsQuestion question }
     requires of_thread { IsOfThread (Ask question) }
     requires free { IsFree (queue_after (M.seen seat.old)) (M.name seat.old) }
-    ensures name { M.name seat.new ≡ M.name seat.old }
-    ensures right { M.has_queue_right seat.new ≡ M.has_queue_right seat.old }
+    ensures same { IsSameSeat M.SharedMemory seat.old seat.new }
     ensures tries { M.lost seat.new ≡ lost_by result (M.lost seat.old) }
-    ensures served { Serves M.LOSES M.opening (M.limit memory.now) (M.name seat.old) (Ask question) (M.seen seat.old)
-        (M.seen seat.new) result }
+    ensures served { SeatServes M.SharedMemory memory.now seat.old seat.new (Ask question) result }
 {
     match desk.ask(memory, seat, question) {
         Ok(Asked::OutOfBounds) => Served::Replied(Reply::OutOfBounds),

@@ -5,9 +5,9 @@ ghost use Rattle.spawn_host_workers.specs.OverMemory.{over};
 ghost use Rattle.spawn_host_workers.specs.Works.{EndsWork};
 ghost use Rattle.interp_trait.specs.Turns.{MayBeSpawned};
 
+use crate::{ThreadEnd, run_thread};
 use interp_trait::{Gate, TakesTurns};
 use shared_memory::SharedMemory;
-use crate::{ThreadEnd, run_thread};
 use std::sync::Wait;
 use types::{ThreadReport, Value};
 use waiters_desk::Desk;

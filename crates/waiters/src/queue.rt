@@ -5,7 +5,7 @@ ghost use Rattle.types.specs.Limits.{most_threads};
 ghost use Rattle.shared_memory.specs.WaitQueue.{IsFree, after_answer, after_question, answer_due, asked, first_queue, has_open_question};
 ghost use Rattle.shared_memory.specs.WaitQueue.{is_alive, is_asleep, is_among, is_stuck, leaves, next_id, settled};
 ghost use Rattle.shared_memory.specs.WaitQueue.{sleeps, starts, tells, wakes, woken_at};
-ghost use Rattle.waiters.specs.Queue.{AreAsleep, arg_of, falls_asleep};
+ghost use Rattle.waiters.specs.Queue.{AreAsleep, TakesAnswer, arg_of, falls_asleep, id_of_spawned, notified, spawned};
 
 use crate::waking::{ends_at_once, first_to_end, is_among, tell_each, woken_at};
 use arrayvec::ArrayVec;
@@ -85,7 +85,7 @@ impl Queue {
     #[tactic(auto, unfolding(shared_memory::specs::WaitQueue::after_answer))]
     pub fn told(&mut self, thread: u32) -> Option<Answer>
         ensures answer { result ≡ answer_due self.old thread }
-        ensures after { MatchOption result (self.new ≡ self.old) (λ _. self.new ≡ after_answer self.old thread) }
+        ensures after { TakesAnswer result thread self.old self.new }
     {
         let place = thread as usize;
         let Some(&answer) = self.due.get(place) else {
@@ -207,7 +207,7 @@ impl Queue {
 
     /// Wakes those that have slept longest at the address, as many as are counted, and answers how many they are.
     fn notify(&mut self, addr: u64, count: u32) -> u32
-        ensures after { self.new ≡ wakes (woken_at addr count self.old.sleepers) (Answer.Number 0) self.old }
+        ensures after { self.new ≡ notified addr count self.old }
         ensures woken { result ≡ length (woken_at addr count self.old.sleepers) }
     {
         let woken = woken_at(self.sleepers.as_slice(), addr, count);
@@ -217,8 +217,8 @@ impl Queue {
 
     /// A thread with the next number comes alive, unless each number has one.
     fn spawn(&mut self, arg: u32) -> u32
-        ensures after { self.new ≡ (if nat_lt (next_id self.old) (length self.old.due) then starts arg self.old else self.old) }
-        ensures id { result ≡ (if nat_lt (next_id self.old) (length self.old.due) then next_id self.old else NO_THREAD) }
+        ensures after { self.new ≡ spawned arg self.old }
+        ensures id { result ≡ id_of_spawned self.old NO_THREAD }
     {
         let id = self.args.len() as u32 + 1;
         if id >= self.due.len() as u32 {

@@ -6,3 +6,4 @@ pub mod Beginning
 pub mod Surviving
 pub mod Locks
 pub mod Standing
+pub mod Seats

@@ -17,7 +17,7 @@ use Rattle.shared_memory.specs.Memory.{Memory, loaded, reply_of, reply_to_questi
 use Rattle.shared_memory.specs.WaitQueue.{WaitQueue, first_queue, answer_due, ends_at_once, after_answer, IsFree}
 use Rattle.shared_memory.specs.History.{entry, entries_of, of_queue, memory_after, queue_step, queue_after}
 use Rattle.shared_memory.specs.Legal.{IsMemoryLegal, IsAllowed, IsQueueLegal, MayEnter}
-use Rattle.shared_memory.specs.Access.{HasRoom, Gains, Answers, Accesses, IsFull}
+use Rattle.shared_memory.specs.Access.{HasRoom, Gains, Answers, Accesses, IsFull, lost_after}
 use Rattle.shared_memory.specs.Sound.{IsSound}
 use Rattle.shared_memory.proofs.Histories.{entries_of-append, entries_of-own, of_queue-quiet, same_queue}
 use Rattle.shared_memory.proofs.Histories.{same_queue_legal, queue_after-entry, IsQueueLegal-entry, IsMemoryLegal-rest}
@@ -174,6 +174,15 @@ module _ (loses : Bool) (opening : Memory) (limit : Option ℕ) (q : WaitQueue) 
   told_enters =
       answers_enters opening limit q n right (Told answer) Done before after refl has beside due
       (told_done loses opening limit q n right answer reply before after has beside due a)
+
+-- an answer is no try that can be lost
+pub told_loses : (loses : Bool) (opening : Memory) (limit : Option ℕ) (n : ℕ) (right : Bool) (answer : Answer) (reply : Reply)
+    (before after : List Entry) (lost : ℕ) → Accesses loses opening limit n right (Told answer) before after reply → lost_after reply lost ≡ lost
+told_loses loses opening limit n right answer (Value v) before after lost a = refl
+told_loses loses opening limit n right answer Done before after lost a = refl
+told_loses loses opening limit n right answer OutOfBounds before after lost a = refl
+told_loses loses opening limit n right answer Again before after lost a = let bad : false ≡ true = a.kind in absurd (cc bad)
+told_loses loses opening limit n right answer Full before after lost a = refl
 
 -- a question out of bounds
 pub puts_outside : (opening : Memory) (limit : Option ℕ) (q : WaitQueue) (n : ℕ) (question : Question)

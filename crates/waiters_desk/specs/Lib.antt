@@ -1,3 +1,4 @@
 pub mod Calls
 pub mod Locks
 pub mod Freedom
+pub mod Seats

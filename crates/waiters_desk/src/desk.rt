@@ -7,8 +7,11 @@ ghost use Rattle.shared_memory.specs.Events.{IsQuestion, is_exempt};
 ghost use Rattle.shared_memory.specs.WaitQueue.{IsFree};
 ghost use Rattle.shared_memory.specs.History.{entries_of, of_queue, queue_after};
 ghost use Rattle.shared_memory.specs.Legal.{IsQueueLegal};
-ghost use Rattle.waiters_desk.specs.Calls.{BeginsOrNever, Collects, IsWaiting, Leaves, Notifies, Puts, Refused, Spawns, Waits};
-ghost use Rattle.waiters_desk.specs.Locks.{NotifiesBehind, WaitReads, WaitsReadWhatNotifiersSaw};
+ghost use Rattle.shared_memory.specs.Seats.{SeatStays};
+ghost use Rattle.waiters_desk.specs.Calls.{IsWaiting};
+ghost use Rattle.waiters_desk.specs.Locks.{WaitsReadWhatNotifiersSaw};
+ghost use Rattle.waiters_desk.specs.Seats.{SeatBegins, SeatCollects, SeatLeaves, SeatNotifies, SeatNotifiesBehind, SeatPuts};
+ghost use Rattle.waiters_desk.specs.Seats.{SeatReads, SeatRefused, SeatSpawns, SeatWaits};
 
 use crate::answers::{Asked, Full, Notified};
 use crate::locked::Locked;
@@ -74,11 +77,9 @@ impl<M: SharedMemory, W: Wait + Drop> Desk<M, W> {
     pub fn ask(&self, memory: &M, seat: &mut M::Seat, question: Question) -> Result<Asked, Full>
         requires question { IsQuestion question }
         requires free { IsFree (queue_after (M.seen seat.old)) (M.name seat.old) }
-        ensures name { M.name seat.new ≡ M.name seat.old }
-        ensures right { M.has_queue_right seat.new ≡ M.has_queue_right seat.old }
-        ensures tries { M.lost seat.new ≡ M.lost seat.old }
-        ensures asked { IfOk result (Puts M.opening (M.limit memory.now) (M.name seat.old) question (M.seen seat.old) (M.seen seat.new)) }
-        ensures full { OnErr result (Refused M.opening (M.limit memory.now) (M.name seat.old) (M.seen seat.old) (M.seen seat.new)) }
+        ensures stays { SeatStays M.SharedMemory seat.old seat.new }
+        ensures asked { IfOk result (SeatPuts M.SharedMemory memory.now seat.old seat.new question) }
+        ensures full { OnErr result (SeatRefused M.SharedMemory memory.now seat.old seat.new) }
         ensures exempt { OnErr result (is_exempt (Ask question) ≡ false) }
         ensures reads { WaitsReadWhatNotifiersSaw M.opening (M.seen seat.new) }
     {
@@ -103,14 +104,10 @@ impl<M: SharedMemory, W: Wait + Drop> Desk<M, W> {
     ) -> Result<Asked, Full>
         requires question { IsQuestion (Wait addr width expected timeout) }
         requires free { IsFree (queue_after (M.seen seat.old)) (M.name seat.old) }
-        ensures name { M.name seat.new ≡ M.name seat.old }
-        ensures right { M.has_queue_right seat.new ≡ M.has_queue_right seat.old }
-        ensures tries { M.lost seat.new ≡ M.lost seat.old }
-        ensures asked { IfOk result (Waits M.opening (M.limit memory.now) (M.name seat.old) addr width expected timeout
-            (M.seen seat.old) (M.seen seat.new)) }
-        ensures full { OnErr result (Refused M.opening (M.limit memory.now) (M.name seat.old) (M.seen seat.old) (M.seen seat.new)) }
-        ensures reads { IfOk result (WaitReads M.opening (M.name seat.old) addr width expected timeout
-            (M.seen seat.old) (M.seen seat.new)) }
+        ensures stays { SeatStays M.SharedMemory seat.old seat.new }
+        ensures asked { IfOk result (SeatWaits M.SharedMemory memory.now seat.old seat.new addr width expected timeout) }
+        ensures full { OnErr result (SeatRefused M.SharedMemory memory.now seat.old seat.new) }
+        ensures reads { IfOk result (SeatReads M.SharedMemory seat.old seat.new addr width expected timeout) }
         ensures others { WaitsReadWhatNotifiersSaw M.opening (M.seen seat.new) }
     {
         let question = Question::Wait {
@@ -126,10 +123,8 @@ impl<M: SharedMemory, W: Wait + Drop> Desk<M, W> {
     /// ended, and for good where nobody is left who could wake it.
     pub fn collect(&self, memory: &M, seat: &mut M::Seat) -> Answer
         requires waiting { IsWaiting (queue_after (M.seen seat.old)) (M.name seat.old) }
-        ensures name { M.name seat.new ≡ M.name seat.old }
-        ensures right { M.has_queue_right seat.new ≡ M.has_queue_right seat.old }
-        ensures tries { M.lost seat.new ≡ M.lost seat.old }
-        ensures collected { Collects M.opening (M.name seat.old) result (M.seen seat.old) (M.seen seat.new) }
+        ensures stays { SeatStays M.SharedMemory seat.old seat.new }
+        ensures collected { SeatCollects M.SharedMemory seat.old seat.new result }
     {
         let name = memory.name(seat);
         let mut locked = self.changed.wait_while(
@@ -154,13 +149,10 @@ impl<M: SharedMemory, W: Wait + Drop> Desk<M, W> {
     ) -> Result<Notified, Full>
         requires address { addr % 4 ≡ 0 }
         requires free { IsFree (queue_after (M.seen seat.old)) (M.name seat.old) }
-        ensures name { M.name seat.new ≡ M.name seat.old }
-        ensures right { M.has_queue_right seat.new ≡ M.has_queue_right seat.old }
-        ensures tries { M.lost seat.new ≡ M.lost seat.old }
-        ensures notified { IfOk result (Notifies M.opening (M.limit memory.now) (M.name seat.old) addr count
-            (M.seen seat.old) (M.seen seat.new)) }
-        ensures full { OnErr result (Refused M.opening (M.limit memory.now) (M.name seat.old) (M.seen seat.old) (M.seen seat.new)) }
-        ensures reads { OnOk result (NotifiesBehind M.opening (M.name seat.old) addr count (M.seen seat.old) (M.seen seat.new)) }
+        ensures stays { SeatStays M.SharedMemory seat.old seat.new }
+        ensures notified { IfOk result (SeatNotifies M.SharedMemory memory.now seat.old seat.new addr count) }
+        ensures full { OnErr result (SeatRefused M.SharedMemory memory.now seat.old seat.new) }
+        ensures reads { OnOk result (SeatNotifiesBehind M.SharedMemory seat.old seat.new addr count) }
         ensures others { WaitsReadWhatNotifiersSaw M.opening (M.seen seat.new) }
     {
         match self.ask(memory, seat, Question::Notify { addr, count })? {
@@ -173,11 +165,9 @@ impl<M: SharedMemory, W: Wait + Drop> Desk<M, W> {
     /// Spawns a thread with this argument, and answers its id, 1 to 63, or 4294967295 where none is left.
     pub fn spawn(&self, memory: &M, seat: &mut M::Seat, arg: u32) -> Result<u32, Full>
         requires free { IsFree (queue_after (M.seen seat.old)) (M.name seat.old) }
-        ensures name { M.name seat.new ≡ M.name seat.old }
-        ensures right { M.has_queue_right seat.new ≡ M.has_queue_right seat.old }
-        ensures tries { M.lost seat.new ≡ M.lost seat.old }
-        ensures spawned { IfOk result (Spawns M.opening (M.limit memory.now) (M.name seat.old) arg (M.seen seat.old) (M.seen seat.new)) }
-        ensures full { OnErr result (Refused M.opening (M.limit memory.now) (M.name seat.old) (M.seen seat.old) (M.seen seat.new)) }
+        ensures stays { SeatStays M.SharedMemory seat.old seat.new }
+        ensures spawned { IfOk result (SeatSpawns M.SharedMemory memory.now seat.old seat.new arg) }
+        ensures full { OnErr result (SeatRefused M.SharedMemory memory.now seat.old seat.new) }
     {
         match self.ask(memory, seat, Question::Spawn { arg })? {
             Asked::Told(id) => Ok(id),
@@ -189,10 +179,8 @@ impl<M: SharedMemory, W: Wait + Drop> Desk<M, W> {
     /// more who could spawn it. The seat has entered nothing, and enters nothing here.
     pub fn begin(&self, memory: &M, seat: &mut M::Seat) -> Option<u32>
         requires new { entries_of (M.name seat.old) (M.seen seat.old) ≡ [] }
-        ensures name { M.name seat.new ≡ M.name seat.old }
-        ensures right { M.has_queue_right seat.new ≡ M.has_queue_right seat.old }
-        ensures tries { M.lost seat.new ≡ M.lost seat.old }
-        ensures begun { BeginsOrNever M.opening (M.name seat.old) (M.seen seat.old) (M.seen seat.new) result }
+        ensures stays { SeatStays M.SharedMemory seat.old seat.new }
+        ensures begun { SeatBegins M.SharedMemory seat.old seat.new result }
     {
         let name = memory.name(seat);
         let mut locked = self.changed.wait_while(
@@ -206,10 +194,8 @@ impl<M: SharedMemory, W: Wait + Drop> Desk<M, W> {
     /// Ends the caller's thread: it is alive no more.
     pub fn end(&self, memory: &M, seat: &mut M::Seat)
         requires free { IsFree (queue_after (M.seen seat.old)) (M.name seat.old) }
-        ensures name { M.name seat.new ≡ M.name seat.old }
-        ensures right { M.has_queue_right seat.new ≡ M.has_queue_right seat.old }
-        ensures tries { M.lost seat.new ≡ M.lost seat.old }
-        ensures left { Leaves M.opening (M.limit memory.now) (M.name seat.old) (M.seen seat.old) (M.seen seat.new) }
+        ensures stays { SeatStays M.SharedMemory seat.old seat.new }
+        ensures left { SeatLeaves M.SharedMemory memory.now seat.old seat.new }
     {
         match self.ask(memory, seat, Question::Leave) {
             Ok(Asked::Told(_)) => {}

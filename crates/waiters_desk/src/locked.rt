@@ -6,8 +6,10 @@ ghost use Rattle.shared_memory.specs.Events.{IsQuestion, is_exempt};
 ghost use Rattle.shared_memory.specs.WaitQueue.{IsFree, is_asleep};
 ghost use Rattle.shared_memory.specs.History.{entries_of, of_queue, queue_after};
 ghost use Rattle.shared_memory.specs.Legal.{IsQueueLegal};
+ghost use Rattle.shared_memory.specs.Seats.{SeatStays};
 ghost use Rattle.shared_memory.proofs.Props.{IsQueueLegal-prop};
-ghost use Rattle.waiters_desk.specs.Calls.{BeginsOrNever, Collects, IsToCome, IsWaiting, MayBegin, Puts, Refused};
+ghost use Rattle.waiters_desk.specs.Calls.{IsToCome, IsWaiting, MayBegin};
+ghost use Rattle.waiters_desk.specs.Seats.{SeatBegins, SeatCollects, SeatPuts, SeatRefused};
 ghost use Rattle.waiters_desk.specs.Locks.{WaitsReadWhatNotifiersSaw};
 
 use crate::answers::{Asked, Full};
@@ -81,11 +83,9 @@ impl<M: SharedMemory> Locked<M> {
     ) -> Result<Asked, Full>
         requires question { IsQuestion question }
         requires free { IsFree (queue_after (M.seen seat.old)) (M.name seat.old) }
-        ensures name { M.name seat.new ≡ M.name seat.old }
-        ensures right { M.has_queue_right seat.new ≡ M.has_queue_right seat.old }
-        ensures tries { M.lost seat.new ≡ M.lost seat.old }
-        ensures asked { IfOk result (Puts M.opening (M.limit memory.now) (M.name seat.old) question (M.seen seat.old) (M.seen seat.new)) }
-        ensures full { OnErr result (Refused M.opening (M.limit memory.now) (M.name seat.old) (M.seen seat.old) (M.seen seat.new)) }
+        ensures stays { SeatStays M.SharedMemory seat.old seat.new }
+        ensures asked { IfOk result (SeatPuts M.SharedMemory memory.now seat.old seat.new question) }
+        ensures full { OnErr result (SeatRefused M.SharedMemory memory.now seat.old seat.new) }
         ensures unchanged { OnErr result (self.new.queue ≡ self.old.queue) }
         ensures exempt { OnErr result (is_exempt (Ask question) ≡ false) }
         ensures reads { WaitsReadWhatNotifiersSaw M.opening (M.seen seat.new) }
@@ -100,10 +100,8 @@ impl<M: SharedMemory> Locked<M> {
     pub(crate) fn collect(&mut self, memory: &M, seat: &mut M::Seat) -> Answer
         requires waiting { IsWaiting (queue_after (M.seen seat.old)) (M.name seat.old) }
         requires awake { is_asleep self.old.queue (M.name seat.old) ≡ false }
-        ensures name { M.name seat.new ≡ M.name seat.old }
-        ensures right { M.has_queue_right seat.new ≡ M.has_queue_right seat.old }
-        ensures tries { M.lost seat.new ≡ M.lost seat.old }
-        ensures collected { Collects M.opening (M.name seat.old) result (M.seen seat.old) (M.seen seat.new) }
+        ensures stays { SeatStays M.SharedMemory seat.old seat.new }
+        ensures collected { SeatCollects M.SharedMemory seat.old seat.new result }
     {
         memory.meet(seat, &mut self.seat);
         let answer = hear(memory, seat, &mut self.queue);
@@ -115,10 +113,8 @@ impl<M: SharedMemory> Locked<M> {
     pub(crate) fn begin(&mut self, memory: &M, seat: &mut M::Seat) -> Option<u32>
         requires new { entries_of (M.name seat.old) (M.seen seat.old) ≡ [] }
         requires known { MayBegin self.old.queue (M.name seat.old) }
-        ensures name { M.name seat.new ≡ M.name seat.old }
-        ensures right { M.has_queue_right seat.new ≡ M.has_queue_right seat.old }
-        ensures tries { M.lost seat.new ≡ M.lost seat.old }
-        ensures begun { BeginsOrNever M.opening (M.name seat.old) (M.seen seat.old) (M.seen seat.new) result }
+        ensures stays { SeatStays M.SharedMemory seat.old seat.new }
+        ensures begun { SeatBegins M.SharedMemory seat.old seat.new result }
     {
         memory.meet(seat, &mut self.seat);
         memory.meet(seat, &mut self.seat);

@@ -1,11 +1,11 @@
 //! What a caller does at the desk while its seat has the queue right: it enters its question or answer, and puts it to
 //! the wait queue.
-ghost use Rattle.std.specs.Prelude.{◌≡◌, ◌≢◌, [], ◌∷◌, true, false, Some, None, IfOk, IfSome, OnErr};
+ghost use Rattle.std.specs.Prelude.{◌≡◌, ◌≢◌, false, Some, None, IfOk, OnErr};
 ghost use Rattle.types.specs.declared.event.Event.TheVariants.{Ask};
 ghost use Rattle.shared_memory.specs.Events.{IsQuestion, is_exempt};
 ghost use Rattle.shared_memory.specs.WaitQueue.{IsFree, after_answer, answer_due};
-ghost use Rattle.waiters_desk.specs.Calls.{Asks, EntersAtDesk, IsBeside, Puts, Refused, loaded_of, step_of, taken};
-ghost use Rattle.waiters.specs.Queue.{falls_asleep};
+ghost use Rattle.shared_memory.specs.Seats.{SeatStays};
+ghost use Rattle.waiters_desk.specs.Seats.{HasTurn, IsAsleepAfter, MakesStep, SeatAsks, SeatHears, SeatPuts, SeatRefused};
 
 use crate::answers::{Asked, Full};
 use shared_memory::SharedMemory;
@@ -28,19 +28,15 @@ fn ask<M: SharedMemory>(
     queue: &mut Queue,
     question: Question,
 ) -> Result<Option<Entered>, Full>
-    requires right { M.has_queue_right seat.old ≡ true }
+    requires turn { HasTurn M.SharedMemory queue.old seat.old }
     requires question { IsQuestion question }
-    requires beside { IsBeside queue.old (M.seen seat.old) }
     requires free { IsFree queue.old (M.name seat.old) }
-    ensures name { M.name seat.new ≡ M.name seat.old }
-    ensures right { M.has_queue_right seat.new ≡ true }
-    ensures tries { M.lost seat.new ≡ M.lost seat.old }
-    ensures beside { IsBeside queue.new (M.seen seat.new) }
-    ensures step { IfOk result (λ entered. queue.new ≡ step_of question (loaded_of entered) (M.name seat.old) queue.old) }
-    ensures asleep { IfOk result (λ entered. IfSome entered (λ e. e.asleep ≡ falls_asleep question e.loaded)) }
-    ensures asked { IfOk result (λ entered. Asks M.opening (M.limit memory.now) (M.name seat.old) question (loaded_of entered)
-        (M.seen seat.old) (M.seen seat.new)) }
-    ensures full { OnErr result (Refused M.opening (M.limit memory.now) (M.name seat.old) (M.seen seat.old) (M.seen seat.new)) }
+    ensures stays { SeatStays M.SharedMemory seat.old seat.new }
+    ensures turn { HasTurn M.SharedMemory queue.new seat.new }
+    ensures step { IfOk result (MakesStep question (M.name seat.old) queue.old queue.new) }
+    ensures asleep { IfOk result (IsAsleepAfter question) }
+    ensures asked { IfOk result (SeatAsks M.SharedMemory memory.now seat.old seat.new question) }
+    ensures full { OnErr result (SeatRefused M.SharedMemory memory.now seat.old seat.new) }
     ensures unchanged { OnErr result (queue.new ≡ queue.old) }
     ensures exempt { OnErr result (is_exempt (Ask question) ≡ false) }
 {
@@ -62,16 +58,13 @@ fn ask<M: SharedMemory>(
 
 /// Takes the answer that is due, and enters it. Like `put`, it serves a desk under any lock.
 pub fn hear<M: SharedMemory>(memory: &M, seat: &mut M::Seat, queue: &mut Queue) -> Answer
-    requires right { M.has_queue_right seat.old ≡ true }
-    requires beside { IsBeside queue.old (M.seen seat.old) }
+    requires turn { HasTurn M.SharedMemory queue.old seat.old }
     requires due { answer_due queue.old (M.name seat.old) ≢ None }
-    ensures name { M.name seat.new ≡ M.name seat.old }
-    ensures right { M.has_queue_right seat.new ≡ true }
-    ensures tries { M.lost seat.new ≡ M.lost seat.old }
-    ensures beside { IsBeside queue.new (M.seen seat.new) }
+    ensures stays { SeatStays M.SharedMemory seat.old seat.new }
+    ensures turn { HasTurn M.SharedMemory queue.new seat.new }
     ensures due { answer_due queue.old (M.name seat.old) ≡ Some result }
     ensures after { queue.new ≡ after_answer queue.old (M.name seat.old) }
-    ensures heard { EntersAtDesk M.opening (M.name seat.old) (taken (M.name seat.old) result ∷ []) (M.seen seat.old) (M.seen seat.new) }
+    ensures heard { SeatHears M.SharedMemory seat.old seat.new result }
 {
     let name = memory.name(seat);
     let Some(answer) = queue.told(name) else {
@@ -92,16 +85,13 @@ pub fn put<M: SharedMemory>(
     queue: &mut Queue,
     question: Question,
 ) -> Result<Asked, Full>
-    requires right { M.has_queue_right seat.old ≡ true }
+    requires turn { HasTurn M.SharedMemory queue.old seat.old }
     requires question { IsQuestion question }
-    requires beside { IsBeside queue.old (M.seen seat.old) }
     requires free { IsFree queue.old (M.name seat.old) }
-    ensures name { M.name seat.new ≡ M.name seat.old }
-    ensures right { M.has_queue_right seat.new ≡ true }
-    ensures tries { M.lost seat.new ≡ M.lost seat.old }
-    ensures beside { IsBeside queue.new (M.seen seat.new) }
-    ensures asked { IfOk result (Puts M.opening (M.limit memory.now) (M.name seat.old) question (M.seen seat.old) (M.seen seat.new)) }
-    ensures full { OnErr result (Refused M.opening (M.limit memory.now) (M.name seat.old) (M.seen seat.old) (M.seen seat.new)) }
+    ensures stays { SeatStays M.SharedMemory seat.old seat.new }
+    ensures turn { HasTurn M.SharedMemory queue.new seat.new }
+    ensures asked { IfOk result (SeatPuts M.SharedMemory memory.now seat.old seat.new question) }
+    ensures full { OnErr result (SeatRefused M.SharedMemory memory.now seat.old seat.new) }
     ensures unchanged { OnErr result (queue.new ≡ queue.old) }
     ensures exempt { OnErr result (is_exempt (Ask question) ≡ false) }
 {

@@ -17,6 +17,7 @@ use Rattle.shared_memory.specs.Access.{Gains, IsSeen, Answers, Changes, WasThere
 use Rattle.shared_memory.proofs.Histories.{memory_after-append, AreEntries-prefix}
 use Rattle.shared_memory_on_table.specs.declared.view.Caller.{Caller}
 use Rattle.shared_memory_on_table.specs.Callers.{GoesOn, seeing, losing_if}
+use Rattle.shared_memory_on_table.specs.Rule.{MakesTry}
 use Rattle.shared_memory_on_table.proofs.GoingOn.{none_of}
 use Rattle.word_row.specs.Words.{words_of, IsStored}
 use Rattle.word_row.specs.Answers.{end_of, place_of, size_answer, Makes, made_reply, exchange_answer}
@@ -104,7 +105,7 @@ accesses-later opening n right event before xs middle after reply g = by_reply r
     by_reply Full a = elim a.reached [ ]
 
 -- A step that settles the reply answers.
-pub answered : (opening : Memory) (loses : Bool) (event : Event) (answer : Option Reply) (place found : ℕ) (c w : Caller)
+answered : (opening : Memory) (loses : Bool) (event : Event) (answer : Option Reply) (place found : ℕ) (c w : Caller)
     (reply : Reply) → Steps opening loses event answer place c found w → answer ≡ Some reply
     → IsAnswer answer
     → Accesses true opening None c.name c.has_queue_right event c.seen w.seen reply
@@ -126,7 +127,7 @@ answered opening loses event answer place found c w reply s is kind = by_reply r
     by_reply Full k a = elim k [ ]
 
 -- It loses no try.
-pub answered_tries : (opening : Memory) (loses : Bool) (event : Event) (answer : Option Reply) (place found : ℕ) (c w : Caller)
+answered_tries : (opening : Memory) (loses : Bool) (event : Event) (answer : Option Reply) (place found : ℕ) (c w : Caller)
     (reply : Reply) → Steps opening loses event answer place c found w → answer ≡ Some reply
     → IsAnswer answer
     → w.lost ≡ lost_after reply c.lost
@@ -140,6 +141,19 @@ answered_tries opening loses event answer place found c w reply s is kind =
     by_reply OutOfBounds k same = same
     by_reply Again k same = elim k [ ]
     by_reply Full k same = elim k [ ]
+
+-- So it is a try that was made.
+pub answered_try : (opening : Memory) (loses : Bool) (event : Event) (answer : Option Reply) (place found : ℕ) (c w : Caller)
+    (reply : Reply) → Steps opening loses event answer place c found w → answer ≡ Some reply
+    → IsAnswer answer
+    → MakesTry true opening None event reply c w
+answered_try opening loses event answer place found c w reply s is kind = record {
+  name_is = ap (λ (x : Caller). x.name) s.list ∙ ap (λ (a : Option Reply). (caller_after loses event a s.log c).name) is;
+  right_is = ap (λ (x : Caller). x.has_queue_right) s.list
+      ∙ ap (λ (a : Option Reply). (caller_after loses event a s.log c).has_queue_right) is;
+  outcome = answered opening loses event answer place found c w reply s is kind;
+  lost_is = answered_tries opening loses event answer place found c w reply s is kind;
+}
 
 -- A step that settles nothing shows the history, and what follows is a try from before it.
 pub record Shows (opening : Memory) (loses : Bool) (place : ℕ) (c : Caller) (found : ℕ) (w : Caller) : Type 0 where
@@ -160,7 +174,7 @@ shows opening loses event answer place found c w s is =
       word = subst (λ (l : L). get_or (words_of (memory_after opening l)) place 0 ≡ found) log s.word;
     }
 
-pub accesses-after : (opening : Memory) (event : Event) (place found : ℕ) (c w : Caller) (after : L) (reply : Reply) → Shows opening false place c found w
+accesses-after : (opening : Memory) (event : Event) (place found : ℕ) (c w : Caller) (after : L) (reply : Reply) → Shows opening false place c found w
     → Accesses true opening None w.name w.has_queue_right event w.seen after reply
     → Accesses true opening None c.name c.has_queue_right event c.seen after reply
 accesses-after opening event place found c w after reply s a =
@@ -171,9 +185,19 @@ accesses-after opening event place found c w after reply s a =
     (subst (λ (n : ℕ). Accesses true opening None n w.has_queue_right event w.seen after reply) name a))
 
 -- So are the tries that it loses.
-pub tries-after : (opening : Memory) (place found : ℕ) (c w : Caller) (lost : ℕ) (reply : Reply) → Shows opening false place c found w
+tries-after : (opening : Memory) (place found : ℕ) (c w : Caller) (lost : ℕ) (reply : Reply) → Shows opening false place c found w
     → lost ≡ lost_after reply w.lost → lost ≡ lost_after reply c.lost
 tries-after opening place found c w lost reply s is = is ∙ ap (λ (x : Caller). lost_after reply x.lost) s.same
+
+pub try-after : (opening : Memory) (event : Event) (place found : ℕ) (c w after : Caller) (reply : Reply) → Shows opening false place c found w
+    → MakesTry true opening None event reply w after
+    → MakesTry true opening None event reply c after
+try-after opening event place found c w after reply s t = record {
+  name_is = t.name_is ∙ ap (λ (x : Caller). x.name) s.same;
+  right_is = t.right_is ∙ ap (λ (x : Caller). x.has_queue_right) s.same;
+  outcome = accesses-after opening event place found c w after.seen reply s t.outcome;
+  lost_is = tries-after opening place found c w after.lost reply s t.lost_is;
+}
 
 -- What an event touches is another where it spells another number, so some entry changed it.
 changed : (m : Memory) (event : Event) (others : L) → le_number (touched (memory_after m others) event) ≢ le_number (touched m event) → Changes m event others
@@ -193,14 +217,14 @@ changed m event (e ∷ others) ne = dite (ℕ_discrete (le_number (touched (stat
 not_made : (event : Event) (old found : ℕ) → found ≢ old → exchange_answer event old found ≡ None
 not_made event old found miss = ap (λ (b : Bool). cond b (Some (made_reply event old)) None) (ne_eqb found old miss)
 
-pub lost_tries : (opening : Memory) (event : Event) (old found : ℕ) (c w : Caller)
+lost_tries : (opening : Memory) (event : Event) (old found : ℕ) (c w : Caller)
     → Steps opening true event (exchange_answer event old found) (place_of event) c found w → found ≢ old → w.lost ≡ suc c.lost
 lost_tries opening event old found c w s miss =
     ap (λ (x : Caller). x.lost)
     (shows opening true event (exchange_answer event old found) (place_of event) found c w s (not_made event old found miss)).same
 
 -- A try that found another word than the one that the list seen leaves was lost.
-pub lost : (opening : Memory) (event : Event) (old found new : ℕ) (c w : Caller) → IsStored opening → IsEvent event
+lost : (opening : Memory) (event : Event) (old found new : ℕ) (c w : Caller) → IsStored opening → IsEvent event
     → end_of event ≤ length (memory_after opening c.seen).bytes → Makes opening.max event old new
     → get_or (words_of (memory_after opening c.seen)) (place_of event) 0 ≡ old
     → Steps opening true event (exchange_answer event old found) (place_of event) c found w → found ≢ old
@@ -246,6 +270,20 @@ lost opening event old found new c w stored is within makes word s miss =
     }
     by_event others entries (Ask question) is within makes word = tt
     by_event others entries (Told answer) is within makes word = tt
+
+pub lost_try : (opening : Memory) (event : Event) (old found new : ℕ) (c w : Caller) → IsStored opening → IsEvent event
+    → end_of event ≤ length (memory_after opening c.seen).bytes → Makes opening.max event old new
+    → get_or (words_of (memory_after opening c.seen)) (place_of event) 0 ≡ old
+    → Steps opening true event (exchange_answer event old found) (place_of event) c found w → found ≢ old
+    → MakesTry true opening None event Again c w
+lost_try opening event old found new c w stored is within makes word s miss =
+    let same = (shows opening true event (exchange_answer event old found) (place_of event) found c w s (not_made event old found miss)).same in
+    record {
+      name_is = ap (λ (x : Caller). x.name) same;
+      right_is = ap (λ (x : Caller). x.has_queue_right) same;
+      outcome = lost opening event old found new c w stored is within makes word s miss;
+      lost_is = lost_tries opening event old found c w s miss;
+    }
 
 -- The place of an access within the memory seen is one of the row's.
 pub place_in : (opening : Memory) (seen : L) (event : Event) → IsStored opening → AreEntries seen → IsEvent event

@@ -1,7 +1,8 @@
 -- The rule of the row of words, and what its steps tell.
-use Rattle.std.specs.Prelude.{ℕ, ◌≡◌, ◌+◌, ◌*◌, ◌≤◌, Bool, true, false, List, [], ◌∷◌, ◌++◌, Option, Some, None, slice_index}
+use Rattle.std.specs.Prelude.{ℕ, ◌≡◌, ◌+◌, ◌*◌, ◌<◌, ◌≤◌, Bool, true, false, List, [], ◌∷◌, ◌++◌, All, length, Option, Some, None, slice_index}
 use Rattle.atomic_table.specs.Table.{State, Me}
 use Rattle.atomic_table.specs.Seated.{TableId}
+use Rattle.atomic_table.specs.declared.shared.Seat.{Seat}
 use Rattle.types.specs.declared.event.Entry.{Entry}
 use Rattle.types.specs.declared.event.Event.{Event}
 use Rattle.types.specs.declared.event.Event.TheVariants.{Size}
@@ -13,11 +14,11 @@ use Rattle.shared_memory.specs.History.{entry, memory_after}
 use Rattle.shared_memory.specs.Access.{IsSeen}
 use Rattle.shared_memory_on_table.specs.declared.view.Caller.{Caller}
 use Rattle.shared_memory_on_table.specs.declared.view.View.{View}
-use Rattle.shared_memory_on_table.specs.Callers.{GoesOn, seeing, losing_if}
+use Rattle.shared_memory_on_table.specs.Callers.{AllGoOn, GoesOn, seeing, losing_if}
 use Rattle.shared_memory_on_table.specs.Moves.{IsOne, caller_in, nobody}
 use Rattle.shared_memory_on_table.specs.Rule.{Kept}
 use Rattle.word_row.specs.Words.{words_of, IsStored}
-use Rattle.word_row.specs.Answers.{size_answer, word_answer, made_reply, exchange_answer}
+use Rattle.word_row.specs.Answers.{end_of, place_of, size_answer, word_answer, made_reply, exchange_answer}
 
 -- The words are those of the memory after the history, which is legal for it from its opening on.
 pub record Stores (opening : Memory) (log : List Entry) (words : List ℕ) : Type 0 where
@@ -37,6 +38,25 @@ pub record IsRow (table : TableId) (opening : Memory) (own : TableId) (held : Me
   pub slots : own.slots ≡ 0
   pub key : held ≡ opening
   pub stored : IsStored opening
+
+-- A seat of the row's table may step on one of its words.
+abbrev pub HasWord : Memory → Memory → TableId → TableId → ℕ → Type 0
+HasWord opening key table own word = (own ≡ table) × (word < table.words) × (key ≡ opening)
+
+-- An access ends within the memory after what the caller has seen, which leaves this word at a place.
+abbrev pub EndsWithin : Memory → Event → Caller → Type 0
+EndsWithin opening event c = end_of event ≤ length (memory_after opening c.seen).bytes
+
+abbrev pub LeavesWord : Memory → Caller → ℕ → ℕ → Type 0
+LeavesWord opening c place word = slice_index (words_of (memory_after opening c.seen)) place ≡ word
+
+-- A caller comes to a seat of the table, before those that stand there.
+abbrev pub TakesIn : TableId → Caller → Seat ℕ View → Seat ℕ View → Type 0
+TakesIn table c before after = (after.table_id ≡ table) × (after.me.0.callers ≡ c ∷ before.me.0.callers)
+
+-- All callers have come to a seat: a history that goes on from what is seen there goes on from the list of each.
+abbrev pub AllCome : {S : Type 0} → (S → Caller) → List S → Seat ℕ View → Type 0
+AllCome caller seats host = (log : List Entry) → AllGoOn host.me.0.callers log → All (λ s. GoesOn (caller s) log) seats
 
 -- What a caller may try: an event that meets its conditions, and one of the queue only with the queue right.
 pub record MayTry (c : Caller) (event : Event) : Type 0 where
@@ -59,6 +79,24 @@ pub record Steps (opening : Memory) (loses : Bool) (event : Event) (answer : Opt
   pub list : after ≡ caller_after loses event answer log before
   pub seen : IsSeen opening after.seen
   pub word : slice_index (words_of (memory_after opening log)) place ≡ found
+
+-- The steps of a caller: a load of the page count; a load of the event's word; a compare-exchange of that word, which was to be
+-- old, and which loses the try where it isn't made; and a single exchange of it, which is made whatever the word is.
+abbrev pub NotesPages : Memory → Event → Caller → ℕ → Caller → Type 0
+NotesPages opening event before found after =
+    Steps opening false event (size_answer opening.max event found) 0 before found after
+
+abbrev pub ReadsWord : Memory → Event → Caller → ℕ → Caller → Type 0
+ReadsWord opening event before found after =
+    Steps opening false event (word_answer event found) (place_of event) before found after
+
+abbrev pub ExchangesWord : Memory → Event → ℕ → Caller → ℕ → Caller → Type 0
+ExchangesWord opening event old before found after =
+    Steps opening true event (exchange_answer event old found) (place_of event) before found after
+
+abbrev pub FetchesWord : Memory → Event → Caller → ℕ → Caller → Type 0
+FetchesWord opening event before found after =
+    Steps opening false event (Some (made_reply event found)) (place_of event) before found after
 
 -- The same of the seat on which the caller stands alone.
 abbrev pub StepsAs : Memory → Bool → Event → Option Reply → ℕ → Me ℕ View → ℕ → Me ℕ View → Type 0

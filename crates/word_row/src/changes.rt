@@ -3,14 +3,12 @@ ghost use Rattle.std.specs.Prelude.{◌≡◌, ◌+◌, ◌*◌, ◌%◌, ◌^�
 ghost use Rattle.types.specs.declared.event.Event.TheVariants.{Rmw};
 ghost use Rattle.types.specs.Limits.{page_size, most_pages};
 ghost use Rattle.shared_memory.specs.Events.{IsEvent};
-ghost use Rattle.shared_memory_sequential.specs.Words.{lane_of, IsWithLane};
 ghost use Rattle.word_row.specs.Answers.{refusal, size_answer, is_access, end_of, place_of, after_single, IsMadeBy, is_single_rmw};
-ghost use Rattle.word_row.specs.Changes.{IsNext};
+ghost use Rattle.word_row.specs.Changes.{IsNext, ReplacesLane};
 
-use shared_memory_sequential::{lane, with_lane};
-use shared_memory_sequential::combine;
-use types::{Event, PAGE_SIZE, Question, Reply, RmwOp};
 use crate::Single;
+use shared_memory_sequential::{combine, lane, with_lane};
+use types::{Event, PAGE_SIZE, Question, Reply, RmwOp};
 
 /// The bytes of a page.
 const PAGE: u64 = PAGE_SIZE as u64;
@@ -112,7 +110,7 @@ fn replace(word: u64, addr: u64, width: u8, value: u64, reply: Reply) -> Next
     requires some { 1 ≤ width }
     requires one_word { addr % 8 + width ≤ 8 }
     requires fits { value < 2 ^ (8 * width) }
-    ensures { (new : ℕ) × (result ≡ Next.Exchange (record { new = new; reply = reply })) × IsWithLane word addr width value new }
+    ensures { ReplacesLane word addr width value reply result }
 {
     Next::Exchange(Change {
         new: with_lane(word, addr, width, value),

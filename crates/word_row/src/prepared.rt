@@ -4,12 +4,12 @@ ghost use Rattle.shared_memory.specs.Numbers.{le_number};
 ghost use Rattle.shared_memory_sequential.specs.Opening.{can_open, IsSized};
 ghost use Rattle.word_row.specs.Words.{words_of, IsStored};
 
+use crate::Board;
 use shared_memory_on_table::Place;
 use shared_memory_sequential::{OneMemory, OpenFault};
 use std::alloc::{AllocError, Global};
 use std::marker::Model;
 use types::{Event, Reply};
-use crate::Board;
 
 /// The words of a page: a page has 65,536 bytes, and a word eight.
 const PAGE_WORDS: usize = 8192;

@@ -1,16 +1,12 @@
 //! The row.
-ghost use Rattle.std.specs.Prelude.{◌≡◌, ◌≢◌, ◌<◌, ◌≤◌, ◌∷◌, true, None, IfOk, IsOkUnless, All, List, map, length, slice_index};
-ghost use Rattle.types.specs.declared.event.Entry.{Entry};
+ghost use Rattle.std.specs.Prelude.{◌≡◌, ◌≢◌, ◌<◌, ◌≤◌, true, None, IfOk, IsOkUnless, All, map};
 ghost use Rattle.types.specs.declared.event.Reply.TheVariants.{Again};
 ghost use Rattle.types.specs.Limits.{most_pages, seat_count};
 ghost use Rattle.shared_memory.specs.Events.{IsEvent, is_of_queue};
-ghost use Rattle.shared_memory.specs.History.{memory_after};
-ghost use Rattle.shared_memory.specs.Access.{lost_after};
-ghost use Rattle.shared_memory_on_table.specs.Callers.{GoesOn, AllGoOn, fresh_from};
-ghost use Rattle.shared_memory_on_table.specs.Rule.{AccessesIn, MeetsIn};
-ghost use Rattle.word_row.specs.Words.{words_of};
-ghost use Rattle.word_row.specs.Answers.{end_of, is_access, place_of, is_single};
-ghost use Rattle.word_row.specs.Rule.{IsRow};
+ghost use Rattle.shared_memory_on_table.specs.Callers.{GoesOn, fresh_from};
+ghost use Rattle.shared_memory_on_table.specs.Rule.{MakesTry, MeetsIn};
+ghost use Rattle.word_row.specs.Answers.{is_access, place_of, is_single};
+ghost use Rattle.word_row.specs.Rule.{AllCome, EndsWithin, IsRow, LeavesWord, TakesIn};
 ghost use Rattle.word_row.specs.Changes.{IsChange};
 ghost use Rattle.word_row.specs.Rows.{EndsAfter, HasPages};
 
@@ -18,21 +14,19 @@ use crate::changes::{Change, Next, by_size, by_word, is_within, single_of};
 use crate::closed::ClosedRow;
 use crate::prepared::Prepared;
 use crate::seat::{WordSeat, take_seats};
-use crate::tries;
+use crate::{Arrive, Board, Row, tries};
 use shared_memory::SharedMemory;
-use shared_memory_sequential::lane;
 use shared_memory_on_table::{Naming, Place, Standing, hand, meet};
-use shared_memory_sequential::OpenFault;
+use shared_memory_sequential::{OpenFault, lane};
 use std::alloc::Global;
 use std::marker::PhantomData;
 use types::{Event, Reply};
-use crate::{Arrive, Board, Row};
 
 // The caller of a seat goes to another, for good.
 fn give_up<B: Naming>(row: &Row, host: &mut Place, seat: Standing<B>)
     requires row { (row.now.table_id ≡ B.table) × (0 < row.now.table_id.words) }
     requires host { host.old.table_id ≡ B.table }
-    ensures host { (host.new.table_id ≡ B.table) × (host.new.me.0.callers ≡ seat ∷ host.old.me.0.callers) }
+    ensures host { TakesIn B.table seat host.old host.new }
 {
     let Standing {
         name: _,
@@ -47,7 +41,7 @@ fn gather<B: Naming>(row: &Row, host: &mut Place, seats: Vec<WordSeat<B>>)
     requires row { (row.now.table_id ≡ B.table) × (0 < row.now.table_id.words) }
     requires host { host.old.table_id ≡ B.table }
     ensures host { host.new.table_id ≡ B.table }
-    ensures all { (log : List Entry) → AllGoOn host.new.me.0.callers log → All (λ s. GoesOn s.caller log) seats.items }
+    ensures all { AllCome (λ s. s.caller) seats.items host.new }
 {
     for seat in seats {
         give_up(row, host, seat.caller);
@@ -105,10 +99,7 @@ impl<B: Naming> WordRow<B> {
     pub fn access(&self, seat: &mut WordSeat<B>, event: Event) -> Reply
         requires event { IsEvent event }
         requires right { is_of_queue event ≡ true → seat.old.caller.has_queue_right ≡ true }
-        ensures name { seat.new.caller.name ≡ seat.old.caller.name }
-        ensures right { seat.new.caller.has_queue_right ≡ seat.old.caller.has_queue_right }
-        ensures outcome { AccessesIn true B.opening None seat.old.caller event seat.new.caller.seen result }
-        ensures tries { seat.new.caller.lost ≡ lost_after result seat.old.caller.lost }
+        ensures tried { MakesTry true B.opening None event result seat.old.caller seat.new.caller }
         ensures single { is_single event ≡ true → result ≢ Again }
     {
         self.make(seat, event)
@@ -149,10 +140,7 @@ impl<B: Naming> WordRow<B> {
     fn make(&self, seat: &mut WordSeat<B>, event: Event) -> Reply
         requires event { IsEvent event }
         requires right { is_of_queue event ≡ true → seat.old.caller.has_queue_right ≡ true }
-        ensures name { seat.new.caller.name ≡ seat.old.caller.name }
-        ensures right { seat.new.caller.has_queue_right ≡ seat.old.caller.has_queue_right }
-        ensures outcome { AccessesIn true B.opening None seat.old.caller event seat.new.caller.seen result }
-        ensures tries { seat.new.caller.lost ≡ lost_after result seat.old.caller.lost }
+        ensures tried { MakesTry true B.opening None event result seat.old.caller seat.new.caller }
         ensures single { is_single event ≡ true → result ≢ Again }
     {
         if is_within(event, seat.pages) {
@@ -168,10 +156,7 @@ impl<B: Naming> WordRow<B> {
     fn note(&self, caller: &mut Standing<B>, event: Event) -> (u64, Reply)
         requires event { IsEvent event }
         requires right { is_of_queue event ≡ true → caller.old.has_queue_right ≡ true }
-        ensures name { caller.new.name ≡ caller.old.name }
-        ensures right { caller.new.has_queue_right ≡ caller.old.has_queue_right }
-        ensures outcome { AccessesIn true B.opening None caller.old event caller.new.seen result.1 }
-        ensures tries { caller.new.lost ≡ lost_after result.1 caller.old.lost }
+        ensures tried { MakesTry true B.opening None event result.1 caller.old caller.new }
         ensures single { is_single event ≡ true → result.1 ≢ Again }
         ensures few { result.0 ≤ most_pages }
         ensures counted { HasPages B.opening caller.new.seen result.0 }
@@ -197,11 +182,8 @@ impl<B: Naming> WordRow<B> {
         requires event { IsEvent event }
         requires right { is_of_queue event ≡ true → caller.old.has_queue_right ≡ true }
         requires access { is_access event ≡ true }
-        requires within { end_of event ≤ length (memory_after B.opening caller.old.seen).bytes }
-        ensures name { caller.new.name ≡ caller.old.name }
-        ensures right { caller.new.has_queue_right ≡ caller.old.has_queue_right }
-        ensures outcome { AccessesIn true B.opening None caller.old event caller.new.seen result }
-        ensures tries { caller.new.lost ≡ lost_after result caller.old.lost }
+        requires within { EndsWithin B.opening event caller.old }
+        ensures tried { MakesTry true B.opening None event result caller.old caller.new }
         ensures single { is_single event ≡ true → result ≢ Again }
     {
         match event {
@@ -231,11 +213,8 @@ impl<B: Naming> WordRow<B> {
         requires event { IsEvent event }
         requires right { is_of_queue event ≡ true → caller.old.has_queue_right ≡ true }
         requires access { is_access event ≡ true }
-        requires within { end_of event ≤ length (memory_after B.opening caller.old.seen).bytes }
-        ensures name { caller.new.name ≡ caller.old.name }
-        ensures right { caller.new.has_queue_right ≡ caller.old.has_queue_right }
-        ensures outcome { AccessesIn true B.opening None caller.old event caller.new.seen result }
-        ensures tries { caller.new.lost ≡ lost_after result caller.old.lost }
+        requires within { EndsWithin B.opening event caller.old }
+        ensures tried { MakesTry true B.opening None event result caller.old caller.new }
     {
         let word = tries::read(&self.board.shared, caller, event);
         match by_word(event, word) {
@@ -248,13 +227,10 @@ impl<B: Naming> WordRow<B> {
     #[inline(always)]
     fn exchange(&self, caller: &mut Standing<B>, event: Event, old: u64, change: Change) -> Reply
         requires event { IsEvent event }
-        requires within { end_of event ≤ length (memory_after B.opening caller.old.seen).bytes }
+        requires within { EndsWithin B.opening event caller.old }
         requires change { IsChange B.opening.max event old change }
-        requires word { slice_index (words_of (memory_after B.opening caller.old.seen)) (place_of event) ≡ old }
-        ensures name { caller.new.name ≡ caller.old.name }
-        ensures right { caller.new.has_queue_right ≡ caller.old.has_queue_right }
-        ensures outcome { AccessesIn true B.opening None caller.old event caller.new.seen result }
-        ensures tries { caller.new.lost ≡ lost_after result caller.old.lost }
+        requires word { LeavesWord B.opening caller.old (place_of event) old }
+        ensures tried { MakesTry true B.opening None event result caller.old caller.new }
     {
         let found = tries::exchange(&self.board.shared, caller, event, old, change.new);
         if found == old {

@@ -5,10 +5,10 @@ ghost use Rattle.shared_memory_on_table.specs.Callers.{fresh_from};
 ghost use Rattle.shared_memory_on_table.specs.Rule.{opened};
 ghost use Rattle.word_row.specs.Rows.{HasPages};
 
+use crate::{MemoryWords, Row};
 use shared_memory_on_table::{Naming, Place, Standing};
 use shared_memory_sequential::OneMemory;
 use std::alloc::{AllocError, Global};
-use crate::{MemoryWords, Row};
 
 /// A caller's place at a row. It is made with the row, and never twice.
 #[derive(Drop)]

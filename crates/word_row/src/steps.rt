@@ -1,18 +1,17 @@
 //! Steps of callers on their seats, each made of a single step on a word.
-ghost use Rattle.std.specs.Prelude.{◌≡◌, ◌<◌, ◌≤◌, true, length};
-ghost use Rattle.shared_memory.specs.History.{memory_after};
+ghost use Rattle.std.specs.Prelude.{◌≡◌, true};
 ghost use Rattle.shared_memory_on_table.specs.Moves.{IsOne, caller_in};
-ghost use Rattle.word_row.specs.Answers.{end_of, is_access, place_of, Makes, after_single, IsMadeBy};
-ghost use Rattle.word_row.specs.Rule.{MayTry, NotesAs, ReadsAs, ExchangesAs, FetchesAs, StoresAs};
+ghost use Rattle.word_row.specs.Answers.{is_access, place_of, Makes, after_single, IsMadeBy};
+ghost use Rattle.word_row.specs.Rule.{EndsWithin, HasWord, MayTry, NotesAs, ReadsAs, ExchangesAs, FetchesAs, StoresAs};
 
+use crate::{Exchange, Fetch, Making, Note, Read, Row, Single, Store};
 use shared_memory_on_table::{Naming, Place};
 use types::Event;
-use crate::{Exchange, Fetch, Making, Note, Read, Row, Single, Store};
 
 /// The size word is loaded: the caller's event is entered where the page count settles its reply.
 #[inline(always)]
 pub fn note<B: Naming, M: Making>(row: &Row, place: &mut Place, event: Event) -> u64
-    requires row { (place.old.table_id ≡ row.now.table_id) × (0 < row.now.table_id.words) × (row.now.key ≡ B.opening) }
+    requires row { HasWord B.opening row.now.key row.now.table_id place.old.table_id 0 }
     requires one { IsOne place.old.me }
     requires making { M.event ≡ event }
     requires may { MayTry (caller_in place.old.me.0) event }
@@ -25,13 +24,13 @@ pub fn note<B: Naming, M: Making>(row: &Row, place: &mut Place, event: Event) ->
 /// The word of an access within bounds is loaded: the caller's event is entered where the word settles its reply.
 #[inline(always)]
 pub fn read<B: Naming, M: Making>(row: &Row, place: &mut Place, word: usize, event: Event) -> u64
-    requires row { (place.old.table_id ≡ row.now.table_id) × (word < row.now.table_id.words) × (row.now.key ≡ B.opening) }
+    requires row { HasWord B.opening row.now.key row.now.table_id place.old.table_id word }
     requires one { IsOne place.old.me }
     requires making { M.event ≡ event }
     requires may { MayTry (caller_in place.old.me.0) event }
     requires word { place_of event ≡ word }
     requires access { is_access event ≡ true }
-    requires within { end_of event ≤ length (memory_after B.opening (caller_in place.old.me.0).seen).bytes }
+    requires within { EndsWithin B.opening event (caller_in place.old.me.0) }
     ensures place { place.new.table_id ≡ place.old.table_id }
     ensures steps { ReadsAs B.opening event (place_of event) place.old.me result place.new.me }
 {
@@ -48,13 +47,13 @@ pub fn exchange<B: Naming, M: Making>(
     new: u64,
     event: Event,
 ) -> u64
-    requires row { (place.old.table_id ≡ row.now.table_id) × (word < row.now.table_id.words) × (row.now.key ≡ B.opening) }
+    requires row { HasWord B.opening row.now.key row.now.table_id place.old.table_id word }
     requires one { IsOne place.old.me }
     requires making { M.event ≡ event }
     requires may { MayTry (caller_in place.old.me.0) event }
     requires word { place_of event ≡ word }
     requires makes { Makes B.opening.max event old new }
-    requires within { end_of event ≤ length (memory_after B.opening (caller_in place.old.me.0).seen).bytes }
+    requires within { EndsWithin B.opening event (caller_in place.old.me.0) }
     ensures place { place.new.table_id ≡ place.old.table_id }
     ensures steps { ExchangesAs B.opening event old (place_of event) place.old.me result place.new.me }
 {
@@ -70,13 +69,13 @@ pub fn store<B: Naming, M: Making>(
     new: u64,
     event: Event,
 )
-    requires row { (place.old.table_id ≡ row.now.table_id) × (word < row.now.table_id.words) × (row.now.key ≡ B.opening) }
+    requires row { HasWord B.opening row.now.key row.now.table_id place.old.table_id word }
     requires one { IsOne place.old.me }
     requires making { M.event ≡ event }
     requires may { MayTry (caller_in place.old.me.0) event }
     requires word { place_of event ≡ word }
     requires makes { IsMadeBy event (λ _. new) }
-    requires within { end_of event ≤ length (memory_after B.opening (caller_in place.old.me.0).seen).bytes }
+    requires within { EndsWithin B.opening event (caller_in place.old.me.0) }
     ensures place { place.new.table_id ≡ place.old.table_id }
     ensures steps { StoresAs B.opening event (place_of event) place.old.me place.new.me }
 {
@@ -92,13 +91,13 @@ pub fn fetch<B: Naming, M: Making>(
     single: Single,
     event: Event,
 ) -> u64
-    requires row { (place.old.table_id ≡ row.now.table_id) × (word < row.now.table_id.words) × (row.now.key ≡ B.opening) }
+    requires row { HasWord B.opening row.now.key row.now.table_id place.old.table_id word }
     requires one { IsOne place.old.me }
     requires making { M.event ≡ event }
     requires may { MayTry (caller_in place.old.me.0) event }
     requires word { place_of event ≡ word }
     requires makes { IsMadeBy event (after_single single) }
-    requires within { end_of event ≤ length (memory_after B.opening (caller_in place.old.me.0).seen).bytes }
+    requires within { EndsWithin B.opening event (caller_in place.old.me.0) }
     ensures place { place.new.table_id ≡ place.old.table_id }
     ensures steps { FetchesAs B.opening event (place_of event) place.old.me result place.new.me }
 {

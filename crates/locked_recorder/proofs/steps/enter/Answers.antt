@@ -7,10 +7,10 @@ use Rattle.locked_recorder.proofs.steps.enter.Goals as goal
 
 pub load-requires : goal.load-requires
 load-requires g c =
-    let desk = c.args.desk.now in
-    let may = subst (λ (e : Entry). MayMake (caller_in desk.me.0) e) (sym c.requires.entry) c.requires.may in (
+    let kept = c.args.keeper.now in
+    let may = subst (λ (e : Entry). MayMake (caller_in kept.me.0) e) (sym c.requires.entry) c.requires.may in (
       c.requires.own,
       c.requires.row,
-      enters c.args.row.now.table_id.slots desk.id desk.me desk.me.0.log
-          (caller_in desk.me.0) g.M.Making.entry c.requires.guest may,
+      enters c.args.row.now.table_id.slots kept.id kept.me kept.me.0.log
+          (caller_in kept.me.0) g.M.Making.entry c.requires.guest may,
     )

@@ -7,10 +7,10 @@ use Rattle.locked_recorder.proofs.steps.look.Goals as goal
 
 pub load-requires : goal.load-requires
 load-requires c =
-    let d = c.args.desk.now.me in
+    let d = c.args.keeper.now.me in
     let m = c.args.caller.now.me in (
       c.hand.ensures.to.0 ∙ c.requires.own.0,
       c.requires.row,
       learns c.args.row.now.table_id.slots c.hand.new.to.id c.hand.new.to.me d.0.log (caller_in m.0)
-          (ap (λ (x : Me ℕ View). x.0) c.hand.ensures.to.1 ∙ guest_on d m c.requires.desk c.requires.caller),
+          (ap (λ (x : Me ℕ View). x.0) c.hand.ensures.to.1 ∙ guest_on d m c.requires.keeper c.requires.caller),
     )

@@ -46,7 +46,7 @@ returns-clause-composed g c =
     let u = dealt g (goal.at.returns-clause-composed g c).After-deal-seat in
     composed_alone (over m c.args.memory.now) m.has_queue_right t.meaning c.args.first c.requires.here c.requires.alone
     c.args.seats.items c.deal-seat.result.first c.deal-seat.result.desk c.deal-seat.result.workers.items u c.requires.names
-    c.requires.new report end.result.seat end.ensures.seat.name_is (λ x stands here. (end.ensures.ran x stands here).out)
+    c.requires.new report end.result.seat end.ensures.same.name_is (λ x stands here. (end.ensures.ran x stands here).out)
     c.close-hub.result c.level_all.new.hub c.insert.new.self.items c.level_all.new.seats.items c.push_reserved-2.new.self.items c.in-Ok-insert.ensures.items
     c.push_reserved-2.ensures.items c.level_all.ensures.level c.close-hub.ensures.legal c.close-hub.ensures.name
     c.close-hub.ensures.silent c.push_reserved.new.self.items

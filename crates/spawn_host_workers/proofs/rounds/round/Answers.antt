@@ -8,7 +8,7 @@ loop-i-preserved g c =
     let m = c.meet_twice.ensures in
     let below : c.loop-i.i < length c.loop-i.seats = omega arith in
     round_more _ _ _ _ _ _ _ _ _ _ _ _ c.loop-i.invariant below
-    (ap (λ s. get_or c.loop-i.seats c.loop-i.i s) c.index-seats-i.is) m.names.0 m.names.1 m.rights.0 m.one m.longer
+    (ap (λ s. get_or c.loop-i.seats c.loop-i.i s) c.index-seats-i.is) m.a.name_is m.b.name_is m.a.right_is m.one m.longer
 
 pub loop-i-init : goal.loop-i-init
 loop-i-init g c = round_none _ _ _ _ _ _ c.requires

@@ -83,7 +83,7 @@ returns-in-Open-clause-attended g c t wanted =
     let after = watched m.seen m.lost c.collect-answer.new.seat in
     let answer = c.collect-answer.result in
     let did = c.in-Open.ensures.served in
-    let collected = rw (c.serve.ensures.name) at c.collect-answer.ensures.collected in
+    let collected = rw (c.serve.ensures.same.name_is) at c.collect-answer.ensures.collected in
     let first = c.advance-in-Open.ensures.turned t stands (none, c.args.event, want) in
     let waits = awaiting_stands p m.LOSES m.opening limit n t c.args.event none want before after did.reply did.opened _ _ first in
     let told = awaiting_given p m.LOSES m.opening limit n t c.args.event none want before after did.reply did.opened _ _ first answer in
@@ -91,4 +91,31 @@ returns-in-Open-clause-attended g c t wanted =
     steps_answer p m.LOSES m.opening limit n t c.args.event none want before after did.reply did.opened _ _ first answer
     middle c.advance-in-Open-2.result _ did.asked
     (sees_collected m.opening limit n answer middle after.seen collected.enters)
-    (c.collect-answer.ensures.tries ∙ c.in-Open.ensures.tries) (second _ waits told)
+    (c.collect-answer.ensures.stays.lost_is ∙ c.in-Open.ensures.tries) (second _ waits told)
+
+pub collect-answer-requires-clause-waiting : goal.collect-answer-requires-clause-waiting
+collect-answer-requires-clause-waiting g c κs within = rw (c.serve.ensures.same.name_is) c.in-Open.ensures.served.waiting
+
+pub returns-in-Replied-clause-stays : goal.returns-in-Replied-clause-stays
+returns-in-Replied-clause-stays g c =
+    record { stays = c.advance.ensures.stays; same = c.serve.ensures.same; free = c.in-Replied.ensures.served.2 }
+
+pub returns-in-Answered-clause-stays : goal.returns-in-Answered-clause-stays
+returns-in-Answered-clause-stays g c =
+    let first = c.advance-in-Answered.ensures.stays in
+    let second = c.advance-in-Answered-2.ensures.stays in record {
+      stays = record { program = second.program ∙ first.program; fuel = second.fuel ∙ first.fuel };
+      same = c.serve.ensures.same;
+      free = c.in-Answered.ensures.served.free;
+    }
+
+pub returns-in-Open-clause-stays : goal.returns-in-Open-clause-stays
+returns-in-Open-clause-stays g c =
+    let first = c.advance-in-Open.ensures.stays in
+    let second = c.advance-in-Open-2.ensures.stays in
+    let asked = c.serve.ensures.same in
+    let collected = c.collect-answer.ensures.stays.same in record {
+      stays = record { program = second.program ∙ first.program; fuel = second.fuel ∙ first.fuel };
+      same = record { name_is = collected.name_is ∙ asked.name_is; right_is = collected.right_is ∙ asked.right_is };
+      free = rw (asked.name_is) at c.collect-answer.ensures.collected.free;
+    }

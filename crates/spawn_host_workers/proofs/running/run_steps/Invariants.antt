@@ -1,7 +1,6 @@
-use Rattle.shared_memory.specs.WaitQueue.{IsFree}
-use Rattle.shared_memory.specs.History.{queue_after}
-use Rattle.interp_trait.specs.Turns.{Running, IsHere, StaysAs}
-use Rattle.spawn_host_workers.specs.Ends.{SeatStays, watched}
+use Rattle.interp_trait.specs.Turns.{Running, IsHere}
+use Rattle.spawn_host_workers.specs.Ends.{watched}
+use Rattle.spawn_host_workers.specs.Seats.{StaysFree}
 use Rattle.interp_trait.specs.declared.turn.Turn.TheVariants.{Moved}
 use Rattle.spawn_host_workers.specs.Serving.{Attends}
 use Rattle.spawn_host_workers.proofs.running.run_steps.Given as goal
@@ -12,9 +11,7 @@ invariant-loop g l =
     let first = g.T.TakesTurns.meaning l.initial.thread in
     let now = g.T.TakesTurns.meaning l.thread in
     let n = m.name l.initial.seat in record {
-      stays : StaysAs first now;
-      seat : SeatStays m.name m.has_queue_right l.initial.seat l.seat;
-      free : IsFree (queue_after (m.seen l.seat)) n;
+      stays : StaysFree m g.T.TakesTurns.meaning l.initial.thread l.thread l.initial.seat l.seat;
       comes :
           (t : Running) → first.stands t → IsHere t
           → Attends first.program m.LOSES m.opening (m.limit l.memory) n t Moved now.stands (watched m.seen m.lost l.initial.seat) (watched m.seen m.lost l.seat);

@@ -1,5 +1,5 @@
 use Rattle.spawn_host_workers.specs.Ends.{watched}
-use Rattle.std.proofs.Common.{refl, subst}
+use Rattle.std.proofs.Common.{refl, subst, ◌∙◌}
 use Rattle.interp_trait.specs.Turns.{IsPaused, after_own}
 use Rattle.spawn_host_workers.proofs.Attending.{steps_own, steps_then}
 use Rattle.spawn_host_workers.proofs.running.step.Goals as goal
@@ -18,10 +18,17 @@ returns-in-Wants-clause-stepped g c t stands here =
 pub returns-in_default : goal.returns-in_default
 returns-in_default g c =
     let m = g.M.SharedMemory in record {
-      stays = c.own_turns.ensures.stays;
-      seat = record { name_is = refl; right_is = refl };
-      free = c.requires.free;
+      stays = record { stays = c.own_turns.ensures.stays; same = record { name_is = refl; right_is = refl }; free = c.requires.free };
       stepped = λ t stands here. steps_own (g.T.TakesTurns.meaning c.args.thread.now).program t m.LOSES m.opening
           (m.limit c.args.memory.now) (m.name c.args.seat.now) (watched m.seen m.lost c.args.seat.now)
           c.own_turns.result _ here c.in_default.not-Wants (c.own_turns.ensures.turned t stands here);
+    }
+
+pub returns-in-Wants-clause-stays : goal.returns-in-Wants-clause-stays
+returns-in-Wants-clause-stays g c =
+    let own = c.own_turns.ensures.stays in
+    let then = c.attend.ensures.stays in record {
+      stays = record { program = then.stays.program ∙ own.program; fuel = then.stays.fuel ∙ own.fuel };
+      same = then.same;
+      free = then.free;
     }

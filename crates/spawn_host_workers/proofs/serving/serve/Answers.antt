@@ -23,8 +23,7 @@ returns-in_default g c =
     let before = m.seen c.args.seat.now in
     let after = m.seen c.access.new.seat in
     let did = sees_access m.LOSES m.opening limit n right event before after c.access.result c.access.ensures.outcome in record {
-      name = c.access.ensures.name;
-      right = c.access.ensures.right;
+      same = record { name_is = c.access.ensures.name; right_is = c.access.ensures.right };
       tries = c.access.ensures.tries;
       served = (
         did.0,

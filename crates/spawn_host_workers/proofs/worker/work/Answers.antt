@@ -11,12 +11,12 @@ returns g c =
     let n = m.name c.args.seat in
     let limit = m.limit c.args.memory.now in
     let end = c.run_thread-outcome in
-    let ran = rw (c.set_args.ensures.stays.program, c.set_args.ensures.stays.fuel, c.begin.ensures.name) at end.ensures.ran in
-    let last = rw (c.begin.ensures.name) at end.ensures.last in
+    let ran = rw (c.set_args.ensures.stays.program, c.set_args.ensures.stays.fuel, c.begin.ensures.stays.same.name_is) at end.ensures.ran in
+    let last = rw (c.begin.ensures.stays.same.name_is) at end.ensures.last in
     let stands = rw (c.set_args.ensures.stays.fuel, c.name-name.ensures) at c.set_args.ensures.stands in
     let some = (ran (Runs (At (c.requires.begins.0 (I32 n ∷ I32 c.in-Some.arg ∷ [])))
     (g.T.TakesTurns.meaning c.args.thread).fuel) (stands _ _ c.requires.begins.1) tt).out in record {
-      name_is = end.ensures.seat.name_is ∙ c.begin.ensures.name;
+      name_is = end.ensures.same.name_is ∙ c.begin.ensures.stays.same.name_is;
       works = record {
         arg = c.in-Some.arg;
         begun = m.seen c.begin.new.seat;

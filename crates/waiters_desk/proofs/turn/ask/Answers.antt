@@ -3,63 +3,37 @@ use Rattle.waiters_desk.proofs.Turning.{may_enter, gains_beside, answers_beside,
 use Rattle.waiters_desk.proofs.turn.ask.Goals as goal
 
 pub access-requires-clause-allowed : goal.access-requires-clause-allowed
-access-requires-clause-allowed g c is = may_enter _ _ _ _ c.requires.beside c.requires.free
-
-pub returns-in-Value-clause-beside : goal.returns-in-Value-clause-beside
-returns-in-Value-clause-beside g c =
-    rw (c.ask-asleep.ensures.after, c.name-name.ensures)
-    (answers_beside _ _ _ _ _ _ _ _ _ refl c.requires.right c.requires.beside c.requires.free
-    c.in-Value.ensures.outcome)
+access-requires-clause-allowed g c is = may_enter _ _ _ _ c.requires.turn.beside c.requires.free
 
 pub returns-in-Value-clause-step : goal.returns-in-Value-clause-step
 returns-in-Value-clause-step g c =
     rw (c.ask-asleep.ensures.after, c.name-name.ensures)
-    (sym (asks_step _ _ _ _ _ c.args.question _ _ c.requires.right c.requires.beside c.requires.free _ c.in-Value.loaded
+    (sym (asks_step _ _ _ _ _ c.args.question _ _ c.requires.turn.right c.requires.turn.beside c.requires.free _ c.in-Value.loaded
     (λ m. value_reply m c.args.question c.in-Value.loaded) c.in-Value.ensures.outcome))
 
 pub returns-in-Value-clause-asked : goal.returns-in-Value-clause-asked
 returns-in-Value-clause-asked g c =
-    asks_with _ _ _ _ _ c.args.question _ _ c.requires.right c.requires.beside c.requires.free _ c.in-Value.loaded
+    asks_with _ _ _ _ _ c.args.question _ _ c.requires.turn.right c.requires.turn.beside c.requires.free _ c.in-Value.loaded
     (λ m. value_reply m c.args.question c.in-Value.loaded) c.in-Value.ensures.outcome
-
-pub returns-in-Done-clause-beside : goal.returns-in-Done-clause-beside
-returns-in-Done-clause-beside g c =
-    rw (c.ask-asleep-in-Done.ensures.after, c.name-name.ensures)
-    (answers_beside _ _ _ _ _ _ _ _ _ refl c.requires.right c.requires.beside c.requires.free
-    c.in-Done.ensures.outcome)
 
 pub returns-in-Done-clause-step : goal.returns-in-Done-clause-step
 returns-in-Done-clause-step g c =
     rw (c.ask-asleep-in-Done.ensures.after, c.name-name.ensures)
-    (sym (asks_step _ _ _ _ _ c.args.question _ _ c.requires.right c.requires.beside c.requires.free _ 0
+    (sym (asks_step _ _ _ _ _ c.args.question _ _ c.requires.turn.right c.requires.turn.beside c.requires.free _ 0
     (λ m. done_reply m c.args.question) c.in-Done.ensures.outcome))
 
 pub returns-in-Done-clause-asked : goal.returns-in-Done-clause-asked
 returns-in-Done-clause-asked g c =
-    asks_with _ _ _ _ _ c.args.question _ _ c.requires.right c.requires.beside c.requires.free _ 0 (λ m. done_reply m c.args.question) c.in-Done.ensures.outcome
-
-pub returns-in-OutOfBounds-clause-beside : goal.returns-in-OutOfBounds-clause-beside
-returns-in-OutOfBounds-clause-beside g c =
-    answers_beside _ _ _ _ _ _ _ _ _ refl c.requires.right c.requires.beside c.requires.free
-    c.in-OutOfBounds.ensures.outcome
+    asks_with _ _ _ _ _ c.args.question _ _ c.requires.turn.right c.requires.turn.beside c.requires.free _ 0 (λ m. done_reply m c.args.question) c.in-Done.ensures.outcome
 
 pub returns-in-OutOfBounds-clause-asked : goal.returns-in-OutOfBounds-clause-asked
-returns-in-OutOfBounds-clause-asked g c = asks_outside _ _ _ _ _ _ _ _ c.requires.right c.requires.beside c.requires.free c.in-OutOfBounds.ensures.outcome
-
-pub returns-in-Full-clause-beside : goal.returns-in-Full-clause-beside
-returns-in-Full-clause-beside g c = let full = c.in-Full.ensures.outcome in gains_beside _ _ _ _ _ _ c.requires.right c.requires.beside full.gains
+returns-in-OutOfBounds-clause-asked g c = asks_outside _ _ _ _ _ _ _ _ c.requires.turn.right c.requires.turn.beside c.requires.free c.in-OutOfBounds.ensures.outcome
 
 pub returns-in-Full-clause-full : goal.returns-in-Full-clause-full
-returns-in-Full-clause-full g c = asks_refused _ _ _ _ _ c.args.question _ _ c.requires.right c.requires.beside c.requires.free c.in-Full.ensures.outcome
+returns-in-Full-clause-full g c = asks_refused _ _ _ _ _ c.args.question _ _ c.requires.turn.right c.requires.turn.beside c.requires.free c.in-Full.ensures.outcome
 
 pub access-requires-clause-event : goal.access-requires-clause-event
 access-requires-clause-event g c = c.requires.question
-
-pub returns-in-Value-clause-name : goal.returns-in-Value-clause-name
-returns-in-Value-clause-name g c = c.access.ensures.name
-
-pub returns-in-Value-clause-right : goal.returns-in-Value-clause-right
-returns-in-Value-clause-right g c = c.access.ensures.right ∙ c.requires.right
 
 pub returns-in-Value-clause-full : goal.returns-in-Value-clause-full
 returns-in-Value-clause-full g c = tt
@@ -70,12 +44,6 @@ returns-in-Value-clause-unchanged g c = tt
 pub returns-in-Value-clause-exempt : goal.returns-in-Value-clause-exempt
 returns-in-Value-clause-exempt g c = tt
 
-pub returns-in-Done-clause-name : goal.returns-in-Done-clause-name
-returns-in-Done-clause-name g c = c.access.ensures.name
-
-pub returns-in-Done-clause-right : goal.returns-in-Done-clause-right
-returns-in-Done-clause-right g c = c.access.ensures.right ∙ c.requires.right
-
 pub returns-in-Done-clause-full : goal.returns-in-Done-clause-full
 returns-in-Done-clause-full g c = tt
 
@@ -84,12 +52,6 @@ returns-in-Done-clause-unchanged g c = tt
 
 pub returns-in-Done-clause-exempt : goal.returns-in-Done-clause-exempt
 returns-in-Done-clause-exempt g c = tt
-
-pub returns-in-OutOfBounds-clause-name : goal.returns-in-OutOfBounds-clause-name
-returns-in-OutOfBounds-clause-name g c = c.access.ensures.name
-
-pub returns-in-OutOfBounds-clause-right : goal.returns-in-OutOfBounds-clause-right
-returns-in-OutOfBounds-clause-right g c = c.access.ensures.right ∙ c.requires.right
 
 pub returns-in-OutOfBounds-clause-asleep : goal.returns-in-OutOfBounds-clause-asleep
 returns-in-OutOfBounds-clause-asleep g c = tt
@@ -103,12 +65,6 @@ returns-in-OutOfBounds-clause-unchanged g c = tt
 pub returns-in-OutOfBounds-clause-exempt : goal.returns-in-OutOfBounds-clause-exempt
 returns-in-OutOfBounds-clause-exempt g c = tt
 
-pub returns-in-Full-clause-name : goal.returns-in-Full-clause-name
-returns-in-Full-clause-name g c = c.access.ensures.name
-
-pub returns-in-Full-clause-right : goal.returns-in-Full-clause-right
-returns-in-Full-clause-right g c = c.access.ensures.right ∙ c.requires.right
-
 pub returns-in-Full-clause-step : goal.returns-in-Full-clause-step
 returns-in-Full-clause-step g c = tt
 
@@ -117,3 +73,63 @@ returns-in-Full-clause-asleep g c = tt
 
 pub returns-in-Full-clause-asked : goal.returns-in-Full-clause-asked
 returns-in-Full-clause-asked g c = tt
+
+pub access-requires-clause-right : goal.access-requires-clause-right
+access-requires-clause-right g c is = c.requires.turn.right
+
+pub returns-in-Value-clause-turn : goal.returns-in-Value-clause-turn
+returns-in-Value-clause-turn g c = record {
+  right = c.access.ensures.right ∙ c.requires.turn.right;
+  beside =
+      rw (c.ask-asleep.ensures.after, c.name-name.ensures)
+      (answers_beside _ _ _ _ _ _ _ _ _ refl c.requires.turn.right c.requires.turn.beside c.requires.free
+      c.in-Value.ensures.outcome);
+}
+
+pub returns-in-Value-clause-stays : goal.returns-in-Value-clause-stays
+returns-in-Value-clause-stays g c = record {
+  same = record { name_is = c.access.ensures.name; right_is = c.access.ensures.right };
+  lost_is = c.in-Value.ensures.tries;
+}
+
+pub returns-in-Done-clause-turn : goal.returns-in-Done-clause-turn
+returns-in-Done-clause-turn g c = record {
+  right = c.access.ensures.right ∙ c.requires.turn.right;
+  beside =
+      rw (c.ask-asleep-in-Done.ensures.after, c.name-name.ensures)
+      (answers_beside _ _ _ _ _ _ _ _ _ refl c.requires.turn.right c.requires.turn.beside c.requires.free
+      c.in-Done.ensures.outcome);
+}
+
+pub returns-in-Done-clause-stays : goal.returns-in-Done-clause-stays
+returns-in-Done-clause-stays g c = record {
+  same = record { name_is = c.access.ensures.name; right_is = c.access.ensures.right };
+  lost_is = c.in-Done.ensures.tries;
+}
+
+pub returns-in-OutOfBounds-clause-turn : goal.returns-in-OutOfBounds-clause-turn
+returns-in-OutOfBounds-clause-turn g c = record {
+  right = c.access.ensures.right ∙ c.requires.turn.right;
+  beside =
+      answers_beside _ _ _ _ _ _ _ _ _ refl c.requires.turn.right c.requires.turn.beside c.requires.free
+      c.in-OutOfBounds.ensures.outcome;
+}
+
+pub returns-in-OutOfBounds-clause-stays : goal.returns-in-OutOfBounds-clause-stays
+returns-in-OutOfBounds-clause-stays g c = record {
+  same = record { name_is = c.access.ensures.name; right_is = c.access.ensures.right };
+  lost_is = c.in-OutOfBounds.ensures.tries;
+}
+
+pub returns-in-Full-clause-turn : goal.returns-in-Full-clause-turn
+returns-in-Full-clause-turn g c =
+    let full = c.in-Full.ensures.outcome in record {
+      right = c.access.ensures.right ∙ c.requires.turn.right;
+      beside = gains_beside _ _ _ _ _ _ c.requires.turn.right c.requires.turn.beside full.gains;
+    }
+
+pub returns-in-Full-clause-stays : goal.returns-in-Full-clause-stays
+returns-in-Full-clause-stays g c = record {
+  same = record { name_is = c.access.ensures.name; right_is = c.access.ensures.right };
+  lost_is = c.in-Full.ensures.tries;
+}

@@ -84,8 +84,8 @@ invariant_of-self-2 g c =
     let kept = subst (λ (l : List Entry). KeepsLog g.B.Naming.opening c.self.inside.limit cap c.step-reply.new.self l) (sym grown)
     (subst (λ (m : Memory). KeepsLog g.B.Naming.opening c.self.inside.limit cap m (log ++ e1 ∷ [])) (sym c.step-reply.ensures.state)
     (entered g made_so).keeps) in (
-      c.record.ensures.desk.0 ∙ inv.0,
-      c.record.ensures.desk.1 ∙ ap (λ (l : List Entry). (keeper (l ++ e0 ∷ []) [], [])) at ∙ ap (λ (l : List Entry). (keeper l [], [])) (sym items),
+      c.record.ensures.keeper.0 ∙ inv.0,
+      c.record.ensures.keeper.1 ∙ ap (λ (l : List Entry). (keeper (l ++ e0 ∷ []) [], [])) at ∙ ap (λ (l : List Entry). (keeper l [], [])) (sym items),
       inv.2,
       subst (λ (k : ℕ). KeepsLog g.B.Naming.opening c.self.inside.limit k c.step-reply.new.self
           c.push_reserved.new.self.items) (sym c.push_reserved.ensures.capacity) kept,
@@ -104,22 +104,21 @@ invariant_of-seat-2 g c =
       c.seat.invariant.4,
     )
 
-pub returns-clause-outcome : goal.returns-clause-outcome
-returns-clause-outcome g c =
-    let made_so = (goal.at.returns-clause-outcome g c).After-record in
+pub returns-clause-tried : goal.returns-clause-tried
+returns-clause-tried g c =
+    let made_so = (goal.at.returns-clause-tried g c).After-record in
     let who : Caller = caller_in c.seat.inside.place.me.0 in
     let now : List Entry = c.self.inside.log.items ++ entry who.name c.args.event c.step-reply.result ∷ [] in
-    let seen = ap (λ (m : Me ℕ View). (caller_in m.0).seen) (seen_by g made_so) in
-    subst (λ (x : Caller). Accesses false g.B.Naming.opening (Some g.B.Naming.limit) x.name x.has_queue_right c.args.event x.seen
-    (caller_in c.record.new.caller.me.0).seen c.step-reply.result) c.seat.view_is
-    (subst (λ (l : List Entry). Accesses false g.B.Naming.opening (Some g.B.Naming.limit) who.name who.has_queue_right
-    c.args.event who.seen l c.step-reply.result) (sym seen)
-    (subst (λ (k : ℕ). Accesses false g.B.Naming.opening (Some k) who.name who.has_queue_right c.args.event who.seen now c.step-reply.result)
-    c.self.invariant.2 (entered g made_so).outcome))
-
-pub returns-clause-tries : goal.returns-clause-tries
-returns-clause-tries g c =
-    let made_so = (goal.at.returns-clause-tries g c).After-record in
-    let same = ap (λ (m : Me ℕ View). (caller_in m.0).lost) (seen_by g made_so) in
-    same ∙ ap (λ (x : Caller). x.lost) c.seat.view_is
-    ∙ never_lost c.self.inside.memory c.args.event c.step-reply.result c.args.seat.now.lost c.step-reply.ensures.reply
+    let caller = seen_by g made_so in
+    let seen = ap (λ (m : Me ℕ View). (caller_in m.0).seen) caller in record {
+      name_is = ap (λ (m : Me ℕ View). (caller_in m.0).name) caller ∙ ap (λ (x : Caller). x.name) c.seat.view_is;
+      right_is = ap (λ (m : Me ℕ View). (caller_in m.0).has_queue_right) caller ∙ ap (λ (x : Caller). x.has_queue_right) c.seat.view_is;
+      outcome = subst (λ (x : Caller). Accesses false g.B.Naming.opening (Some g.B.Naming.limit) x.name x.has_queue_right c.args.event x.seen
+          (caller_in c.record.new.caller.me.0).seen c.step-reply.result) c.seat.view_is
+          (subst (λ (l : List Entry). Accesses false g.B.Naming.opening (Some g.B.Naming.limit) who.name who.has_queue_right
+          c.args.event who.seen l c.step-reply.result) (sym seen)
+          (subst (λ (k : ℕ). Accesses false g.B.Naming.opening (Some k) who.name who.has_queue_right c.args.event who.seen now c.step-reply.result)
+          c.self.invariant.2 (entered g made_so).outcome));
+      lost_is = ap (λ (m : Me ℕ View). (caller_in m.0).lost) caller ∙ ap (λ (x : Caller). x.lost) c.seat.view_is
+          ∙ never_lost c.self.inside.memory c.args.event c.step-reply.result c.args.seat.now.lost c.step-reply.ensures.reply;
+    }

@@ -1,13 +1,7 @@
 use Rattle.waiters_desk.proofs.desk.Desk.ask.Goals as goal
 
-pub returns-clause-name : goal.returns-clause-name
-returns-clause-name g c = c.put-asked.ensures.name
-
-pub returns-clause-right : goal.returns-clause-right
-returns-clause-right g c = c.put-asked.ensures.right
-
-pub returns-clause-tries : goal.returns-clause-tries
-returns-clause-tries g c = c.put-asked.ensures.tries
+pub returns-clause-stays : goal.returns-clause-stays
+returns-clause-stays g c = c.put-asked.ensures.stays
 
 pub returns-clause-asked : goal.returns-clause-asked
 returns-clause-asked g c = c.put-asked.ensures.asked

@@ -1,10 +1,4 @@
 use Rattle.waiters_desk.proofs.desk.Desk.end.Goals as goal
 
-pub returns-clause-name : goal.returns-clause-name
-returns-clause-name g c = c.ask.ensures.name
-
-pub returns-clause-right : goal.returns-clause-right
-returns-clause-right g c = c.ask.ensures.right
-
-pub returns-clause-tries : goal.returns-clause-tries
-returns-clause-tries g c = c.ask.ensures.tries
+pub returns-clause-stays : goal.returns-clause-stays
+returns-clause-stays g c = c.ask.ensures.stays

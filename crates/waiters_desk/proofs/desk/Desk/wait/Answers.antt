@@ -20,14 +20,8 @@ returns-clause-reads g c =
     (λ got did. wait_reads m.opening (m.limit c.args.memory.now) n c.args.addr c.args.width c.args.expected timeout before after got did)
     c.ask.ensures.asked)
 
-pub returns-clause-name : goal.returns-clause-name
-returns-clause-name g c = c.ask.ensures.name
-
-pub returns-clause-right : goal.returns-clause-right
-returns-clause-right g c = c.ask.ensures.right
-
-pub returns-clause-tries : goal.returns-clause-tries
-returns-clause-tries g c = c.ask.ensures.tries
+pub returns-clause-stays : goal.returns-clause-stays
+returns-clause-stays g c = c.ask.ensures.stays
 
 pub returns-clause-full : goal.returns-clause-full
 returns-clause-full g c = c.ask.ensures.full

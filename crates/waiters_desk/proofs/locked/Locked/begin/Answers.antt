@@ -39,3 +39,12 @@ returns-clause-begun g c =
     begins_with _ _ _ _ _ _ told c.requires.known (twice_beside _ _ _ _ _ _ _ _ _ _ _ _ _ c.meet.ensures.longer self.right beside last) c.requires.new
     (twice_enters _ _ _ _ _ _ _ _ _ _ _ _ _ c.meet.ensures.longer self.right beside last)
     (twice_none _ _ _ _ _ _ _ _ _ _ _ _ _ c.meet.ensures.longer self.right beside last c.requires.new)
+
+pub returns-clause-stays : goal.returns-clause-stays
+returns-clause-stays g c = record {
+  same = record {
+    name_is = c.meet-2.ensures.names.0 ∙ c.meet.ensures.names.0;
+    right_is = c.meet-2.ensures.rights.0 ∙ c.meet.ensures.rights.1;
+  };
+  lost_is = c.meet-2.ensures.tries.0 ∙ c.meet.ensures.tries.0;
+}

@@ -9,8 +9,8 @@ invariant_of-seat g c =
     let seat = c.args.seat.now in
     let who : Caller = seat.caller in
     record {
-      known = subst (λ (n : ℕ). n ≤ desk_name) (sym c.touch.ensures.name) seat.known;
+      known = subst (λ (n : ℕ). n ≤ desk_name) (sym c.touch.ensures.tried.name_is) seat.known;
       few = seat.few;
       counted = accesses-HasPages g.B.Naming.opening who.name who.has_queue_right c.args.event who.seen c.touch.new.caller.seen c.touch.result seat.pages
-          c.args.self.now.row.stored c.touch.ensures.outcome seat.counted;
+          c.args.self.now.row.stored c.touch.ensures.tried.outcome seat.counted;
     }

@@ -2,16 +2,16 @@ use Rattle.std.proofs.Common.{ℕ, ◌≡◌, true, false, Option, None, ap, sym
 use Rattle.types.specs.declared.event.Event.{Event}
 use Rattle.types.specs.declared.event.Reply.{Reply}
 use Rattle.shared_memory.specs.Memory.{Memory}
-use Rattle.shared_memory.specs.Access.{Accesses}
 use Rattle.shared_memory_on_table.specs.declared.view.Caller.{Caller}
+use Rattle.shared_memory_on_table.specs.Rule.{MakesTry}
 use Rattle.types.specs.declared.event.Event.TheVariants.{Grow}
 use Rattle.word_row.specs.Words.{IsStored}
 use Rattle.word_row.specs.Answers.{size_answer}
-use Rattle.word_row.specs.Rule.{Steps, caller_after}
+use Rattle.word_row.specs.Rule.{Steps}
 use Rattle.word_row.proofs.Settling.{size_is_answer}
 use Rattle.word_row.specs.Rows.{HasPages}
 use Rattle.word_row.proofs.Counts.{found-HasPages, accesses-HasPages}
-use Rattle.word_row.proofs.Access.{few_pages, answered, answered_tries, Shows, shows, accesses-after, tries-after}
+use Rattle.word_row.proofs.Access.{few_pages, answered_try, Shows, shows, try-after}
 use Rattle.word_row.proofs.row.WordRow.note.Goals as goal
 
 -- what the page count answers, by the row's own maximum
@@ -32,27 +32,6 @@ by_size-requires g c =
     let row = c.args.self.now.row in
     few_pages opening false c.args.event (size_answer opening.max c.args.event c.note-pages.result) c.note-pages.result
     c.args.caller.now c.note-pages.new.caller row.stored c.note-pages.ensures
-
-pub returns-in-Grow-clause-outcome : goal.returns-in-Grow-clause-outcome
-returns-in-Grow-clause-outcome g c =
-    let opening : Memory = g.B.Naming.opening in
-    let event : Event = c.args.event in
-    let count : ℕ = c.note-pages.result in
-    let sh = shown opening _ event count _ c.args.caller.now c.note-pages.new.caller c.args.self.now.sized c.by_size.ensures c.in_default.is
-    c.note-pages.ensures in
-    let w : Caller = c.note-pages.new.caller in
-    let outcome = subst (λ (e : Event). Accesses true opening None w.name w.has_queue_right e w.seen
-    c.exchange.new.caller.seen c.exchange.result) (sym c.in-Grow.is) c.exchange.ensures.outcome in
-    accesses-after opening event 0 count c.args.caller.now w c.exchange.new.caller.seen c.exchange.result sh outcome
-
-pub returns-in-Grow-clause-tries : goal.returns-in-Grow-clause-tries
-returns-in-Grow-clause-tries g c =
-    let opening : Memory = g.B.Naming.opening in
-    let event : Event = c.args.event in
-    let count : ℕ = c.note-pages.result in
-    let sh = shown opening _ event count _ c.args.caller.now c.note-pages.new.caller c.args.self.now.sized c.by_size.ensures c.in_default.is
-    c.note-pages.ensures in
-    tries-after opening 0 count c.args.caller.now c.note-pages.new.caller c.exchange.new.caller.lost c.exchange.result sh c.exchange.ensures.tries
 
 -- the page count that the note found
 counted_by : (opening : Memory) (event : Event) (count : ℕ) (c w : Caller) → IsStored opening
@@ -77,7 +56,7 @@ returns-in-Grow-clause-counted g c =
     let w : Caller = c.note-pages.new.caller in
     let stored = c.args.self.now.row.stored in
     accesses-HasPages opening w.name w.has_queue_right (Grow c.in-Grow.more) w.seen c.exchange.new.caller.seen c.exchange.result count stored
-    c.exchange.ensures.outcome (counted_by opening c.args.event count c.args.caller.now w stored c.note-pages.ensures)
+    c.exchange.ensures.tried.outcome (counted_by opening c.args.event count c.args.caller.now w stored c.note-pages.ensures)
 
 pub returns : goal.returns
 returns g c =
@@ -88,70 +67,12 @@ returns g c =
     let sh = shown opening _ event count _ c.args.caller.now c.note-pages.new.caller c.args.self.now.sized c.by_size.ensures c.in_default.is
     c.note-pages.ensures in
     record {
-      name = c.touch.ensures.name ∙ ap (λ (x : Caller). x.name) sh.same;
-      right = c.touch.ensures.right ∙ ap (λ (x : Caller). x.has_queue_right) sh.same;
-      outcome = accesses-after opening event 0 count c.args.caller.now c.note-pages.new.caller c.touch.new.caller.seen
-          c.touch.result sh c.touch.ensures.outcome;
-      tries = tries-after opening 0 count c.args.caller.now c.note-pages.new.caller c.touch.new.caller.lost c.touch.result sh c.touch.ensures.tries;
+      tried = try-after opening event 0 count c.args.caller.now w c.touch.new.caller c.touch.result sh c.touch.ensures.tried;
       single = c.touch.ensures.single;
       few = few_pages opening false event (size_answer opening.max event count) count c.args.caller.now w c.args.self.now.row.stored c.note-pages.ensures;
       counted = accesses-HasPages opening w.name w.has_queue_right event w.seen c.touch.new.caller.seen c.touch.result count c.args.self.now.row.stored
-          c.touch.ensures.outcome (counted_by opening event count c.args.caller.now w c.args.self.now.row.stored c.note-pages.ensures);
+          c.touch.ensures.tried.outcome (counted_by opening event count c.args.caller.now w c.args.self.now.row.stored c.note-pages.ensures);
     }
-
-pub returns-in-Some-clause-name : goal.returns-in-Some-clause-name
-returns-in-Some-clause-name g c =
-    let opening : Memory = g.B.Naming.opening in
-    let event : Event = c.args.event in
-    let count : ℕ = c.note-pages.result in
-    let answer = told opening.max _ event count _ _ c.args.self.now.sized c.by_size.ensures c.in-Some.is in
-    let s = c.note-pages.ensures in
-    ap (λ (x : Caller). x.name) s.list ∙ ap (λ (a : Option Reply). (caller_after false event a s.log c.args.caller.now).name) answer
-
-pub returns-in-Grow-clause-name : goal.returns-in-Grow-clause-name
-returns-in-Grow-clause-name g c =
-    let opening : Memory = g.B.Naming.opening in
-    let event : Event = c.args.event in
-    let count : ℕ = c.note-pages.result in
-    let sh = shown opening _ event count _ c.args.caller.now c.note-pages.new.caller c.args.self.now.sized c.by_size.ensures c.in_default.is
-    c.note-pages.ensures in
-    c.exchange.ensures.name ∙ ap (λ (x : Caller). x.name) sh.same
-
-pub returns-in-Some-clause-right : goal.returns-in-Some-clause-right
-returns-in-Some-clause-right g c =
-    let opening : Memory = g.B.Naming.opening in
-    let event : Event = c.args.event in
-    let count : ℕ = c.note-pages.result in
-    let answer = told opening.max _ event count _ _ c.args.self.now.sized c.by_size.ensures c.in-Some.is in
-    let s = c.note-pages.ensures in
-    ap (λ (x : Caller). x.has_queue_right) s.list ∙ ap (λ (a : Option Reply). (caller_after false event a s.log c.args.caller.now).has_queue_right) answer
-
-pub returns-in-Grow-clause-right : goal.returns-in-Grow-clause-right
-returns-in-Grow-clause-right g c =
-    let opening : Memory = g.B.Naming.opening in
-    let event : Event = c.args.event in
-    let count : ℕ = c.note-pages.result in
-    let sh = shown opening _ event count _ c.args.caller.now c.note-pages.new.caller c.args.self.now.sized c.by_size.ensures c.in_default.is
-    c.note-pages.ensures in
-    c.exchange.ensures.right ∙ ap (λ (x : Caller). x.has_queue_right) sh.same
-
-pub returns-in-Some-clause-outcome : goal.returns-in-Some-clause-outcome
-returns-in-Some-clause-outcome g c =
-    let opening : Memory = g.B.Naming.opening in
-    let event : Event = c.args.event in
-    let count : ℕ = c.note-pages.result in
-    let answer = told opening.max _ event count _ _ c.args.self.now.sized c.by_size.ensures c.in-Some.is in
-    answered opening false event (size_answer opening.max event count) 0 count c.args.caller.now c.note-pages.new.caller c.in-Some.reply
-    c.note-pages.ensures answer (size_is_answer opening.max event count)
-
-pub returns-in-Some-clause-tries : goal.returns-in-Some-clause-tries
-returns-in-Some-clause-tries g c =
-    let opening : Memory = g.B.Naming.opening in
-    let event : Event = c.args.event in
-    let count : ℕ = c.note-pages.result in
-    let answer = told opening.max _ event count _ _ c.args.self.now.sized c.by_size.ensures c.in-Some.is in
-    answered_tries opening false event (size_answer opening.max event count) 0 count c.args.caller.now c.note-pages.new.caller c.in-Some.reply
-    c.note-pages.ensures answer (size_is_answer opening.max event count)
 
 pub returns-in-Grow-clause-few : goal.returns-in-Grow-clause-few
 returns-in-Grow-clause-few g c =
@@ -159,3 +80,22 @@ returns-in-Grow-clause-few g c =
     let count : ℕ = c.note-pages.result in
     few_pages opening false c.args.event (size_answer opening.max c.args.event count) count
     c.args.caller.now c.note-pages.new.caller c.args.self.now.row.stored c.note-pages.ensures
+
+pub returns-in-Some-clause-tried : goal.returns-in-Some-clause-tried
+returns-in-Some-clause-tried g c =
+    let opening : Memory = g.B.Naming.opening in
+    let event : Event = c.args.event in
+    let count : ℕ = c.note-pages.result in
+    let answer = told opening.max _ event count _ _ c.args.self.now.sized c.by_size.ensures c.in-Some.is in
+    answered_try opening false event (size_answer opening.max event count) 0 count c.args.caller.now c.note-pages.new.caller c.in-Some.reply
+    c.note-pages.ensures answer (size_is_answer opening.max event count)
+
+pub returns-in-Grow-clause-tried : goal.returns-in-Grow-clause-tried
+returns-in-Grow-clause-tried g c =
+    let opening : Memory = g.B.Naming.opening in
+    let event : Event = c.args.event in
+    let count : ℕ = c.note-pages.result in
+    let w : Caller = c.note-pages.new.caller in
+    let sh = shown opening _ event count _ c.args.caller.now w c.args.self.now.sized c.by_size.ensures c.in_default.is c.note-pages.ensures in
+    let tried = subst (λ (e : Event). MakesTry true opening None e c.exchange.result w c.exchange.new.caller) (sym c.in-Grow.is) c.exchange.ensures.tried in
+    try-after opening event 0 count c.args.caller.now w c.exchange.new.caller c.exchange.result sh tried

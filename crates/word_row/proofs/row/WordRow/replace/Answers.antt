@@ -3,7 +3,7 @@ use Rattle.types.specs.declared.event.Event.{Event}
 use Rattle.shared_memory.specs.Memory.{Memory}
 use Rattle.word_row.specs.Answers.{place_of, word_answer}
 use Rattle.word_row.proofs.Settling.{word_is_answer}
-use Rattle.word_row.proofs.Access.{answered, answered_tries, shows, accesses-after, tries-after, still_within}
+use Rattle.word_row.proofs.Access.{answered_try, shows, try-after, still_within}
 use Rattle.word_row.proofs.row.WordRow.replace.Goals as goal
 
 pub exchange-requires-clause-within : goal.exchange-requires-clause-within
@@ -29,42 +29,26 @@ exchange-requires-clause-word g c =
     in
     sh.word
 
-pub returns-in-Answer-clause-outcome : goal.returns-in-Answer-clause-outcome
-returns-in-Answer-clause-outcome g c =
+pub returns-in-Answer : goal.returns-in-Answer
+returns-in-Answer g c =
     let event : Event = c.args.event in
     let word : ℕ = c.read-word.result in
-    answered g.B.Naming.opening false event (word_answer event word)
-    (place_of event) word c.args.caller.now c.read-word.new.caller c.in-Answer.reply c.read-word.ensures
-    (c.in-Answer.ensures 0)
-    (word_is_answer event word)
+    record {
+      tried = answered_try g.B.Naming.opening false event (word_answer event word)
+          (place_of event) word c.args.caller.now c.read-word.new.caller c.in-Answer.reply c.read-word.ensures
+          (c.in-Answer.ensures 0)
+          (word_is_answer event word);
+    }
 
-pub returns-in-Exchange-clause-outcome : goal.returns-in-Exchange-clause-outcome
-returns-in-Exchange-clause-outcome g c =
+pub returns-in-Exchange : goal.returns-in-Exchange
+returns-in-Exchange g c =
     let opening : Memory = g.B.Naming.opening in
     let event : Event = c.args.event in
     let word : ℕ = c.read-word.result in
     let sh = shows opening false event (word_answer event word)
     (place_of event) word c.args.caller.now c.read-word.new.caller c.read-word.ensures (c.in-Exchange.ensures 0).0
     in
-    accesses-after opening event (place_of event) word c.args.caller.now c.read-word.new.caller
-    c.exchange.new.caller.seen c.exchange.result sh c.exchange.ensures.outcome
-
-pub returns-in-Answer-clause-tries : goal.returns-in-Answer-clause-tries
-returns-in-Answer-clause-tries g c =
-    let event : Event = c.args.event in
-    let word : ℕ = c.read-word.result in
-    answered_tries g.B.Naming.opening false event (word_answer event word)
-    (place_of event) word c.args.caller.now c.read-word.new.caller c.in-Answer.reply c.read-word.ensures
-    (c.in-Answer.ensures 0)
-    (word_is_answer event word)
-
-pub returns-in-Exchange-clause-tries : goal.returns-in-Exchange-clause-tries
-returns-in-Exchange-clause-tries g c =
-    let opening : Memory = g.B.Naming.opening in
-    let event : Event = c.args.event in
-    let word : ℕ = c.read-word.result in
-    let sh = shows opening false event (word_answer event word)
-    (place_of event) word c.args.caller.now c.read-word.new.caller c.read-word.ensures (c.in-Exchange.ensures 0).0
-    in
-    tries-after opening (place_of event) word c.args.caller.now c.read-word.new.caller
-    c.exchange.new.caller.lost c.exchange.result sh c.exchange.ensures.tries
+    record {
+      tried = try-after opening event (place_of event) word c.args.caller.now c.read-word.new.caller
+          c.exchange.new.caller c.exchange.result sh c.exchange.ensures.tried;
+    }

@@ -1,14 +1,13 @@
 use Rattle.std.proofs.Common.{ℕ, ◌≡◌, ◌≤◌, true, false, Some, None, length, refl, ◌∙◌, sym, ap, subst}
 use Rattle.types.specs.declared.event.Event.{Event}
-use Rattle.types.specs.declared.event.Event.TheVariants.{Store}
-use Rattle.types.specs.declared.event.Reply.TheVariants.{Done}
+use Rattle.types.specs.declared.event.Event.TheVariants.{Rmw, Store}
+use Rattle.types.specs.declared.event.Reply.TheVariants.{Value, Done}
 use Rattle.shared_memory.specs.Events.{IsEvent, is_of_queue}
 use Rattle.shared_memory.specs.History.{memory_after}
-use Rattle.shared_memory_on_table.specs.Rule.{AccessesIn}
-use Rattle.shared_memory_on_table.specs.declared.view.Caller.{Caller}
-use Rattle.word_row.specs.Answers.{IsMadeBy, end_of, is_access, place_of}
+use Rattle.shared_memory_on_table.specs.Rule.{MakesTry}
+use Rattle.word_row.specs.Answers.{IsMadeBy, end_of, is_access, made_reply, place_of}
 use Rattle.word_row.proofs.Singles.{store_made}
-use Rattle.word_row.proofs.Access.{answered, answered_tries}
+use Rattle.word_row.proofs.Access.{answered_try}
 use Rattle.word_row.proofs.row.WordRow.touch.Goals as goal
 
 pub store-requires-clause-makes : goal.store-requires-clause-makes
@@ -61,48 +60,22 @@ pub replace-requires-clause-within : goal.replace-requires-clause-within
 replace-requires-clause-within g c =
     subst (λ (e : Event). end_of e ≤ length (memory_after g.B.Naming.opening c.args.caller.now.seen).bytes) c.in-Rmw.is c.requires.within
 
-pub returns-in-None-clause-name : goal.returns-in-None-clause-name
-returns-in-None-clause-name g c = c.replace.ensures.name
+pub returns-in-None-clause-tried : goal.returns-in-None-clause-tried
+returns-in-None-clause-tried g c =
+    subst (λ (e : Event). MakesTry true g.B.Naming.opening None e c.replace.result c.args.caller.now c.replace.new.caller) (sym c.in-Rmw.is)
+    c.replace.ensures.tried
 
-pub returns-in-None-clause-right : goal.returns-in-None-clause-right
-returns-in-None-clause-right g c = c.replace.ensures.right
-
-pub returns-in-None-clause-outcome : goal.returns-in-None-clause-outcome
-returns-in-None-clause-outcome g c =
-    subst (λ (e : Event). AccessesIn true g.B.Naming.opening None c.args.caller.now e c.replace.new.caller.seen c.replace.result) (sym c.in-Rmw.is)
-    c.replace.ensures.outcome
-
-pub returns-in-None-clause-tries : goal.returns-in-None-clause-tries
-returns-in-None-clause-tries g c = c.replace.ensures.tries
-
-pub returns-in_default-clause-name : goal.returns-in_default-clause-name
-returns-in_default-clause-name g c = c.replace-in_default.ensures.name
-
-pub returns-in_default-clause-right : goal.returns-in_default-clause-right
-returns-in_default-clause-right g c = c.replace-in_default.ensures.right
-
-pub returns-in_default-clause-tries : goal.returns-in_default-clause-tries
-returns-in_default-clause-tries g c = c.replace-in_default.ensures.tries
-
-pub returns-in-Store-clause-name : goal.returns-in-Store-clause-name
-returns-in-Store-clause-name g c = ap (λ (x : Caller). x.name) c.store.ensures.1.list
-
-pub returns-in-Store-clause-right : goal.returns-in-Store-clause-right
-returns-in-Store-clause-right g c = ap (λ (x : Caller). x.has_queue_right) c.store.ensures.1.list
-
-pub returns-in-Some-clause-name : goal.returns-in-Some-clause-name
-returns-in-Some-clause-name g c = ap (λ (x : Caller). x.name) c.fetch-word.ensures.list
-
-pub returns-in-Some-clause-right : goal.returns-in-Some-clause-right
-returns-in-Some-clause-right g c = ap (λ (x : Caller). x.has_queue_right) c.fetch-word.ensures.list
-
-pub returns-in-Store-clause-outcome : goal.returns-in-Store-clause-outcome
-returns-in-Store-clause-outcome g c =
+pub returns-in-Store-clause-tried : goal.returns-in-Store-clause-tried
+returns-in-Store-clause-tried g c =
     let e : Event = Store c.in-Store.addr c.in-Store.width c.in-Store.reach c.in-Store.value in
-    subst (λ (w : Event). AccessesIn true g.B.Naming.opening None c.args.caller.now w c.store.new.caller.seen Done) (sym c.in-Store.is)
-    (answered g.B.Naming.opening false e (Some Done) (place_of e) c.store.ensures.0 c.args.caller.now c.store.new.caller Done c.store.ensures.1 refl tt)
+    subst (λ (w : Event). MakesTry true g.B.Naming.opening None w Done c.args.caller.now c.store.new.caller) (sym c.in-Store.is)
+    (answered_try g.B.Naming.opening false e (Some Done) (place_of e) c.store.ensures.0 c.args.caller.now c.store.new.caller Done c.store.ensures.1 refl tt)
 
-pub returns-in-Store-clause-tries : goal.returns-in-Store-clause-tries
-returns-in-Store-clause-tries g c =
-    let e : Event = Store c.in-Store.addr c.in-Store.width c.in-Store.reach c.in-Store.value in
-    answered_tries g.B.Naming.opening false e (Some Done) (place_of e) c.store.ensures.0 c.args.caller.now c.store.new.caller Done c.store.ensures.1 refl tt
+pub returns-in-Some-clause-tried : goal.returns-in-Some-clause-tried
+returns-in-Some-clause-tried g c =
+    let e : Event = Rmw c.in-Rmw.op c.in-Rmw.addr c.in-Rmw.width c.in-Rmw.value in
+    let word : ℕ = c.fetch-word.result in
+    subst (λ (v : ℕ). MakesTry true g.B.Naming.opening None c.args.event (Value v) c.args.caller.now c.fetch-word.new.caller) (sym c.lane.ensures)
+    (subst (λ (w : Event). MakesTry true g.B.Naming.opening None w (made_reply e word) c.args.caller.now c.fetch-word.new.caller) (sym c.in-Rmw.is)
+    (answered_try g.B.Naming.opening false e (Some (made_reply e word)) (place_of e) word c.args.caller.now c.fetch-word.new.caller
+    (made_reply e word) c.fetch-word.ensures refl tt))
