@@ -16,10 +16,10 @@ use Rattle.validate_typing.specs.declared.fault.Fault.TheVariants.{TypeMismatch,
 use Rattle.validate_bodies.specs.declared.problem.Problem.{Problem}
 use Rattle.validate_bodies.specs.declared.problem.Problem.TheVariants.{OutOfMemory, Wrong}
 use Rattle.validate_bodies.specs.Kinds.{kind_of, access_kind}
-use Rattle.validate_bodies.specs.Blocks.{is_live, Known, Takes, TakesAny, Puts, PutsAny, Moved, CantMove, LacksAny}
+use Rattle.validate_bodies.specs.Blocks.{Moving, is_live, Known, Takes, TakesAny, Puts, PutsAny, Moved, CantMove, LacksAny}
 use Rattle.validate_bodies.specs.Blocks.{Checked, CheckedInside, CheckedAnywhere, Refused, RefusedInside, RefusedAnywhere}
 use Rattle.validate_bodies.specs.Blocks.{CantStand, CantStandInside, Checks, ChecksInside, ChecksAnywhere}
-use Rattle.validate_bodies.proofs.Moves.{matching, known_some, Moving, mismatch_is}
+use Rattle.validate_bodies.proofs.Moves.{matching, known_some, mismatch_is}
 use Rattle.std.proofs.Common.{eq-eqb, ℕ, ◌<◌, ◌≤◌, arith, reverse, slice_get, ◌^◌, inl, inr, nat_le, nat_eq}
 use Rattle.std.proofs.lemmas.Bool.{le-leb}
 use Rattle.std.proofs.lemmas.Bool.Decides.{leb_tells, eqb_tells}

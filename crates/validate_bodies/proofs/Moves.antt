@@ -14,7 +14,7 @@ use Rattle.types.specs.declared.value.ValType.TheVariants.{I32}
 use Rattle.validate_bodies.specs.declared.block.Flow.{Flow}
 use Rattle.validate_bodies.specs.declared.block.Flow.TheVariants.{Live, Idle, Free}
 use Rattle.validate_bodies.specs.declared.block.OpenBlock.{OpenBlock}
-use Rattle.validate_bodies.specs.Blocks.{Matches, MayHave, Known, Takes, TakesAny, Puts, Moved, Lacks, LacksAny, CantMove}
+use Rattle.validate_bodies.specs.Blocks.{Moving, Matches, MayHave, Known, Takes, TakesAny, Puts, Moved, Lacks, LacksAny, CantMove}
 
 -- some type fits what is known of an operand
 pub matching : (k : Option ValType) → (t : ValType) × Matches k t
@@ -184,9 +184,6 @@ lacks_down xs n i d a b e g h x y =
     ap reverse (sym (take-append-drop i xs)) ∙ reverse-append (take i xs) (drop i xs) in
     let last = lacks_after (reverse (drop n xs)) (get_or xs i d ∷ []) a b e x y in
     subst P (sym whole) (lacks_more (reverse (drop i xs)) (reverse (take i xs)) a e (subst P (sym (last_off xs n i d g h)) last))
-
-abbrev pub Moving : List ValType → List ValType → OpenBlock → OpenBlock → Result (Unit {0}) Problem → Type 0
-Moving ts gs a b r = MatchResult r (λ _. Moved ts gs a b) (CantMove ts a)
 
 -- taking, and then putting
 pub moving : (ts gs : List ValType) (a b c : OpenBlock) (r : Result (Unit {0}) Problem) → Takes ts a b

@@ -15,6 +15,8 @@ use Rattle.validate_bodies.specs.declared.block.OpenBlock.{OpenBlock}
 use Rattle.validate_bodies.specs.declared.problem.Problem.{Problem}
 use Rattle.validate_bodies.specs.declared.problem.Problem.TheVariants as problems
 use Rattle.validate_typing.specs.declared.fault.Fault.TheVariants as faults
+use Rattle.validate_bodies.specs.declared.scope.Scope.{Scope}
+use Rattle.validate_bodies.specs.Scope.{context_of}
 use Rattle.validate_bodies.specs.Kinds.{kind_of, are_labels}
 
 abbrev pub is_live : Flow → Bool
@@ -48,6 +50,10 @@ label_of block = as_label block.shape.label
 -- The labels at a place: of the innermost block and of those around it, which are kept with the innermost last.
 abbrev pub labels_at : OpenBlock → List OpenBlock → List FlatLabel
 labels_at block outer = map label_of (block ∷ reverse outer)
+
+-- This block is the innermost of some, and these are the blocks around it.
+abbrev pub IsInnermost : OpenBlock → List OpenBlock → List OpenBlock → Type 0
+IsInnermost block around blocks = reverse blocks ≡ block ∷ reverse around
 
 -- Operands of these types were taken from the block: `known` leads from what is left back to what was there, `kept` onward.
 pub record Takes (ts : List ValType) (old new : OpenBlock) : Type 0 where
@@ -98,6 +104,22 @@ abbrev pub CantMove : List ValType → OpenBlock → Problem → Type 0
 CantMove ts old problems.OutOfMemory = ⊤
 CantMove ts old (problems.Wrong kind) = (kind ≡ faults.TypeMismatch) × ((us : List ValType) → Known old (ts ++ us) → ⊥)
 
+-- What taking operands of these types answers.
+abbrev pub Taking : List ValType → OpenBlock → OpenBlock → Result (Unit {0}) Problem → Type 0
+Taking ts old new r = MatchResult r (λ _. Takes ts old new) (Lacks ts old)
+
+-- What putting them answers: memory may run out.
+abbrev pub Putting : List ValType → OpenBlock → OpenBlock → Result (Unit {0}) Problem → Type 0
+Putting ts old new r = MatchResult r (λ _. Puts ts old new) (λ e. e ≡ problems.OutOfMemory)
+
+-- The same of an operand of which this is known.
+abbrev pub PuttingAny : Option ValType → OpenBlock → OpenBlock → Result (Unit {0}) Problem → Type 0
+PuttingAny kind old new r = MatchResult r (λ _. PutsAny kind old new) (λ e. e ≡ problems.OutOfMemory)
+
+-- What taking operands and then putting others answers.
+abbrev pub Moving : List ValType → List ValType → OpenBlock → OpenBlock → Result (Unit {0}) Problem → Type 0
+Moving takes gives old new r = MatchResult r (λ _. Moved takes gives old new) (CantMove takes old)
+
 -- An instruction fits between what is known before it and after it, and these are its targets. From what is known before it leads
 -- `kept` onward.
 pub record Checked (c : Context) (labels : List FlatLabel) (op : PlainInstr) (old new : OpenBlock) (targets : List Target) : Type 0 where
@@ -134,12 +156,29 @@ CantStandInside c op old e = (e ≡ problems.Wrong faults.TypeMismatch) × Refus
 abbrev pub CantStand : PlainInstr → OpenBlock → Problem → Type 0
 CantStand op old e = (e ≡ problems.Wrong faults.TypeMismatch) × RefusedAnywhere op old e
 
+-- What a label carries.
+abbrev pub Carry : List FlatLabel → List ValType → ℕ → Type 0
+Carry labels carried k = slice_get (types_of labels) k ≡ Some carried
+
+-- All of these labels are there, and carry what this one does.
+abbrev pub CarryAlike : List FlatLabel → List ℕ → BlockLabel → Type 0
+CarryAlike labels ks l = All (Carry labels (results_of l.carries)) ks
+
 -- Of these labels one isn't there, or carries something else.
 abbrev pub Differs : List FlatLabel → List ℕ → List ValType → Problem → Type 0
 Differs labels ks carried problems.OutOfMemory = ⊤
 Differs labels ks carried (problems.Wrong kind) =
     (are_labels (types_of labels) ks ≡ true → kind ≡ faults.TypeMismatch)
-    × (All (λ k. slice_get (types_of labels) k ≡ Some carried) ks → ⊥)
+    × (All (Carry labels carried) ks → ⊥)
+
+-- The same, something else than this one.
+abbrev pub DifferFrom : List FlatLabel → List ℕ → BlockLabel → Problem → Type 0
+DifferFrom labels ks l = Differs labels ks (results_of l.carries)
+
+-- That there are such labels, or the fault.
+abbrev pub NeedsLabels : List FlatLabel → List ℕ → Result (Unit {0}) Problem → Type 0
+NeedsLabels labels ks r = MatchResult r (λ _. are_labels (types_of labels) ks ≡ true)
+    (λ e. (e ≡ problems.Wrong faults.UnknownLabel) × (are_labels (types_of labels) ks ≡ false))
 
 -- What a check answers.
 abbrev pub Checks : Context → List FlatLabel → PlainInstr → OpenBlock → OpenBlock → List Target → Result (Unit {0}) Problem → Type 0
@@ -150,3 +189,18 @@ ChecksInside c op old new r = MatchResult r (λ _. CheckedInside c op old new) (
 
 abbrev pub ChecksAnywhere : PlainInstr → OpenBlock → OpenBlock → Result (Unit {0}) Problem → Type 0
 ChecksAnywhere op old new r = MatchResult r (λ _. CheckedAnywhere op old new) (RefusedAnywhere op old)
+
+-- The same with the labels at the place, in the code of a body.
+abbrev pub ChecksAt : Scope → List OpenBlock → PlainInstr → OpenBlock → OpenBlock → List Target → Result (Unit {0}) Problem → Type 0
+ChecksAt scope outer op old new targets r = Checks (context_of scope) (labels_at old outer) op old new targets r
+
+-- The same of one that asks for no memory.
+abbrev pub ChecksOutrightInside : Context → PlainInstr → OpenBlock → OpenBlock → Result (Unit {0}) Problem → Type 0
+ChecksOutrightInside c op old new r = MatchResult r (λ _. CheckedInside c op old new) (CantStandInside c op old)
+
+abbrev pub ChecksOutright : PlainInstr → OpenBlock → OpenBlock → Result (Unit {0}) Problem → Type 0
+ChecksOutright op old new r = MatchResult r (λ _. CheckedAnywhere op old new) (CantStand op old)
+
+-- Of one that is never refused.
+abbrev pub ChecksAlways : PlainInstr → OpenBlock → OpenBlock → Result (Unit {0}) Problem → Type 0
+ChecksAlways op old new r = MatchResult r (λ _. CheckedAnywhere op old new) (λ _. ⊥)

@@ -7,3 +7,4 @@ pub mod Onward
 pub mod Refused
 pub mod Reached
 pub mod Forth
+pub mod Goes

@@ -1,14 +1,13 @@
 //! Instructions that never go on, and branches (Core specification 1.0, section 3.3.5).
 
-ghost use Rattle.std.specs.Prelude.{◌≡◌, ◌↔◌, [], Some, IsTrue, OnOk, IfErr, MatchResult, true, false};
-ghost use Rattle.std.specs.List.{slice_get, All};
+ghost use Rattle.std.specs.Prelude.{◌≡◌, ◌↔◌, [], IsTrue, OnOk, IfErr};
+ghost use Rattle.std.specs.List.{slice_get};
 ghost use Rattle.types.specs.declared.instr.PlainInstr.TheVariants as plain;
-ghost use Rattle.validate_typing.specs.Typing.{results_of};
-ghost use Rattle.validate_typing.specs.Placed.{types_of, IsRow};
-ghost use Rattle.validate_bodies.specs.Blocks.{Checks, CheckedInside, CheckedAnywhere, CantStandInside, Differs, as_label, labels_at};
-ghost use Rattle.validate_bodies.specs.Kinds.{are_labels};
-ghost use Rattle.validate_typing.specs.declared.fault.Fault.TheVariants as faults;
-ghost use Rattle.validate_bodies.specs.Scope.{context_of, Misses};
+ghost use Rattle.validate_typing.specs.Placed.{IsRow};
+ghost use Rattle.validate_bodies.specs.Blocks.{as_label, labels_at, CarryAlike, DifferFrom, NeedsLabels};
+ghost use Rattle.validate_bodies.specs.Blocks.{ChecksAt, ChecksOutrightInside, ChecksAlways};
+ghost use Rattle.validate_typing.specs.declared.fault.Fault.TheVariants.{UnknownLabel};
+ghost use Rattle.validate_bodies.specs.Scope.{context_of, GetsAs};
 
 use crate::block::{BlockLabel, Flow, OpenBlock};
 use crate::operands::{put_result, take_one, take_result};
@@ -19,8 +18,7 @@ use validate_typing::{Fault, Target};
 
 /// The label with this index: of the innermost block, or of one around it.
 fn find_label(block: &OpenBlock, outer: &[OpenBlock], index: u32) -> Result<BlockLabel, Problem>
-    ensures { MatchResult result (λ l. slice_get (labels_at block.now outer.now) index ≡ Some (as_label l))
-        (Misses (slice_get (labels_at block.now outer.now) index) faults.UnknownLabel) }
+    ensures { GetsAs (slice_get (labels_at block.now outer.now) index) UnknownLabel result as_label }
 {
     let index = index as usize;
     if index == 0 {
@@ -44,7 +42,7 @@ fn stop(block: &mut OpenBlock)
 
 /// `unreachable`
 pub fn check_unreachable(block: &mut OpenBlock) -> Result<(), Problem>
-    ensures { MatchResult result (λ _. CheckedAnywhere plain.Unreachable block.old block.new) (λ _. ⊥) }
+    ensures { ChecksAlways plain.Unreachable block.old block.new result }
 {
     stop(block);
     Ok(())
@@ -52,8 +50,7 @@ pub fn check_unreachable(block: &mut OpenBlock) -> Result<(), Problem>
 
 /// `return`
 pub fn check_return(scope: &Scope, block: &mut OpenBlock) -> Result<(), Problem>
-    ensures { MatchResult result (λ _. CheckedInside (context_of scope.now) plain.Return block.old block.new)
-        (CantStandInside (context_of scope.now) plain.Return block.old) }
+    ensures { ChecksOutrightInside (context_of scope.now) plain.Return block.old block.new result }
 {
     take_result(block, scope.result)?;
     stop(block);
@@ -69,7 +66,7 @@ pub fn check_br(
     row: &mut Vec<Target>,
 ) -> Result<(), Problem>
     requires { row.old.items ≡ [] }
-    ensures { Checks (context_of scope.now) (labels_at block.old outer.now) (plain.Br index) block.old block.new row.new.items result }
+    ensures { ChecksAt scope.now outer.now (plain.Br index) block.old block.new row.new.items result }
 {
     let label = find_label(block, outer, index)?;
     take_result(block, label.carries)?;
@@ -87,7 +84,7 @@ pub fn check_br_if(
     row: &mut Vec<Target>,
 ) -> Result<(), Problem>
     requires { row.old.items ≡ [] }
-    ensures { Checks (context_of scope.now) (labels_at block.old outer.now) (plain.BrIf index) block.old block.new row.new.items result }
+    ensures { ChecksAt scope.now outer.now (plain.BrIf index) block.old block.new row.new.items result }
 {
     let label = find_label(block, outer, index)?;
     take_one(block, ValType::I32)?;
@@ -115,9 +112,8 @@ fn table_row(
 ) -> Result<(), Problem>
     requires { row.old.items ≡ [] }
     ensures row { OnOk result (IsRow (labels_at block.now outer.now) indices.now row.new.items) }
-    ensures carried { OnOk result (All (λ k. slice_get (types_of (labels_at block.now outer.now)) k ≡ Some
-        (results_of default.carries)) indices.now) }
-    ensures differs { IfErr result (Differs (labels_at block.now outer.now) indices.now (results_of default.carries)) }
+    ensures carried { OnOk result (CarryAlike (labels_at block.now outer.now) indices.now default) }
+    ensures differs { IfErr result (DifferFrom (labels_at block.now outer.now) indices.now default) }
 {
     for index in indices {
         let label = find_label(block, outer, *index)?;
@@ -131,8 +127,7 @@ fn table_row(
 
 /// That there are such labels.
 fn need_labels(block: &OpenBlock, outer: &[OpenBlock], indices: &[u32]) -> Result<(), Problem>
-    ensures { MatchResult result (λ _. are_labels (types_of (labels_at block.now outer.now)) indices.now ≡ true)
-        (λ e. (e ≡ Problem.Wrong Fault.UnknownLabel) × (are_labels (types_of (labels_at block.now outer.now)) indices.now ≡ false)) }
+    ensures { NeedsLabels (labels_at block.now outer.now) indices.now result }
 {
     for index in indices {
         find_label(block, outer, *index)?;
@@ -150,8 +145,8 @@ pub fn check_br_table(
     row: &mut Vec<Target>,
 ) -> Result<(), Problem>
     requires { row.old.items ≡ [] }
-    ensures { Checks (context_of scope.now) (labels_at block.old outer.now) (plain.BrTable default_index indices.now)
-        block.old block.new row.new.items result }
+    ensures { ChecksAt scope.now outer.now (plain.BrTable default_index indices.now) block.old block.new
+        row.new.items result }
 {
     let default = find_label(block, outer, default_index)?;
     let indices = indices.as_slice();

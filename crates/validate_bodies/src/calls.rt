@@ -1,8 +1,8 @@
 //! Calls (Core specification 1.0, section 3.3.5).
 
-ghost use Rattle.std.specs.Prelude.{reverse, MatchResult};
-ghost use Rattle.types.specs.declared.instr.PlainInstr.TheVariants as plain;
-ghost use Rattle.validate_bodies.specs.Blocks.{Moved, CantMove, ChecksInside};
+ghost use Rattle.std.specs.Prelude.{reverse};
+ghost use Rattle.types.specs.declared.instr.PlainInstr.TheVariants.{Call, CallIndirect};
+ghost use Rattle.validate_bodies.specs.Blocks.{Moving, ChecksInside};
 ghost use Rattle.validate_bodies.specs.Scope.{context_of};
 
 use crate::block::OpenBlock;
@@ -13,8 +13,7 @@ use types::{FuncType, ValType};
 
 /// The arguments of a function and its results.
 fn replace_arguments(block: &mut OpenBlock, func_type: &FuncType) -> Result<(), Problem>
-    ensures { MatchResult result (λ _. Moved (reverse func_type.now.params) func_type.now.results block.old block.new)
-        (CantMove (reverse func_type.now.params) block.old) }
+    ensures { Moving (reverse func_type.now.params) func_type.now.results block.old block.new result }
 {
     take_params(block, func_type.params.as_slice())?;
     put_all(block, func_type.results.as_slice())
@@ -22,7 +21,7 @@ fn replace_arguments(block: &mut OpenBlock, func_type: &FuncType) -> Result<(), 
 
 /// `call`
 pub fn check_call(scope: &Scope, block: &mut OpenBlock, index: u32) -> Result<(), Problem>
-    ensures { ChecksInside (context_of scope.now) (plain.Call index) block.old block.new result }
+    ensures { ChecksInside (context_of scope.now) (Call index) block.old block.new result }
 {
     let type_index = scope.function(index)?;
     let func_type = scope.func_type(type_index)?;
@@ -31,7 +30,7 @@ pub fn check_call(scope: &Scope, block: &mut OpenBlock, index: u32) -> Result<()
 
 /// `call_indirect`, whose topmost operand is the place in the table.
 pub fn check_call_indirect(scope: &Scope, block: &mut OpenBlock, index: u32) -> Result<(), Problem>
-    ensures { ChecksInside (context_of scope.now) (plain.CallIndirect index) block.old block.new result }
+    ensures { ChecksInside (context_of scope.now) (CallIndirect index) block.old block.new result }
 {
     scope.need_table()?;
     let func_type = scope.func_type(index)?;

@@ -1,10 +1,10 @@
 //! Memory instructions, plain and atomic (Core specification 1.0, section 3.3.4; threads proposal).
 
-ghost use Rattle.std.specs.Prelude.{◌≡◌, ◌<◌, ◌≤◌, ◌^◌, MatchOption, MatchResult};
+ghost use Rattle.std.specs.Prelude.{◌≡◌, ◌<◌, ◌≤◌, ◌^◌, MatchOption};
 ghost use Rattle.types.specs.declared.instr.PlainInstr.TheVariants as plain;
-ghost use Rattle.validate_typing.specs.Typing.{atomic_takes, atomic_gives, results_of, HasMemory, IsAligned, IsExactlyAligned};
-ghost use Rattle.validate_bodies.specs.Blocks.{Moved, CantMove, ChecksInside};
-ghost use Rattle.validate_bodies.specs.Scope.{context_of};
+ghost use Rattle.validate_typing.specs.Typing.{atomic_takes, atomic_gives, results_of, IsAligned, IsExactlyAligned};
+ghost use Rattle.validate_bodies.specs.Blocks.{Moving, ChecksInside};
+ghost use Rattle.validate_bodies.specs.Scope.{context_of, Needs};
 
 use crate::block::OpenBlock;
 use crate::operands::replace;
@@ -32,7 +32,7 @@ fn alignment_of(arg: MemArg) -> Option<u8>
 #[tactic(auto, using(crate::proofs::Fitting::wide))]
 fn check_alignment(arg: MemArg, bytes: u8) -> Result<(), Problem>
     requires { bytes ≤ 8 }
-    ensures { MatchResult result (λ _. IsAligned arg bytes) (λ e. (e ≡ Problem.Wrong Fault.Alignment) × (IsAligned arg bytes → ⊥)) }
+    ensures { Needs (IsAligned arg bytes) Fault.Alignment result }
 {
     let Some(alignment) = alignment_of(arg) else {
         return Err(MISALIGNED);
@@ -48,8 +48,7 @@ fn check_alignment(arg: MemArg, bytes: u8) -> Result<(), Problem>
 #[tactic(auto, using(crate::proofs::Fitting::wide))]
 fn check_exact_alignment(arg: MemArg, bytes: u8) -> Result<(), Problem>
     requires { bytes ≤ 8 }
-    ensures { MatchResult result (λ _. IsExactlyAligned arg bytes)
-        (λ e. (e ≡ Problem.Wrong Fault.Alignment) × (IsExactlyAligned arg bytes → ⊥)) }
+    ensures { Needs (IsExactlyAligned arg bytes) Fault.Alignment result }
 {
     let Some(alignment) = alignment_of(arg) else {
         return Err(MISALIGNED);
@@ -107,8 +106,7 @@ pub fn check_memory_grow(scope: &Scope, block: &mut OpenBlock) -> Result<(), Pro
 
 /// The operands of an atomic instruction and its result.
 fn replace_atomic(block: &mut OpenBlock, op: AtomicOp) -> Result<(), Problem>
-    ensures { MatchResult result (λ _. Moved (atomic_takes op) (results_of (atomic_gives op)) block.old block.new)
-        (CantMove (atomic_takes op) block.old) }
+    ensures { Moving (atomic_takes op) (results_of (atomic_gives op)) block.old block.new result }
 {
     const ADDRESS: ValType = ValType::I32;
     match op {

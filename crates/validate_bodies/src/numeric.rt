@@ -1,9 +1,9 @@
 //! Numeric instructions (Core specification 1.0, section 3.3.1).
 
-ghost use Rattle.std.specs.Prelude.{[], ◌∷◌, MatchResult};
+ghost use Rattle.std.specs.Prelude.{[], ◌∷◌};
 ghost use Rattle.validate_typing.specs.Typing.{numeric_takes, numeric_gives};
 ghost use Rattle.types.specs.declared.instr.PlainInstr.TheVariants as plain;
-ghost use Rattle.validate_bodies.specs.Blocks.{Moved, CantMove, ChecksAnywhere};
+ghost use Rattle.validate_bodies.specs.Blocks.{Moving, ChecksAnywhere};
 
 use crate::block::OpenBlock;
 use crate::operands::replace;
@@ -12,8 +12,7 @@ use types::{ConvertOp, NumericInstr, ValType};
 
 /// The operands of a numeric instruction and its result.
 fn replace_numbers(block: &mut OpenBlock, instr: NumericInstr) -> Result<(), Problem>
-    ensures { MatchResult result (λ _. Moved (numeric_takes instr) (numeric_gives instr ∷ []) block.old block.new)
-        (CantMove (numeric_takes instr) block.old) }
+    ensures { Moving (numeric_takes instr) (numeric_gives instr ∷ []) block.old block.new result }
 {
     match instr {
         NumericInstr::Unary(t, _) => replace(block, &[t], Some(t)),
@@ -40,7 +39,7 @@ fn replace_numbers(block: &mut OpenBlock, instr: NumericInstr) -> Result<(), Pro
 
 /// The result of a constant.
 fn put_constant(block: &mut OpenBlock, val_type: ValType) -> Result<(), Problem>
-    ensures { MatchResult result (λ _. Moved [] (val_type ∷ []) block.old block.new) (CantMove [] block.old) }
+    ensures { Moving [] (val_type ∷ []) block.old block.new result }
 {
     replace(block, &[], Some(val_type))
 }

@@ -1,9 +1,8 @@
 //! Operands that are taken from a block and put there.
 
-ghost use Rattle.std.specs.Prelude.{◌≡◌, [], ◌∷◌, reverse, MatchResult};
+ghost use Rattle.std.specs.Prelude.{[], ◌∷◌, reverse, MatchResult};
 ghost use Rattle.validate_typing.specs.Typing.{results_of};
-ghost use Rattle.validate_bodies.specs.Blocks.{Takes, TakesAny, Puts, PutsAny, Moved, Lacks, LacksAny, CantMove};
-ghost use Rattle.validate_bodies.specs.declared.problem.Problem.TheVariants as problems;
+ghost use Rattle.validate_bodies.specs.Blocks.{TakesAny, LacksAny, Taking, Putting, PuttingAny, Moving};
 
 use crate::block::{Flow, OpenBlock};
 use crate::problem::Problem;
@@ -28,7 +27,7 @@ pub fn take_any(block: &mut OpenBlock) -> Result<Option<ValType>, Problem>
 
 /// Takes an operand of a type.
 pub fn take_one(block: &mut OpenBlock, wanted: ValType) -> Result<(), Problem>
-    ensures { MatchResult result (λ _. Takes (wanted ∷ []) block.old block.new) (Lacks (wanted ∷ []) block.old) }
+    ensures { Taking (wanted ∷ []) block.old block.new result }
 {
     match take_any(block)? {
         Some(found) if found != wanted => Err(Problem::Wrong(Fault::TypeMismatch)),
@@ -38,7 +37,7 @@ pub fn take_one(block: &mut OpenBlock, wanted: ValType) -> Result<(), Problem>
 
 /// Takes an operand, if there is a type.
 pub fn take_result(block: &mut OpenBlock, wanted: Option<ValType>) -> Result<(), Problem>
-    ensures { MatchResult result (λ _. Takes (results_of wanted) block.old block.new) (Lacks (results_of wanted) block.old) }
+    ensures { Taking (results_of wanted) block.old block.new result }
 {
     match wanted {
         None => Ok(()),
@@ -48,7 +47,7 @@ pub fn take_result(block: &mut OpenBlock, wanted: Option<ValType>) -> Result<(),
 
 /// Takes operands of these types, the topmost first.
 pub fn take_all(block: &mut OpenBlock, wanted: &[ValType]) -> Result<(), Problem>
-    ensures { MatchResult result (λ _. Takes wanted.now block.old block.new) (Lacks wanted.now block.old) }
+    ensures { Taking wanted.now block.old block.new result }
 {
     for val_type in wanted {
         take_one(block, *val_type)?;
@@ -58,7 +57,7 @@ pub fn take_all(block: &mut OpenBlock, wanted: &[ValType]) -> Result<(), Problem
 
 /// Takes arguments of these types, the topmost last.
 pub fn take_params(block: &mut OpenBlock, params: &[ValType]) -> Result<(), Problem>
-    ensures { MatchResult result (λ _. Takes (reverse params.now) block.old block.new) (Lacks (reverse params.now) block.old) }
+    ensures { Taking (reverse params.now) block.old block.new result }
 {
     for index in (0..params.len()).rev() {
         take_one(block, params[index])?;
@@ -68,7 +67,7 @@ pub fn take_params(block: &mut OpenBlock, params: &[ValType]) -> Result<(), Prob
 
 /// Puts an operand, of which this is known.
 pub fn put_any(block: &mut OpenBlock, kind: Option<ValType>) -> Result<(), Problem>
-    ensures { MatchResult result (λ _. PutsAny kind block.old block.new) (λ e. e ≡ problems.OutOfMemory) }
+    ensures { PuttingAny kind block.old block.new result }
 {
     block.operands.push(kind)?;
     Ok(())
@@ -76,14 +75,14 @@ pub fn put_any(block: &mut OpenBlock, kind: Option<ValType>) -> Result<(), Probl
 
 /// Puts an operand of a type.
 pub fn put_one(block: &mut OpenBlock, given: ValType) -> Result<(), Problem>
-    ensures { MatchResult result (λ _. Puts (given ∷ []) block.old block.new) (λ e. e ≡ problems.OutOfMemory) }
+    ensures { Putting (given ∷ []) block.old block.new result }
 {
     put_any(block, Some(given))
 }
 
 /// Puts an operand, if there is a type.
 pub fn put_result(block: &mut OpenBlock, given: Option<ValType>) -> Result<(), Problem>
-    ensures { MatchResult result (λ _. Puts (results_of given) block.old block.new) (λ e. e ≡ problems.OutOfMemory) }
+    ensures { Putting (results_of given) block.old block.new result }
 {
     match given {
         None => Ok(()),
@@ -93,7 +92,7 @@ pub fn put_result(block: &mut OpenBlock, given: Option<ValType>) -> Result<(), P
 
 /// Puts operands of these types, the topmost first.
 pub fn put_all(block: &mut OpenBlock, given: &[ValType]) -> Result<(), Problem>
-    ensures { MatchResult result (λ _. Puts given.now block.old block.new) (λ e. e ≡ problems.OutOfMemory) }
+    ensures { Putting given.now block.old block.new result }
 {
     for index in (0..given.len()).rev() {
         put_one(block, given[index])?;
@@ -107,7 +106,7 @@ pub fn replace(
     wanted: &[ValType],
     given: Option<ValType>,
 ) -> Result<(), Problem>
-    ensures { MatchResult result (λ _. Moved wanted.now (results_of given) block.old block.new) (CantMove wanted.now block.old) }
+    ensures { Moving wanted.now (results_of given) block.old block.new result }
 {
     take_all(block, wanted)?;
     put_result(block, given)

@@ -1,8 +1,7 @@
 //! Instructions that touch no operand, `drop` and `select` (Core specification 1.0, sections 3.3.2 and 3.3.5.1).
 
-ghost use Rattle.std.specs.Prelude.{MatchResult};
 ghost use Rattle.types.specs.declared.instr.PlainInstr.TheVariants as plain;
-ghost use Rattle.validate_bodies.specs.Blocks.{CheckedAnywhere, ChecksAnywhere, CantStand};
+ghost use Rattle.validate_bodies.specs.Blocks.{ChecksAnywhere, ChecksOutright, ChecksAlways};
 
 use crate::block::OpenBlock;
 use crate::operands::{put_any, put_one, take_any, take_one};
@@ -11,21 +10,21 @@ use types::ValType;
 
 /// `nop`
 pub fn check_nop(block: &mut OpenBlock) -> Result<(), Problem>
-    ensures { MatchResult result (λ _. CheckedAnywhere plain.Nop block.old block.new) (λ _. ⊥) }
+    ensures { ChecksAlways plain.Nop block.old block.new result }
 {
     Ok(())
 }
 
 /// `atomic.fence`
 pub fn check_fence(block: &mut OpenBlock) -> Result<(), Problem>
-    ensures { MatchResult result (λ _. CheckedAnywhere plain.Fence block.old block.new) (λ _. ⊥) }
+    ensures { ChecksAlways plain.Fence block.old block.new result }
 {
     Ok(())
 }
 
 /// `drop`
 pub fn check_drop(block: &mut OpenBlock) -> Result<(), Problem>
-    ensures { MatchResult result (λ _. CheckedAnywhere plain.Drop block.old block.new) (CantStand plain.Drop block.old) }
+    ensures { ChecksOutright plain.Drop block.old block.new result }
 {
     take_any(block)?;
     Ok(())

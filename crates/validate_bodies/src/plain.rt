@@ -1,8 +1,7 @@
 //! Instructions that neither begin, divide nor end a block.
 
 ghost use Rattle.std.specs.Prelude.{◌≡◌, []};
-ghost use Rattle.validate_bodies.specs.Blocks.{Checks, labels_at};
-ghost use Rattle.validate_bodies.specs.Scope.{context_of};
+ghost use Rattle.validate_bodies.specs.Blocks.{ChecksAt};
 
 use crate::block::OpenBlock;
 use crate::branches::{check_br, check_br_if, check_br_table, check_return, check_unreachable};
@@ -27,7 +26,7 @@ pub fn check_plain(
     row: &mut Vec<Target>,
 ) -> Result<(), Problem>
     requires { row.old.items ≡ [] }
-    ensures { Checks (context_of scope.now) (labels_at block.old outer.now) instr.now block.old block.new row.new.items result }
+    ensures { ChecksAt scope.now outer.now instr.now block.old block.new row.new.items result }
 {
     match instr {
         PlainInstr::Unreachable => check_unreachable(block),

@@ -1,11 +1,9 @@
 //! What the code of a body may name.
 
-ghost use Rattle.std.specs.Prelude.{◌≡◌, Some, MatchResult};
 ghost use Rattle.std.specs.List.{slice_get};
-ghost use Rattle.types.specs.declared.parts.Limits.{Limits};
-ghost use Rattle.validate_typing.specs.Typing.{HasMemory};
-ghost use Rattle.validate_typing.specs.declared.fault.Fault.TheVariants as faults;
-ghost use Rattle.validate_bodies.specs.Scope.{context_of, Misses};
+ghost use Rattle.validate_typing.specs.declared.fault.Fault.TheVariants.{UnknownLocal, UnknownGlobal, UnknownFunction};
+ghost use Rattle.validate_typing.specs.declared.fault.Fault.TheVariants.{UnknownType, UnknownTable, UnknownMemory};
+ghost use Rattle.validate_bodies.specs.Scope.{context_of, Gets, GetsAs, NeedsSome};
 
 use crate::problem::Problem;
 use types::{FuncType, Global, GlobalType, Limits, ValType};
@@ -35,8 +33,7 @@ pub struct Scope<'m> {
 
 /// The item with this index, or this fault where there is none.
 fn item<T>(items: &[T], index: usize, missing: Fault) -> Result<&T, Problem>
-    ensures { MatchResult result (λ found. slice_get items.now index ≡ Some found.now)
-        (Misses (slice_get items.now index) missing) }
+    ensures { GetsAs (slice_get items.now index) missing result (λ found. found.now) }
 {
     match items.get(index) {
         Some(found) => Ok(found),
@@ -47,8 +44,7 @@ fn item<T>(items: &[T], index: usize, missing: Fault) -> Result<&T, Problem>
 impl<'m> Scope<'m> {
     /// The type of a local; parameters come first.
     pub fn local(&self, index: u32) -> Result<ValType, Problem>
-        ensures { MatchResult result (λ t. slice_get (context_of self.now).locals index ≡ Some t)
-            (Misses (slice_get (context_of self.now).locals index) faults.UnknownLocal) }
+        ensures { Gets (slice_get (context_of self.now).locals index) UnknownLocal result }
     {
         let index = index as usize;
         if index < self.params.len() {
@@ -60,8 +56,7 @@ impl<'m> Scope<'m> {
 
     /// The type of a global.
     pub fn global(&self, index: u32) -> Result<GlobalType, Problem>
-        ensures { MatchResult result (λ g. slice_get (context_of self.now).globals index ≡ Some g)
-            (Misses (slice_get (context_of self.now).globals index) faults.UnknownGlobal) }
+        ensures { Gets (slice_get (context_of self.now).globals index) UnknownGlobal result }
     {
         let global = item(self.declared.globals, index as usize, Fault::UnknownGlobal)?;
         Ok(global.global_type)
@@ -69,16 +64,14 @@ impl<'m> Scope<'m> {
 
     /// A type.
     pub fn func_type(&self, index: u32) -> Result<&'m FuncType, Problem>
-        ensures { MatchResult result (λ t. slice_get (context_of self.now).types index ≡ Some t.now)
-            (Misses (slice_get (context_of self.now).types index) faults.UnknownType) }
+        ensures { GetsAs (slice_get (context_of self.now).types index) UnknownType result (λ t. t.now) }
     {
         item(self.declared.types, index as usize, Fault::UnknownType)
     }
 
     /// The index of a function's type.
     pub fn function(&self, index: u32) -> Result<u32, Problem>
-        ensures { MatchResult result (λ t. slice_get (context_of self.now).functions index ≡ Some t)
-            (Misses (slice_get (context_of self.now).functions index) faults.UnknownFunction) }
+        ensures { Gets (slice_get (context_of self.now).functions index) UnknownFunction result }
     {
         let type_index = item(
             self.declared.functions,
@@ -90,8 +83,7 @@ impl<'m> Scope<'m> {
 
     /// That there is a table.
     pub fn need_table(&self) -> Result<(), Problem>
-        ensures { MatchResult result (λ _. (l : Limits) × (slice_get (context_of self.now).tables 0 ≡ Some l))
-            (Misses (slice_get (context_of self.now).tables 0) faults.UnknownTable) }
+        ensures { NeedsSome (slice_get (context_of self.now).tables 0) UnknownTable result }
     {
         match self.declared.tables.first() {
             Some(_) => Ok(()),
@@ -101,8 +93,7 @@ impl<'m> Scope<'m> {
 
     /// That there is a memory.
     pub fn need_memory(&self) -> Result<(), Problem>
-        ensures { MatchResult result (λ _. HasMemory (context_of self.now))
-            (Misses (slice_get (context_of self.now).memories 0) faults.UnknownMemory) }
+        ensures { NeedsSome (slice_get (context_of self.now).memories 0) UnknownMemory result }
     {
         match self.declared.memories.first() {
             Some(_) => Ok(()),

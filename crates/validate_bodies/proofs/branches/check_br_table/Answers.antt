@@ -3,14 +3,14 @@ use Rattle.types.specs.declared.value.ValType.TheVariants.{I32}
 use Rattle.types.specs.declared.instr.PlainInstr.TheVariants as plain
 use Rattle.validate_typing.specs.Typing.{results_of}
 use Rattle.validate_bodies.specs.Scope.{context_of}
-use Rattle.validate_bodies.specs.Blocks.{labels_at, as_label}
+use Rattle.validate_bodies.specs.Blocks.{Carry, labels_at, as_label}
 use Rattle.validate_bodies.proofs.Labels.{types_at, row_last, all_last}
 use Rattle.validate_bodies.proofs.Moves.{takes_then, lacks_cant, lacks_after, cant_more, at_exit}
 use Rattle.validate_bodies.proofs.Fitting.{checked_stop, refused_cant, refused_missing, never_found, branched_off}
 use Rattle.validate_typing.specs.declared.fault.Fault.TheVariants.{UnknownLabel}
 use Rattle.validate_typing.specs.Placed.{types_of}
 use Rattle.validate_bodies.specs.Kinds.{are_labels}
-use Rattle.validate_bodies.proofs.Labels.{Carry, types_none, table_kind, no_default_kind, no_label_kind, all_front, all_end, all_there, table_refused}
+use Rattle.validate_bodies.proofs.Labels.{types_none, table_kind, no_default_kind, no_label_kind, all_front, all_end, all_there, table_refused}
 use Rattle.validate_bodies.proofs.branches.check_br_table.Goals as goal
 
 pub returns-in_err-default : goal.returns-in_err-default

@@ -2,8 +2,8 @@ use Rattle.std.proofs.Common.{◌≡◌, sym, true, false, ◌∙◌, ap, Some, 
 use Rattle.std.proofs.lemmas.List.{take_all}
 use Rattle.std.proofs.lemmas.List.Elements.{All-nil, All-more}
 use Rattle.validate_typing.specs.Typing.{results_of}
-use Rattle.validate_bodies.specs.Blocks.{labels_at, as_label}
-use Rattle.validate_bodies.proofs.Labels.{Carry, types_at, row_none, row_step, differs_missing, differs_here}
+use Rattle.validate_bodies.specs.Blocks.{Carry, labels_at, as_label}
+use Rattle.validate_bodies.proofs.Labels.{types_at, row_none, row_step, differs_missing, differs_here}
 use Rattle.validate_bodies.proofs.Moves.{at_exit}
 use Rattle.validate_bodies.proofs.branches.table_row.Goals as goal
 

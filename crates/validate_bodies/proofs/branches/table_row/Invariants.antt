@@ -2,8 +2,7 @@ use Rattle.std.proofs.Common.{take}
 use Rattle.std.specs.List.{All}
 use Rattle.validate_typing.specs.Typing.{results_of}
 use Rattle.validate_typing.specs.Placed.{IsRow}
-use Rattle.validate_bodies.specs.Blocks.{labels_at}
-use Rattle.validate_bodies.proofs.Labels.{Carry}
+use Rattle.validate_bodies.specs.Blocks.{Carry, labels_at}
 use Rattle.validate_bodies.proofs.branches.table_row.Given as goal
 
 abbrev pub invariant-loop-index : goal.invariant-loop-index

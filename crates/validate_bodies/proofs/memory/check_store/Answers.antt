@@ -2,11 +2,12 @@ use Rattle.std.proofs.Common.{rules, refl, [], ◌∷◌}
 use Rattle.types.specs.declared.value.ValType.TheVariants.{I32}
 use Rattle.types.specs.declared.instr.PlainInstr.TheVariants as plain
 use Rattle.types.specs.Widths.{access_type, access_bytes}
+use Rattle.validate_bodies.specs.Blocks.{Moving}
 use Rattle.validate_bodies.specs.Scope.{context_of}
 use Rattle.validate_bodies.proofs.Fitting.{inside, missing_inside, never_found, aligned_kind, misaligned_kind}
 use Rattle.validate_typing.specs.declared.fault.Fault.TheVariants.{UnknownMemory, Alignment}
 use Rattle.validate_typing.specs.Typing.{IsAligned}
-use Rattle.validate_bodies.proofs.Moves.{Moving, at_exit}
+use Rattle.validate_bodies.proofs.Moves.{at_exit}
 use Rattle.validate_bodies.proofs.memory.check_store.Goals as goal
 
 pub returns-in_err-need_memory : goal.returns-in_err-need_memory
