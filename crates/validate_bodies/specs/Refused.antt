@@ -11,18 +11,13 @@ use Rattle.validate_typing.specs.Context.{Context}
 use Rattle.validate_typing.specs.declared.target.Target.{Target}
 use Rattle.validate_typing.specs.Typing.{IsTyped}
 use Rattle.validate_typing.specs.Placed.{IsTabled}
-use Rattle.validate_bodies.specs.declared.problem.Problem.{Problem}
-use Rattle.validate_bodies.specs.declared.problem.Problem.TheVariants.{OutOfMemory, Wrong}
-use Rattle.validate_bodies.specs.Kinds.{kind_at}
+use Rattle.validate_instructions.specs.declared.problem.Problem.{Problem}
+use Rattle.validate_instructions.specs.declared.problem.Problem.TheVariants.{OutOfMemory}
+use Rattle.validate_instructions.specs.Kinds.{kind_at}
 
 -- Memory ran out: a number counts things that don't fit into it.
 abbrev pub TooLarge : ℕ → Problem → Type 0
 TooLarge n e = (e ≡ OutOfMemory) × (2 ^ 64 ≤ n)
-
--- A problem with its place.
-abbrev pub fault_at : Problem → ℕ → ℕ → ValidFault
-fault_at OutOfMemory function instruction = validity.OutOfMemory
-fault_at (Wrong kind) function instruction = validity.InBody kind function instruction
 
 -- Code breaks a rule at a place: no code that begins as this one does up to there, that instruction with it, is typed. The fault is
 -- that of the instruction, inside some labels.

@@ -2,17 +2,15 @@
 
 ghost use Rattle.std.specs.Prelude.{◌≡◌, ◌<◌, ◌≤◌, length, reverse, IfOk};
 ghost use Rattle.types.specs.Nesting.{IsExpression};
-ghost use Rattle.validate_bodies.specs.Scope.{context_of, in_body};
+ghost use Rattle.validate_instructions.specs.Scope.{context_of, in_body};
 ghost use Rattle.validate_bodies.specs.Reached.{TypesAt, AreAllKnown};
 ghost use Rattle.validate_bodies.specs.Forth.{BlocksAt, operands_in, goes_on_in};
 
-use crate::block::{Flow, OpenBlock};
 use crate::body::{own_block, pass, scope_of};
 use crate::ends::BlockEnds;
-use crate::problem::Problem;
-use crate::scope::{Declared, Scope};
 use std::alloc::{AllocError, Global};
 use types::{Body, FuncType, Instr, ValType};
+use validate_instructions::{Declared, Flow, OpenBlock, Problem, Scope};
 
 /// The blocks that are open at a place, the innermost last. `None` where no typed code begins with what comes before it.
 fn blocks_at(

@@ -1,6 +1,6 @@
 use Rattle.std.proofs.Common.{refl, ◌≡◌, length, reverse, Some, slice_get, arith, take}
 use Rattle.std.proofs.lemmas.Option.{slice_get_read}
-use Rattle.validate_bodies.specs.Scope.{context_of}
+use Rattle.validate_instructions.specs.Scope.{context_of}
 use Rattle.validate_bodies.specs.Forth.{AreDone}
 use Rattle.validate_bodies.proofs.Whole.{on_start, on_step}
 use Rattle.validate_bodies.proofs.Known.{comes_first, comes_next, comes_done, begins_none}
