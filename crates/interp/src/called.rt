@@ -7,15 +7,10 @@ use types::Value;
 use validate_module::ValidModule;
 
 impl<'m> Thread<'m> {
-    ghost use Rattle.std.specs.Prelude.{◌≡◌, map, IfOk};
-    ghost use Rattle.types.specs.declared.parts.FuncType.{FuncType};
-    ghost use Rattle.types.specs.declared.parts.Body.{Body};
-    ghost use Rattle.types.specs.Values.{type_of};
-    ghost use Rattle.schedule.specs.Machine.{Thread.Runs};
-    ghost use Rattle.interp_machine.specs.State.{At};
+    ghost use Rattle.std.specs.Prelude.{◌≡◌, IfOk};
     ghost use Rattle.interp.specs.Kept.{RunsBy};
-    ghost use Rattle.interp.specs.Starts.{IsFunction, start_of};
-    ghost use Rattle.interp.specs.Threads.{StandsFor};
+    ghost use Rattle.interp.specs.Starts.{TakesArguments};
+    ghost use Rattle.interp.specs.Threads.{StandsForCall};
 
     /// A thread that is about to call a function of the module itself, from 0 without the imported ones, with these arguments.
     ///
@@ -28,11 +23,10 @@ impl<'m> Thread<'m> {
         args: &[Value],
         fuel: u64,
     ) -> Result<Thread<'m>, AllocError>
-        requires { (t : FuncType) × (body : Body) × IsFunction valid.now.parts own t body × (map type_of args.now ≡ t.params) }
+        requires { TakesArguments valid.now.parts own args.now }
         ensures budget { IfOk result (λ thread. thread.fuel ≡ fuel) }
         ensures runs_by { IfOk result (RunsBy valid.now) }
-        ensures stands { IfOk result (λ thread. (t : FuncType) (body : Body) → IsFunction valid.now.parts own t body
-            → StandsFor thread (Runs (At (start_of valid.now.parts t body args.now)) fuel)) }
+        ensures stands { IfOk result (StandsForCall valid.now.parts own args.now fuel) }
     {
         Ok(Thread {
             parts: valid.parts(),

@@ -1,10 +1,7 @@
 //! The start of a function.
 
-ghost use Rattle.std.specs.Prelude.{◌≡◌, map, IfOk};
-ghost use Rattle.types.specs.declared.parts.FuncType.{FuncType};
-ghost use Rattle.types.specs.declared.parts.Body.{Body};
-ghost use Rattle.types.specs.Values.{type_of};
-ghost use Rattle.interp.specs.Starts.{IsFunction, StandsAtStart};
+ghost use Rattle.std.specs.Prelude.{◌≡◌, IfOk};
+ghost use Rattle.interp.specs.Starts.{TakesArguments, StandsAtStart};
 
 use crate::opening::{opening_globals, opening_values, program};
 use interp_state::{Progress, State, code_of};
@@ -19,7 +16,7 @@ pub(crate) fn start<'m>(
     own: usize,
     args: &[Value],
 ) -> Result<State<'m>, AllocError>
-    requires { (t : FuncType) × (body : Body) × IsFunction valid.now.parts own t body × (map type_of args.now ≡ t.params) }
+    requires { TakesArguments valid.now.parts own args.now }
     ensures function { IfOk result (λ s. s.function ≡ own) }
     ensures tables { IfOk result (λ s. s.program.tables.now ≡ valid.now.tables) }
     ensures stands { IfOk result (StandsAtStart valid.now.parts own args.now) }

@@ -74,21 +74,16 @@ impl Kept {
 }
 
 impl<'m> Thread<'m> {
-    ghost use Rattle.std.specs.Prelude.{ℕ, IfOk};
-    ghost use Rattle.validate_typing.specs.Tabled.{WithTables};
-    ghost use Rattle.schedule.specs.Machine.{Thread.Runs};
+    ghost use Rattle.std.specs.Prelude.{IfOk};
     ghost use Rattle.interp_machine.specs.Config.{Config};
-    ghost use Rattle.interp_machine.specs.State.{At};
-    ghost use Rattle.interp.specs.Threads.{StandsFor};
-    ghost use Rattle.interp.specs.Kept.{IsKept, IsResumed, RunsBy};
+    ghost use Rattle.interp.specs.Kept.{IsKept, IsKeptOf, IsResumed};
 
     /// What of the thread is more than its module and its units.
     ///
     /// # Errors
     /// Where memory is refused.
     pub fn keep(&self, alloc: Global) -> Result<Kept, AllocError>
-        ensures { IfOk result (λ kept. (w : WithTables) (c : Config) (left : ℕ) → RunsBy w self.now
-            → StandsFor self.now (Runs (At c) left) → IsKept w kept c) }
+        ensures { IfOk result (IsKeptOf self.now) }
     {
         let state = &self.state;
         Ok(Kept {

@@ -1,13 +1,13 @@
 //! What a thread has before its first turn.
 
-ghost use Rattle.std.specs.Prelude.{◌≡◌, ◌+◌, ◌-◌, ◌≤◌, ◌++◌, length, map, replicate};
-ghost use Rattle.std.specs.Prelude.{Some, IfOk, All, vec_len, vec_capacity};
-ghost use Rattle.std.specs.List.{slice_get, splice};
+ghost use Rattle.std.specs.Prelude.{◌≡◌, ◌+◌, ◌≤◌, ◌++◌, length, map};
+ghost use Rattle.std.specs.Prelude.{Some, IfOk, vec_len, vec_capacity};
+ghost use Rattle.std.specs.List.{splice};
 ghost use Rattle.types.specs.Limits.{most_values};
-ghost use Rattle.validate_typing.specs.Image.{offset_of};
-ghost use Rattle.interp_machine.specs.Program.{constant_of, opening_globals, opening_table, size_of_table, zero_of};
+ghost use Rattle.interp_machine.specs.Program.{constant_of, opening_globals, opening_table, zero_of};
 ghost use Rattle.interp_state.specs.Words.{word_of, AreInRange, Mean};
 ghost use Rattle.interp_state.specs.Stands.{IsProgram};
+ghost use Rattle.interp.specs.Starts.{HasElementsWithin, words_with_zeros};
 
 use interp_state::{Program, push_zeros, word};
 use std::alloc::{AllocError, Global};
@@ -62,7 +62,7 @@ fn write_at<T: Copy>(items: &mut [T], start: usize, more: &[T])
 /// The table before the first turn: empty places, with the element segments written over them in order (Core specification
 /// 1.0, section 4.5.4).
 fn opening_table(alloc: Global, parts: &Parts) -> Result<Vec<Option<u32>>, AllocError>
-    requires { All (λ e. offset_of e.offset + length e.functions ≤ size_of_table (slice_get parts.now.tables 0)) parts.now.elements }
+    requires { HasElementsWithin parts.now }
     ensures { IfOk result (λ places. places.items ≡ opening_table parts.now) }
 {
     let size = match parts.tables.as_slice().first() {
@@ -132,7 +132,7 @@ pub(crate) fn opening_values(
 #[inline]
 pub(crate) fn overwrite(values: &mut Vec<u64>, args: &[Value])
     requires { length args.now ≤ length values.old.items }
-    ensures items { values.new.items ≡ map word_of args.now ++ replicate (length values.old.items - length args.now) 0 }
+    ensures items { values.new.items ≡ words_with_zeros args.now (length values.old.items) }
     ensures in_range { AreInRange args.now }
     ensures capacity { vec_capacity values.new ≡ vec_capacity values.old }
 {

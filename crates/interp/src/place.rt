@@ -11,17 +11,12 @@ pub struct Place {
 }
 
 impl Thread<'_> {
-    ghost use Rattle.std.specs.Prelude.{ℕ};
-    ghost use Rattle.schedule.specs.Machine.{Thread.Runs};
-    ghost use Rattle.interp_machine.specs.Config.{Config};
-    ghost use Rattle.interp_machine.specs.State.{At};
-    ghost use Rattle.interp.specs.Threads.{StandsFor};
+    ghost use Rattle.interp.specs.Threads.{StandsWith};
     ghost use Rattle.interp.specs.Places.{IsAtPlace, HasCallers};
 
     /// Where the instruction stands that comes next in it; the one at which it ended, if it has.
     pub fn place(&self) -> Place
-        ensures { (c : Config) (left : ℕ) → StandsFor self.now (Runs (At c) left)
-            → IsAtPlace self.now.parts.now result.function result.instr c }
+        ensures { StandsWith self.now (IsAtPlace self.now.parts.now result.function result.instr) }
     {
         Place {
             function: self.state.function,
@@ -31,7 +26,7 @@ impl Thread<'_> {
 
     /// The functions that called the one that runs, the outermost first.
     pub fn callers(&self) -> &[Caller]
-        ensures { (c : Config) (left : ℕ) → StandsFor self.now (Runs (At c) left) → HasCallers self.now.parts.now result.now c }
+        ensures { StandsWith self.now (HasCallers self.now.parts.now result.now) }
     {
         self.state.callers.as_slice()
     }

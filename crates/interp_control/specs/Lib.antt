@@ -1,1 +1,2 @@
+pub mod Branching
 pub mod Numbers

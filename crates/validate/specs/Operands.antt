@@ -1,6 +1,8 @@
 -- The types of the operands at a place of a function of a valid module. Functions of the module itself are counted from 0 without
 -- the imported ones.
-use Rattle.std.specs.Prelude.{◌≡◌, ◌⊎◌, ℕ, ◌≤◌, List, length, Some}
+use Rattle.std.specs.Prelude.{◌≡◌, ◌⊎◌, ℕ, ◌≤◌, List, length, Option, Some}
+use Rattle.std.specs.Option.{MatchOption}
+use Rattle.std.specs.Global.{Vec}
 use Rattle.std.specs.List.{slice_get}
 use Rattle.types.specs.declared.value.ValType.{ValType}
 use Rattle.types.specs.declared.parts.FuncType.{FuncType}
@@ -21,3 +23,8 @@ pub record HasOwnOperands (m : Parts) (own place : ℕ) (types : List ValType) :
 abbrev pub LacksOperands : Parts → ℕ → ℕ → Type 0
 LacksOperands m own place = (length m.bodies ≤ own) ⊎ ((body : Body) × (slice_get m.bodies own ≡ Some body)
     × ((length body.code ≤ place) ⊎ CutOff body.code place))
+
+-- The types that are answered for a place, and none where there are none.
+abbrev pub OwnOperandsAt : Parts → ℕ → ℕ → Option (Vec ValType) → Type 0
+OwnOperandsAt m own place found =
+    MatchOption found (LacksOperands m own place) (λ types. HasOwnOperands m own place types.items)

@@ -1,5 +1,5 @@
 -- Why a module is refused.
-use Rattle.std.specs.Prelude.{◌≡◌, ◌⊎◌, ℕ, ◌+◌, ◌<◌, length, Some, None}
+use Rattle.std.specs.Prelude.{◌≡◌, ◌⊎◌, ℕ, ◌+◌, ◌<◌, length, Some, None, Result, IfSome, IsErrAnd}
 use Rattle.std.specs.Bool.{⊤}
 use Rattle.std.specs.List.{slice_get}
 use Rattle.types.specs.declared.parts.FuncType.{FuncType}
@@ -8,6 +8,8 @@ use Rattle.types.specs.declared.parts.Parts.{Parts}
 use Rattle.validate_typing.specs.declared.fault.Fault.{Fault}
 use Rattle.validate_typing.specs.declared.fault.ValidFault.{ValidFault}
 use Rattle.validate_typing.specs.declared.fault.ValidFault.TheVariants.{OutOfMemory, Outside, InBody}
+use Rattle.validate_typing.specs.declared.fault.Fault.TheVariants as faults
+use Rattle.validate_typing.specs.Faults.{fault_kind}
 use Rattle.validate_typing.specs.Context.{imported_functions, context_of, in_function}
 use Rattle.validate_typing.specs.Typing.{IsTyped}
 use Rattle.validate_module_rules.specs.Faults.{fault_outside}
@@ -16,6 +18,14 @@ use Rattle.validate_bodies.specs.Refused.{BreaksAt}
 -- A fault of a rule outside bodies is answered, unless memory ran out.
 abbrev pub IsRefusal : Fault → ValidFault → Type 0
 IsRefusal kind fault = (fault ≡ OutOfMemory) ⊎ (fault ≡ Outside kind)
+
+-- A module with such a fault is refused so.
+abbrev pub RefusesOutside : {A : Type 0} → Parts → Result A ValidFault → Type 0
+RefusesOutside m r = IfSome (fault_outside m) (λ kind. IsErrAnd r (λ fault. IsRefusal kind fault))
+
+-- A fault whose kind is want of memory is of no place.
+abbrev pub IsMemoryAlone : ValidFault → Type 0
+IsMemoryAlone fault = fault_kind fault ≡ faults.OutOfMemory → fault ≡ OutOfMemory
 
 -- A body breaks a rule at a place: that of a function of the module itself, counted from 0. The answer's function counts the
 -- imported ones.

@@ -1,12 +1,11 @@
 //! Whether a module is valid, with no table kept.
 
-ghost use Rattle.std.specs.Prelude.{IfOk, IfErr, IfSome, IsErrAnd, MatchResult};
+ghost use Rattle.std.specs.Prelude.{IfOk, IfErr, MatchResult};
 ghost use Rattle.types.specs.Modules.{IsModule};
 ghost use Rattle.validate_typing.specs.Validity.{IsValid};
 ghost use Rattle.validate_module_rules.specs.Spaces.{IsSpacesOf};
 ghost use Rattle.validate_module_rules.specs.Exported.{HasValidBodies};
-ghost use Rattle.validate_module_rules.specs.Faults.{fault_outside};
-ghost use Rattle.validate.specs.Refusals.{IsRefusal, RefusedBodies, IsRefused};
+ghost use Rattle.validate.specs.Refusals.{RefusedBodies, IsRefused, RefusesOutside};
 ghost use Rattle.validate_module.specs.Own.{HasTypedFunctions};
 
 use crate::check::table_of;
@@ -33,7 +32,7 @@ pub fn check_alone(alloc: Global, parts: &Parts) -> Result<(), ValidFault>
     requires { IsModule parts.now }
     ensures valid { IfOk result (λ _. IsValid parts.now) }
     ensures refused { IfErr result (IsRefused parts.now) }
-    ensures outside { IfSome (fault_outside parts.now) (λ kind. IsErrAnd result (λ fault. IsRefusal kind fault)) }
+    ensures outside { RefusesOutside parts.now result }
 {
     let spaces = IndexSpaces::of(alloc, parts)?;
     if let Some(fault) = fault_outside_bodies(parts, &spaces) {

@@ -1,8 +1,7 @@
 //! The types of the operands of a function of a valid module.
 
 ghost use Rattle.std.specs.Prelude.{IfOk};
-ghost use Rattle.std.specs.Option.{MatchOption};
-ghost use Rattle.validate.specs.Operands.{HasOwnOperands, LacksOperands};
+ghost use Rattle.validate.specs.Operands.{OwnOperandsAt};
 
 use crate::check::declared;
 use std::alloc::{AllocError, Global};
@@ -22,8 +21,7 @@ pub fn operand_types(
     own: usize,
     place: usize,
 ) -> Result<Option<Vec<ValType>>, AllocError>
-    ensures { IfOk result (λ found. MatchOption found (LacksOperands («module».now).parts own place)
-        (λ types. HasOwnOperands («module».now).parts own place types.items)) }
+    ensures { IfOk result (OwnOperandsAt («module».now).parts own place) }
 {
     let parts = module.parts();
     if own >= parts.bodies.len() {

@@ -1,12 +1,9 @@
 //! The calls that validate a module.
 
-ghost use Rattle.std.specs.Prelude.{◌≡◌, IfOk, IfErr, IfSome, IsErrAnd, IsOkUnless};
+ghost use Rattle.std.specs.Prelude.{◌≡◌, IfOk, IfErr, IsOkUnless};
 ghost use Rattle.validate_typing.specs.Tabled.{IsValidated};
 ghost use Rattle.validate_typing.specs.Validity.{IsValid};
-ghost use Rattle.validate_typing.specs.Faults.{fault_kind};
-ghost use Rattle.validate_typing.specs.declared.fault.Fault.TheVariants as faults;
-ghost use Rattle.validate_module_rules.specs.Faults.{fault_outside};
-ghost use Rattle.validate.specs.Refusals.{IsRefusal, IsRefused};
+ghost use Rattle.validate.specs.Refusals.{IsRefused, IsMemoryAlone, RefusesOutside};
 
 use crate::alone::check_alone;
 use crate::check::check_parts;
@@ -26,8 +23,8 @@ pub fn validate(alloc: Global, module: Module) -> Result<ValidModule, ValidFault
     ensures valid { IfOk result (λ v. (v.parts ≡ «module») × IsValidated v) }
     ensures refused { IfErr result (IsRefused «module») }
     ensures complete { IsValid «module» → IsOkUnless result ValidFault.OutOfMemory }
-    ensures memory { IfErr result (λ fault. fault_kind fault ≡ faults.OutOfMemory → fault ≡ ValidFault.OutOfMemory) }
-    ensures outside { IfSome (fault_outside «module») (λ kind. IsErrAnd result (λ fault. IsRefusal kind fault)) }
+    ensures memory { IfErr result IsMemoryAlone }
+    ensures outside { RefusesOutside «module» result }
 {
     match check_parts(alloc, module.parts()) {
         Ok(findings) => Ok(ValidModule::new(alloc, module, findings)?),
@@ -44,8 +41,8 @@ pub fn check_module(alloc: Global, module: &Module) -> Result<(), ValidFault>
     ensures valid { IfOk result (λ _. IsValid «module».now) }
     ensures refused { IfErr result (IsRefused «module».now) }
     ensures complete { IsValid «module».now → IsOkUnless result ValidFault.OutOfMemory }
-    ensures memory { IfErr result (λ fault. fault_kind fault ≡ faults.OutOfMemory → fault ≡ ValidFault.OutOfMemory) }
-    ensures outside { IfSome (fault_outside «module».now) (λ kind. IsErrAnd result (λ fault. IsRefusal kind fault)) }
+    ensures memory { IfErr result IsMemoryAlone }
+    ensures outside { RefusesOutside «module».now result }
 {
     check_alone(alloc, module.parts())
 }

@@ -13,12 +13,12 @@ use Rattle.types.specs.declared.instr.Instr.{Instr}
 use Rattle.types.specs.Nesting.{Code, Empty, IsExpression}
 use Rattle.validate_typing.specs.declared.fault.Fault.{Fault}
 use Rattle.validate_typing.specs.Context.{Context}
-use Rattle.validate_bodies.specs.declared.block.Flow.{Flow}
-use Rattle.validate_bodies.specs.declared.block.Flow.TheVariants.{Live, Idle, Free}
-use Rattle.validate_bodies.specs.declared.block.OpenBlock.{OpenBlock}
+use Rattle.validate_instructions.specs.declared.block.Flow.{Flow}
+use Rattle.validate_instructions.specs.declared.block.Flow.TheVariants.{Live, Idle, Free}
+use Rattle.validate_instructions.specs.declared.block.OpenBlock.{OpenBlock}
 use Rattle.validate_bodies.specs.declared.ends.BlockEnd.{BlockEnd}
-use Rattle.validate_bodies.specs.declared.problem.Problem.TheVariants.{Wrong}
-use Rattle.validate_bodies.specs.Blocks.{MayHave, Known}
+use Rattle.validate_instructions.specs.declared.problem.Problem.TheVariants.{Wrong}
+use Rattle.validate_instructions.specs.Blocks.{MayHave, Known}
 use Rattle.validate_bodies.specs.Passes.{Starts}
 use Rattle.validate_bodies.specs.Ends.{Close}
 use Rattle.validate_bodies.specs.Onward.{Stuck}

@@ -1,13 +1,9 @@
 pub mod Innermost
-pub mod Moves
-pub mod Fitting
-pub mod Labels
 pub mod Passes
 pub mod Onward
 pub mod Stuck
 pub mod Endings
 pub mod Whole
-pub mod Spared
 pub mod Forth
 pub mod Unique
 pub mod Known

@@ -13,7 +13,7 @@ use Rattle.types.specs.Widths.{load_type, access_type}
 use Rattle.validate_typing.specs.Typing.{results_of, numeric_takes, numeric_gives, atomic_takes, atomic_gives, Moves, CallsType, Fits, HasType}
 use Rattle.validate_typing.specs.Placed.{goes_on}
 use Rattle.validate_bodies.specs.Reached.{goes_through}
-use Rattle.validate_bodies.proofs.Fitting.{same_found}
+use Rattle.validate_instructions.proofs.Fitting.{same_found}
 
 moves_same : (takes gives from to other : List ValType) → Moves takes gives from to → Moves takes gives from other → to ≡ other
 moves_same takes gives from to other a b =

@@ -1,9 +1,7 @@
-pub mod Scope
-pub mod Kinds
-pub mod Blocks
 pub mod Passes
 pub mod Ends
 pub mod Onward
 pub mod Refused
 pub mod Reached
 pub mod Forth
+pub mod Going

@@ -10,15 +10,15 @@ use Rattle.validate_typing.specs.Context.{Context}
 use Rattle.validate_typing.specs.Typing.{results_of, HasType}
 use Rattle.validate_typing.specs.Placed.{FlatLabel, types_of}
 use Rattle.validate_typing.specs.Nested.{Level, before}
-use Rattle.validate_bodies.specs.declared.block.Arm.{Arm}
-use Rattle.validate_bodies.specs.declared.block.Arm.TheVariants.{Whole, Lone, First}
-use Rattle.validate_bodies.specs.declared.block.Shape.{Shape}
-use Rattle.validate_bodies.specs.declared.block.OpenBlock.{OpenBlock}
+use Rattle.validate_instructions.specs.declared.block.Arm.{Arm}
+use Rattle.validate_instructions.specs.declared.block.Arm.TheVariants.{Whole, Lone, First}
+use Rattle.validate_instructions.specs.declared.block.Shape.{Shape}
+use Rattle.validate_instructions.specs.declared.block.OpenBlock.{OpenBlock}
 use Rattle.validate_bodies.specs.declared.ends.BlockEnd.{BlockEnd}
-use Rattle.validate_bodies.specs.declared.problem.Problem.{Problem}
-use Rattle.validate_bodies.specs.declared.problem.Problem.TheVariants.{OutOfMemory, Wrong}
-use Rattle.validate_bodies.specs.Kinds.{kind_at}
-use Rattle.validate_bodies.specs.Blocks.{Known, as_label, label_of}
+use Rattle.validate_instructions.specs.declared.problem.Problem.{Problem}
+use Rattle.validate_instructions.specs.declared.problem.Problem.TheVariants.{OutOfMemory, Wrong}
+use Rattle.validate_instructions.specs.Kinds.{kind_at}
+use Rattle.validate_instructions.specs.Blocks.{Known, as_label, label_of}
 use Rattle.validate_bodies.specs.Ends.{Ends, ends_step, Close, Suits}
 
 -- The second arm of an if is typed too. Without one an if has no result.

@@ -1,5 +1,5 @@
 -- Why a body is refused.
-use Rattle.std.specs.Prelude.{◌≡◌, ℕ, ◌+◌, List, take, Some}
+use Rattle.std.specs.Prelude.{◌≡◌, ℕ, ◌+◌, ◌^◌, ◌≤◌, List, take, Some, Result, MatchResult}
 use Rattle.std.specs.Bool.{⊤}
 use Rattle.std.specs.List.{slice_get}
 use Rattle.types.specs.declared.value.ValType.{ValType}
@@ -8,15 +8,16 @@ use Rattle.validate_typing.specs.declared.fault.Fault.{Fault}
 use Rattle.validate_typing.specs.declared.fault.ValidFault.{ValidFault}
 use Rattle.validate_typing.specs.declared.fault.ValidFault.TheVariants as validity
 use Rattle.validate_typing.specs.Context.{Context}
+use Rattle.validate_typing.specs.declared.target.Target.{Target}
 use Rattle.validate_typing.specs.Typing.{IsTyped}
-use Rattle.validate_bodies.specs.declared.problem.Problem.{Problem}
-use Rattle.validate_bodies.specs.declared.problem.Problem.TheVariants.{OutOfMemory, Wrong}
-use Rattle.validate_bodies.specs.Kinds.{kind_at}
+use Rattle.validate_typing.specs.Placed.{IsTabled}
+use Rattle.validate_instructions.specs.declared.problem.Problem.{Problem}
+use Rattle.validate_instructions.specs.declared.problem.Problem.TheVariants.{OutOfMemory}
+use Rattle.validate_instructions.specs.Kinds.{kind_at}
 
--- A problem with its place.
-abbrev pub fault_at : Problem → ℕ → ℕ → ValidFault
-fault_at OutOfMemory function instruction = validity.OutOfMemory
-fault_at (Wrong kind) function instruction = validity.InBody kind function instruction
+-- Memory ran out: a number counts things that don't fit into it.
+abbrev pub TooLarge : ℕ → Problem → Type 0
+TooLarge n e = (e ≡ OutOfMemory) × (2 ^ 64 ≤ n)
 
 -- Code breaks a rule at a place: no code that begins as this one does up to there, that instruction with it, is typed. The fault is
 -- that of the instruction, inside some labels.
@@ -27,8 +28,20 @@ pub record BreaksAt (c : Context) (code : List Instr) (kind : Fault) (place : �
   pub kind_is : kind ≡ kind_at c labels instr
   pub never : (other : List Instr) → take (place + 1) other ≡ take (place + 1) code → IsTyped c other → ⊥
 
+-- The table of branches of code.
+abbrev pub HasTable : Context → List Instr → List (List Target) → Type 0
+HasTable c code rows = IsTabled (record { context = c; code = code; rows = rows })
+
 -- The code of a function is refused: memory ran out, or it breaks a rule.
 abbrev pub RefusedBody : Context → List Instr → ℕ → ValidFault → Type 0
 RefusedBody c code function validity.OutOfMemory = ⊤
 RefusedBody c code function (validity.Outside kind) = ⊥
 RefusedBody c code function (validity.InBody kind f place) = (f ≡ function) × BreaksAt c code kind place
+
+-- What the validator of a function's code answers: its table, or why it is refused.
+abbrev pub MakesTable : Context → List Instr → ℕ → Result (List (List Target)) ValidFault → Type 0
+MakesTable c code function r = MatchResult r (λ table. HasTable c code table) (RefusedBody c code function)
+
+-- The same where this table was filled.
+abbrev pub FillsTable : Context → List Instr → ℕ → List (List Target) → Result (Unit {0}) ValidFault → Type 0
+FillsTable c code function table r = MatchResult r (λ _. HasTable c code table) (RefusedBody c code function)

@@ -10,24 +10,12 @@
 //! instruction at a time: what is right after an instruction makes what is right before it (`specs/Passes.antt`).
 #![tactic(auto)]
 
-mod block;
 mod body;
-mod branches;
-mod calls;
 mod control;
 mod ends;
 mod laws;
-mod memory;
-mod numeric;
-mod operands;
-mod parametric;
-mod plain;
-mod problem;
 mod reached;
-mod scope;
-mod variables;
 
 pub use body::check_body;
 pub use laws::operands_have_one_type_each;
 pub use reached::operand_types;
-pub use scope::Declared;

@@ -1,22 +1,16 @@
 //! The types of the operands at a place of a body: those of the open blocks of the pass over what comes before it.
 
-ghost use Rattle.std.specs.Prelude.{◌≡◌, ◌<◌, ◌≤◌, length, map, take, reverse, Some, None, IfOk};
-ghost use Rattle.std.specs.Option.{MatchOption};
-ghost use Rattle.std.specs.List.{flat_map, Contains};
+ghost use Rattle.std.specs.Prelude.{◌≡◌, ◌<◌, ◌≤◌, length, reverse, IfOk};
 ghost use Rattle.types.specs.Nesting.{IsExpression};
-ghost use Rattle.validate_typing.specs.Context.{in_function};
-ghost use Rattle.validate_bodies.specs.declared.block.OpenBlock.{OpenBlock};
-ghost use Rattle.validate_bodies.specs.Scope.{context_of, declared_context};
-ghost use Rattle.validate_bodies.specs.Reached.{Reached, Unreached, BeginsNone};
-ghost use Rattle.validate_bodies.specs.Forth.{AreDone, goes_on_in};
+ghost use Rattle.validate_instructions.specs.Scope.{context_of, in_body};
+ghost use Rattle.validate_bodies.specs.Reached.{TypesAt, AreAllKnown};
+ghost use Rattle.validate_bodies.specs.Forth.{BlocksAt, operands_in, goes_on_in};
 
-use crate::block::{Flow, OpenBlock};
 use crate::body::{own_block, pass, scope_of};
 use crate::ends::BlockEnds;
-use crate::problem::Problem;
-use crate::scope::{Declared, Scope};
 use std::alloc::{AllocError, Global};
 use types::{Body, FuncType, Instr, ValType};
+use validate_instructions::{Declared, Flow, OpenBlock, Problem, Scope};
 
 /// The blocks that are open at a place, the innermost last. `None` where no typed code begins with what comes before it.
 fn blocks_at(
@@ -27,8 +21,7 @@ fn blocks_at(
 ) -> Result<Option<Vec<OpenBlock>>, AllocError>
     requires expression { IsExpression code.now }
     requires within { place < length code.now }
-    ensures { IfOk result (λ found. MatchOption found (BeginsNone (context_of scope.now) code.now place)
-        (λ blocks. AreDone (context_of scope.now) (take place code.now) (reverse blocks.items))) }
+    ensures { IfOk result (BlocksAt (context_of scope.now) code.now place) }
 {
     let mut blocks = Vec::new(alloc);
     blocks.push(own_block(alloc, scope, code.len()))?;
@@ -67,7 +60,7 @@ fn goes_on(blocks: &[OpenBlock]) -> bool
 
 /// What is known of the operands of all blocks.
 fn operands_of(alloc: Global, blocks: &[OpenBlock]) -> Result<Vec<Option<ValType>>, AllocError>
-    ensures { IfOk result (λ all. all.items ≡ flat_map (λ (b : OpenBlock). b.operands.items) blocks.now) }
+    ensures { IfOk result (λ all. all.items ≡ operands_in blocks.now) }
 {
     let mut operands = Vec::new(alloc);
     for block in blocks {
@@ -81,7 +74,7 @@ fn known_types(
     alloc: Global,
     operands: &[Option<ValType>],
 ) -> Result<Option<Vec<ValType>>, AllocError>
-    ensures { IfOk result (λ known. MatchOption known (Contains operands.now None) (λ types. map Some types.items ≡ operands.now)) }
+    ensures { IfOk result (AreAllKnown operands.now) }
 {
     let mut types = Vec::new(alloc);
     for operand in operands {
@@ -101,8 +94,7 @@ fn types_at(
     place: usize,
 ) -> Result<Option<Vec<ValType>>, AllocError>
     requires { IsExpression code.now }
-    ensures { IfOk result (λ found. MatchOption found (Unreached (context_of scope.now) code.now place)
-        (λ types. Reached (context_of scope.now) code.now place types.items)) }
+    ensures { IfOk result (TypesAt (context_of scope.now) code.now place) }
 {
     if place >= code.len() {
         return Ok(None);
@@ -133,8 +125,7 @@ pub fn operand_types(
 ) -> Result<Option<Vec<ValType>>, AllocError>
     requires expression { IsExpression body.now.code }
     requires one_result { length func_type.now.results ≤ 1 }
-    ensures { let c = in_function (declared_context declared.now) func_type.now body.now in
-        IfOk result (λ found. MatchOption found (Unreached c body.now.code place) (λ types. Reached c body.now.code place types.items)) }
+    ensures { IfOk result (TypesAt (in_body declared.now func_type.now body.now) body.now.code place) }
 {
     types_at(
         alloc,

@@ -8,7 +8,8 @@ use binary_wire::ReadFault;
 use std::alloc::{AllocError, Global};
 use std::fmt::Write;
 use types::{Body, Module, Parts, Sequence, ValType};
-use validate_bodies::{Declared, check_body};
+use validate_bodies::check_body;
+use validate_instructions::Declared;
 use validate_typing::{Table, Target, ValidFault};
 
 /// What there is around a body.

@@ -1,9 +1,10 @@
 //! The bytes of the opening memory.
 
-ghost use Rattle.std.specs.Prelude.{◌≡◌, ◌+◌, ◌*◌, ◌≤◌, length, replicate, fold, IfOk};
+ghost use Rattle.std.specs.Prelude.{◌≡◌, ◌+◌, ◌*◌, ◌≤◌, length, IfOk};
 ghost use Rattle.std.specs.List.{All};
 ghost use Rattle.types.specs.Limits.{page_size};
 ghost use Rattle.validate_typing.specs.Image.{offset_of, with_segment};
+ghost use Rattle.validate_module.specs.Pages.{image_of};
 
 use std::alloc::{AllocError, Global};
 use types::{DataSegment, PAGE_SIZE};
@@ -27,7 +28,7 @@ pub fn opening_image(
     segments: &[DataSegment],
 ) -> Result<Vec<u8>, AllocError>
     requires { All (λ d. offset_of d.offset + length d.bytes ≤ page_size * pages) segments.now }
-    ensures { IfOk result (λ image. image.items ≡ fold with_segment (replicate (page_size * pages) 0) segments.now) }
+    ensures { IfOk result (λ image. image.items ≡ image_of pages segments.now) }
 {
     let mut image = vec![in alloc; 0; PAGE_SIZE * pages as usize]?;
     for segment in segments {

@@ -1,12 +1,11 @@
 //! The functions of a module itself.
 
-ghost use Rattle.std.specs.Prelude.{◌≡◌, ℕ, ◌<◌, ◌≤◌, length, Some, IfOk};
-ghost use Rattle.std.specs.Option.{MatchOption};
+ghost use Rattle.std.specs.Prelude.{◌≡◌, ◌<◌, ◌≤◌, length, Some, IfOk};
 ghost use Rattle.std.specs.List.{slice_get};
 ghost use Rattle.types.specs.Nesting.{IsExpression};
 ghost use Rattle.types.specs.Modules.{IsModule};
 ghost use Rattle.validate_typing.specs.Validity.{IsValid};
-ghost use Rattle.validate_module.specs.Own.{HasTypedFunctions, HasLocals};
+ghost use Rattle.validate_module.specs.Own.{HasTypedFunctions, HasOwnType, FindsLocals};
 
 use std::alloc::{AllocError, Global};
 use types::{Body, FuncType, Parts, ValType};
@@ -16,7 +15,7 @@ use types::{Body, FuncType, Parts, ValType};
 pub fn func_type(parts: &Parts, own: usize) -> &FuncType
     requires typed { HasTypedFunctions parts.now }
     requires within { own < length parts.now.functions }
-    ensures found { (index : ℕ) × (slice_get parts.now.functions own ≡ Some index) × (slice_get parts.now.types index ≡ Some result.now) }
+    ensures found { HasOwnType parts.now own result.now }
     ensures one_result { length result.now.results ≤ 1 }
 {
     let index = parts.functions.as_slice()[own];
@@ -43,7 +42,7 @@ pub fn local_types(
 ) -> Result<Option<Vec<ValType>>, AllocError>
     requires valid { IsValid parts.now }
     requires tested { IsModule parts.now }
-    ensures { IfOk result (λ found. MatchOption found (length parts.now.bodies ≤ own) (λ types. HasLocals parts.now own types.items)) }
+    ensures { IfOk result (FindsLocals parts.now own) }
 {
     if own >= parts.bodies.len() {
         return Ok(None);

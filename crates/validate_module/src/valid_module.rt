@@ -1,26 +1,25 @@
 //! Valid modules.
 
-ghost use Rattle.std.specs.Prelude.{◌≡◌, ◌↔◌, ℕ, ◌+◌, ◌<◌, ◌≤◌, length, Some, None, IsTrue, IfOk};
-ghost use Rattle.std.specs.Option.{MatchOption};
+ghost use Rattle.std.specs.Prelude.{◌≡◌, ◌↔◌, ℕ, ◌<◌, length, Some, None, IsTrue, IfOk};
 ghost use Rattle.std.specs.List.{slice_get};
 ghost use Rattle.types.specs.Modules.{IsModule};
 ghost use Rattle.types.specs.Limits.{most_pages};
 ghost use Rattle.validate_typing.specs.Context.{imported_functions, memories_of};
 ghost use Rattle.validate_typing.specs.Image.{opening_image, opening_pages, pages_max_of};
-ghost use Rattle.validate_typing.specs.Tabled.{IsValidated, target_at};
+ghost use Rattle.validate_typing.specs.Tabled.{IsValidated};
 ghost use Rattle.validate_typing.specs.Flattening.{all_flats};
 ghost use Rattle.validate_module_rules.specs.Exported.{IsExported};
+ghost use Rattle.validate_module_rules.specs.Spaces.{FindsAs};
 ghost use Rattle.validate_module.specs.Pages.{HasPagesWithin};
-ghost use Rattle.validate_module.specs.Own.{HasLocals};
+ghost use Rattle.validate_module.specs.Own.{FindsLocals, FindsTarget, FindsTypeAs};
 
 use crate::image::opening_image;
 use crate::own::{func_type, local_types};
 use std::alloc::{AllocError, Global};
 use std::marker::Model;
 use types::{Body, FuncType, Limits, MOST_PAGES, Module, Parts, Sequence, ValType};
-use validate_typing::Flat;
 use validate_module_rules::exported_function;
-use validate_typing::{Table, Target};
+use validate_typing::{Flat, Table, Target};
 
 /// What is found out about a valid module.
 #[derive(Drop)]
@@ -160,7 +159,7 @@ impl ValidModule {
 
     /// The table of branches of a function's body; functions of the module itself, from 0.
     pub fn table(&self, own: usize) -> Option<&Table>
-        ensures { MatchOption result (slice_get self.now.tables own ≡ None) (λ table. slice_get self.now.tables own ≡ Some table.now) }
+        ensures { FindsAs (slice_get self.now.tables own) result (λ table. table.now) }
     {
         self.checked.findings.tables.get(own)
     }
@@ -169,8 +168,7 @@ impl ValidModule {
     /// its body and `which` the targets of the instruction, each from 0. None where there is no such target, as of an
     /// imported function.
     pub fn target(&self, function: usize, instruction: usize, which: usize) -> Option<Target>
-        ensures own { (own : ℕ) → function ≡ length (imported_functions self.now.parts) + own
-            → result ≡ target_at self.now own instruction which }
+        ensures own { FindsTarget self.now function instruction which result }
         ensures imported { function < length (imported_functions self.now.parts) → result ≡ None }
     {
         let own = function.checked_sub(self.imported_functions())?;
@@ -186,17 +184,14 @@ impl ValidModule {
 
     /// A function's body; functions of the module itself, from 0.
     pub fn body(&self, own: usize) -> Option<&Body>
-        ensures { MatchOption result (slice_get self.now.parts.bodies own ≡ None)
-            (λ body. slice_get self.now.parts.bodies own ≡ Some body.now) }
+        ensures { FindsAs (slice_get self.now.parts.bodies own) result (λ body. body.now) }
     {
         self.parts().bodies.as_slice().get(own)
     }
 
     /// A function's type; functions of the module itself, from 0.
     pub fn func_type(&self, own: usize) -> Option<&FuncType>
-        ensures { MatchOption result (length self.now.parts.functions ≤ own)
-            (λ t. (index : ℕ) × (slice_get self.now.parts.functions own ≡ Some index)
-            × (slice_get self.now.parts.types index ≡ Some t.now)) }
+        ensures { FindsTypeAs self.now.parts own result (λ t. t.now) }
     {
         let parts = self.parts();
         if own < parts.functions.len() {
@@ -212,8 +207,7 @@ impl ValidModule {
     /// # Errors
     /// Where memory is refused.
     pub fn local_types(&self, alloc: Global, own: usize) -> Result<Option<Vec<ValType>>, AllocError>
-        ensures { IfOk result (λ found. MatchOption found (length self.now.parts.bodies ≤ own)
-            (λ types. HasLocals self.now.parts own types.items)) }
+        ensures { IfOk result (FindsLocals self.now.parts own) }
     {
         local_types(alloc, self.parts(), own)
     }

@@ -16,6 +16,10 @@ pub record IsExported (m : Parts) (name : List ℕ) (own : ℕ) : Type 0 where
   pub desc : entry.desc ≡ exports.Func (length (imported_functions m) + own)
   pub function : own < length m.functions
 
+-- Each function has a type that is there.
+abbrev pub HasTypeIndices : Parts → Type 0
+HasTypeIndices m = All (λ index. index < length m.types) m.functions
+
 -- Each function has a type that is there, and a body that is typed (Core specification 1.0, section 3.4.1).
 abbrev pub HasValidBodies : Parts → Type 0
 HasValidBodies m = All (λ f. IsValidFunction (context_of m) f.0 f.1) (zip m.functions m.bodies)

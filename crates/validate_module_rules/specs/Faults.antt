@@ -180,11 +180,14 @@ abbrev pub takes_two : Option FuncType → Bool
 takes_two None = false
 takes_two (Some t) = has_type t (I32 ∷ (I32 ∷ [])) []
 
+-- Whether a function that takes a thread's number and argument is exported by the name of the entry of threads.
+abbrev pub has_entry : Parts → Bool
+has_entry m = takes_two (type_of_own m (exported_in m (codes "wasi_thread_start")))
+
 abbrev pub threads_fault : Parts → Option Fault
 threads_fault m =
     if nat_eq (length (imported_functions m)) 0 then None
-    else unless (takes_two (type_of_own m (exported_in m (codes "wasi_thread_start"))) && is_shared
-    (slice_get (memories_of m) 0)) faults.ThreadEntry
+    else unless (has_entry m && is_shared (slice_get (memories_of m) 0)) faults.ThreadEntry
 
 abbrev pub start_fault : Option ℕ → Option Fault
 start_fault start = unless (is_none start) faults.StartSection

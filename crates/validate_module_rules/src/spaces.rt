@@ -1,10 +1,9 @@
 //! What code names by an index.
 
-ghost use Rattle.std.specs.Prelude.{◌≡◌, ◌++◌, [], Some, None, length, IfOk, OnOk};
-ghost use Rattle.std.specs.List.{flat_map, slice_get};
-ghost use Rattle.std.specs.Option.{MatchOption};
+ghost use Rattle.std.specs.Prelude.{◌≡◌, ◌++◌, [], IfOk, OnOk};
+ghost use Rattle.std.specs.List.{slice_get};
 ghost use Rattle.validate_typing.specs.Context.{function_of, memory_of};
-ghost use Rattle.validate_module_rules.specs.Spaces.{IsSpacesOf};
+ghost use Rattle.validate_module_rules.specs.Spaces.{FindsAs, IsSpacesOf, functions_in, memories_in};
 
 use std::alloc::{AllocError, Global};
 use types::{Import, ImportDesc, Limits, Parts};
@@ -22,7 +21,7 @@ pub struct IndexSpaces {
 
 /// The item with this index, if there is one.
 pub fn item<T>(items: &[T], index: usize) -> Option<&T>
-    ensures { MatchOption result (slice_get items.now index ≡ None) (λ found. slice_get items.now index ≡ Some found.now) }
+    ensures { FindsAs (slice_get items.now index) result (λ found. found.now) }
 {
     items.get(index)
 }
@@ -52,8 +51,8 @@ fn add_imports(
 ) -> Result<(), AllocError>
     requires functions { functions.old.items ≡ [] }
     requires memories { memories.old.items ≡ [] }
-    ensures functions { OnOk result (functions.new.items ≡ flat_map (λ i. function_of i.desc) imports.now) }
-    ensures memories { OnOk result (memories.new.items ≡ flat_map (λ i. memory_of i.desc) imports.now) }
+    ensures functions { OnOk result (functions.new.items ≡ functions_in imports.now) }
+    ensures memories { OnOk result (memories.new.items ≡ memories_in imports.now) }
 {
     for import in imports {
         add_import(import.desc, functions, memories)?;

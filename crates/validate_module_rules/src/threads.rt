@@ -1,11 +1,11 @@
 //! The rules of a module that starts threads.
 
-ghost use Rattle.std.specs.Prelude.{◌≡◌, codes};
+ghost use Rattle.std.specs.Prelude.{◌≡◌};
 ghost use Rattle.std.specs.List.{slice_get};
 ghost use Rattle.validate_typing.specs.Context.{memories_of};
 ghost use Rattle.validate_module_rules.specs.Spaces.{IsSpacesOf};
 ghost use Rattle.validate_typing.specs.Image.{is_shared};
-ghost use Rattle.validate_module_rules.specs.Faults.{takes_two, type_of_own, exported_in, threads_fault};
+ghost use Rattle.validate_module_rules.specs.Faults.{takes_two, type_of_own, has_entry, threads_fault};
 
 use crate::exports::exported_function;
 use crate::imports::has_type;
@@ -29,7 +29,7 @@ fn takes_two(parts: &Parts, own: usize) -> bool
 
 fn has_entry(parts: &Parts, spaces: &IndexSpaces) -> bool
     requires { IsSpacesOf parts.now spaces.now }
-    ensures { result ≡ takes_two (type_of_own parts.now (exported_in parts.now (codes "wasi_thread_start"))) }
+    ensures { result ≡ has_entry parts.now }
 {
     match exported_function(parts, spaces.imported, "wasi_thread_start") {
         Some(own) => takes_two(parts, own),

@@ -1,9 +1,9 @@
 //! All rules outside bodies, in order. Each is looked at, and the first fault counts.
 
-ghost use Rattle.std.specs.Prelude.{◌≡◌, ◌<◌, length, All};
+ghost use Rattle.std.specs.Prelude.{◌≡◌, All};
 ghost use Rattle.validate_typing.specs.Validity.{IsValid, IsValidType};
 ghost use Rattle.validate_module_rules.specs.Spaces.{IsSpacesOf};
-ghost use Rattle.validate_module_rules.specs.Exported.{HasValidBodies};
+ghost use Rattle.validate_module_rules.specs.Exported.{HasTypeIndices, HasValidBodies};
 ghost use Rattle.validate_module_rules.specs.Faults.{start_fault, names_fault, uses_fault, fault_outside};
 
 use crate::constants::fault_of_globals;
@@ -55,7 +55,7 @@ pub fn fault_outside_bodies(parts: &Parts, spaces: &IndexSpaces) -> Option<Fault
     requires { IsSpacesOf parts.now spaces.now }
     ensures first { result ≡ fault_outside parts.now }
     ensures types { result ≡ None → All IsValidType parts.now.types }
-    ensures functions { result ≡ None → All (λ index. index < length parts.now.types) parts.now.functions }
+    ensures functions { result ≡ None → HasTypeIndices parts.now }
     ensures sound { result ≡ None → HasValidBodies parts.now → IsValid parts.now }
     ensures complete { IsValid parts.now → result ≡ None }
     ensures memory { result ≡ Some Fault.OutOfMemory → ⊥ }

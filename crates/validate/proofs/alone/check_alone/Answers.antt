@@ -1,6 +1,6 @@
 use Rattle.std.proofs.Common.{refl, sym}
 use Rattle.std.specs.Bool.{⊤}
-use Rattle.validate_bodies.proofs.Moves.{at_exit}
+use Rattle.validate_instructions.proofs.Moves.{at_exit}
 use Rattle.validate.proofs.TableLaws.{refused_whole}
 use Rattle.validate.proofs.alone.check_alone.Goals as goal
 

@@ -1,7 +1,7 @@
 use Rattle.std.proofs.Common.{◌≡◌, ℕ, length, subst, arith}
 use Rattle.validate.specs.Tables.{AreTables}
 use Rattle.validate.proofs.TableLaws.{tables_more, refused_first, valid_bodies}
-use Rattle.validate_bodies.proofs.Moves.{at_exit}
+use Rattle.validate_instructions.proofs.Moves.{at_exit}
 use Rattle.validate.proofs.alone.check_bodies.Goals as goal
 
 pub loop-own-preserved : goal.loop-own-preserved

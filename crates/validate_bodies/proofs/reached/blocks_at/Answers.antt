@@ -1,6 +1,6 @@
 use Rattle.std.proofs.Common.{refl, ◌≡◌, length, reverse, Some, slice_get, arith, take}
 use Rattle.std.proofs.lemmas.Option.{slice_get_read}
-use Rattle.validate_bodies.specs.Scope.{context_of}
+use Rattle.validate_instructions.specs.Scope.{context_of}
 use Rattle.validate_bodies.specs.Forth.{AreDone}
 use Rattle.validate_bodies.proofs.Whole.{on_start, on_step}
 use Rattle.validate_bodies.proofs.Known.{comes_first, comes_next, comes_done, begins_none}
@@ -20,7 +20,7 @@ returns-in-Err-Wrong c =
     slice_get_read c.args.code.now _ _ _ refl (omega arith) c.index-code-here.is in
     begins_none (context_of c.args.scope.now) c.args.code.now c.loop-here.here c.args.place _ c.loop-here.blocks.items
     (reverse c.loop-here.ends.ends.items) c.in-Err-Wrong.field-0-0 c.requires.expression c.loop-here.invariant.on at
-    (rw c.in-Err-Wrong.field-0-is at c.in-Err-Wrong.ensures.stuck) (omega arith)
+    (rw c.in-Err-Wrong.field-0-is at c.in-Err-Wrong.ensures.step) (omega arith)
 
 pub loop-here-preserved : goal.loop-here-preserved
 loop-here-preserved c =
@@ -29,9 +29,9 @@ loop-here-preserved c =
     record {
       on = on_step (context_of c.args.scope.now) c.args.code.now c.loop-here.blocks.items c.pass.new.blocks.items
           (reverse c.loop-here.ends.ends.items) (reverse c.pass.new.ends.ends.items) c.loop-here.here _ c.requires.expression
-          c.loop-here.invariant.on at c.in-Ok-pass.ensures.onward c.pass.ensures.left;
+          c.loop-here.invariant.on at c.in-Ok-pass.ensures.step.onward c.pass.ensures.left;
       comes = comes_next (context_of c.args.scope.now) c.args.code.now c.loop-here.here _ c.loop-here.blocks.items c.pass.new.blocks.items
-          at c.in-Ok-pass.ensures.forth c.loop-here.invariant.comes;
+          at c.in-Ok-pass.ensures.step.forth c.loop-here.invariant.comes;
     }
 
 pub returns : goal.returns

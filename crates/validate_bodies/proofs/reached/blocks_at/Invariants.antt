@@ -1,5 +1,5 @@
 use Rattle.std.proofs.Common.{reverse, take}
-use Rattle.validate_bodies.specs.Scope.{context_of}
+use Rattle.validate_instructions.specs.Scope.{context_of}
 use Rattle.validate_bodies.specs.Forth.{Comes}
 use Rattle.validate_bodies.proofs.Whole.{CheckedOn}
 use Rattle.validate_bodies.proofs.reached.blocks_at.Given as goal

@@ -1,7 +1,7 @@
 use Rattle.std.proofs.Common.{◌∙◌, ap, arith}
 use Rattle.std.specs.List.{flat_map}
 use Rattle.std.proofs.lemmas.List.{take_all}
-use Rattle.validate_bodies.specs.declared.block.OpenBlock.{OpenBlock}
+use Rattle.validate_instructions.specs.declared.block.OpenBlock.{OpenBlock}
 use Rattle.validate_bodies.proofs.Known.{operands_more}
 use Rattle.validate_bodies.proofs.reached.operands_of.Goals as goal
 

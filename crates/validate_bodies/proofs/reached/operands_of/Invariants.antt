@@ -1,6 +1,6 @@
 use Rattle.std.proofs.Common.{◌≡◌, take}
 use Rattle.std.specs.List.{flat_map}
-use Rattle.validate_bodies.specs.declared.block.OpenBlock.{OpenBlock}
+use Rattle.validate_instructions.specs.declared.block.OpenBlock.{OpenBlock}
 use Rattle.validate_bodies.proofs.reached.operands_of.Given as goal
 
 abbrev pub invariant-loop-block : goal.invariant-loop-block

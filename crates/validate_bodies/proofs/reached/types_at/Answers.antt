@@ -1,5 +1,5 @@
 use Rattle.std.proofs.Common.{◌≡◌, ◌∙◌, sym, ◌<◌, length, arith, true, false, reverse}
-use Rattle.validate_bodies.specs.Scope.{context_of}
+use Rattle.validate_instructions.specs.Scope.{context_of}
 use Rattle.validate_bodies.specs.Forth.{goes_on_in}
 use Rattle.validate_bodies.proofs.Known.{types_known, cut_off}
 use Rattle.validate_bodies.proofs.reached.types_at.Goals as goal

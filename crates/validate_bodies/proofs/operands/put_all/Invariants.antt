@@ -1,6 +1,0 @@
-use Rattle.std.proofs.Common.{drop}
-use Rattle.validate_bodies.specs.Blocks.{Puts}
-use Rattle.validate_bodies.proofs.operands.put_all.Given as goal
-
-abbrev pub invariant-loop-index : goal.invariant-loop-index
-invariant-loop-index l = Puts (drop l.index l.given) l.initial.block l.block
