@@ -1,14 +1,5 @@
-//! The scheduled machine of a module, as a plain program: one thread steps all threads of the module along a schedule.
+//! The scheduled machine of a module: what a run starts with, and what each of its states keeps to.
 //!
-//! It is slow and simple. `specs/Threads.antt` says which thread of the definition each thread stands for, `specs/Runs.antt`
-//! where the whole machine stands; the definition itself is that of the crates `schedule` and `schedule_threads`.
+//! It is that of the crates `schedule` and `schedule_threads`, over a memory and a wait queue. There is no program
+//! here: `schedule_program` steps it, and the search goes through its runs; both stand on the laws in `proofs/`.
 #![tactic(auto)]
-
-mod ends;
-mod mark;
-mod stepped;
-mod stepping;
-
-pub use mark::{Kind, Mark};
-pub use stepped::Stepped;
-pub use stepping::Machine;
