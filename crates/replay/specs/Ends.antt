@@ -2,6 +2,8 @@
 use Rattle.std.specs.Prelude.{ℕ, ◌≡◌, ◌<◌, ◌≤◌, List, length, Option, Some, None}
 use Rattle.types.specs.declared.event.Answer.{Answer}
 use Rattle.types.specs.declared.outcome.Outcome.{Outcome}
+use Rattle.types.specs.declared.outcome.ThreadReport.{ThreadReport}
+use Rattle.shared_memory.specs.Memory.{pages}
 use Rattle.shared_memory.specs.WaitQueue.{WaitQueue}
 use Rattle.schedule.specs.System as systems
 use Rattle.schedule.specs.Histories.{Place}
@@ -9,12 +11,13 @@ use Rattle.schedule_threads.specs.Shared.{Shared}
 use Rattle.interp_trait.specs.Turns.{Running, Meaning}
 use Rattle.replay_walk.specs.declared.stage.Stage.{Stage}
 use Rattle.replay_text.specs.declared.parts.RecordParts.{RecordParts}
-use Rattle.replay_rules.specs.Recorded.{LineAgrees}
+use Rattle.replay_rules.specs.Recorded.{HasLeft, LineAgrees}
 use Rattle.replay_walk.specs.Standing.{Standing, IsStanding}
 
 -- A walk stands where its log ends, and each of its threads might spend so many units.
 pub record Ends {S : Type 0} (meaning : S → Meaning)
-    (s : Standing) (threads : List S) (queue : WaitQueue) (begun : ℕ) (ends : List (Option Outcome)) (units : ℕ) : Type 0 where
+    (s : Standing) (threads : List S) (queue : WaitQueue) (begun : ℕ) (ends : List (Option Outcome)) (units : ℕ)
+    : Type 0 where
   pub standing : IsStanding meaning s threads queue begun ends
   pub budget : s.budget ≡ units
 
@@ -37,3 +40,22 @@ module _ (r : RecordParts) (z : systems.State Shared Running) (places : ℕ → 
   abbrev pub IsVerdict : Option ℕ → Type 0
   IsVerdict None = AllAgree
   IsVerdict (Some k) = IsFirstWrong k
+
+-- The memory has the record's pages, and no thread was started that has no end line.
+abbrev pub IsPagesLine : RecordParts → ℕ → ℕ → Type 0
+IsPagesLine r held started = (held ≡ r.pages) × (started ≤ length r.ends)
+
+module _ {S : Type 0} (meaning : S → Meaning) where
+  -- Wherever a walk with these threads ends, an answer is right that names the first line that doesn't agree.
+  abbrev pub NamesFirstWrong : List S → Stage → ℕ → RecordParts → Option ℕ → Type 0
+  NamesFirstWrong threads stage held r o = (s : Standing) → StageEnds meaning s threads stage r.fuel
+      → held ≡ pages s.memory → IsVerdict r s.state s.places o
+
+  -- There the thread of a number has left as a report says; or it hasn't.
+  abbrev pub LeftAs : List S → Stage → ℕ → ThreadReport → Type 0
+  LeftAs threads stage number report = (s : Standing) (r : RecordParts) → StageEnds meaning s threads stage r.fuel
+      → HasLeft r s.state s.places number report
+
+  abbrev pub NotLeftAs : List S → Stage → ℕ → ThreadReport → Type 0
+  NotLeftAs threads stage number report = (s : Standing) (r : RecordParts) → StageEnds meaning s threads stage r.fuel
+      → HasLeft r s.state s.places number report → ⊥

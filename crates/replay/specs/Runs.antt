@@ -27,6 +27,9 @@ HasLength m r = IsLengthOf r.version m r.module_len
 abbrev pub HasPages : Parts → RecordParts → Type 0
 HasPages m r = HasPagesWithin r.max_pages m
 
+abbrev pub HasScale : Parts → RecordParts → Type 0
+HasScale m r = HasLength m r × HasPages m r
+
 -- The line that says how many pages there might be: in version 1 the version itself.
 abbrev pub pages_line : Version → ℕ
 pages_line versions.One = 1
@@ -37,8 +40,8 @@ abbrev pub invoke_line : Version → ℕ
 invoke_line versions.One = 2
 invoke_line versions.Two = 5
 
--- What a run by a record begins with: its name is called, with its arguments and its budget, and its memory may have as many
--- pages as the record says where the module doesn't say it.
+-- What a run by a record begins with: its name is called, with its arguments and its budget, and its memory may have as
+-- many pages as the record says where the module doesn't say it.
 abbrev pub BeginsBy : Parts → RecordParts → Type 0
 BeginsBy m r = Beginning m r.invoke r.args
 
@@ -56,17 +59,17 @@ pub record IsRunOf (m : Parts) (r : RecordParts) (end : EndState) : Type 0 where
   pub pages : end.pages ≡ r.pages
   pub bytes : end.bytes.items ≡ last.bytes
 
--- The entry at k is the first that doesn't fit; or all do, and of the end lines and the pages line that at k is the first that
--- doesn't.
+-- The entry at k is the first that doesn't fit; or all do, and of the end lines and the pages line that at k is the
+-- first that doesn't.
 abbrev pub IsMisfitAt : Parts → RecordParts → ℕ → Type 0
 IsMisfitAt m r k = (b : BeginsBy m r) × IsFirstMisfit (start_of_record m r b) r k
 
 abbrev pub IsWrongEndAt : Parts → RecordParts → ℕ → Type 0
 IsWrongEndAt m r k = (b : BeginsBy m r) × IsFirstWrongEnd (start_of_record m r b) r k
 
--- The first line of a record's text that doesn't fit: in version 2 line 2 has the module's length; behind it comes the line of
--- the pages, then those of the name and of the arguments. Behind the header stand the entries of the log, then the end lines, and
--- behind these the pages line. No memory says nothing.
+-- The first line of a record's text that doesn't fit: in version 2 line 2 has the module's length; behind it comes the
+-- line of the pages, then those of the name and of the arguments. Behind the header stand the entries of the log, then
+-- the end lines, and behind these the pages line. No memory says nothing.
 abbrev pub IsScaleFault : Parts → RecordParts → ℕ → Type 0
 IsScaleFault m r line =
     ((line ≡ 2) × (HasLength m r → ⊥)) ⊎ ((line ≡ pages_line r.version) × HasLength m r × (HasPages m r → ⊥))
@@ -84,7 +87,8 @@ IsHeaderFault m r line =
 
 abbrev pub IsReplayFault : Parts → RecordParts → ReplayFault → Type 0
 IsReplayFault m r (Line line) =
-    IsHeaderFault m r line ⊎ ((k : ℕ) × (line ≡ header_count r.version + 1 + k) × HasLength m r × HasPages m r × IsMisfitAt m r k)
+    IsHeaderFault m r line
+    ⊎ ((k : ℕ) × (line ≡ header_count r.version + 1 + k) × HasLength m r × HasPages m r × IsMisfitAt m r k)
 IsReplayFault m r (EndLine line) =
     (k : ℕ) × (line ≡ header_count r.version + 1 + length r.log + k) × HasLength m r × HasPages m r × IsWrongEndAt m r k
 IsReplayFault m r NoMemory = Unit {0}

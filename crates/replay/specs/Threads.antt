@@ -10,12 +10,18 @@ use Rattle.replay.specs.Runs.{invoke_line}
 use Rattle.replay.specs.declared.fault.ReplayFault.{ReplayFault}
 use Rattle.replay.specs.declared.fault.ReplayFault.TheVariants.{Line, EndLine, NoMemory}
 
+-- Thread 0 is about to make the record's call.
+abbrev pub MakesCallOf : {T : Type 0} → (T → Meaning) → Parts → RecordParts → T → Type 0
+MakesCallOf meaning m r thread = IsFirst meaning m r.invoke r.args r.fuel thread
+
 -- Those that can be spawned, where the module can start threads; and none where it can't.
 abbrev pub AreOthers : {T : Type 0} → (T → Meaning) → Parts → ℕ → List T → Type 0
 AreOthers meaning m budget others =
-    ((args : List Value) × StartsThreads m × AreSpawnable meaning m args budget others) ⊎ ((StartsThreads m → ⊥) × (others ≡ []))
+    ((args : List Value) × StartsThreads m × AreSpawnable meaning m args budget others)
+    ⊎ ((StartsThreads m → ⊥) × (others ≡ []))
 
--- Thread 0 is about to call the function that is exported by the record's name, with its arguments, and behind it are the others.
+-- Thread 0 is about to call the function that is exported by the record's name, with its arguments, and behind it are
+-- the others.
 pub record AreThreads {T : Type 0} (meaning : T → Meaning)
     (m : Parts) (r : RecordParts) (threads : List T) : Type 0 where
   pub first : T
@@ -27,6 +33,7 @@ pub record AreThreads {T : Type 0} (meaning : T → Meaning)
 -- There is no such call: the record's line of the name doesn't fit, or that of the arguments behind it.
 abbrev pub IsCallFault : Parts → RecordParts → ReplayFault → Type 0
 IsCallFault m r (Line line) =
-    ((line ≡ invoke_line r.version) × IsUnknown m r.invoke) ⊎ ((line ≡ invoke_line r.version + 1) × Refuses m r.invoke r.args)
+    ((line ≡ invoke_line r.version) × IsUnknown m r.invoke)
+    ⊎ ((line ≡ invoke_line r.version + 1) × Refuses m r.invoke r.args)
 IsCallFault m r (EndLine line) = ⊥
 IsCallFault m r NoMemory = Unit {0}

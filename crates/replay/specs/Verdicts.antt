@@ -28,30 +28,35 @@ WalksAlong b r z places =
 -- Where each line agrees, the record is of a run, which ends with the walk's memory;
 abbrev pub AgreeingRecordsAreOfRuns : Type 0
 AgreeingRecordsAreOfRuns =
-    (b : Start) (r : RecordParts) (z : systems.State Shared Running) (places : ℕ → Place Answer) → WalksAlong b r z places
+    (b : Start) (r : RecordParts) (z : systems.State Shared Running) (places : ℕ → Place Answer)
+    → WalksAlong b r z places
     → AllAgree r z places → IsRecordedRun b r z.shared.memory
 
 -- the first line that doesn't agree there is the first that agrees with no schedule;
 abbrev pub WrongEndsAreOfNoRun : Type 0
 WrongEndsAreOfNoRun =
-    (b : Start) (r : RecordParts) (z : systems.State Shared Running) (places : ℕ → Place Answer) → WalksAlong b r z places → (k : ℕ)
+    (b : Start) (r : RecordParts) (z : systems.State Shared Running) (places : ℕ → Place Answer)
+    → WalksAlong b r z places → (k : ℕ)
     → IsFirstWrong r z places k → IsFirstWrongEnd b r k
 
 -- and each run that the record is of ends with the walk's memory.
 abbrev pub RunsEndInOneMemory : Type 0
 RunsEndInOneMemory =
-    (b : Start) (r : RecordParts) (z : systems.State Shared Running) (places : ℕ → Place Answer) → WalksAlong b r z places → (last : Memory)
+    (b : Start) (r : RecordParts) (z : systems.State Shared Running) (places : ℕ → Place Answer)
+    → WalksAlong b r z places → (last : Memory)
     → IsRecordedRun b r last → last ≡ z.shared.memory
 
 -- A record with a line that is wrong, or with an entry that doesn't fit, is of no run.
 abbrev pub NoRunHasAWrongEnd : Type 0
-NoRunHasAWrongEnd = (b : Start) (r : RecordParts) (k : ℕ) → IsFirstWrongEnd b r k → (last : Memory) → IsRecordedRun b r last → ⊥
+NoRunHasAWrongEnd = (b : Start) (r : RecordParts) (k : ℕ) → IsFirstWrongEnd b r k
+    → (last : Memory) → IsRecordedRun b r last → ⊥
 
 abbrev pub NoRunHasAMisfit : Type 0
-NoRunHasAMisfit = (b : Start) (r : RecordParts) (k : ℕ) → IsFirstMisfit b r k → (last : Memory) → IsRecordedRun b r last → ⊥
+NoRunHasAMisfit = (b : Start) (r : RecordParts) (k : ℕ) → IsFirstMisfit b r k
+    → (last : Memory) → IsRecordedRun b r last → ⊥
 
--- The log of a record is legal, from the module's opening memory and the wait queue's first state on, with as many pages and
--- threads as the record says: for the memory, for the wait queue, and in the order of each thread's calls.
+-- The log of a record is legal, from the module's opening memory and the wait queue's first state on, with as many
+-- pages and threads as the record says: for the memory, for the wait queue, and in the order of each thread's calls.
 pub record HasLegalLog (m : Parts) (r : RecordParts) : Type 0 where
   pub memory : IsMemoryLegal (opening_within r.max_pages m) r.log
   pub queue : IsQueueLegalFrom (first_queue r.threads) (of_queue r.log)

@@ -5,8 +5,8 @@ use Rattle.schedule_runs.specs.Runs.{Start}
 use Rattle.interp_trait.specs.Turns.{Meaning}
 use Rattle.replay_text.specs.Versions.{header_count}
 use Rattle.replay_text.specs.declared.parts.RecordParts.{RecordParts}
-use Rattle.replay_rules.specs.Recorded.{IsFirstMisfit, IsFirstWrongEnd}
-use Rattle.replay_walk.specs.Walked.{Run, IsReady}
+use Rattle.replay_rules.specs.Recorded.{IsRecordedRun, IsFirstMisfit, IsFirstWrongEnd}
+use Rattle.replay_walk.specs.Walked.{Run, IsReady, start}
 use Rattle.replay.specs.declared.fault.ReplayFault.{ReplayFault}
 use Rattle.replay.specs.declared.fault.ReplayFault.TheVariants.{Line, EndLine, NoMemory}
 
@@ -21,5 +21,16 @@ pub record IsReadyFor {T : Type 0} (meaning : T → Meaning)
 -- The line of the first entry that doesn't fit, or of the first wrong end.
 abbrev pub IsWalkFault : Start → RecordParts → ReplayFault → Type 0
 IsWalkFault b r (Line line) = (k : ℕ) × (line ≡ header_count r.version + 1 + k) × IsFirstMisfit b r k
-IsWalkFault b r (EndLine line) = (k : ℕ) × (line ≡ header_count r.version + 1 + length r.log + k) × IsFirstWrongEnd b r k
+IsWalkFault b r (EndLine line) = (k : ℕ) × (line ≡ header_count r.version + 1 + length r.log + k)
+    × IsFirstWrongEnd b r k
 IsWalkFault b r NoMemory = ⊥
+
+module _ {T : Type 0} (meaning : T → Meaning) where
+  -- Each run that begins with these threads and this memory is one that the record is of; or the fault is of each.
+  abbrev pub ShowsRun : RecordParts → List T → Memory → Memory → Type 0
+  ShowsRun r threads memory last = (run : Run) → IsReadyFor meaning run r threads memory
+      → IsRecordedRun (start run) r last
+
+  abbrev pub ShowsFault : RecordParts → List T → Memory → ReplayFault → Type 0
+  ShowsFault r threads memory fault = (run : Run) → IsReadyFor meaning run r threads memory
+      → IsWalkFault (start run) r fault

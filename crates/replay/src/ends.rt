@@ -1,26 +1,22 @@
 //! The lines behind the log, one by one.
-ghost use Rattle.std.specs.Prelude.{◌≡◌, ◌≤◌, true, false, length};
-ghost use Rattle.shared_memory.specs.Memory.{pages};
-ghost use Rattle.replay_rules.specs.Recorded.{HasLeft};
-ghost use Rattle.replay_text.specs.declared.parts.RecordParts.{RecordParts};
-ghost use Rattle.replay_walk.specs.Standing.{Standing};
-ghost use Rattle.replay.specs.Ends.{StageEnds, IsVerdict};
+ghost use Rattle.std.specs.Prelude.{◌≡◌, true, false};
+ghost use Rattle.replay.specs.Ends.{IsPagesLine, LeftAs, NamesFirstWrong, NotLeftAs};
 
 use interp_trait::TakesTurns;
 use replay_text::RecordParts;
 use replay_walk::Stage;
 use types::ThreadReport;
 
-/// The first of the end lines, from 0 on, that doesn't agree with where the walk came to, or the pages line behind them, if
-/// all of them do. `held` are the pages of the memory, and `parts` the record; `None` is the answer where each line agrees.
+/// The first of the end lines, from 0 on, that doesn't agree with where the walk came to, or the pages line behind
+/// them, if all of them do. `held` are the pages of the memory, and `parts` the record; `None` is the answer where each
+/// line agrees.
 pub fn first_wrong_end<T: TakesTurns>(
     threads: &[T],
     stage: &Stage,
     held: u32,
     parts: &RecordParts,
 ) -> Option<usize>
-    ensures { (s : Standing) → StageEnds T.meaning s threads.now stage.now parts.now.fuel → held ≡ pages s.memory
-        → IsVerdict parts.now s.state s.places result }
+    ensures { NamesFirstWrong T.meaning threads.now stage.now held parts.now result }
 {
     let ends = parts.ends.as_slice();
     for (number, report) in ends.iter().enumerate() {
@@ -35,17 +31,16 @@ pub fn first_wrong_end<T: TakesTurns>(
     }
 }
 
-/// Whether the thread of this number has left with this outcome, after so many units, and has heard the answer to its leave.
+/// Whether the thread of this number has left with this outcome, after so many units, and has heard the answer to its
+/// leave.
 fn has_left<T: TakesTurns>(
     threads: &[T],
     stage: &Stage,
     number: usize,
     report: &ThreadReport,
 ) -> bool
-    ensures left { result ≡ true → (s : Standing) (r : RecordParts) → StageEnds T.meaning s threads.now stage.now r.fuel
-        → HasLeft r s.state s.places number report.now }
-    ensures other { result ≡ false → (s : Standing) (r : RecordParts) → StageEnds T.meaning s threads.now stage.now r.fuel
-        → HasLeft r s.state s.places number report.now → ⊥ }
+    ensures left { result ≡ true → LeftAs T.meaning threads.now stage.now number report.now }
+    ensures other { result ≡ false → NotLeftAs T.meaning threads.now stage.now number report.now }
 {
     let Some(thread) = threads.get(number) else {
         return false;
@@ -73,8 +68,8 @@ fn is_same_report(a: ThreadReport, b: ThreadReport) -> bool
 
 /// Whether the memory has the record's pages, and no thread was started that has no end line.
 fn is_pages_line(stage: &Stage, held: u32, parts: &RecordParts) -> bool
-    ensures same { result ≡ true → (held ≡ parts.now.pages) × (stage.now.started ≤ length parts.now.ends) }
-    ensures other { result ≡ false → held ≡ parts.now.pages → stage.now.started ≤ length parts.now.ends → ⊥ }
+    ensures same { result ≡ true → IsPagesLine parts.now held stage.now.started }
+    ensures other { result ≡ false → IsPagesLine parts.now held stage.now.started → ⊥ }
 {
     held == parts.pages && stage.started as usize <= parts.ends.len()
 }

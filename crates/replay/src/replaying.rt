@@ -2,7 +2,7 @@
 ghost use Rattle.std.specs.Prelude.{◌≡◌, ◌↔◌, IsTrue, IfOk, OnOk, IfErr};
 ghost use Rattle.validate_typing.specs.Validity.{HasDistinctNames};
 ghost use Rattle.spawn_host.specs.Runs.{opening_within};
-ghost use Rattle.replay.specs.Runs.{HasLength, HasPages, OfScale, IsRunOf, IsReplayFault, ShowsNoRun, pages_line};
+ghost use Rattle.replay.specs.Runs.{HasLength, HasScale, OfScale, IsRunOf, IsReplayFault, ShowsNoRun, pages_line};
 
 use crate::fault::ReplayFault;
 use crate::threads::threads_of;
@@ -15,18 +15,18 @@ use spawn_host::EndState;
 use std::alloc::Global;
 use validate_module::ValidModule;
 
-/// Runs a recorded run of a module again, by one thread along the record's log, and gives what the run left: the ends and
-/// pages of the record, and the bytes of the memory.
+/// Runs a recorded run of a module again, by one thread along the record's log, and gives what the run left: the ends
+/// and pages of the record, and the bytes of the memory.
 ///
-/// A thread's turns between two of its entries are made at the second one, so that a replay takes as many turns as the run,
-/// and at most the fuel for each thread.
+/// A thread's turns between two of its entries are made at the second one, so that a replay takes as many turns as the
+/// run, and at most the fuel for each thread.
 ///
 /// # Errors
-/// `Line` and `EndLine` name the first line of the record's text that doesn't fit, from line 1 on. In version 2 it is 2 where
-/// the module has another length, and 4 where its memory has more pages than there might be, at first or at most, as in
-/// version 1 line 1. Then comes the line of the name, 5 or 2, where no function of the module itself is exported under it,
-/// and the line behind it where the arguments don't fit it; behind them the first entry with which no run goes on, or the
-/// first line behind the log with which none ends. `NoMemory` says nothing of the record.
+/// `Line` and `EndLine` name the first line of the record's text that doesn't fit, from line 1 on. In version 2 it is 2
+/// where the module has another length, and 4 where its memory has more pages than there might be, at first or at most,
+/// as in version 1 line 1. Then comes the line of the name, 5 or 2, where no function of the module itself is exported
+/// under it, and the line behind it where the arguments don't fit it; behind them the first entry with which no run
+/// goes on, or the first line behind the log with which none ends. `NoMemory` says nothing of the record.
 pub fn replay(alloc: Global, module: &ValidModule, record: &Record) -> Result<EndState, ReplayFault>
     ensures run { IfOk result (λ end. IsRunOf «module».now.parts «record».now end) }
     ensures fault { IfErr result (λ fault. IsReplayFault «module».now.parts «record».now fault) }
@@ -76,7 +76,7 @@ fn has_distinct_names(module: &ValidModule)
 
 /// Whether the record is of a module of this length, whose memory has no more pages than there might be.
 fn check_scale(module: &ValidModule, parts: &RecordParts) -> Result<(), ReplayFault>
-    ensures fits { OnOk result (HasLength «module».now.parts parts.now × HasPages «module».now.parts parts.now) }
+    ensures fits { OnOk result (HasScale «module».now.parts parts.now) }
     ensures fault { IfErr result (λ fault. OfScale «module».now.parts parts.now fault) }
 {
     if !has_length(module, parts) {

@@ -1,8 +1,7 @@
 //! The threads of a run by a record, before their first turn.
 ghost use Rattle.std.specs.Prelude.{◌≡◌, ◌∷◌, IfOk, IfErr, IsOkAnd};
 ghost use Rattle.replay.specs.Runs.{invoke_line};
-ghost use Rattle.spawn_host.specs.Threads.{IsFirst};
-ghost use Rattle.replay.specs.Threads.{AreThreads, AreOthers, IsCallFault};
+ghost use Rattle.replay.specs.Threads.{AreThreads, AreOthers, IsCallFault, MakesCallOf};
 ghost use Rattle.interp.specs.Threads.{meaning_in};
 
 use crate::fault::ReplayFault;
@@ -28,7 +27,7 @@ pub(crate) fn threads_of<'m>(
 
 /// The first thread and the others behind it, if there was memory for them.
 fn led_by<T: Drop>(first: T, others: Result<Vec<T>, AllocError>) -> Result<Vec<T>, ReplayFault>
-    ensures threads { IfOk result (λ threads. IsOkAnd others (λ rest. threads.items ≡ first ∷ rest.items)) }
+    ensures threads { IfOk result (λ led. IsOkAnd others (λ rest. led.items ≡ first ∷ rest.items)) }
     ensures fault { IfErr result (λ fault. fault ≡ ReplayFault.NoMemory) }
 {
     let mut threads = others?;
@@ -67,7 +66,7 @@ fn first_of<'m>(
     module: &'m ValidModule,
     parts: &RecordParts,
 ) -> Result<Thread<'m>, ReplayFault>
-    ensures first { IfOk result (λ thread. IsFirst meaning_in «module».now.parts parts.now.invoke parts.now.args parts.now.fuel thread) }
+    ensures first { IfOk result (MakesCallOf meaning_in «module».now.parts parts.now) }
     ensures fault { IfErr result (λ fault. IsCallFault «module».now.parts parts.now fault) }
 {
     let call = Call {

@@ -1,5 +1,7 @@
-//! What the end of a walk shows of every schedule that makes its log: functions that do nothing, and whose contracts are laws.
-ghost use Rattle.replay.specs.Verdicts.{AgreeingRecordsAreOfRuns, WrongEndsAreOfNoRun, RunsEndInOneMemory, NoRunHasAWrongEnd};
+//! What the end of a walk shows of every schedule that makes its log: functions that do nothing, and whose contracts
+//! are laws.
+ghost use Rattle.replay.specs.Verdicts.{AgreeingRecordsAreOfRuns, WrongEndsAreOfNoRun, RunsEndInOneMemory};
+ghost use Rattle.replay.specs.Verdicts.{NoRunHasAWrongEnd};
 ghost use Rattle.replay.specs.Verdicts.{NoRunHasAMisfit, LogsOfRunsAreLegal};
 
 /// A walk took the whole log and each line behind it agrees: the record is of a run, which ends with the walk's memory.
@@ -7,7 +9,8 @@ pub fn agreeing_records_are_of_runs()
     ensures { AgreeingRecordsAreOfRuns }
 {}
 
-/// A walk took the whole log: the first line that doesn't agree where it came to is the first that agrees with no schedule.
+/// A walk took the whole log: the first line that doesn't agree where it came to is the first that agrees with no
+/// schedule.
 pub fn wrong_ends_are_of_no_run()
     ensures { WrongEndsAreOfNoRun }
 {}

@@ -1,9 +1,8 @@
 //! The walk along a record's log, and the lines behind it.
 ghost use Rattle.std.specs.Prelude.{◌≡◌, ◌+◌, ◌≤◌, IfOk, IfErr};
-ghost use Rattle.replay_rules.specs.Recorded.{IsRecordedRun};
 ghost use Rattle.replay_text.specs.Text.{IsRecord};
-ghost use Rattle.replay_walk.specs.Walked.{Run, start};
-ghost use Rattle.replay.specs.Walks.{IsReadyFor, IsWalkFault};
+ghost use Rattle.replay_walk.specs.Walked.{Run};
+ghost use Rattle.replay.specs.Walks.{IsReadyFor, ShowsFault, ShowsRun};
 
 use crate::fault::ReplayFault;
 use crate::first_wrong_end;
@@ -20,7 +19,8 @@ fn line_at(first: usize, behind: usize) -> u32
     (first + behind) as u32
 }
 
-/// Walks along a record's log, then compares the lines behind it, and gives the memory in the end. `watch` sees the walk.
+/// Walks along a record's log, then compares the lines behind it, and gives the memory in the end. `watch` sees the
+/// walk.
 ///
 /// # Errors
 /// `Line` where an entry doesn't fit, and `EndLine` where all do and a line behind them doesn't: the first such line.
@@ -32,10 +32,8 @@ pub(crate) fn walk<T: TakesTurns + Drop, W: Watch<T>>(
 ) -> Result<OneMemory, ReplayFault>
     requires ranges { IsRecord parts.now }
     requires ready { (run : Run) × IsReadyFor T.meaning run parts.now threads.items memory }
-    ensures run { IfOk result (λ last. (run : Run) → IsReadyFor T.meaning run parts.now threads.items memory
-        → IsRecordedRun (start run) parts.now last) }
-    ensures fault { IfErr result (λ fault. (run : Run) → IsReadyFor T.meaning run parts.now threads.items memory
-        → IsWalkFault (start run) parts.now fault) }
+    ensures run { IfOk result (ShowsRun T.meaning parts.now threads.items memory) }
+    ensures fault { IfErr result (ShowsFault T.meaning parts.now threads.items memory) }
 {
     let mut walk = Walk::new(threads, memory, parts.threads);
     let first = parts.version.header_lines() + 1;

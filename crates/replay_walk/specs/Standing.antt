@@ -1,16 +1,18 @@
 -- Where a walk along a log stands: its threads, its memory and its queue are those of the scheduled machine.
-use Rattle.std.specs.Prelude.{ℕ, ◌≡◌, ◌≢◌, Bool, true, false, List, length, Option, Some, None, get_or, slice_set}
+use Rattle.std.specs.Prelude.{ℕ, ◌≡◌, ◌≢◌, ◌+◌, ◌<◌, ◌≤◌, Bool, true, false, List, length, Option, Some, None, get_or}
+use Rattle.std.specs.Prelude.{slice_set}
 use Rattle.std.specs.List.{slice_get}
 use Rattle.types.specs.declared.value.Value.{Value}
 use Rattle.types.specs.declared.event.Event.{Event}
+use Rattle.types.specs.declared.event.Event.TheVariants.{Ask}
 use Rattle.types.specs.declared.event.Reply.{Reply}
 use Rattle.types.specs.declared.event.Reply.TheVariants as replies
 use Rattle.types.specs.declared.event.Answer.{Answer}
 use Rattle.types.specs.declared.outcome.Outcome.{Outcome}
 use Rattle.types.specs.declared.event.Question.{Question}
-use Rattle.types.specs.declared.event.Question.TheVariants.{Spawn}
+use Rattle.types.specs.declared.event.Question.TheVariants.{Leave, Spawn}
 use Rattle.types.specs.Limits.{most_threads}
-use Rattle.shared_memory.specs.Memory.{Memory, state_after}
+use Rattle.shared_memory.specs.Memory.{Memory, reply_of, state_after}
 use Rattle.shared_memory.specs.Events.{IsEvent}
 use Rattle.shared_memory.specs.WaitQueue.{WaitQueue, is_alive, next_id}
 use Rattle.shared_memory.specs.Sound.{IsSound}
@@ -24,7 +26,8 @@ use Rattle.interp_machine.specs.State.{State}
 use Rattle.schedule_threads.specs.Shared.{Shared, without_dues, over_memory_and_queue}
 use Rattle.schedule_threads.specs.Threads.{machine_of}
 use Rattle.schedule_runs.specs.Places.{place_of}
-use Rattle.interp_trait.specs.Turns.{Running, outcome_of, wants_of, left_of, Meaning, spawn_types, spawned_in, IsHere, MakesTurn}
+use Rattle.interp_trait.specs.Turns.{Running, outcome_of, wants_of, left_of, Meaning, spawn_types, spawned_in, IsHere}
+use Rattle.interp_trait.specs.Turns.{MakesTurn, MayBeSpawned, WantsEvent}
 use Rattle.interp_trait.specs.declared.turn.Given.{Given}
 use Rattle.interp_trait.specs.declared.turn.Turn.{Turn}
 use Rattle.interp_trait.specs.declared.turn.Turn.TheVariants as turns
@@ -42,16 +45,19 @@ Says p t (turns.Ended outcome) = outcome_of t ≡ Some outcome
 pub record SettlesAs (p : Program) (t : Running) (turn : Turn) (Stands : Running → Type 0) : Type 0 where
   pub settled : Running
   pub turns : ℕ
-  pub comes : (start : ℕ → ℕ → State) (fuel : ℕ) → ComesTo (over_memory_and_queue (machine_of p) start fuel) turns t settled
+  pub comes : (start : ℕ → ℕ → State) (fuel : ℕ)
+      → ComesTo (over_memory_and_queue (machine_of p) start fuel) turns t settled
   pub stands : Stands settled
   pub here : IsHere settled
   pub says : Says p settled turn
 
 -- So it does at each thread that it stands for, if that is here.
 abbrev pub SettlesInto : Meaning → Turn → Meaning → Type 0
-SettlesInto before turn after = (t : Running) → before.stands t → IsHere t → SettlesAs before.program t turn after.stands
+SettlesInto before turn after = (t : Running) → before.stands t → IsHere t
+    → SettlesAs before.program t turn after.stands
 
--- Where the scheduled machine stands: the program, the call of a spawned thread and the budget, its state, and the threads' places.
+-- Where the scheduled machine stands: the program, the call of a spawned thread and the budget, its state, and the
+-- threads' places.
 pub record Standing : Type 0 where
   pub program : Program
   pub worker : List Value → Config
@@ -95,8 +101,10 @@ module _ {S : Type 0} (meaning : S → Meaning) where
     pub same : left_of last ≡ left
 
   -- A thread by its place in the history, and how it left, if it has.
-  abbrev pub StandsAt : Program → (List Value → Config) → Place Answer → Running → Option S → Option Outcome → Bool → Type 0
-  StandsAt p worker Unstarted t slot None alive = (t ≡ Absent) × ((x : S) → slot ≡ Some x → (meaning x).begins spawn_types worker)
+  abbrev pub StandsAt : Program → (List Value → Config) → Place Answer → Running → Option S → Option Outcome → Bool
+      → Type 0
+  StandsAt p worker Unstarted t slot None alive = (t ≡ Absent)
+      × ((x : S) → slot ≡ Some x → (meaning x).begins spawn_types worker)
   StandsAt p worker Free t slot None alive = RunsAt slot t × (alive ≡ true)
   StandsAt p worker Open t slot None alive = WaitsAt p slot t × (alive ≡ true)
   StandsAt p worker (Due answer) t slot None alive = IsTold p slot t answer × (alive ≡ true)
@@ -107,15 +115,17 @@ module _ {S : Type 0} (meaning : S → Meaning) where
 
   -- A walk's threads and queue, how many threads were started, and how each ended that asked to leave, are those of the
   -- scheduled machine.
-  pub record IsStanding (s : Standing) (threads : List S) (queue : WaitQueue) (begun : ℕ) (ends : List (Option Outcome)) : Type 0 where
+  pub record IsStanding (s : Standing) (threads : List S) (queue : WaitQueue) (begun : ℕ) (ends : List (Option Outcome))
+      : Type 0 where
     pub shared : s.state.shared ≡ record { memory = s.memory; queue = without_dues queue }
     pub places : (m : ℕ) → s.places m ≡ place_of queue m
     pub sound : IsSound queue
     pub started : begun ≡ next_id queue
     pub slots : length ends ≡ most_threads
-    pub alike : (m : ℕ) (x : S) → slice_get threads m ≡ Some x → ((meaning x).program ≡ s.program) × ((meaning x).fuel ≡ s.budget)
-    pub each : (m : ℕ) → StandsAt s.program s.worker (s.places m) (s.state.threads m) (slice_get threads m) (get_or ends m None)
-        (is_alive queue m)
+    pub alike : (m : ℕ) (x : S) → slice_get threads m ≡ Some x
+        → ((meaning x).program ≡ s.program) × ((meaning x).fuel ≡ s.budget)
+    pub each : (m : ℕ) → StandsAt s.program s.worker (s.places m) (s.state.threads m) (slice_get threads m)
+        (get_or ends m None) (is_alive queue m)
 
   -- So it is by the stage of the walk.
   abbrev pub StageStands : Standing → List S → Stage → Type 0
@@ -146,7 +156,8 @@ module _ {S : Type 0} (meaning : S → Meaning) where
     pub settled : SettlesInto (meaning x) turn (meaning replaced.now)
 
   -- A spawned thread begins with its number and the argument of its spawn.
-  pub record IsStartedAt (x : S) (worker : List Value → Config) (arg : ℕ) (threads : List S) (n : ℕ) (after : List S) : Type 0 where
+  pub record IsStartedAt (x : S) (worker : List Value → Config) (arg : ℕ) (threads : List S) (n : ℕ) (after : List S)
+      : Type 0 where
     pub replaced : IsReplaced x threads n after
     pub begun : (meaning replaced.now).stands (Runs (spawned_in worker n arg) (meaning x).fuel)
 
@@ -160,8 +171,8 @@ made_by s n e v t = record s {
 
 module _ {S : Type 0} (meaning : S → Meaning) where
   -- A walk stands, but for thread n, which isn't asking and has made turns of its own.
-  pub record IsSettledOn (s : Standing) (threads : List S) (queue : WaitQueue) (begun : ℕ) (ends : List (Option Outcome)) (n : ℕ)
-      (t : Running) : Type 0 where
+  pub record IsSettledOn (s : Standing) (threads : List S) (queue : WaitQueue) (begun : ℕ)
+      (ends : List (Option Outcome)) (n : ℕ) (t : Running) : Type 0 where
     pub before : List S
     pub standing : IsStanding meaning s before queue begun ends
     pub thread : S
@@ -178,7 +189,8 @@ module _ {S : Type 0} (meaning : S → Meaning) where
   StageSettles s threads stage n t = IsSettledOn s threads stage.queue stage.started stage.ends n t
 
   -- Thread n may be taken: it runs, is alive, and hasn't asked to leave.
-  pub record IsGoing (s : Standing) (threads : List S) (queue : WaitQueue) (ends : List (Option Outcome)) (n : ℕ) : Type 0 where
+  pub record IsGoing (s : Standing) (threads : List S) (queue : WaitQueue) (ends : List (Option Outcome)) (n : ℕ)
+      : Type 0 where
     pub free : s.places n ≡ Free
     pub runs : RunsAt meaning (slice_get threads n) (s.state.threads n)
     pub alive : is_alive queue n ≡ true
@@ -189,6 +201,82 @@ pub record HasGone (t : Running) : Type 0 where
   pub outcome : Outcome
   pub left : ℕ
   pub gone : t ≡ Left outcome left
+
+module _ {S : Type 0} (meaning : S → Meaning) where
+  -- Of the threads one was replaced: it made a turn; or it made turns of its own until it wanted more; or it was
+  -- started.
+  abbrev pub TurnsAt : List S → ℕ → Given → Turn → List S → Type 0
+  TurnsAt xs n g turn ys = (x : S) → slice_get xs n ≡ Some x → IsTurnedAt meaning x g turn xs n ys
+
+  abbrev pub SettlesThread : List S → ℕ → Turn → List S → Type 0
+  SettlesThread xs n turn ys = (x : S) → slice_get xs n ≡ Some x → SettlesAt meaning x turn xs n ys
+
+  abbrev pub StartsAt : List S → ℕ → ℕ → List S → Type 0
+  StartsAt xs n arg ys = (x : S) (worker : List Value → Config) → slice_get xs n ≡ Some x
+      → (meaning x).begins spawn_types worker → IsStartedAt meaning x worker arg xs n ys
+
+  -- The thread of a number is at its budget, and may make turns.
+  abbrev pub MayRunAt : List S → ℕ → ℕ → Type 0
+  MayRunAt xs n fuel = (x : S) → slice_get xs n ≡ Some x → ((meaning x).fuel ≡ fuel)
+      × (t : Running) × (meaning x).stands t × IsHere t
+
+  -- It wants an event.
+  abbrev pub WantsAt : List S → ℕ → Event → Type 0
+  WantsAt xs n event = (x : S) → slice_get xs n ≡ Some x → (t : Running) × WantsEvent (meaning x) event t
+
+  -- After an answer was handed to a thread the stage stands so, at its place; an answer isn't due to it at all.
+  abbrev pub Hands : List S → Stage → ℕ → List S → Stage → Answer → Type 0
+  Hands xs before n ys after answer = (s : Standing) → StageStands meaning s xs before
+      → IsToldOn meaning s n answer ys after.queue after.started after.ends
+
+  abbrev pub IsNotDue : List S → Stage → ℕ → Answer → Type 0
+  IsNotDue xs stage n answer = (s : Standing) → StageStands meaning s xs stage → s.places n ≡ Due answer → ⊥
+
+  -- A thread may be taken; it has left, if its place is free.
+  abbrev pub MayBeTaken : Stage → ℕ → Type 0
+  MayBeTaken stage n = (s : Standing) (xs : List S) → StageStands meaning s xs stage
+      → IsGoing meaning s xs stage.queue stage.ends n
+
+  abbrev pub HasGoneIfFree : Stage → ℕ → Type 0
+  HasGoneIfFree stage n = (s : Standing) (xs : List S) → StageStands meaning s xs stage → s.places n ≡ Free
+      → HasGone (s.state.threads n)
+
+  -- A thread that has settled, and has ended so, has asked to leave.
+  abbrev pub LeavesAs : Stage → Stage → ℕ → Outcome → Type 0
+  LeavesAs before after n outcome = (s : Standing) (t u : Running) (xs : List S) → StageSettles meaning s xs before n t
+      → wants_of s.program u ≡ Calls (Ask Leave) → outcome_of u ≡ Some outcome → left_of u ≡ left_of t → IsHere u
+      → StageStands meaning (made_by s n (Ask Leave) replies.Done u) xs after
+
+  -- Where a question is a spawn, and a number is left, the thread of that number can be spawned; it was started there.
+  abbrev pub MaySpawn : List S → Stage → Question → Type 0
+  MaySpawn xs stage question = (arg : ℕ) → question ≡ Spawn arg → stage.started < length stage.queue.due
+      → (stage.started < length xs) × ((x : S) → slice_get xs stage.started ≡ Some x → MayBeSpawned (meaning x))
+
+  abbrev pub StartsSpawned : List S → Stage → Question → List S → Stage → Type 0
+  StartsSpawned xs before question ys after = (arg : ℕ) → question ≡ Spawn arg
+      → before.started < length before.queue.due → (after.started ≡ before.started + 1)
+      × StartsAt xs before.started arg ys
+
+  -- A thread has settled, and wants an event; that was made, if the reply is the memory's.
+  abbrev pub IsToMakeOn : List S → Stage → Memory → ℕ → Event → Type 0
+  IsToMakeOn xs stage memory n event = (s : Standing) × (t : Running) × StageSettles meaning s xs stage n t
+      × (s.memory ≡ memory) × (outcome_of t ≡ None) × (wants_of s.program t ≡ Calls event)
+
+  abbrev pub MakesOn : List S → Stage → Memory → ℕ → Event → Reply → List S → Stage → Type 0
+  MakesOn xs before memory n event reply ys after = (s : Standing) (t : Running) → StageSettles meaning s xs before n t
+      → s.memory ≡ memory → outcome_of t ≡ None → wants_of s.program t ≡ Calls event
+      → (reply ≡ reply_of s.memory event) × StageStands meaning (made_by s n event reply t) ys after
+
+-- All numbers are given out; and nobody was started.
+abbrev pub HasNoNumberLeft : Stage → Type 0
+HasNoNumberLeft stage = length stage.queue.due ≤ stage.started
+
+abbrev pub StartsNobody : {S : Type 0} → Stage → Stage → List S → List S → Type 0
+StartsNobody before after xs ys = (after.started ≡ before.started) × (ys ≡ xs)
+
+-- Only the queue may have changed.
+abbrev pub KeepsThreads : {S : Type 0} → Stage → Stage → List S → List S → Type 0
+KeepsThreads before after xs ys = (ys ≡ xs) × (after.started ≡ before.started) × (after.ends ≡ before.ends)
 
 -- Who is spawned by a question, if there is room for it.
 abbrev pub is_spawn : Question → Bool

@@ -1,22 +1,16 @@
 //! Where a walk along a log stands, and how it takes an entry.
-ghost use Rattle.std.specs.Prelude.{◌≡◌, ◌≤◌, ◌<◌, ℕ, true, false, length, replicate, Some, None};
-ghost use Rattle.types.specs.declared.value.Value.{Value};
+ghost use Rattle.std.specs.Prelude.{◌≡◌, ◌≤◌, ◌<◌, ℕ, true, false, length, replicate, slice_set, Some, None};
 ghost use Rattle.types.specs.declared.event.Event.TheVariants as events;
-ghost use Rattle.types.specs.declared.event.Reply.TheVariants.{Done};
-ghost use Rattle.shared_memory.specs.Memory.{reply_of, state_after};
-ghost use Rattle.shared_memory.specs.Events.{IsEvent, is_exempt};
-ghost use Rattle.std.specs.Prelude.{slice_set, List, ◌+◌};
-ghost use Rattle.std.specs.List.{slice_get};
-ghost use Rattle.shared_memory.specs.History.{queue_step};
 ghost use Rattle.types.specs.declared.event.Question.TheVariants.{Leave, Spawn};
 ghost use Rattle.types.specs.Limits.{most_threads};
+ghost use Rattle.shared_memory.specs.Memory.{reply_of, state_after};
+ghost use Rattle.shared_memory.specs.Events.{IsEvent, is_exempt};
+ghost use Rattle.shared_memory.specs.History.{queue_step};
 ghost use Rattle.shared_memory.specs.WaitQueue.{first_queue, after_question, IsFree};
-ghost use Rattle.schedule.specs.Histories.{Place.Free, Place.Due};
-ghost use Rattle.interp_machine.specs.Config.{Config};
-ghost use Rattle.interp_trait.specs.Turns.{Running, left_of, outcome_of, wants_of, IsHere, spawn_types, MayBeSpawned};
-ghost use Rattle.schedule.specs.System.{Want.Calls};
-ghost use Rattle.replay_walk.specs.Standing.{HasGone, IsGoing, Standing, IsToldOn, IsStartedAt, IsAnswered, StageStands, StageSettles};
-ghost use Rattle.replay_walk.specs.Standing.{made_by, is_spawn};
+ghost use Rattle.replay_walk.specs.Standing.{Standing, IsAnswered, StageStands, is_spawn};
+ghost use Rattle.replay_walk.specs.Standing.{Hands, IsNotDue, KeepsThreads, MayBeTaken, HasGoneIfFree, LeavesAs};
+ghost use Rattle.replay_walk.specs.Standing.{MaySpawn, StartsSpawned, HasNoNumberLeft, StartsNobody, IsToMakeOn};
+ghost use Rattle.replay_walk.specs.Standing.{MakesOn};
 
 use crate::equal::{is_same_answer, is_same_reply};
 use crate::turns::{start_at, turn_at};
@@ -54,11 +48,9 @@ impl Stage {
     pub fn tell<T: TakesTurns>(&mut self, threads: &mut [T], n: u32, answer: Answer) -> bool
         requires standing { (s : Standing) × StageStands T.meaning s threads.old self.old }
         ensures count { length threads.new ≡ length threads.old }
-        ensures told { result ≡ true → (s : Standing) → StageStands T.meaning s threads.old self.old
-            → IsToldOn T.meaning s n answer threads.new self.new.queue self.new.started self.new.ends }
-        ensures refused { result ≡ false → (s : Standing) → StageStands T.meaning s threads.old self.old → s.places n ≡ Due answer → ⊥ }
-        ensures kept { result ≡ false → (threads.new ≡ threads.old) × (self.new.started ≡ self.old.started)
-            × (self.new.ends ≡ self.old.ends) }
+        ensures told { result ≡ true → Hands T.meaning threads.old self.old n threads.new self.new answer }
+        ensures refused { result ≡ false → IsNotDue T.meaning threads.old self.old n answer }
+        ensures kept { result ≡ false → KeepsThreads self.old self.new threads.old threads.new }
     {
         let Some(due) = self.queue.told(n) else {
             return false;
@@ -79,10 +71,8 @@ impl Stage {
     /// Whether a thread may be taken: it was started, has no open question, and hasn't left. Who may be taken by its
     /// place alone, and isn't going, has left.
     pub fn is_going<T: TakesTurns>(&self, n: u32) -> bool
-        ensures going { result ≡ true → (s : Standing) (threads : List T) → StageStands T.meaning s threads self.now
-            → IsGoing T.meaning s threads self.now.queue self.now.ends n }
-        ensures gone { result ≡ false → (s : Standing) (threads : List T) → StageStands T.meaning s threads self.now → s.places n ≡ Free
-            → HasGone (s.state.threads n) }
+        ensures going { result ≡ true → MayBeTaken T.meaning self.now n }
+        ensures gone { result ≡ false → HasGoneIfFree T.meaning self.now n }
     {
         if n >= self.started || self.queue.has_open_question(n) {
             return false;
@@ -100,9 +90,7 @@ impl Stage {
         ensures queue { self.new.queue ≡ after_question self.old.queue n Leave 0 }
         ensures started { self.new.started ≡ self.old.started }
         ensures ends { self.new.ends ≡ slice_set self.old.ends n (Some outcome) }
-        ensures stands { (s : Standing) (t u : Running) (threads : List T) → StageSettles T.meaning s threads self.old n t
-            → wants_of s.program u ≡ Calls (events.Ask Leave) → outcome_of u ≡ Some outcome → left_of u ≡ left_of t → IsHere u
-            → StageStands T.meaning (made_by s n (events.Ask Leave) Done u) threads self.new }
+        ensures stands { LeavesAs T.meaning self.old self.new n outcome }
     {
         self.queue.ask(n, &Question::Leave, 0);
         self.ends[n as usize] = Some(outcome);
@@ -118,18 +106,13 @@ impl Stage {
         reply: Reply,
     )
         requires free { IsFree self.old.queue n }
-        requires spawn { (arg : ℕ) → question ≡ Spawn arg → self.old.started < length self.old.queue.due
-            → (self.old.started < length threads.old)
-            × ((x : T) → slice_get threads.old self.old.started ≡ Some x → MayBeSpawned (T.meaning x)) }
+        requires spawn { MaySpawn T.meaning threads.old self.old question }
         ensures count { length threads.new ≡ length threads.old }
         ensures queue { self.new.queue ≡ queue_step self.old.queue n (events.Ask question) reply }
         ensures ends { self.new.ends ≡ self.old.ends }
-        ensures started { (arg : ℕ) → question ≡ Spawn arg → self.old.started < length self.old.queue.due
-            → (self.new.started ≡ self.old.started + 1)
-            × ((x : T) (worker : List Value → Config) → slice_get threads.old self.old.started ≡ Some x
-            → (T.meaning x).begins spawn_types worker → IsStartedAt T.meaning x worker arg threads.old self.old.started threads.new) }
-        ensures full { length self.old.queue.due ≤ self.old.started → (self.new.started ≡ self.old.started) × (threads.new ≡ threads.old) }
-        ensures other { is_spawn question ≡ false → (self.new.started ≡ self.old.started) × (threads.new ≡ threads.old) }
+        ensures started { StartsSpawned T.meaning threads.old self.old question threads.new self.new }
+        ensures full { HasNoNumberLeft self.old → StartsNobody self.old self.new threads.old threads.new }
+        ensures other { is_spawn question ≡ false → StartsNobody self.old self.new threads.old threads.new }
     {
         let started = self.started;
         let most = self.queue.threads();
@@ -164,13 +147,11 @@ impl Stage {
         requires kind { is_exempt event ≡ false }
         requires reply { IsAnswered reply }
         requires room { (arg : ℕ) → event ≡ events.Ask (Spawn arg) → length threads.old ≡ most_threads }
-        requires settled { (s : Standing) × (t : Running) × StageSettles T.meaning s threads.old self.old n t × (s.memory ≡ memory.old)
-            × (outcome_of t ≡ None) × (wants_of s.program t ≡ Calls event) }
+        requires settled { IsToMakeOn T.meaning threads.old self.old memory.old n event }
         ensures count { length threads.new ≡ length threads.old }
         ensures memory { memory.new ≡ state_after memory.old event }
-        ensures made { result ≡ true → (s : Standing) (t : Running) → StageSettles T.meaning s threads.old self.old n t
-            → s.memory ≡ memory.old → outcome_of t ≡ None → wants_of s.program t ≡ Calls event → (reply ≡ reply_of s.memory event)
-            × StageStands T.meaning (made_by s n event reply t) threads.new self.new }
+        ensures made { result ≡ true
+            → MakesOn T.meaning threads.old self.old memory.old n event reply threads.new self.new }
         ensures refused { result ≡ false → reply ≡ reply_of memory.old event → ⊥ }
         ensures kept { result ≡ false → (threads.new ≡ threads.old) × (self.new ≡ self.old) }
     {

@@ -1,25 +1,24 @@
 //! A walk along a recorded log.
-ghost use Rattle.std.specs.Prelude.{◌≡◌, ◌<◌, ◌≤◌, ℕ, true, false, [], length, Some, None, All};
+ghost use Rattle.std.specs.Prelude.{◌≡◌, ◌<◌, ◌≤◌, ℕ, true, false, length, Some, None, All};
 ghost use Rattle.types.specs.Limits.{most_threads};
 ghost use Rattle.types.specs.declared.event.Event.TheVariants as events;
 ghost use Rattle.types.specs.declared.event.Question.TheVariants.{Leave};
 ghost use Rattle.shared_memory.specs.Events.{is_exempt};
-ghost use Rattle.schedule.specs.System.{Act.Heard};
-ghost use Rattle.schedule_threads.specs.Shared.{act_of};
 ghost use Rattle.replay_text.specs.Conditions.{IsEntry};
-ghost use Rattle.replay_walk.specs.Standing.{Standing};
-ghost use Rattle.replay_walk.specs.Walked.{Run, HasThreads, IsRefused, IsReady, IsFirstMisfit, WalkStands, WalkTakes, WalkCame};
+ghost use Rattle.replay_walk.specs.Walked.{BeginsWalk, StandsSomewhere, StandsWithin, StandsReady, TakesEntry};
+ghost use Rattle.replay_walk.specs.Walked.{RefusesEntry};
+ghost use Rattle.replay_walk.specs.Walked.{RefusesLeave, TakesAnswer, RefusesAnswer, IsNewWalk, ComesAlong, StopsAt};
 
 use crate::watch::show_event;
-use crate::{Stage, Unwatched, Watch, is_same_event, settle_at};
+use crate::{Stage, Watch, is_same_event, settle_at};
 use interp_trait::{TakesTurns, Turn};
 use shared_memory_sequential::OneMemory;
 use types::{Answer, Entry, Event, Outcome, Question, Stop};
 
 /// A recorded run on its way along its log: its threads by their numbers, its memory, and what they ask of one another.
 ///
-/// A program that starts threads has 64 here, though the run may have had fewer, of which those that weren't spawned yet
-/// haven't made a turn; another program has one.
+/// A program that starts threads has 64 here, though the run may have had fewer, of which those that weren't spawned
+/// yet haven't made a turn; another program has one.
 #[derive(Drop)]
 pub struct Walk<T> {
     pub threads: Vec<T>,
@@ -32,7 +31,7 @@ impl<T: TakesTurns> Walk<T> {
     pub fn new(threads: Vec<T>, memory: OneMemory, most: u32) -> Walk<T>
         requires some { 0 < most }
         requires few { most ≤ most_threads }
-        ensures { (r : Run) → IsReady T.meaning r threads.items memory → r.threads ≡ most → WalkCame T.meaning r [] result }
+        ensures { BeginsWalk T.meaning threads.items memory most result }
     {
         Walk {
             threads,
@@ -51,13 +50,10 @@ impl<T: TakesTurns> Walk<T> {
         watch: &mut W,
     ) -> bool
         requires entry { IsEntry most_threads entry.now }
-        requires standing { (s : Standing) × WalkStands T.meaning s self.old × (s.memory ≡ self.old.memory) × (s.budget ≡ fuel)
-            × HasThreads s.program (length self.old.threads.items) }
+        requires standing { StandsReady T.meaning self.old fuel }
         ensures count { length self.new.threads.items ≡ length self.old.threads.items }
-        ensures taken { result ≡ true → (s : Standing) → WalkStands T.meaning s self.old → s.memory ≡ self.old.memory
-            → WalkTakes T.meaning s limit at entry.now.thread (act_of entry.now) self.new }
-        ensures refused { result ≡ false → (s : Standing) → WalkStands T.meaning s self.old → s.memory ≡ self.old.memory
-            → IsRefused s limit at entry.now.thread (act_of entry.now) }
+        ensures taken { result ≡ true → TakesEntry T.meaning self.old self.new limit at entry.now }
+        ensures refused { result ≡ false → RefusesEntry T.meaning self.old limit at entry.now }
     {
         match entry.event {
             Event::Told(answer) => self.take_told(entry.thread, answer),
@@ -77,12 +73,10 @@ impl<T: TakesTurns> Walk<T> {
     ) -> bool
         requires entry { IsEntry most_threads entry.now }
         requires kind { entry.now.event ≡ events.Ask Leave }
-        requires standing { (s : Standing) × WalkStands T.meaning s self.old × (s.memory ≡ self.old.memory) × (s.budget ≡ fuel) }
+        requires standing { StandsWithin T.meaning self.old fuel }
         ensures count { length self.new.threads.items ≡ length self.old.threads.items }
-        ensures taken { result ≡ true → (s : Standing) → WalkStands T.meaning s self.old → s.memory ≡ self.old.memory
-            → WalkTakes T.meaning s limit at entry.now.thread (act_of entry.now) self.new }
-        ensures refused { result ≡ false → (s : Standing) → WalkStands T.meaning s self.old
-            → IsRefused s limit at entry.now.thread (act_of entry.now) }
+        ensures taken { result ≡ true → TakesEntry T.meaning self.old self.new limit at entry.now }
+        ensures refused { result ≡ false → RefusesLeave T.meaning self.old limit at entry.now }
     {
         let n = entry.thread;
         if !self.stage.is_going::<T>(n) {
@@ -115,13 +109,10 @@ impl<T: TakesTurns> Walk<T> {
     ) -> bool
         requires entry { IsEntry most_threads entry.now }
         requires kind { is_exempt entry.now.event ≡ false }
-        requires standing { (s : Standing) × WalkStands T.meaning s self.old × (s.memory ≡ self.old.memory) × (s.budget ≡ fuel)
-            × HasThreads s.program (length self.old.threads.items) }
+        requires standing { StandsReady T.meaning self.old fuel }
         ensures count { length self.new.threads.items ≡ length self.old.threads.items }
-        ensures taken { result ≡ true → (s : Standing) → WalkStands T.meaning s self.old → s.memory ≡ self.old.memory
-            → WalkTakes T.meaning s limit at entry.now.thread (act_of entry.now) self.new }
-        ensures refused { result ≡ false → (s : Standing) → WalkStands T.meaning s self.old → s.memory ≡ self.old.memory
-            → IsRefused s limit at entry.now.thread (act_of entry.now) }
+        ensures taken { result ≡ true → TakesEntry T.meaning self.old self.new limit at entry.now }
+        ensures refused { result ≡ false → RefusesEntry T.meaning self.old limit at entry.now }
     {
         let Entry {
             thread: n,
@@ -146,27 +137,12 @@ impl<T: TakesTurns> Walk<T> {
 
     /// An answer heard, which is the one that is due.
     fn take_told(&mut self, n: u32, answer: Answer) -> bool
-        requires standing { (s : Standing) × WalkStands T.meaning s self.old × (s.memory ≡ self.old.memory) }
+        requires standing { StandsSomewhere T.meaning self.old }
         ensures count { length self.new.threads.items ≡ length self.old.threads.items }
-        ensures taken { result ≡ true → (s : Standing) (limit at : ℕ) → WalkStands T.meaning s self.old → s.memory ≡ self.old.memory
-            → WalkTakes T.meaning s limit at n (Heard answer) self.new }
-        ensures refused { result ≡ false → (s : Standing) (limit at : ℕ) → WalkStands T.meaning s self.old
-            → IsRefused s limit at n (Heard answer) }
+        ensures taken { result ≡ true → TakesAnswer T.meaning self.old self.new n answer }
+        ensures refused { result ≡ false → RefusesAnswer T.meaning self.old n answer }
     {
         self.stage.tell(&mut self.threads, n, answer)
-    }
-
-    /// Walks along a log from its beginning, to the first entry that doesn't fit, and gives that one's place, counted
-    /// from 0; or to the end of the log.
-    pub fn along(&mut self, log: &[Entry], limit: u32, fuel: u64) -> Option<usize>
-        requires entries { All (IsEntry most_threads) log.now }
-        requires new { (r : Run) × WalkCame T.meaning r [] self.old × (r.budget ≡ fuel) × (r.limit ≡ limit) }
-        ensures whole { result ≡ None → (r : Run) → WalkCame T.meaning r [] self.old → r.limit ≡ limit
-            → WalkCame T.meaning r log.now self.new }
-        ensures misfit { (k : ℕ) → result ≡ Some k → (r : Run) → WalkCame T.meaning r [] self.old → r.limit ≡ limit
-            → IsFirstMisfit r log.now k }
-    {
-        self.along_watched(log, limit, fuel, &mut Unwatched)
     }
 
     /// Walks along a log from its beginning, to the first entry that doesn't fit, and gives that one's place, counted
@@ -179,11 +155,9 @@ impl<T: TakesTurns> Walk<T> {
         watch: &mut W,
     ) -> Option<usize>
         requires entries { All (IsEntry most_threads) log.now }
-        requires new { (r : Run) × WalkCame T.meaning r [] self.old × (r.budget ≡ fuel) × (r.limit ≡ limit) }
-        ensures whole { result ≡ None → (r : Run) → WalkCame T.meaning r [] self.old → r.limit ≡ limit
-            → WalkCame T.meaning r log.now self.new }
-        ensures misfit { (k : ℕ) → result ≡ Some k → (r : Run) → WalkCame T.meaning r [] self.old → r.limit ≡ limit
-            → IsFirstMisfit r log.now k }
+        requires new { IsNewWalk T.meaning self.old fuel limit }
+        ensures whole { result ≡ None → ComesAlong T.meaning self.old limit log.now self.new }
+        ensures misfit { (k : ℕ) → result ≡ Some k → StopsAt T.meaning self.old limit log.now k }
     {
         for (at, entry) in log.iter().enumerate() {
             watch.came(at, self);

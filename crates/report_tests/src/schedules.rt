@@ -3,7 +3,7 @@
 use interp_trait::OpenGate;
 use report_jobs::load;
 use report_runs::{EndState, record_run};
-use schedule_machine::{Kind, Mark};
+use schedule_program::{Kind, Mark};
 use spawn_host::Call;
 use std::alloc::{AllocError, Global};
 use std::process::Abort;

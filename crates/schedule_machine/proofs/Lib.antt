@@ -1,13 +1,8 @@
 pub mod Turning
-pub mod Telling
 pub mod Orderly
-pub mod Slots
 pub mod Asked
-pub mod Marks
 pub mod Accesses
 pub mod Beginning
 pub mod Starting
 pub mod Questions
 pub mod Asking
-pub mod Turns
-pub mod Along

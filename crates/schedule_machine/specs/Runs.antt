@@ -1,46 +1,27 @@
--- Where the machine stands: its threads, its memory and its queue are those of a state of the scheduled machine.
-use Rattle.std.specs.Prelude.{ℕ, zero, suc, ◌≡◌, ◌+◌, ◌<◌, ◌≤◌, ◌==◌, ◌&&◌, true, cond, nat_lt, List, [], ◌++◌, length, map, Option}
-use Rattle.std.specs.Prelude.{Some, None, option_to_list}
-use Rattle.std.specs.List.{slice_get}
+-- What a run of the scheduled machine starts with, what each of its states keeps to, and what a question makes of one.
+use Rattle.std.specs.Prelude.{ℕ, ◌≡◌, ◌+◌, ◌≤◌, ◌==◌, ◌&&◌, true, cond, nat_lt, length, Option}
+use Rattle.std.specs.Prelude.{Some, None}
 use Rattle.types.specs.declared.event.Event.{Event}
 use Rattle.types.specs.declared.event.Question.{Question}
 use Rattle.types.specs.declared.event.Question.TheVariants as questions
 use Rattle.types.specs.declared.event.Reply.TheVariants as replies
 use Rattle.types.specs.declared.event.Reply.{Reply}
 use Rattle.types.specs.declared.event.Answer.{Answer}
-use Rattle.types.specs.declared.outcome.ThreadReport.{ThreadReport}
-use Rattle.types.specs.declared.event.Entry as entries
 use Rattle.types.specs.Limits.{most_threads}
 use Rattle.shared_memory.specs.Memory.{Memory}
 use Rattle.shared_memory.specs.WaitQueue.{WaitQueue, is_alive, is_asleep, answer_due, next_id, after_question}
 use Rattle.shared_memory.specs.Sound.{IsSound}
-use Rattle.schedule.specs.System.{Want.Awaits, System, State, put}
-use Rattle.schedule.specs.System as systems
+use Rattle.schedule.specs.System.{Want.Awaits, System, put}
 use Rattle.schedule.specs.Scheduled.{hears_any, or_started}
 use Rattle.schedule.specs.Machine.{Thread.Absent, Thread.Runs}
 use Rattle.interp_machine.specs.Program.{Program}
 use Rattle.interp_machine.specs.Config.{Config}
 use Rattle.interp_machine.specs.State as states
 use Rattle.schedule_threads.specs.Shared.{Shared, without_dues, over_memory_and_queue}
-use Rattle.schedule_threads.specs.Seeing.{entered}
 use Rattle.schedule_threads.specs.Threads.{machine_of}
 use Rattle.schedule_runs.specs.Runs.{Start}
-use Rattle.interp_trait.specs.Turns.{Running, wants_of, Meaning, IsHere, spawned_in}
-use Rattle.schedule_machine.specs.Threads.{Setting, IsThread, report_of}
-use Rattle.schedule_machine.specs.declared.mark.Kind as kinds
-use Rattle.schedule_machine.specs.declared.mark.Kind.TheVariants as marks
-use Rattle.schedule_machine.specs.declared.mark.Mark as mark
-use Rattle.schedule_machine.specs.declared.stepped.Stepped.{Stepped}
-use Rattle.schedule_machine.specs.declared.stepping.Machine.{Machine}
-
--- A mark as the schedule has it.
-abbrev pub kind_of : kinds.Kind → systems.Kind
-kind_of marks.Turn = systems.Turn
-kind_of marks.Loses = systems.Loses
-kind_of marks.Fills = systems.Fills
-
-abbrev pub mark_of : mark.Mark → systems.Mark
-mark_of m = record { thread = m.thread; kind = kind_of m.kind }
+use Rattle.interp_trait.specs.Turns.{Running, wants_of, IsHere, spawned_in}
+use Rattle.schedule_machine.specs.Threads.{Setting}
 
 -- What a run starts with, where thread 0 begins in a configuration; and the system of its threads.
 abbrev pub start_of : Setting → Config → Memory → Start
@@ -79,10 +60,8 @@ MayHear s threads q = (m : ℕ) (a : Answer) → answer_due q m ≡ Some a → w
 
 -- A spawn starts a thread under the next number, while there is room for it.
 abbrev pub spawned_at : Setting → ℕ → ℕ → ℕ → Option Running
-spawned_at s next arg m = cond (nat_lt m most_threads && (m == next)) (Some (Runs (spawned_in s.worker m arg) s.fuel)) None
-
-abbrev pub with_spawned : Setting → ℕ → ℕ → (ℕ → Running) → ℕ → Running
-with_spawned s next arg threads m = or_started (spawned_at s next arg m) (threads m)
+spawned_at s next arg m = cond (nat_lt m most_threads && (m == next))
+    (Some (Runs (spawned_in s.worker m arg) s.fuel)) None
 
 -- The thread that a question starts under a number, and the number that comes next then.
 abbrev pub started_at : Setting → ℕ → Question → ℕ → Option Running
@@ -105,43 +84,3 @@ opening_value replies.Done = Some 0
 opening_value replies.OutOfBounds = None
 opening_value replies.Again = None
 opening_value replies.Full = None
-
--- Entries of the scheduled machine as those of a history.
-abbrev pub entry_of : systems.Entry Event Reply Answer → entries.Entry
-entry_of e = entered e.thread e.act
-
-abbrev pub as_entries : List (systems.Entry Event Reply Answer) → List entries.Entry
-as_entries made = map entry_of made
-
--- The reports of the threads below a number that have left, in order.
-abbrev pub reports_below : ℕ → ℕ → (ℕ → Running) → List ThreadReport
-reports_below zero fuel threads = []
-reports_below (suc k) fuel threads = reports_below k fuel threads ++ option_to_list (report_of fuel (threads k))
-
-module _ {S : Type 0} (meaning : S → Meaning) where
-  abbrev pub IsThreadAt : Setting → Option (Stepped S) → Running → Type 0
-  IsThreadAt s None t = t ≡ Absent
-  IsThreadAt s (Some x) t = IsThread meaning s x t
-
-  -- The threads in a list, and no others, stand for those of a family.
-  abbrev pub AreThreads : Setting → List (Stepped S) → (ℕ → Running) → Type 0
-  AreThreads s xs threads = (m : ℕ) → IsThreadAt s (slice_get xs m) (threads m)
-
-  -- There is a thread for each number, where threads can be spawned.
-  pub record IsAt (s : Setting) (machine : Machine S) (w : State Shared Running) : Type 0 where
-    pub shared : w.shared ≡ record { memory = machine.memory; queue = machine.queue }
-    pub threads : AreThreads s machine.threads.items w.threads
-    pub slots : 0 < s.program.imported → length machine.threads.items ≡ most_threads
-    pub next : machine.next_id ≡ next_id machine.queue
-    pub orderly : IsOrderly s.program w.shared.queue w.threads
-
-  -- The machine is at some state of some run, and what holds at each state that it is at.
-  abbrev pub IsSomewhere : Machine S → Type 0
-  IsSomewhere machine = (s : Setting) × (w : State Shared Running) × IsAt s machine w
-
-  abbrev pub AtEach : Machine S → (Setting → State Shared Running → Type 0) → Type 0
-  AtEach machine P = (s : Setting) (w : State Shared Running) → IsAt s machine w → P s w
-
-  -- From each state that it was at, it has come to this one.
-  abbrev pub StepsTo : Machine S → Machine S → (Setting → State Shared Running → State Shared Running) → Type 0
-  StepsTo before after to = AtEach before (λ s w. IsAt s after (to s w))

@@ -1,17 +1,7 @@
-//! The scheduled machine of a module, as a plain program: one thread steps all threads of the module along a schedule.
+//! The scheduled machine of a module: what a run starts with, and what each of its states keeps to.
 //!
-//! Proved: mark by mark it stands where the definition's machine does, and makes its entries. Where memory is refused
-//! nothing was stepped.
+//! It is that of the crates `schedule` and `schedule_threads`, over a memory and a wait queue. There is no program
+//! here: `schedule_program` steps it, and the search goes through its runs; both stand on the laws in `proofs/`.
 //!
-//! It is slow and simple. `specs/Threads.antt` says which thread of the definition each thread stands for, `specs/Runs.antt`
-//! where the whole machine stands; the definition itself is that of the crates `schedule` and `schedule_threads`.
+//! Proved: these are definitions and lemmas alone.
 #![tactic(auto)]
-
-mod ends;
-mod mark;
-mod stepped;
-mod stepping;
-
-pub use mark::{Kind, Mark};
-pub use stepped::Stepped;
-pub use stepping::Machine;

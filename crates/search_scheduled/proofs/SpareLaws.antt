@@ -13,7 +13,7 @@ use Rattle.interp.specs.Starts.{start_of}
 use Rattle.spawn_host.specs.Threads.{AreSpawnable}
 use Rattle.replay_walk.specs.Walked.{Run}
 use Rattle.replay.proofs.Same.{same_function}
-use Rattle.search_scheduled.specs.SpareThreads.{IsWorker, IsSpare, AreSpares, IsUnused}
+use Rattle.search_scheduled.specs.SpareThreads.{IsWorker, AreSpares, IsUnused}
 
 -- all spawned threads of a module begin alike
 pub same_worker : (m : Parts) → HasDistinctNames m.exports → (x y : List Value → Config) → IsWorker m x → IsWorker m y → x ≡ y

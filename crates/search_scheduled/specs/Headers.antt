@@ -8,10 +8,11 @@ use Rattle.schedule_runs.specs.Runs.{Start}
 use Rattle.replay_text.specs.declared.version.Version.TheVariants as versions
 use Rattle.replay_text.specs.declared.parts.RecordParts.{RecordParts}
 use Rattle.replay_rules.specs.Recorded.{IsRecordedRun}
+use Rattle.spawn_host.specs.declared.call.Call.{Call}
 use Rattle.spawn_host.specs.declared.end.EndState.{EndState}
 
--- One record has the other's header: its version, the module's length, how many threads and pages there may be, its call, its
--- budget and its limit.
+-- One record has the other's header: its version, the module's length, how many threads and pages there may be, its
+-- call, its budget and its limit.
 pub record HasHeaderOf (header r : RecordParts) : Type 0 where
   pub version : r.version ≡ header.version
   pub module_len : r.module_len ≡ header.module_len
@@ -22,7 +23,8 @@ pub record HasHeaderOf (header r : RecordParts) : Type 0 where
   pub fuel : r.fuel ≡ header.fuel
   pub limit : r.limit ≡ header.limit
 
--- The header is that of a call, in version 2: with the module's length, and with as many threads and pages as there may ever be.
+-- The header is that of a call, in version 2: with the module's length, and with as many threads and pages as there may
+-- ever be.
 pub record IsOfCall (m : Parts) (name : List ℕ) (values : List Value) (units most : ℕ) (r : RecordParts) : Type 0 where
   pub version : r.version ≡ versions.Two
   pub module_len : r.module_len ≡ m.length
@@ -32,6 +34,9 @@ pub record IsOfCall (m : Parts) (name : List ℕ) (values : List Value) (units m
   pub args : r.args ≡ values
   pub fuel : r.fuel ≡ units
   pub limit : r.limit ≡ most
+
+abbrev pub RecordsCall : Parts → Call → ℕ → RecordParts → Type 0
+RecordsCall m call most r = IsOfCall m call.name.now call.args.now call.fuel most r
 
 -- The record is of a run with this beginning, which ends so.
 pub record Concludes (b : Start) (r : RecordParts) (end : EndState) : Type 0 where

@@ -1,21 +1,17 @@
 //! What a course has come to.
-ghost use Rattle.std.specs.Prelude.{◌≡◌, drop, IfOk, IfErr, All};
-ghost use Rattle.shared_memory.specs.Memory.{Memory};
-ghost use Rattle.replay_text.specs.declared.parts.RecordParts.{RecordParts};
-ghost use Rattle.replay_rules.specs.Recorded.{IsRecordedRun};
-ghost use Rattle.replay_walk.specs.Walked.{Run, start};
-ghost use Rattle.search_scheduled.specs.Courses.{CameAlong};
+ghost use Rattle.std.specs.Prelude.{◌≡◌, drop, IfOk, IfErr};
+ghost use Rattle.search_scheduled.specs.Courses.{ConcludesRuns};
 ghost use Rattle.search_scheduled.specs.Faults.{IsLater};
-ghost use Rattle.search_scheduled.specs.Headers.{HasHeaderOf, Concludes};
-ghost use Rattle.search_scheduled.specs.SpareThreads.{IsUnused};
+ghost use Rattle.search_scheduled.specs.Headers.{HasHeaderOf};
+ghost use Rattle.search_scheduled.specs.SpareThreads.{LeavesUnused};
 
+use crate::Course;
 use crate::fault::SearchFault;
 use interp_trait::TakesTurns;
 use replay::first_wrong_end;
-use spawn_host::EndState;
 use replay_text::RecordParts;
 use replay_walk::Walk;
-use crate::Course;
+use spawn_host::EndState;
 use std::alloc::{AllocError, Global};
 use types::{Sequence, ThreadReport};
 
@@ -67,9 +63,8 @@ pub(crate) fn conclude<T: TakesTurns + Drop>(
     header: RecordParts,
 ) -> Result<Concluded<T>, SearchFault>
     ensures header { IfOk result (λ c. HasHeaderOf header c.parts) }
-    ensures concludes { IfOk result (λ c. (run : Run) → CameAlong T.meaning run course → run.threads ≡ header.threads
-        → run.budget ≡ header.fuel → run.limit ≡ header.limit → Concludes (start run) c.parts c.end) }
-    ensures unused { IfOk result (λ c. (run : Run) → CameAlong T.meaning run course → All (IsUnused T.meaning run) c.unused.items) }
+    ensures concludes { IfOk result (λ c. ConcludesRuns T.meaning course header c.parts c.end) }
+    ensures unused { IfOk result (λ c. LeavesUnused T.meaning course c.unused.items) }
     ensures fault { IfErr result IsLater }
 {
     let ends = ends_of(alloc, &course.walk)?;

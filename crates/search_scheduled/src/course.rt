@@ -1,8 +1,7 @@
 //! A walk with the log that it makes.
-ghost use Rattle.std.specs.Prelude.{◌≡◌, ◌≤◌, length, [], OnOk};
+ghost use Rattle.std.specs.Prelude.{◌≤◌, length, OnOk};
 ghost use Rattle.types.specs.Limits.{most_threads};
-ghost use Rattle.replay_walk.specs.Walked.{Run, IsReady};
-ghost use Rattle.search_scheduled.specs.Courses.{CameAlong, IsOnARun, StaysOnItsRuns};
+ghost use Rattle.search_scheduled.specs.Courses.{BeginsCourse, IsOnARun, StaysOnItsRuns};
 
 use crate::hearing::hear;
 use crate::making::go_on;
@@ -33,7 +32,8 @@ impl<T: Drop> From<AllocFailed<T>> for CourseFault {
     }
 }
 
-/// A run on its way: a walk, the log that it has made, how many entries that takes, and how many units each thread may spend.
+/// A run on its way: a walk, the log that it has made, how many entries that takes, and how many units each thread may
+/// spend.
 #[derive(Drop)]
 pub struct Course<T> {
     pub walk: Walk<T>,
@@ -51,8 +51,7 @@ impl<T: TakesTurns> Course<T> {
         fuel: u64,
         limit: u32,
     ) -> Course<T>
-        ensures { (r : Run) → IsReady T.meaning r threads.items memory → r.threads ≡ most_threads → r.budget ≡ fuel
-            → r.limit ≡ limit → CameAlong T.meaning r result }
+        ensures { BeginsCourse T.meaning threads.items memory fuel limit result }
     {
         Course {
             walk: Walk::new(threads, memory, MOST_THREADS as u32),

@@ -1,21 +1,19 @@
 //! A thread takes the answer that is due to it.
-ghost use Rattle.std.specs.Prelude.{◌≡◌, ℕ, length, Some, None};
-ghost use Rattle.types.specs.declared.event.Answer.{Answer};
-ghost use Rattle.schedule.specs.System.{Act.Heard};
-ghost use Rattle.replay_walk.specs.Standing.{Standing, IsToldOn, StageStands};
-ghost use Rattle.replay_walk.specs.Walked.{WalkStands, WalkTakes};
+ghost use Rattle.std.specs.Prelude.{◌≡◌, length, None};
+ghost use Rattle.replay_walk.specs.Standing.{Standing, StageStands};
+ghost use Rattle.replay_walk.specs.Walked.{StandsSomewhere};
+ghost use Rattle.search_scheduled.specs.Settled.{HandsDue, IsSameWalk, TakesDueAnswer};
 
 use interp_trait::{Given, TakesTurns};
 use replay_walk::{Stage, Walk, turn_at};
 use types::Answer;
 
-/// A thread to which an answer is due takes it, and the answer is given. One that has left makes no turn more. Where none is due,
-/// nothing is changed.
+/// A thread to which an answer is due takes it, and the answer is given. One that has left makes no turn more. Where
+/// none is due, nothing is changed.
 fn hear_due<T: TakesTurns>(stage: &mut Stage, threads: &mut [T], n: u32) -> Option<Answer>
     requires standing { (s : Standing) × StageStands T.meaning s threads.old stage.old }
     ensures count { length threads.new ≡ length threads.old }
-    ensures told { (answer : Answer) → result ≡ Some answer → (s : Standing) → StageStands T.meaning s threads.old stage.old
-        → IsToldOn T.meaning s n answer threads.new stage.new.queue stage.new.started stage.new.ends }
+    ensures told { HandsDue T.meaning threads.old stage.old n result threads.new stage.new }
     ensures kept { result ≡ None → (threads.new ≡ threads.old) × (stage.new ≡ stage.old) }
 {
     let answer = stage.queue.told(n)?;
@@ -31,12 +29,10 @@ fn hear_due<T: TakesTurns>(stage: &mut Stage, threads: &mut [T], n: u32) -> Opti
 
 /// The same of a walk.
 pub(crate) fn hear<T: TakesTurns>(walk: &mut Walk<T>, n: u32) -> Option<Answer>
-    requires standing { (s : Standing) × WalkStands T.meaning s walk.old × (s.memory ≡ walk.old.memory) }
+    requires standing { StandsSomewhere T.meaning walk.old }
     ensures count { length walk.new.threads.items ≡ length walk.old.threads.items }
-    ensures heard { (answer : Answer) → result ≡ Some answer → (s : Standing) (limit at : ℕ) → WalkStands T.meaning s walk.old
-        → s.memory ≡ walk.old.memory → WalkTakes T.meaning s limit at n (Heard answer) walk.new }
-    ensures kept { result ≡ None → (walk.new.threads.items ≡ walk.old.threads.items) × (walk.new.memory ≡ walk.old.memory)
-        × (walk.new.stage ≡ walk.old.stage) }
+    ensures heard { TakesDueAnswer T.meaning n walk.old result walk.new }
+    ensures kept { result ≡ None → IsSameWalk walk.old walk.new }
 {
     hear_due(&mut walk.stage, &mut walk.threads, n)
 }

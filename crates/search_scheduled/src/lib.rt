@@ -4,12 +4,14 @@
 //! the call comes only where it can't be made. A thread that sleeps, or that an answer is due to, makes no turn.
 //!
 //! - `threads_of` and `opening` make what a run begins with, as a replay does.
-//! - `Course` is a walk, and the log that it has made (`CameAlong`, specs/Courses.antt): each entry is what the thread that goes on
-//!   wants, with the memory's reply. So what such a walk made is what a replay takes, and every contract says that in the words of
-//!   `replay_walk`: `hear` and `hear_due` (a thread takes the answer that is due to it, `IsToldOn`), `settle_going` (a thread that can
-//!   go on makes its turns of its own; one that sleeps, has left or wasn't started is left as it is: `SettlesOn`,
-//!   specs/Settled.antt), `leave` and `make` (what a settled thread does then, its leave or its event).
-//! - `conclude` reads the ends off the walk, compares each with where the walk stands as a replay does, and makes the record's parts.
+//! - `Course` is a walk, and the log that it has made (`CameAlong`, specs/Courses.antt): each entry is what the thread
+//!   that goes on wants, with the memory's reply. So what such a walk made is what a replay takes, and every contract
+//!   says that in the words of `replay_walk`: `hear` and `hear_due` (a thread takes the answer that is due to it,
+//!   `IsToldOn`), `settle_going` (a thread that can go on makes its turns of its own; one that sleeps, has left or
+//!   wasn't started is left as it is: `SettlesOn`, specs/Settled.antt), `leave` and `make` (what a settled thread does
+//!   then, its leave or its event).
+//! - `conclude` reads the ends off the walk, compares each with where the walk stands as a replay does, and makes the
+//!   record's parts.
 //! - `run_along` puts it together. Whatever the strategy, the record is of a run of the module (`IsRunOf`).
 #![tactic(auto)]
 

@@ -5,17 +5,17 @@ ghost use Rattle.validate_typing.specs.Validity.{HasDistinctNames};
 ghost use Rattle.validate_module.specs.Pages.{HasPagesWithin};
 ghost use Rattle.interp.specs.Threads.{meaning_in};
 ghost use Rattle.replay.specs.Runs.{IsRunOf};
-ghost use Rattle.search_scheduled.specs.Faults.{IsFaultOf};
-ghost use Rattle.search_scheduled.specs.Headers.{IsOfCall};
-ghost use Rattle.search_scheduled.specs.SpareThreads.{AreSpares, HasBegun};
+ghost use Rattle.search_scheduled.specs.Faults.{IsFaultOf, IsFaultOfCall};
+ghost use Rattle.search_scheduled.specs.Headers.{RecordsCall};
+ghost use Rattle.search_scheduled.specs.SpareThreads.{HasBegun, HoldsSpares};
 
+use crate::Course;
 use crate::concluding::{Concluded, conclude};
 use crate::fault::SearchFault;
 use crate::threads::{Spares, opening, threads_of};
 use interp::Thread;
 use replay_text::{Record, RecordParts, Version};
 use search_strategies::Strategy;
-use crate::Course;
 use spawn_host::{Call, EndState};
 use std::alloc::{AllocError, Global};
 use types::{MOST_PAGES, MOST_THREADS, Name, Sequence};
@@ -49,7 +49,7 @@ fn header_of(
     call: Call,
     limit: u32,
 ) -> Result<RecordParts, AllocError>
-    ensures { IfOk result (IsOfCall «module».now.parts call.entry.name.now call.entry.args.now call.entry.fuel limit) }
+    ensures { IfOk result (RecordsCall «module».now.parts call.entry limit) }
 {
     Ok(RecordParts {
         version: Version::Two,
@@ -66,16 +66,16 @@ fn header_of(
     })
 }
 
-/// Runs an exported function of a module by one thread: before each event the strategy says which thread makes it, of those that can go
-/// on. A thread takes an answer as soon as that is due. The limit is 1 to 1,000,000 entries, and the fuel of the call 0 to
-/// 1,000,000,000,000 units.
+/// Runs an exported function of a module by one thread: before each event the strategy says which thread makes it, of
+/// those that can go on. A thread takes an answer as soon as that is due. The limit is 1 to 1,000,000 entries, and the
+/// fuel of the call 0 to 1,000,000,000,000 units.
 ///
-/// Whatever the strategy, the record is of a run of the module that ends so. It is of version 2, and says that there may be 64
-/// threads and 256 pages.
+/// Whatever the strategy, the record is of a run of the module that ends so. It is of version 2, and says that there
+/// may be 64 threads and 256 pages.
 ///
 /// # Errors
-/// `UnknownExport` where no function of the module itself is exported under the name, `WrongArguments` where the arguments don't
-/// fit it, `NoEnd` where a number is out of its range, `NoMemory`.
+/// `UnknownExport` where no function of the module itself is exported under the name, `WrongArguments` where the
+/// arguments don't fit it, `NoEnd` where a number is out of its range, `NoMemory`.
 pub fn run_along<S: Strategy>(
     alloc: Global,
     module: &ValidModule,
@@ -83,10 +83,9 @@ pub fn run_along<S: Strategy>(
     limit: u32,
     strategy: &mut S,
 ) -> Result<Made, SearchFault>
-    ensures call { IfOk result (λ made. IsOfCall «module».now.parts call.entry.name.now call.entry.args.now call.entry.fuel limit
-        made.record) }
+    ensures call { IfOk result (λ made. RecordsCall «module».now.parts call.entry limit made.record) }
     ensures run { IfOk result (λ made. IsRunOf «module».now.parts made.record made.end) }
-    ensures fault { IfErr result (IsFaultOf «module».now.parts call.entry.name.now call.entry.args.now) }
+    ensures fault { IfErr result (IsFaultOfCall «module».now.parts call.entry) }
 {
     run_with_spares(
         alloc,
@@ -105,11 +104,11 @@ fn course_of<'m>(
     header: &RecordParts,
     spares: &mut Spares<'m>,
 ) -> Result<Course<Thread<'m>>, SearchFault>
-    requires spares { AreSpares meaning_in «module».now.parts header.now.fuel spares.old.threads.items }
+    requires spares { HoldsSpares «module».now.parts header.now.fuel spares.old }
     requires threads { header.now.threads ≡ most_threads }
     requires pages { header.now.max_pages ≡ most_pages }
     ensures begun { IfOk result (HasBegun meaning_in «module».now.parts header.now) }
-    ensures spares { OnOk result (AreSpares meaning_in «module».now.parts header.now.fuel spares.new.threads.items) }
+    ensures spares { OnOk result (HoldsSpares «module».now.parts header.now.fuel spares.new) }
     ensures fault { IfErr result (IsFaultOf «module».now.parts header.now.invoke header.now.args) }
 {
     show_distinct_names(module);
@@ -118,7 +117,8 @@ fn course_of<'m>(
     Ok(Course::new(alloc, threads, memory, header.fuel, header.limit))
 }
 
-/// `run_along` with the threads that the runs before it didn't start: those of this run that aren't started are given back.
+/// `run_along` with the threads that the runs before it didn't start: those of this run that aren't started are given
+/// back.
 ///
 /// # Errors
 /// As of `run_along`.
@@ -130,12 +130,11 @@ pub fn run_with_spares<'m, S: Strategy>(
     strategy: &mut S,
     spares: &mut Spares<'m>,
 ) -> Result<Made, SearchFault>
-    requires spares { AreSpares meaning_in «module».now.parts call.fuel spares.old.threads.items }
-    ensures call { IfOk result (λ made. IsOfCall «module».now.parts call.entry.name.now call.entry.args.now call.entry.fuel limit
-        made.record) }
+    requires spares { HoldsSpares «module».now.parts call.fuel spares.old }
+    ensures call { IfOk result (λ made. RecordsCall «module».now.parts call.entry limit made.record) }
     ensures run { IfOk result (λ made. IsRunOf «module».now.parts made.record made.end) }
-    ensures fault { IfErr result (IsFaultOf «module».now.parts call.entry.name.now call.entry.args.now) }
-    ensures spares { OnOk result (AreSpares meaning_in «module».now.parts call.entry.fuel spares.new.threads.items) }
+    ensures fault { IfErr result (IsFaultOfCall «module».now.parts call.entry) }
+    ensures spares { OnOk result (HoldsSpares «module».now.parts call.entry.fuel spares.new) }
 {
     show_pages_fit(module);
     let header = header_of(alloc, module, call, limit)?;

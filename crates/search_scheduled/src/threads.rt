@@ -4,10 +4,10 @@ ghost use Rattle.types.specs.declared.parts.Parts.{Parts};
 ghost use Rattle.types.specs.Limits.{most_spawned};
 ghost use Rattle.interp.specs.Threads.{meaning_in};
 ghost use Rattle.spawn_host.specs.Entries.{StartsThreads};
-ghost use Rattle.spawn_host.specs.Threads.{IsFirst};
 ghost use Rattle.spawn_host.specs.Runs.{opening_memory};
+ghost use Rattle.replay.specs.Threads.{MakesCallOf};
 ghost use Rattle.search_scheduled.specs.Faults.{IsFaultOf, IsLater};
-ghost use Rattle.search_scheduled.specs.SpareThreads.{AreSpares, AreOthers, AreThreads};
+ghost use Rattle.search_scheduled.specs.SpareThreads.{AreSpares, AreOthers, AreThreadsOf, HoldsSpares, TakesBack};
 
 use crate::fault::SearchFault;
 use interp::Thread;
@@ -19,8 +19,8 @@ use std::alloc::{AllocError, Global};
 use types::MOST_SPAWNED;
 use validate_module::ValidModule;
 
-/// Threads of a module that can be spawned and that no run has started, for one run after another. A run takes 63 of them, and those
-/// that it didn't start come back: so that hardly more threads are made than are started.
+/// Threads of a module that can be spawned and that no run has started, for one run after another. A run takes 63 of
+/// them, and those that it didn't start come back: so that hardly more threads are made than are started.
 #[derive(Drop)]
 pub struct Spares<'m> {
     pub threads: Vec<Thread<'m>>,
@@ -45,10 +45,10 @@ impl<'m> Spares<'m> {
         fuel: u64,
     ) -> Result<Vec<Thread<'m>>, AllocError>
         requires starts { StartsThreads «module».now.parts }
-        requires spares { AreSpares meaning_in «module».now.parts fuel self.old.threads.items }
+        requires spares { HoldsSpares «module».now.parts fuel self.old }
         ensures count { IfOk result (λ taken. length taken.items ≡ most_spawned) }
         ensures taken { IfOk result (λ taken. AreSpares meaning_in «module».now.parts fuel taken.items) }
-        ensures left { OnOk result (AreSpares meaning_in «module».now.parts fuel self.new.threads.items) }
+        ensures left { OnOk result (HoldsSpares «module».now.parts fuel self.new) }
     {
         if self.threads.len() < MOST_SPAWNED {
             let mut more = spawnable_threads(alloc, module, fuel)?;
@@ -64,9 +64,7 @@ impl<'m> Spares<'m> {
         module: &ValidModule,
         unused: Vec<Thread<'m>>,
     ) -> Result<(), AllocError>
-        ensures { (budget : ℕ) → AreSpares meaning_in «module».now.parts budget self.old.threads.items
-            → (StartsThreads «module».now.parts → AreSpares meaning_in «module».now.parts budget unused.entry.items)
-            → OnOk result (AreSpares meaning_in «module».now.parts budget self.new.threads.items) }
+        ensures { TakesBack «module».now.parts self.old unused.entry.items self.new result }
     {
         if !module.starts_threads() {
             return Ok(());
@@ -83,7 +81,7 @@ fn first_of<'m>(
     module: &'m ValidModule,
     parts: &RecordParts,
 ) -> Result<Thread<'m>, SearchFault>
-    ensures first { IfOk result (λ thread. IsFirst meaning_in «module».now.parts parts.now.invoke parts.now.args parts.now.fuel thread) }
+    ensures first { IfOk result (MakesCallOf meaning_in «module».now.parts parts.now) }
     ensures fault { IfErr result (IsFaultOf «module».now.parts parts.now.invoke parts.now.args) }
 {
     let call = Call {
@@ -106,9 +104,9 @@ fn others_of<'m>(
     fuel: u64,
     spares: &mut Spares<'m>,
 ) -> Result<Vec<Thread<'m>>, AllocError>
-    requires { AreSpares meaning_in «module».now.parts fuel spares.old.threads.items }
+    requires { HoldsSpares «module».now.parts fuel spares.old }
     ensures others { IfOk result (λ others. AreOthers meaning_in «module».now.parts fuel others.items) }
-    ensures spares { OnOk result (AreSpares meaning_in «module».now.parts fuel spares.new.threads.items) }
+    ensures spares { OnOk result (HoldsSpares «module».now.parts fuel spares.new) }
 {
     if module.starts_threads() {
         return spares.take(alloc, module, fuel);
@@ -123,9 +121,9 @@ pub(crate) fn threads_of<'m>(
     parts: &RecordParts,
     spares: &mut Spares<'m>,
 ) -> Result<Vec<Thread<'m>>, SearchFault>
-    requires { AreSpares meaning_in «module».now.parts parts.now.fuel spares.old.threads.items }
-    ensures threads { IfOk result (λ threads. AreThreads meaning_in «module».now.parts parts.now threads.items) }
-    ensures spares { OnOk result (AreSpares meaning_in «module».now.parts parts.now.fuel spares.new.threads.items) }
+    requires { HoldsSpares «module».now.parts parts.now.fuel spares.old }
+    ensures threads { IfOk result (AreThreadsOf meaning_in «module».now.parts parts.now) }
+    ensures spares { OnOk result (HoldsSpares «module».now.parts parts.now.fuel spares.new) }
     ensures fault { IfErr result (IsFaultOf «module».now.parts parts.now.invoke parts.now.args) }
 {
     let first = first_of(alloc, module, parts)?;

@@ -4,16 +4,14 @@ use Rattle.std.specs.List.{slice_get}
 use Rattle.std.proofs.lemmas.Bool.{cases_eq, cases_lt}
 use Rattle.std.proofs.lemmas.List.{get_or_append_left, get_or_push}
 use Rattle.std.proofs.lemmas.Option.{slice_get-get_or, slice_get_past}
-use Rattle.types.specs.declared.value.ValType.{ValType}
-use Rattle.types.specs.declared.value.Value.{Value}
 use Rattle.schedule.specs.Machine.{Thread.Absent}
 use Rattle.schedule.proofs.Basics.{put-same, put-other, at_each}
-use Rattle.interp_machine.specs.Program.{Program}
-use Rattle.interp_machine.specs.Config.{Config}
 use Rattle.interp_trait.specs.Turns.{Running, Meaning}
-use Rattle.schedule_machine.specs.Threads.{Setting, IsThread}
-use Rattle.schedule_machine.specs.Runs.{AreThreads, IsThreadAt, first_thread}
-use Rattle.schedule_machine.specs.declared.stepped.Stepped.{Stepped}
+use Rattle.schedule_machine.specs.Threads.{Setting}
+use Rattle.schedule_program.specs.Threads.{IsThread}
+use Rattle.schedule_machine.specs.Runs.{first_thread}
+use Rattle.schedule_program.specs.Runs.{AreThreads, IsThreadAt}
+use Rattle.schedule_program.specs.declared.stepped.Stepped.{Stepped}
 
 same_front : {X : Type 0} (xs : List X) (x : X) (m : ℕ) → m < length xs → slice_get xs m ≡ slice_get (xs ++ x ∷ []) m
 same_front xs x m within =

@@ -1,7 +1,6 @@
 -- The threads of a module, before their first turn, as those of a machine.
 use Rattle.std.proofs.Common.{◌≡◌, ℕ, List, All, refl, ◌∙◌, ap, subst}
 use Rattle.std.proofs.lemmas.List.Elements.{All-weaker}
-use Rattle.types.specs.declared.value.ValType.{ValType}
 use Rattle.types.specs.declared.value.Value.{Value}
 use Rattle.types.specs.declared.parts.FuncType.{FuncType}
 use Rattle.types.specs.declared.parts.Body.{Body}
@@ -9,18 +8,18 @@ use Rattle.types.specs.declared.parts.Parts.{Parts}
 use Rattle.types.specs.Limits.{most_pages}
 use Rattle.validate_typing.specs.Image.{opening_image, pages_max_of}
 use Rattle.shared_memory.specs.Memory.{Memory}
-use Rattle.interp_machine.specs.Program.{Program}
 use Rattle.interp_machine.specs.Config.{Config}
-use Rattle.interp_trait.specs.Turns.{Running, Meaning, spawned_in}
+use Rattle.interp_trait.specs.Turns.{Meaning, spawned_in}
 use Rattle.interp.specs.Starts.{start_of}
 use Rattle.spawn_host.specs.Entries.{CallsThreadStart}
 use Rattle.spawn_host.specs.Runs.{opening_memory, start_with}
 use Rattle.spawn_host.specs.Threads.{AreSpawnable, IsCall}
 use Rattle.schedule_runs.specs.Runs.{first_state}
-use Rattle.schedule_machine.specs.Threads.{IsPrepared}
+use Rattle.schedule_program.specs.Threads.{IsPrepared}
 use Rattle.schedule_machine.specs.Runs as runs
-use Rattle.schedule_machine.specs.Runs.{AreThreads, IsAt, first_thread}
-use Rattle.schedule_machine.specs.declared.stepping.Machine.{Machine}
+use Rattle.schedule_machine.specs.Runs.{first_thread}
+use Rattle.schedule_program.specs.Runs.{IsAt}
+use Rattle.schedule_program.specs.declared.stepping.Machine.{Machine}
 use Rattle.test_schedules.specs.Machines.{setting_of}
 
 -- the memory opens as the module's does

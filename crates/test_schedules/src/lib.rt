@@ -1,4 +1,5 @@
-//! The scheduled machine of a module, and the schedule of a log: along the schedules of real runs tests step the machine.
+//! The scheduled machine of a module, and the schedule of a log: along the schedules of real runs tests step the
+//! machine.
 //!
 //! Proved: `machine_of` gives the machine where a run of the module begins.
 #![tactic(auto)]

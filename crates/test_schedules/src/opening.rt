@@ -1,15 +1,13 @@
 //! The scheduled machine of a module, before its first mark.
-ghost use Rattle.std.specs.Prelude.{◌≡◌, ◌≤◌, ◌+◌, ℕ, All, IfOk, length, vec_len, vec_capacity};
-ghost use Rattle.schedule.specs.Machine.{Thread.Absent};
-ghost use Rattle.interp_trait.specs.Turns.{Running};
-ghost use Rattle.schedule_machine.specs.Threads.{Setting, IsPrepared};
-ghost use Rattle.schedule_machine.specs.Runs.{AreThreads};
-ghost use Rattle.test_schedules.specs.Machines.{IsMachineOf};
+ghost use Rattle.std.specs.Prelude.{◌≡◌, ◌≤◌, ◌+◌, All, IfOk, length, vec_len, vec_capacity};
+ghost use Rattle.schedule_machine.specs.Threads.{Setting};
+ghost use Rattle.schedule_program.specs.Threads.{IsPrepared};
+ghost use Rattle.test_schedules.specs.Machines.{AddsAbsent, IsMachineOfCall};
 ghost use Rattle.interp.specs.Threads.{meaning_in};
 
 use interp::Thread;
 use interp_trait::TakesTurns;
-use schedule_machine::{Machine, Stepped};
+use schedule_program::{Machine, Stepped};
 use shared_memory_sequential::{OneMemory, OpenFault};
 use spawn_host::{Call, first_thread, spawnable_threads};
 use spawn_host_workers::RunFault;
@@ -55,28 +53,25 @@ fn add_absent<T: TakesTurns + Drop>(threads: &mut Vec<Stepped<T>>, mut spawned: 
     requires room { vec_len threads.old + vec_len spawned ≤ vec_capacity threads.old }
     requires prepared { (s : Setting) × All (IsPrepared T.meaning s) spawned.items }
     ensures count { length threads.new.items ≡ length threads.old.items + length spawned.items }
-    ensures threads { (s : Setting) (f : ℕ → Running) → All (IsPrepared T.meaning s) spawned.items
-        → AreThreads T.meaning s threads.old.items f → ((m : ℕ) → length threads.old.items ≤ m → f m ≡ Absent)
-        → AreThreads T.meaning s threads.new.items f }
+    ensures threads { AddsAbsent T.meaning spawned.items threads.old.items threads.new.items }
 {
     while let Some(thread) = spawned.pop() {
         threads.push_reserved(Stepped::absent(thread));
     }
 }
 
-/// The scheduled machine of a run of an exported function of a module with arguments, before its first mark. Each thread has
-/// the budget of the call.
+/// The scheduled machine of a run of an exported function of a module with arguments, before its first mark. Each
+/// thread has the budget of the call.
 ///
 /// # Errors
-/// `Run` where a run couldn't begin: no function is exported under the name, or the arguments don't fit it. `Open` where the
-/// memory can't be opened. `NoMemory`.
+/// `Run` where a run couldn't begin: no function is exported under the name, or the arguments don't fit it. `Open`
+/// where the memory can't be opened. `NoMemory`.
 pub fn machine_of<'m>(
     alloc: Global,
     module: &'m ValidModule,
     call: Call,
 ) -> Result<Machine<Thread<'m>>, MachineFault>
-    ensures { IfOk result (λ machine. IsMachineOf meaning_in «module».now.parts call.entry.name.now call.entry.args.now
-        call.entry.fuel machine) }
+    ensures { IfOk result (IsMachineOfCall meaning_in «module».now.parts call.entry) }
 {
     let first = first_thread(alloc, module, call)?;
     let image = module.image(alloc)?;

@@ -1,8 +1,8 @@
 //! The schedule of a log: stepped along it, the machine makes the log's events in their order.
-ghost use Rattle.schedule_machine.specs.Runs.{IsSomewhere};
+ghost use Rattle.schedule_program.specs.Runs.{IsSomewhere};
 
 use interp_trait::TakesTurns;
-use schedule_machine::{Kind, Machine, Mark};
+use schedule_program::{Kind, Machine, Mark};
 use std::alloc::{AllocError, Global};
 use types::{Entry, Event, Question};
 
@@ -57,9 +57,9 @@ fn fill_before_leave<T: TakesTurns>(
     Ok(())
 }
 
-/// The schedule of a log without lost tries, found by stepping a machine that is before its first mark. For each entry that is
-/// no answer heard, these are the turns of its own that the thread makes before it, at most `most`, and its turn; before a
-/// leave of a thread that wants another event, the thread finds the log full.
+/// The schedule of a log without lost tries, found by stepping a machine that is before its first mark. For each entry
+/// that is no answer heard, these are the turns of its own that the thread makes before it, at most `most`, and its
+/// turn; before a leave of a thread that wants another event, the thread finds the log full.
 ///
 /// # Errors
 /// Where memory is refused.

@@ -43,11 +43,10 @@ returns-else-is_pages_line g c = λ s e holds.
       wrong = λ line.
           let last : LineAgrees c.args.parts.now s.state s.places (length c.args.parts.now.ends) =
           subst (λ k. LineAgrees c.args.parts.now s.state s.places k) same line in
-          c.is_pages_line.ensures.other c.if-is_pages_line.false
-          (pages_held g.T.TakesTurns.meaning s c.args.threads.now c.args.stage.now.queue c.args.stage.now.started
-          c.args.stage.now.ends
-          c.args.parts.now e c.args.held holds last)
-          (all_reported g.T.TakesTurns.meaning s c.args.threads.now c.args.stage.now.queue c.args.stage.now.started
-          c.args.stage.now.ends
-          c.args.parts.now e c.args.held holds last);
+          c.is_pages_line.ensures.other c.if-is_pages_line.false (
+            pages_held g.T.TakesTurns.meaning s c.args.threads.now c.args.stage.now.queue c.args.stage.now.started
+                c.args.stage.now.ends c.args.parts.now e c.args.held holds last,
+            all_reported g.T.TakesTurns.meaning s c.args.threads.now c.args.stage.now.queue c.args.stage.now.started
+                c.args.stage.now.ends c.args.parts.now e c.args.held holds last,
+          );
     }

@@ -1,8 +1,8 @@
 use Rattle.std.proofs.Common.{◌≡◌, ◌+◌, ◌++◌, ◌∷◌, [], length, sym, ◌∙◌, ap, subst, arith, length-append}
 use Rattle.std.specs.Prelude.{option_to_list, IfSome}
 use Rattle.std.proofs.lemmas.List.Elements.{All-pop}
-use Rattle.schedule_machine.specs.Threads.{IsPrepared}
-use Rattle.schedule_machine.specs.Runs.{AreThreads}
+use Rattle.schedule_program.specs.Threads.{IsPrepared}
+use Rattle.schedule_program.specs.Runs.{AreThreads}
 use Rattle.test_schedules.proofs.Filling.{are_pushed}
 use Rattle.test_schedules.proofs.opening.add_absent.Goals as goal
 

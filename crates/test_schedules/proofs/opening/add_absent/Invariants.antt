@@ -1,8 +1,9 @@
 use Rattle.std.proofs.Common.{◌≡◌, ℕ, ◌+◌, ◌≤◌, All, length, vec_len, vec_capacity}
 use Rattle.schedule.specs.Machine.{Thread.Absent}
 use Rattle.interp_trait.specs.Turns.{Running}
-use Rattle.schedule_machine.specs.Threads.{Setting, IsPrepared}
-use Rattle.schedule_machine.specs.Runs.{AreThreads}
+use Rattle.schedule_machine.specs.Threads.{Setting}
+use Rattle.schedule_program.specs.Threads.{IsPrepared}
+use Rattle.schedule_program.specs.Runs.{AreThreads}
 use Rattle.test_schedules.proofs.opening.add_absent.Given as goal
 
 abbrev pub invariant-loop-thread : goal.invariant-loop-thread

@@ -1,4 +1,4 @@
-use Rattle.schedule_machine.specs.Runs.{IsSomewhere}
+use Rattle.schedule_program.specs.Runs.{IsSomewhere}
 use Rattle.test_schedules.proofs.scheduling.schedule_of.Given as goal
 
 abbrev pub invariant-loop-entry : goal.invariant-loop-entry

@@ -1,5 +1,6 @@
 use Rattle.schedule.specs.Scheduled.{after_mark}
-use Rattle.schedule_machine.specs.Runs.{kind_of, system_by}
+use Rattle.schedule_machine.specs.Runs.{system_by}
+use Rattle.schedule_program.specs.Runs.{kind_of}
 use Rattle.test_schedules.proofs.scheduling.step.Goals as goal
 
 pub returns : goal.returns

@@ -1,0 +1,9 @@
+pub mod Turning
+pub mod Telling
+pub mod Slots
+pub mod Marks
+pub mod Accesses
+pub mod Starting
+pub mod Asking
+pub mod Turns
+pub mod Along
