@@ -1,6 +1,6 @@
 //! The accesses of one thread.
 ghost use Rattle.std.specs.Prelude.{◌≡◌, ◌≤◌, ◌%◌, false};
-ghost use Rattle.types.specs.Limits.{desk_name};
+ghost use Rattle.types.specs.declared.limits.TheConstants.{DESK_NAME};
 ghost use Rattle.shared_memory.specs.Events.{IsEvent, is_of_queue};
 
 use crate::plan::{Change, Rounds};
@@ -21,7 +21,7 @@ pub struct Task {
 
 /// The first byte of the word that a seat of this name uses: the one word of all, or the seat's own.
 fn word_of(rounds: Rounds, name: u32) -> u64
-    requires { name ≤ desk_name }
+    requires { name ≤ DESK_NAME }
     ensures aligned { result % 8 ≡ 0 }
     ensures near { result ≤ 4096 }
 {

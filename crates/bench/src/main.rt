@@ -1,17 +1,17 @@
 //! How long accesses of a shared memory and calls of its desk take.
 //!
-//! `memory`: threads make accesses over one shared memory. The further arguments are `locked` for the recorder or `words` for
-//! the row of words; the change, `stores`, `swaps`, `adds`, `ands`, `ors` or `xors` of eight bytes, or `narrow-adds` of
-//! four; where, `turns` (each thread on its own word, in turn with loads), `apart` (each on its own) or `together` (all on
-//! one, and a lost try is made again); the number of threads, 1 to 64; and the number of accesses in all, 1 to 1,000,000,
-//! over words to 100,000,000.
+//! `memory`: threads make accesses over one shared memory. The further arguments are `locked` for the recorder or
+//! `words` for the row of words; the change, `stores`, `swaps`, `adds`, `ands`, `ors` or `xors` of eight bytes, or
+//! `narrow-adds` of four; where, `turns` (each thread on its own word, in turn with loads), `apart` (each on its own)
+//! or `together` (all on one, and a lost try is made again); the number of threads, 1 to 64; and the number of accesses
+//! in all, 1 to 1,000,000, over words to 100,000,000.
 //!
-//! `desk`: calls of a desk over one recorder. The further arguments are `alone` (one thread notifies where nobody is asleep)
-//! or `turns` (two threads hand a turn to one another, by a wait, a store and a notify), and the number of calls or of turns
-//! of each thread, 1 to 90,000.
+//! `desk`: calls of a desk over one recorder. The further arguments are `alone` (one thread notifies where nobody is
+//! asleep) or `turns` (two threads hand a turn to one another, by a wait, a store and a notify), and the number of
+//! calls or of turns of each thread, 1 to 90,000.
 //!
-//! With the word `time` behind them it is printed how long all accesses take, or one call; of accesses also the sum of the
-//! values read, modulo 2^64, so that no compiler leaves a value out.
+//! With the word `time` behind them it is printed how long all accesses take, or one call; of accesses also the sum of
+//! the values read, modulo 2^64, so that no compiler leaves a value out.
 #![tactic(auto)]
 
 mod accesses;

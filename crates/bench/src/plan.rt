@@ -89,8 +89,8 @@ pub enum Plan {
 }
 
 impl Plan {
-    /// Reads the arguments, of which the first is the program's name: `None` where they aren't `memory` or `desk` with what
-    /// belongs to it.
+    /// Reads the arguments, of which the first is the program's name: `None` where they aren't `memory` or `desk` with
+    /// what belongs to it.
     pub fn read(words: &[String]) -> Option<Plan> {
         match words.get(1)?.as_str() {
             "memory" => Some(Plan::Memory(MemoryPlan::read(&words[2..])?)),

@@ -26,7 +26,7 @@ use Rattle.binary.specs.declared.kinds.LimitsFlag.{LimitsFlag}
 use Rattle.binary.specs.declared.kinds.LimitsFlag.TheVariants as flags
 use Rattle.binary.specs.Kinds.{external_kind_of, mutability_of, table_flag_of, memory_flag_of, min_limits, min_max_limits, exported}
 use Rattle.types.specs.Within.{param_count}
-use Rattle.types.specs.Limits.{most_pages, most_body_bytes, most_functions, most_elements, most_params, most_locals}
+use Rattle.types.specs.declared.limits.TheConstants.{MOST_PAGES, MOST_BODY_BYTES, MOST_FUNCTIONS, MOST_ELEMENTS, MOST_PARAMS, MOST_LOCALS}
 use Rattle.binary.specs.Reading.{coded_at, limits_after_at, memory_at, table_at, global_type_at, func_type_at}
 use Rattle.binary.specs.Reading.{global_at, described_at, import_desc_at, import_at, export_desc_at, export_at}
 use Rattle.binary.specs.Reading.{element_at, data_at, groups_at, locals_at, body_contents_at, block_within_at}
@@ -89,13 +89,13 @@ limits_after_law most_min most_max flags.SharedMinMax =
 
 pub memory_law : Law IsMemory memory_at
 unfolding memory_at
-memory_law = then_law (IsCoded memory_flag_of) (coded_at faults.LimitsFlag memory_flag_of) (IsLimitsAfter most_pages most_pages)
-    (limits_after_at most_pages most_pages) (coded_law faults.LimitsFlag memory_flag_of) (limits_after_law most_pages most_pages)
+memory_law = then_law (IsCoded memory_flag_of) (coded_at faults.LimitsFlag memory_flag_of) (IsLimitsAfter MOST_PAGES MOST_PAGES)
+    (limits_after_at MOST_PAGES MOST_PAGES) (coded_law faults.LimitsFlag memory_flag_of) (limits_after_law MOST_PAGES MOST_PAGES)
 
 table_limits_law : Law IsTableLimits (λ s bytes. coded_at faults.LimitsFlag table_flag_of s bytes >>= λ flag.
-    limits_after_at most_elements 0xffff_ffff flag.0 s flag.1)
-table_limits_law = then_law (IsCoded table_flag_of) (coded_at faults.LimitsFlag table_flag_of) (IsLimitsAfter most_elements 0xffff_ffff)
-    (limits_after_at most_elements 0xffff_ffff) (coded_law faults.LimitsFlag table_flag_of) (limits_after_law most_elements 0xffff_ffff)
+    limits_after_at MOST_ELEMENTS 0xffff_ffff flag.0 s flag.1)
+table_limits_law = then_law (IsCoded table_flag_of) (coded_at faults.LimitsFlag table_flag_of) (IsLimitsAfter MOST_ELEMENTS 0xffff_ffff)
+    (limits_after_at MOST_ELEMENTS 0xffff_ffff) (coded_law faults.LimitsFlag table_flag_of) (limits_after_law MOST_ELEMENTS 0xffff_ffff)
 
 pub table_law : Law IsTable table_at
 unfolding table_at
@@ -119,12 +119,12 @@ global_type_law = record {
 pub func_type_law : Law IsFuncType func_type_at
 unfolding func_type_at
 func_type_law =
-    let v = vector_law most_params IsValType val_type_at val_type_law in
+    let v = vector_law MOST_PARAMS IsValType val_type_at val_type_law in
     record {
       takes = λ s bytes t rest e.
           one_case (tag_at faults.UnknownByte 0x60 s bytes) _ _ e (λ start e1 e2.
-          bind_case (vector_at most_params val_type_at s start) _ _ e2 (λ params mid e3 e4.
-          bind_case (vector_at most_params val_type_at s mid) _ _ e4 (λ results after e5 e6.
+          bind_case (vector_at MOST_PARAMS val_type_at s start) _ _ e2 (λ params mid e3 e4.
+          bind_case (vector_at MOST_PARAMS val_type_at s mid) _ _ e4 (λ results after e5 e6.
           take_is (IsFuncType bytes) (record { params = params; results = results }) t after rest e6 (
             start,
             mid,
@@ -212,12 +212,12 @@ export_law = record {
 pub element_law : Law IsElement element_at
 unfolding element_at
 element_law =
-    let v = vector_law most_functions IsU32 u32_at u32_law in
+    let v = vector_law MOST_FUNCTIONS IsU32 u32_at u32_law in
     record {
       takes = λ s bytes x rest e.
           bind_case (u32_at s bytes) _ _ e (λ table a e1 e2.
           bind_case (expression_at s a) _ _ e2 (λ offset b e3 e4.
-          bind_case (vector_at most_functions u32_at s b) _ _ e4 (λ functions c e5 e6.
+          bind_case (vector_at MOST_FUNCTIONS u32_at s b) _ _ e4 (λ functions c e5 e6.
           take_is (IsElement bytes) (record { table = table; offset = offset; functions = functions }) x c rest e6 (
             a,
             b,
@@ -276,10 +276,10 @@ locals_law room = then_law IsU32 u32_at (λ count. IsGroups count room) (λ coun
 body_contents_law : (params : ℕ) → Law (IsBodyContents params) (body_contents_at params)
 unfolding body_contents_at
 body_contents_law params =
-    let l = locals_law (most_locals - params) in
+    let l = locals_law (MOST_LOCALS - params) in
     record {
       takes = λ s bytes x rest e.
-          bind_case (locals_at (most_locals - params) s bytes) _ _ e (λ locals a e1 e2.
+          bind_case (locals_at (MOST_LOCALS - params) s bytes) _ _ e (λ locals a e1 e2.
           bind_case (expression_at s a) _ _ e2 (λ code b e3 e4.
           take_is (IsBodyContents params bytes)
           (record { locals = locals; code = code }) x b rest e4 (
@@ -307,11 +307,11 @@ block_within_law limit =
 body_law : (params : ℕ) → Law (IsBody params) (body_at params)
 unfolding body_at
 body_law params =
-    let w = block_within_law most_body_bytes in
+    let w = block_within_law MOST_BODY_BYTES in
     let c = body_contents_law params in
     record {
       takes = λ s bytes x rest e.
-          bind_case (block_within_at most_body_bytes s bytes)
+          bind_case (block_within_at MOST_BODY_BYTES s bytes)
           (λ contents. body_contents_at params (inside s contents.1) contents.0 >>= λ b. end_at (inside s contents.1) b.1 >>= λ whole. gives b.0 contents.1)
           (x, rest) e (λ block after e1 e2.
           bind_case (body_contents_at params (inside s after) block) (λ b. end_at (inside s after) b.1 >>= λ whole. gives b.0 after) (x, rest) e2 (λ y left e3 e4.

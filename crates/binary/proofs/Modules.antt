@@ -14,7 +14,7 @@ use Rattle.binary_wire.proofs.Laws.{Law, good, bad, bind_case, one_case, take_is
 use Rattle.types.specs.declared.parts.Parts.{Parts}
 use Rattle.types.specs.declared.parts.Import.{Import}
 use Rattle.types.specs.declared.parts.FuncType.{FuncType}
-use Rattle.types.specs.Limits.{most_module_bytes, most_items}
+use Rattle.types.specs.declared.limits.TheConstants.{MOST_MODULE_BYTES, MOST_ITEMS}
 use Rattle.binary.specs.declared.parts.Signatures.{Signatures}
 use Rattle.binary.specs.declared.parts.Stores.{Stores}
 use Rattle.binary.specs.declared.parts.Contents.{Contents}
@@ -27,45 +27,45 @@ use Rattle.binary.specs.Reading.{stores_at, contents_at, last_at, sections_at, p
 use Rattle.binary.proofs.Laws.{func_type_law, import_law, table_law, memory_law, global_law, export_law, element_law, data_law}
 use Rattle.binary.proofs.SectionLaws.{section_law, start_law, code_law, customs_take, customs_again, opening_takes, opening_again}
 
-types_law : Law (IsSection 1 most_items IsFuncType) (section_at 1 most_items func_type_at)
-types_law = section_law 1 most_items IsFuncType func_type_at func_type_law
+types_law : Law (IsSection 1 MOST_ITEMS IsFuncType) (section_at 1 MOST_ITEMS func_type_at)
+types_law = section_law 1 MOST_ITEMS IsFuncType func_type_at func_type_law
 
-imports_law : Law (IsSection 2 most_items IsImport) (section_at 2 most_items import_at)
-imports_law = section_law 2 most_items IsImport import_at import_law
+imports_law : Law (IsSection 2 MOST_ITEMS IsImport) (section_at 2 MOST_ITEMS import_at)
+imports_law = section_law 2 MOST_ITEMS IsImport import_at import_law
 
 functions_law : (imports : List Import) → Law (IsSection 3 (function_room imports) IsU32) (section_at 3 (function_room imports) u32_at)
 functions_law imports = section_law 3 (function_room imports) IsU32 u32_at u32_law
 
-tables_law : Law (IsSection 4 most_items IsTable) (section_at 4 most_items table_at)
-tables_law = section_law 4 most_items IsTable table_at table_law
+tables_law : Law (IsSection 4 MOST_ITEMS IsTable) (section_at 4 MOST_ITEMS table_at)
+tables_law = section_law 4 MOST_ITEMS IsTable table_at table_law
 
-memories_law : Law (IsSection 5 most_items IsMemory) (section_at 5 most_items memory_at)
-memories_law = section_law 5 most_items IsMemory memory_at memory_law
+memories_law : Law (IsSection 5 MOST_ITEMS IsMemory) (section_at 5 MOST_ITEMS memory_at)
+memories_law = section_law 5 MOST_ITEMS IsMemory memory_at memory_law
 
-globals_law : Law (IsSection 6 most_items IsGlobal) (section_at 6 most_items global_at)
-globals_law = section_law 6 most_items IsGlobal global_at global_law
+globals_law : Law (IsSection 6 MOST_ITEMS IsGlobal) (section_at 6 MOST_ITEMS global_at)
+globals_law = section_law 6 MOST_ITEMS IsGlobal global_at global_law
 
-exports_law : Law (IsSection 7 most_items IsExport) (section_at 7 most_items export_at)
-exports_law = section_law 7 most_items IsExport export_at export_law
+exports_law : Law (IsSection 7 MOST_ITEMS IsExport) (section_at 7 MOST_ITEMS export_at)
+exports_law = section_law 7 MOST_ITEMS IsExport export_at export_law
 
-elements_law : Law (IsSection 9 most_items IsElement) (section_at 9 most_items element_at)
-elements_law = section_law 9 most_items IsElement element_at element_law
+elements_law : Law (IsSection 9 MOST_ITEMS IsElement) (section_at 9 MOST_ITEMS element_at)
+elements_law = section_law 9 MOST_ITEMS IsElement element_at element_law
 
-data_segments_law : Law (IsSection 11 most_items IsData) (section_at 11 most_items data_at)
-data_segments_law = section_law 11 most_items IsData data_at data_law
+data_segments_law : Law (IsSection 11 MOST_ITEMS IsData) (section_at 11 MOST_ITEMS data_at)
+data_segments_law = section_law 11 MOST_ITEMS IsData data_at data_law
 
 -- ---- the sections, one after the other
 
 abbrev IsSignatures : Spelling Signatures
 IsSignatures bytes x rest = (a : List ℕ) × (b : List ℕ)
-    × IsSection 1 most_items IsFuncType bytes x.types a × IsSection 2 most_items IsImport a x.imports b
+    × IsSection 1 MOST_ITEMS IsFuncType bytes x.types a × IsSection 2 MOST_ITEMS IsImport a x.imports b
     × IsSection 3 (function_room x.imports) IsU32 b x.functions rest
 
 signatures_take : (s : Bounds) (bytes : List ℕ) (x : Signatures) (rest : List ℕ) → signatures_at s bytes ≡ Ok (x, rest) → IsSignatures bytes x rest
 unfolding signatures_at
 signatures_take s bytes x rest e0 =
-    bind_case (section_at 1 most_items func_type_at s bytes) _ _ e0 (λ types a a1 a2.
-    bind_case (section_at 2 most_items import_at s a) _ _ a2 (λ imports b b1 b2.
+    bind_case (section_at 1 MOST_ITEMS func_type_at s bytes) _ _ e0 (λ types a a1 a2.
+    bind_case (section_at 2 MOST_ITEMS import_at s a) _ _ a2 (λ imports b b1 b2.
     bind_case (section_at 3 (function_room imports) u32_at s b) _ _ b2 (λ functions c c1 c2.
     take_is (IsSignatures bytes) (record { types = types; imports = imports; functions = functions }) x c rest c2 (
       a,
@@ -86,17 +86,17 @@ signatures_again s bytes x rest h =
 
 abbrev AreStores : Spelling Stores
 AreStores bytes x rest = (a : List ℕ) × (b : List ℕ) × (c : List ℕ) × (d : List ℕ)
-    × IsSection 4 most_items IsTable bytes x.tables a × IsSection 5 most_items IsMemory a x.memories b
-    × IsSection 6 most_items IsGlobal b x.globals c × IsSection 7 most_items IsExport c x.exports d
+    × IsSection 4 MOST_ITEMS IsTable bytes x.tables a × IsSection 5 MOST_ITEMS IsMemory a x.memories b
+    × IsSection 6 MOST_ITEMS IsGlobal b x.globals c × IsSection 7 MOST_ITEMS IsExport c x.exports d
     × IsSectionPart 8 None IsStartFunction d x.start rest
 
 stores_take : (s : Bounds) (bytes : List ℕ) (x : Stores) (rest : List ℕ) → stores_at s bytes ≡ Ok (x, rest) → AreStores bytes x rest
 unfolding stores_at
 stores_take s bytes x rest e0 =
-    bind_case (section_at 4 most_items table_at s bytes) _ _ e0 (λ tables a a1 a2.
-    bind_case (section_at 5 most_items memory_at s a) _ _ a2 (λ memories b b1 b2.
-    bind_case (section_at 6 most_items global_at s b) _ _ b2 (λ globals c c1 c2.
-    bind_case (section_at 7 most_items export_at s c) _ _ c2 (λ exports d d1 d2.
+    bind_case (section_at 4 MOST_ITEMS table_at s bytes) _ _ e0 (λ tables a a1 a2.
+    bind_case (section_at 5 MOST_ITEMS memory_at s a) _ _ a2 (λ memories b b1 b2.
+    bind_case (section_at 6 MOST_ITEMS global_at s b) _ _ b2 (λ globals c c1 c2.
+    bind_case (section_at 7 MOST_ITEMS export_at s c) _ _ c2 (λ exports d d1 d2.
     bind_case (start_at s d) _ _ d2 (λ start e e1 e2.
     take_is (AreStores bytes) (record { tables = tables; memories = memories; globals = globals; exports = exports; start = start }) x e rest e2 (
       a,
@@ -123,16 +123,16 @@ stores_again s bytes x rest h =
 
 abbrev AreContents : List FuncType → List ℕ → Spelling Contents
 AreContents types functions bytes x rest = (a : List ℕ) × (b : List ℕ)
-    × IsSection 9 most_items IsElement bytes x.elements a × IsSectionPart 10 [] (IsCodeSection types functions) a x.bodies b
-    × IsSection 11 most_items IsData b x.«data» rest
+    × IsSection 9 MOST_ITEMS IsElement bytes x.elements a × IsSectionPart 10 [] (IsCodeSection types functions) a x.bodies b
+    × IsSection 11 MOST_ITEMS IsData b x.«data» rest
 
 contents_take : (types : List FuncType) (functions : List ℕ) (s : Bounds) (bytes : List ℕ) (x : Contents) (rest : List ℕ)
     → contents_at types functions s bytes ≡ Ok (x, rest) → AreContents types functions bytes x rest
 unfolding contents_at
 contents_take types functions s bytes x rest e0 =
-    bind_case (section_at 9 most_items element_at s bytes) _ _ e0 (λ elements a a1 a2.
+    bind_case (section_at 9 MOST_ITEMS element_at s bytes) _ _ e0 (λ elements a a1 a2.
     bind_case (code_at types functions s a) _ _ a2 (λ bodies b b1 b2.
-    bind_case (section_at 11 most_items data_at s b) _ _ b2 (λ segments c c1 c2.
+    bind_case (section_at 11 MOST_ITEMS data_at s b) _ _ b2 (λ segments c c1 c2.
     take_is (AreContents types functions bytes) (record { elements = elements; bodies = bodies; «data» = segments }) x c rest c2 (
       a,
       b,
@@ -162,7 +162,7 @@ pub module_takes : (bytes : List ℕ) (m : Parts) → module_at bytes ≡ Ok m �
 unfolding module_at sections_at last_at
 module_takes bytes m e0 =
     let s = input bytes in
-    let fits = unless_ok (ltb most_module_bytes (length bytes)) (refusal faults.Limit most_module_bytes) _ m e0 in
+    let fits = unless_ok (ltb MOST_MODULE_BYTES (length bytes)) (refusal faults.Limit MOST_MODULE_BYTES) _ m e0 in
     one_case (opening_at s bytes) _ _ fits.1 (λ opened o1 o2.
     bind_case (signatures_at s opened) _ _ o2 (λ x c x1 x2.
     bind_case (stores_at s c) _ _ x2 (λ y h y1 y2.
@@ -178,7 +178,7 @@ module_takes bytes m e0 =
     let signatures = signatures_take s opened x c (sym x1) in
     let stores = stores_take s c y h (sym y1) in
     let contents = contents_take x.types x.functions s h z k (sym z1) in
-    let size : length bytes ≤ most_module_bytes = ltb-false _ _ fits.0 in
+    let size : length bytes ≤ MOST_MODULE_BYTES = ltb-false _ _ fits.0 in
     subst (IsModuleText bytes) is (record {
       size = size;
       counted = refl;
@@ -219,7 +219,7 @@ module_again bytes m h =
     let y : Stores = record { tables = m.tables; memories = m.memories; globals = m.globals; exports = m.exports; start = m.start } in
     let z : Contents = record { elements = m.elements; bodies = m.bodies; «data» = m.«data» } in
     rw (
-      le-ltb most_module_bytes (length bytes) h.size,
+      le-ltb MOST_MODULE_BYTES (length bytes) h.size,
       opening_again s bytes h.before_types h.opening,
       signatures_again s h.before_types x h.before_tables (h.before_imports, h.before_functions, h.types, h.imports, h.functions),
       stores_again s h.before_tables y h.before_elements (

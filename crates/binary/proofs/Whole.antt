@@ -20,7 +20,7 @@ use Rattle.types.specs.declared.parts.Parts.{Parts}
 use Rattle.types.specs.Within.{IsTypeWithin, IsTableWithin, IsMemoryWithin, IsDescWithin, IsBodyWithin, IsWithinLimits, is_func, param_count}
 use Rattle.types.specs.Nesting.{IsExpression}
 use Rattle.types.specs.Modules.{IsModule}
-use Rattle.types.specs.Limits.{most_pages, most_items, most_functions, most_elements, most_locals}
+use Rattle.types.specs.declared.limits.TheConstants.{MOST_PAGES, MOST_ITEMS, MOST_FUNCTIONS, MOST_ELEMENTS, MOST_LOCALS}
 use Rattle.binary.specs.declared.kinds.ExternalKind.{ExternalKind}
 use Rattle.binary.specs.declared.kinds.ExternalKind.TheVariants as kinds
 use Rattle.binary.specs.declared.kinds.LimitsFlag.{LimitsFlag}
@@ -71,10 +71,10 @@ limits_within most_min most_max flags.MinMax bytes l rest h = subst (WithinBoth 
 limits_within most_min most_max flags.SharedMinMax bytes l rest h = subst (WithinBoth most_min most_max) (sym h.3.2) (h.2.1, h.3.1.1)
 
 memory_within : (bytes : List ℕ) (l : Limits) (rest : List ℕ) → IsMemory bytes l rest → IsMemoryWithin l
-memory_within bytes l rest h = limits_within most_pages most_pages h.0 h.1 l rest h.3
+memory_within bytes l rest h = limits_within MOST_PAGES MOST_PAGES h.0 h.1 l rest h.3
 
 table_within : (bytes : List ℕ) (l : Limits) (rest : List ℕ) → IsTable bytes l rest → IsTableWithin l
-table_within bytes l rest h = (limits_within most_elements 0xffff_ffff h.2.0 h.2.1 l rest h.2.3).0
+table_within bytes l rest h = (limits_within MOST_ELEMENTS 0xffff_ffff h.2.0 h.2.1 l rest h.2.3).0
 
 described_within : (kind : ExternalKind) (bytes : List ℕ) (d : ImportDesc) (rest : List ℕ) → IsDescribed kind bytes d rest → IsDescWithin d
 described_within kinds.Func bytes d rest h = subst IsDescWithin (sym h.2) tt
@@ -88,7 +88,7 @@ import_within bytes i rest h = described_within h.4.0 h.4.1 i.desc rest h.4.3
 global_nested : (bytes : List ℕ) (g : Global) (rest : List ℕ) → IsGlobal bytes g rest → IsExpression g.init
 global_nested bytes g rest h = nested h.0 g.init rest h.2
 
-element_within : (bytes : List ℕ) (e : ElementSegment) (rest : List ℕ) → IsElement bytes e rest → length e.functions ≤ most_functions
+element_within : (bytes : List ℕ) (e : ElementSegment) (rest : List ℕ) → IsElement bytes e rest → length e.functions ≤ MOST_FUNCTIONS
 element_within bytes e rest h = h.4.1.1
 
 element_nested : (bytes : List ℕ) (e : ElementSegment) (rest : List ℕ) → IsElement bytes e rest → IsExpression e.offset
@@ -113,7 +113,7 @@ groups_within (suc count) room bytes locals rest h =
 
 params_within : (types : List FuncType) (i : ℕ) → All IsTypeWithin types
     → (((x : FuncType) × (i < length types) × (slice_get types i ≡ Some x) × (slice_index_or types i x ≡ x))
-    ⊎ ((length types ≤ i) × (slice_get types i ≡ None))) → param_count types i ≤ most_locals
+    ⊎ ((length types ≤ i) × (slice_get types i ≡ None))) → param_count types i ≤ MOST_LOCALS
 params_within types i all (inl c) = rw c.2 ((subst IsTypeWithin c.3 (all i c.0 c.1)).0)
 params_within types i all (inr c) = rw c.1 (omega arith)
 
@@ -124,7 +124,7 @@ body_within types f bytes b rest all h =
     omega (
       arith,
       params_within types f all (slice_get_cases types f).1,
-      groups_within locals.0 (most_locals - param_count types f) locals.1 b.locals h.2.0 locals.3,
+      groups_within locals.0 (MOST_LOCALS - param_count types f) locals.1 b.locals h.2.0 locals.3,
     )
 
 abbrev AreWithin : List FuncType → List ℕ → List Body → Type 0
@@ -157,11 +157,11 @@ here_bodies types functions all (b ∷ bytes) bodies rest (inr h) = subst (AreWi
 
 limits_of : (bytes : List ℕ) (m : Parts) → IsModuleText bytes m → AreWithin m.types m.functions m.bodies → IsWithinLimits m
 limits_of bytes m h bodies =
-    let types = section_all 1 most_items IsFuncType IsTypeWithin type_within h.before_types m.types h.before_imports h.types in
-    let imports = section_all 2 most_items IsImport (λ i. IsDescWithin i.desc) import_within h.before_imports m.imports h.before_functions h.imports in
-    let tables = section_all 4 most_items IsTable IsTableWithin table_within h.before_tables m.tables h.before_memories h.tables in
-    let memories = section_all 5 most_items IsMemory IsMemoryWithin memory_within h.before_memories m.memories h.before_globals h.memories in
-    let elements = section_all 9 most_items IsElement (λ e. length e.functions ≤ most_functions) element_within
+    let types = section_all 1 MOST_ITEMS IsFuncType IsTypeWithin type_within h.before_types m.types h.before_imports h.types in
+    let imports = section_all 2 MOST_ITEMS IsImport (λ i. IsDescWithin i.desc) import_within h.before_imports m.imports h.before_functions h.imports in
+    let tables = section_all 4 MOST_ITEMS IsTable IsTableWithin table_within h.before_tables m.tables h.before_memories h.tables in
+    let memories = section_all 5 MOST_ITEMS IsMemory IsMemoryWithin memory_within h.before_memories m.memories h.before_globals h.memories in
+    let elements = section_all 9 MOST_ITEMS IsElement (λ e. length e.functions ≤ MOST_FUNCTIONS) element_within
     h.before_elements m.elements h.before_bodies h.elements in
     let own = few 3 (function_room m.imports) IsU32 h.before_functions m.functions h.before_tables h.functions in
     record {
@@ -170,10 +170,10 @@ limits_of bytes m h bodies =
       functions = omega (arith, own, imports.0, count_by-le-length (λ i. is_func i.desc) m.imports);
       tables = tables.0;
       memories = memories.0;
-      globals = few 6 most_items IsGlobal h.before_globals m.globals h.before_exports h.globals;
-      exports = few 7 most_items IsExport h.before_exports m.exports h.before_start h.exports;
+      globals = few 6 MOST_ITEMS IsGlobal h.before_globals m.globals h.before_exports h.globals;
+      exports = few 7 MOST_ITEMS IsExport h.before_exports m.exports h.before_start h.exports;
       elements = elements.0;
-      data_segments = few 11 most_items IsData h.before_data m.«data» h.before_end h.data_segments;
+      data_segments = few 11 MOST_ITEMS IsData h.before_data m.«data» h.before_end h.data_segments;
       size = omega (arith, h.counted, h.size);
       each_type = types.1;
       each_import = imports.1;
@@ -186,14 +186,14 @@ limits_of bytes m h bodies =
 -- What bytes spell is a module.
 pub is_whole : (bytes : List ℕ) (m : Parts) → IsModuleText bytes m → IsModule m
 is_whole bytes m h =
-    let types = section_all 1 most_items IsFuncType IsTypeWithin type_within h.before_types m.types h.before_imports h.types in
+    let types = section_all 1 MOST_ITEMS IsFuncType IsTypeWithin type_within h.before_types m.types h.before_imports h.types in
     let bodies = here_bodies m.types m.functions types.1 h.bodies.1 m.bodies h.before_data h.bodies.3 in
     record {
       limits = limits_of bytes m h bodies;
       bodies = h.counts;
-      initial_values = (section_all 6 most_items IsGlobal (λ g. IsExpression g.init) global_nested h.before_globals m.globals h.before_exports h.globals).1;
-      element_offsets = (section_all 9 most_items IsElement (λ e. IsExpression e.offset) element_nested
+      initial_values = (section_all 6 MOST_ITEMS IsGlobal (λ g. IsExpression g.init) global_nested h.before_globals m.globals h.before_exports h.globals).1;
+      element_offsets = (section_all 9 MOST_ITEMS IsElement (λ e. IsExpression e.offset) element_nested
           h.before_elements m.elements h.before_bodies h.elements).1;
-      data_offsets = (section_all 11 most_items IsData (λ d. IsExpression d.offset) data_nested h.before_data m.«data» h.before_end h.data_segments).1;
+      data_offsets = (section_all 11 MOST_ITEMS IsData (λ d. IsExpression d.offset) data_nested h.before_data m.«data» h.before_end h.data_segments).1;
       code = bodies.1;
     }

@@ -25,8 +25,8 @@ use Rattle.binary.specs.declared.kinds.LimitsFlag.TheVariants as flags
 use Rattle.binary.specs.Kinds.{external_kind_of, mutability_of, table_flag_of, memory_flag_of, min_limits, min_max_limits, exported}
 use Rattle.binary.specs.Counts.{function_room}
 use Rattle.types.specs.Within.{param_count}
-use Rattle.types.specs.Limits.{most_pages, most_module_bytes, most_body_bytes, most_items, most_functions}
-use Rattle.types.specs.Limits.{most_elements, most_params, most_locals}
+use Rattle.types.specs.declared.limits.TheConstants.{MOST_PAGES, MOST_MODULE_BYTES, MOST_BODY_BYTES, MOST_ITEMS, MOST_FUNCTIONS}
+use Rattle.types.specs.declared.limits.TheConstants.{MOST_ELEMENTS, MOST_PARAMS, MOST_LOCALS}
 
 -- A byte that has a meaning.
 abbrev pub IsCoded : {A : Type 0} → (ℕ → Option A) → Spelling A
@@ -53,11 +53,11 @@ IsLimitsAfter most_min most_max flags.SharedMinMax bytes l rest = IsMinMax most_
 -- A memory type: at most 256 pages.
 abbrev pub IsMemory : Spelling Limits
 IsMemory bytes l rest = (flag : LimitsFlag) × (mid : List ℕ) × IsCoded memory_flag_of bytes flag mid
-    × IsLimitsAfter most_pages most_pages flag mid l rest
+    × IsLimitsAfter MOST_PAGES MOST_PAGES flag mid l rest
 
 abbrev pub IsTableLimits : Spelling Limits
 IsTableLimits bytes l rest = (flag : LimitsFlag) × (mid : List ℕ) × IsCoded table_flag_of bytes flag mid
-    × IsLimitsAfter most_elements 0xffff_ffff flag mid l rest
+    × IsLimitsAfter MOST_ELEMENTS 0xffff_ffff flag mid l rest
 
 -- A table type: the type of its elements, and at most 10,000 elements at first.
 abbrev pub IsTable : Spelling Limits
@@ -68,7 +68,7 @@ IsGlobalType bytes g rest = (mid : List ℕ) × IsValType bytes g.val_type mid �
 
 abbrev pub IsFuncType : Spelling FuncType
 IsFuncType bytes t rest = (start : List ℕ) × (mid : List ℕ) × (bytes ≡ 0x60 ∷ start)
-    × IsVector most_params IsValType start t.params mid × IsVector most_params IsValType mid t.results rest
+    × IsVector MOST_PARAMS IsValType start t.params mid × IsVector MOST_PARAMS IsValType mid t.results rest
 
 -- ---- items of sections
 
@@ -97,7 +97,7 @@ IsExport bytes e rest = (mid : List ℕ) × IsName bytes e.name mid × IsExportD
 
 abbrev pub IsElement : Spelling ElementSegment
 IsElement bytes e rest = (a : List ℕ) × (b : List ℕ) × IsU32 bytes e.table a × SpellsExpression a e.offset b
-    × IsVector most_functions IsU32 b e.functions rest
+    × IsVector MOST_FUNCTIONS IsU32 b e.functions rest
 
 abbrev pub IsData : Spelling DataSegment
 IsData bytes d rest = (a : List ℕ) × (b : List ℕ) × IsU32 bytes d.memory a × SpellsExpression a d.offset b × IsBlock b d.bytes rest
@@ -116,7 +116,7 @@ IsLocals room bytes locals rest = (count : ℕ) × (mid : List ℕ) × IsU32 byt
 
 -- At most 1,000 locals with the parameters.
 abbrev pub IsBodyContents : ℕ → Spelling Body
-IsBodyContents params bytes b rest = (mid : List ℕ) × IsLocals (most_locals - params) bytes b.locals mid × SpellsExpression mid b.code rest
+IsBodyContents params bytes b rest = (mid : List ℕ) × IsLocals (MOST_LOCALS - params) bytes b.locals mid × SpellsExpression mid b.code rest
 
 -- A size within a limit, and so many bytes.
 abbrev pub IsBlockWithin : ℕ → Spelling (List ℕ)
@@ -124,7 +124,7 @@ IsBlockWithin limit bytes block rest = (mid : List ℕ) × IsU32Within limit byt
 
 -- The body of a function with so many parameters.
 abbrev pub IsBody : ℕ → Spelling Body
-IsBody params bytes b rest = (block : List ℕ) × IsBlockWithin most_body_bytes bytes block rest × IsBodyContents params block b []
+IsBody params bytes b rest = (block : List ℕ) × IsBlockWithin MOST_BODY_BYTES bytes block rest × IsBodyContents params block b []
 
 -- A body for each function, which is given by the index of its type.
 abbrev pub AreBodies : List FuncType → List ℕ → Spelling (List Body)
@@ -178,7 +178,7 @@ opening_bytes = 0x00 ∷ (0x61 ∷ (0x73 ∷ (0x6d ∷ (0x01 ∷ (0x00 ∷ (0x00
 -- between them, and as many bodies as functions. The module knows how many bytes they are. The fields before_S are the bytes
 -- from the custom sections before the section S on.
 pub record IsModuleText (bytes : List ℕ) (m : Parts) : Type 0 where
-  pub size : length bytes ≤ most_module_bytes
+  pub size : length bytes ≤ MOST_MODULE_BYTES
   pub counted : m.length ≡ length bytes
   pub before_types : List ℕ
   pub before_imports : List ℕ
@@ -193,17 +193,17 @@ pub record IsModuleText (bytes : List ℕ) (m : Parts) : Type 0 where
   pub before_data : List ℕ
   pub before_end : List ℕ
   pub opening : bytes ≡ opening_bytes ++ before_types
-  pub types : IsSection 1 most_items IsFuncType before_types m.types before_imports
-  pub imports : IsSection 2 most_items IsImport before_imports m.imports before_functions
+  pub types : IsSection 1 MOST_ITEMS IsFuncType before_types m.types before_imports
+  pub imports : IsSection 2 MOST_ITEMS IsImport before_imports m.imports before_functions
   pub functions : IsSection 3 (function_room m.imports) IsU32 before_functions m.functions before_tables
-  pub tables : IsSection 4 most_items IsTable before_tables m.tables before_memories
-  pub memories : IsSection 5 most_items IsMemory before_memories m.memories before_globals
-  pub globals : IsSection 6 most_items IsGlobal before_globals m.globals before_exports
-  pub exports : IsSection 7 most_items IsExport before_exports m.exports before_start
+  pub tables : IsSection 4 MOST_ITEMS IsTable before_tables m.tables before_memories
+  pub memories : IsSection 5 MOST_ITEMS IsMemory before_memories m.memories before_globals
+  pub globals : IsSection 6 MOST_ITEMS IsGlobal before_globals m.globals before_exports
+  pub exports : IsSection 7 MOST_ITEMS IsExport before_exports m.exports before_start
   pub start : IsSectionPart 8 None IsStartFunction before_start m.start before_elements
-  pub elements : IsSection 9 most_items IsElement before_elements m.elements before_bodies
+  pub elements : IsSection 9 MOST_ITEMS IsElement before_elements m.elements before_bodies
   pub bodies : IsSectionPart 10 [] (IsCodeSection m.types m.functions) before_bodies m.bodies before_data
-  pub data_segments : IsSection 11 most_items IsData before_data m.«data» before_end
+  pub data_segments : IsSection 11 MOST_ITEMS IsData before_data m.«data» before_end
   pub customs_at_end : ℕ
   pub end : AreCustoms customs_at_end before_end []
   pub counts : length m.functions ≡ length m.bodies

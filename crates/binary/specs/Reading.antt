@@ -33,8 +33,8 @@ use Rattle.binary.specs.declared.parts.Contents.{Contents}
 use Rattle.binary.specs.Kinds.{external_kind_of, mutability_of, table_flag_of, memory_flag_of, min_limits, min_max_limits, exported}
 use Rattle.binary.specs.Counts.{function_room}
 use Rattle.types.specs.Within.{param_count}
-use Rattle.types.specs.Limits.{most_pages, most_module_bytes, most_body_bytes, most_items, most_functions}
-use Rattle.types.specs.Limits.{most_elements, most_params, most_locals}
+use Rattle.types.specs.declared.limits.TheConstants.{MOST_PAGES, MOST_MODULE_BYTES, MOST_BODY_BYTES, MOST_ITEMS, MOST_FUNCTIONS}
+use Rattle.types.specs.declared.limits.TheConstants.{MOST_ELEMENTS, MOST_PARAMS, MOST_LOCALS}
 
 -- A byte that has a meaning.
 unfoldable pub coded_at : {A : Type 0} → Fault → (ℕ → Option A) → Reading A
@@ -50,12 +50,12 @@ limits_after_at most_min most_max flags.SharedMinMax s bytes =
 
 unfoldable pub memory_at : Reading Limits
 memory_at s bytes =
-    coded_at faults.LimitsFlag memory_flag_of s bytes >>= λ flag. limits_after_at most_pages most_pages flag.0 s flag.1
+    coded_at faults.LimitsFlag memory_flag_of s bytes >>= λ flag. limits_after_at MOST_PAGES MOST_PAGES flag.0 s flag.1
 
 unfoldable pub table_at : Reading Limits
 table_at s bytes =
     tag_at faults.UnknownByte 0x70 s bytes >>= λ start. coded_at faults.LimitsFlag table_flag_of s start >>= λ flag. limits_after_at
-    most_elements 0xffff_ffff flag.0 s flag.1
+    MOST_ELEMENTS 0xffff_ffff flag.0 s flag.1
 
 unfoldable pub global_type_at : Reading GlobalType
 global_type_at s bytes = do
@@ -66,8 +66,8 @@ global_type_at s bytes = do
 unfoldable pub func_type_at : Reading FuncType
 func_type_at s bytes = do
   start ← tag_at faults.UnknownByte 0x60 s bytes
-  params ← vector_at most_params val_type_at s start
-  results ← vector_at most_params val_type_at s params.1
+  params ← vector_at MOST_PARAMS val_type_at s start
+  results ← vector_at MOST_PARAMS val_type_at s params.1
   Ok (record { params = params.0; results = results.0 }, results.1)
 
 unfoldable pub global_at : Reading Global
@@ -107,7 +107,7 @@ unfoldable pub element_at : Reading ElementSegment
 element_at s bytes = do
   table ← u32_at s bytes
   offset ← expression_at s table.1
-  functions ← vector_at most_functions u32_at s offset.1
+  functions ← vector_at MOST_FUNCTIONS u32_at s offset.1
   Ok (record { table = table.0; offset = offset.0; functions = functions.0 }, functions.1)
 
 unfoldable pub data_at : Reading DataSegment
@@ -129,7 +129,7 @@ locals_at room s bytes = u32_at s bytes >>= λ count. groups_at count.0 room s c
 
 unfoldable pub body_contents_at : ℕ → Reading Body
 body_contents_at params s bytes = do
-  locals ← locals_at (most_locals - params) s bytes
+  locals ← locals_at (MOST_LOCALS - params) s bytes
   code ← expression_at s locals.1
   Ok (record { locals = locals.0; code = code.0 }, code.1)
 
@@ -138,7 +138,7 @@ block_within_at limit s bytes = u32_within_at limit s bytes >>= λ n. slice_at n
 
 unfoldable pub body_at : ℕ → Reading Body
 body_at params s bytes = do
-  contents ← block_within_at most_body_bytes s bytes
+  contents ← block_within_at MOST_BODY_BYTES s bytes
   b ← body_contents_at params (inside s contents.1) contents.0
   whole ← end_at (inside s contents.1) b.1
   Ok (b.0, contents.1)
@@ -204,26 +204,26 @@ opening_at s bytes =
 
 unfoldable pub signatures_at : Reading Signatures
 signatures_at s bytes = do
-  types ← section_at 1 most_items func_type_at s bytes
-  from ← section_at 2 most_items import_at s types.1
+  types ← section_at 1 MOST_ITEMS func_type_at s bytes
+  from ← section_at 2 MOST_ITEMS import_at s types.1
   functions ← section_at 3 (function_room from.0) u32_at s from.1
   Ok (record { types = types.0; imports = from.0; functions = functions.0 }, functions.1)
 
 unfoldable pub stores_at : Reading Stores
 stores_at s bytes = do
-  tables ← section_at 4 most_items table_at s bytes
-  memories ← section_at 5 most_items memory_at s tables.1
-  globals ← section_at 6 most_items global_at s memories.1
-  exports ← section_at 7 most_items export_at s globals.1
+  tables ← section_at 4 MOST_ITEMS table_at s bytes
+  memories ← section_at 5 MOST_ITEMS memory_at s tables.1
+  globals ← section_at 6 MOST_ITEMS global_at s memories.1
+  exports ← section_at 7 MOST_ITEMS export_at s globals.1
   start ← start_at s exports.1
   Ok (record { tables = tables.0; memories = memories.0; globals = globals.0; exports = exports.0; start = start.0 }, start.1)
 
 -- The contents of a module with these types and functions.
 unfoldable pub contents_at : List FuncType → List ℕ → Reading Contents
 contents_at types functions s bytes = do
-  elements ← section_at 9 most_items element_at s bytes
+  elements ← section_at 9 MOST_ITEMS element_at s bytes
   bodies ← code_at types functions s elements.1
-  segments ← section_at 11 most_items data_at s bodies.1
+  segments ← section_at 11 MOST_ITEMS data_at s bodies.1
   Ok (record { elements = elements.0; bodies = bodies.0; «data» = segments.0 }, segments.1)
 
 abbrev pub parts_of : ℕ → Signatures → Stores → Contents → Parts
@@ -261,5 +261,5 @@ sections_at size s bytes = do
 -- The module that the bytes spell, or the first fault from front to back, and its offset.
 unfoldable pub module_at : List ℕ → Result Parts Refusal
 module_at bytes =
-    if nat_lt most_module_bytes (length bytes) then Err (refusal faults.Limit most_module_bytes)
+    if nat_lt MOST_MODULE_BYTES (length bytes) then Err (refusal faults.Limit MOST_MODULE_BYTES)
     else (opening_at (input bytes) bytes >>= λ opened. sections_at (length bytes) (input bytes) opened)

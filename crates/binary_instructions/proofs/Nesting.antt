@@ -6,7 +6,7 @@ use Rattle.std.proofs.lemmas.Bool.{cases_lt, eqb-true, le-ltb, lt-ltb}
 use Rattle.types.specs.declared.instr.Instr.{Instr}
 use Rattle.types.specs.Nesting.{IsExpression}
 use Rattle.types.specs.Tests.{opened, opens_behind, closes}
-use Rattle.types.specs.Limits.{most_nested}
+use Rattle.types.specs.declared.limits.TheConstants.{MOST_NESTED}
 use Rattle.types.proofs.Nested.{Decides-expression, none_behind}
 use Rattle.binary_wire.specs.declared.fault.Refusal.{Refusal}
 use Rattle.binary_wire.specs.Grammar.{Spelling}
@@ -25,13 +25,13 @@ found_is (Err y) x e = absurd cc
 -- the reader has room for a further block where the expression has
 pub enters : (offset : ℕ) (o out : Bool) (opens : List Bool) → found (entered offset o (out ∷ opens)) ≡ opened o (out ∷ opens)
 enters offset o out opens =
-    elim (cases_lt (length opens) most_nested) [
+    elim (cases_lt (length opens) MOST_NESTED) [
       | inl lt ↦
-          let more : length (out ∷ opens) < most_nested + 1 = omega (arith, lt) in
-          rw (lt-ltb (length (out ∷ opens)) (most_nested + 1) more, lt-ltb (length opens) most_nested lt) refl
+          let more : length (out ∷ opens) < MOST_NESTED + 1 = omega (arith, lt) in
+          rw (lt-ltb (length (out ∷ opens)) (MOST_NESTED + 1) more, lt-ltb (length opens) MOST_NESTED lt) refl
       | inr le ↦
-          let more : most_nested + 1 ≤ length (out ∷ opens) = omega (arith, le) in
-          rw (le-ltb (length (out ∷ opens)) (most_nested + 1) more, le-ltb (length opens) most_nested le) refl
+          let more : MOST_NESTED + 1 ≤ length (out ∷ opens) = omega (arith, le) in
+          rw (le-ltb (length (out ∷ opens)) (MOST_NESTED + 1) more, le-ltb (length opens) MOST_NESTED le) refl
     ]
 
 -- instructions until no block is open

@@ -13,7 +13,7 @@ use Rattle.types.specs.declared.instr.Instr.TheVariants as instrs
 use Rattle.binary_wire.specs.declared.fault.Fault.{Fault}
 use Rattle.binary_wire.specs.declared.fault.Fault.TheVariants as kinds
 use Rattle.types.specs.declared.instr.PlainInstr.TheVariants as plain
-use Rattle.types.specs.Limits.{most_nested}
+use Rattle.types.specs.declared.limits.TheConstants.{MOST_NESTED}
 use Rattle.binary_instructions.specs.declared.opcodes.Opener.{Opener}
 use Rattle.binary_instructions.specs.declared.opcodes.Opener.TheVariants as openers
 use Rattle.binary_instructions.specs.declared.opcodes.Shape.{Shape}
@@ -113,7 +113,7 @@ is_if _ = false
 -- One block more is open. The expression itself is one that its end closes, in which so many are nested at most.
 abbrev pub entered : ℕ → Bool → List Bool → Result (List Bool) Refusal
 entered offset may_divide opens =
-    if nat_lt (length opens) (most_nested + 1) then Ok (may_divide ∷ opens) else Err (refusal kinds.Limit offset)
+    if nat_lt (length opens) (MOST_NESTED + 1) then Ok (may_divide ∷ opens) else Err (refusal kinds.Limit offset)
 
 -- The blocks that are open behind an instruction of a shape, whose opcode is at an offset, the innermost first; of each
 -- is kept whether it is an if that may still have an else.

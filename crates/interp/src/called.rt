@@ -12,7 +12,8 @@ impl<'m> Thread<'m> {
     ghost use Rattle.interp.specs.Starts.{TakesArguments};
     ghost use Rattle.interp.specs.Threads.{StandsForCall};
 
-    /// A thread that is about to call a function of the module itself, from 0 without the imported ones, with these arguments.
+    /// A thread that is about to call a function of the module itself, from 0 without the imported ones, with these
+    /// arguments.
     ///
     /// # Errors
     /// Where memory is refused.

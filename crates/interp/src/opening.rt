@@ -3,7 +3,7 @@
 ghost use Rattle.std.specs.Prelude.{◌≡◌, ◌+◌, ◌≤◌, ◌++◌, length, map};
 ghost use Rattle.std.specs.Prelude.{Some, IfOk, vec_len, vec_capacity};
 ghost use Rattle.std.specs.List.{splice};
-ghost use Rattle.types.specs.Limits.{most_values};
+ghost use Rattle.types.specs.declared.limits.TheConstants.{MOST_VALUES};
 ghost use Rattle.interp_machine.specs.Program.{constant_of, opening_globals, opening_table, zero_of};
 ghost use Rattle.interp_state.specs.Words.{word_of, AreInRange, Mean};
 ghost use Rattle.interp_state.specs.Stands.{IsProgram};
@@ -59,8 +59,8 @@ fn write_at<T: Copy>(items: &mut [T], start: usize, more: &[T])
     written.copy_from_slice(more);
 }
 
-/// The table before the first turn: empty places, with the element segments written over them in order (Core specification
-/// 1.0, section 4.5.4).
+/// The table before the first turn: empty places, with the element segments written over them in order (Core
+/// specification 1.0, section 4.5.4).
 fn opening_table(alloc: Global, parts: &Parts) -> Result<Vec<Option<u32>>, AllocError>
     requires { HasElementsWithin parts.now }
     ensures { IfOk result (λ places. places.items ≡ opening_table parts.now) }
@@ -118,9 +118,9 @@ pub(crate) fn opening_values(
     args: &[Value],
     locals: &[ValType],
 ) -> Result<Vec<u64>, AllocError>
-    requires { length args.now + length locals.now ≤ most_values }
+    requires { length args.now + length locals.now ≤ MOST_VALUES }
     ensures items { IfOk result (λ values. Mean values.items (args.now ++ map zero_of locals.now)) }
-    ensures room { IfOk result (λ values. most_values ≤ vec_capacity values) }
+    ensures room { IfOk result (λ values. MOST_VALUES ≤ vec_capacity values) }
 {
     let mut values = Vec::with_capacity(alloc, MOST_VALUES)?;
     push_words(&mut values, args);

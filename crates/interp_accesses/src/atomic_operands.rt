@@ -1,6 +1,7 @@
 //! The operands of an atomic instruction.
 
-ghost use Rattle.std.specs.Prelude.{◌≡◌, ℕ, ◌+◌, ◌<◌, ◌≤◌, Some, length, reverse, drop, nat_eq, ◌%◌, ◌^◌, IfOk, vec_capacity};
+ghost use Rattle.std.specs.Prelude.{◌≡◌, ℕ, ◌+◌, ◌<◌, ◌≤◌, Some, length, reverse, drop, nat_eq, ◌%◌, ◌^◌, IfOk};
+ghost use Rattle.std.specs.Prelude.{vec_capacity};
 ghost use Rattle.std.specs.List.{slice_get};
 ghost use Rattle.types.specs.declared.value.ValType.{ValType};
 ghost use Rattle.types.specs.Widths.{type_bytes, access_type};
@@ -45,7 +46,8 @@ pub(crate) fn is_aligned(addr: u64, width: u8) -> bool
 pub(crate) fn address_at(values: &[u64], place: usize, arg: MemArg, width: u8) -> Result<u64, Trap>
     requires operand { IsWordAt (reverse values.now) place ValType.I32 }
     requires width { IsWidth width }
-    ensures address { (base : ℕ) → slice_get (reverse values.now) place ≡ Some base → IsAddress (base + arg.offset) width result }
+    ensures address { (base : ℕ) → slice_get (reverse values.now) place ≡ Some base
+        → IsAddress (base + arg.offset) width result }
     ensures no_wrap { IfOk result (λ addr. addr < 2 ^ 33) }
 {
     let addr = u64::from(i32_at(values, place)) + u64::from(arg.offset);

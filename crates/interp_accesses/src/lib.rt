@@ -1,11 +1,11 @@
-//! Memory instructions as steps of the thread machine over flat code, plain ones (Core specification 1.0, section 4.4.4) and atomic
-//! ones (threads proposal, sections "Atomic Memory Accesses", "Wait and Notify operators"): first the event that an instruction
-//! wants, then what the reply makes of the thread; and the answer to a question.
+//! Memory instructions as steps of the thread machine over flat code, plain ones (Core specification 1.0, section
+//! 4.4.4) and atomic ones (threads proposal, sections "Atomic Memory Accesses", "Wait and Notify operators"): first the
+//! event that an instruction wants, then what the reply makes of the thread; and the answer to a question.
 //!
 //! Proved: the same of memory instructions, of what a reply makes of the state, and of an answer.
 //!
-//! A plain access that touches two aligned words of 8 bytes is two events, the low part first, and both are tested against the
-//! bounds of the whole access (this project's own).
+//! A plain access that touches two aligned words of 8 bytes is two events, the low part first, and both are tested
+//! against the bounds of the whole access (this project's own).
 #![tactic(auto)]
 
 mod answers;

@@ -10,8 +10,8 @@ use interp_state::word;
 use shared_memory_sequential::low_bytes;
 use types::LoadOp;
 
-/// The word of the value that a load makes of a number in memory: the bits that it takes, with zeros or copies of the sign
-/// above, up to the width of its type.
+/// The word of the value that a load makes of a number in memory: the bits that it takes, with zeros or copies of the
+/// sign above, up to the width of its type.
 #[inline]
 pub(crate) fn loaded(op: LoadOp, number: u64) -> u64
     ensures word { result ≡ word_of (loaded_value op number) }

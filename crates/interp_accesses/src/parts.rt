@@ -1,5 +1,5 @@
-//! The parts of a plain access: the bytes in its first aligned word of 8 bytes, and those in the next one. Each part has the end
-//! of the whole access as its reach, so that it is tested against the bounds of the whole.
+//! The parts of a plain access: the bytes in its first aligned word of 8 bytes, and those in the next one. Each part
+//! has the end of the whole access as its reach, so that it is tested against the bounds of the whole.
 
 ghost use Rattle.std.specs.Prelude.{◌≡◌, ◌+◌, ◌*◌, ◌%◌, ◌^◌, ◌<◌, ◌≤◌, true, false};
 ghost use Rattle.interp_machine.specs.Access as access;

@@ -1,7 +1,7 @@
 //! What the reply to an atomic instruction's event makes of a thread.
 
 ghost use Rattle.std.specs.Prelude.{◌≤◌, ◌<◌, [], ◌∷◌, length};
-ghost use Rattle.types.specs.Limits.{most_values};
+ghost use Rattle.types.specs.declared.limits.TheConstants.{MOST_VALUES};
 ghost use Rattle.interp_state.specs.declared.state.Progress.{Progress};
 ghost use Rattle.interp_machine.specs.Access.{answered_value};
 ghost use Rattle.interp_state.specs.Words.{word_of};
@@ -38,7 +38,7 @@ pub(crate) fn await_answer(state: &mut State, taken: usize)
 pub(crate) fn give(state: &mut State, taken: usize, width: AccessWidth, number: u64)
     requires some { 0 < taken }
     requires operands { taken ≤ length state.old.values.items }
-    requires room { length state.old.values.items ≤ most_values }
+    requires room { length state.old.values.items ≤ MOST_VALUES }
     requires inside { state.old.pc < length state.old.code.now }
     ensures { Settles state.old state.new taken (word_of (answered_value width number) ∷ []) state.old.progress }
 {

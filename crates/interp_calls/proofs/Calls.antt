@@ -18,7 +18,7 @@ use Rattle.types.specs.declared.event.Event.TheVariants.{Ask}
 use Rattle.types.specs.declared.event.Question.TheVariants.{Spawn}
 use Rattle.types.specs.Nesting.{Code, Then}
 use Rattle.types.specs.Values.{type_of}
-use Rattle.types.specs.Limits.{most_values}
+use Rattle.types.specs.declared.limits.TheConstants.{MOST_VALUES}
 use Rattle.validate_typing.specs.Placed.{Flat, goes_on}
 use Rattle.validate_typing.specs.Context.{imported_functions, functions_of}
 use Rattle.validate_typing.specs.Tabled.{WithTables, IsValidated}
@@ -66,7 +66,7 @@ pub record CallsOwn (w : WithTables) (s old : State) (c : Config) (st : Stands w
 
 pub can_enter : (w : WithTables) (s old : State) (c : Config) (st : Stands w s c) (rest : Code)
     (operands : List Value) (f index : ℕ) (t : FuncType) (tail : List ValType) →
-    IsValidated w → HasBodies s → CallsOwn w s old c st rest operands f index t tail → length old.values.items ≤ most_values → s.pc < length s.code.now →
+    IsValidated w → HasBodies s → CallsOwn w s old c st rest operands f index t tail → length old.values.items ≤ MOST_VALUES → s.pc < length s.code.now →
     CanEnter old (f - old.program.imported)
 can_enter w s old c st rest operands f index t tail v bodies x room place =
     let program : old.program ≡ s.program = ap (λ (y : Still). y.program) x.midway.same in
@@ -145,7 +145,7 @@ left_values w s c st above x =
     omega arith
 
 left_room : (w : WithTables) (s : State) (c : Config) (st : Stands w s c) (above : List Value) (x : Spawns w s c st above) →
-    values_of (waits c x.rest x.below) ≤ most_values
+    values_of (waits c x.rest x.below) ≤ MOST_VALUES
 left_room w s c st above x = let a = left_values w s c st above x in let b = st.room in omega arith
 
 -- the question is asked
@@ -161,7 +161,7 @@ pub spawn_replied : (w : WithTables) (s n : State) (c : Config) (st : Stands w s
     still n ≡ still s → n.pc ≡ s.pc + 1 → n.progress ≡ Asked → n.globals.items ≡ s.globals.items →
     Mean (reverse n.values.items) (values_on (waiting_frame c.frame x.rest x.below) st.lower) → Replies w (next (program_of w.parts) c) number n
 spawn_replied w s n c st above x number u e k p g v =
-    let less : length n.values.items < most_values =
+    let less : length n.values.items < MOST_VALUES =
     (let a = means_long _ _ v in let b = length-reverse n.values.items in let d = means_long _ _ x.values in let f = length-reverse s.values.items in
     let h = length-append above (values.I32 x.arg ∷ values_on (waiting_frame c.frame x.rest x.below) st.lower) in let i = st.room in omega arith) in
     replies w s n c (Ask (Spawn x.arg)) (λ _. waits c x.rest x.below) number st u (left_room w s c st above x) x.runs

@@ -15,7 +15,7 @@ use Rattle.types.specs.declared.parts.Body.{Body}
 use Rattle.types.specs.declared.parts.Parts.{Parts}
 use Rattle.types.specs.Nesting.{Code}
 use Rattle.types.specs.Values.{type_of}
-use Rattle.types.specs.Limits.{most_values, most_frames}
+use Rattle.types.specs.declared.limits.TheConstants.{MOST_VALUES, MOST_FRAMES}
 use Rattle.validate_typing.specs.declared.target.Target.{Target}
 use Rattle.validate_typing.specs.Nested.{nested_of}
 use Rattle.validate_typing.specs.Placed.{Flat, IsPlaced, IsTabled, own_label}
@@ -158,7 +158,7 @@ opened_stands : (w : WithTables) (s old n : State) (c : Config) (st : Stands w s
     IsValidated w → Midway s old → s.progress ≡ Fresh → map type_of args ≡ reverse o.func_type.params →
     FrameAt st.body b.context.results (waiting_frame c.frame rest below) (s.pc + 1) →
     Mean (reverse old.values.items) (args ++ values_on (waiting_frame c.frame rest below) st.lower) →
-    length n.callers.items < most_frames → length n.values.items ≤ most_values → IsOpened old n own o.func_type o.body o.rows →
+    length n.callers.items < MOST_FRAMES → length n.values.items ≤ MOST_VALUES → IsOpened old n own o.func_type o.body o.rows →
     Stands w n (record (inner c rest args below o.func_type (function_of_body o.body)) { progress = NotBegun })
 opened_stands w s old n c st rest args below own b o v m fresh at f h few room x =
     let lower = values_on (waiting_frame c.frame rest below) st.lower in
@@ -220,11 +220,11 @@ callers_many w results [] (f ∷ fs) values h = absurd h
 callers_many w results (k ∷ ks) [] values h = absurd h
 callers_many w results (k ∷ ks) (f ∷ fs) values h = ap suc (callers_many w h.0.context.results ks fs h.1 h.8)
 
-opens_now : (c after : Config) → length after.callers < most_frames → opens c after ≡ Goes after
-opens_now c after h = let e : nat_lt (length after.callers) most_frames ≡ true = search arith in rw e refl
+opens_now : (c after : Config) → length after.callers < MOST_FRAMES → opens c after ≡ Goes after
+opens_now c after h = let e : nat_lt (length after.callers) MOST_FRAMES ≡ true = search arith in rw e refl
 
-opens_never : (c after : Config) → most_frames ≤ length after.callers → opens c after ≡ Traps traps.StackExhausted
-opens_never c after h = let e : nat_lt (length after.callers) most_frames ≡ false = search arith in rw e refl
+opens_never : (c after : Config) → MOST_FRAMES ≤ length after.callers → opens c after ≡ Traps traps.StackExhausted
+opens_never c after h = let e : nat_lt (length after.callers) MOST_FRAMES ≡ false = search arith in rw e refl
 
 trapped : (w : WithTables) (s n : State) (c : Config) → Stands w s c → s.progress ≡ Fresh →
     next (program_of w.parts) c ≡ Traps traps.StackExhausted → Steps w c (next (program_of w.parts) c) (Trapped traps.StackExhausted) n
@@ -246,23 +246,23 @@ opening w s old n c st step rest args below own b o v m fresh at f h x r =
     callers_many w st.body.context.results (reverse s.callers.items) c.callers st.lower st.callers ∙ length-reverse s.callers.items
     ∙ sym (ap (λ (y : Still). length y.callers) m.same) in
     let count = opened_values w s old c st rest args below o.func_type o.body h in
-    elim (cases_lt most_frames (length old.callers.items + 2)) [
+    elim (cases_lt MOST_FRAMES (length old.callers.items + 2)) [
       | inl deep ↦
           let traps_now : next p c ≡ Traps traps.StackExhausted =
           next_fresh p c (Traps traps.StackExhausted) (not_due w s c st fresh) (r ∙ opens_never c after (let q = many in omega arith)) in
           rw (e.too_deep deep) (trapped w s n c st fresh traps_now)
       | inr few ↦
           let goes = r ∙ opens_now c after (let q = many in omega arith) in
-          elim (cases_lt most_values (length old.values.items + length o.body.locals)) [
+          elim (cases_lt MOST_VALUES (length old.values.items + length o.body.locals)) [
             | inl full ↦
                 let traps_now : next p c ≡ Traps traps.StackExhausted =
                 next_fresh p c (Goes after) (not_due w s c st fresh) goes ∙ no_room after (Goes after) (let q = count in omega arith) in
                 rw (e.too_full full) (trapped w s n c st fresh traps_now)
             | inr room ↦
                 let y = e.opened few room in
-                let callers : length n.callers.items < most_frames =
+                let callers : length n.callers.items < MOST_FRAMES =
                 (let a = ap length y.1.callers in let d = length-reverse n.callers.items in let g = length-reverse old.callers.items in omega arith) in
-                let values : length n.values.items ≤ most_values =
+                let values : length n.values.items ≤ MOST_VALUES =
                 (let a = opened_long old.values.items n.values.items (length o.body.locals) y.1.values in omega arith) in
                 let stands = opened_stands w s old n c st rest args below own b o v m fresh at f h callers values y.1 in
                 rw y.0 (moved w s n c (record after { progress = NotBegun }) st fresh stands

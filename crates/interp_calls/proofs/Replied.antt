@@ -11,7 +11,7 @@ use Rattle.types.specs.declared.instr.Instr.TheVariants.{Plain}
 use Rattle.types.specs.declared.outcome.Trap.TheVariants.{StackExhausted}
 use Rattle.types.specs.declared.parts.FuncType.{FuncType}
 use Rattle.types.specs.Nesting.{Code}
-use Rattle.types.specs.Limits.{most_values, most_frames}
+use Rattle.types.specs.declared.limits.TheConstants.{MOST_VALUES, MOST_FRAMES}
 use Rattle.validate_typing.specs.Tabled.{WithTables, IsValidated}
 use Rattle.interp_machine.specs.Config.{Config, Goes, Traps, Stuck, values_of}
 use Rattle.interp_machine.specs.Program.{Program, Function, program_of}
@@ -33,11 +33,11 @@ chosen_asks c after true h = h
 chosen_asks c after false h = h
 
 opening_asks : (c after : Config) (few : Bool) → IsAsking (limited (if few then Goes after else Traps StackExhausted)) → ⊥
-opening_asks c after true h = chosen_asks c after (nat_le (values_of after) most_values) h
+opening_asks c after true h = chosen_asks c after (nat_le (values_of after) MOST_VALUES) h
 opening_asks c after false h = h
 
 front_asks : (c after : Config) (enough : Bool) → IsAsking (limited (if enough then opens c after else Stuck)) → ⊥
-front_asks c after true h = opening_asks c after (nat_lt (length after.callers) most_frames) h
+front_asks c after true h = opening_asks c after (nat_lt (length after.callers) MOST_FRAMES) h
 front_asks c after false h = h
 
 some_asks : (c : Config) (t : FuncType) (rest : Code) (operands : List Value) (o : Option Function) →

@@ -20,7 +20,7 @@ use Rattle.types.specs.declared.outcome.Trap.{Trap}
 use Rattle.types.specs.declared.outcome.Trap.TheVariants as traps
 use Rattle.types.specs.Nesting.{Code, Then}
 use Rattle.types.specs.Values.{type_of}
-use Rattle.types.specs.Limits.{most_values}
+use Rattle.types.specs.declared.limits.TheConstants.{MOST_VALUES}
 use Rattle.validate_typing.specs.Context.{imported_functions, functions_of}
 use Rattle.validate_typing.specs.Tabled.{WithTables, IsValidated}
 use Rattle.interp_machine.specs.Config.{Config, Traps}
@@ -319,7 +319,7 @@ pub indirect_ready : (s old : State) (type_index place f v : ℕ)
 indirect_ready s old type_index place f v b bodies k m h found =
     let w = b.sound.0 in let c = b.sound.1 in let st = b.sound.3 in
     let x = found_tested w s c st type_index place f b.here (fresh_not_asked s b.fresh) found in
-    let room : length old.values.items ≤ most_values =
+    let room : length old.values.items ≤ MOST_VALUES =
     (let a = ap length h in let d = length-reverse s.values.items in let e = length-reverse old.values.items in let r = st.room in omega arith) in
     can_enter w s old c st x.at.at.rest x.at.operands f x.index x.at.stated x.at.tail b.sound.2 bodies
     (own_indirect w s old c st type_index place f v k m h x) room

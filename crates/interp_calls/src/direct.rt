@@ -1,5 +1,5 @@
-//! Calls by the index of a function (Core specification 1.0, sections 4.4.5 and 4.4.7), also of the imported function that
-//! starts a thread (wasi-threads).
+//! Calls by the index of a function (Core specification 1.0, sections 4.4.5 and 4.4.7), also of the imported function
+//! that starts a thread (wasi-threads).
 
 ghost use Rattle.std.specs.Prelude.{◌≡◌, ℕ, None, IfSome};
 ghost use Rattle.types.specs.declared.instr.Instr.{Instr};

@@ -1,5 +1,5 @@
-//! Calls through the table (Core specification 1.0, sections 4.4.5 and 4.4.7), also of the imported function that starts a
-//! thread (wasi-threads).
+//! Calls through the table (Core specification 1.0, sections 4.4.5 and 4.4.7), also of the imported function that
+//! starts a thread (wasi-threads).
 
 ghost use Rattle.std.specs.Prelude.{ℕ};
 ghost use Rattle.types.specs.declared.instr.Instr.{Instr};

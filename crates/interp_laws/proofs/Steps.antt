@@ -26,7 +26,7 @@ use Rattle.types.specs.declared.parts.Parts.{Parts}
 use Rattle.types.specs.Nesting.{Code, Empty, Then, BlockThen, LoopThen, IfThen, IfElseThen}
 use Rattle.types.specs.Values.{type_of}
 use Rattle.types.specs.Widths.{type_bytes, load_type, load_bytes, access_type, access_bytes}
-use Rattle.types.specs.Limits.{most_values, most_frames}
+use Rattle.types.specs.declared.limits.TheConstants.{MOST_VALUES, MOST_FRAMES}
 use Rattle.validate_typing.specs.Context.{Context, imported_functions, functions_of, context_of, in_function}
 use Rattle.validate_typing.specs.Typing.{Fits, HasType, results_of, numeric_takes, numeric_gives, atomic_takes, atomic_gives}
 use Rattle.validate_typing.specs.Nested.{nested_of}
@@ -119,7 +119,7 @@ opened c t body rest args below = record c {
 }
 
 opening : (m : Parts) (c inner : Config) → IsTyped m inner → IsGood m (opens c inner)
-opening m c inner h = test m (nat_lt (length inner.callers) most_frames) (Goes inner) (Traps traps.StackExhausted) h tt
+opening m c inner h = test m (nat_lt (length inner.callers) MOST_FRAMES) (Goes inner) (Traps traps.StackExhausted) h tt
 
 module _ (m : Parts) (v : IsValid m) (whole : length m.functions ≡ length m.bodies) (x : Context) (inside : IsIn m x) (c : Config)
     (callers : AreTypedCallers m x.results c.callers) (globals : map type_of c.globals ≡ map (λ g. g.val_type) x.globals) (q : c.progress ≢ Asked)
@@ -412,10 +412,10 @@ module _ (m : Parts) (v : IsValid m) (whole : length m.functions ≡ length m.bo
 
 limiting : (m : Parts) (n : Next) → IsGood m n → IsGood m (limited n)
 limiting m Stuck h = h
-limiting m (Goes after) h = test m (nat_le (values_of after) most_values) (Goes after) (Traps traps.StackExhausted) h tt
+limiting m (Goes after) h = test m (nat_le (values_of after) MOST_VALUES) (Goes after) (Traps traps.StackExhausted) h tt
 limiting m (Traps trap) h = h
 limiting m (Finishes result) h = h
-limiting m (Asks event go) h = test m (nat_le (values_of (go 0)) most_values) (Asks event go) (Traps traps.StackExhausted) h tt
+limiting m (Asks event go) h = test m (nat_le (values_of (go 0)) MOST_VALUES) (Asks event go) (Traps traps.StackExhausted) h tt
 limiting m (Hears go) h = h
 
 -- a configuration with no open question

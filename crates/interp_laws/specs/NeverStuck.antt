@@ -20,8 +20,8 @@ use Rattle.interp_machine.specs.Step.{next}
 use Rattle.interp_machine.specs.State.{State, At}
 use Rattle.interp.specs.Starts.{IsFunction, start_of}
 
--- What comes next is defined: the thread makes a step of its own, which goes on, traps or finishes; or it wants an event; or the
--- answer to its question is due.
+-- What comes next is defined: the thread makes a step of its own, which goes on, traps or finishes; or it wants an
+-- event; or the answer to its question is due.
 abbrev pub IsDefined : Next → Type 0
 IsDefined Stuck = ⊥
 IsDefined (Goes after) = Unit {0}
@@ -30,14 +30,15 @@ IsDefined (Finishes result) = Unit {0}
 IsDefined (Asks event go) = Unit {0}
 IsDefined (Hears go) = Unit {0}
 
--- A thread calls a function of the module itself with arguments of its type, on any budget. It makes any steps that it may make,
--- each as the thread wants it: turns of its own, tries that are lost or find the log full, events with any reply, answers. As long
--- as it runs, what comes next is defined.
+-- A thread calls a function of the module itself with arguments of its type, on any budget. It makes any steps that it
+-- may make, each as the thread wants it: turns of its own, tries that are lost or find the log full, events with any
+-- reply, answers. As long as it runs, what comes next is defined.
 abbrev pub IsNeverStuck : Parts → Type 0
 IsNeverStuck m =
     (own : ℕ) (t : FuncType) (body : Body) (args : List Value) → IsFunction m own t body → map type_of args ≡ t.params →
     (start : ℕ → ℕ → State) (budget fuel left : ℕ) (steps : List (Step Event Reply Answer)) (c : Config) →
-    Reaches (over_memory_and_queue (machine_of (program_of m)) start budget) (Runs (At (start_of m t body args)) fuel) steps
+    Reaches (over_memory_and_queue (machine_of (program_of m)) start budget) (Runs (At (start_of m t body args)) fuel)
+    steps
     (Runs (At c) left) →
     IsDefined (next (program_of m) c)
 

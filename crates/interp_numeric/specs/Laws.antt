@@ -18,7 +18,8 @@ HasTypes n below Lacks = ⊥
 HasTypes n below (Traps trap) = ⊤
 HasTypes n below (Gives v rest) = type_of v ∷ map type_of rest ≡ numeric_gives n ∷ below
 
--- On operands of the types that it takes, with any below them, an instruction lacks nothing, and gives what its type says.
+-- On operands of the types that it takes, with any below them, an instruction lacks nothing, and gives what its type
+-- says.
 abbrev pub TypedResults : Type 0
 TypedResults =
     (n : NumericInstr) (operands : List Value) (below : List ValType)

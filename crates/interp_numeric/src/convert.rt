@@ -30,9 +30,9 @@ pub fn i64_extend_i32_u(operand: u32) -> u64
     u64::from(operand)
 }
 
-/// `extend8_s`, `extend16_s` and `extend32_s`: the low bits of a number, as many as the width has, as a signed number of
-/// the width's type (Core specification 2.0, section 4.3.2, `extendN_s`). The bits above them count for nothing. A narrow
-/// signed load makes the same of the number that it finds.
+/// `extend8_s`, `extend16_s` and `extend32_s`: the low bits of a number, as many as the width has, as a signed number
+/// of the width's type (Core specification 2.0, section 4.3.2, `extendN_s`). The bits above them count for nothing. A
+/// narrow signed load makes the same of the number that it finds.
 #[inline]
 pub fn sign_extended(width: NarrowWidth, number: u64) -> Value
     ensures { result ≡ sign_extension width number }

@@ -1,6 +1,7 @@
 //! The stack of values, each of which is a word of 64 bits.
 
-ghost use Rattle.std.specs.Prelude.{◌≡◌, ℕ, ◌+◌, ◌<◌, ◌≤◌, List, [], ◌∷◌, ◌++◌, length, replicate, reverse, vec_len, vec_capacity};
+ghost use Rattle.std.specs.Prelude.{◌≡◌, ℕ, ◌+◌, ◌<◌, ◌≤◌, List, [], ◌∷◌, ◌++◌, length, replicate, reverse, vec_len};
+ghost use Rattle.std.specs.Prelude.{vec_capacity};
 ghost use Rattle.types.specs.declared.value.ValType.{ValType};
 ghost use Rattle.types.specs.Values.{type_of};
 ghost use Rattle.interp_state.specs.Words.{word_of, IsWord, HasWords};

@@ -1,6 +1,7 @@
 //! A thread, turn by turn.
 
-ghost use Rattle.interp_trait.specs.Turns.{Meaning, BeginsAlike, HasSpent, MayBeGiven, MayBeginWith, StartsWith, StaysAs, MakesTurn};
+ghost use Rattle.interp_trait.specs.Turns.{Meaning, BeginsAlike, HasSpent, MayBeGiven, MayBeginWith, StartsWith};
+ghost use Rattle.interp_trait.specs.Turns.{StaysAs, MakesTurn};
 ghost use Rattle.interp_trait.specs.Turns.{MayRun, MakesOwnTurns};
 
 use crate::gate::Gate;
@@ -30,8 +31,8 @@ pub enum Turn {
     Ended(Outcome),
 }
 
-/// A thread with a budget of units, which makes its turns one by one (Core specification 1.0, chapter 4, and the threads
-/// proposal; the costs are this project's own).
+/// A thread with a budget of units, which makes its turns one by one (Core specification 1.0, chapter 4, and the
+/// threads proposal; the costs are this project's own).
 pub trait TakesTurns {
     /// What it means: its program and its budget, which thread of the machine it stands for, and how it begins.
     ghost meaning: { Self → Meaning };
@@ -42,8 +43,8 @@ pub trait TakesTurns {
         ensures stays { StaysAs (meaning self.old) (meaning self.new) }
         ensures turned { MakesTurn (meaning self.old) given result (meaning self.new) };
 
-    /// Makes turns of its own, one after the other, until it wants an event, awaits an answer or has ended, and says which.
-    /// The gate comes before each of them, and before the event that is wanted.
+    /// Makes turns of its own, one after the other, until it wants an event, awaits an answer or has ended, and says
+    /// which. The gate comes before each of them, and before the event that is wanted.
     fn own_turns<G: Gate>(&mut self, name: u32, gate: &G) -> Turn
         requires { MayRun (meaning self.old) }
         ensures stays { StaysAs (meaning self.old) (meaning self.new) }

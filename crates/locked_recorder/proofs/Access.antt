@@ -9,7 +9,7 @@ use Rattle.types.specs.declared.event.Event.TheVariants.{Size, Grow, Load, Store
 use Rattle.types.specs.declared.event.Question.TheVariants.{Wait, Notify, Spawn, Leave}
 use Rattle.types.specs.declared.event.Reply.{Reply}
 use Rattle.types.specs.declared.event.Reply.TheVariants.{Value, Done, OutOfBounds, Again, Full}
-use Rattle.types.specs.Limits.{desk_name, seat_count, past_limit, most_limit}
+use Rattle.types.specs.declared.limits.TheConstants.{DESK_NAME, SEATS, PAST_LIMIT, MOST_LIMIT}
 use Rattle.shared_memory.specs.Events.{IsEvent, is_of_queue, is_exempt}
 use Rattle.shared_memory.specs.Memory.{Memory, pages, reply_of, state_after, if_within}
 use Rattle.shared_memory.specs.History.{entry, entries_of, IsEntry, AreEntries, memory_after}
@@ -94,7 +94,7 @@ pub record Entered (opening : Memory) (limit capacity : ℕ) (m : Memory) (c : C
 
 pub enters_log : (opening : Memory) (limit capacity : ℕ) (m : Memory) (c : Caller) (event : Event) (reply : Reply)
     (log : L) → KeepsLog opening limit capacity m log → GoesOn c log
-    → c.name ≤ desk_name → IsEvent event → (is_of_queue event ≡ true → c.has_queue_right ≡ true) → (is_of_queue event ≡ true → MayEnter c.name event c.seen)
+    → c.name ≤ DESK_NAME → IsEvent event → (is_of_queue event ≡ true → c.has_queue_right ≡ true) → (is_of_queue event ≡ true → MayEnter c.name event c.seen)
     → (is_exempt event ≡ false → length log < limit) → reply ≡ reply_of m event → Entered opening limit capacity m c event reply log
 enters_log opening limit capacity m c event reply log k goes known is right allowed below answer =
     let e : Entry = entry c.name event reply in
@@ -122,7 +122,7 @@ enters_log opening limit capacity m c event reply log k goes known is right allo
 
 -- a new log
 pub opened_keeps : (opening : Memory) (limit capacity : ℕ) (m : Memory) (log : L) → log ≡ [] → m ≡ opening
-    → limit + past_limit ≤ capacity → limit ≤ most_limit → KeepsLog opening limit capacity m log
+    → limit + PAST_LIMIT ≤ capacity → limit ≤ MOST_LIMIT → KeepsLog opening limit capacity m log
 opened_keeps opening limit capacity m log none same reserved small = subst (λ (l : L). KeepsLog opening limit capacity m l) (sym none) (record {
   after = same;
   seen = record { legal = tt; entries = All-nil IsEntry };
@@ -133,7 +133,7 @@ opened_keeps opening limit capacity m log none same reserved small = subst (λ (
 })
 
 -- what is left
-no_others : (log : L) (n : ℕ) → AreEntries log → seat_count ≤ n → entries_of n log ≡ []
+no_others : (log : L) (n : ℕ) → AreEntries log → SEATS ≤ n → entries_of n log ≡ []
 no_others [] n all le = refl
 no_others (e ∷ log) n all le =
     let first = All-head IsEntry e log all in

@@ -14,7 +14,7 @@ use Rattle.types.specs.declared.event.Question.TheVariants.{Wait, Notify, Spawn,
 use Rattle.types.specs.declared.event.Answer.{Answer}
 use Rattle.types.specs.declared.event.Answer.TheVariants.{Number}
 use Rattle.types.specs.declared.event.Reply.{Reply}
-use Rattle.types.specs.Limits.{most_threads, past_limit}
+use Rattle.types.specs.declared.limits.TheConstants.{MOST_THREADS, PAST_LIMIT}
 use Rattle.shared_memory.specs.declared.sleeper.Sleeper.{Sleeper}
 use Rattle.shared_memory.specs.Events.{is_of_queue, is_exempt}
 use Rattle.shared_memory.specs.Memory.{Memory, reply_of}
@@ -193,9 +193,9 @@ leave_lowers q n free =
     let told = tells n (Number 0) left in
     let a = ap (λ (xs : List ℕ). length xs) (settled_alive told) in
     let b = one_leaves n q.alive free.alive in
-    let c = open_fewer told (settled told) most_threads (settled_fewer told) in
-    let d = open_but_one left told n most_threads (tells_fewer n (Some (Number 0)) left) in
-    let e = open_fewer q left most_threads (λ m h. h) in
+    let c = open_fewer told (settled told) MOST_THREADS (settled_fewer told) in
+    let d = open_but_one left told n MOST_THREADS (tells_fewer n (Some (Number 0)) left) in
+    let e = open_fewer q left MOST_THREADS (λ m h. h) in
     omega arith
 
 told_lowers : (q : WaitQueue) (n : ℕ) (answer : Answer) → IsSound q → answer_due q n ≡ Some answer → still_due (after_answer q n) + 1 ≤ still_due q
@@ -204,7 +204,7 @@ told_lowers q n answer s due =
     let was : has_open_question q n ≡ true = ap (λ o. is_asleep q n || is_some o) due ∙ or-true (is_asleep q n) in
     let now : has_open_question (after_answer q n) n ≡ false = ap (λ x. x || is_some (answer_due (after_answer q n) n))
     (awake (is_asleep q n) refl) ∙ ap is_some (due_taken q n) in
-    let r = open_one_less q (after_answer q n) n most_threads (inside (ltb n most_threads) refl) was now (tells_fewer n None q) in
+    let r = open_one_less q (after_answer q n) n MOST_THREADS (inside (ltb n MOST_THREADS) refl) was now (tells_fewer n None q) in
     omega arith
   where
     bad : answer_due q n ≡ None → ⊥
@@ -214,13 +214,13 @@ told_lowers q n answer s due =
     awake true t = absurd (bad (s.unanswered n t))
     awake false t = t
 
-    inside : (b : Bool) → ltb n most_threads ≡ b → n < most_threads
-    inside true t = ltb-true n most_threads t
-    inside false t = absurd (bad (get_or_past q.due n None (let p = s.due_length in let l = ltb-false n most_threads t in omega arith)))
+    inside : (b : Bool) → ltb n MOST_THREADS ≡ b → n < MOST_THREADS
+    inside true t = ltb-true n MOST_THREADS t
+    inside false t = absurd (bad (get_or_past q.due n None (let p = s.due_length in let l = ltb-false n MOST_THREADS t in omega arith)))
 
-bound : (q : WaitQueue) → IsSound q → still_due q ≤ past_limit
+bound : (q : WaitQueue) → IsSound q → still_due q ≤ PAST_LIMIT
 unfolding still_due
-bound q s = let a = few_alive q s in let b = few_spawned q s in let c = open_bound q most_threads in omega arith
+bound q s = let a = few_alive q s in let b = few_spawned q s in let c = open_bound q MOST_THREADS in omega arith
 
 -- the log, with one entry more
 
@@ -258,7 +258,7 @@ lowers m log n (Ask (Spawn arg)) reply is legal may exempt = absurd (true≢fals
 -- what an entry leaves of the log: it is legal for the queue, it had room, and it has spare room
 pub record Pushed (limit : ℕ) (log after : L) : Type 0 where
   pub legal : IsQueueLegal after
-  pub fits : length log < limit + past_limit
+  pub fits : length log < limit + PAST_LIMIT
   pub spare : HasSpare limit after
 
 pub pushed : (limit : ℕ) (m : Memory) (log : L) (n : ℕ) (event : Event) (reply : Reply) → HasSpare limit log → IsQueueLegal log → reply ≡ reply_of m event

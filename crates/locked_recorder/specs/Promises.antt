@@ -1,5 +1,6 @@
 -- What the recorder promises of its log.
-use Rattle.std.specs.Prelude.{ℕ, ◌+◌, ◌≤◌, ◌≡◌, ◌&&◌, Bool, true, false, not, nat_le, if◌then◌else◌, List, [], ◌∷◌, ◌++◌, length}
+use Rattle.std.specs.Prelude.{ℕ, ◌+◌, ◌≤◌, ◌≡◌, ◌&&◌, Bool, true, false, not, nat_le, if◌then◌else◌, List, [], ◌∷◌}
+use Rattle.std.specs.Prelude.{◌++◌, length}
 use mathlib.Core.List.{IsPrefix}
 use Rattle.atomic_table.specs.Table.{Me}
 use Rattle.atomic_table.specs.Seated.{TableId}
@@ -7,7 +8,7 @@ use Rattle.types.specs.declared.event.Entry.{Entry}
 use Rattle.types.specs.declared.event.Event.{Event}
 use Rattle.types.specs.declared.event.Reply.{Reply}
 use Rattle.types.specs.declared.event.Reply.TheVariants.{Full}
-use Rattle.types.specs.Limits.{most_pages, seat_count, past_limit, most_limit}
+use Rattle.types.specs.declared.limits.TheConstants.{MOST_PAGES, SEATS, PAST_LIMIT, MOST_LIMIT}
 use Rattle.shared_memory.specs.Events.{is_exempt}
 use Rattle.shared_memory.specs.Memory.{Memory, pages}
 use Rattle.shared_memory.specs.History.{entries_of, memory_after}
@@ -23,13 +24,14 @@ use Rattle.locked_recorder.specs.Room.{HasSpare}
 
 -- A log's limit is 1 to 1,000,000 entries, and its memory one that can be opened.
 abbrev pub can_record : List ℕ → ℕ → ℕ → Bool
-can_record image max limit = nat_le 1 limit && nat_le limit most_limit && can_open image max
+can_record image max limit = nat_le 1 limit && nat_le limit MOST_LIMIT && can_open image max
 
 abbrev pub is_full : Reply → Bool
 is_full Full = true
 is_full _ = false
 
--- The log holds the event back: it has as many entries as its limit or more, and the event isn't one that it still takes.
+-- The log holds the event back: it has as many entries as its limit or more, and the event isn't one that it still
+-- takes.
 abbrev pub is_held : ℕ → Event → List Entry → Bool
 is_held limit event log = not (is_exempt event) && nat_le limit (length log)
 
@@ -44,8 +46,8 @@ pub record KeepsLog (opening : Memory) (limit : ℕ) (capacity : ℕ) (memory : 
   pub seen : IsSeen opening log
   pub queue : IsQueueLegal log
   pub spare : HasSpare limit log
-  pub reserved : limit + past_limit ≤ capacity
-  pub small : limit ≤ most_limit
+  pub reserved : limit + PAST_LIMIT ≤ capacity
+  pub small : limit ≤ MOST_LIMIT
 
 -- A keeper logs for the memory with this table, opening and limit: its seat of that table knows the log, and no caller
 -- stands there; it has that limit; and the memory and the log, whose room is the capacity, are kept.
@@ -57,8 +59,8 @@ Logs table opening limit own me held capacity memory log =
 -- has room for all that its limit lets in.
 abbrev pub IsPrepared : TableId → TableId → Me ℕ View → ℕ → ℕ → List Entry → Type 0
 IsPrepared table own me limit capacity log =
-    (own ≡ table) × (me ≡ (opened true, [])) × (table.words ≡ 1) × (limit ≤ most_limit) × (log ≡ [])
-    × (limit + past_limit ≤ capacity)
+    (own ≡ table) × (me ≡ (opened true, [])) × (table.words ≡ 1) × (limit ≤ MOST_LIMIT) × (log ≡ [])
+    × (limit + PAST_LIMIT ≤ capacity)
 
 -- It is to record the accesses of a memory of these bytes and at most so many pages, by a log with this limit.
 abbrev pub IsOpenedFrom : List ℕ → ℕ → ℕ → MemoryName → Type 0
@@ -74,11 +76,11 @@ pub record Begins (c : Caller) (log : List Entry) : Type 0 where
 pub record IsRecord (opening : Memory) (log : List Entry) (count : ℕ) (contents : List ℕ) : Type 0 where
   pub seen : IsSeen opening log
   pub queue : IsQueueLegal log
-  pub others : (n : ℕ) → seat_count ≤ n → entries_of n log ≡ []
+  pub others : (n : ℕ) → SEATS ≤ n → entries_of n log ≡ []
   pub pages_after : count ≡ pages (memory_after opening log)
   pub bytes_after : contents ≡ (memory_after opening log).bytes
 
 -- What no run passes: 192 entries above the limit, and 256 pages.
 pub record IsBounded (limit : ℕ) (log : List Entry) (count : ℕ) : Type 0 where
-  pub room : length log ≤ limit + past_limit
-  pub small : count ≤ most_pages
+  pub room : length log ≤ limit + PAST_LIMIT
+  pub small : count ≤ MOST_PAGES

@@ -32,7 +32,8 @@ impl<B: Naming> Model for Keeper<B> {
 
     ghost view = { λ k. k.log.items };
 
-    ghost invariant = { λ k. Logs B.table B.opening B.limit k.place.table_id k.place.me k.limit (vec_capacity k.log) k.memory k.log.items };
+    ghost invariant = { λ k. Logs B.table B.opening B.limit k.place.table_id k.place.me k.limit (vec_capacity k.log)
+        k.memory k.log.items };
 }
 
 // Whether a full log still takes the event.

@@ -29,7 +29,8 @@ impl Model for Prepared {
 
     ghost view = { λ p. record { table = p.board.shared.table_id; opening = p.memory; limit = p.limit } };
 
-    ghost invariant = { λ p. IsPrepared p.board.shared.table_id p.keeper.table_id p.keeper.me p.limit (vec_capacity p.log) p.log.items };
+    ghost invariant = { λ p. IsPrepared p.board.shared.table_id p.keeper.table_id p.keeper.me p.limit
+        (vec_capacity p.log) p.log.items };
 }
 
 impl Prepared {
@@ -38,8 +39,8 @@ impl Prepared {
     /// `LockedRecorder::open`.
     ///
     /// # Errors
-    /// `PastLimit` exactly where the image isn't whole pages of 65,536 bytes or passes `max` pages, `max` passes 256, or
-    /// `limit` isn't 1 to 1,000,000; otherwise `NoMemory` where the room can't be had.
+    /// `PastLimit` exactly where the image isn't whole pages of 65,536 bytes or passes `max` pages, `max` passes 256,
+    /// or `limit` isn't 1 to 1,000,000; otherwise `NoMemory` where the room can't be had.
     pub fn new(alloc: Global, image: &[u8], max: u32, limit: u32) -> Result<Prepared, OpenFault>
         ensures opened { IfOk result (IsOpenedFrom image.now max limit) }
         ensures within { OnOk result (can_record image.now max limit ≡ true) }

@@ -1,6 +1,6 @@
 //! The recorder.
 ghost use Rattle.std.specs.Prelude.{◌≡◌, ◌<◌, IfOk, IsOkUnless, All, map};
-ghost use Rattle.types.specs.Limits.{seat_count};
+ghost use Rattle.types.specs.declared.limits.TheConstants.{SEATS};
 ghost use Rattle.shared_memory.specs.Memory.{IsWhole};
 ghost use Rattle.shared_memory_on_table.specs.Callers.{fresh_from};
 ghost use Rattle.locked_recorder.specs.Promises.{Begins, IsRecord, IsBounded};
@@ -46,7 +46,7 @@ impl<B: Naming, W: Wait + Drop> LockedRecorder<B, W> {
         requires table { prepared.table ≡ B.table }
         requires opening { prepared.opening ≡ B.opening }
         requires limit { prepared.limit ≡ B.limit }
-        ensures seats { IfOk result (λ r. map (λ s. s.caller) r.1.items ≡ fresh_from seat_count 0) }
+        ensures seats { IfOk result (λ r. map (λ s. s.caller) r.1.items ≡ fresh_from SEATS 0) }
         ensures fault { IsOkUnless result OpenFault.NoMemory }
     {
         let Prepared {

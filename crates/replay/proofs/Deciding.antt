@@ -2,7 +2,7 @@
 use Rattle.std.proofs.Common.{◌≡◌, ℕ, ◌<◌, ◌≤◌, List, length, Option, Some, None, refl, sym, ap, subst, false, arith}
 use Rattle.std.specs.List.{All}
 use Rattle.std.proofs.lemmas.List.{length-map}
-use Rattle.types.specs.Limits.{most_threads}
+use Rattle.types.specs.declared.limits.TheConstants.{MOST_THREADS}
 use Rattle.replay_text.specs.Conditions.{IsEntry}
 use Rattle.types.specs.declared.event.Entry as entries
 use Rattle.types.specs.declared.outcome.Outcome.{Outcome}
@@ -91,7 +91,7 @@ module _ {T : Type 0} {meaning : T → Meaning}
   within_ends k is = (verdict_if (Some k) is).below
 
 -- Who is one of the record's threads is one of those that there may be.
-pub wider : (threads : ℕ) → threads ≤ most_threads → (log : List entries.Entry) → All (IsEntry threads) log → All (IsEntry most_threads) log
+pub wider : (threads : ℕ) → threads ≤ MOST_THREADS → (log : List entries.Entry) → All (IsEntry threads) log → All (IsEntry MOST_THREADS) log
 wider threads few log all k d lt =
     let e = all k d lt in
     record { thread = omega (arith, e.thread, few); event_fits = e.event_fits; event = e.event; reply_fits = e.reply_fits; reply = e.reply }

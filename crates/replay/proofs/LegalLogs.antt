@@ -10,7 +10,7 @@ use Rattle.types.specs.declared.event.Answer.{Answer}
 use Rattle.types.specs.declared.event.Reply.{Reply}
 use Rattle.types.specs.declared.event.Reply.TheVariants as replies
 use Rattle.types.specs.declared.event.Entry as entries
-use Rattle.types.specs.Limits.{most_threads}
+use Rattle.types.specs.declared.limits.TheConstants.{MOST_THREADS}
 use Rattle.shared_memory.specs.Memory.{Memory, reply_of, state_after}
 use Rattle.shared_memory.specs.WaitQueue.{WaitQueue, first_queue, is_alive, is_asleep, answer_due, next_id, IsFree}
 use Rattle.shared_memory.specs.History.{entry, of_queue, queue_step, queue_from}
@@ -185,7 +185,7 @@ module _ (b : Start) (threads : ℕ) (log : List entries.Entry) (last : LeavesLa
             | inr has ↦ absurd (not_left e made xs ys (subst (λ (l : List entries.Entry). LeavesLast (made_of l)) split last) has)
           ]
 
-made_legal : (b : Start) (r : RecordParts) (S : List Mark) → MakesLog b r S → 0 < r.threads → r.threads ≤ most_threads
+made_legal : (b : Start) (r : RecordParts) (S : List Mark) → MakesLog b r S → 0 < r.threads → r.threads ≤ MOST_THREADS
     → All (IsEntry r.threads) r.log → Rest b.opening (first_queue r.threads) r.log
 made_legal b r S makes some few kinds =
     legal_rest b r.threads r.log (subst LeavesLast makes.events (first_last b r.threads S)) [] r.log refl b.opening (first_queue r.threads) refl

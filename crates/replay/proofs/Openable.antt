@@ -15,7 +15,7 @@ use Rattle.types.specs.declared.parts.ImportDesc.{ImportDesc}
 use Rattle.types.specs.declared.parts.ImportDesc.TheVariants as imports
 use Rattle.types.specs.declared.parts.DataSegment.{DataSegment}
 use Rattle.types.specs.declared.parts.Parts.{Parts}
-use Rattle.types.specs.Limits.{page_size, most_pages}
+use Rattle.types.specs.declared.limits.TheConstants.{PAGE_SIZE, MOST_PAGES}
 use Rattle.types.specs.Modules.{IsModule}
 use Rattle.types.specs.Within.{IsMemoryWithin, IsDescWithin}
 use Rattle.validate_typing.specs.Context.{memory_of, memories_of}
@@ -41,14 +41,14 @@ imported_within (i ∷ is) all =
     (one_within i.desc (All-head (λ (i : Import). IsDescWithin i.desc) i is all))
     (imported_within is (All-tail (λ (i : Import). IsDescWithin i.desc) i is all))
 
-limits_fit : (min : ℕ) (max : Option ℕ) → min ≤ most_pages → IfSome max (λ n. n ≤ most_pages) → IfSome max (λ n. min ≤ n)
-    → (min ≤ max_of_limits most_pages max) × (max_of_limits most_pages max ≤ most_pages)
+limits_fit : (min : ℕ) (max : Option ℕ) → min ≤ MOST_PAGES → IfSome max (λ n. n ≤ MOST_PAGES) → IfSome max (λ n. min ≤ n)
+    → (min ≤ max_of_limits MOST_PAGES max) × (max_of_limits MOST_PAGES max ≤ MOST_PAGES)
 limits_fit min None small within ordered = (small, omega arith)
 limits_fit min (Some n) small within ordered = (ordered, within)
 
 -- the first memory begins with no more pages than it may have, and may have no more than any
 first_fits : (ms : List Limits) → All IsMemoryWithin ms → All IsValidMemory ms
-    → (min_of (slice_get ms 0) ≤ max_of most_pages (slice_get ms 0)) × (max_of most_pages (slice_get ms 0) ≤ most_pages)
+    → (min_of (slice_get ms 0) ≤ max_of MOST_PAGES (slice_get ms 0)) × (max_of MOST_PAGES (slice_get ms 0) ≤ MOST_PAGES)
 first_fits [] within valid = (omega arith, omega arith)
 first_fits (l ∷ ms) within valid =
     let w = All-head IsMemoryWithin l ms within in
@@ -66,19 +66,19 @@ length-with_segment bytes d within =
     let outer = length-append (take at bytes) (d.bytes ++ drop end bytes) in
     omega (arith, front, back, inner, outer)
 
-length-image : (bytes : List ℕ) (ds : List DataSegment) (pages : ℕ) → length bytes ≡ page_size * pages → All (IsWithin pages) ds
-    → length (fold with_segment bytes ds) ≡ page_size * pages
+length-image : (bytes : List ℕ) (ds : List DataSegment) (pages : ℕ) → length bytes ≡ PAGE_SIZE * pages → All (IsWithin pages) ds
+    → length (fold with_segment bytes ds) ≡ PAGE_SIZE * pages
 length-image bytes [] pages long all = long
 length-image bytes (d ∷ ds) pages long all =
     let within = All-head (IsWithin pages) d ds all in
     let same = length-with_segment bytes d (omega (arith, long, within)) in
     length-image (with_segment bytes d) ds pages (same ∙ long) (All-tail (IsWithin pages) d ds all)
 
-opens : (image : List ℕ) (max pages : ℕ) → length image ≡ page_size * pages → pages ≤ max → max ≤ most_pages → can_open image max ≡ true
+opens : (image : List ℕ) (max pages : ℕ) → length image ≡ PAGE_SIZE * pages → pages ≤ max → max ≤ MOST_PAGES → can_open image max ≡ true
 opens image max pages long within small =
-    let a = le-leb max most_pages small in
-    let b = le-leb (length image) (page_size * max) (omega (arith, long, within)) in
-    let whole : length image % page_size ≡ 0 = omega (arith, long) in
+    let a = le-leb max MOST_PAGES small in
+    let b = le-leb (length image) (PAGE_SIZE * max) (omega (arith, long, within)) in
+    let whole : length image % PAGE_SIZE ≡ 0 = omega (arith, long) in
     grind (arith, a, b, whole)
 
 all_within : (m : Parts) → IsModule m → All IsMemoryWithin (memories_of m)
@@ -86,22 +86,22 @@ all_within m tested =
     All-append IsMemoryWithin (flat_map (λ (i : Import). memory_of i.desc) m.imports) m.memories
     (imported_within m.imports tested.limits.each_import) tested.limits.each_memory
 
-first_within : (ms : List Limits) → All IsMemoryWithin ms → IsWithinPages most_pages (slice_get ms 0)
+first_within : (ms : List Limits) → All IsMemoryWithin ms → IsWithinPages MOST_PAGES (slice_get ms 0)
 first_within [] within = tt
 first_within (l ∷ ms) within = All-head IsMemoryWithin l ms within
 
 -- a module's memory has no more pages than any may have
-pub pages_within : (m : Parts) → IsModule m → HasPagesWithin most_pages m
+pub pages_within : (m : Parts) → IsModule m → HasPagesWithin MOST_PAGES m
 pages_within m tested = first_within (memories_of m) (all_within m tested)
 
 -- the opening memory of a valid module can be opened
-pub module_opens : (m : Parts) → IsModule m → IsValid m → can_open (opening_image m) (pages_max_of most_pages m) ≡ true
+pub module_opens : (m : Parts) → IsModule m → IsValid m → can_open (opening_image m) (pages_max_of MOST_PAGES m) ≡ true
 module_opens m tested valid =
     let within = all_within m tested in
     let fits = first_fits (memories_of m) within valid.memories in
-    let zeros = replicate (page_size * opening_pages m) 0 in
-    let long = length-image zeros m.data (opening_pages m) (length-replicate (page_size * opening_pages m) 0) (segments_within m valid) in
-    opens (opening_image m) (pages_max_of most_pages m) (opening_pages m) long fits.0 fits.1
+    let zeros = replicate (PAGE_SIZE * opening_pages m) 0 in
+    let long = length-image zeros m.data (opening_pages m) (length-replicate (PAGE_SIZE * opening_pages m) 0) (segments_within m valid) in
+    opens (opening_image m) (pages_max_of MOST_PAGES m) (opening_pages m) long fits.0 fits.1
 
 same_max : (m w : Memory) (b : Bool) → w.max ≡ m.max → Memory.max (cond b w m) ≡ m.max
 same_max m w true same = same

@@ -2,7 +2,7 @@
 use Rattle.std.specs.Prelude.{ℕ, ◌≡◌, false, List, Some}
 use Rattle.types.specs.declared.value.Value.{Value}
 use Rattle.types.specs.declared.parts.Parts.{Parts}
-use Rattle.types.specs.Limits.{most_threads, most_pages}
+use Rattle.types.specs.declared.limits.TheConstants.{MOST_THREADS, MOST_PAGES}
 use Rattle.spawn_host.specs.RunEnds.{EndsRun}
 use Rattle.spawn_host.specs.declared.end.EndState.{EndState}
 use Rattle.replay_text.specs.declared.version.Version.TheVariants as versions
@@ -15,8 +15,8 @@ pub record RecordsRun (m : Parts) (entry : List ℕ) (args : List Value) (fuel l
     (end : EndState) : Type 0 where
   pub version : record_is.version ≡ versions.Two
   pub module_len : record_is.module_len ≡ m.length
-  pub threads : record_is.threads ≡ most_threads
-  pub max_pages : record_is.max_pages ≡ most_pages
+  pub threads : record_is.threads ≡ MOST_THREADS
+  pub max_pages : record_is.max_pages ≡ MOST_PAGES
   pub invoke : record_is.invoke ≡ entry
   pub args_are : record_is.args ≡ args
   pub fuel_is : record_is.fuel ≡ fuel

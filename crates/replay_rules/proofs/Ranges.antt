@@ -6,7 +6,7 @@ use Rattle.std.proofs.lemmas.Option.{slice_get-get_or}
 use Rattle.types.specs.declared.event.Entry.{Entry}
 use Rattle.types.specs.declared.outcome.Outcome.{Outcome}
 use Rattle.types.specs.declared.outcome.ThreadReport.{ThreadReport}
-use Rattle.types.specs.Limits.{most_spawned, most_fuel}
+use Rattle.types.specs.declared.limits.TheConstants.{MOST_SPAWNED, MOST_FUEL}
 use Rattle.shared_memory.specs.WaitQueue.{WaitQueue, next_id}
 use Rattle.shared_memory.specs.History.{queue_after}
 use Rattle.shared_memory.specs.Legal.{IsQueueLegal}
@@ -32,7 +32,7 @@ module _ (b : Start) (r : RecordParts) (outcomes : ℕ → Outcome) (lefts : ℕ
   small_at : (xs ys : List Entry) (e : Entry) → r.log ≡ xs ++ e ∷ ys → IsSmall e
   small_at xs ys e is =
       let known : e.thread < next_id (queue_after xs) = entry_started b false (Some r.limit) r.log outcomes lefts ran.threads ran.entries xs ys e is in
-      let few : length (WaitQueue.args (queue_after xs)) ≤ most_spawned =
+      let few : length (WaitQueue.args (queue_after xs)) ≤ MOST_SPAWNED =
       few_spawned (queue_after xs) (IsSound-after xs (IsQueueLegal-prefix xs (e ∷ ys) (subst IsQueueLegal is ran.queue))) in
       omega (arith, known, few, tells.threads)
 
@@ -49,7 +49,7 @@ module _ (b : Start) (r : RecordParts) (outcomes : ℕ → Outcome) (lefts : ℕ
   all_kinds : All IsOfKind r.log
   all_kinds = All-from_recursion IsOfKind r.log (kinds b.opening r.log ran.memory)
 
-  module _ (small : r.fuel ≤ most_fuel) (written : IsWritten r) (limited : IsLimited r) (typed : AreTyped r) where
+  module _ (small : r.fuel ≤ MOST_FUEL) (written : IsWritten r) (limited : IsLimited r) (typed : AreTyped r) where
     entries : All (IsEntry r.threads) r.log
     entries k d lt =
         let e : Entry = get_or r.log k d in
@@ -77,7 +77,7 @@ module _ (b : Start) (r : RecordParts) (outcomes : ℕ → Outcome) (lefts : ℕ
     numbers : HasNumbers r
     numbers =
         let count : length r.ends ≡ length (WaitQueue.args (queue_after r.log)) + 1 = tells.count in
-        let few : length (WaitQueue.args (queue_after r.log)) ≤ most_spawned = few_spawned (queue_after r.log) (IsSound-after r.log ran.queue) in record {
+        let few : length (WaitQueue.args (queue_after r.log)) ≤ MOST_SPAWNED = few_spawned (queue_after r.log) (IsSound-after r.log ran.queue) in record {
           scale = scale;
           fuel = small;
           limit_low = limited.limit_low;

@@ -9,7 +9,7 @@ use Rattle.types.specs.declared.event.Answer.{Answer}
 use Rattle.types.specs.declared.event.Reply.{Reply}
 use Rattle.types.specs.declared.outcome.Outcome.{Outcome}
 use Rattle.types.specs.declared.outcome.ThreadReport.{ThreadReport}
-use Rattle.types.specs.Limits.{most_threads}
+use Rattle.types.specs.declared.limits.TheConstants.{MOST_THREADS}
 use Rattle.shared_memory.specs.Memory.{pages}
 use Rattle.shared_memory.specs.WaitQueue.{next_id}
 use Rattle.shared_memory.specs.History.{memory_after, queue_after}
@@ -46,7 +46,7 @@ module _ (b : Start) (of : RecordParts) (outcomes : ℕ → Outcome) (lefts : �
     (ran : RanTogether b false (Some of.limit) of.log outcomes lefts) (tells : RecordTells b of outcomes lefts) where
   -- the record, with as many threads as a run may have
   abbrev r : RecordParts
-  r = record of { threads = most_threads }
+  r = record of { threads = MOST_THREADS }
 
   one : IsOneRun b false (Some r.limit) r.log outcomes lefts
   one = threads_make_one_run b false (Some r.limit) r.log outcomes lefts ran

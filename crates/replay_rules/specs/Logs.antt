@@ -5,10 +5,12 @@ use Rattle.schedule.specs.Scheduled.{entries_made, steps_made}
 use Rattle.schedule.specs.Histories.{Place, without_answers, IsLegalHistory, IsOrdered}
 use Rattle.schedule.specs.Tries.{TryRules, IsFullOnlyAtLimit, IsWithinLimit, MayMarkAll}
 
-module _ {X T E V A W : Type 0} (s : System X T E V A) (rules : TryRules X E W) (first : State X T) (places : ℕ → Place A) where
-  -- A schedule without lost tries makes the log. The log is legal, so that each answer heard is the one that is due, and each
-  -- event is of a thread without an open question. The scheduled machine makes its events in order, with their replies. A thread
-  -- finds the log full only where that has reached its limit before the thread's next entry, and each entry found room.
+module _ {X T E V A W : Type 0} (s : System X T E V A) (rules : TryRules X E W) (first : State X T) (places : ℕ
+    → Place A) where
+  -- A schedule without lost tries makes the log. The log is legal, so that each answer heard is the one that is due,
+  -- and each event is of a thread without an open question. The scheduled machine makes its events in order, with their
+  -- replies. A thread finds the log full only where that has reached its limit before the thread's next entry, and each
+  -- entry found room.
   pub record MakesLog (log : List (Entry E V A)) (S : List Mark) : Type 0 where
     pub legal : IsLegalHistory s first.shared places log
     pub ordered : IsOrdered s first.shared places log
@@ -21,7 +23,8 @@ module _ {X T E V A W : Type 0} (s : System X T E V A) (rules : TryRules X E W) 
   abbrev pub IsMade : List (Entry E V A) → Type 0
   IsMade log = (S : List Mark) × MakesLog log S
 
-  -- The entry at k is the first that doesn't fit: some run makes those before it, and none goes on with it, whatever follows.
+  -- The entry at k is the first that doesn't fit: some run makes those before it, and none goes on with it, whatever
+  -- follows.
   pub record IsFirstMisfit (log : List (Entry E V A)) (k : ℕ) : Type 0 where
     pub below : k < length log
     pub before : IsMade (take k log)

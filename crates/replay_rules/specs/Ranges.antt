@@ -7,7 +7,7 @@ use Rattle.types.specs.declared.event.Reply.{Reply}
 use Rattle.types.specs.declared.event.Reply.TheVariants as replies
 use Rattle.types.specs.declared.outcome.Outcome.{Outcome}
 use Rattle.types.specs.declared.outcome.ThreadReport.{ThreadReport}
-use Rattle.types.specs.Limits.{most_pages, past_limit, most_limit, most_fuel, most_module_bytes}
+use Rattle.types.specs.declared.limits.TheConstants.{MOST_PAGES, PAST_LIMIT, MOST_LIMIT, MOST_FUEL, MOST_MODULE_BYTES}
 use Rattle.shared_memory.specs.History.{AreEntries}
 use Rattle.schedule_runs.specs.Runs.{Start, RanTogether}
 use Rattle.replay_text.specs.Conditions.{Fits64, EventFits, IsValue, IsOutcome}
@@ -42,22 +42,23 @@ pub record AreTyped (r : RecordParts) : Type 0 where
 -- A record is written in version 2, with the numbers of the program that writes it.
 pub record IsWritten (r : RecordParts) : Type 0 where
   pub version : r.version ≡ versions.Two
-  pub module_len : r.module_len ≤ most_module_bytes
-  pub max_pages : r.max_pages ≡ most_pages
+  pub module_len : r.module_len ≤ MOST_MODULE_BYTES
+  pub max_pages : r.max_pages ≡ MOST_PAGES
 
--- What the memory that records keeps to: the limit is 1 to 1,000,000 entries, of which the log has at most 192 more, the pages are
--- at most 256, and the events meet their conditions.
+-- What the memory that records keeps to: the limit is 1 to 1,000,000 entries, of which the log has at most 192 more,
+-- the pages are at most 256, and the events meet their conditions.
 pub record IsLimited (r : RecordParts) : Type 0 where
   pub limit_low : 1 ≤ r.limit
-  pub limit : r.limit ≤ most_limit
-  pub room : length r.log ≤ r.limit + past_limit
-  pub pages : r.pages ≤ most_pages
+  pub limit : r.limit ≤ MOST_LIMIT
+  pub room : length r.log ≤ r.limit + PAST_LIMIT
+  pub pages : r.pages ≤ MOST_PAGES
   pub entries : AreEntries r.log
 
--- A record that tells what threads did together, by such a memory and with a budget of at most 1,000,000,000,000 units, is in
--- range.
+-- A record that tells what threads did together, by such a memory and with a budget of at most 1,000,000,000,000 units,
+-- is in range.
 abbrev pub RunsAreInRange : Type 0
 RunsAreInRange =
-    (b : Start) (r : RecordParts) (outcomes : ℕ → Outcome) (lefts : ℕ → ℕ) → RanTogether b false (Some r.limit) r.log outcomes lefts
+    (b : Start) (r : RecordParts) (outcomes : ℕ → Outcome) (lefts : ℕ → ℕ)
+    → RanTogether b false (Some r.limit) r.log outcomes lefts
     → RecordTells b r outcomes lefts
-    → r.fuel ≤ most_fuel → IsWritten r → IsLimited r → AreTyped r → IsRecord r
+    → r.fuel ≤ MOST_FUEL → IsWritten r → IsLimited r → AreTyped r → IsRecord r

@@ -1,4 +1,5 @@
--- How a walk along a log takes an event: a thread makes turns of its own until it wants something else, and then the event.
+-- How a walk along a log takes an event: a thread makes turns of its own until it wants something else, and then the
+-- event.
 use Rattle.std.specs.Prelude.{ℕ, zero, suc, ◌≡◌, ◌⊎◌, true, List, [], ◌∷◌}
 use Rattle.schedule.specs.System.{Want.Turns, Want.Calls, Act, Act.Made, Act.Heard, Entry, System, State, put}
 use Rattle.schedule.specs.Scheduled.{after_event, with_thread}
@@ -38,8 +39,8 @@ module _ {X T E V A W : Type 0} (s : System X T E V A) (rules : TryRules X E W) 
     pub legal : IsLegalEntry s w.shared places n (Made e v)
     pub room : HasRoom rules.limit (rules.is_exempt e) count
 
-  -- A walk along a log, from a state and places, after so many entries: each event is made by its thread, and each answer heard
-  -- is the one that is due.
+  -- A walk along a log, from a state and places, after so many entries: each event is made by its thread, and each
+  -- answer heard is the one that is due.
   abbrev pub WalksOn : State X T → (ℕ → Place A) → ℕ → ℕ → Act E V A → (State X T → (ℕ → Place A) → Type 0) → Type 0
   WalksOn w q count n (Made e v) on = (t : T) × CanMake w q count n e v t
       × on (after_made s w n e t) (next_places s w.shared q n (Made e v))

@@ -12,7 +12,7 @@ use Rattle.types.specs.declared.event.Answer.TheVariants.{Number, ForGood}
 use Rattle.types.specs.declared.event.Reply.{Reply}
 use Rattle.types.specs.declared.event.Reply.TheVariants as replies
 use Rattle.types.specs.declared.event.Entry.{Entry}
-use Rattle.types.specs.Limits.{most_threads}
+use Rattle.types.specs.declared.limits.TheConstants.{MOST_THREADS}
 use Rattle.replay_forms.specs.Reading.{Reader, FitsSigned64, after, number_at, number_then, behind, both, made, word_for, first, signed_then}
 use Rattle.replay_forms.specs.Texts.{line, spaced}
 use Rattle.replay_forms.proofs.Laws.{Law, Takes, number_text, number_law, signed_text, signed_law, behind_text}
@@ -213,7 +213,7 @@ pieces_text = both_text number (both_text event_text (behind_text (codes "= ") r
 
 -- so many threads as a record may have
 abbrev pub IsCount : ℕ → Type 0
-IsCount threads = (1 ≤ threads) × (threads ≤ most_threads)
+IsCount threads = (1 ≤ threads) × (threads ≤ MOST_THREADS)
 
 pieces_law : (threads : ℕ) → IsCount threads → Law pieces_text (λ x. (x.0 ≤ threads - 1) × (EventFits (x.1).0 × ReplyFits (x.1).1))
     (both (number_then (threads - 1) (32 ∷ [])) (both event_at (behind (codes "= ") reply_at)))

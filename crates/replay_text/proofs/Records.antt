@@ -14,7 +14,7 @@ use Rattle.types.specs.declared.outcome.Outcome.TheVariants as outcomes
 use Rattle.types.specs.declared.outcome.ThreadReport.{ThreadReport}
 use Rattle.types.specs.Values.{value_text}
 use Rattle.types.specs.Outcomes.{trap_number, stop_number}
-use Rattle.types.specs.Limits.{most_spawned, most_fuel}
+use Rattle.types.specs.declared.limits.TheConstants.{MOST_SPAWNED, MOST_FUEL}
 use Rattle.replay_forms.specs.Reading.{◌>>=◌, after, number_within, number_then, behind, both, made, first}
 use Rattle.replay_forms.specs.Texts.{line, spaced}
 use Rattle.replay_forms.proofs.Laws.{Law, Takes, bind_some, move, after_takes, within_takes, within_again}
@@ -212,30 +212,30 @@ abbrev pub end_text : ℕ → ThreadReport → List ℕ → List ℕ
 end_text thread r rest = line (end_words thread r) rest
 
 abbrev pub EndFits : ℕ → ThreadReport → Type 0
-EndFits thread r = IsReport r × (thread ≤ most_spawned)
+EndFits thread r = IsReport r × (thread ≤ MOST_SPAWNED)
 
 abbrev end_pieces : ℕ × (Outcome × ℕ) → List ℕ → List ℕ
 end_pieces = behind_text (codes "end ") (both_text number (both_text outcome_text (number_text (10 ∷ []))))
 
-end_pieces_law : Law end_pieces (λ x. (x.0 ≤ most_spawned) × (IsOutcome (x.1).0 × ((x.1).1 ≤ most_fuel)))
-    (behind (codes "end ") (both (number_then most_spawned (32 ∷ []))
-    (both outcome_at (number_then most_fuel (10 ∷ [])))))
-end_pieces_law = behind_law _ _ _ _ (both_law _ _ _ _ _ _ (number_law most_spawned 32 [] (omega arith) refl)
-    (both_law _ _ _ _ _ _ outcome_law (number_law most_fuel 10 [] (omega arith) refl)))
+end_pieces_law : Law end_pieces (λ x. (x.0 ≤ MOST_SPAWNED) × (IsOutcome (x.1).0 × ((x.1).1 ≤ MOST_FUEL)))
+    (behind (codes "end ") (both (number_then MOST_SPAWNED (32 ∷ []))
+    (both outcome_at (number_then MOST_FUEL (10 ∷ [])))))
+end_pieces_law = behind_law _ _ _ _ (both_law _ _ _ _ _ _ (number_law MOST_SPAWNED 32 [] (omega arith) refl)
+    (both_law _ _ _ _ _ _ outcome_law (number_law MOST_FUEL 10 [] (omega arith) refl)))
 
 same_end : (thread : ℕ) (o : Outcome) (spent : ℕ) (rest : List ℕ)
     → end_pieces (thread, (o, spent)) rest ≡ end_text thread (record { outcome = o; spent = spent }) rest
 same_end thread o spent rest = sym (ap (λ (t : List ℕ). codes "end " ++ (decimal thread ++ t)) (words_line_spaced (outcome_words o) (decimal spent) [] rest))
 
-end_there : (thread : ℕ) (x : ℕ × (Outcome × ℕ)) (r : ThreadReport) (rest : List ℕ) → (x.0 ≤ most_spawned)
-    × (IsOutcome (x.1).0 × ((x.1).1 ≤ most_fuel)) → report_of thread x ≡ Some r
+end_there : (thread : ℕ) (x : ℕ × (Outcome × ℕ)) (r : ThreadReport) (rest : List ℕ) → (x.0 ≤ MOST_SPAWNED)
+    × (IsOutcome (x.1).0 × ((x.1).1 ≤ MOST_FUEL)) → report_of thread x ≡ Some r
     → (end_pieces x rest ≡ end_text thread r rest) × EndFits thread r
 end_there thread x r rest fit e =
     let report : ThreadReport = record { outcome = (x.1).0; spent = (x.1).1 } in
     let p = only_some (x.0 == thread) (Some report) r e in
     let n : x.0 ≡ thread = grind (arith, nat_tests, p.0) in
     let good : IsReport report = record { outcome = (fit.1).0; spent = (fit.1).1 } in
-    let low : thread ≤ most_spawned = omega (arith, fit.0) in
+    let low : thread ≤ MOST_SPAWNED = omega (arith, fit.0) in
     subst (λ (z : ThreadReport). (end_pieces x rest ≡ end_text thread z rest) × EndFits thread z)
     (some_is report r p.1) (
       ap (λ (k : ℕ). end_pieces (k, (x.1)) rest) n

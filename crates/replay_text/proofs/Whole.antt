@@ -12,7 +12,7 @@ use Rattle.types.specs.declared.value.Value.{Value}
 use Rattle.types.specs.declared.event.Entry.{Entry}
 use Rattle.types.specs.declared.outcome.ThreadReport.{ThreadReport}
 use Rattle.types.specs.Values.{value_text}
-use Rattle.types.specs.Limits.{most_pages, most_threads, most_limit, most_fuel, most_module_bytes}
+use Rattle.types.specs.declared.limits.TheConstants.{MOST_PAGES, MOST_THREADS, MOST_LIMIT, MOST_FUEL, MOST_MODULE_BYTES}
 use Rattle.replay_forms.specs.Reading.{◌>>=◌, Reader, after, number_at, number_then, behind, both, made, word_for, first, several, listed, hex_byte_at}
 use Rattle.replay_forms.specs.Texts.{line, words_line, lines_text, texts, hex_text, hex_digit}
 use Rattle.replay_forms.proofs.Laws.{Law, bind_some, move, after_takes, after_again, begins_plain, number_text}
@@ -50,7 +50,7 @@ fit_all : {A : Type 0} (P : A → Type 0) (i : ℕ) (xs : List A) → AllFit (λ
 fit_all P i [] h = All-nil P
 fit_all P i (x ∷ xs) h = All-cons P x xs h.0 (fit_all P (i + 1) xs h.1)
 
-ends_fit : (i : ℕ) (xs : List ThreadReport) → All IsReport xs → i + length xs ≤ most_threads → AllFit EndFits i xs
+ends_fit : (i : ℕ) (xs : List ThreadReport) → All IsReport xs → i + length xs ≤ MOST_THREADS → AllFit EndFits i xs
 ends_fit i [] h le = tt
 ends_fit i (x ∷ xs) h le = ((All-head IsReport x xs h, omega arith), ends_fit (i + 1) xs (All-tail IsReport x xs h) (omega arith))
 
@@ -164,8 +164,8 @@ args_line i (v ∷ args) rest = ap (arg_text v) (args_line (i + 1) args rest)
 abbrev ended : ℕ → List ℕ → List ℕ
 ended = number_text (10 ∷ [])
 
-fuel_law : Law (behind_text (codes "fuel ") ended) (λ n. n ≤ most_fuel) fuel_at
-fuel_law = behind_law (codes "fuel ") _ _ _ (number_law most_fuel 10 [] (omega arith) refl)
+fuel_law : Law (behind_text (codes "fuel ") ended) (λ n. n ≤ MOST_FUEL) fuel_at
+fuel_law = behind_law (codes "fuel ") _ _ _ (number_law MOST_FUEL 10 [] (omega arith) refl)
 
 abbrev CountFits : ℕ → ℕ → Type 0
 CountFits max n = (1 ≤ n) × (n ≤ max)
@@ -197,19 +197,19 @@ count_law : (word : List ℕ) (max : ℕ) → CountPlain word max → Law (behin
 count_law word max plain = law_from _ _ _ (made_takes above_zero _ _ _ _ (CountFits max) plain (count_there word max))
     (λ n rest fit. made_again above_zero _ _ _ plain n n rest fit.1 (count_to n fit.0))
 
-limit_law : Law (behind_text (codes "limit ") ended) (CountFits most_limit) limit_at
-limit_law = count_law (codes "limit ") most_limit (behind_law (codes "limit ") _ _ _ (number_law most_limit 10 [] (omega arith) refl))
+limit_law : Law (behind_text (codes "limit ") ended) (CountFits MOST_LIMIT) limit_at
+limit_law = count_law (codes "limit ") MOST_LIMIT (behind_law (codes "limit ") _ _ _ (number_law MOST_LIMIT 10 [] (omega arith) refl))
 
 -- ---- the version, the length, the threads and the pages
 
-module_law : Law (behind_text (codes "module ") ended) (λ n. n ≤ most_module_bytes) module_at
-module_law = behind_law (codes "module ") _ _ _ (number_law most_module_bytes 10 [] (omega arith) refl)
+module_law : Law (behind_text (codes "module ") ended) (λ n. n ≤ MOST_MODULE_BYTES) module_at
+module_law = behind_law (codes "module ") _ _ _ (number_law MOST_MODULE_BYTES 10 [] (omega arith) refl)
 
-threads_law : Law (behind_text (codes "threads ") ended) (CountFits most_threads) threads_at
-threads_law = count_law (codes "threads ") most_threads (behind_law (codes "threads ") _ _ _ (number_law most_threads 10 [] (omega arith) refl))
+threads_law : Law (behind_text (codes "threads ") ended) (CountFits MOST_THREADS) threads_at
+threads_law = count_law (codes "threads ") MOST_THREADS (behind_law (codes "threads ") _ _ _ (number_law MOST_THREADS 10 [] (omega arith) refl))
 
-max_pages_law : Law (behind_text (codes "max-pages ") ended) (CountFits most_pages) max_pages_at
-max_pages_law = count_law (codes "max-pages ") most_pages (behind_law (codes "max-pages ") _ _ _ (number_law most_pages 10 [] (omega arith) refl))
+max_pages_law : Law (behind_text (codes "max-pages ") ended) (CountFits MOST_PAGES) max_pages_at
+max_pages_law = count_law (codes "max-pages ") MOST_PAGES (behind_law (codes "max-pages ") _ _ _ (number_law MOST_PAGES 10 [] (omega arith) refl))
 
 abbrev Sizes : Type 0
 Sizes = ℕ × (ℕ × ℕ)
@@ -219,7 +219,7 @@ sizes_text = behind_text second_line (both_text (behind_text (codes "module ") e
     (both_text (behind_text (codes "threads ") ended) (behind_text (codes "max-pages ") ended)))
 
 abbrev SizesFit : Sizes → Type 0
-SizesFit x = (x.0 ≤ most_module_bytes) × (CountFits most_threads (x.1).0 × CountFits most_pages (x.1).1)
+SizesFit x = (x.0 ≤ MOST_MODULE_BYTES) × (CountFits MOST_THREADS (x.1).0 × CountFits MOST_PAGES (x.1).1)
 
 sizes_law : Law sizes_text SizesFit (behind second_line (both module_at (both threads_at max_pages_at)))
 sizes_law = behind_law second_line _ _ _ (both_law _ _ _ _ _ _ module_law (both_law _ _ _ _ _ _ threads_law max_pages_law))
@@ -265,7 +265,7 @@ scale_law = law_from scale_text ScaleFits _ (first_takes _ _ one_at two_at
     (made_takes (λ y. Some (versions.Two, y)) _ _ _ scale_text ScaleFits sizes_law two_there))
     (λ s rest fit. scale_back s.0 s.1 rest fit)
 
-pub counted : (v : Version) (len threads pages : ℕ) → IsScale v len threads pages → IsCount threads × (pages ≤ most_pages)
+pub counted : (v : Version) (len threads pages : ℕ) → IsScale v len threads pages → IsCount threads × (pages ≤ MOST_PAGES)
 counted versions.One len threads pages fit = ((omega (arith, (fit.1).0), omega (arith, (fit.1).0)), omega (arith, (fit.1).1))
 counted versions.Two len threads pages fit = ((fit.1).0, ((fit.1).1).1)
 
@@ -276,7 +276,7 @@ header_text = both_text scale_text (both_text (behind_text (codes "invoke ") nam
 
 abbrev HeaderFits : Header → Type 0
 HeaderFits h = ScaleFits h.0 × (NameFits (h.1).0 × (AllFit (λ k. IsValue) 0 ((h.1).1).0
-    × (((((h.1).1).1).0 ≤ most_fuel) × CountFits most_limit (limit_in h))))
+    × (((((h.1).1).1).0 ≤ MOST_FUEL) × CountFits MOST_LIMIT (limit_in h))))
 
 header_law : Law header_text HeaderFits header_at
 unfolding header_at
@@ -287,7 +287,7 @@ header_law = both_law _ _ _ _ _ _ scale_law (both_law _ _ _ _ _ _ invoke_law (bo
 abbrev pages_text : ℕ → List ℕ → List ℕ
 pages_text = behind_text (codes "pages ") ended
 
-pages_law : (max_pages : ℕ) → max_pages ≤ most_pages → Law pages_text (λ n. n ≤ max_pages) (pages_at max_pages)
+pages_law : (max_pages : ℕ) → max_pages ≤ MOST_PAGES → Law pages_text (λ n. n ≤ max_pages) (pages_at max_pages)
 pages_law max_pages fits = behind_law (codes "pages ") _ _ _ (number_law max_pages 10 [] (omega (arith, fits)) refl)
 
 abbrev Ends : Type 0
@@ -319,7 +319,7 @@ ends_made threads max_pages bytes all ends pages mid last x rest t i p m e =
     let few : length ends ≤ threads = subst (λ (z : List ThreadReport). length z ≤ threads) i.0 t.few in
     move (λ (z : Ends) (r : List ℕ). (bytes ≡ ends_text z r) × EndsFit threads max_pages z) (ends, pages) x last rest e (whole, (fit, (i.1, (few, p.1))))
 
-ends_found : (threads max_pages : ℕ) → max_pages ≤ most_pages → (bytes : List ℕ) (x : Ends) (rest : List ℕ)
+ends_found : (threads max_pages : ℕ) → max_pages ≤ MOST_PAGES → (bytes : List ℕ) (x : Ends) (rest : List ℕ)
     → ends_at threads max_pages bytes ≡ Some (x, rest) → (bytes ≡ ends_text x rest) × EndsFit threads max_pages x
 unfolding ends_at
 ends_found threads max_pages fits bytes x rest e =
@@ -335,7 +335,7 @@ pages_stop : (k p : ℕ) (rest : List ℕ) → end_at k (pages_text p rest) ≡ 
 unfolding end_at after
 pages_stop k p rest = refl
 
-ends_again : (threads max_pages : ℕ) → max_pages ≤ most_pages → (x : Ends) (rest : List ℕ) → EndsFit threads max_pages x
+ends_again : (threads max_pages : ℕ) → max_pages ≤ MOST_PAGES → (x : Ends) (rest : List ℕ) → EndsFit threads max_pages x
     → ends_at threads max_pages (ends_text x rest) ≡ Some (x, rest)
 unfolding ends_at
 ends_again threads max_pages fits x rest fit =
@@ -354,7 +354,7 @@ BodyFits threads max_pages limit b =
     AllFit (λ k. IsEntry threads) 0 b.0 × ((length b.0 ≤ limit + 3 * threads) × EndsFit threads max_pages b.1)
 
 abbrev AreIn : ℕ → ℕ → Type 0
-AreIn threads max_pages = IsCount threads × (max_pages ≤ most_pages)
+AreIn threads max_pages = IsCount threads × (max_pages ≤ MOST_PAGES)
 
 body_takes : (threads max_pages : ℕ) → AreIn threads max_pages → (limit : ℕ) (bytes : List ℕ) (b : Body) (rest : List ℕ)
     → body_at threads max_pages limit bytes ≡ Some (b, rest) → (bytes ≡ body_text b rest) × BodyFits threads max_pages limit b
@@ -477,7 +477,7 @@ record_again r fit =
     let n = fit.numbers in
     let hf : HeaderFits h = (n.scale, ((fit.invoke, all_fit IsByte 0 r.invoke fit.bytes), (all_fit IsValue 0 r.args fit.args, (n.fuel, (n.limit_low, n.limit))))) in
     let are = are_in h hf in
-    let few : 0 + length r.ends ≤ most_threads = omega (arith, n.ends, are.0.1) in
+    let few : 0 + length r.ends ≤ MOST_THREADS = omega (arith, n.ends, are.0.1) in
     let bf : Fits h b = (all_fit (IsEntry r.threads) 0 r.log fit.log, (n.log, (ends_fit 0 r.ends fit.ends few, (n.ends_low, (n.ends, n.pages))))) in
     ap record_at (record_is h b) ∙ rw (header_law.again h (body_text b []) hf, body_again r.threads r.max_pages are r.limit b [] bf) refl
 

@@ -14,7 +14,7 @@ use Rattle.types.specs.declared.event.Entry.{Entry}
 use Rattle.types.specs.declared.outcome.Outcome.{Outcome}
 use Rattle.types.specs.declared.outcome.Outcome.TheVariants as outcomes
 use Rattle.types.specs.declared.outcome.ThreadReport.{ThreadReport}
-use Rattle.types.specs.Limits.{most_fuel}
+use Rattle.types.specs.declared.limits.TheConstants.{MOST_FUEL}
 use Rattle.shared_memory.specs.Events.{IsEvent}
 use Rattle.replay_forms.specs.Reading.{FitsSigned64}
 
@@ -113,4 +113,4 @@ IsOutcome (outcomes.Stop s) = Unit {0}
 -- A thread's end: the units that it spent are at most the largest budget.
 pub record IsReport (r : ThreadReport) : Type 0 where
   pub outcome : IsOutcome r.outcome
-  pub spent : r.spent ≤ most_fuel
+  pub spent : r.spent ≤ MOST_FUEL

@@ -19,7 +19,7 @@ use Rattle.types.specs.declared.outcome.Stop.TheVariants as stops
 use Rattle.types.specs.declared.outcome.Outcome.{Outcome}
 use Rattle.types.specs.declared.outcome.Outcome.TheVariants as outcomes
 use Rattle.types.specs.declared.outcome.ThreadReport.{ThreadReport}
-use Rattle.types.specs.Limits.{most_pages, most_threads, most_spawned, most_limit, most_fuel, most_module_bytes}
+use Rattle.types.specs.declared.limits.TheConstants.{MOST_PAGES, MOST_THREADS, MOST_SPAWNED, MOST_LIMIT, MOST_FUEL, MOST_MODULE_BYTES}
 use Rattle.replay_forms.specs.Reading.{◌>>=◌, Reader, after, number_within, number_then, signed_then, behind, both}
 use Rattle.replay_forms.specs.Reading.{made, word_for, first, several, listed, hex_byte_at}
 use Rattle.shared_memory.specs.Conditions.{is_event}
@@ -161,8 +161,8 @@ report_of thread x = cond (x.0 == thread) (Some (record { outcome = (x.1).0; spe
 -- The end of this thread.
 unfoldable pub end_at : ℕ → Reader ThreadReport
 end_at thread bytes = made (report_of thread)
-    (behind (codes "end ") (both (number_then most_spawned (32 ∷ []))
-    (both outcome_at (number_then most_fuel (10 ∷ []))))) bytes
+    (behind (codes "end ") (both (number_then MOST_SPAWNED (32 ∷ []))
+    (both outcome_at (number_then MOST_FUEL (10 ∷ []))))) bytes
 
 abbrev pub above_zero : ℕ → Option ℕ
 above_zero n = cond (n == 0) None (Some n)
@@ -185,13 +185,13 @@ abbrev pub one_at : Reader Scale
 one_at = word_for (versions.One, (0, (first_threads, first_pages))) first_line
 
 abbrev pub module_at : Reader ℕ
-module_at = behind (codes "module ") (number_then most_module_bytes (10 ∷ []))
+module_at = behind (codes "module ") (number_then MOST_MODULE_BYTES (10 ∷ []))
 
 abbrev pub threads_at : Reader ℕ
-threads_at = count_at (codes "threads ") most_threads
+threads_at = count_at (codes "threads ") MOST_THREADS
 
 abbrev pub max_pages_at : Reader ℕ
-max_pages_at = count_at (codes "max-pages ") most_pages
+max_pages_at = count_at (codes "max-pages ") MOST_PAGES
 
 abbrev pub two_at : Reader Scale
 two_at = made (λ x. Some (versions.Two, x)) (behind second_line (both module_at (both threads_at max_pages_at)))
@@ -214,10 +214,10 @@ unfoldable pub args_at : Reader (List Value)
 args_at bytes = behind (codes "args") (listed (λ place. arg_at) (10 ∷ [])) bytes
 
 abbrev pub fuel_at : Reader ℕ
-fuel_at = behind (codes "fuel ") (number_then most_fuel (10 ∷ []))
+fuel_at = behind (codes "fuel ") (number_then MOST_FUEL (10 ∷ []))
 
 abbrev pub limit_at : Reader ℕ
-limit_at = count_at (codes "limit ") most_limit
+limit_at = count_at (codes "limit ") MOST_LIMIT
 
 abbrev pub pages_at : ℕ → Reader ℕ
 pages_at max_pages = behind (codes "pages ") (number_then max_pages (10 ∷ []))

@@ -5,7 +5,7 @@ use Rattle.std.specs.Str.{is_utf8}
 use Rattle.std.specs.Fmt.{decimal}
 use Rattle.types.specs.declared.outcome.ThreadReport.{ThreadReport}
 use Rattle.types.specs.Values.{value_text}
-use Rattle.types.specs.Limits.{most_limit, most_fuel}
+use Rattle.types.specs.declared.limits.TheConstants.{MOST_LIMIT, MOST_FUEL}
 use Rattle.replay_forms.specs.Texts.{hex_text, lines_text}
 use Rattle.replay_text.specs.Words.{entry_words, end_words}
 use Rattle.replay_text.specs.Conditions.{IsValue, IsEntry, IsReport}
@@ -64,9 +64,9 @@ record_text r = lines_text (record_lines r)
 -- The numbers and the lengths of a record.
 pub record HasNumbers (r : RecordParts) : Type 0 where
   pub scale : IsScale r.version r.module_len r.threads r.max_pages
-  pub fuel : r.fuel ≤ most_fuel
+  pub fuel : r.fuel ≤ MOST_FUEL
   pub limit_low : 1 ≤ r.limit
-  pub limit : r.limit ≤ most_limit
+  pub limit : r.limit ≤ MOST_LIMIT
   pub log : length r.log ≤ r.limit + 3 * r.threads
   pub ends_low : 1 ≤ length r.ends
   pub ends : length r.ends ≤ r.threads

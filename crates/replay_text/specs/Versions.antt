@@ -1,6 +1,6 @@
 -- The versions of a record's text, and what each says of its run's threads and pages.
 use Rattle.std.specs.Prelude.{ℕ, ◌≡◌, ◌≤◌}
-use Rattle.types.specs.Limits.{most_pages, most_threads, most_module_bytes}
+use Rattle.types.specs.declared.limits.TheConstants.{MOST_PAGES, MOST_THREADS, MOST_MODULE_BYTES}
 use Rattle.replay_text.specs.declared.version.Version.{Version}
 use Rattle.replay_text.specs.declared.version.Version.TheVariants as versions
 
@@ -20,4 +20,4 @@ first_pages = 64
 abbrev pub IsScale : Version → ℕ → ℕ → ℕ → Type 0
 IsScale versions.One module_len threads max_pages = (module_len ≡ 0) × ((threads ≡ first_threads) × (max_pages ≡ first_pages))
 IsScale versions.Two module_len threads max_pages =
-    (module_len ≤ most_module_bytes) × (((1 ≤ threads) × (threads ≤ most_threads)) × ((1 ≤ max_pages) × (max_pages ≤ most_pages)))
+    (module_len ≤ MOST_MODULE_BYTES) × (((1 ≤ threads) × (threads ≤ MOST_THREADS)) × ((1 ≤ max_pages) × (max_pages ≤ MOST_PAGES)))

@@ -1,7 +1,7 @@
 //! Reading what stands behind the header.
 
 ghost use Rattle.std.specs.Prelude.{◌≤◌, ℕ, List, Some, option_and_then};
-ghost use Rattle.types.specs.Limits.{most_limit, most_threads};
+ghost use Rattle.types.specs.declared.limits.TheConstants.{MOST_LIMIT, MOST_THREADS};
 ghost use Rattle.replay_text.specs.Faults.{Gives, Refuses};
 ghost use Rattle.replay_text.specs.Reading.{pages_at, last_line, ends_at, body_at};
 ghost use Rattle.replay_forms.specs.Reading.{after};
@@ -65,7 +65,7 @@ fn ends_in(
     bytes: &[u8],
 ) -> Result<(Ends, &[u8]), RecordFault>
     requires line { line ≤ 2000000 }
-    requires threads { scale.threads ≤ most_threads }
+    requires threads { scale.threads ≤ MOST_THREADS }
     ensures { Gives (λ r. ((r.0.ends, r.0.pages), r.1.now)) result (ends_at scale.threads scale.max_pages bytes.now) }
 {
     let (ends, rest) = several(alloc, &EndLine, scale.threads as usize, bytes)?;
@@ -88,8 +88,8 @@ pub fn body_in(
     limit: u32,
     bytes: &[u8],
 ) -> Result<(RecordBody, &[u8]), RecordFault>
-    requires limit { limit ≤ most_limit }
-    requires threads { scale.threads ≤ most_threads }
+    requires limit { limit ≤ MOST_LIMIT }
+    requires threads { scale.threads ≤ MOST_THREADS }
     ensures { Gives (λ r. ((r.0.log, (r.0.ends, r.0.pages)), r.1.now)) result (body_at scale.threads scale.max_pages limit bytes.now) }
 {
     let threads = scale.threads;

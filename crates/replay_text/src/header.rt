@@ -1,7 +1,7 @@
 //! Reading the lines before the entries.
 
 ghost use Rattle.std.specs.Prelude.{◌≤◌, IfOk, IfSome};
-ghost use Rattle.types.specs.Limits.{most_limit, most_threads};
+ghost use Rattle.types.specs.declared.limits.TheConstants.{MOST_LIMIT, MOST_THREADS};
 ghost use Rattle.replay_forms.specs.Reading.{Reads, both};
 ghost use Rattle.replay_text.specs.Faults.{Gives};
 ghost use Rattle.replay_text.specs.Reading.{named, count_at, scale_at, invoke_at, args_at, fuel_at, limit_at, header_at};
@@ -52,7 +52,7 @@ fn count_at<'a>(word: &[u8], max: u32, bytes: &'a [u8]) -> Option<(u32, &'a [u8]
 /// The first line, and in version 2 the three behind it.
 #[tactic(auto, unfolding(crate::specs::Reading::scale_at))]
 fn scale_in(bytes: &[u8]) -> Result<(Scale, &[u8]), RecordFault>
-    ensures threads { IfOk result (λ r. r.0.threads ≤ most_threads) }
+    ensures threads { IfOk result (λ r. r.0.threads ≤ MOST_THREADS) }
     ensures gives { Gives (λ r. ((r.0.version, (r.0.module_len, (r.0.threads, r.0.max_pages))), r.1.now)) result (scale_at bytes.now) }
 {
     if let Some(rest) = after(b"wathread-record 1\n", bytes) {
@@ -141,7 +141,7 @@ fn args_in(
 /// The lines of the fuel and of the limit.
 fn budget_in(line: usize, bytes: &[u8]) -> Result<((u64, u32), &[u8]), RecordFault>
     requires { line ≤ 7 }
-    ensures limit { IfOk result (λ r. r.0.1 ≤ most_limit) }
+    ensures limit { IfOk result (λ r. r.0.1 ≤ MOST_LIMIT) }
     ensures gives { Gives (λ r. (r.0, r.1.now)) result (both fuel_at limit_at bytes.now) }
 {
     let Some((fuel, rest)) = number_behind(b"fuel ", MOST_FUEL, b"\n", bytes) else {
@@ -156,8 +156,8 @@ fn budget_in(line: usize, bytes: &[u8]) -> Result<((u64, u32), &[u8]), RecordFau
 /// The lines before the entries.
 #[tactic(auto, unfolding(crate::specs::Reading::header_at))]
 pub fn header_in(alloc: Global, bytes: &[u8]) -> Result<(Header, &[u8]), RecordFault>
-    ensures limit { IfOk result (λ r. r.0.limit ≤ most_limit) }
-    ensures threads { IfOk result (λ r. r.0.scale.threads ≤ most_threads) }
+    ensures limit { IfOk result (λ r. r.0.limit ≤ MOST_LIMIT) }
+    ensures threads { IfOk result (λ r. r.0.scale.threads ≤ MOST_THREADS) }
     ensures gives { Gives (λ r. (
       (
         (r.0.scale.version, (r.0.scale.module_len, (r.0.scale.threads, r.0.scale.max_pages))),

@@ -1,6 +1,8 @@
-//! Cases of texts of records, with what each is to come to. The files that cases name lie in the folder where they are tried.
+//! Cases of texts of records, with what each is to come to. The files that cases name lie in the folder where they are
+//! tried.
 //!
-//! A file of cases is one for the library `test_cases`: `== TITLE`, and below it lines of a key, a space and what the key has.
+//! A file of cases is one for the library `test_cases`: `== TITLE`, and below it lines of a key, a space and what the
+//! key has.
 //!
 //! ```text
 //! record LINE            the lines of a record

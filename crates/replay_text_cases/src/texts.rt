@@ -2,8 +2,7 @@
 
 use crate::reading::{KEPT, comes_to};
 use std::alloc::AllocError;
-use test_cases::{Case, Stop, Tally, read_file};
-use test_cases::{Edit, edited};
+use test_cases::{Case, Edit, Stop, Tally, edited, read_file};
 
 /// Reads a text, and says where it comes to something else than wanted.
 fn try_text(

@@ -9,7 +9,7 @@ use Rattle.types.specs.declared.event.Entry.{Entry}
 use Rattle.shared_memory.specs.Events.{is_exempt}
 use Rattle.schedule.specs.System.{Act.Made}
 use Rattle.schedule_threads.specs.Shared.{act_by, act_of}
-use Rattle.types.specs.Limits.{most_threads}
+use Rattle.types.specs.declared.limits.TheConstants.{MOST_THREADS}
 use Rattle.replay_text.specs.Conditions.{ReplyFits, is_reply_to, IsEntry}
 use Rattle.replay_walk.specs.Standing.{IsAnswered}
 
@@ -20,7 +20,7 @@ leave_reply replies.OutOfBounds h = absurd (cc h)
 leave_reply replies.Again h = absurd (cc h)
 leave_reply replies.Full h = absurd (cc h)
 
-pub leave_act : (e : Entry) → IsEntry most_threads e → e.event ≡ events.Ask Leave → act_of e ≡ Made (events.Ask Leave) replies.Done
+pub leave_act : (e : Entry) → IsEntry MOST_THREADS e → e.event ≡ events.Ask Leave → act_of e ≡ Made (events.Ask Leave) replies.Done
 leave_act e is kind = ap (λ (x : Event). act_by x e.reply) kind
     ∙ ap (λ (v : Reply). Made (events.Ask Leave) v)
     (leave_reply e.reply (ap (λ (x : Event). is_reply_to x e.reply) (sym kind) ∙ is.reply))

@@ -5,7 +5,7 @@ use Rattle.std.proofs.Math.Seq.{take-length}
 use Rattle.types.specs.declared.event.Answer.{Answer}
 use Rattle.types.specs.declared.event.Entry as entries
 use Rattle.types.specs.declared.outcome.Outcome.{Outcome}
-use Rattle.types.specs.Limits.{most_threads}
+use Rattle.types.specs.declared.limits.TheConstants.{MOST_THREADS}
 use Rattle.shared_memory.specs.Memory.{Memory}
 use Rattle.shared_memory.specs.WaitQueue.{WaitQueue}
 use Rattle.schedule.specs.System.{Want.Gone, Act, Act.Made, Act.Heard, Entry, System, State, put}
@@ -81,7 +81,7 @@ module _ {S : Type 0} (meaning : S → Meaning) where
     walked_on threads' memory' queue' begun' ends' same_count taken =
         let same : count ≡ 0 + length (as_acts log) = omega (arith, as_acts-length log, at) in
         record {
-          count = subst (λ (k : ℕ). (k ≡ most_threads) ⊎ ((r.program.imported ≡ 0) × (k ≡ 1))) (sym same_count) walked.count;
+          count = subst (λ (k : ℕ). (k ≡ MOST_THREADS) ⊎ ((r.program.imported ≡ 0) × (k ≡ 1))) (sym same_count) walked.count;
           state = taken.state;
           places = taken.places;
           walks =

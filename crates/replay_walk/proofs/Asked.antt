@@ -16,7 +16,7 @@ use Rattle.shared_memory.specs.WaitQueue.{WaitQueue, next_id}
 use Rattle.schedule.specs.Machine.{Thread.Runs}
 use Rattle.schedule_runs.proofs.Places.{args_by, question_args}
 use Rattle.types.specs.declared.event.Reply.TheVariants as replies
-use Rattle.types.specs.Limits.{most_threads}
+use Rattle.types.specs.declared.limits.TheConstants.{MOST_THREADS}
 use Rattle.shared_memory.specs.History.{queue_step}
 use Rattle.schedule.specs.System.{Want.Calls}
 use Rattle.interp_machine.specs.Config.{Config}
@@ -85,7 +85,7 @@ module _ {S : Type 0} (meaning : S → Meaning) where
         ((on.standing).started ∙ (same_count queue n question v few ∙ ap (λ (y : Event). next_id (queue_step queue n y v)) (sym is)))
 
     pub made_question : (question : Question) → e ≡ events.Ask question
-        → ((arg : ℕ) → e ≡ events.Ask (Spawn arg) → length threads ≡ most_threads) → (threads' : List S) (begun' : ℕ)
+        → ((arg : ℕ) → e ≡ events.Ask (Spawn arg) → length threads ≡ MOST_THREADS) → (threads' : List S) (begun' : ℕ)
         → ((arg : ℕ) → question ≡ Spawn arg → begun < length queue.due → (begun' ≡ begun + 1)
         × ((x : S) (worker : List Value → Config) → slice_get after begun ≡ Some x
         → (meaning x).begins spawn_types worker → IsStartedAt meaning x worker arg after begun threads'))

@@ -5,7 +5,7 @@ use Rattle.std.proofs.lemmas.Bool.{cases_lt}
 use Rattle.std.proofs.lemmas.List.{get_or-replicate, get_or_past, length-replicate}
 use Rattle.types.specs.declared.event.Answer.{Answer}
 use Rattle.types.specs.declared.outcome.Outcome.{Outcome}
-use Rattle.types.specs.Limits.{most_threads}
+use Rattle.types.specs.declared.limits.TheConstants.{MOST_THREADS}
 use Rattle.shared_memory.specs.Memory.{Memory}
 use Rattle.shared_memory.specs.WaitQueue.{first_queue, is_alive, next_id}
 use Rattle.shared_memory.proofs.Soundness.{IsSound-opening}
@@ -21,11 +21,11 @@ use Rattle.interp_trait.specs.Turns.{Running, Meaning}
 use Rattle.replay_walk.specs.Standing.{StandsAt}
 use Rattle.replay_walk.specs.Walked.{Run, HasThreads, start, IsReady, HasWalked}
 
-none_ends : (m : ℕ) → get_or (replicate {A = Option Outcome} most_threads None) m None ≡ None
-none_ends m = elim (cases_lt m most_threads) [
-  | inl within ↦ get_or-replicate most_threads m None None within
+none_ends : (m : ℕ) → get_or (replicate {A = Option Outcome} MOST_THREADS None) m None ≡ None
+none_ends m = elim (cases_lt m MOST_THREADS) [
+  | inl within ↦ get_or-replicate MOST_THREADS m None None within
   | inr past ↦
-      get_or_past (replicate most_threads None) m None past
+      get_or_past (replicate MOST_THREADS None) m None past
 ]
 
 first_alone : (most : ℕ) → (is_alive (first_queue most) 0 ≡ true) × (1 ≡ next_id (first_queue most)) × (first_queue most ≡ without_dues (first_queue most))
@@ -60,7 +60,7 @@ module _ {S : Type 0} (meaning : S → Meaning)
   there : (m : ℕ) → m ≢ 0 → Stands m Unstarted Absent None
   there m h = (refl, λ x at. ready.others m x h at)
 
-  each : (m : ℕ) → Stands m (first_places m) (threads_at m) (get_or (replicate most_threads None) m None)
+  each : (m : ℕ) → Stands m (first_places m) (threads_at m) (get_or (replicate MOST_THREADS None) m None)
   each m =
       subst (λ (o : Option Outcome). Stands m (first_places m) (threads_at m) o) (sym (none_ends m))
       (at_each 0 (λ m. Stands m (first_places m) (threads_at m) None)
@@ -69,8 +69,8 @@ module _ {S : Type 0} (meaning : S → Meaning)
       (λ m h. subst (λ p. Stands m p (threads_at m) None) (sym (put-other (λ (k : ℕ). Unstarted) 0 Free m h))
       (subst (λ t. Stands m Unstarted t None) (sym (put-other (λ (k : ℕ). Absent) 0 (Runs (At r.main) r.budget) m h)) (there m h))) m)
 
-  pub begun : 0 < r.threads → r.threads ≤ most_threads
-      → HasWalked meaning r [] threads memory (first_queue r.threads) 1 (replicate most_threads None)
+  pub begun : 0 < r.threads → r.threads ≤ MOST_THREADS
+      → HasWalked meaning r [] threads memory (first_queue r.threads) 1 (replicate MOST_THREADS None)
   begun some few = record {
     count = ready.count;
     state = state_for r.threads (start r);

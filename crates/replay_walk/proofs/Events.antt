@@ -7,7 +7,7 @@ use Rattle.types.specs.declared.event.Event.TheVariants as events
 use Rattle.types.specs.declared.event.Answer.{Answer}
 use Rattle.types.specs.declared.event.Reply.{Reply}
 use Rattle.types.specs.declared.outcome.Outcome.{Outcome}
-use Rattle.types.specs.Limits.{most_threads}
+use Rattle.types.specs.declared.limits.TheConstants.{MOST_THREADS}
 use Rattle.shared_memory.specs.Memory.{reply_of, state_after}
 use Rattle.shared_memory.specs.WaitQueue.{WaitQueue, is_alive, is_asleep, answer_due, next_id, IsFree}
 use Rattle.shared_memory.specs.History.{queue_step}
@@ -116,7 +116,7 @@ module _ {S : Type 0} (meaning : S → Meaning) where
     }
 
     pub stands_after : (t : Running) → s.places n ≡ Free → (threads' : List S) (begun' : ℕ) (ends' : List (Option Outcome))
-        → begun' ≡ next_id (queue_step queue n e v) → length ends' ≡ most_threads
+        → begun' ≡ next_id (queue_step queue n e v) → length ends' ≡ MOST_THREADS
         → ((m : ℕ) → m ≢ n → get_or ends' m None ≡ get_or ends m None)
         → ((m : ℕ) → m ≢ n → SlotGoes meaning (slice_get threads m) (slice_get threads' m) (starts_by m))
         → ((m : ℕ) (x : S) → slice_get threads' m ≡ Some x → ((meaning x).program ≡ s.program) × ((meaning x).fuel ≡ s.budget))

@@ -8,7 +8,7 @@ use Rattle.types.specs.declared.event.Question.TheVariants.{Leave}
 use Rattle.types.specs.declared.event.Answer.{Answer}
 use Rattle.types.specs.declared.event.Reply.TheVariants as replies
 use Rattle.types.specs.declared.outcome.Outcome.{Outcome}
-use Rattle.types.specs.Limits.{most_threads}
+use Rattle.types.specs.declared.limits.TheConstants.{MOST_THREADS}
 use Rattle.shared_memory.specs.WaitQueue.{WaitQueue, is_alive, is_asleep, answer_due, next_id, has_open_question}
 use Rattle.shared_memory.specs.History.{queue_step}
 use Rattle.schedule.specs.Scheduled.{hears_any, or_started}
@@ -55,7 +55,7 @@ module _ {S : Type 0} (meaning : S → Meaning) where
     nobody_starts : (m : ℕ) (x : Running) → (system_at s).starts (s.state.shared) n (events.Ask Leave) m ≡ Some x → ⊥
     nobody_starts m x k = asks_nobody s n Leave (inl refl) m x k
 
-    pub left_on : (u : Running) (outcome : Outcome) → n < most_threads → outcome_of u ≡ Some outcome → left_of u ≡ left_of t → IsHere u
+    pub left_on : (u : Running) (outcome : Outcome) → n < MOST_THREADS → outcome_of u ≡ Some outcome → left_of u ≡ left_of t → IsHere u
         → IsStanding meaning (made_by s n (events.Ask Leave) replies.Done u) threads
         (queue_step queue n (events.Ask Leave) replies.Done) begun (slice_set ends n (Some outcome))
     left_on u outcome number over same here =

@@ -8,7 +8,7 @@ use Rattle.types.specs.declared.event.Question.{Question}
 use Rattle.types.specs.declared.event.Reply.{Reply}
 use Rattle.types.specs.declared.event.Reply.TheVariants as replies
 use Rattle.types.specs.declared.outcome.Outcome.{Outcome}
-use Rattle.types.specs.Limits.{most_threads}
+use Rattle.types.specs.declared.limits.TheConstants.{MOST_THREADS}
 use Rattle.shared_memory.specs.Memory.{reply_of}
 use Rattle.shared_memory.specs.Events.{is_exempt}
 use Rattle.shared_memory.specs.WaitQueue.{WaitQueue, is_alive, next_id, IsFree}
@@ -152,13 +152,13 @@ module _ {S : Type 0} (meaning : S → Meaning) where
         go None h = h.1 x at
         go (Some o) h = absurd h
 
-    pub spawn_ready : (v : Reply) (after : List S) → HasTaken v after → length threads ≡ most_threads → begun < length queue.due
+    pub spawn_ready : (v : Reply) (after : List S) → HasTaken v after → length threads ≡ MOST_THREADS → begun < length queue.due
         → (begun < length after) × ((x : S) → slice_get after begun ≡ Some x → (meaning x).begins spawn_types s.worker)
     spawn_ready v after taken full room =
         let started : begun ≡ next_id queue = (on.standing).started in
         let known : n < next_id queue = IsFreePlace.known place in
         let apart : begun ≢ n = omega arith in
-        let long : length after ≡ most_threads = ap length taken.list ∙ (length-set threads n taken.now ∙ full) in
+        let long : length after ≡ MOST_THREADS = ap length taken.list ∙ (length-set threads n taken.now ∙ full) in
         let below : begun < length after = omega (arith, room, long, ((on.standing).sound).due_length) in (
           below,
           λ x at. unstarted begun (omega arith) x (sym ((on.others) begun apart)

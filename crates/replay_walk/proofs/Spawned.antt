@@ -13,7 +13,7 @@ use Rattle.types.specs.declared.event.Question.TheVariants.{Spawn}
 use Rattle.types.specs.declared.event.Answer.{Answer}
 use Rattle.types.specs.declared.event.Reply.{Reply}
 use Rattle.types.specs.declared.outcome.Outcome.{Outcome}
-use Rattle.types.specs.Limits.{most_threads}
+use Rattle.types.specs.declared.limits.TheConstants.{MOST_THREADS}
 use Rattle.shared_memory.specs.Memory.{reply_of}
 use Rattle.shared_memory.specs.Events.{is_exempt}
 use Rattle.shared_memory.specs.WaitQueue.{WaitQueue, is_alive, next_id, after_question}
@@ -104,7 +104,7 @@ module _ {S : Type 0} (meaning : S → Meaning) where
 
     module _ (kind : is_exempt e ≡ false) (none : outcome_of t ≡ None) (wants : wants_of s.program t ≡ Calls e)
         (after : List S) (taken : HasTaken meaning s threads queue begun ends n t on v after)
-        (room : begun < length queue.due) (full : length threads ≡ most_threads) where
+        (room : begun < length queue.due) (full : length threads ≡ MOST_THREADS) where
       apart : begun ≢ n
       apart =
           let started : begun ≡ next_id queue = (on.standing).started in
@@ -112,7 +112,7 @@ module _ {S : Type 0} (meaning : S → Meaning) where
 
       below : begun < length after
       below =
-          let long : length after ≡ most_threads = ap length taken.list ∙ (length-set threads n taken.now ∙ full) in omega (arith, room, ((on.standing).sound).due_length)
+          let long : length after ≡ MOST_THREADS = ap length taken.list ∙ (length-set threads n taken.now ∙ full) in omega (arith, room, ((on.standing).sound).due_length)
 
       abbrev old : S
       old = get_or after begun taken.now

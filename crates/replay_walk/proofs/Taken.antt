@@ -9,7 +9,7 @@ use Rattle.types.specs.declared.event.Answer.{Answer}
 use Rattle.types.specs.declared.outcome.Outcome.{Outcome}
 use Rattle.types.specs.declared.outcome.Outcome.TheVariants as outcomes
 use Rattle.types.specs.declared.outcome.Stop.TheVariants as stops
-use Rattle.types.specs.Limits.{most_threads}
+use Rattle.types.specs.declared.limits.TheConstants.{MOST_THREADS}
 use Rattle.shared_memory.specs.Memory.{Memory, reply_of, state_after}
 use Rattle.shared_memory.specs.Events.{is_exempt}
 use Rattle.shared_memory.specs.WaitQueue.{WaitQueue}
@@ -28,7 +28,7 @@ use Rattle.replay_walk.specs.Walked.{HasTaken, HasThreads, rules_of}
 use Rattle.replay_walk.proofs.Ending.{leaving, goes_on}
 
 -- a program of one thread spawns none
-pub room_for : (p : Program) (count : ℕ) (t : Running) (arg : ℕ) → HasThreads p count → wants_of p t ≡ Calls (events.Ask (Spawn arg)) → count ≡ most_threads
+pub room_for : (p : Program) (count : ℕ) (t : Running) (arg : ℕ) → HasThreads p count → wants_of p t ≡ Calls (events.Ask (Spawn arg)) → count ≡ MOST_THREADS
 room_for p count t arg (inl all) wants = all
 room_for p count t arg (inr alone) wants = let some : 0 < p.imported = wants_spawn p t arg wants in let none : p.imported ≡ 0 = alone.0 in absurd (omega arith)
 

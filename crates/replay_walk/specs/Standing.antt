@@ -11,7 +11,7 @@ use Rattle.types.specs.declared.event.Answer.{Answer}
 use Rattle.types.specs.declared.outcome.Outcome.{Outcome}
 use Rattle.types.specs.declared.event.Question.{Question}
 use Rattle.types.specs.declared.event.Question.TheVariants.{Leave, Spawn}
-use Rattle.types.specs.Limits.{most_threads}
+use Rattle.types.specs.declared.limits.TheConstants.{MOST_THREADS}
 use Rattle.shared_memory.specs.Memory.{Memory, reply_of, state_after}
 use Rattle.shared_memory.specs.Events.{IsEvent}
 use Rattle.shared_memory.specs.WaitQueue.{WaitQueue, is_alive, next_id}
@@ -121,7 +121,7 @@ module _ {S : Type 0} (meaning : S → Meaning) where
     pub places : (m : ℕ) → s.places m ≡ place_of queue m
     pub sound : IsSound queue
     pub started : begun ≡ next_id queue
-    pub slots : length ends ≡ most_threads
+    pub slots : length ends ≡ MOST_THREADS
     pub alike : (m : ℕ) (x : S) → slice_get threads m ≡ Some x
         → ((meaning x).program ≡ s.program) × ((meaning x).fuel ≡ s.budget)
     pub each : (m : ℕ) → StandsAt s.program s.worker (s.places m) (s.state.threads m) (slice_get threads m)

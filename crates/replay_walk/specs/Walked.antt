@@ -7,7 +7,7 @@ use Rattle.types.specs.declared.event.Reply.{Reply}
 use Rattle.types.specs.declared.event.Answer.{Answer}
 use Rattle.types.specs.declared.event.Entry as entries
 use Rattle.types.specs.declared.outcome.Outcome.{Outcome}
-use Rattle.types.specs.Limits.{most_threads}
+use Rattle.types.specs.declared.limits.TheConstants.{MOST_THREADS}
 use Rattle.shared_memory.specs.Memory.{Memory}
 use Rattle.shared_memory.specs.WaitQueue.{WaitQueue}
 use Rattle.schedule.specs.System.{Act, Act.Heard}
@@ -33,7 +33,7 @@ rules_of limit = try_rules false (Some limit)
 
 -- A walk of a program that starts threads has 64, and another one thread.
 abbrev pub HasThreads : Program → ℕ → Type 0
-HasThreads p count = (count ≡ most_threads) ⊎ ((p.imported ≡ 0) × (count ≡ 1))
+HasThreads p count = (count ≡ MOST_THREADS) ⊎ ((p.imported ≡ 0) × (count ≡ 1))
 
 -- A walk after an entry: the memory, the state and the places are others.
 abbrev pub moved : Standing → Memory → systems.State Shared Running → (ℕ → Place Answer) → Standing

@@ -2,7 +2,7 @@
 ghost use Rattle.std.specs.Prelude.{◌≡◌, ◌≤◌, ◌<◌, ℕ, true, false, length, replicate, slice_set, Some, None};
 ghost use Rattle.types.specs.declared.event.Event.TheVariants as events;
 ghost use Rattle.types.specs.declared.event.Question.TheVariants.{Leave, Spawn};
-ghost use Rattle.types.specs.Limits.{most_threads};
+ghost use Rattle.types.specs.declared.limits.TheConstants.{MOST_THREADS};
 ghost use Rattle.shared_memory.specs.Memory.{reply_of, state_after};
 ghost use Rattle.shared_memory.specs.Events.{IsEvent, is_exempt};
 ghost use Rattle.shared_memory.specs.History.{queue_step};
@@ -31,10 +31,10 @@ impl Stage {
     /// Of so many threads at most, thread 0 alone is there.
     pub fn new(most: u32) -> Stage
         requires some { 0 < most }
-        requires few { most ≤ most_threads }
+        requires few { most ≤ MOST_THREADS }
         ensures queue { result.queue ≡ first_queue most }
         ensures started { result.started ≡ 1 }
-        ensures ends { result.ends ≡ replicate most_threads None }
+        ensures ends { result.ends ≡ replicate MOST_THREADS None }
     {
         Stage {
             queue: Queue::new(most),
@@ -86,7 +86,7 @@ impl Stage {
     /// A thread that has ended asks to leave, with its outcome.
     pub fn leave<T: TakesTurns>(&mut self, n: u32, outcome: Outcome)
         requires free { IsFree self.old.queue n }
-        requires number { n < most_threads }
+        requires number { n < MOST_THREADS }
         ensures queue { self.new.queue ≡ after_question self.old.queue n Leave 0 }
         ensures started { self.new.started ≡ self.old.started }
         ensures ends { self.new.ends ≡ slice_set self.old.ends n (Some outcome) }
@@ -146,7 +146,7 @@ impl Stage {
         requires event { IsEvent event }
         requires kind { is_exempt event ≡ false }
         requires reply { IsAnswered reply }
-        requires room { (arg : ℕ) → event ≡ events.Ask (Spawn arg) → length threads.old ≡ most_threads }
+        requires room { (arg : ℕ) → event ≡ events.Ask (Spawn arg) → length threads.old ≡ MOST_THREADS }
         requires settled { IsToMakeOn T.meaning threads.old self.old memory.old n event }
         ensures count { length threads.new ≡ length threads.old }
         ensures memory { memory.new ≡ state_after memory.old event }

@@ -1,7 +1,7 @@
 //! Turns of one of the threads.
 ghost use Rattle.std.specs.Prelude.{◌≡◌, ◌<◌, length, Some};
 ghost use Rattle.std.specs.List.{slice_get};
-ghost use Rattle.types.specs.Limits.{most_threads};
+ghost use Rattle.types.specs.declared.limits.TheConstants.{MOST_THREADS};
 ghost use Rattle.interp_trait.specs.Turns.{MayBeSpawned, MayBeGiven};
 ghost use Rattle.replay_walk.specs.Standing.{MayRunAt, SettlesThread, StartsAt, TurnsAt};
 
@@ -32,7 +32,7 @@ pub fn settle_at<T: TakesTurns>(threads: &mut [T], n: usize, fuel: u64) -> Turn
 /// Starts the thread of this number, with the argument of its spawn.
 pub fn start_at<T: TakesTurns>(threads: &mut [T], n: usize, arg: u32)
     requires within { n < length threads.old }
-    requires number { n < most_threads }
+    requires number { n < MOST_THREADS }
     requires begins { (x : T) → slice_get threads.old n ≡ Some x → MayBeSpawned (T.meaning x) }
     ensures count { length threads.new ≡ length threads.old }
     ensures started { StartsAt T.meaning threads.old n arg threads.new }

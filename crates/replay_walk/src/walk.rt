@@ -1,6 +1,6 @@
 //! A walk along a recorded log.
 ghost use Rattle.std.specs.Prelude.{◌≡◌, ◌<◌, ◌≤◌, ℕ, true, false, length, Some, None, All};
-ghost use Rattle.types.specs.Limits.{most_threads};
+ghost use Rattle.types.specs.declared.limits.TheConstants.{MOST_THREADS};
 ghost use Rattle.types.specs.declared.event.Event.TheVariants as events;
 ghost use Rattle.types.specs.declared.event.Question.TheVariants.{Leave};
 ghost use Rattle.shared_memory.specs.Events.{is_exempt};
@@ -30,7 +30,7 @@ impl<T: TakesTurns> Walk<T> {
     /// Begins a walk of so many threads at most, with thread 0 at its start, and the opening memory.
     pub fn new(threads: Vec<T>, memory: OneMemory, most: u32) -> Walk<T>
         requires some { 0 < most }
-        requires few { most ≤ most_threads }
+        requires few { most ≤ MOST_THREADS }
         ensures { BeginsWalk T.meaning threads.items memory most result }
     {
         Walk {
@@ -49,7 +49,7 @@ impl<T: TakesTurns> Walk<T> {
         fuel: u64,
         watch: &mut W,
     ) -> bool
-        requires entry { IsEntry most_threads entry.now }
+        requires entry { IsEntry MOST_THREADS entry.now }
         requires standing { StandsReady T.meaning self.old fuel }
         ensures count { length self.new.threads.items ≡ length self.old.threads.items }
         ensures taken { result ≡ true → TakesEntry T.meaning self.old self.new limit at entry.now }
@@ -71,7 +71,7 @@ impl<T: TakesTurns> Walk<T> {
         fuel: u64,
         watch: &mut W,
     ) -> bool
-        requires entry { IsEntry most_threads entry.now }
+        requires entry { IsEntry MOST_THREADS entry.now }
         requires kind { entry.now.event ≡ events.Ask Leave }
         requires standing { StandsWithin T.meaning self.old fuel }
         ensures count { length self.new.threads.items ≡ length self.old.threads.items }
@@ -107,7 +107,7 @@ impl<T: TakesTurns> Walk<T> {
         fuel: u64,
         watch: &mut W,
     ) -> bool
-        requires entry { IsEntry most_threads entry.now }
+        requires entry { IsEntry MOST_THREADS entry.now }
         requires kind { is_exempt entry.now.event ≡ false }
         requires standing { StandsReady T.meaning self.old fuel }
         ensures count { length self.new.threads.items ≡ length self.old.threads.items }
@@ -154,7 +154,7 @@ impl<T: TakesTurns> Walk<T> {
         fuel: u64,
         watch: &mut W,
     ) -> Option<usize>
-        requires entries { All (IsEntry most_threads) log.now }
+        requires entries { All (IsEntry MOST_THREADS) log.now }
         requires new { IsNewWalk T.meaning self.old fuel limit }
         ensures whole { result ≡ None → ComesAlong T.meaning self.old limit log.now self.new }
         ensures misfit { (k : ℕ) → result ≡ Some k → StopsAt T.meaning self.old limit log.now k }

@@ -41,8 +41,8 @@ impl Span {
     }
 }
 
-/// Which entries are shown: those of these lines of the record, of these threads and at these addresses. What isn't given
-/// chooses all, and no threads are all.
+/// Which entries are shown: those of these lines of the record, of these threads and at these addresses. What isn't
+/// given chooses all, and no threads are all.
 #[derive(Drop)]
 pub struct Choice {
     pub lines: Option<Span>,

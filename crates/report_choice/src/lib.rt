@@ -1,5 +1,5 @@
-//! What is chosen on a command line: of a record, which entries are shown and how; of a search along drawn schedules, by which
-//! strategy the runs are drawn.
+//! What is chosen on a command line: of a record, which entries are shown and how; of a search along drawn schedules,
+//! by which strategy the runs are drawn.
 //!
 //! Proved: a span has the numbers from its first to its last.
 #![tactic(auto)]

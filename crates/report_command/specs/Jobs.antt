@@ -1,6 +1,6 @@
 -- The jobs of the command line.
 use Rattle.std.specs.Prelude.{◌≤◌, ◌≢◌, IfSome, false, ◌≡◌}
-use Rattle.types.specs.Limits.{most_limit, most_fuel}
+use Rattle.types.specs.declared.limits.TheConstants.{MOST_LIMIT, MOST_FUEL}
 use Rattle.report_command.specs.declared.command_line.Job.{Job}
 use Rattle.report_command.specs.declared.command_line.Job.TheVariants.{Check, Run, Replay, Show, Search}
 use Rattle.report_command.specs.Searches.{IsSearchInRange, SearchKeepsItsModule}
@@ -9,7 +9,7 @@ use Rattle.report_command.specs.Views.{IsViewInRange, path_of}
 -- The numbers of a job are in their ranges.
 abbrev pub IsInRange : Job → Type 0
 IsInRange (Check file) = Unit {0}
-IsInRange (Run file invoke on_words fuel limit save dump args) = (fuel ≤ most_fuel) × (1 ≤ limit) × (limit ≤ most_limit) × (dump ≤ 4096)
+IsInRange (Run file invoke on_words fuel limit save dump args) = (fuel ≤ MOST_FUEL) × (1 ≤ limit) × (limit ≤ MOST_LIMIT) × (dump ≤ 4096)
 IsInRange (Replay file saved dump) = dump ≤ 4096
 IsInRange (Show file saved names look view) = (40 ≤ look.width) × (look.width ≤ 1000) × IsViewInRange view
 IsInRange (Search s) = IsSearchInRange s

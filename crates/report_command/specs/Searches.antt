@@ -1,6 +1,6 @@
 -- The searches of the command line.
 use Rattle.std.specs.Prelude.{◌≤◌, ◌≢◌, ℕ, IfSome}
-use Rattle.types.specs.Limits.{most_limit, most_fuel}
+use Rattle.types.specs.declared.limits.TheConstants.{MOST_LIMIT, MOST_FUEL}
 use Rattle.report_command.specs.declared.search.Search.{Search}
 
 -- The most runs that a search makes, and the highest number of a first run.
@@ -16,9 +16,9 @@ pub record IsSearchInRange (s : Search) : Type 0 where
   pub runs : s.runs ≤ most_runs
   pub from : s.from ≤ most_runs
   pub all : IfSome s.all (λ states. (1 ≤ states) × (states ≤ most_states))
-  pub fuel : s.fuel ≤ most_fuel
+  pub fuel : s.fuel ≤ MOST_FUEL
   pub limit_low : 1 ≤ s.limit
-  pub limit : s.limit ≤ most_limit
+  pub limit : s.limit ≤ MOST_LIMIT
   pub dump : s.dump ≤ 4096
 
 -- It keeps no record at the path of its module.

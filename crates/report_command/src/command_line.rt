@@ -1,6 +1,6 @@
 //! The command line.
 ghost use Rattle.std.specs.Prelude.{◌≡◌, ◌≤◌, IfOk, IfSome, IsNone};
-ghost use Rattle.types.specs.Limits.{most_limit, most_fuel};
+ghost use Rattle.types.specs.declared.limits.TheConstants.{MOST_LIMIT, MOST_FUEL};
 ghost use Rattle.report_command.specs.Jobs.{IsInRange, KeepsItsModule};
 ghost use Rattle.report_command.specs.FaultNumbers.{usage_number, IsWrong};
 
@@ -282,7 +282,7 @@ fn commands<'a>(alloc: Global) -> Result<Command<'a>, AllocError> {
 
 /// The numbers of a run, where they are there and in range, as the parser sees to.
 pub(crate) fn bounds_of(matches: &ArgMatches) -> Option<(u64, u32, u32)>
-    ensures { IfSome result (λ n. (n.0 ≤ most_fuel) × (1 ≤ n.1) × (n.1 ≤ most_limit) × (n.2 ≤ 4096)) }
+    ensures { IfSome result (λ n. (n.0 ≤ MOST_FUEL) × (1 ≤ n.1) × (n.1 ≤ MOST_LIMIT) × (n.2 ≤ 4096)) }
 {
     let Some(fuel) = matches.get_one::<u64>("fuel") else {
         return None;

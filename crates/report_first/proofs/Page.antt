@@ -5,7 +5,7 @@ use Rattle.std.proofs.lemmas.List.{take-replicate, drop-replicate, length-replic
 use Rattle.std.specs.List.{splice}
 use Rattle.std.proofs.lemmas.Bool.Decides.{nat_tests}
 use Rattle.std.specs.Prelude.{nat_le}
-use Rattle.types.specs.Limits.{page_size}
+use Rattle.types.specs.declared.limits.TheConstants.{PAGE_SIZE}
 use Rattle.types.specs.declared.event.Event.{Event}
 use Rattle.types.specs.declared.event.Event.TheVariants.{Rmw}
 use Rattle.types.specs.declared.event.Reply.TheVariants.{Value, OutOfBounds}
@@ -31,11 +31,11 @@ added addr value = Rmw ops.Add addr 4 value
 
 page_within : (addr : ℕ) → addr < 64 → nat_le (addr + 4) (length zeros) ≡ true
 unfolding zeros
-page_within addr below = within page_size addr (omega arith)
+page_within addr below = within PAGE_SIZE addr (omega arith)
 
 page_loaded : (addr : ℕ) → addr < 64 → loaded page addr 4 ≡ 0
 unfolding zeros
-page_loaded addr below = zero_at page_size addr (omega arith)
+page_loaded addr below = zero_at PAGE_SIZE addr (omega arith)
 
 -- the value before is 0
 pub reply_of_add : (addr value : ℕ) → addr < 64 → reply_of page (added addr value) ≡ Value 0
@@ -52,20 +52,20 @@ state_after_add addr value below small =
     ∙ ap (λ old. written page addr 4 (combined ops.Add 4 old value)) (page_loaded addr below)
     ∙ ap (written page addr 4) (sum_fits value (omega arith))
 
-length_of_zeros : length zeros ≡ page_size
+length_of_zeros : length zeros ≡ PAGE_SIZE
 unfolding zeros
-length_of_zeros = length-replicate {A = ℕ} page_size 0
+length_of_zeros = length-replicate {A = ℕ} PAGE_SIZE 0
 
 length_of_written : (xs ys : List ℕ) (addr : ℕ) → length ys ≡ 4 → addr + 4 ≤ length xs → length (splice xs addr (addr + 4) ys) ≡ length xs
 length_of_written xs ys addr four below =
     length-append (take addr xs) (ys ++ drop (addr + 4) xs) ∙ ap (λ n. length (take addr xs) + n) (length-append ys (drop (addr + 4) xs))
     ∙ omega (arith, length-take addr xs, length-drop (addr + 4) xs)
 
-length_of_page : (b : Bool) (addr value : ℕ) → addr < 64 → length (cond b (page_with addr value) zeros) ≡ page_size
+length_of_page : (b : Bool) (addr value : ℕ) → addr < 64 → length (cond b (page_with addr value) zeros) ≡ PAGE_SIZE
 length_of_page true addr value below =
     length_of_written zeros (le_bytes 4 value) addr refl (rw length_of_zeros (omega arith)) ∙ length_of_zeros
 length_of_page false addr value below = length_of_zeros
 
 -- the page after a run is one page
 pub one_page : (addr value : ℕ) → addr < 64 → pages (record { bytes = page_after addr value; max = 1 }) ≡ 1
-one_page addr value below = ap (λ n. n / page_size) (length_of_page (is_aligned addr) addr value below)
+one_page addr value below = ap (λ n. n / PAGE_SIZE) (length_of_page (is_aligned addr) addr value below)

@@ -17,7 +17,7 @@ use Rattle.binary.specs.Reading.{code_at, contents_at, customs_at, last_at, sect
 use Rattle.binary.specs.Reading.{global_at, data_at, finish_at, parts_of, limits_after_at, export_at, export_desc_at, start_at, opening_at, fixed_at, module_at}
 use Rattle.binary_wire.specs.declared.fault.Fault.TheVariants as faults
 use Rattle.types.specs.declared.parts.ExportDesc.TheVariants as exports
-use Rattle.types.specs.Limits.{most_items}
+use Rattle.types.specs.declared.limits.TheConstants.{MOST_ITEMS}
 use Rattle.binary.specs.Grammar.{IsModuleText}
 use Rattle.binary.proofs.Modules.{module_takes, is_one}
 use Rattle.report_first.specs.First.{first_module, first_type, first_body, first_parts, IsFirstModule}
@@ -69,7 +69,7 @@ module _ (a v : ℕ) (below : a < 64) (small : v < 64) where
       ≡ Ok (record { elements = []; bodies = first_body a v ∷ []; «data» = [] }, [])
   unfolding contents_at section_at part_at customs_at
   contents_read s =
-      along (code_read_whole s) (λ r. r >>= λ bodies. section_at 11 most_items data_at s bodies.1 >>= λ segments. Ok
+      along (code_read_whole s) (λ r. r >>= λ bodies. section_at 11 MOST_ITEMS data_at s bodies.1 >>= λ segments. Ok
       (record { elements = []; bodies = bodies.0; «data» = segments.0 }, segments.1))
 
   -- ---- the sections
@@ -91,7 +91,7 @@ module _ (a v : ℕ) (below : a < 64) (small : v < 64) where
   unfolding signatures_at section_at part_at customs_at sized_at block_at unsigned_at vector_at items_at u32_within_at func_type_at val_type_at
   signatures_read s = refl
 
-  memories_read : (s : Bounds) → section_at 5 most_items memory_at s stores_bytes ≡ Ok (one_memory ∷ [], exports_bytes)
+  memories_read : (s : Bounds) → section_at 5 MOST_ITEMS memory_at s stores_bytes ≡ Ok (one_memory ∷ [], exports_bytes)
   unfolding section_at part_at customs_at sized_at block_at unsigned_at vector_at items_at u32_within_at memory_at coded_at limits_after_at
   memories_read s = refl
 
@@ -99,8 +99,8 @@ module _ (a v : ℕ) (below : a < 64) (small : v < 64) where
       ≡ Ok (record { tables = []; memories = one_memory ∷ []; globals = []; exports = the_export ∷ []; start = None }, tail_bytes)
   unfolding stores_at section_at part_at customs_at sized_at block_at unsigned_at vector_at items_at u32_within_at export_at name_at export_desc_at start_at is_utf8 chars encode memory_at coded_at
   stores_read s =
-      along (memories_read s) (λ r. r >>= λ memories. section_at 6 most_items global_at s memories.1 >>= λ globals.
-      section_at 7 most_items export_at s globals.1 >>= λ exported. start_at s exported.1 >>= λ start.
+      along (memories_read s) (λ r. r >>= λ memories. section_at 6 MOST_ITEMS global_at s memories.1 >>= λ globals.
+      section_at 7 MOST_ITEMS export_at s globals.1 >>= λ exported. start_at s exported.1 >>= λ start.
       Ok (record { tables = []; memories = memories.0; globals = globals.0; exports = exported.0; start = start.0 }, start.1))
 
   last_read : (s : Bounds) → last_at (first_type ∷ []) (0 ∷ []) s tail_bytes

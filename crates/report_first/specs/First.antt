@@ -2,7 +2,7 @@
 use Rattle.std.specs.Prelude.{ℕ, ◌≡◌, ◌+◌, ◌%◌, ◌==◌, ◌<◌, Bool, true, if◌then◌else◌}
 use Rattle.std.specs.Prelude.{List, [], ◌∷◌, replicate, codes, Some, None}
 use Rattle.std.specs.List.{splice}
-use Rattle.types.specs.Limits.{page_size}
+use Rattle.types.specs.declared.limits.TheConstants.{PAGE_SIZE}
 use Rattle.types.specs.declared.value.ValType.TheVariants as types
 use Rattle.types.specs.declared.value.Value.TheVariants as values
 use Rattle.types.specs.declared.event.RmwOp.TheVariants as ops
@@ -78,7 +78,7 @@ first_parts address addend = record {
 
 -- A page of zeros.
 unfoldable pub zeros : List ℕ
-zeros = replicate page_size 0
+zeros = replicate PAGE_SIZE 0
 
 -- The page with a number of four bytes at an address.
 abbrev pub page_with : ℕ → ℕ → List ℕ

@@ -3,7 +3,7 @@ ghost use Rattle.std.specs.Prelude.{◌≡◌, ◌≤◌, ◌⊎◌, ℕ, List, 
 ghost use Rattle.std.specs.Io.KnownBytes.{Appends};
 ghost use Rattle.report_lines.specs.Lines.{functions_line};
 ghost use Rattle.types.specs.declared.parts.Parts.{Parts};
-ghost use Rattle.types.specs.Limits.{most_fuel};
+ghost use Rattle.types.specs.declared.limits.TheConstants.{MOST_FUEL};
 ghost use Rattle.report_jobs.specs.Arguments.{CannotCall};
 ghost use Rattle.report_jobs.specs.Jobs.{IsAccepted, HasRun, HasNoSuchCall, IsReplayed, IsNoRecordOf, IsRefused};
 ghost use Rattle.report_jobs.specs.Jobs.{IsNoValidModule, IsUnfit, IsOfNoRun};
@@ -169,7 +169,7 @@ where
     W: Write,
     E: Write,
     S: Write,
-    requires { wanted.now.fuel ≤ most_fuel }
+    requires { wanted.now.fuel ≤ MOST_FUEL }
     ensures made { result ≤ 1 → HasRun «module».now (request_of wanted.now) (change (W.contents out.old) (W.contents out.new))
         (change (S.contents save.old) (S.contents save.new)) result }
     ensures refused { result ≡ 2 → IsNoValidModule «module».now }

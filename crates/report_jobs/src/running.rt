@@ -2,7 +2,7 @@
 ghost use Rattle.std.specs.Prelude.{◌≡◌, ◌≤◌, ◌⊎◌, true, false, map, is_some, IfOk, IfErr, OnOk};
 ghost use Rattle.std.specs.Io.KnownBytes.{Appends};
 ghost use Rattle.std.specs.List.{list_all};
-ghost use Rattle.types.specs.Limits.{most_fuel};
+ghost use Rattle.types.specs.declared.limits.TheConstants.{MOST_FUEL};
 ghost use Rattle.validate_typing.specs.Validity.{HasDistinctNames};
 ghost use Rattle.spawn_host.specs.Entries.{Takes};
 ghost use Rattle.replay_text.specs.Text.{record_text};
@@ -140,7 +140,7 @@ where
     R: Threads + Wait + Sync,
     W: Write,
     S: Write,
-    requires fuel { wanted.now.fuel ≤ most_fuel }
+    requires fuel { wanted.now.fuel ≤ MOST_FUEL }
     ensures made { IfOk result (PrintsRun «module».now.parts (request_of wanted.now)
         (change (W.contents out.old) (W.contents out.new)) (change (S.contents save.old) (S.contents save.new))) }
     ensures trouble { IfErr result (IsTrouble «module».now.parts wanted.now.invoke.now (map (λ text. text.now) wanted.now.args.now)) }
@@ -196,7 +196,7 @@ where
     R: Threads + Wait + Sync,
     W: Write,
     S: Write,
-    requires fuel { wanted.now.fuel ≤ most_fuel }
+    requires fuel { wanted.now.fuel ≤ MOST_FUEL }
     requires memory { wanted.now.on_words ≡ false }
     requires spelled { AreSpelled (map (λ text. text.now) wanted.now.args.now) args.now }
     requires takes { Takes «module».now.parts wanted.now.invoke.now args.now }

@@ -5,7 +5,7 @@ use Rattle.types.specs.declared.value.Value.{Value}
 use Rattle.types.specs.declared.event.Entry.{Entry}
 use Rattle.types.specs.declared.outcome.ThreadReport.{ThreadReport}
 use Rattle.types.specs.declared.parts.Parts.{Parts}
-use Rattle.types.specs.Limits.{most_pages, most_threads, seat_count, past_limit, most_limit}
+use Rattle.types.specs.declared.limits.TheConstants.{MOST_PAGES, MOST_THREADS, SEATS, PAST_LIMIT, MOST_LIMIT}
 use Rattle.shared_memory.specs.Memory.{Memory, pages}
 use Rattle.shared_memory.specs.History.{entries_of, AreEntries, memory_after, queue_after}
 use Rattle.shared_memory_on_table.specs.declared.view.Caller.{Caller}
@@ -23,7 +23,7 @@ use Rattle.shared_memory.proofs.Soundness.{IsSound-after, few_spawned}
 module _ {S : Type 0} (caller : S → Caller) (P : S → Type 0) (m : Parts) (entry : List ℕ) (args : List Value) (fuel : ℕ)
     (loses : Bool) (opening : Memory) (limit : Option ℕ) (seats : List S) (log : List Entry) (end : EndState) where
   pub leaves : IsRun m entry args fuel (of_callers caller loses opening limit) end.threads.items seats
-      → ((n : ℕ) → seat_count ≤ n → entries_of n log ≡ []) → ((s : S) → P s → Knows (caller s) log) → All P seats
+      → ((n : ℕ) → SEATS ≤ n → entries_of n log ≡ []) → ((s : S) → P s → Knows (caller s) log) → All P seats
       → end.pages ≡ pages (memory_after (opening_memory m) log) → end.bytes.items ≡ (memory_after (opening_memory m) log).bytes
       → EndsRun m entry args fuel loses limit log end
   leaves run past known knows p b =
@@ -37,7 +37,7 @@ module _ {S : Type 0} (caller : S → Caller) (P : S → Type 0) (m : Parts) (en
 
 -- there are at most 64 reports
 pub few_reports : {S : Type 0} (m : Parts) (entry : List ℕ) (args : List Value) (fuel : ℕ) (mem : OverMemory S)
-    (threads : List ThreadReport) (seats : List S) → IsRun m entry args fuel mem threads seats → length threads ≤ most_threads
+    (threads : List ThreadReport) (seats : List S) → IsRun m entry args fuel mem threads seats → length threads ≤ MOST_THREADS
 few_reports m entry args fuel mem threads seats run =
     let few = few_spawned (queue_after run.history) (IsSound-after run.history run.is_history.together.queue) in
     let count = run.is_history.count in
@@ -45,10 +45,10 @@ few_reports m entry args fuel mem threads seats run =
 
 -- a record of such a log is limited
 pub limited_by : (r : RecordParts) (log : List Entry) (limit : ℕ) → r.log ≡ log → limit ≡ r.limit → (1 ≤ r.limit)
-    × (r.limit ≤ most_limit) → IsBounded limit log r.pages → AreEntries log → IsLimited r
+    × (r.limit ≤ MOST_LIMIT) → IsBounded limit log r.pages → AreEntries log → IsLimited r
 limited_by r log limit same bound range bounds entries =
-    let room : length log ≤ limit + past_limit = bounds.room in
-    let small : r.pages ≤ most_pages = bounds.small in
+    let room : length log ≤ limit + PAST_LIMIT = bounds.room in
+    let small : r.pages ≤ MOST_PAGES = bounds.small in
     let long : length r.log ≡ length log = ap length same in record {
       limit_low = range.0;
       limit = range.1;

@@ -1,6 +1,6 @@
 -- The seats of a new memory, place by place.
 use Rattle.std.proofs.Common.{◌≡◌, ℕ, zero, suc, ◌+◌, ◌<◌, true, List, [], ◌∷◌, map, slice_index_or, length, ◌∙◌, refl, ap, arith}
-use Rattle.types.specs.Limits.{desk_name, seat_count}
+use Rattle.types.specs.declared.limits.TheConstants.{DESK_NAME, SEATS}
 use Rattle.shared_memory_on_table.specs.declared.view.Caller.{Caller}
 use Rattle.shared_memory_on_table.specs.Callers.{fresh, fresh_from}
 
@@ -24,15 +24,15 @@ fresh_count caller (suc count) n (s ∷ seats) h =
     let rest = fresh_count caller count (n + 1) seats t in omega arith
 
 -- each of the 65 has its place as its name, and has seen nothing; the last has the queue right
-module _ {S : Type 0} (caller : S → Caller) (seats : List S) (new : map caller seats ≡ fresh_from seat_count 0) where
-  pub seat_name : (k : ℕ) (d : S) → k < seat_count → (caller (slice_index_or seats k d)).name ≡ k
-  seat_name k d less = let e : 0 + k ≡ k = omega arith in ap (λ (c : Caller). c.name) (fresh_at caller seat_count 0 seats new k d less) ∙ e
+module _ {S : Type 0} (caller : S → Caller) (seats : List S) (new : map caller seats ≡ fresh_from SEATS 0) where
+  pub seat_name : (k : ℕ) (d : S) → k < SEATS → (caller (slice_index_or seats k d)).name ≡ k
+  seat_name k d less = let e : 0 + k ≡ k = omega arith in ap (λ (c : Caller). c.name) (fresh_at caller SEATS 0 seats new k d less) ∙ e
 
-  pub seat_new : (k : ℕ) (d : S) → k < seat_count → (caller (slice_index_or seats k d)).seen ≡ []
-  seat_new k d less = ap (λ (c : Caller). c.seen) (fresh_at caller seat_count 0 seats new k d less)
+  pub seat_new : (k : ℕ) (d : S) → k < SEATS → (caller (slice_index_or seats k d)).seen ≡ []
+  seat_new k d less = ap (λ (c : Caller). c.seen) (fresh_at caller SEATS 0 seats new k d less)
 
-  pub seat_right : (d : S) → (caller (slice_index_or seats desk_name d)).has_queue_right ≡ true
-  seat_right d = ap (λ (c : Caller). c.has_queue_right) (fresh_at caller seat_count 0 seats new desk_name d (search arith))
+  pub seat_right : (d : S) → (caller (slice_index_or seats DESK_NAME d)).has_queue_right ≡ true
+  seat_right d = ap (λ (c : Caller). c.has_queue_right) (fresh_at caller SEATS 0 seats new DESK_NAME d (search arith))
 
-  pub seat_many : length seats ≡ seat_count
-  seat_many = fresh_count caller seat_count 0 seats new
+  pub seat_many : length seats ≡ SEATS
+  seat_many = fresh_count caller SEATS 0 seats new

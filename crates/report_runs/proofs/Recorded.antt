@@ -3,7 +3,7 @@ use Rattle.std.proofs.Common.{ℕ, ◌≤◌, false, List, length, Some, slice_g
 use Rattle.types.specs.declared.value.Value.{Value}
 use Rattle.types.specs.declared.outcome.ThreadReport.{ThreadReport}
 use Rattle.types.specs.declared.parts.Parts.{Parts}
-use Rattle.types.specs.Limits.{most_fuel, most_pages, most_module_bytes}
+use Rattle.types.specs.declared.limits.TheConstants.{MOST_FUEL, MOST_PAGES, MOST_MODULE_BYTES}
 use Rattle.validate_module.specs.Pages.{HasPagesWithin}
 use Rattle.shared_memory.specs.History.{memory_after}
 use Rattle.schedule_runs.specs.Runs.{Start}
@@ -48,7 +48,7 @@ module _ (m : Parts) (entry : List ℕ) (args : List Value) (fuel limit : ℕ) (
     pages_are = records.pages_are ∙ ends_run.pages_after;
   }
 
-  pub is_run_of : HasPagesWithin most_pages m → IsRunOf m r end
+  pub is_run_of : HasPagesWithin MOST_PAGES m → IsRunOf m r end
   is_run_of within = record {
     length_fits = subst (λ (v : Version). IsLengthOf v m r.module_len) (sym records.version) (sym records.module_len);
     pages_fit = subst (λ (q : ℕ). HasPagesWithin q m) (sym records.max_pages) within;
@@ -62,14 +62,14 @@ module _ (m : Parts) (entry : List ℕ) (args : List Value) (fuel limit : ℕ) (
     bytes = ends_run.bytes_after;
   }
 
-  written : m.length ≤ most_module_bytes → IsWritten r
+  written : m.length ≤ MOST_MODULE_BYTES → IsWritten r
   written size = record {
     version = records.version;
-    module_len = subst (λ (n : ℕ). n ≤ most_module_bytes) (sym records.module_len) size;
+    module_len = subst (λ (n : ℕ). n ≤ MOST_MODULE_BYTES) (sym records.module_len) size;
     max_pages = records.max_pages;
   }
 
-  pub is_in_range : fuel ≤ most_fuel → m.length ≤ most_module_bytes → AreTyped r → IsRecord r
+  pub is_in_range : fuel ≤ MOST_FUEL → m.length ≤ MOST_MODULE_BYTES → AreTyped r → IsRecord r
   is_in_range small size typed =
-      runs_are_in_range start r history.outcomes history.lefts history.together tells (subst (λ (f : ℕ). f ≤ most_fuel)
+      runs_are_in_range start r history.outcomes history.lefts history.together tells (subst (λ (f : ℕ). f ≤ MOST_FUEL)
       (sym records.fuel_is) small) (written size) records.limited typed

@@ -8,7 +8,7 @@ use Rattle.std.proofs.lemmas.List.Elements.{All-head, All-tail, All-get_or}
 use Rattle.std.specs.List.{All}
 use mathlib.Core.List.{IsPrefix}
 use Rattle.types.specs.declared.event.Entry.{Entry}
-use Rattle.types.specs.Limits.{desk_name, seat_count}
+use Rattle.types.specs.declared.limits.TheConstants.{DESK_NAME, SEATS}
 use Rattle.shared_memory_on_table.specs.declared.view.Caller.{Caller}
 use Rattle.shared_memory_on_table.specs.Callers.{GoesOn}
 use Rattle.shared_memory.specs.History.{entries_of, IsEntry, AreEntries}
@@ -30,11 +30,11 @@ whole log seen p same =
     ∙ (ap (entries_of n) p.1 ∙ (same n ∙ sym (append-nil (entries_of n seen))))) in
     sym p.1 ∙ ap (λ r. seen ++ r) (of_nobody p.0 none) ∙ append-nil seen
 
-another_name : (e : Entry) (r : List Entry) (n : ℕ) → e.thread ≤ desk_name → seat_count ≤ n → entries_of n (e ∷ r) ≡ entries_of n r
+another_name : (e : Entry) (r : List Entry) (n : ℕ) → e.thread ≤ DESK_NAME → SEATS ≤ n → entries_of n (e ∷ r) ≡ entries_of n r
 another_name e r n small large = grind (arith, nat_tests)
 
 -- no entry has a name past the last
-pub of_no_seat : (log : List Entry) (n : ℕ) → AreEntries log → seat_count ≤ n → entries_of n log ≡ []
+pub of_no_seat : (log : List Entry) (n : ℕ) → AreEntries log → SEATS ≤ n → entries_of n log ≡ []
 of_no_seat [] n all large = refl
 of_no_seat (e ∷ r) n all large = another_name e r n (All-head IsEntry e r all).named large ∙ of_no_seat r n (All-tail IsEntry e r all) large
 
@@ -46,18 +46,18 @@ first_none (x ∷ xs) ys h = absurd (cc h)
 abbrev pub Knows : Caller → List Entry → Type 0
 Knows c log = IsPrefix c.seen log × (entries_of c.name log ≡ entries_of c.name c.seen)
 
-small_or_large : (n : ℕ) → (n < seat_count) ⊎ (seat_count ≤ n)
-small_or_large n = elim (cases_Bool (nat_lt n seat_count)) [
+small_or_large : (n : ℕ) → (n < SEATS) ⊎ (SEATS ≤ n)
+small_or_large n = elim (cases_Bool (nat_lt n SEATS)) [
   | inl h ↦ inl (search arith)
   | inr h ↦ inr (search arith)
 ]
 
 -- all 65 seats have seen one list, and the log goes on from each by nothing of its own
 module _ {S : Type 0} (caller : S → Caller) (log history : List Entry)
-    (past : (n : ℕ) → seat_count ≤ n → entries_of n log ≡ []) (P : S → Type 0)
+    (past : (n : ℕ) → SEATS ≤ n → entries_of n log ≡ []) (P : S → Type 0)
     (known : (s : S) → P s → Knows (caller s) log) where
-  same_of : (seats : List S) (d : S) → length seats ≡ seat_count → ((k : ℕ) (d : S) → k < seat_count → (caller (slice_index_or seats k d)).name ≡ k)
-      → ((k : ℕ) (d : S) → k < seat_count → (caller (slice_index_or seats k d)).seen ≡ history) → All P seats
+  same_of : (seats : List S) (d : S) → length seats ≡ SEATS → ((k : ℕ) (d : S) → k < SEATS → (caller (slice_index_or seats k d)).name ≡ k)
+      → ((k : ℕ) (d : S) → k < SEATS → (caller (slice_index_or seats k d)).seen ≡ history) → All P seats
       → (p : IsPrefix history log) → (n : ℕ) → entries_of n log ≡ entries_of n history
   same_of seats d len names seen all p n =
       elim (small_or_large n) [
@@ -74,8 +74,8 @@ module _ {S : Type 0} (caller : S → Caller) (log history : List Entry)
             none ∙ sym (first_none (entries_of n history) (entries_of n p.0) joined)
       ]
 
-  pub is_history : (seats : List S) → length seats ≡ seat_count → ((k : ℕ) (d : S) → k < seat_count → (caller (slice_index_or seats k d)).name ≡ k)
-      → ((k : ℕ) (d : S) → k < seat_count → (caller (slice_index_or seats k d)).seen ≡ history) → All P seats → log ≡ history
+  pub is_history : (seats : List S) → length seats ≡ SEATS → ((k : ℕ) (d : S) → k < SEATS → (caller (slice_index_or seats k d)).name ≡ k)
+      → ((k : ℕ) (d : S) → k < SEATS → (caller (slice_index_or seats k d)).seen ≡ history) → All P seats → log ≡ history
   is_history [] len names seen all = absurd (cc len)
   is_history (s ∷ seats) len names seen all =
       let first : 0 < length (s ∷ seats) = rw len (search arith) in

@@ -3,7 +3,7 @@
 use Rattle.std.specs.Prelude.{ℕ, ◌≤◌, List}
 use Rattle.types.specs.declared.value.Value.{Value}
 use Rattle.types.specs.declared.parts.Parts.{Parts}
-use Rattle.types.specs.Limits.{most_limit}
+use Rattle.types.specs.declared.limits.TheConstants.{MOST_LIMIT}
 use Rattle.shared_memory_sequential.specs.declared.fault.OpenFault.TheVariants as open_faults
 use Rattle.spawn_host.specs.Entries.{Takes}
 use Rattle.spawn_host.specs.Faults.{IsFaultOf}
@@ -12,7 +12,7 @@ use Rattle.report_runs.specs.declared.recording.RecordRunFault.TheVariants as fa
 
 -- A log takes this many entries at least and at most.
 abbrev pub IsLogLimit : ℕ → Type 0
-IsLogLimit limit = (1 ≤ limit) × (limit ≤ most_limit)
+IsLogLimit limit = (1 ≤ limit) × (limit ≤ MOST_LIMIT)
 
 -- Over a memory that records: the limit of its log is out of its range; or it isn't, and the call can't be made; or it can, and
 -- the system had too little memory left, or started no further thread.

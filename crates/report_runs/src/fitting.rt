@@ -3,7 +3,7 @@
 ghost use Rattle.std.specs.List.{All};
 ghost use Rattle.std.specs.Prelude.{◌≡◌, ◌≤◌, true};
 ghost use Rattle.std.specs.Str.{is_utf8};
-ghost use Rattle.types.specs.Limits.{most_module_bytes, most_pages};
+ghost use Rattle.types.specs.declared.limits.TheConstants.{MOST_MODULE_BYTES, MOST_PAGES};
 ghost use Rattle.validate_module.specs.Pages.{HasPagesWithin};
 ghost use Rattle.shared_memory_sequential.specs.Opening.{can_open};
 ghost use Rattle.spawn_host.specs.Runs.{opening_memory};
@@ -23,8 +23,8 @@ pub(crate) fn show_memory_opens(module: &ValidModule)
 
 /// A valid module is no longer than any may be, and its memory has no more pages.
 pub(crate) fn show_module_fits(module: &ValidModule)
-    ensures size { «module».now.parts.length ≤ most_module_bytes }
-    ensures pages { HasPagesWithin most_pages «module».now.parts }
+    ensures size { «module».now.parts.length ≤ MOST_MODULE_BYTES }
+    ensures pages { HasPagesWithin MOST_PAGES «module».now.parts }
 {
     let _parts = module.parts();
 }

@@ -1,7 +1,7 @@
 //! A run over the memory that records.
 ghost use Rattle.std.specs.Prelude.{◌≡◌, ◌≤◌, ◌+◌, ◌++◌, ℕ, List, [], length, vec_len, vec_capacity, IfOk, OnOk, IfErr};
 ghost use Rattle.types.specs.declared.value.Value.{Value};
-ghost use Rattle.types.specs.Limits.{most_threads, most_limit, most_fuel};
+ghost use Rattle.types.specs.declared.limits.TheConstants.{MOST_THREADS, MOST_LIMIT, MOST_FUEL};
 ghost use Rattle.spawn_host.specs.Runs.{opening_memory};
 ghost use Rattle.replay.specs.Runs.{IsRunOf};
 ghost use Rattle.replay.specs.Recorded.{RecordsRun};
@@ -111,7 +111,7 @@ pub fn record_run<G, R>(
 where
     G: Gate + Sync,
     R: Threads + Wait + Sync,
-    requires fuel { call.fuel ≤ most_fuel }
+    requires fuel { call.fuel ≤ MOST_FUEL }
     ensures record { IfOk result (λ r. RecordsRun «module».now.parts call.entry.name.now call.entry.args.now call.entry.fuel
         limit r.0 r.1) }
     ensures run { IfOk result (λ r. IsRunOf «module».now.parts r.0 r.1) }
@@ -168,7 +168,7 @@ fn run_recorded<G, R>(
 where
     G: Gate + Sync,
     R: Threads + Wait + Sync,
-    requires range { (1 ≤ limit) × (limit ≤ most_limit) }
+    requires range { (1 ≤ limit) × (limit ≤ MOST_LIMIT) }
     requires takes { Takes «module».now.parts call.name.now call.args.now }
     ensures made { IfOk result (λ r. RecordsRun «module».now.parts call.entry.name.now call.entry.args.now call.entry.fuel
         limit r.0 r.1) }
@@ -193,7 +193,7 @@ fn header_of(alloc: Global, call: Call) -> Result<Header, AllocError>
     ensures args { IfOk result (λ h. h.args ≡ call.entry.args.now) }
     ensures fuel { IfOk result (λ h. h.fuel ≡ call.entry.fuel) }
     ensures ends { IfOk result (λ h. h.ends.items ≡ []) }
-    ensures room { IfOk result (λ h. most_threads ≤ vec_capacity h.ends) }
+    ensures room { IfOk result (λ h. MOST_THREADS ≤ vec_capacity h.ends) }
 {
     let invoke = String::from_str(alloc, call.name)?;
     let args = Vec::from_slice(alloc, call.args)?;
@@ -208,7 +208,7 @@ fn header_of(alloc: Global, call: Call) -> Result<Header, AllocError>
 
 /// What a memory that records is made of, where it is the module's.
 fn prepare(alloc: Global, module: &ValidModule, limit: u32) -> Result<Prepared, RecordRunFault>
-    requires range { (1 ≤ limit) × (limit ≤ most_limit) }
+    requires range { (1 ≤ limit) × (limit ≤ MOST_LIMIT) }
     ensures opening { IfOk result (λ p. p.opening ≡ opening_memory «module».now.parts) }
     ensures limit { IfOk result (λ p. p.limit ≡ limit) }
     ensures fault { IfErr result (λ fault. (name : List ℕ) (args : List Value) → Takes «module».now.parts name args
@@ -243,9 +243,9 @@ where
     requires limit { prepared.limit ≡ B.limit }
     requires image { B.opening ≡ opening_memory «module».now.parts }
     requires bound { B.limit ≡ limit }
-    requires range { (1 ≤ limit) × (limit ≤ most_limit) }
+    requires range { (1 ≤ limit) × (limit ≤ MOST_LIMIT) }
     requires ends { header.ends.items ≡ [] }
-    requires room { most_threads ≤ vec_capacity header.ends }
+    requires room { MOST_THREADS ≤ vec_capacity header.ends }
     requires takes { Takes «module».now.parts header.invoke header.args }
     ensures made { IfOk result (λ r. RecordsRun «module».now.parts header.invoke header.args header.fuel limit r.0 r.1) }
     ensures fault { IfErr result (λ fault. IsRecordingFault «module».now.parts header.invoke header.args limit fault) }

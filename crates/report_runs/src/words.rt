@@ -1,7 +1,7 @@
 //! A run over the row of words.
 ghost use Rattle.std.specs.Prelude.{◌≡◌, ◌≤◌, ◌*◌, ℕ, List, [], length, vec_capacity, IfOk, IfErr};
 ghost use Rattle.types.specs.declared.value.Value.{Value};
-ghost use Rattle.types.specs.Limits.{page_size};
+ghost use Rattle.types.specs.declared.limits.TheConstants.{PAGE_SIZE};
 ghost use Rattle.spawn_host.specs.Entries.{Takes};
 ghost use Rattle.spawn_host.specs.Runs.{opening_memory};
 ghost use Rattle.spawn_host.specs.RunEnds.{EndsRunOnWords};
@@ -78,7 +78,7 @@ where
     requires image { B.opening ≡ opening_memory «module».now.parts }
     requires takes { Takes «module».now.parts call.name.now call.args.now }
     requires none { bytes.items ≡ [] }
-    requires room { page_size * (opening_memory «module».now.parts).max ≤ vec_capacity bytes }
+    requires room { PAGE_SIZE * (opening_memory «module».now.parts).max ≤ vec_capacity bytes }
     ensures end { IfOk result (λ end. EndsRunOnWords «module».now.parts call.entry.name.now call.entry.args.now call.entry.fuel end) }
     ensures fault { IfErr result (λ fault. IsWordsFault «module».now.parts call.entry.name.now call.entry.args.now fault) }
 {

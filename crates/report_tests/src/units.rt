@@ -1,7 +1,7 @@
 //! A hundred million units, counted by hand: over both memories, and replayed.
 
 ghost use Rattle.std.specs.Prelude.{◌≤◌};
-ghost use Rattle.types.specs.Limits.{most_fuel};
+ghost use Rattle.types.specs.declared.limits.TheConstants.{MOST_FUEL};
 
 use report_jobs::{Wanted, replay_saved, run};
 use std::alloc::Global;
@@ -46,7 +46,7 @@ static COUNTS: [Count; 3] = [
 
 /// What is asked of a run over one memory; over the one that records it has a record at the path.
 fn wanted_of<'a>(count: &Count, on_words: bool, path: &'a str, args: &'a [&'a str]) -> Wanted<'a>
-    ensures { result.fuel ≤ most_fuel }
+    ensures { result.fuel ≤ MOST_FUEL }
 {
     let save = if on_words { None } else { Some(path) };
     Wanted {

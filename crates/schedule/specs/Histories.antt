@@ -3,8 +3,8 @@ use Rattle.std.specs.Prelude.{ℕ, ◌≡◌, ◌≢◌, ◌==◌, Bool, true, f
 use Rattle.schedule.specs.System.{Act, Act.Made, Act.Heard, Step, Entry, System, put}
 use Rattle.schedule.specs.ThreadRun.{IsThreadRun}
 
--- How a thread stands to its questions: it isn't started yet, it may enter events, it has an open question, or the answer
--- to that one is due to it.
+-- How a thread stands to its questions: it isn't started yet, it may enter events, it has an open question, or the
+-- answer to that one is due to it.
 pub data Place (A : Type 0) : Type 0 where
   Unstarted : Place A
   Free : Place A
@@ -41,13 +41,15 @@ module _ {E V A : Type 0} where
   without_answers (h ∷ H) = if_made h.thread h.act (without_answers H)
 
 module _ {X T E V A : Type 0} (s : System X T E V A) where
-  -- The shared state and the places after an entry, and after a history. A heard answer changes its thread's place alone.
+  -- The shared state and the places after an entry, and after a history. A heard answer changes its thread's place
+  -- alone.
   abbrev pub next_shared : X → ℕ → Act E V A → X
   next_shared x n (Made e v) = s.after x n e
   next_shared x n (Heard a) = x
 
   abbrev pub next_places : X → (ℕ → Place A) → ℕ → Act E V A → ℕ → Place A
-  next_places x q n (Made e v) = λ m. placed (s.starts x n e m) (s.gives x n e m) (put (λ (k : ℕ). false) n (s.opens e v) m) (q m)
+  next_places x q n (Made e v) =
+      λ m. placed (s.starts x n e m) (s.gives x n e m) (put (λ (k : ℕ). false) n (s.opens e v) m) (q m)
   next_places x q n (Heard a) = put q n Free
 
   -- The thread that an entry starts under the number m.
@@ -84,13 +86,16 @@ module _ {X T E V A : Type 0} (s : System X T E V A) where
 
   abbrev pub IsOrdered : X → (ℕ → Place A) → List (Entry E V A) → Type 0
   IsOrdered x q [] = Unit {0}
-  IsOrdered x q (h ∷ H) = IsFreeAt q h.thread h.act × IsOrdered (next_shared x h.thread h.act) (next_places x q h.thread h.act) H
+  IsOrdered x q (h ∷ H) = IsFreeAt q h.thread h.act
+      × IsOrdered (next_shared x h.thread h.act) (next_places x q h.thread h.act) H
 
   -- Each thread that the history starts runs by its steps to its end.
   abbrev pub StartedRunAt : (ℕ → List (Step E V A)) → (ℕ → T) → X → ℕ → Act E V A → Type 0
-  StartedRunAt steps ends x n (Made e v) = (m : ℕ) (t : T) → s.starts x n e m ≡ Some t → IsThreadRun s t (steps m) (ends m)
+  StartedRunAt steps ends x n (Made e v) = (m : ℕ) (t : T) → s.starts x n e m ≡ Some t
+      → IsThreadRun s t (steps m) (ends m)
   StartedRunAt steps ends x n (Heard a) = Unit {0}
 
   abbrev pub StartedRun : (ℕ → List (Step E V A)) → (ℕ → T) → X → List (Entry E V A) → Type 0
   StartedRun steps ends x [] = Unit {0}
-  StartedRun steps ends x (h ∷ H) = StartedRunAt steps ends x h.thread h.act × StartedRun steps ends (next_shared x h.thread h.act) H
+  StartedRun steps ends x (h ∷ H) = StartedRunAt steps ends x h.thread h.act
+      × StartedRun steps ends (next_shared x h.thread h.act) H

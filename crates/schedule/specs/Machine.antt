@@ -2,8 +2,8 @@
 use Rattle.std.specs.Prelude.{ℕ, zero, suc, ◌≡◌, ◌-◌, Bool, true, false, not, Option}
 use Rattle.schedule.specs.System.{Want, Want.Turns, Want.Calls, Want.Awaits, Want.Gone, System}
 
--- What a configuration wishes: a turn of its own, an event, the answer to its question, or nothing, because it has ended
--- with an outcome.
+-- What a configuration wishes: a turn of its own, an event, the answer to its question, or nothing, because it has
+-- ended with an outcome.
 pub data Wish (E O : Type 0) : Type 0 where
   Goes : Wish E O
   Asks : E → Wish E O
@@ -36,7 +36,8 @@ pub data Thread (C O : Type 0) : Type 0 where
   Left : O → ℕ → Thread C O
 
 module _ {C E V A O : Type 0} (k : Machine C E V A O) where
-  -- Of a configuration with so many units left. With none left no turn is made: it wants a turn of its own, which finds that.
+  -- Of a configuration with so many units left. With none left no turn is made: it wants a turn of its own, which finds
+  -- that.
   abbrev pub wanted : ℕ → Wish E O → Want E
   wanted left Waits = Awaits
   wanted left (Ends o) = Calls k.leave

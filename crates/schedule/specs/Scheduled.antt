@@ -72,7 +72,8 @@ module _ {X T E V A : Type 0} (s : System X T E V A) where
 
   abbrev pub steps_by : ℕ → State X T → ℕ → Want E → List (Step E V A)
   steps_by m w n Turns = cond (n == m) (Own ∷ []) []
-  steps_by m w n (Calls e) = cond (n == m) (Acts (Made e (s.reply w.shared n e)) ∷ []) [] ++ heard_step (s.gives w.shared n e m)
+  steps_by m w n (Calls e) = cond (n == m) (Acts (Made e (s.reply w.shared n e)) ∷ []) [] ++ heard_step
+      (s.gives w.shared n e m)
   steps_by m w n Awaits = []
   steps_by m w n Gone = []
 

@@ -29,8 +29,8 @@ module _ {E V A : Type 0} where
       (put steps h.thread (after_first_act (steps h.thread)))
 
 module _ {X T E V A : Type 0} (s : System X T E V A) where
-  -- A legal history of threads that ran: from the beginning, where no question is open and who isn't started does nothing,
-  -- each thread runs by its steps, whose acts are its entries.
+  -- A legal history of threads that ran: from the beginning, where no question is open and who isn't started does
+  -- nothing, each thread runs by its steps, whose acts are its entries.
   pub record ThreadsRun (first : State X T) (places : ℕ → Place A) (steps : ℕ → List (Step E V A)) (ends : ℕ → T)
       (H : List (Entry E V A)) : Type 0 where
     pub legal : IsLegalHistory s first.shared places H
@@ -50,9 +50,11 @@ module _ {X T E V A : Type 0} (s : System X T E V A) where
 
   -- Along a schedule the scheduled machine comes to the shared state after the history, and brings each thread that was
   -- started to its end.
-  pub record GivesEnds (first : State X T) (places : ℕ → Place A) (ends : ℕ → T) (H : List (Entry E V A)) (S : List Mark) : Type 0 where
+  pub record GivesEnds (first : State X T) (places : ℕ → Place A) (ends : ℕ
+      → T) (H : List (Entry E V A)) (S : List Mark) : Type 0 where
     pub shared : (scheduled_run s first S).shared ≡ shared_after s first.shared H
-    pub threads : (m : ℕ) → places_after s first.shared places H m ≢ Unstarted → (scheduled_run s first S).threads m ≡ ends m
+    pub threads : (m : ℕ) → places_after s first.shared places H m ≢ Unstarted
+        → (scheduled_run s first S).threads m ≡ ends m
 
   -- All threads that were started are gone.
   abbrev pub AllGone : State X T → (ℕ → Place A) → List (Entry E V A) → List Mark → Type 0
@@ -63,7 +65,8 @@ module _ {X T E V A : Type 0} (s : System X T E V A) where
   abbrev pub LoseAsMany : State X T → List Mark → List Mark → Type 0
   LoseAsMany first S S' = (m : ℕ) → losses_between (steps_made s m first S) ≡ losses_between (steps_made s m first S')
 
-  -- What one schedule of a history does: it makes the history and each thread's steps, gives all ends, and leaves all gone.
+  -- What one schedule of a history does: it makes the history and each thread's steps, gives all ends, and leaves all
+  -- gone.
   pub record IsOneSchedule (first : State X T) (places : ℕ → Place A) (steps : ℕ → List (Step E V A)) (ends : ℕ → T)
       (H : List (Entry E V A)) (S : List Mark) : Type 0 where
     pub makes : Makes first H S
@@ -78,9 +81,9 @@ module _ {X T E V A W : Type 0} (s : System X T E V A) (rules : TryRules X E W) 
   AllHaveSeen first places steps H =
       (m : ℕ) → places_after s first.shared places H m ≢ Unstarted → HasSeen s rules first.shared places H m (steps m)
 
-  -- A schedule follows a history: the machine makes it; between neighbouring entries of one thread others change what it
-  -- wants to touch at least as often as it loses tries there; it finds the log full only at the limit, and the history is
-  -- within that.
+  -- A schedule follows a history: the machine makes it; between neighbouring entries of one thread others change what
+  -- it wants to touch at least as often as it loses tries there; it finds the log full only at the limit, and the
+  -- history is within that.
   pub record Follows (first : State X T) (places : ℕ → Place A) (H : List (Entry E V A)) (S : List Mark) : Type 0 where
     pub makes : Makes s first H S
     pub covered : (m : ℕ) → AreLossesCovered s rules (places m) m first.shared H (steps_made s m first S)

@@ -1,7 +1,8 @@
 -- Threads over something shared, abstractly: what a thread wants and does, and the functions that say what comes of it.
 use Rattle.std.specs.Prelude.{ℕ, ◌==◌, Bool, cond, Option}
 
--- What a thread wants next: a turn of its own, an event, the answer to its open question, or nothing, because it is gone.
+-- What a thread wants next: a turn of its own, an event, the answer to its open question, or nothing, because it is
+-- gone.
 pub data Want (E : Type 0) : Type 0 where
   Turns : Want E
   Calls : E → Want E

@@ -1,16 +1,17 @@
--- The theorem of one schedule, and what stands around it. Types: shared states X, threads T, events E, replies V, answers
--- A, and W for what events touch.
+-- The theorem of one schedule, and what stands around it. Types: shared states X, threads T, events E, replies V,
+-- answers A, and W for what events touch.
 use Rattle.std.specs.Prelude.{ℕ, ◌≡◌, List, [], ◌∷◌, ◌++◌, Option}
 use Rattle.schedule.specs.System.{Act, Act.Made, Act.Heard, Step, Entry, Mark, System, State}
 use Rattle.schedule.specs.ThreadRun.{acts, losses_between, IsThreadRun, Laws}
 use Rattle.schedule.specs.Scheduled.{scheduled_run, entries_made, steps_made}
 use Rattle.schedule.specs.Histories.{Place}
 use Rattle.schedule.specs.Tries.{TryRules}
-use Rattle.schedule.specs.Schedules.{schedule_of, ThreadsRun, IsOneSchedule, AllHaveSeen, Follows, Makes, LoseAsMany, AllGone, GivesEnds}
+use Rattle.schedule.specs.Schedules.{schedule_of, ThreadsRun, IsOneSchedule, AllHaveSeen, Follows, Makes, LoseAsMany}
+use Rattle.schedule.specs.Schedules.{AllGone, GivesEnds}
 use Rattle.schedule.specs.Machine.{Machine, MachineLaws, Thread, Thread.Runs, Thread.Left, system}
 
--- The schedule of a legal history of threads that ran makes that history and each thread's steps, gives the shared state
--- after it and every thread's end, and leaves all threads gone.
+-- The schedule of a legal history of threads that ran makes that history and each thread's steps, gives the shared
+-- state after it and every thread's end, and leaves all threads gone.
 abbrev pub OneSchedule : (X T E V A : Type 0) → Type 0
 OneSchedule X T E V A =
     (s : System X T E V A) → Laws s
@@ -41,11 +42,13 @@ EveryOtherGivesTheSame X T E V A =
 abbrev pub ThreadsWithBudgetsKeepTheLaws : (C E V A O X : Type 0) → Type 0
 ThreadsWithBudgetsKeepTheLaws C E V A O X =
     (k : Machine C E V A O) → MachineLaws k
-    → (reply : X → ℕ → E → V) (after : X → ℕ → E → X) (gives : X → ℕ → E → ℕ → Option A) (starts : X → ℕ → E → ℕ → Option (Thread C O))
+    → (reply : X → ℕ → E → V) (after : X → ℕ → E → X) (gives : X → ℕ → E → ℕ → Option A) (starts : X → ℕ → E → ℕ
+    → Option (Thread C O))
     → Laws (system k reply after gives starts)
 
 -- Such a thread enters a leave and its answer last, and has left.
-pub record LeavesLast {C E V A O : Type 0} (k : Machine C E V A O) (acts : List (Act E V A)) (end : Thread C O) : Type 0 where
+pub record LeavesLast {C E V A O : Type 0} (k : Machine C E V A O) (acts : List (Act E V A)) (end : Thread C O)
+    : Type 0 where
   pub before : List (Act E V A)
   pub reply : V
   pub answer : A
@@ -57,7 +60,8 @@ pub record LeavesLast {C E V A O : Type 0} (k : Machine C E V A O) (acts : List 
 abbrev pub ThreadsLeaveLast : (C E V A O X : Type 0) → Type 0
 ThreadsLeaveLast C E V A O X =
     (k : Machine C E V A O)
-    → (reply : X → ℕ → E → V) (after : X → ℕ → E → X) (gives : X → ℕ → E → ℕ → Option A) (starts : X → ℕ → E → ℕ → Option (Thread C O))
+    → (reply : X → ℕ → E → V) (after : X → ℕ → E → X) (gives : X → ℕ → E → ℕ → Option A) (starts : X → ℕ → E → ℕ
+    → Option (Thread C O))
     → (c : C) (fuel : ℕ) (steps : List (Step E V A)) (end : Thread C O)
     → IsThreadRun (system k reply after gives starts) (Runs c fuel) steps end
     → LeavesLast k (acts steps) end

@@ -43,7 +43,8 @@ module _ {E V A : Type 0} where
   found_full (Full e ∷ steps) = true
   found_full (Acts a ∷ steps) = false
 
-  -- How many tries are lost between neighbouring acts, before the first and after the last, where so many were lost already.
+  -- How many tries are lost between neighbouring acts, before the first and after the last, where so many were lost
+  -- already.
   abbrev pub losses_from : ℕ → List (Step E V A) → List ℕ
   losses_from count [] = count ∷ []
   losses_from count (Own ∷ steps) = losses_from count steps

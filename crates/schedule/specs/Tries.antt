@@ -7,8 +7,8 @@ use Rattle.schedule.specs.ThreadRun.{after_first_act, losses, IsLost, found_full
 use Rattle.schedule.specs.Histories.{Place, Place.Unstarted, Place.Free, Place.Open, Place.Due, acts_of, next_shared}
 use Rattle.schedule.specs.Histories.{shared_after, places_after, starts_at}
 
--- Of a shared state X and events E: whether tries can be lost, what an event touches, which another changes where a try of
--- it is lost, how many entries a log holds, if that is limited, and which events it takes even when it is full.
+-- Of a shared state X and events E: whether tries can be lost, what an event touches, which another changes where a try
+-- of it is lost, how many entries a log holds, if that is limited, and which events it takes even when it is full.
 pub record TryRules (X E W : Type 0) : Type 0 where
   pub loses : Bool
   pub touched : X → E → W
@@ -83,11 +83,13 @@ module _ {X T E V A W : Type 0} (s : System X T E V A) (rules : TryRules X E W) 
   -- From one list to another, step by step.
   abbrev pub SeesAll : X → ℕ → List (Entry E V A) → List (Step E V A) → List (Entry E V A) → Type 0
   SeesAll first n before [] last = before ≡ last
-  SeesAll first n before (p ∷ steps) last = (after : List (Entry E V A)) × Sees first n p before after × SeesAll first n after steps last
+  SeesAll first n before (p ∷ steps) last = (after : List (Entry E V A)) × Sees first n p before after
+      × SeesAll first n after steps last
 
-  -- Thread n and the history H: the list with which it began, in which it was started and has no entry; what it saw from
-  -- there on, step by step; and H, which goes on from the last that it saw.
-  pub record HasSeen (first : X) (places : ℕ → Place A) (H : List (Entry E V A)) (n : ℕ) (steps : List (Step E V A)) : Type 0 where
+  -- Thread n and the history H: the list with which it began, in which it was started and has no entry; what it saw
+  -- from there on, step by step; and H, which goes on from the last that it saw.
+  pub record HasSeen (first : X) (places : ℕ → Place A) (H : List (Entry E V A)) (n : ℕ) (steps : List (Step E V A))
+      : Type 0 where
     pub begun : List (Entry E V A)
     pub started : places_after s first places begun n ≡ Unstarted → ⊥
     pub fresh : acts_of n begun ≡ []
@@ -103,7 +105,8 @@ module _ {X T E V A W : Type 0} (s : System X T E V A) (rules : TryRules X E W) 
   HasChanges (h ∷ H) zero n e x = Unit {0}
   HasChanges (h ∷ H) (suc count) n e x =
       (h.thread ≢ n)
-      × (((rules.touched (next_shared s x h.thread h.act) e ≢ rules.touched x e) × HasChanges H count n e (next_shared s x h.thread h.act))
+      × (((rules.touched (next_shared s x h.thread h.act) e ≢ rules.touched x e)
+      × HasChanges H count n e (next_shared s x h.thread h.act))
       ⊎ HasChanges H (suc count) n e (next_shared s x h.thread h.act))
 
   -- For each event of which the thread loses a try before its next act, as many as the tries that it loses there.
@@ -139,7 +142,8 @@ module _ {X T E V A W : Type 0} (s : System X T E V A) (rules : TryRules X E W) 
   IsFullOnlyAtLimit [] n count steps = Unit {0}
   IsFullOnlyAtLimit (h ∷ H) n count steps =
       if_true (h.thread == n)
-      ((found_full steps ≡ true → HasReached rules.limit count) × IsFullOnlyAtLimit H n (suc count) (after_first_act steps))
+      ((found_full steps ≡ true → HasReached rules.limit count)
+      × IsFullOnlyAtLimit H n (suc count) (after_first_act steps))
       (IsFullOnlyAtLimit H n (suc count) steps)
 
   -- Each entry found room.

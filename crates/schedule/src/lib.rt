@@ -3,15 +3,15 @@
 //!
 //! Proved: a legal history's schedule makes it; all its schedules with as many lost tries end alike.
 //!
-//! It is stated over any system of threads (`specs/System.antt`), so it never looks at an instruction. Each function here
-//! does nothing, and its contract is a law; `X` are the shared states, `T` the threads, `E` the events, `V` the replies,
-//! `A` the answers, `W` what events touch, `C` the configurations of a machine and `O` its outcomes.
+//! It is stated over any system of threads (`specs/System.antt`), so it never looks at an instruction. Each function
+//! here does nothing, and its contract is a law; `X` are the shared states, `T` the threads, `E` the events, `V` the
+//! replies, `A` the answers, `W` what events touch, `C` the configurations of a machine and `O` its outcomes.
 //!
 //! Whoever uses it supplies
 //! - a machine (`specs/Machine.antt`): what a configuration wishes, how it goes on, and the two laws of a machine;
 //! - four functions of the shared state: the reply to an event, the state after it, the answer that it gives to each
-//!   thread, and the thread that it starts under each number. A queue's answers due are no part of the shared state, but
-//!   the threads' places;
+//!   thread, and the thread that it starts under each number. A queue's answers due are no part of the shared state,
+//!   but the threads' places;
 //! - of a run: a legal history, and for each thread its steps from its start to its end, whose acts are its entries;
 //! - and, for the clauses on lost tries and on a limit, what each thread saw of the history at each of its steps.
 #![tactic(auto)]
@@ -25,8 +25,8 @@ pub fn one_schedule<X, T, E, V, A>()
     ensures { OneSchedule X T E V A }
 {}
 
-/// The schedule of a history follows it: others changed what a thread wanted to touch at least as often as it lost a try
-/// between two neighbouring entries of its own, and no log was full before its limit.
+/// The schedule of a history follows it: others changed what a thread wanted to touch at least as often as it lost a
+/// try between two neighbouring entries of its own, and no log was full before its limit.
 pub fn schedule_follows<X, T, E, V, A, W>()
     ensures { ScheduleFollows X T E V A W }
 {}

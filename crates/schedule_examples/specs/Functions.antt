@@ -58,8 +58,8 @@ two_word_store =
     Then (const 4) (Then (plain.I64Const 0x1122334455667788)
     (Then (plain.Store (access.Whole I64) no_offset) (Then (const 0) Empty)))
 
--- A program of three functions, of which the second gives 42 and the third has another type, and a table of three places: the second
--- function, the third one, and an empty one. The first function calls the place of a number.
+-- A program of three functions, of which the second gives 42 and the third has another type, and a table of three
+-- places: the second function, the third one, and an empty one. The first function calls the place of a number.
 abbrev pub no_type : FuncType
 no_type = record { params = []; results = [] }
 

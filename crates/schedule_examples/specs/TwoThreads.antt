@@ -48,7 +48,14 @@ abbrev pub spawned : ℕ → ℕ → State
 spawned n arg = Over (outcomes.Done (Some (values.I32 arg)))
 
 abbrev pub start : Start
-start = record { program = program; main = main; spawned = spawned; fuel = 10; opening = record { bytes = []; max = 0 } }
+start = record {
+  program = program;
+  main = main;
+  spawned = spawned;
+  fuel = 10;
+  opening =
+      record { bytes = []; max = 0 };
+}
 
 -- Thread 1 leaves before thread 0 does.
 abbrev pub spawning : List entries.Entry
@@ -56,7 +63,8 @@ spawning = entry 0 (events.Ask (Spawn 7)) replies.Done ∷ entry 0 (events.Told 
 
 abbrev pub history : List entries.Entry
 history =
-    entry 0 (events.Ask (Spawn 7)) replies.Done ∷ entry 0 (events.Told (Number 1)) replies.Done ∷ entry 1 (events.Ask Leave) replies.Done
+    entry 0 (events.Ask (Spawn 7)) replies.Done ∷ entry 0 (events.Told (Number 1)) replies.Done
+    ∷ entry 1 (events.Ask Leave) replies.Done
     ∷ entry 1 (events.Told (Number 0)) replies.Done ∷ entry 0 (events.Ask Leave) replies.Done ∷ entry 0
     (events.Told (Number 0)) replies.Done ∷ []
 

@@ -5,11 +5,13 @@ use Rattle.schedule.specs.System.{Kind.Loses, Mark, System, State, put}
 use Rattle.schedule.specs.Scheduled.{scheduled_run}
 use Rattle.schedule.specs.Histories.{Place, Place.Unstarted, Place.Free, IsLegalHistory}
 use Rattle.schedule.specs.Tries.{TryRules}
-use Rattle.schedule.specs.Schedules.{schedule_of, ThreadsRun, AllHaveSeen, Follows, Makes, LoseAsMany, AllGone, GivesEnds}
+use Rattle.schedule.specs.Schedules.{schedule_of, ThreadsRun, AllHaveSeen, Follows, Makes, LoseAsMany, AllGone}
+use Rattle.schedule.specs.Schedules.{GivesEnds}
 use Rattle.schedule.specs.Machine.{Wish, Wish.Goes, Wish.Asks, Wish.Waits, Wish.Ends, Machine, MachineLaws, Thread}
 use Rattle.schedule.specs.Machine.{Thread.Absent, Thread.Runs, Thread.Left, system}
 
--- A number is added to the word; a thread sleeps if the word is this one; who sleeps is woken; a thread starts; one leaves.
+-- A number is added to the word; a thread sleeps if the word is this one; who sleeps is woken; a thread starts; one
+-- leaves.
 pub data Event : Type 0 where
   Add : ℕ → Event
   Wait : ℕ → Event
@@ -131,8 +133,10 @@ starts_by x Leave m = None
 
 abbrev pub example : System Shared (Thread Configuration Outcome) Event (Option ℕ) ℕ
 example =
-    system machine (λ (x : Shared) (n : ℕ) (e : Event). reply_to x e) (λ (x : Shared) (n : ℕ) (e : Event). shared_by x n e)
-    (λ (x : Shared) (n : ℕ) (e : Event) (m : ℕ). answers_by x n e m) (λ (x : Shared) (n : ℕ) (e : Event) (m : ℕ). starts_by x e m)
+    system machine (λ (x : Shared) (n : ℕ) (e : Event). reply_to x e)
+    (λ (x : Shared) (n : ℕ) (e : Event). shared_by x n e)
+    (λ (x : Shared) (n : ℕ) (e : Event) (m : ℕ). answers_by x n e m)
+    (λ (x : Shared) (n : ℕ) (e : Event) (m : ℕ). starts_by x e m)
 
 -- At first the word is 0, and thread 0 alone is there, with 10 units.
 abbrev pub first_state : State Shared (Thread Configuration Outcome)
@@ -192,15 +196,16 @@ pub record WorkedRun : Type 0 where
   pub seen : AllHaveSeen example rules first_state first_places steps history
   pub schedule :
       schedule_of history steps
-      ≡ mark 0 Turn ∷ mark 0 Turn ∷ mark 0 Turn ∷ mark 1 Turn ∷ mark 1 Loses ∷ mark 1 Turn ∷ mark 1 Turn ∷ mark 1 Turn ∷ mark 0 Turn ∷ []
+      ≡ mark 0 Turn ∷ mark 0 Turn ∷ mark 0 Turn ∷ mark 1 Turn ∷ mark 1 Loses ∷ mark 1 Turn ∷ mark 1 Turn ∷ mark 1 Turn
+      ∷ mark 0 Turn ∷ []
   pub word : (scheduled_run example first_state (schedule_of history steps)).shared.word ≡ 6
   pub first_end : (scheduled_run example first_state (schedule_of history steps)).threads 0 ≡ Left Done 7
   pub other_end : (scheduled_run example first_state (schedule_of history steps)).threads 1 ≡ Left Done 6
   pub follows : Follows example rules first_state first_places history (schedule_of history steps)
   pub gives : GivesEnds example first_state first_places ends history (schedule_of history steps)
 
--- Another schedule: thread 1 thinks and loses its try at once, before thread 0 adds. The first mark has no step, since a
--- spawn is never lost.
+-- Another schedule: thread 1 thinks and loses its try at once, before thread 0 adds. The first mark has no step, since
+-- a spawn is never lost.
 abbrev pub another : List Mark
 another =
     mark 0 Loses ∷ mark 0 Turn ∷ mark 1 Turn ∷ mark 1 Loses ∷ mark 0 Turn ∷ mark 0 Turn ∷ mark 1 Turn ∷ mark 1 Turn ∷

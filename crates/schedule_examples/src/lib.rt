@@ -1,6 +1,6 @@
-//! Worked examples of the definitions that the headline rests on: what small functions cost and how they end, by the thread machine
-//! (crate `interp_machine`); a run of two threads of a small system with its schedules (crate `schedule`); and two threads of a
-//! module that ran together (crate `schedule_runs`). Nothing stands on this crate.
+//! Worked examples of the definitions that the headline rests on: what small functions cost and how they end, by the
+//! thread machine (crate `interp_machine`); a run of two threads of a small system with its schedules (crate
+//! `schedule`); and two threads of a module that ran together (crate `schedule_runs`). Nothing stands on this crate.
 //!
 //! Proved: each example comes out as was worked out by hand, so the premises of the theorems can be met.
 #![tactic(auto)]

@@ -23,7 +23,8 @@ pub fn no_entry_after_leave()
     ensures { NoEntryAfterLeave }
 {}
 
-/// A worked run, so that what is asked of threads can be met: one spawns another and ends, and the other one ends meanwhile.
+/// A worked run, so that what is asked of threads can be met: one spawns another and ends, and the other one ends
+/// meanwhile.
 pub fn two_threads_ran_together()
     ensures { TwoThreadsRanTogether }
 {}

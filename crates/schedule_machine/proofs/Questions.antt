@@ -7,7 +7,7 @@ use Rattle.types.specs.declared.event.Event.TheVariants as events
 use Rattle.types.specs.declared.event.Question.{Question}
 use Rattle.types.specs.declared.event.Question.TheVariants.{Wait, Notify, Spawn, Leave}
 use Rattle.types.specs.declared.event.Answer.{Answer}
-use Rattle.types.specs.Limits.{most_threads}
+use Rattle.types.specs.declared.limits.TheConstants.{MOST_THREADS}
 use Rattle.shared_memory.specs.WaitQueue.{WaitQueue, is_alive, is_asleep, answer_due, next_id, after_question, IsFree}
 use Rattle.shared_memory.proofs.Lengths.{due_length_question}
 use Rattle.shared_memory.proofs.Others.{IsQuiet}
@@ -77,12 +77,12 @@ pub record IsStart (q : WaitQueue) (question : Question) (m : ℕ) : Type 0 wher
   pub arg : ℕ
   pub spawn : question ≡ Spawn arg
   pub number : m ≡ next_id q
-  pub room : m < most_threads
+  pub room : m < MOST_THREADS
 
 spawn_cases : (s : Setting) (q : WaitQueue) (arg m : ℕ) → (started_at s (next_id q) (Spawn arg) m ≡ None) ⊎ IsStart q (Spawn arg) m
 spawn_cases s q arg m =
     elim (same_or_not m (next_id q)) [
-      | inl same ↦ elim (cases_lt m most_threads) [
+      | inl same ↦ elim (cases_lt m MOST_THREADS) [
         | inl room ↦ inr (record { arg = arg; spawn = refl; number = same; room = room })
         | inr past ↦ inl (spawned_past s (next_id q) arg m past)
       ]
@@ -99,16 +99,16 @@ start_cases s q Leave m = inl refl
 after_grows : (next : ℕ) (question : Question) → next ≤ next_after next question
 after_grows next (Wait addr width expected timeout) = omega arith
 after_grows next (Notify addr count) = omega arith
-after_grows next (Spawn arg) = cond_both (nat_lt next most_threads) (next + 1) next (λ k. next ≤ k) (λ e. omega arith) (λ e. omega arith)
+after_grows next (Spawn arg) = cond_both (nat_lt next MOST_THREADS) (next + 1) next (λ k. next ≤ k) (λ e. omega arith) (λ e. omega arith)
 after_grows next Leave = omega arith
 
-pub next_grows : (q : WaitQueue) → length q.due ≡ most_threads → (n : ℕ) (question : Question) (v : ℕ) → next_id q ≤ next_id (after_question q n question v)
+pub next_grows : (q : WaitQueue) → length q.due ≡ MOST_THREADS → (n : ℕ) (question : Question) (v : ℕ) → next_id q ≤ next_id (after_question q n question v)
 next_grows q dues n question v = omega (arith, next_question q dues n question v, after_grows (next_id q) question)
 
-pub next_spawned : (q : WaitQueue) → length q.due ≡ most_threads → (n arg v : ℕ) → next_id q < most_threads
+pub next_spawned : (q : WaitQueue) → length q.due ≡ MOST_THREADS → (n arg v : ℕ) → next_id q < MOST_THREADS
     → next_id (after_question q n (Spawn arg) v) ≡ next_id q + 1
 next_spawned q dues n arg v room = next_question q dues n (Spawn arg) v
-    ∙ cond-true (nat_lt (next_id q) most_threads) (next_id q + 1) (next_id q) (lt-ltb (next_id q) most_threads room)
+    ∙ cond-true (nat_lt (next_id q) MOST_THREADS) (next_id q + 1) (next_id q) (lt-ltb (next_id q) MOST_THREADS room)
 
 module _ (s : Setting) (q : WaitQueue) (f : ℕ → Running) (n : ℕ) (question : Question) (v : ℕ) (t : Running)
     (orderly : IsOrderly s.program q f) (calls : wants_of s.program (f n) ≡ Calls (events.Ask question)) (awaits : wants_of s.program t ≡ Awaits)
@@ -128,7 +128,7 @@ module _ (s : Setting) (q : WaitQueue) (f : ℕ → Running) (n : ℕ) (question
         | inl none ↦ ap (λ o. or_started o (all_hear s (put f n t) later m)) none
             ∙ away s q f n question v t orderly calls awaits m (omega (arith, past, next_grows q orderly.dues n question v))
         | inr start ↦ (let grown : next_id later ≡ next_id q + 1 = subst (λ z. next_id (after_question q n z v) ≡ next_id q + 1) (sym start.spawn)
-            (next_spawned q orderly.dues n start.arg v (subst (λ k. k < most_threads) start.number start.room)) in
+            (next_spawned q orderly.dues n start.arg v (subst (λ k. k < MOST_THREADS) start.number start.room)) in
             absurd (omega (arith, past, grown, start.number)))
       ]
 

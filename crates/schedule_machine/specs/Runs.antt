@@ -7,7 +7,7 @@ use Rattle.types.specs.declared.event.Question.TheVariants as questions
 use Rattle.types.specs.declared.event.Reply.TheVariants as replies
 use Rattle.types.specs.declared.event.Reply.{Reply}
 use Rattle.types.specs.declared.event.Answer.{Answer}
-use Rattle.types.specs.Limits.{most_threads}
+use Rattle.types.specs.declared.limits.TheConstants.{MOST_THREADS}
 use Rattle.shared_memory.specs.Memory.{Memory}
 use Rattle.shared_memory.specs.WaitQueue.{WaitQueue, is_alive, is_asleep, answer_due, next_id, after_question}
 use Rattle.shared_memory.specs.Sound.{IsSound}
@@ -44,7 +44,7 @@ first_thread t = put (λ (m : ℕ). Absent) 0 t
 -- hasn't left is alive, and who sleeps awaits the answer to its question.
 pub record IsOrderly (p : Program) (q : WaitQueue) (threads : ℕ → Running) : Type 0 where
   pub sound : IsSound q
-  pub dues : length q.due ≡ most_threads
+  pub dues : length q.due ≡ MOST_THREADS
   pub heard : without_dues q ≡ q
   pub unstarted : (m : ℕ) → next_id q ≤ m → threads m ≡ Absent
   pub living : (m : ℕ) → IsHere (threads m) → is_alive q m ≡ true
@@ -60,7 +60,7 @@ MayHear s threads q = (m : ℕ) (a : Answer) → answer_due q m ≡ Some a → w
 
 -- A spawn starts a thread under the next number, while there is room for it.
 abbrev pub spawned_at : Setting → ℕ → ℕ → ℕ → Option Running
-spawned_at s next arg m = cond (nat_lt m most_threads && (m == next))
+spawned_at s next arg m = cond (nat_lt m MOST_THREADS && (m == next))
     (Some (Runs (spawned_in s.worker m arg) s.fuel)) None
 
 -- The thread that a question starts under a number, and the number that comes next then.
@@ -69,7 +69,7 @@ started_at s next (questions.Spawn arg) m = spawned_at s next arg m
 started_at s next question m = None
 
 abbrev pub next_after : ℕ → Question → ℕ
-next_after next (questions.Spawn arg) = cond (nat_lt next most_threads) (next + 1) next
+next_after next (questions.Spawn arg) = cond (nat_lt next MOST_THREADS) (next + 1) next
 next_after next question = next
 
 -- Each thread after a question: it hears the answer that it was given, and a spawn starts its thread.

@@ -4,7 +4,7 @@ use Rattle.types.specs.declared.event.Event.TheVariants as events
 use Rattle.types.specs.declared.event.Question.{Question}
 use Rattle.types.specs.declared.event.Question.TheVariants.{Leave, Spawn}
 use Rattle.types.specs.declared.event.Reply.{Reply}
-use Rattle.types.specs.Limits.{most_threads}
+use Rattle.types.specs.declared.limits.TheConstants.{MOST_THREADS}
 use Rattle.shared_memory.specs.Memory.{Memory, reply_of, state_after}
 use Rattle.shared_memory.specs.WaitQueue.{WaitQueue, answer_due, next_id, after_question, IsFree}
 use Rattle.shared_memory.specs.History.{queue_step}
@@ -61,8 +61,8 @@ module _ {S : Type 0} (meaning : S → Meaning)
   leaving : question ≡ Leave → IsHere asker → ⊥
   leaving is = left_gone s.program (w.threads n) reply (calls ∙ ap (λ z. Calls (events.Ask z)) is)
 
-  pub due_long : length (WaitQueue.due (after_question old.queue n question v)) ≡ most_threads
-  due_long = subst (λ z. length (WaitQueue.due (after_question z n question v)) ≡ most_threads) (sym same_queue)
+  pub due_long : length (WaitQueue.due (after_question old.queue n question v)) ≡ MOST_THREADS
+  due_long = subst (λ z. length (WaitQueue.due (after_question z n question v)) ≡ MOST_THREADS) (sym same_queue)
       (due_length_question q n question v ∙ at.orderly.dues)
 
   pub may : MayHear s asking (after_question old.queue n question v)
@@ -77,7 +77,7 @@ module _ {S : Type 0} (meaning : S → Meaning)
       let apart : old.next_id ≢ n = λ e. absurd (omega (arith, known, next_is, e)) in
       put-other w.threads n asker old.next_id apart ∙ at.orderly.unstarted old.next_id (omega (arith, next_is))
 
-  pub slots : (arg : ℕ) → question ≡ Spawn arg → length (set old.threads.items n y) ≡ most_threads
+  pub slots : (arg : ℕ) → question ≡ Spawn arg → length (set old.threads.items n y) ≡ MOST_THREADS
   slots arg is = length-set old.threads.items n y ∙ at.slots (wants_spawn s.program (w.threads n) arg (calls ∙ ap (λ z. Calls (events.Ask z)) is))
 
   pub are_asking : IsThread meaning s y asker → Are (set old.threads.items n y) asking

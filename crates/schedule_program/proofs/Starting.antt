@@ -5,7 +5,7 @@ use Rattle.std.proofs.lemmas.Bool.{lt-ltb}
 use Rattle.types.specs.declared.event.Question.{Question}
 use Rattle.types.specs.declared.event.Question.TheVariants.{Wait, Notify, Spawn, Leave}
 use Rattle.types.specs.declared.event.Answer.{Answer}
-use Rattle.types.specs.Limits.{most_threads}
+use Rattle.types.specs.declared.limits.TheConstants.{MOST_THREADS}
 use Rattle.schedule.specs.System.{put}
 use Rattle.schedule.specs.Scheduled.{hears_any, or_started}
 use Rattle.schedule.specs.Machine.{Thread.Absent, Thread.Runs, thread_hears}
@@ -37,12 +37,12 @@ absent_hears s t (Some a) is = ap (λ (u : Running). thread_hears (machine_of s.
 
 -- a spawn starts the thread of the next number
 
-spawned_here : (s : Setting) (next arg : ℕ) → next < most_threads → spawned_at s next arg next ≡ Some (Runs (spawned_in s.worker next arg) s.fuel)
+spawned_here : (s : Setting) (next arg : ℕ) → next < MOST_THREADS → spawned_at s next arg next ≡ Some (Runs (spawned_in s.worker next arg) s.fuel)
 spawned_here s next arg room =
-    ap (λ b. cond (b && (next == next)) (Some (Runs (spawned_in s.worker next arg) s.fuel)) None) (lt-ltb next most_threads room)
+    ap (λ b. cond (b && (next == next)) (Some (Runs (spawned_in s.worker next arg) s.fuel)) None) (lt-ltb next MOST_THREADS room)
     ∙ ap (λ b. cond b (Some (Runs (spawned_in s.worker next arg) s.fuel)) None) (same_is next)
 
-pub spawned_put : (s : Setting) (next arg : ℕ) (f : ℕ → Running) → next < most_threads → (m : ℕ)
+pub spawned_put : (s : Setting) (next arg : ℕ) (f : ℕ → Running) → next < MOST_THREADS → (m : ℕ)
     → with_spawned s next arg f m ≡ put f next (Runs (spawned_in s.worker next arg) s.fuel) m
 spawned_put s next arg f room =
     let new : Running = Runs (spawned_in s.worker next arg) s.fuel in
@@ -50,7 +50,7 @@ spawned_put s next arg f room =
     (ap (λ o. or_started o (f next)) (spawned_here s next arg room) ∙ sym (put-same f next new))
     (λ m apart. ap (λ o. or_started o (f m)) (spawned_apart s next arg m apart) ∙ sym (put-other f next new m apart))
 
-pub spawned_none : (s : Setting) (next arg : ℕ) (f : ℕ → Running) → most_threads ≤ next → (m : ℕ) → with_spawned s next arg f m ≡ f m
+pub spawned_none : (s : Setting) (next arg : ℕ) (f : ℕ → Running) → MOST_THREADS ≤ next → (m : ℕ) → with_spawned s next arg f m ≡ f m
 spawned_none s next arg f full =
     at_each next (λ m. with_spawned s next arg f m ≡ f m)
     (ap (λ o. or_started o (f next)) (spawned_past s next arg next full))

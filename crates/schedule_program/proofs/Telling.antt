@@ -6,7 +6,7 @@ use Rattle.std.specs.Prelude.{nat_lt, MatchOption}
 use Rattle.std.proofs.lemmas.Bool.{cases_eq, cases_lt, cond-true, cond-false, lt-ltb, le-ltb}
 use Rattle.std.proofs.lemmas.List.{get_or_past}
 use Rattle.types.specs.declared.event.Answer.{Answer}
-use Rattle.types.specs.Limits.{most_threads}
+use Rattle.types.specs.declared.limits.TheConstants.{MOST_THREADS}
 use Rattle.shared_memory.specs.WaitQueue.{WaitQueue, answer_due, after_answer}
 use Rattle.schedule.specs.System.{put}
 use Rattle.schedule.proofs.Basics.{put-same, put-other}
@@ -67,7 +67,7 @@ all_none (o ∷ due) (suc n) long h =
     let rest : due ≡ replicate n None = all_none due n (omega (arith, long)) (λ m below. h (suc m) (omega (arith, below))) in
     ap (λ x. x ∷ due) first ∙ ap (λ xs. None ∷ xs) rest
 
-pub told_every : (q now : WaitQueue) → length q.due ≡ most_threads → IsToldUntil most_threads q now → now ≡ without_dues q
+pub told_every : (q now : WaitQueue) → length q.due ≡ MOST_THREADS → IsToldUntil MOST_THREADS q now → now ≡ without_dues q
 told_every q now long is =
     ap (λ due. record now { due = due }) (all_none now.due (length now.due) refl (λ m h. is.done m (omega (arith, h, is.long, long)))) ∙ is.same
 
@@ -105,8 +105,8 @@ told_put s f q now k is m = elim (cases_eq m k) [
 ]
 
 -- at the end
-pub told_all : (s : Setting) (f : ℕ → Running) (q : WaitQueue) → length q.due ≡ most_threads → (m : ℕ) → all_hear s f q m ≡ told_until s f q most_threads m
-told_all s f q long m = elim (cases_lt m most_threads) [
-  | inl below ↦ sym (told_below s f q most_threads m below)
-  | inr past ↦ ap (λ o. hears_any (system_by s) (f m) o) (get_or_past q.due m None (omega (arith, long, past))) ∙ sym (told_above s f q most_threads m past)
+pub told_all : (s : Setting) (f : ℕ → Running) (q : WaitQueue) → length q.due ≡ MOST_THREADS → (m : ℕ) → all_hear s f q m ≡ told_until s f q MOST_THREADS m
+told_all s f q long m = elim (cases_lt m MOST_THREADS) [
+  | inl below ↦ sym (told_below s f q MOST_THREADS m below)
+  | inr past ↦ ap (λ o. hears_any (system_by s) (f m) o) (get_or_past q.due m None (omega (arith, long, past))) ∙ sym (told_above s f q MOST_THREADS m past)
 ]

@@ -11,7 +11,7 @@ use Rattle.types.specs.declared.event.Answer.{Answer}
 use Rattle.types.specs.declared.event.Entry as entries
 use Rattle.types.specs.declared.outcome.Outcome.{Outcome}
 use Rattle.types.specs.declared.outcome.ThreadReport.{ThreadReport}
-use Rattle.types.specs.Limits.{most_threads}
+use Rattle.types.specs.declared.limits.TheConstants.{MOST_THREADS}
 use Rattle.shared_memory.specs.Memory.{Memory}
 use Rattle.shared_memory.specs.WaitQueue.{WaitQueue, next_id, after_question, answer_due, after_answer}
 use Rattle.schedule.specs.System.{State, Want.Calls, put}
@@ -65,7 +65,7 @@ TakesDue before after n = MatchOption (answer_due before n) (after ≡ before) (
 
 -- Where a question is a spawn, there is a slot for each number.
 abbrev pub HasSlots : Question → ℕ → Type 0
-HasSlots question slots = (arg : ℕ) → question ≡ Spawn arg → slots ≡ most_threads
+HasSlots question slots = (arg : ℕ) → question ≡ Spawn arg → slots ≡ MOST_THREADS
 
 -- A state after a mark of a thread, and after a schedule; the entries of that.
 abbrev pub after_kind : ℕ → systems.Kind → Setting → State Shared Running → State Shared Running
@@ -94,7 +94,7 @@ module _ {S : Type 0} (meaning : S → Meaning) where
   pub record IsAt (s : Setting) (machine : Machine S) (w : State Shared Running) : Type 0 where
     pub shared : w.shared ≡ record { memory = machine.memory; queue = machine.queue }
     pub threads : AreThreads s machine.threads.items w.threads
-    pub slots : 0 < s.program.imported → length machine.threads.items ≡ most_threads
+    pub slots : 0 < s.program.imported → length machine.threads.items ≡ MOST_THREADS
     pub next : machine.next_id ≡ next_id machine.queue
     pub orderly : IsOrderly s.program w.shared.queue w.threads
 
@@ -112,7 +112,7 @@ module _ {S : Type 0} (meaning : S → Meaning) where
   -- It begins as a run does, with thread 0 at its start, and a slot for each number where threads can be spawned.
   abbrev pub BeginsWith : List (Stepped S) → Memory → Machine S → Type 0
   BeginsWith xs memory machine = (s : Setting) (main : Config) → AreThreads s xs (first_thread (Runs (At main) s.fuel))
-      → (0 < s.program.imported → length xs ≡ most_threads) → IsAt s machine (first_state (start_of s main memory))
+      → (0 < s.program.imported → length xs ≡ MOST_THREADS) → IsAt s machine (first_state (start_of s main memory))
 
   -- What is handed out at a mark is the entry that the mark makes, if it makes one.
   abbrev pub MakesEntry : Machine S → Option entries.Entry → ℕ → systems.Kind → Type 0
@@ -127,7 +127,7 @@ module _ {S : Type 0} (meaning : S → Meaning) where
   -- A list has the reports of the threads that have left; one that has left has no more units left than it had at
   -- first.
   abbrev pub AreReports : Machine S → List ThreadReport → Type 0
-  AreReports machine reports = AtEach machine (λ s w. reports ≡ reports_below most_threads s.fuel w.threads)
+  AreReports machine reports = AtEach machine (λ s w. reports ≡ reports_below MOST_THREADS s.fuel w.threads)
 
   abbrev pub LeavesWithin : Machine S → ℕ → Type 0
   LeavesWithin machine n = (s : Setting) (w : State Shared Running) (outcome : Outcome) (left : ℕ) → IsAt s machine w

@@ -2,7 +2,7 @@
 ghost use Rattle.std.specs.Prelude.{◌≡◌, ◌<◌, Some, false, length, OnOk, OnErr};
 ghost use Rattle.types.specs.declared.event.Event.{Event};
 ghost use Rattle.types.specs.declared.event.Event.TheVariants.{Ask};
-ghost use Rattle.types.specs.Limits.{most_threads};
+ghost use Rattle.types.specs.declared.limits.TheConstants.{MOST_THREADS};
 ghost use Rattle.shared_memory.specs.Events.{IsEvent, IsQuestion, is_of_queue};
 ghost use Rattle.shared_memory.specs.Memory.{reply_of};
 ghost use Rattle.shared_memory.specs.WaitQueue.{IsFree, next_id, after_question};
@@ -49,7 +49,7 @@ fn tell<T: TakesTurns>(queue: &mut Queue, threads: &mut Vec<Stepped<T>>, n: u32)
 
 /// Each thread to which an answer is due hears it.
 fn tell_all<T: TakesTurns>(queue: &mut Queue, threads: &mut Vec<Stepped<T>>)
-    requires due { length queue.old.due ≡ most_threads }
+    requires due { length queue.old.due ≡ MOST_THREADS }
     requires threads { MayBeTold T.meaning threads.old.items queue.old }
     ensures queue { queue.new ≡ without_dues queue.old }
     ensures slots { length threads.new.items ≡ length threads.old.items }
@@ -212,7 +212,7 @@ impl<T: TakesTurns> Machine<T> {
     /// Asks a question of a thread that awaits its answer already. Who is given an answer by it hears that at once, and
     /// a spawn starts its thread.
     fn ask(&mut self, n: u32, question: Question, loaded: u64)
-        requires due { length (after_question self.old.queue n question loaded).due ≡ most_threads }
+        requires due { length (after_question self.old.queue n question loaded).due ≡ MOST_THREADS }
         requires next { self.old.next_id ≡ next_id self.old.queue }
         requires free { IsFree self.old.queue n }
         requires slots { HasSlots question (length self.old.threads.items) }
@@ -232,11 +232,11 @@ impl<T: TakesTurns> Machine<T> {
 
     /// Starts the thread of the next number with an argument, unless all numbers are given out.
     fn start_next(&mut self, arg: u32)
-        requires slots { length self.old.threads.items ≡ most_threads }
+        requires slots { length self.old.threads.items ≡ MOST_THREADS }
         requires threads { NextIsAbsent T.meaning self.old }
         ensures memory { self.new.memory ≡ self.old.memory }
         ensures queue { self.new.queue ≡ self.old.queue }
-        ensures slots { length self.new.threads.items ≡ most_threads }
+        ensures slots { length self.new.threads.items ≡ MOST_THREADS }
         ensures next { self.new.next_id ≡ next_after self.old.next_id (Question.Spawn arg) }
         ensures threads { StartsNext T.meaning self.old self.new arg }
     {

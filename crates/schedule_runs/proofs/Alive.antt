@@ -13,7 +13,7 @@ use Rattle.types.specs.declared.event.Answer.TheVariants.{Number}
 use Rattle.types.specs.declared.event.Reply.{Reply}
 use Rattle.types.specs.declared.event.Reply.TheVariants as replies
 use Rattle.types.specs.declared.event.Entry as entries
-use Rattle.types.specs.Limits.{most_threads}
+use Rattle.types.specs.declared.limits.TheConstants.{MOST_THREADS}
 use Rattle.shared_memory.specs.declared.sleeper.Sleeper.{Sleeper}
 use Rattle.shared_memory.specs.WaitQueue.{WaitQueue, first_queue, is_alive, next_id, tells, wakes, sleeps, starts}
 use Rattle.shared_memory.specs.WaitQueue.{ends_at_once, ended, end_answer, is_stuck, settled, asked, after_question}
@@ -150,7 +150,7 @@ alive_until_from most H m known =
 
 pub alive_until : (H : List entries.Entry) (m : ℕ) → m < next_id (queue_after H) → (is_alive (queue_after H) m ≡ true) ⊎ HasLeave m H
 alive_until H m known =
-    elim (alive_from (first_queue most_threads) H m (there_first most_threads m)) [
+    elim (alive_from (first_queue MOST_THREADS) H m (there_first MOST_THREADS m)) [
       | inl there ↦ inl (subst (λ (q : WaitQueue). IsThere m q) (sym (queue_after-all H)) there known)
       | inr has ↦ inr has
     ]

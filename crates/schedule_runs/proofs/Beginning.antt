@@ -11,7 +11,7 @@ use Rattle.types.specs.declared.event.Answer.{Answer}
 use Rattle.types.specs.declared.event.Reply.{Reply}
 use Rattle.types.specs.declared.event.Reply.TheVariants as replies
 use Rattle.types.specs.declared.event.Entry as entries
-use Rattle.types.specs.Limits.{most_threads}
+use Rattle.types.specs.declared.limits.TheConstants.{MOST_THREADS}
 use Rattle.shared_memory.specs.Memory.{Memory, reply_of, state_after}
 use Rattle.shared_memory.specs.WaitQueue.{WaitQueue, first_queue, next_id, after_question, after_answer}
 use Rattle.shared_memory.specs.History.{queue_step, queue_from, queue_after}
@@ -154,5 +154,5 @@ pub started_run : (b : Start) (H : List entries.Entry) (steps : ℕ → List (St
     (ends : ℕ → Begun) → IsStarted b.opening H → RunBy b (queue_after H) steps ends
     → StartedRun (system_of b) steps ends (first_shared b) (as_acts H)
 started_run b H steps ends legal runs =
-    started_from b (queue_after H) steps ends runs b.opening (first_queue most_threads) first_places (first_shared b) H
+    started_from b (queue_after H) steps ends runs b.opening (first_queue MOST_THREADS) first_places (first_shared b) H
     (legal_from b.opening H legal) IsSound-first first_stand (first_is b) (queue_after-all H)

@@ -4,7 +4,7 @@ use Rattle.std.proofs.lemmas.Bool.{cond-false, ne_eqb}
 use Rattle.types.specs.declared.event.Event.{Event}
 use Rattle.types.specs.declared.event.Reply.{Reply}
 use Rattle.types.specs.declared.event.Entry as entries
-use Rattle.types.specs.Limits.{most_threads}
+use Rattle.types.specs.declared.limits.TheConstants.{MOST_THREADS}
 use Rattle.shared_memory.specs.Memory.{Memory, state_after}
 use Rattle.shared_memory.specs.WaitQueue.{WaitQueue, first_queue, next_id}
 use Rattle.shared_memory.specs.History.{queue_step, queue_from, queue_after}
@@ -37,4 +37,4 @@ idle_from mem q (e ∷ H) n legal sound past =
 
 pub idle : (b : Start) (H : List entries.Entry) (n : ℕ) → IsStarted b.opening H → next_id (queue_after H) ≤ n → acts_of n (as_acts H) ≡ []
 idle b H n legal past =
-    idle_from b.opening (first_queue most_threads) H n (legal_from b.opening H legal) IsSound-first (subst (λ (q : WaitQueue). next_id q ≤ n) (queue_after-all H) past)
+    idle_from b.opening (first_queue MOST_THREADS) H n (legal_from b.opening H legal) IsSound-first (subst (λ (q : WaitQueue). next_id q ≤ n) (queue_after-all H) past)

@@ -6,7 +6,7 @@ use Rattle.types.specs.declared.event.Event.{Event}
 use Rattle.types.specs.declared.event.Event.TheVariants as events
 use Rattle.types.specs.declared.event.Reply.{Reply}
 use Rattle.types.specs.declared.event.Entry as entries
-use Rattle.types.specs.Limits.{most_threads}
+use Rattle.types.specs.declared.limits.TheConstants.{MOST_THREADS}
 use Rattle.shared_memory.specs.WaitQueue.{WaitQueue, first_queue, after_answer}
 use Rattle.shared_memory.specs.History.{of_queue, queue_step, queue_from, queue_after}
 use Rattle.shared_memory.specs.Legal.{IsAllowed, IsQueueLegalFrom, IsQueueLegal}
@@ -19,7 +19,7 @@ use Rattle.schedule_runs.proofs.Linked.{rest_legal, queue_after-all}
 
 -- the queue after both parts of a list
 whole : (xs ys : List entries.Entry) → queue_after (xs ++ ys) ≡ queue_from (queue_after xs) ys
-whole xs ys = queue_after-all (xs ++ ys) ∙ (queue_from-append (first_queue most_threads) xs ys ∙ ap (λ (q : WaitQueue). queue_from q ys) (sym (queue_after-all xs)))
+whole xs ys = queue_after-all (xs ++ ys) ∙ (queue_from-append (first_queue MOST_THREADS) xs ys ∙ ap (λ (q : WaitQueue). queue_from q ys) (sym (queue_after-all xs)))
 
 pub beginnings_stay : BeginningsStay
 beginnings_stay b xs ys zero c is = is
@@ -54,7 +54,7 @@ over_from q (e ∷ H) legal over =
 
 legal_rest : (xs ys : List entries.Entry) → IsQueueLegal (xs ++ ys) → IsQueueLegalFrom (queue_after xs) (of_queue ys)
 unfolding IsQueueLegal queue_after
-legal_rest xs ys legal = IsQueueLegalFrom-rest (first_queue most_threads) (of_queue xs) (of_queue ys) (subst (IsQueueLegalFrom (first_queue most_threads)) (of_queue-append xs ys) legal)
+legal_rest xs ys legal = IsQueueLegalFrom-rest (first_queue MOST_THREADS) (of_queue xs) (of_queue ys) (subst (IsQueueLegalFrom (first_queue MOST_THREADS)) (of_queue-append xs ys) legal)
 
 pub nobody_later : NobodyBeginsLater
 nobody_later b xs ys zero legal over none = absurd (cc none)

@@ -7,7 +7,7 @@ use Rattle.types.specs.declared.event.Event.TheVariants as events
 use Rattle.types.specs.declared.event.Answer.{Answer}
 use Rattle.types.specs.declared.event.Reply.{Reply}
 use Rattle.types.specs.declared.event.Entry as entries
-use Rattle.types.specs.Limits.{most_threads}
+use Rattle.types.specs.declared.limits.TheConstants.{MOST_THREADS}
 use Rattle.shared_memory.specs.Memory.{Memory, state_after}
 use Rattle.shared_memory.specs.WaitQueue.{WaitQueue, first_queue, next_id}
 use Rattle.shared_memory.specs.History.{entry, of_queue, memory_after, queue_step, queue_from, queue_after}
@@ -42,9 +42,9 @@ all_from : (q : WaitQueue) (H : List entries.Entry) → queue_from q (of_queue H
 all_from q [] = refl
 all_from q (e ∷ H) = rest_queue q e.thread e.event e.reply H ∙ all_from (queue_step q e.thread e.event e.reply) H
 
-pub queue_after-all : (H : List entries.Entry) → queue_after H ≡ queue_from (first_queue most_threads) H
+pub queue_after-all : (H : List entries.Entry) → queue_after H ≡ queue_from (first_queue MOST_THREADS) H
 unfolding queue_after
-queue_after-all H = all_from (first_queue most_threads) H
+queue_after-all H = all_from (first_queue MOST_THREADS) H
 
 -- Each entry is of a thread that was started.
 abbrev pub AreStartedFrom : WaitQueue → List entries.Entry → Type 0
@@ -59,7 +59,7 @@ started_prefix q (x ∷ xs) ys started = (started.0, started_prefix (queue_step 
 pub record IsStarted (mem : Memory) (H : List entries.Entry) : Type 0 where
   pub memory : IsMemoryLegal mem H
   pub queue : IsQueueLegal H
-  pub started : AreStartedFrom (first_queue most_threads) H
+  pub started : AreStartedFrom (first_queue MOST_THREADS) H
 
 -- such a one from a memory and a queue on
 pub record IsLegalFrom (mem : Memory) (q : WaitQueue) (H : List entries.Entry) : Type 0 where
@@ -67,7 +67,7 @@ pub record IsLegalFrom (mem : Memory) (q : WaitQueue) (H : List entries.Entry) :
   pub queue : IsQueueLegalFrom q (of_queue H)
   pub started : AreStartedFrom q H
 
-pub legal_from : (mem : Memory) (H : List entries.Entry) → IsStarted mem H → IsLegalFrom mem (first_queue most_threads) H
+pub legal_from : (mem : Memory) (H : List entries.Entry) → IsStarted mem H → IsLegalFrom mem (first_queue MOST_THREADS) H
 unfolding IsQueueLegal
 legal_from mem H legal = record { memory = legal.memory; queue = legal.queue; started = legal.started }
 
@@ -75,7 +75,7 @@ pub prefix_legal : (mem : Memory) (xs ys : List entries.Entry) → IsStarted mem
 prefix_legal mem xs ys legal = record {
   memory = IsMemoryLegal-prefix mem xs ys legal.memory;
   queue = IsQueueLegal-prefix xs ys legal.queue;
-  started = started_prefix (first_queue most_threads) xs ys legal.started;
+  started = started_prefix (first_queue MOST_THREADS) xs ys legal.started;
 }
 
 module _ (mem : Memory) (q : WaitQueue) (e : entries.Entry) (H : List entries.Entry) (legal : IsLegalFrom mem q (e ∷ H)) where
@@ -120,7 +120,7 @@ first_is_for most b =
     ap (λ (k : ℕ). record { memory = b.opening; queue = record (first_queue most) { due = replicate k None } })
     (sym (length-replicate most None))
 
-pub first_is : (b : Start) → first_shared b ≡ shared_of b.opening (first_queue most_threads)
+pub first_is : (b : Start) → first_shared b ≡ shared_of b.opening (first_queue MOST_THREADS)
 unfolding first_queue
 first_is b = refl
 
@@ -133,12 +133,12 @@ first_stand_for most m =
       | inr apart ↦ put-other (λ (k : ℕ). Unstarted) 0 Free m apart ∙ sym (place_unstarted (first_queue most) m (omega arith))
     ]
 
-pub first_stand : StandAt (first_queue most_threads) first_places
-first_stand = first_stand_for most_threads
+pub first_stand : StandAt (first_queue MOST_THREADS) first_places
+first_stand = first_stand_for MOST_THREADS
 
 -- so a legal history is one
-pub linked : (b : Start) (H : List entries.Entry) → IsStarted b.opening H → Linked b b.opening (first_queue most_threads) first_places (first_shared b) H
-linked b H legal = linked_from b b.opening (first_queue most_threads) first_places (first_shared b) H (legal_from b.opening H legal) IsSound-first first_stand (first_is b)
+pub linked : (b : Start) (H : List entries.Entry) → IsStarted b.opening H → Linked b b.opening (first_queue MOST_THREADS) first_places (first_shared b) H
+linked b H legal = linked_from b b.opening (first_queue MOST_THREADS) first_places (first_shared b) H (legal_from b.opening H legal) IsSound-first first_stand (first_is b)
 
 -- after it threads stand where its queue has them
 pub stand_after : (b : Start) (H : List entries.Entry) → IsStarted b.opening H

@@ -9,7 +9,7 @@ use Rattle.types.specs.declared.event.Answer.{Answer}
 use Rattle.types.specs.declared.event.Reply.{Reply}
 use Rattle.types.specs.declared.event.Entry as entries
 use Rattle.types.specs.declared.outcome.Outcome.{Outcome}
-use Rattle.types.specs.Limits.{most_threads}
+use Rattle.types.specs.declared.limits.TheConstants.{MOST_THREADS}
 use Rattle.shared_memory.specs.Memory.{Memory}
 use Rattle.shared_memory.specs.WaitQueue.{WaitQueue, first_queue, next_id}
 use Rattle.shared_memory.specs.History.{entries_of, queue_from, queue_after}
@@ -85,7 +85,7 @@ began_before before xs ys e fresh begins =
 next_after : (xs ys : List entries.Entry) → next_id (queue_after xs) ≤ next_id (queue_after (xs ++ ys))
 next_after xs ys =
     let whole : queue_after (xs ++ ys) ≡ queue_from (queue_after xs) ys =
-    queue_after-all (xs ++ ys) ∙ (queue_from-append (first_queue most_threads) xs ys ∙ ap (λ (q : WaitQueue). queue_from q ys) (sym (queue_after-all xs))) in
+    queue_after-all (xs ++ ys) ∙ (queue_from-append (first_queue MOST_THREADS) xs ys ∙ ap (λ (q : WaitQueue). queue_from q ys) (sym (queue_after-all xs))) in
     subst (λ (q : WaitQueue). next_id (queue_after xs) ≤ next_id q) (sym whole) (next_along (queue_after xs) ys)
 
 module _ (b : Start) (loses : Bool) (limit : Option ℕ) (H : List entries.Entry) (outcomes : ℕ → Outcome) (lefts : ℕ → ℕ)
@@ -105,13 +105,13 @@ module _ (b : Start) (loses : Bool) (limit : Option ℕ) (H : List entries.Entry
           (next_after r.before p.0) in
           omega arith
 
-  started_rest : (xs ys : List entries.Entry) → H ≡ xs ++ ys → AreStartedFrom (queue_from (first_queue most_threads) xs) ys
+  started_rest : (xs ys : List entries.Entry) → H ≡ xs ++ ys → AreStartedFrom (queue_from (first_queue MOST_THREADS) xs) ys
   started_rest xs [] is = tt
   started_rest xs (e ∷ ys) is = (
     subst (λ (q : WaitQueue). e.thread < next_id q) (queue_after-all xs) (entry_started xs ys e is),
-    subst (λ (q : WaitQueue). AreStartedFrom q ys) (queue_from-append (first_queue most_threads) xs (e ∷ []))
+    subst (λ (q : WaitQueue). AreStartedFrom q ys) (queue_from-append (first_queue MOST_THREADS) xs (e ∷ []))
         (started_rest (xs ++ e ∷ []) ys (is ∙ sym (append_assoc xs (e ∷ []) ys))),
   )
 
-  pub all_started : AreStartedFrom (first_queue most_threads) H
+  pub all_started : AreStartedFrom (first_queue MOST_THREADS) H
   all_started = started_rest [] H refl

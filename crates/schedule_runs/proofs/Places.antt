@@ -10,7 +10,7 @@ use Rattle.types.specs.declared.event.Question.TheVariants.{Wait, Notify, Spawn,
 use Rattle.types.specs.declared.event.Answer.{Answer}
 use Rattle.types.specs.declared.event.Answer.TheVariants.{Number}
 use Rattle.types.specs.declared.event.Reply.TheVariants as replies
-use Rattle.types.specs.Limits.{most_threads}
+use Rattle.types.specs.declared.limits.TheConstants.{MOST_THREADS}
 use Rattle.shared_memory.specs.declared.sleeper.Sleeper.{Sleeper}
 use Rattle.shared_memory.specs.WaitQueue.{WaitQueue, is_asleep, answer_due, next_id, tells, wakes, sleeps, starts}
 use Rattle.shared_memory.specs.WaitQueue.{ends_at_once, ended, end_answer, is_stuck, settled, asked, after_question}
@@ -68,7 +68,7 @@ IsSound-without q sound = record {
   once = sound.once;
   unanswered = λ n is. none_due q n;
   owed = λ n a due. absurd (cc (due, none_due q n));
-  due_length = subst (λ (k : ℕ). k ≤ most_threads) (sym (length-replicate {A = Option Answer} (length q.due) None)) sound.due_length;
+  due_length = subst (λ (k : ℕ). k ≤ MOST_THREADS) (sym (length-replicate {A = Option Answer} (length q.due) None)) sound.due_length;
   few = subst (λ (k : ℕ). length q.args < k) (sym (length-replicate {A = Option Answer} (length q.due) None)) sound.few;
 }
 

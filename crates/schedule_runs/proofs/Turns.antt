@@ -7,7 +7,7 @@ use Rattle.types.specs.declared.event.Question.TheVariants.{Leave}
 use Rattle.types.specs.declared.event.Answer.{Answer}
 use Rattle.types.specs.declared.event.Reply.{Reply}
 use Rattle.types.specs.declared.event.Entry as entries
-use Rattle.types.specs.Limits.{most_threads}
+use Rattle.types.specs.declared.limits.TheConstants.{MOST_THREADS}
 use Rattle.shared_memory.specs.WaitQueue.{WaitQueue, first_queue, is_asleep, answer_due, next_id, IsFree}
 use Rattle.shared_memory.specs.History.{queue_from, queue_after}
 use Rattle.shared_memory.specs.Legal.{IsInTurn, IsWellFormedFrom, IsWellFormed}
@@ -104,11 +104,11 @@ module _ (b : Start) (H : List entries.Entry) (legal : IsStarted b.opening H)
       (ordered_at b (first_shared b) first_places (as_acts xs) (acted e) (as_acts ys) split)
       (λ made free. free_before xs ys e is made (sym (stand_after b xs before e.thread) ∙ free))
 
-  turns_from : (xs ys : List entries.Entry) → H ≡ xs ++ ys → IsWellFormedFrom (queue_from (first_queue most_threads) xs) ys
+  turns_from : (xs ys : List entries.Entry) → H ≡ xs ++ ys → IsWellFormedFrom (queue_from (first_queue MOST_THREADS) xs) ys
   turns_from xs [] is = tt
   turns_from xs (e ∷ ys) is = (
     subst (λ (q : WaitQueue). IsInTurn q e.thread e.event) (queue_after-all xs) (turn_at xs ys e is),
-    subst (λ (q : WaitQueue). IsWellFormedFrom q ys) (queue_from-append (first_queue most_threads) xs (e ∷ []))
+    subst (λ (q : WaitQueue). IsWellFormedFrom q ys) (queue_from-append (first_queue MOST_THREADS) xs (e ∷ []))
         (turns_from (xs ++ e ∷ []) ys (is ∙ sym (append_assoc xs (e ∷ []) ys))),
   )
 

@@ -1,11 +1,12 @@
--- The threads of a module that ran together, and the history that they made: as the theorem of one schedule asks for them.
+-- The threads of a module that ran together, and the history that they made: as the theorem of one schedule asks for
+-- them.
 use Rattle.std.specs.Prelude.{ℕ, zero, suc, ◌≡◌, Bool, List, [], ◌++◌, map, Option, Some, None}
 use Rattle.types.specs.declared.event.Event.{Event}
 use Rattle.types.specs.declared.event.Reply.{Reply}
 use Rattle.types.specs.declared.event.Answer.{Answer}
 use Rattle.types.specs.declared.event.Entry as entries
 use Rattle.types.specs.declared.outcome.Outcome.{Outcome}
-use Rattle.types.specs.Limits.{most_threads}
+use Rattle.types.specs.declared.limits.TheConstants.{MOST_THREADS}
 use Rattle.shared_memory.specs.Memory.{Memory}
 use Rattle.shared_memory.specs.WaitQueue.{first_queue}
 use Rattle.shared_memory.specs.History.{entries_of, queue_after}
@@ -28,8 +29,8 @@ acted e = record { thread = e.thread; act = act_of e }
 abbrev pub as_acts : List entries.Entry → List (Entry Event Reply Answer)
 as_acts H = map acted H
 
--- What a module starts with: its program; the state in which thread 0 begins, and the one in which a spawned thread begins,
--- by its number and argument; the budget of each; and the opening memory.
+-- What a module starts with: its program; the state in which thread 0 begins, and the one in which a spawned thread
+-- begins, by its number and argument; the budget of each; and the opening memory.
 pub record Start : Type 0 where
   pub program : Program
   pub main : State
@@ -50,10 +51,10 @@ state_for most b = record { shared = shared_for most b; threads = put (λ (m : �
 
 -- A run has 64 threads at most.
 abbrev pub first_shared : Start → Shared
-first_shared b = shared_for most_threads b
+first_shared b = shared_for MOST_THREADS b
 
 abbrev pub first_state : Start → systems.State Shared (Thread State Outcome)
-first_state b = state_for most_threads b
+first_state b = state_for MOST_THREADS b
 
 abbrev pub first_places : ℕ → Place Answer
 first_places = put (λ (m : ℕ). Unstarted) 0 Free
@@ -68,8 +69,8 @@ abbrev pub begins_in : Start → List entries.Entry → ℕ → Option State
 begins_in b H zero = Some b.main
 begins_in b H (suc k) = if_spawned (b.spawned (suc k)) (arg_of (queue_after H) (suc k))
 
--- Thread n of a history ran from its beginning in a state to its end: it began where it saw that it was started, and had
--- entered nothing; and the history goes on from the last list that it saw, without entries of it.
+-- Thread n of a history ran from its beginning in a state to its end: it began where it saw that it was started, and
+-- had entered nothing; and the history goes on from the last list that it saw, without entries of it.
 pub record HasRun (b : Start) (loses : Bool) (limit : Option ℕ) (H : List entries.Entry) (n : ℕ) (c : State)
     (outcome : Outcome) (left : ℕ) : Type 0 where
   pub before : List entries.Entry
@@ -90,8 +91,8 @@ AllHaveRun b loses limit H outcomes lefts =
 abbrev pub AreOfThreads : Start → List entries.Entry → Type 0
 AreOfThreads b H = (n : ℕ) → begins_in b H n ≡ None → entries_of n H ≡ []
 
--- Threads made a history together: it is legal for the memory and for the wait queue, each thread ran to its end in it, and
--- nobody else entered anything.
+-- Threads made a history together: it is legal for the memory and for the wait queue, each thread ran to its end in it,
+-- and nobody else entered anything.
 pub record RanTogether (b : Start) (loses : Bool) (limit : Option ℕ) (H : List entries.Entry) (outcomes : ℕ → Outcome)
     (lefts : ℕ → ℕ) : Type 0 where
   pub memory : IsMemoryLegal b.opening H

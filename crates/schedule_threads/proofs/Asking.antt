@@ -26,7 +26,7 @@ use Rattle.types.specs.declared.outcome.Outcome.{Outcome}
 use Rattle.types.specs.declared.outcome.Trap.TheVariants as traps
 use Rattle.types.specs.Nesting.{Code, Empty, Then, BlockThen, LoopThen, IfThen, IfElseThen}
 use Rattle.types.specs.Widths.{type_bytes, access_type, access_bytes}
-use Rattle.types.specs.Limits.{most_values, most_frames}
+use Rattle.types.specs.declared.limits.TheConstants.{MOST_VALUES, MOST_FRAMES}
 use Rattle.interp_numeric.specs.Integers.{signed}
 use Rattle.interp_numeric.specs.Results.{NumericResult, NumericResult.Traps, numeric_result}
 use Rattle.schedule.specs.System.{Want.Calls}
@@ -113,7 +113,7 @@ module _ (p : Program) where
   -- calls
 
   opens_waits : (c inner : Config) → IsWell p (opens c inner)
-  opens_waits c inner = if_waits (nat_lt (length inner.callers) most_frames) (Goes inner)
+  opens_waits c inner = if_waits (nat_lt (length inner.callers) MOST_FRAMES) (Goes inner)
       (Traps traps.StackExhausted) record { waits = tt } record { waits = tt }
 
   own_waits : (c : Config) (t : FuncType) (f : Function) (rest : Code) (operands : List Value) → IsWell p (calls_own c t f rest operands)
@@ -258,7 +258,7 @@ module _ (p : Program) where
   -- the step
 
   if_room_waits : (after : Config) (go : Next) → IsWell p go → IsWell p (if_room after go)
-  if_room_waits after go h = if_waits (nat_le (values_of after) most_values) go (Traps traps.StackExhausted) h record { waits = tt }
+  if_room_waits after go h = if_waits (nat_le (values_of after) MOST_VALUES) go (Traps traps.StackExhausted) h record { waits = tt }
 
   limited_waits : (go : Next) → IsWell p go → IsWell p (limited go)
   limited_waits Stuck h = h

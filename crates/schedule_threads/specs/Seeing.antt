@@ -30,9 +30,8 @@ reply_with (Heard answer) = replies.Done
 abbrev pub entered : ℕ → Act Event Reply Answer → Entry
 entered n act = entry n (event_of act) (reply_with act)
 
--- The list that thread n has seen goes on, in one step, with entries of others:
--- a try is lost only where one of them changes what its event touches, and a compare-exchange only where its expected value
--- was there;
+-- The list that thread n has seen goes on, in one step, with entries of others: a try is lost only where one of them
+-- changes what its event touches, and a compare-exchange only where its expected value was there;
 pub record SeesLost (loses : Bool) (opening : Memory) (n : ℕ) (event : Event) (before after : List Entry) : Type 0 where
   pub others : List Entry
   pub list : after ≡ before ++ others
@@ -71,8 +70,8 @@ SeesAll loses opening limit n before [] last = before ≡ last
 SeesAll loses opening limit n before (p ∷ steps) last =
     (after : List Entry) × Sees loses opening limit n p before after × SeesAll loses opening limit n after steps last
 
--- Thread n runs from one state to its end, by steps of the thread machine, and sees these lists meanwhile. What threads share
--- has no part in it.
+-- Thread n runs from one state to its end, by steps of the thread machine, and sees these lists meanwhile. What threads
+-- share has no part in it.
 pub record RunsToEnd (p : Program) (loses : Bool) (opening : Memory) (limit : Option ℕ) (n : ℕ)
     (first : Thread State Outcome) (outcome : Outcome) (left : ℕ)
     (before after : List Entry) : Type 0 where

@@ -1,6 +1,7 @@
--- What threads share in the scheduled machine: the sequential memory, and the wait queue without the answers that are due. Those
--- belong to the threads' places in a history.
-use Rattle.std.specs.Prelude.{ℕ, ◌==◌, ◌&&◌, Bool, true, false, cond, nat_lt, length, replicate, Option, Some, None, List}
+-- What threads share in the scheduled machine: the sequential memory, and the wait queue without the answers that are
+-- due. Those belong to the threads' places in a history.
+use Rattle.std.specs.Prelude.{ℕ, ◌==◌, ◌&&◌, Bool, true, false, cond, nat_lt, length, replicate, Option, Some, None}
+use Rattle.std.specs.Prelude.{List}
 use Rattle.types.specs.declared.event.Event.{Event}
 use Rattle.types.specs.declared.event.Event.TheVariants as events
 use Rattle.types.specs.declared.event.Question.TheVariants as questions
@@ -47,7 +48,11 @@ module _ {C : Type 0} (k : Machine C Event Reply Answer Outcome) (start : ℕ �
   abbrev pub over_memory_and_queue : System Shared (Thread C Outcome) Event Reply Answer
   over_memory_and_queue =
       system k (λ (x : Shared) (n : ℕ) (e : Event). reply_of x.memory e)
-      (λ (x : Shared) (n : ℕ) (e : Event). record { memory = state_after x.memory e; queue = without_dues (queue_by x n e) })
+      (λ (x : Shared) (n : ℕ) (e : Event). record {
+        memory = state_after x.memory e;
+        queue =
+            without_dues (queue_by x n e);
+      })
       (λ (x : Shared) (n : ℕ) (e : Event) (m : ℕ). answer_due (queue_by x n e) m)
       (λ (x : Shared) (n : ℕ) (e : Event) (m : ℕ). starts_by x e m)
 
@@ -61,8 +66,15 @@ act_of e = act_by e.event e.reply
 
 -- What a lost try is lost to, and how many entries a log takes.
 abbrev pub try_rules : Bool → Option ℕ → TryRules Shared Event (List ℕ)
-try_rules loses limit = record { loses = loses; touched = λ x e. touched x.memory e; limit = limit; is_exempt = is_exempt }
+try_rules loses limit = record {
+  loses = loses;
+  touched = λ x e. touched x.memory e;
+  limit = limit;
+  is_exempt =
+      is_exempt;
+}
 
 abbrev pub ThreadsOverMemoryAndQueueKeepTheLaws : Type 0 → Type 0
 ThreadsOverMemoryAndQueueKeepTheLaws C =
-    (k : Machine C Event Reply Answer Outcome) (start : ℕ → ℕ → C) (fuel : ℕ) → MachineLaws k → Laws (over_memory_and_queue k start fuel)
+    (k : Machine C Event Reply Answer Outcome) (start : ℕ → ℕ → C) (fuel : ℕ) → MachineLaws k
+    → Laws (over_memory_and_queue k start fuel)

@@ -11,8 +11,8 @@ ghost use Rattle.interp_machine.specs.Program.{Program};
 ghost use Rattle.schedule_threads.specs.Shared.{ThreadsOverMemoryAndQueueKeepTheLaws};
 ghost use Rattle.schedule_threads.specs.Threads.{machine_of};
 
-/// Threads with a budget of units, over any machine of configurations that keeps the laws of one, over the sequential memory
-/// and the wait queue, are threads of a system of which the theorem of one schedule speaks.
+/// Threads with a budget of units, over any machine of configurations that keeps the laws of one, over the sequential
+/// memory and the wait queue, are threads of a system of which the theorem of one schedule speaks.
 pub fn threads_over_memory_and_queue_keep_the_laws<C>()
     ensures { ThreadsOverMemoryAndQueueKeepTheLaws C }
 {}

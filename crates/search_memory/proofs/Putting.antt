@@ -4,7 +4,7 @@ use Rattle.std.proofs.Common.{refl, sym, ◌∙◌, ap, subst, arith, inl, inr}
 use Rattle.std.proofs.lemmas.Bool.{cases_lt, cond_both, cond-true, cond-false, lt-ltb, le-ltb, ltb-true}
 use Rattle.std.proofs.lemmas.List.{length-set, set_comm, set-set, set-get_or, get_or-set_same, get_or-set_other, take_more, length-append}
 use Rattle.std.proofs.lemmas.List.{length-take, length-replicate, get_or_append_left, get_or-append_right, get_or-take, get_or-replicate, get_or_past}
-use Rattle.types.specs.Limits.{page_size, most_pages}
+use Rattle.types.specs.declared.limits.TheConstants.{PAGE_SIZE, MOST_PAGES}
 use Rattle.shared_memory_sequential.specs.Opening.{IsSized}
 use Rattle.search_memory.specs.declared.beside.Change.{Change}
 use Rattle.search_memory.specs.declared.beside.Changes.{Changes}
@@ -147,7 +147,7 @@ pub sized_alike : (opening : List ℕ) (c d : Changes) → c.len ≡ d.len → c
 sized_alike opening c d len max sized =
     let long : length (memory_of opening c).bytes ≡ length (memory_of opening d).bytes = length_memory opening c ∙ (len ∙ sym (length_memory opening d)) in
     record {
-      whole = ap (λ n. n % page_size) long ∙ sized.whole;
-      within = subst (λ n. length (memory_of opening c).bytes ≤ page_size * n) (sym max) (subst (λ n. n ≤ page_size * d.max) (sym long) sized.within);
-      small = subst (λ n. n ≤ most_pages) (sym max) sized.small;
+      whole = ap (λ n. n % PAGE_SIZE) long ∙ sized.whole;
+      within = subst (λ n. length (memory_of opening c).bytes ≤ PAGE_SIZE * n) (sym max) (subst (λ n. n ≤ PAGE_SIZE * d.max) (sym long) sized.within);
+      small = subst (λ n. n ≤ MOST_PAGES) (sym max) sized.small;
     }

@@ -13,7 +13,7 @@ use Rattle.types.specs.declared.parts.Body.{Body}
 use Rattle.types.specs.declared.parts.Parts.{Parts}
 use Rattle.types.specs.Equal.{is_type}
 use Rattle.types.specs.Values.{type_of}
-use Rattle.types.specs.Limits.{most_pages}
+use Rattle.types.specs.declared.limits.TheConstants.{MOST_PAGES}
 use Rattle.types.specs.Modules.{IsModule}
 use Rattle.validate_typing.specs.Image.{opening_image, pages_max_of}
 use Rattle.validate_typing.specs.Validity.{IsValid, IsThreaded}
@@ -108,7 +108,7 @@ idle m own t body function None is none n arg = ap At (call_is m own t body func
 idle m own t body function (Some k) is none n arg = absurd (none is.0)
 
 module _ (m : Parts) (entry : List ℕ) (args : List Value) (so : Takes m entry args) (worker : Option ℕ) (is : IsWorkerOf m worker) where
-  pub can_be_called : IsModule m → IsValid m → is_callable m (opening_image m) (pages_max_of most_pages m) so.own args worker ≡ true
+  pub can_be_called : IsModule m → IsValid m → is_callable m (opening_image m) (pages_max_of MOST_PAGES m) so.own args worker ≡ true
   can_be_called tested valid =
       ap (λ b. b && (can_call m so.own (map type_of args) && can_spawn m worker)) (module_opens m tested valid)
       ∙ (ap (λ b. b && can_spawn m worker) (callable m so.own so.func_type so.body so.exports.function (map type_of args) so.fit)
@@ -126,7 +126,7 @@ module _ (m : Parts) (entry : List ℕ) (args : List Value) (so : Takes m entry 
     idle = idle m so.own so.func_type so.body so.exports.function worker is;
   }
 
-  pub is_call : IsCall m entry args (called_of m (opening_image m) (pages_max_of most_pages m) so.own args worker)
+  pub is_call : IsCall m entry args (called_of m (opening_image m) (pages_max_of MOST_PAGES m) so.own args worker)
   is_call =
       let main = sym (call_is m so.own so.func_type so.body so.exports.function args) in
       record {
@@ -136,12 +136,12 @@ module _ (m : Parts) (entry : List ℕ) (args : List Value) (so : Takes m entry 
           main = At (main i);
           spawned = spawned_in (worker_of m so.own worker);
           fuel = fuel;
-          opening = record { bytes = opening_image m; max = pages_max_of most_pages m };
+          opening = record { bytes = opening_image m; max = pages_max_of MOST_PAGES m };
         };
       }
 
   -- so does what is the same
-  module _ (opening : List ℕ) (max own : ℕ) (opening_is : opening ≡ opening_image m) (max_is : max ≡ pages_max_of most_pages m) (own_is : own ≡ so.own) where
+  module _ (opening : List ℕ) (max own : ℕ) (opening_is : opening ≡ opening_image m) (max_is : max ≡ pages_max_of MOST_PAGES m) (own_is : own ≡ so.own) where
     pub callable_so : IsModule m → IsValid m → is_callable m opening max own args worker ≡ true
     callable_so tested valid = (λ i. is_callable m (opening_is i) (max_is i) (own_is i) args worker) ∙ can_be_called tested valid
 

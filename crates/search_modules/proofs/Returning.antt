@@ -10,7 +10,7 @@ use Rattle.types.specs.declared.event.Entry.{Entry}
 use Rattle.types.specs.declared.parts.Parts.{Parts}
 use Rattle.types.specs.declared.outcome.Outcome.{Outcome}
 use Rattle.types.specs.declared.outcome.ThreadReport.{ThreadReport}
-use Rattle.types.specs.Limits.{most_pages, most_threads}
+use Rattle.types.specs.declared.limits.TheConstants.{MOST_PAGES, MOST_THREADS}
 use Rattle.shared_memory.specs.Memory.{Memory, pages}
 use Rattle.shared_memory.specs.History.{memory_after}
 use Rattle.validate_typing.specs.Validity.{HasDistinctNames}
@@ -53,8 +53,8 @@ module _ (m : Parts) (distinct : HasDistinctNames m.exports) (entry : List ℕ) 
   header = record {
     version = versions.Two;
     module_len = m.length;
-    threads = most_threads;
-    max_pages = most_pages;
+    threads = MOST_THREADS;
+    max_pages = MOST_PAGES;
     invoke = entry;
     args = args;
     fuel = fuel;

@@ -2,7 +2,7 @@
 
 ghost use Rattle.std.specs.Prelude.{◌≡◌, ◌<◌, ◌≤◌, None, IfOk, IfSome};
 ghost use Rattle.types.specs.declared.event.Event.{Event};
-ghost use Rattle.types.specs.Limits.{most_threads};
+ghost use Rattle.types.specs.declared.limits.TheConstants.{MOST_THREADS};
 ghost use Rattle.schedule.specs.System.{State};
 ghost use Rattle.schedule.specs.Scheduled.{after_event};
 ghost use Rattle.schedule_threads.specs.Shared.{Shared};
@@ -32,7 +32,7 @@ fn rested(
 ) -> Result<Option<SharedWalker>, AllocError>
     requires after { (z : State Shared Thread) × (e : Event)
         × IsAfter searched.now.valid.now searched.now.worker made.now n standing.now m (called searched.now) z e }
-    requires few { m < most_threads }
+    requires few { m < MOST_THREADS }
     ensures rests { IfOk result (λ o. IfSome o (λ t. (z : State Shared Thread) (e : Event)
         → IsAfter searched.now.valid.now searched.now.worker made.now n standing.now m (called searched.now) z e
         → RestsAt searched.now.valid.now (called searched.now) ((after_event (system_of (called searched.now)) z n e).threads m)
@@ -62,7 +62,7 @@ pub(crate) fn thread_after(
     m: usize,
 ) -> Result<Option<SharedWalker>, AllocError>
     requires { (z : State Shared Thread) × (e : Event) × IsMade searched.now made.now n z e
-        × IsThread searched.now thread.now (z.threads m) × (m < most_threads) }
+        × IsThread searched.now thread.now (z.threads m) × (m < MOST_THREADS) }
     ensures rests { IfOk result (λ o. IfSome o (ComesAfter (system_of (called searched.now)) (first_state (called searched.now))
         started_in (Shares searched.now.opening.items) (IsThread searched.now) Makes made.now n thread.now m)) }
     ensures gives_up { IfOk result (λ o. o ≡ None → (z : State Shared Thread) (e : Event) → IsMade searched.now made.now n z e
@@ -92,7 +92,7 @@ pub(crate) fn begun_after(
     m: usize,
 ) -> Result<Option<SharedWalker>, AllocError>
     requires { (z : State Shared Thread) × (e : Event) × IsMade searched.now made.now n z e
-        × (started_in z.shared ≤ m) × (m < most_threads) }
+        × (started_in z.shared ≤ m) × (m < MOST_THREADS) }
     ensures rests { IfOk result (λ o. IfSome o (BeginsAfter (system_of (called searched.now)) (first_state (called searched.now))
         started_in (Shares searched.now.opening.items) (IsThread searched.now) Makes made.now n m)) }
     ensures gives_up { IfOk result (λ o. o ≡ None → (z : State Shared Thread) (e : Event) → IsMade searched.now made.now n z e

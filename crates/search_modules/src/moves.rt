@@ -11,7 +11,7 @@ impl Moves for Searched<'_> {
     ghost use Rattle.types.specs.declared.event.Event.{Event};
     ghost use Rattle.types.specs.declared.event.Reply.{Reply};
     ghost use Rattle.types.specs.declared.event.Answer.{Answer};
-    ghost use Rattle.types.specs.Limits.{most_threads};
+    ghost use Rattle.types.specs.declared.limits.TheConstants.{MOST_THREADS};
     ghost use Rattle.schedule_threads.specs.Shared.{Shared};
     ghost use Rattle.search_runs.specs.Called.{Walker as Thread, system_of, first_state};
     ghost use Rattle.search_runs.specs.Ends.{HasEndedSo};
@@ -46,7 +46,7 @@ impl Moves for Searched<'_> {
 
     ghost count = { λ t. started_in };
 
-    ghost most = { λ t. most_threads };
+    ghost most = { λ t. MOST_THREADS };
 
     ghost shares = { λ t. Shares t.opening.items };
 

@@ -7,7 +7,7 @@ use Rattle.std.proofs.lemmas.Bool.{cases_lt}
 use Rattle.types.specs.declared.event.Event.{Event}
 use Rattle.shared_memory.specs.Memory.{reply_of}
 use Rattle.shared_memory.specs.WaitQueue.{WaitQueue, next_id}
-use Rattle.types.specs.Limits.{most_threads}
+use Rattle.types.specs.declared.limits.TheConstants.{MOST_THREADS}
 use Rattle.schedule.specs.System.{Want.Calls, State}
 use Rattle.schedule.specs.Scheduled.{after_event, or_started}
 use Rattle.schedule_threads.specs.Shared.{Shared}
@@ -61,11 +61,11 @@ same_shared opening x y e w sh =
 
 -- the threads that were started are counted, and an event takes none back
 module _ (b : Called) where
-  few : (w : State Shared Walker) → CanReach b w → started_in w.shared ≤ most_threads
+  few : (w : State Shared Walker) → CanReach b w → started_in w.shared ≤ MOST_THREADS
   few w reach =
       let o = orderly b w reach in
       let low : length (WaitQueue.args w.shared.queue) < length (WaitQueue.due w.shared.queue) = o.sound.few in
-      let dues : length (WaitQueue.due w.shared.queue) ≡ most_threads = o.dues in
+      let dues : length (WaitQueue.due w.shared.queue) ≡ MOST_THREADS = o.dues in
       omega (arith, low, dues)
 
   more : (w : State Shared Walker) → CanReach b w → (n : ℕ) (e : Event) → started_in w.shared ≤ started_in (shared_by w.shared n e)
@@ -86,7 +86,7 @@ module _ (b : Called) where
       let reached = onward (StepsBy (system_of b)) (first_state b) w after reach (by_event (system_of b) w n e wants) in
       started_none (begun_by b w.shared n e m) _ (missing b after reached m past)
 
-  pub bounded : AreBounded (system_of b) (first_state b) started_in most_threads
+  pub bounded : AreBounded (system_of b) (first_state b) started_in MOST_THREADS
   bounded = record { few = few; more = more; none = none }
 
 -- a place within a list

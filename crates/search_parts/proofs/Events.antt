@@ -9,7 +9,7 @@ use Rattle.types.specs.declared.event.Reply.{Reply}
 use Rattle.types.specs.declared.event.Reply.TheVariants as replies
 use Rattle.types.specs.declared.event.Answer.{Answer}
 use Rattle.types.specs.declared.outcome.Outcome.{Outcome}
-use Rattle.types.specs.Limits.{most_threads}
+use Rattle.types.specs.declared.limits.TheConstants.{MOST_THREADS}
 use Rattle.shared_memory.specs.Sound.{IsSound}
 use Rattle.shared_memory.specs.WaitQueue.{WaitQueue, IsFree, answer_due, next_id}
 use Rattle.shared_memory.specs.History.{queue_step}
@@ -52,14 +52,14 @@ module _ (b : Called) (z : systems.State Shared Walker) (reached : CanReach b z)
   abbrev threads : ℕ → Running
   threads m = given (z.threads m)
 
-  pub dues : length z.shared.queue.due ≡ most_threads
+  pub dues : length z.shared.queue.due ≡ MOST_THREADS
   dues = (orderly b z reached).dues
 
   module _ (n : ℕ) (e : Event) (calls : (system_of b).wants (z.threads n) ≡ Calls e) where
     pub free : IsFree z.shared.queue n
     free = free_asker b.program z.shared.queue threads n e (orderly b z reached) (given_wants b.program (z.threads n) ∙ calls)
 
-    pub known : n < most_threads
+    pub known : n < MOST_THREADS
     known = let k = sound.named n free.alive in let few = sound.few in let d = dues in omega (arith, k, few, d)
 
     pub untold : (answer : Answer) → e ≡ events.Told answer → ⊥

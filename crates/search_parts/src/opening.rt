@@ -1,7 +1,7 @@
 //! Where all threads come to rest in the beginning.
 
 ghost use Rattle.std.specs.Prelude.{◌≡◌, [], ◌∷◌, IfOk};
-ghost use Rattle.types.specs.Limits.{most_threads};
+ghost use Rattle.types.specs.declared.limits.TheConstants.{MOST_THREADS};
 ghost use Rattle.shared_memory.specs.WaitQueue.{first_queue};
 ghost use Rattle.shared_memory_sequential.specs.Opening.{IsSized};
 ghost use Rattle.search_parts.specs.Sharing.{Shares};
@@ -35,7 +35,7 @@ pub fn first_common(alloc: Global, opening: &[u8], max: u32) -> Result<Common, A
     requires { IsSized (record { bytes = opening.now; max = max }) }
     ensures { IfOk result (λ c. Shares opening.now c (record {
       memory = record { bytes = opening.now; max = max };
-      queue = first_queue most_threads;
+      queue = first_queue MOST_THREADS;
     })) }
 {
     let memory = Changes {

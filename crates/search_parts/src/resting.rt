@@ -4,7 +4,7 @@ ghost use Rattle.std.specs.Prelude.{◌≡◌, ◌<◌, ◌⊎◌, ℕ, List, So
 ghost use Rattle.types.specs.declared.event.Event.{Event};
 ghost use Rattle.types.specs.declared.value.Value as numbers;
 ghost use Rattle.types.specs.declared.event.Answer as answers;
-ghost use Rattle.types.specs.Limits.{most_threads};
+ghost use Rattle.types.specs.declared.limits.TheConstants.{MOST_THREADS};
 ghost use Rattle.schedule.specs.System.{State, Want.Awaits, put};
 ghost use Rattle.schedule.specs.Scheduled.{after_event, hears_any};
 ghost use Rattle.schedule_threads.specs.Shared.{Shared};
@@ -115,7 +115,7 @@ pub fn rest_after(
     m: usize,
 ) -> Result<Option<Standing>, AllocError>
     requires after { (b : Called) × (z : State Shared Thread) × (e : Event) × IsAfter valid.now worker made.now n standing.now m b z e }
-    requires few { m < most_threads }
+    requires few { m < MOST_THREADS }
     ensures rests { IfOk result (λ o. IfSome o (λ s. (b : Called) (z : State Shared Thread) (e : Event)
         → IsAfter valid.now worker made.now n standing.now m b z e
         → RestsAt valid.now b ((after_event (system_of b) z n e).threads m) s)) }

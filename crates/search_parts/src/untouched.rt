@@ -1,14 +1,14 @@
 //! Threads to which nothing happens at an event.
 
 ghost use Rattle.std.specs.Prelude.{◌≡◌, ◌<◌, true, false};
-ghost use Rattle.types.specs.Limits.{most_threads};
+ghost use Rattle.types.specs.declared.limits.TheConstants.{MOST_THREADS};
 ghost use Rattle.search_parts.specs.Untouched.{StandsAsBefore, IsTouched};
 
 use crate::event::Made;
 
 /// Whether nothing happens to thread m at an event of thread n: it made no event, hears no answer, and doesn't begin.
 pub fn is_untouched(made: &Made, n: usize, m: usize) -> bool
-    requires { m < most_threads }
+    requires { m < MOST_THREADS }
     ensures untouched { result ≡ true → StandsAsBefore made.now n m }
     ensures touched { result ≡ false → IsTouched made.now n m }
 {

@@ -4,7 +4,7 @@ use Rattle.types.specs.declared.event.Event.{Event}
 use Rattle.types.specs.declared.event.Reply.{Reply}
 use Rattle.types.specs.declared.event.Answer.{Answer}
 use Rattle.types.specs.declared.outcome.Outcome.{Outcome}
-use Rattle.types.specs.Limits.{most_threads}
+use Rattle.types.specs.declared.limits.TheConstants.{MOST_THREADS}
 use Rattle.shared_memory.specs.WaitQueue.{WaitQueue, next_id}
 use Rattle.schedule.specs.System.{Want, Want.Turns, Want.Calls, Want.Awaits, Kind.Turn, System}
 use Rattle.schedule.specs.System as systems
@@ -151,7 +151,7 @@ module _ (b : Called) (w : systems.State Shared Walker) (reach : CanReach b w) w
       sym (given_wants b.program (w.threads m))
       ∙ (by_event (setting_of b 0) metered n orderly e (given_wants b.program (w.threads n) ∙ calls)).awaited m a gives apart
 
-  pub few : AreFew (system_of b) most_threads w
+  pub few : AreFew (system_of b) MOST_THREADS w
   few m past turns =
       let low : length (WaitQueue.args w.shared.queue) < length (WaitQueue.due w.shared.queue) = orderly.sound.few in
       let dues = orderly.dues in

@@ -7,7 +7,7 @@ use Rattle.types.specs.declared.event.Question.TheVariants as questions
 use Rattle.types.specs.declared.event.Reply.{Reply}
 use Rattle.types.specs.declared.event.Answer.{Answer}
 use Rattle.types.specs.declared.outcome.Outcome.{Outcome}
-use Rattle.types.specs.Limits.{most_threads}
+use Rattle.types.specs.declared.limits.TheConstants.{MOST_THREADS}
 use Rattle.shared_memory.specs.Memory.{Memory, reply_of, state_after}
 use Rattle.shared_memory.specs.WaitQueue.{answer_due, first_queue, next_id}
 use Rattle.schedule.specs.System.{System, put}
@@ -65,7 +65,7 @@ abbrev pub system_of : Called → System Shared Walker Event Reply Answer
 system_of b = without_budget (machine_of b.program) reply_by shared_by answer_by (begun_by b)
 
 abbrev pub first_shared : Called → Shared
-first_shared b = record { memory = b.opening; queue = first_queue most_threads }
+first_shared b = record { memory = b.opening; queue = first_queue MOST_THREADS }
 
 abbrev pub first_threads : Called → ℕ → Option State
 first_threads b = put (λ (m : ℕ). None) 0 (Some (At b.main))

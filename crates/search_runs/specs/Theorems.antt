@@ -5,7 +5,7 @@ use Rattle.types.specs.declared.event.Entry as entries
 use Rattle.types.specs.declared.outcome.Outcome.{Outcome}
 use Rattle.types.specs.declared.outcome.Outcome.TheVariants as outcomes
 use Rattle.types.specs.declared.outcome.Stop.TheVariants as stops
-use Rattle.types.specs.Limits.{most_threads}
+use Rattle.types.specs.declared.limits.TheConstants.{MOST_THREADS}
 use Rattle.shared_memory.specs.Memory.{Memory, pages}
 use Rattle.shared_memory.specs.WaitQueue.{WaitQueue}
 use Rattle.shared_memory.specs.History.{memory_after, queue_after}
@@ -21,7 +21,7 @@ use Rattle.search_runs.specs.Ends.{Ending, HasEndedSo}
 
 -- Answers go to who awaits them, and at most 64 threads make turns.
 abbrev pub ThreadsAreTame : Type 0
-ThreadsAreTame = (b : Called) → AreTame (system_of b) (first_state b) most_threads
+ThreadsAreTame = (b : Called) → AreTame (system_of b) (first_state b) MOST_THREADS
 
 -- It can be reached by turns of threads without budgets.
 abbrev pub CanReach : Called → systems.State Shared Walker → Type 0

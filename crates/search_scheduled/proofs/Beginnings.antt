@@ -4,7 +4,7 @@ use Rattle.std.specs.List.{slice_get}
 use Rattle.std.proofs.lemmas.Option.{slice_get_within, get_or_from_slice_get}
 use Rattle.types.specs.declared.value.Value.{Value}
 use Rattle.types.specs.declared.parts.Parts.{Parts}
-use Rattle.types.specs.Limits.{most_spawned}
+use Rattle.types.specs.declared.limits.TheConstants.{MOST_SPAWNED}
 use Rattle.validate_typing.specs.Context.{imported_functions}
 use Rattle.validate_typing.specs.Validity.{HasDistinctNames}
 use Rattle.shared_memory.specs.Memory.{Memory}
@@ -77,7 +77,7 @@ module _ {T : Type 0} (meaning : T → Meaning) (m : Parts) (r : RecordParts) wh
   alike_others first others f s zero x h = alike_first first x others f h
   alike_others first others f s (suc k) x h = let spare = spare_at others s k x h in (spare.program_is, spare.fuel_is)
 
-  threaded : HasDistinctNames m.exports → (first : T) (others : List T) (memory : Memory) → First first → StartsThreads m → length others ≡ most_spawned
+  threaded : HasDistinctNames m.exports → (first : T) (others : List T) (memory : Memory) → First first → StartsThreads m → length others ≡ MOST_SPAWNED
       → AreSpares meaning m r.fuel others → memory ≡ opening_within r.max_pages m → CanBegin (first ∷ others) memory
   threaded distinct first others memory f starts count s is =
       let some : 0 < length others = omega (arith, count) in

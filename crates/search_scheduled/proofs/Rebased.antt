@@ -2,7 +2,7 @@
 use Rattle.std.proofs.Common.{ℕ, ◌≡◌, List, sym, ◌∙◌, ap, subst}
 use Rattle.types.specs.declared.value.Value.{Value}
 use Rattle.types.specs.declared.parts.Parts.{Parts}
-use Rattle.types.specs.Limits.{most_pages}
+use Rattle.types.specs.declared.limits.TheConstants.{MOST_PAGES}
 use Rattle.validate_module.specs.Pages.{HasPagesWithin}
 use Rattle.shared_memory.specs.Memory.{Memory}
 use Rattle.schedule_runs.specs.Runs.{Start}
@@ -20,7 +20,7 @@ pub has_length : (m : Parts) (name : List ℕ) (values : List Value) (units most
 has_length m name values units most r h = subst (λ (v : Version). IsLengthOf v m r.module_len) (sym h.version) (sym h.module_len)
 
 pub has_pages : (m : Parts) (name : List ℕ) (values : List Value) (units most : ℕ) (r : RecordParts) → IsOfCall m name values units most r
-    → HasPagesWithin most_pages m → HasPages m r
+    → HasPagesWithin MOST_PAGES m → HasPages m r
 has_pages m name values units most r h within = subst (λ (q : ℕ). HasPagesWithin q m) (sym h.max_pages) within
 
 -- its memory opens as every run's

@@ -1,6 +1,6 @@
 -- A walk with the log that it made.
 use Rattle.std.specs.Prelude.{ℕ, ◌≡◌, List}
-use Rattle.types.specs.Limits.{most_threads}
+use Rattle.types.specs.declared.limits.TheConstants.{MOST_THREADS}
 use Rattle.shared_memory.specs.Memory.{Memory}
 use Rattle.interp_trait.specs.Turns.{Meaning}
 use Rattle.spawn_host.specs.declared.end.EndState.{EndState}
@@ -25,7 +25,7 @@ module _ {S : Type 0} (meaning : S → Meaning) where
 
   -- Threads and a memory with which a run begins make a course on that run.
   abbrev pub BeginsCourse : List S → Memory → ℕ → ℕ → Course S → Type 0
-  BeginsCourse threads memory fuel limit c = (r : Run) → IsReady meaning r threads memory → r.threads ≡ most_threads
+  BeginsCourse threads memory fuel limit c = (r : Run) → IsReady meaning r threads memory → r.threads ≡ MOST_THREADS
       → r.budget ≡ fuel → r.limit ≡ limit → CameAlong r c
 
   -- Each run that it is on, and that a header is of, ends so by its record.

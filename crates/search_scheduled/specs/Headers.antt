@@ -2,7 +2,7 @@
 use Rattle.std.specs.Prelude.{ℕ, ◌≡◌, List}
 use Rattle.types.specs.declared.value.Value.{Value}
 use Rattle.types.specs.declared.parts.Parts.{Parts}
-use Rattle.types.specs.Limits.{most_threads, most_pages}
+use Rattle.types.specs.declared.limits.TheConstants.{MOST_THREADS, MOST_PAGES}
 use Rattle.shared_memory.specs.Memory.{Memory}
 use Rattle.schedule_runs.specs.Runs.{Start}
 use Rattle.replay_text.specs.declared.version.Version.TheVariants as versions
@@ -28,8 +28,8 @@ pub record HasHeaderOf (header r : RecordParts) : Type 0 where
 pub record IsOfCall (m : Parts) (name : List ℕ) (values : List Value) (units most : ℕ) (r : RecordParts) : Type 0 where
   pub version : r.version ≡ versions.Two
   pub module_len : r.module_len ≡ m.length
-  pub threads : r.threads ≡ most_threads
-  pub max_pages : r.max_pages ≡ most_pages
+  pub threads : r.threads ≡ MOST_THREADS
+  pub max_pages : r.max_pages ≡ MOST_PAGES
   pub invoke : r.invoke ≡ name
   pub args : r.args ≡ values
   pub fuel : r.fuel ≡ units

@@ -7,7 +7,7 @@ use Rattle.types.specs.declared.value.Value.{Value}
 use Rattle.types.specs.declared.parts.FuncType.{FuncType}
 use Rattle.types.specs.declared.parts.Body.{Body}
 use Rattle.types.specs.declared.parts.Parts.{Parts}
-use Rattle.types.specs.Limits.{most_spawned}
+use Rattle.types.specs.declared.limits.TheConstants.{MOST_SPAWNED}
 use Rattle.interp_machine.specs.Config.{Config}
 use Rattle.interp_machine.specs.Program.{program_of}
 use Rattle.interp_trait.specs.Turns.{Meaning, spawn_types}
@@ -46,7 +46,7 @@ module _ {T : Type 0} (meaning : T → Meaning) where
   -- Those that a run may spawn: 63 spares where the module can start threads, and else none.
   abbrev pub AreOthers : Parts → ℕ → List T → Type 0
   AreOthers m budget others =
-      (StartsThreads m × (length others ≡ most_spawned) × AreSpares m budget others)
+      (StartsThreads m × (length others ≡ MOST_SPAWNED) × AreSpares m budget others)
       ⊎ ((StartsThreads m → ⊥) × (others ≡ []))
 
   -- Thread 0 is about to make the record's call, and behind it are the others.

@@ -1,6 +1,6 @@
 //! A walk with the log that it makes.
 ghost use Rattle.std.specs.Prelude.{◌≤◌, length, OnOk};
-ghost use Rattle.types.specs.Limits.{most_threads};
+ghost use Rattle.types.specs.declared.limits.TheConstants.{MOST_THREADS};
 ghost use Rattle.search_scheduled.specs.Courses.{BeginsCourse, IsOnARun, StaysOnItsRuns};
 
 use crate::hearing::hear;
@@ -122,7 +122,7 @@ impl<T: TakesTurns> Course<T> {
 
     /// The threads that can go on, in order.
     fn ready(&self) -> ArrayVec<u32, MOST_THREADS>
-        ensures { length result.items ≤ most_threads }
+        ensures { length result.items ≤ MOST_THREADS }
     {
         let mut ready = ArrayVec::new();
         let most = self.walk.stage.started.min(MOST_THREADS as u32);

@@ -3,7 +3,7 @@ ghost use Rattle.std.specs.Prelude.{◌≡◌, ℕ, length};
 ghost use Rattle.types.specs.declared.event.Event.TheVariants as events;
 ghost use Rattle.types.specs.declared.event.Question.TheVariants.{Leave, Spawn};
 ghost use Rattle.types.specs.declared.event.Reply.TheVariants.{Done};
-ghost use Rattle.types.specs.Limits.{most_threads};
+ghost use Rattle.types.specs.declared.limits.TheConstants.{MOST_THREADS};
 ghost use Rattle.shared_memory.specs.Memory.{reply_of, state_after};
 ghost use Rattle.shared_memory.specs.Events.{IsEvent};
 ghost use Rattle.replay_walk.specs.Standing.{IsToMakeOn};
@@ -39,7 +39,7 @@ fn make_in<T: TakesTurns>(
     event: Event,
 ) -> Reply
     requires event { IsEvent event }
-    requires room { (arg : ℕ) → event ≡ events.Ask (Spawn arg) → length threads.old ≡ most_threads }
+    requires room { (arg : ℕ) → event ≡ events.Ask (Spawn arg) → length threads.old ≡ MOST_THREADS }
     requires settled { IsToMakeOn T.meaning threads.old stage.old memory.old n event }
     ensures count { length threads.new ≡ length threads.old }
     ensures memory { memory.new ≡ state_after memory.old event }

@@ -1,6 +1,6 @@
 //! A run of a module along a strategy.
 ghost use Rattle.std.specs.Prelude.{◌≡◌, IfOk, IfErr, OnOk};
-ghost use Rattle.types.specs.Limits.{most_pages, most_threads};
+ghost use Rattle.types.specs.declared.limits.TheConstants.{MOST_PAGES, MOST_THREADS};
 ghost use Rattle.validate_typing.specs.Validity.{HasDistinctNames};
 ghost use Rattle.validate_module.specs.Pages.{HasPagesWithin};
 ghost use Rattle.interp.specs.Threads.{meaning_in};
@@ -30,7 +30,7 @@ pub struct Made {
 
 /// A valid module's memory has no more pages than any may have. It does nothing else.
 fn show_pages_fit(module: &ValidModule)
-    ensures { HasPagesWithin most_pages «module».now.parts }
+    ensures { HasPagesWithin MOST_PAGES «module».now.parts }
 {
     let _parts = module.parts();
 }
@@ -105,8 +105,8 @@ fn course_of<'m>(
     spares: &mut Spares<'m>,
 ) -> Result<Course<Thread<'m>>, SearchFault>
     requires spares { HoldsSpares «module».now.parts header.now.fuel spares.old }
-    requires threads { header.now.threads ≡ most_threads }
-    requires pages { header.now.max_pages ≡ most_pages }
+    requires threads { header.now.threads ≡ MOST_THREADS }
+    requires pages { header.now.max_pages ≡ MOST_PAGES }
     ensures begun { IfOk result (HasBegun meaning_in «module».now.parts header.now) }
     ensures spares { OnOk result (HoldsSpares «module».now.parts header.now.fuel spares.new) }
     ensures fault { IfErr result (IsFaultOf «module».now.parts header.now.invoke header.now.args) }

@@ -1,7 +1,7 @@
 //! What a run begins with: its threads before their first turn, and the memory.
 ghost use Rattle.std.specs.Prelude.{◌≡◌, ℕ, [], length, IfOk, IfErr, OnOk};
 ghost use Rattle.types.specs.declared.parts.Parts.{Parts};
-ghost use Rattle.types.specs.Limits.{most_spawned};
+ghost use Rattle.types.specs.declared.limits.TheConstants.{MOST_SPAWNED};
 ghost use Rattle.interp.specs.Threads.{meaning_in};
 ghost use Rattle.spawn_host.specs.Entries.{StartsThreads};
 ghost use Rattle.spawn_host.specs.Runs.{opening_memory};
@@ -46,7 +46,7 @@ impl<'m> Spares<'m> {
     ) -> Result<Vec<Thread<'m>>, AllocError>
         requires starts { StartsThreads «module».now.parts }
         requires spares { HoldsSpares «module».now.parts fuel self.old }
-        ensures count { IfOk result (λ taken. length taken.items ≡ most_spawned) }
+        ensures count { IfOk result (λ taken. length taken.items ≡ MOST_SPAWNED) }
         ensures taken { IfOk result (λ taken. AreSpares meaning_in «module».now.parts fuel taken.items) }
         ensures left { OnOk result (HoldsSpares «module».now.parts fuel self.new) }
     {

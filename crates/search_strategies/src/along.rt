@@ -6,8 +6,9 @@ use crate::strategy::Strategy;
 /// How many events a thread makes in a row behind the schedule, while others could go on.
 const PATIENCE: u32 = 200;
 
-/// Follows a schedule, which has the threads of a run's events in order: one that can't go on is passed over. Behind it the thread
-/// goes on that made the last event, as long as it can, and up to 200 events in a row; and then the next one by its number.
+/// Follows a schedule, which has the threads of a run's events in order: one that can't go on is passed over. Behind it
+/// the thread goes on that made the last event, as long as it can, and up to 200 events in a row; and then the next one
+/// by its number.
 #[derive(Drop)]
 pub struct Along<'a> {
     schedule: &'a [u32],

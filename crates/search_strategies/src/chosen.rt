@@ -3,8 +3,8 @@ ghost use Rattle.std.specs.Prelude.{◌<◌, length};
 
 use crate::strategy::Strategy;
 
-/// Takes choices one after another: each is a place among the threads that can go on, the first place where there is no such place, and
-/// behind the choices.
+/// Takes choices one after another: each is a place among the threads that can go on, the first place where there is no
+/// such place, and behind the choices.
 #[derive(Drop)]
 pub struct Chosen<'a> {
     choices: &'a [usize],

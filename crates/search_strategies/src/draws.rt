@@ -4,7 +4,8 @@ ghost use Rattle.std.specs.Prelude.{◌<◌};
 use rand_core::utils::NextWord;
 use rand_pcg::Pcg32;
 
-/// The words of a run: those of the PCG generator XSH RR 64/32 whose state is the seed, and whose stream is the run's number.
+/// The words of a run: those of the PCG generator XSH RR 64/32 whose state is the seed, and whose stream is the run's
+/// number.
 #[derive(Drop)]
 pub struct Draws {
     words: Pcg32,

@@ -2,8 +2,9 @@
 //!
 //! Proved: a strategy answers a place among the threads that can go on.
 //!
-//! A strategy is asked before each event of a run, with the threads that can go on. What it answers follows from what it was made of
-//! and from what it was asked: so run number I of a seed is the same run on every machine. `docs/PROFILE.md` says how each chooses.
+//! A strategy is asked before each event of a run, with the threads that can go on. What it answers follows from what
+//! it was made of and from what it was asked: so run number I of a seed is the same run on every machine.
+//! `docs/PROFILE.md` says how each chooses.
 #![tactic(auto)]
 
 mod along;

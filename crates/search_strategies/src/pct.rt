@@ -1,5 +1,5 @@
-//! Priorities that change at few points (Burckhardt, Kothari, Musuvathi, Nagarakatte: A randomized scheduler with probabilistic
-//! guarantees of finding bugs. ASPLOS 2010).
+//! Priorities that change at few points (Burckhardt, Kothari, Musuvathi, Nagarakatte: A randomized scheduler with
+//! probabilistic guarantees of finding bugs. ASPLOS 2010).
 ghost use Rattle.std.specs.Prelude.{◌<◌, ◌≤◌, length};
 ghost use Rattle.report_choice.specs.Depths.{most_depth};
 
@@ -15,9 +15,9 @@ const CHANGES: usize = MOST_DEPTH as usize - 1;
 /// How many events a thread makes in a row, while others could go on, before it is put behind all.
 const PATIENCE: u32 = 200;
 
-/// The thread with the highest rank goes on, of those that can. The ranks are drawn at the beginning; at each of `depth - 1` points of
-/// change, drawn among so many events, the thread that would go on falls below all that didn't. One that has made 200 events in a
-/// row falls behind all others: so nobody waits in a loop for good.
+/// The thread with the highest rank goes on, of those that can. The ranks are drawn at the beginning; at each of `depth
+/// - 1` points of change, drawn among so many events, the thread that would go on falls below all that didn't. One that
+/// has made 200 events in a row falls behind all others: so nobody waits in a loop for good.
 #[derive(Drop)]
 pub struct Pct {
     ranks: [i64; MOST_THREADS],
@@ -32,7 +32,8 @@ pub struct Pct {
 }
 
 impl Pct {
-    /// Run number `run` of a seed, with a depth of 1 to 32 (`MOST_DEPTH`), and points of change among the first `events` events, 1 at least.
+    /// Run number `run` of a seed, with a depth of 1 to 32 (`MOST_DEPTH`), and points of change among the first
+    /// `events` events, 1 at least.
     pub fn new(seed: u64, run: u64, depth: u32, events: u32) -> Pct
         requires depth { depth ≤ most_depth }
         requires events { 0 < events }

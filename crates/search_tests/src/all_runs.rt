@@ -1,5 +1,5 @@
-//! All endings of the modules of examples/search: those that `bench/endings.py` prints, over as many states; drawn runs and runs by
-//! threads of the machine end so, and a path leads to each. A search that is told to end does so.
+//! All endings of the modules of examples/search: those that `bench/endings.py` prints, over as many states; drawn runs
+//! and runs by threads of the machine end so, and a path leads to each. A search that is told to end does so.
 
 mod endings;
 mod examples;

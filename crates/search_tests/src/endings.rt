@@ -3,8 +3,8 @@
 use crate::modules::{LOOKING, LOST_UPDATE};
 use crate::runs::{FUEL, LIMIT, Trouble, WAYS, ending_drawn, load, run};
 use interp_trait::OpenGate;
-use report_runs::record_run;
 use report_choice::Way;
+use report_runs::record_run;
 use search_finds::{Ending, Table, ending_of, has_line_with, lacks_in_thread_0};
 use search_strategies::Along;
 use spawn_host::Call;

@@ -7,8 +7,9 @@ use crate::modules::LOST_UPDATE;
 use crate::runs::{FUEL, LIMIT, Trouble, load};
 use replay::replay;
 use report_choice::Way;
-use search_finds::{Met, Table, have_one_ending};
-use search_finds::{Halt, Searched, Size, Sought, first_found, shrunk, size_of};
+use search_finds::{
+    Halt, Met, Searched, Size, Sought, Table, first_found, have_one_ending, shrunk, size_of,
+};
 use search_scheduled::Made;
 use spawn_host::{Call, EndState};
 use std::alloc::Global;
@@ -238,8 +239,8 @@ fn found_by<R: Threads + Sync>(
     Ok(Some(found.made))
 }
 
-/// Whether the records of a run and of what it is shrunk to are replayed with their ends, which are alike, and the second is no
-/// larger.
+/// Whether the records of a run and of what it is shrunk to are replayed with their ends, which are alike, and the
+/// second is no larger.
 fn shrinks_well(
     alloc: Global,
     valid: &ValidModule,

@@ -5,7 +5,7 @@ use Rattle.std.proofs.lemmas.Bool.{true≢false}
 use Rattle.std.proofs.lemmas.Bool.Decides.{nat_tests}
 use Rattle.std.proofs.lemmas.List.{length-map}
 use Rattle.std.proofs.lemmas.Map.Steps.{length-le_from_distinct_below}
-use Rattle.types.specs.Limits.{most_threads}
+use Rattle.types.specs.declared.limits.TheConstants.{MOST_THREADS}
 use Rattle.shared_memory.specs.declared.sleeper.Sleeper.{Sleeper}
 use Rattle.shared_memory.specs.WaitQueue.{WaitQueue, is_among}
 use Rattle.shared_memory.specs.Sound.{AreDistinct, SleepOnce, IsSound}
@@ -62,10 +62,10 @@ few_alive q sound =
     (λ n found. sound.named n (sym (turned q.alive n) ∙ found))
 
 -- at most 64 sleep
-pub few_asleep : (q : WaitQueue) → IsSound q → length q.sleepers ≤ most_threads
+pub few_asleep : (q : WaitQueue) → IsSound q → length q.sleepers ≤ MOST_THREADS
 unfolding numbers
 few_asleep q sound =
-    let few : length (numbers q.sleepers) ≤ most_threads =
-    length-le_from_distinct_below (numbers q.sleepers) most_threads (distinct_from (numbers q.sleepers) (once_distinct q.sleepers sound.once))
+    let few : length (numbers q.sleepers) ≤ MOST_THREADS =
+    length-le_from_distinct_below (numbers q.sleepers) MOST_THREADS (distinct_from (numbers q.sleepers) (once_distinct q.sleepers sound.once))
     (λ n found. alive_below q sound n (sound.living n (sym (among_numbers n q.sleepers) ∙ (sym (turned (numbers q.sleepers) n) ∙ found)))) in
     omega (arith, length-map q.sleepers (λ (s : Sleeper). s.thread), few)

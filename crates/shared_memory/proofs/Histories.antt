@@ -6,7 +6,7 @@ use mathlib.Core.List.{IsPrefix}
 use Rattle.types.specs.declared.event.Entry.{Entry}
 use Rattle.types.specs.declared.event.Event.{Event}
 use Rattle.types.specs.declared.event.Reply.{Reply}
-use Rattle.types.specs.Limits.{most_threads}
+use Rattle.types.specs.declared.limits.TheConstants.{MOST_THREADS}
 use Rattle.shared_memory.specs.Events.{is_of_queue}
 use Rattle.shared_memory.specs.Memory.{Memory, reply_of, state_after}
 use Rattle.shared_memory.specs.WaitQueue.{WaitQueue, first_queue}
@@ -106,19 +106,19 @@ IsQueueLegalFrom-rest q (x ∷ xs) ys h = IsQueueLegalFrom-rest (queue_step q x.
 module _ (xs ys : List Entry) (same : of_queue xs ≡ of_queue ys) where
   pub same_queue : queue_after xs ≡ queue_after ys
   unfolding queue_after
-  same_queue = ap (queue_from (first_queue most_threads)) same
+  same_queue = ap (queue_from (first_queue MOST_THREADS)) same
 
   pub same_queue_legal : IsQueueLegal ys → IsQueueLegal xs
   unfolding IsQueueLegal
-  same_queue_legal h = subst (IsQueueLegalFrom (first_queue most_threads)) (sym same) h
+  same_queue_legal h = subst (IsQueueLegalFrom (first_queue MOST_THREADS)) (sym same) h
 
 -- an entry of the queue is its next step
 pub queue_after-entry : (xs : List Entry) (n : ℕ) (event : Event) (reply : Reply) → is_of_queue event ≡ true
     → queue_after (xs ++ entry n event reply ∷ []) ≡ queue_step (queue_after xs) n event reply
 unfolding queue_after
 queue_after-entry xs n event reply is =
-    ap (queue_from (first_queue most_threads)) (of_queue-append xs (entry n event reply ∷ []) ∙ ap (λ w. of_queue xs ++ w) (of_queue-one (entry n event reply) is))
-    ∙ queue_from-append (first_queue most_threads) (of_queue xs) (entry n event reply ∷ [])
+    ap (queue_from (first_queue MOST_THREADS)) (of_queue-append xs (entry n event reply ∷ []) ∙ ap (λ w. of_queue xs ++ w) (of_queue-one (entry n event reply) is))
+    ∙ queue_from-append (first_queue MOST_THREADS) (of_queue xs) (entry n event reply ∷ [])
 
 pub IsQueueLegal-entry : (xs : List Entry) (n : ℕ) (event : Event) (reply : Reply) → is_of_queue event ≡ true → IsQueueLegal xs → MayEnter n event xs
     → IsQueueLegal (xs ++ entry n event reply ∷ [])
@@ -126,12 +126,12 @@ unfolding IsQueueLegal MayEnter queue_after
 IsQueueLegal-entry xs n event reply is legal may =
     let split : of_queue (xs ++ entry n event reply ∷ []) ≡ of_queue xs ++ entry n event reply ∷ [] =
     of_queue-append xs (entry n event reply ∷ []) ∙ ap (λ w. of_queue xs ++ w) (of_queue-one (entry n event reply) is) in
-    subst (IsQueueLegalFrom (first_queue most_threads)) (sym split) (IsQueueLegalFrom-append (first_queue most_threads) (of_queue xs) (entry n event reply ∷ []) legal (may, tt))
+    subst (IsQueueLegalFrom (first_queue MOST_THREADS)) (sym split) (IsQueueLegalFrom-append (first_queue MOST_THREADS) (of_queue xs) (entry n event reply ∷ []) legal (may, tt))
 
 -- a prefix of a history that is legal for the queue is legal for it
 pub IsQueueLegal-prefix : (xs ys : List Entry) → IsQueueLegal (xs ++ ys) → IsQueueLegal xs
 unfolding IsQueueLegal
-IsQueueLegal-prefix xs ys h = IsQueueLegalFrom-prefix (first_queue most_threads) (of_queue xs) (of_queue ys) (subst (IsQueueLegalFrom (first_queue most_threads)) (of_queue-append xs ys) h)
+IsQueueLegal-prefix xs ys h = IsQueueLegalFrom-prefix (first_queue MOST_THREADS) (of_queue xs) (of_queue ys) (subst (IsQueueLegalFrom (first_queue MOST_THREADS)) (of_queue-append xs ys) h)
 
 -- and one that is well formed is well formed
 IsWellFormedFrom-prefix : (q : WaitQueue) (xs ys : List Entry) → IsWellFormedFrom q (xs ++ ys) → IsWellFormedFrom q xs
@@ -140,7 +140,7 @@ IsWellFormedFrom-prefix q (x ∷ xs) ys h = (h.0, IsWellFormedFrom-prefix (queue
 
 pub IsWellFormed-prefix : (xs ys : List Entry) → IsWellFormed (xs ++ ys) → IsWellFormed xs
 unfolding IsWellFormed
-IsWellFormed-prefix xs ys h = IsWellFormedFrom-prefix (first_queue most_threads) xs ys h
+IsWellFormed-prefix xs ys h = IsWellFormedFrom-prefix (first_queue MOST_THREADS) xs ys h
 
 -- of two prefixes of one list one begins the other
 pub prefixes_nest : (xs ys zs : List Entry) → IsPrefix xs zs → IsPrefix ys zs → IsPrefix xs ys ⊎ IsPrefix ys xs

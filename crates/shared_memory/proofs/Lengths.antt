@@ -12,7 +12,7 @@ use Rattle.types.specs.declared.event.Answer.{Answer}
 use Rattle.types.specs.declared.event.Answer.TheVariants.{Number}
 use Rattle.types.specs.declared.event.Reply.{Reply}
 use Rattle.types.specs.declared.event.Reply.TheVariants.{Value, Done, OutOfBounds, Again, Full}
-use Rattle.types.specs.Limits.{most_threads}
+use Rattle.types.specs.declared.limits.TheConstants.{MOST_THREADS}
 use Rattle.shared_memory.specs.declared.sleeper.Sleeper.{Sleeper}
 use Rattle.shared_memory.specs.WaitQueue.{WaitQueue, first_queue, next_id, tells, wakes, sleeps, starts, woken_at, ends_at_once}
 use Rattle.shared_memory.specs.WaitQueue.{ended, end_answer, is_stuck, settled, asked, after_question, after_answer}
@@ -80,6 +80,6 @@ unfolding first_queue
 due_length_first most = length-replicate {A = Option Answer} most None
 
 -- after a history
-pub due_length_after : (history : List Entry) → length (queue_after history).due ≡ most_threads
+pub due_length_after : (history : List Entry) → length (queue_after history).due ≡ MOST_THREADS
 unfolding queue_after
-due_length_after history = due_length_from (first_queue most_threads) (of_queue history) ∙ due_length_first most_threads
+due_length_after history = due_length_from (first_queue MOST_THREADS) (of_queue history) ∙ due_length_first MOST_THREADS

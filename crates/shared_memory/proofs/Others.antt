@@ -14,7 +14,7 @@ use Rattle.types.specs.declared.event.Answer.{Answer}
 use Rattle.types.specs.declared.event.Answer.TheVariants.{Number}
 use Rattle.types.specs.declared.event.Reply.{Reply}
 use Rattle.types.specs.declared.event.Reply.TheVariants.{Value, Done, OutOfBounds, Again, Full}
-use Rattle.types.specs.Limits.{most_threads}
+use Rattle.types.specs.declared.limits.TheConstants.{MOST_THREADS}
 use Rattle.shared_memory.specs.declared.sleeper.Sleeper.{Sleeper}
 use Rattle.shared_memory.specs.Events.{is_of_queue}
 use Rattle.shared_memory.specs.WaitQueue.{WaitQueue, first_queue, is_alive, is_among, is_asleep, answer_due, next_id, tells, wakes, sleeps, starts, leaves}
@@ -179,10 +179,10 @@ others_of_queue n (e ∷ xs) none =
 pub Keeps-after : (n : ℕ) (xs ys : List Entry) → entries_of n ys ≡ [] → IsQueueLegal (xs ++ ys) → Keeps n (queue_after xs) (queue_after (xs ++ ys))
 unfolding queue_after IsQueueLegal
 Keeps-after n xs ys none legal =
-    let split : IsQueueLegalFrom (first_queue most_threads) (of_queue xs ++ of_queue ys) = subst (IsQueueLegalFrom (first_queue most_threads)) (of_queue-append xs ys) legal in
+    let split : IsQueueLegalFrom (first_queue MOST_THREADS) (of_queue xs ++ of_queue ys) = subst (IsQueueLegalFrom (first_queue MOST_THREADS)) (of_queue-append xs ys) legal in
     let kept : Keeps n (queue_after xs) (queue_from (queue_after xs) (of_queue ys)) =
-    Keeps-from n (queue_after xs) (of_queue ys) (others_of_queue n ys none) (IsQueueLegalFrom-rest (first_queue most_threads) (of_queue xs) (of_queue ys) split)
+    Keeps-from n (queue_after xs) (of_queue ys) (others_of_queue n ys none) (IsQueueLegalFrom-rest (first_queue MOST_THREADS) (of_queue xs) (of_queue ys) split)
     (IsSound-after xs (IsQueueLegal-prefix xs ys legal)) in
     subst (λ w. Keeps n (queue_after xs) w)
-    (sym (ap (queue_from (first_queue most_threads)) (of_queue-append xs ys)
-    ∙ queue_from-append (first_queue most_threads) (of_queue xs) (of_queue ys))) kept
+    (sym (ap (queue_from (first_queue MOST_THREADS)) (of_queue-append xs ys)
+    ∙ queue_from-append (first_queue MOST_THREADS) (of_queue xs) (of_queue ys))) kept

@@ -7,7 +7,7 @@ use Rattle.types.specs.declared.event.Event.{Event}
 use Rattle.types.specs.declared.event.Event.TheVariants.{Ask, Told}
 use Rattle.types.specs.declared.event.Answer.{Answer}
 use Rattle.types.specs.declared.event.Reply.{Reply}
-use Rattle.types.specs.Limits.{most_threads}
+use Rattle.types.specs.declared.limits.TheConstants.{MOST_THREADS}
 use Rattle.shared_memory.specs.Memory.{Memory, reply_of, state_after}
 use Rattle.shared_memory.specs.WaitQueue.{WaitQueue, first_queue, is_alive, is_asleep, answer_due, IsFree}
 use Rattle.shared_memory.specs.History.{of_queue, queue_step, queue_after}
@@ -44,7 +44,7 @@ IsQueueLegalFrom-prop q (e ∷ history) = ×_prop (IsAllowed-prop q e.thread e.e
 
 pub IsQueueLegal-prop : (history : List Entry) → IsProp (IsQueueLegal history)
 unfolding IsQueueLegal
-IsQueueLegal-prop history = IsQueueLegalFrom-prop (first_queue most_threads) (of_queue history)
+IsQueueLegal-prop history = IsQueueLegalFrom-prop (first_queue MOST_THREADS) (of_queue history)
 
 pub MayEnter-prop : (n : ℕ) (event : Event) (history : List Entry) → IsProp (MayEnter n event history)
 unfolding MayEnter
@@ -60,7 +60,7 @@ IsWellFormedFrom-prop q (e ∷ history) = ×_prop (IsInTurn-prop q e.thread e.ev
 
 pub IsWellFormed-prop : (history : List Entry) → IsProp (IsWellFormed history)
 unfolding IsWellFormed
-IsWellFormed-prop history = IsWellFormedFrom-prop (first_queue most_threads) history
+IsWellFormed-prop history = IsWellFormedFrom-prop (first_queue MOST_THREADS) history
 
 pub IsLegal-prop : (opening : Memory) (history : List Entry) → IsProp (IsLegal opening history)
 IsLegal-prop opening history = λ x y. λ i. record {

@@ -10,7 +10,7 @@ use Rattle.types.specs.declared.event.Event.TheVariants.{Ask, Told}
 use Rattle.types.specs.declared.event.Question.{Question}
 use Rattle.types.specs.declared.event.Reply.{Reply}
 use Rattle.types.specs.declared.event.Reply.TheVariants.{Value, Done, OutOfBounds, Again, Full}
-use Rattle.types.specs.Limits.{most_threads}
+use Rattle.types.specs.declared.limits.TheConstants.{MOST_THREADS}
 use Rattle.shared_memory.specs.declared.sleeper.Sleeper.{Sleeper}
 use Rattle.shared_memory.specs.WaitQueue.{WaitQueue, first_queue, is_alive, is_among, is_asleep, wakes, first_to_end}
 use Rattle.shared_memory.specs.WaitQueue.{ended, end_answer, is_stuck, settled, asked, after_question, after_answer}
@@ -110,7 +110,7 @@ unstuck_first most = refl
 -- after a legal history some live thread is awake, or none is alive
 pub unstuck_after : (history : List Entry) → IsQueueLegal history → is_stuck (queue_after history) ≡ false
 unfolding IsQueueLegal queue_after
-unstuck_after history legal = unstuck_from (first_queue most_threads) (of_queue history) legal IsSound-first (unstuck_first most_threads)
+unstuck_after history legal = unstuck_from (first_queue MOST_THREADS) (of_queue history) legal IsSound-first (unstuck_first MOST_THREADS)
 
 -- so settling after an answer taken would change nothing
 pub settled_after : (history : List Entry) → IsQueueLegal history → settled (queue_after history) ≡ queue_after history

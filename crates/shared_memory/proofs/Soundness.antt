@@ -16,7 +16,7 @@ use Rattle.types.specs.declared.event.Answer.{Answer}
 use Rattle.types.specs.declared.event.Answer.TheVariants.{Number}
 use Rattle.types.specs.declared.event.Reply.{Reply}
 use Rattle.types.specs.declared.event.Reply.TheVariants.{Value, Done, OutOfBounds, Again, Full}
-use Rattle.types.specs.Limits.{most_threads, most_spawned}
+use Rattle.types.specs.declared.limits.TheConstants.{MOST_THREADS, MOST_SPAWNED}
 use Rattle.shared_memory.specs.declared.sleeper.Sleeper.{Sleeper}
 use Rattle.shared_memory.specs.WaitQueue.{WaitQueue, first_queue, is_alive, is_among, is_asleep, answer_due, next_id, tells, wakes, sleeps, starts}
 use Rattle.shared_memory.specs.WaitQueue.{leaves, woken_at, ends_at_once, ended, end_answer, is_stuck, settled, asked, after_question, after_answer, IsFree}
@@ -33,13 +33,13 @@ awake_if_due q sound n a due =
     false_from_ne_true (is_asleep q n) (λ is. let none : answer_due q n ≡ None = sound.unanswered n is in absurd (cc (none, due)))
 
 -- there are at most 64 threads, numbered from 0
-pub alive_below : (q : WaitQueue) → IsSound q → (n : ℕ) → is_alive q n ≡ true → n < most_threads
+pub alive_below : (q : WaitQueue) → IsSound q → (n : ℕ) → is_alive q n ≡ true → n < MOST_THREADS
 alive_below q sound n is = let known : n < next_id q = sound.named n is in omega (arith, sound.few, sound.due_length)
 
-pub owed_below : (q : WaitQueue) → IsSound q → (n : ℕ) (a : Answer) → answer_due q n ≡ Some a → n < most_threads
+pub owed_below : (q : WaitQueue) → IsSound q → (n : ℕ) (a : Answer) → answer_due q n ≡ Some a → n < MOST_THREADS
 owed_below q sound n a due = let known : n < next_id q = sound.owed n a due in omega (arith, sound.few, sound.due_length)
 
-pub few_spawned : (q : WaitQueue) → IsSound q → length q.args ≤ most_spawned
+pub few_spawned : (q : WaitQueue) → IsSound q → length q.args ≤ MOST_SPAWNED
 few_spawned q sound = omega (arith, sound.few, sound.due_length)
 
 -- each sleeper has a place for its answer
@@ -62,7 +62,7 @@ IsSound-tells q n a awake known sound = record {
         (sym e) known
     | inr apart ↦ sound.owed m b (sym (get_or-set_other q.due n m (Some a) None apart) ∙ due)
   ];
-  due_length = subst (λ (k : ℕ). k ≤ most_threads) (sym (length-set q.due n (Some a))) sound.due_length;
+  due_length = subst (λ (k : ℕ). k ≤ MOST_THREADS) (sym (length-set q.due n (Some a))) sound.due_length;
   few = subst (λ (k : ℕ). length q.args < k) (sym (length-set q.due n (Some a))) sound.few;
 }
 
@@ -78,7 +78,7 @@ IsSound-wakes q woken a slept sound = record {
     | inl among ↦ sound.named m (sound.living m (slept m among))
     | inr isnt ↦ sound.owed m b (sym (due_after-other m woken a q.due isnt) ∙ due)
   ];
-  due_length = subst (λ (k : ℕ). k ≤ most_threads) (sym (length-due_after woken a q.due)) sound.due_length;
+  due_length = subst (λ (k : ℕ). k ≤ MOST_THREADS) (sym (length-due_after woken a q.due)) sound.due_length;
   few = subst (λ (k : ℕ). length q.args < k) (sym (length-due_after woken a q.due)) sound.few;
 }
   where
@@ -216,7 +216,7 @@ IsSound-answer q n awake known sound = record {
         (sym e) known
     | inr apart ↦ sound.owed m b (sym (get_or-set_other q.due n m None None apart) ∙ due)
   ];
-  due_length = subst (λ (k : ℕ). k ≤ most_threads) (sym (length-set q.due n None)) sound.due_length;
+  due_length = subst (λ (k : ℕ). k ≤ MOST_THREADS) (sym (length-set q.due n None)) sound.due_length;
   few = subst (λ (k : ℕ). length q.args < k) (sym (length-set q.due n None)) sound.few;
 }
 
@@ -247,7 +247,7 @@ no_answers most n = elim (cases_lt n most) [
 ]
 
 -- the first queue is sound for up to 64 threads
-pub IsSound-opening : (most : ℕ) → 0 < most → most ≤ most_threads → IsSound (first_queue most)
+pub IsSound-opening : (most : ℕ) → 0 < most → most ≤ MOST_THREADS → IsSound (first_queue most)
 unfolding first_queue
 IsSound-opening most some bound = record {
   named = λ n is. below n is;
@@ -256,17 +256,17 @@ IsSound-opening most some bound = record {
   once = tt;
   unanswered = λ n is. absurd (cc is);
   owed = λ n a due. absurd (cc (no_answers most n, due));
-  due_length = subst (λ (k : ℕ). k ≤ most_threads) (sym (length-replicate {A = Option Answer} most None)) bound;
+  due_length = subst (λ (k : ℕ). k ≤ MOST_THREADS) (sym (length-replicate {A = Option Answer} most None)) bound;
   few = subst (λ (k : ℕ). 0 < k) (sym (length-replicate {A = Option Answer} most None)) some;
 }
   where
     below : (n : ℕ) → ((0 == n) || false) ≡ true → n < 1
     below n is = elim (or_cases (0 == n) false is) [ inl e ↦ (let same : 0 ≡ n = eqb-true 0 n e in omega arith) | inr bad ↦ absurd (cc bad) ]
 
-pub IsSound-first : IsSound (first_queue most_threads)
-IsSound-first = IsSound-opening most_threads (omega arith) (omega arith)
+pub IsSound-first : IsSound (first_queue MOST_THREADS)
+IsSound-first = IsSound-opening MOST_THREADS (omega arith) (omega arith)
 
 -- after each history that is legal for the wait queue
 pub IsSound-after : (history : List Entry) → IsQueueLegal history → IsSound (queue_after history)
 unfolding IsQueueLegal queue_after
-IsSound-after history legal = IsSound-from (first_queue most_threads) (of_queue history) legal IsSound-first
+IsSound-after history legal = IsSound-from (first_queue MOST_THREADS) (of_queue history) legal IsSound-first

@@ -11,7 +11,7 @@ use Rattle.types.specs.declared.event.Answer.{Answer}
 use Rattle.types.specs.declared.event.Answer.TheVariants.{Number}
 use Rattle.types.specs.declared.event.Reply.{Reply}
 use Rattle.types.specs.declared.event.Reply.TheVariants.{Value, Done, OutOfBounds, Again, Full}
-use Rattle.types.specs.Limits.{most_threads}
+use Rattle.types.specs.declared.limits.TheConstants.{MOST_THREADS}
 use Rattle.shared_memory.specs.WaitQueue.{WaitQueue, is_alive, is_asleep, answer_due, next_id, tells, starts, settled, asked, after_question, IsFree}
 use Rattle.shared_memory.specs.History.{entry, queue_step, queue_after}
 use Rattle.shared_memory.specs.Legal.{IsQueueLegal}
@@ -83,7 +83,7 @@ module _ (t arg : ℕ) (q : WaitQueue) (sound : IsSound q) (free : IsFree q t) (
   spawns_step Full inside = spawns_question 0
 
 -- where fewer than 63 threads were spawned before
-pub spawned : (history : List Entry) (t arg : ℕ) (reply : Reply) → reply ≢ OutOfBounds → next_id (queue_after history) < most_threads
+pub spawned : (history : List Entry) (t arg : ℕ) (reply : Reply) → reply ≢ OutOfBounds → next_id (queue_after history) < MOST_THREADS
     → IsQueueLegal (history ++ entry t (Ask (Spawn arg)) reply ∷ [])
     → Spawns t arg (queue_after history) (queue_after (history ++ entry t (Ask (Spawn arg)) reply ∷ []))
 spawned history t arg reply inside room legal =

@@ -6,7 +6,7 @@ use Rattle.std.proofs.lemmas.List.{append_cancel_left, append-nil}
 use mathlib.Core.List.{IsPrefix}
 use Rattle.types.specs.declared.event.Entry.{Entry}
 use Rattle.types.specs.declared.event.Answer.{Answer}
-use Rattle.types.specs.Limits.{most_threads}
+use Rattle.types.specs.declared.limits.TheConstants.{MOST_THREADS}
 use Rattle.shared_memory.specs.WaitQueue.{WaitQueue, first_queue, is_alive, is_asleep, answer_due, IsFree, has_open_question}
 use Rattle.shared_memory.specs.History.{entries_of, queue_after}
 use Rattle.shared_memory.specs.Legal.{IsQueueLegal}
@@ -107,7 +107,7 @@ pub quiet_first : (n : ℕ) → IsQuiet (queue_after []) n
 unfolding queue_after first_queue
 quiet_first n = record {
   awake = refl;
-  told = no_answers most_threads n;
+  told = no_answers MOST_THREADS n;
 }
 
 pub newcomer_quiet : (n : ℕ) (history : List Entry) → entries_of n history ≡ [] → IsQueueLegal history → IsQuiet (queue_after history) n

@@ -14,7 +14,7 @@ use Rattle.types.specs.declared.event.Answer.{Answer}
 use Rattle.types.specs.declared.event.Answer.TheVariants.{Number}
 use Rattle.types.specs.declared.event.Reply.{Reply}
 use Rattle.types.specs.declared.event.Reply.TheVariants.{Value, Done, OutOfBounds, Again, Full}
-use Rattle.types.specs.Limits.{most_threads}
+use Rattle.types.specs.declared.limits.TheConstants.{MOST_THREADS}
 use Rattle.shared_memory.specs.declared.sleeper.Sleeper.{Sleeper}
 use Rattle.shared_memory.specs.Events.{is_of_queue}
 use Rattle.shared_memory.specs.WaitQueue.{WaitQueue, first_queue, is_alive, is_asleep, answer_due, next_id, tells, wakes, sleeps, starts}
@@ -43,7 +43,7 @@ unfolding IsQueueLegal queue_after
 last_of_queue xs n event reply is legal =
     let split : of_queue (xs ++ entry n event reply ∷ []) ≡ of_queue xs ++ entry n event reply ∷ [] =
     of_queue-append xs (entry n event reply ∷ []) ∙ ap (λ w. of_queue xs ++ w) (of_queue-one (entry n event reply) is) in
-    (IsQueueLegalFrom-rest (first_queue most_threads) (of_queue xs) (entry n event reply ∷ []) (subst (IsQueueLegalFrom (first_queue most_threads)) split legal)).0
+    (IsQueueLegalFrom-rest (first_queue MOST_THREADS) (of_queue xs) (entry n event reply ∷ []) (subst (IsQueueLegalFrom (first_queue MOST_THREADS)) split legal)).0
 
 -- and was allowed
 pub last_allowed : (xs : List Entry) (n : ℕ) (event : Event) (reply : Reply)

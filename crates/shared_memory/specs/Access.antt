@@ -1,5 +1,6 @@
 -- What the calls of a shared memory leave of the list of entries that a seat has seen.
-use Rattle.std.specs.Prelude.{ℕ, suc, ◌≡◌, ◌≢◌, ◌<◌, ◌≤◌, ◌⊎◌, Bool, true, false, List, [], ◌∷◌, ◌++◌, length, Option, Some, None}
+use Rattle.std.specs.Prelude.{ℕ, suc, ◌≡◌, ◌≢◌, ◌<◌, ◌≤◌, ◌⊎◌, Bool, true, false, List, [], ◌∷◌, ◌++◌, length, Option}
+use Rattle.std.specs.Prelude.{Some, None}
 use mathlib.Core.List.{IsPrefix}
 use Rattle.types.specs.declared.event.Entry.{Entry}
 use Rattle.types.specs.declared.event.Event.{Event}
@@ -83,12 +84,14 @@ pub record IsFull (opening : Memory) (limit : Option ℕ) (n : ℕ) (has_right :
 
 -- What a call of access leaves, by its reply.
 abbrev pub Accesses : Bool → Memory → Option ℕ → ℕ → Bool → Event → List Entry → List Entry → Reply → Type 0
-Accesses loses opening limit n has_right event before after Again = LosesTry loses opening n has_right event before after
+Accesses loses opening limit n has_right event before after Again =
+    LosesTry loses opening n has_right event before after
 Accesses loses opening limit n has_right event before after Full = IsFull opening limit n has_right event before after
-Accesses loses opening limit n has_right event before after reply = Answers opening limit n has_right event reply before after
+Accesses loses opening limit n has_right event before after reply =
+    Answers opening limit n has_right event reply before after
 
--- How many tries of a seat were lost, after a call of access: one more where it answers that the try was lost. So a call
--- makes one try, and none that it keeps to itself.
+-- How many tries of a seat were lost, after a call of access: one more where it answers that the try was lost. So a
+-- call makes one try, and none that it keeps to itself.
 abbrev pub lost_after : Reply → ℕ → ℕ
 lost_after Again lost = suc lost
 lost_after _ lost = lost

@@ -9,13 +9,15 @@ abbrev pub fits_width : ℕ → ℕ → Bool
 fits_width width value = nat_lt value (2 ^ (8 * width))
 
 abbrev pub is_part : ℕ → ℕ → ℕ → Bool
-is_part addr width reach = nat_le 1 width && (nat_le (addr % 8 + width) 8 && (nat_le (addr + width) reach && nat_le reach (addr + 8)))
+is_part addr width reach =
+    nat_le 1 width && (nat_le (addr % 8 + width) 8 && (nat_le (addr + width) reach && nat_le reach (addr + 8)))
 
 abbrev pub is_atomic : ℕ → ℕ → Bool
 is_atomic addr width = (width == 1 || width == 2 || width == 4 || width == 8) && addr % width == 0
 
 abbrev pub is_question : Question → Bool
-is_question (Wait addr width expected timeout) = (width == 4 || width == 8) && (is_atomic addr width && fits_width width expected)
+is_question (Wait addr width expected timeout) =
+    (width == 4 || width == 8) && (is_atomic addr width && fits_width width expected)
 is_question (Notify addr count) = addr % 4 == 0
 is_question (Spawn arg) = true
 is_question Leave = true

@@ -23,7 +23,8 @@ pub record IsAtomic (addr width : ℕ) : Type 0 where
 
 -- The conditions on a question.
 abbrev pub IsQuestion : Question → Type 0
-IsQuestion (Wait addr width expected timeout) = ((width ≡ 4) ⊎ (width ≡ 8)) × (addr % width ≡ 0) × FitsWidth width expected
+IsQuestion (Wait addr width expected timeout) = ((width ≡ 4) ⊎ (width ≡ 8)) × (addr % width ≡ 0)
+    × FitsWidth width expected
 IsQuestion (Notify addr count) = addr % 4 ≡ 0
 IsQuestion (Spawn arg) = Unit {0}
 IsQuestion Leave = Unit {0}

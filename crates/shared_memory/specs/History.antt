@@ -6,7 +6,7 @@ use Rattle.types.specs.declared.event.Event.{Event}
 use Rattle.types.specs.declared.event.Event.TheVariants.{Ask, Told}
 use Rattle.types.specs.declared.event.Reply.{Reply}
 use Rattle.types.specs.declared.event.Reply.TheVariants.{Value, OutOfBounds}
-use Rattle.types.specs.Limits.{most_threads, desk_name}
+use Rattle.types.specs.declared.limits.TheConstants.{MOST_THREADS, DESK_NAME}
 use Rattle.shared_memory.specs.Events.{IsEvent, is_of_queue}
 use Rattle.shared_memory.specs.Memory.{Memory, state_after}
 use Rattle.shared_memory.specs.WaitQueue.{WaitQueue, first_queue, after_question, after_answer}
@@ -24,7 +24,7 @@ of_queue history = filter (λ (e : Entry). is_of_queue e.event) history
 
 -- An entry is of one of 65 names, of which the last is the desk's, and its event meets the conditions on events.
 pub record IsEntry (e : Entry) : Type 0 where
-  pub named : e.thread ≤ desk_name
+  pub named : e.thread ≤ DESK_NAME
   pub event : IsEvent e.event
 
 abbrev pub AreEntries : List Entry → Type 0
@@ -54,4 +54,4 @@ queue_from q (e ∷ history) = queue_from (queue_step q e.thread e.event e.reply
 
 -- The wait queue after a history.
 unfoldable pub queue_after : List Entry → WaitQueue
-queue_after history = queue_from (first_queue most_threads) (of_queue history)
+queue_after history = queue_from (first_queue MOST_THREADS) (of_queue history)

@@ -3,7 +3,7 @@ use Rattle.std.specs.Prelude.{ℕ, ◌≡◌, List, [], ◌∷◌, Some}
 use Rattle.types.specs.declared.event.Entry.{Entry}
 use Rattle.types.specs.declared.event.Event.{Event}
 use Rattle.types.specs.declared.event.Event.TheVariants.{Ask, Told}
-use Rattle.types.specs.Limits.{most_threads}
+use Rattle.types.specs.declared.limits.TheConstants.{MOST_THREADS}
 use Rattle.shared_memory.specs.Memory.{Memory, reply_of, state_after}
 use Rattle.shared_memory.specs.WaitQueue.{WaitQueue, first_queue, IsFree, answer_due}
 use Rattle.shared_memory.specs.History.{of_queue, queue_step, queue_after}
@@ -21,11 +21,12 @@ IsAllowed q n _ = Unit {0}
 
 abbrev pub IsQueueLegalFrom : WaitQueue → List Entry → Type 0
 IsQueueLegalFrom q [] = Unit {0}
-IsQueueLegalFrom q (e ∷ history) = IsAllowed q e.thread e.event × IsQueueLegalFrom (queue_step q e.thread e.event e.reply) history
+IsQueueLegalFrom q (e ∷ history) = IsAllowed q e.thread e.event
+    × IsQueueLegalFrom (queue_step q e.thread e.event e.reply) history
 
 -- Legal for the wait queue: its questions and answers are allowed, each after those before it.
 unfoldable pub IsQueueLegal : List Entry → Type 0
-IsQueueLegal history = IsQueueLegalFrom (first_queue most_threads) (of_queue history)
+IsQueueLegal history = IsQueueLegalFrom (first_queue MOST_THREADS) (of_queue history)
 
 -- After this history the thread may hand the event in.
 unfoldable pub MayEnter : ℕ → Event → List Entry → Type 0
@@ -38,11 +39,12 @@ IsInTurn q n _ = IsFree q n
 
 abbrev pub IsWellFormedFrom : WaitQueue → List Entry → Type 0
 IsWellFormedFrom q [] = Unit {0}
-IsWellFormedFrom q (e ∷ history) = IsInTurn q e.thread e.event × IsWellFormedFrom (queue_step q e.thread e.event e.reply) history
+IsWellFormedFrom q (e ∷ history) = IsInTurn q e.thread e.event
+    × IsWellFormedFrom (queue_step q e.thread e.event e.reply) history
 
 -- Well formed: each entry comes in its thread's turn.
 unfoldable pub IsWellFormed : List Entry → Type 0
-IsWellFormed history = IsWellFormedFrom (first_queue most_threads) history
+IsWellFormed history = IsWellFormedFrom (first_queue MOST_THREADS) history
 
 -- A legal history from an opening memory.
 pub record IsLegal (opening : Memory) (history : List Entry) : Type 0 where

@@ -10,7 +10,7 @@ use Rattle.types.specs.declared.event.Reply.{Reply}
 use Rattle.types.specs.declared.event.Reply.TheVariants.{Value, Done, OutOfBounds}
 use Rattle.types.specs.declared.event.RmwOp.{RmwOp}
 use Rattle.types.specs.declared.event.RmwOp.TheVariants as ops
-use Rattle.types.specs.Limits.{page_size}
+use Rattle.types.specs.declared.limits.TheConstants.{PAGE_SIZE}
 use Rattle.shared_memory.specs.Numbers.{le_number, le_bytes}
 
 -- A linear memory: its bytes, and how many pages it may have (Core specification 1.0, section 4.2.8).
@@ -20,7 +20,7 @@ pub record Memory : Type 0 where
 
 -- The page count; a page has 65,536 bytes (section 4.2.8).
 abbrev pub pages : Memory → ℕ
-pages m = length m.bytes / page_size
+pages m = length m.bytes / PAGE_SIZE
 
 -- The number in so many bytes at an address (section 4.4.4, loads).
 abbrev pub loaded : Memory → ℕ → ℕ → ℕ
@@ -41,7 +41,7 @@ combined ops.Xchg width old value = value
 
 -- Its bytes are whole pages (section 4.2.8).
 abbrev pub IsWhole : Memory → Type 0
-IsWhole m = length m.bytes % page_size ≡ 0
+IsWhole m = length m.bytes % PAGE_SIZE ≡ 0
 
 -- So many more pages fit under the maximum.
 abbrev pub can_grow : Memory → ℕ → Bool
@@ -49,7 +49,7 @@ can_grow m more = nat_le (pages m + more) m.max
 
 -- The memory with so many pages of zeros behind it (section 4.4.4, memory.grow).
 abbrev pub grown : Memory → ℕ → Memory
-grown m more = record m { bytes = m.bytes ++ replicate (page_size * more) 0 }
+grown m more = record m { bytes = m.bytes ++ replicate (PAGE_SIZE * more) 0 }
 
 -- An access that ends at this address has its effect only within the memory.
 abbrev pub if_within : {A : Type 0} → Memory → ℕ → A → A → A
@@ -57,7 +57,8 @@ if_within m end inside outside = if nat_le end (length m.bytes) then inside else
 
 -- The reply to a question: a wait loads its word, and a notify is tested as an access of four bytes.
 abbrev pub reply_to_question : Memory → Question → Reply
-reply_to_question m (Wait addr width expected timeout) = if_within m (addr + width) (Value (loaded m addr width)) OutOfBounds
+reply_to_question m (Wait addr width expected timeout) =
+    if_within m (addr + width) (Value (loaded m addr width)) OutOfBounds
 reply_to_question m (Notify addr count) = if_within m (addr + 4) Done OutOfBounds
 reply_to_question m (Spawn arg) = Done
 reply_to_question m Leave = Done
@@ -69,7 +70,8 @@ reply_of m (Grow more) = Value (if can_grow m more then pages m else 4294967295)
 reply_of m (Load addr width reach) = if_within m reach (Value (loaded m addr width)) OutOfBounds
 reply_of m (Store addr width reach value) = if_within m reach Done OutOfBounds
 reply_of m (Rmw op addr width value) = if_within m (addr + width) (Value (loaded m addr width)) OutOfBounds
-reply_of m (Cmpxchg addr width expected replacement) = if_within m (addr + width) (Value (loaded m addr width)) OutOfBounds
+reply_of m (Cmpxchg addr width expected replacement) =
+    if_within m (addr + width) (Value (loaded m addr width)) OutOfBounds
 reply_of m (Ask question) = reply_to_question m question
 reply_of m (Told answer) = Done
 

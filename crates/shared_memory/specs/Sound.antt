@@ -2,7 +2,7 @@
 use Rattle.std.specs.Prelude.{ℕ, ◌≡◌, ◌<◌, ◌≤◌, ◌==◌, true, false, List, [], ◌∷◌, length, Some, None}
 use Rattle.std.specs.List.{list_any}
 use Rattle.types.specs.declared.event.Answer.{Answer}
-use Rattle.types.specs.Limits.{most_threads}
+use Rattle.types.specs.declared.limits.TheConstants.{MOST_THREADS}
 use Rattle.shared_memory.specs.declared.sleeper.Sleeper.{Sleeper}
 use Rattle.shared_memory.specs.WaitQueue.{WaitQueue, is_alive, is_among, is_asleep, answer_due, next_id}
 
@@ -26,5 +26,5 @@ pub record IsSound (q : WaitQueue) : Type 0 where
   pub once : SleepOnce q.sleepers
   pub unanswered : (n : ℕ) → is_asleep q n ≡ true → answer_due q n ≡ None
   pub owed : (n : ℕ) (a : Answer) → answer_due q n ≡ Some a → n < next_id q
-  pub due_length : length q.due ≤ most_threads
+  pub due_length : length q.due ≤ MOST_THREADS
   pub few : length q.args < length q.due

@@ -1,7 +1,9 @@
 -- The wait queue: who is alive, who sleeps, and which answers are due (threads proposal, "Wait and notify
 -- operators"; the ids and the settling are the profile's own).
-use Rattle.std.specs.Prelude.{ℕ, ℤ, pos, negsuc, ◌≡◌, ◌+◌, ◌==◌, ◌&&◌, ◌||◌, Bool, true, false, not, nat_lt, if◌then◌else◌}
-use Rattle.std.specs.Prelude.{List, [], ◌∷◌, ◌++◌, length, take, filter, replicate, Option, Some, None, is_some, slice_index_or, slice_set}
+use Rattle.std.specs.Prelude.{ℕ, ℤ, pos, negsuc, ◌≡◌, ◌+◌, ◌==◌, ◌&&◌, ◌||◌, Bool, true, false, not, nat_lt}
+use Rattle.std.specs.Prelude.{if◌then◌else◌}
+use Rattle.std.specs.Prelude.{List, [], ◌∷◌, ◌++◌, length, take, filter, replicate, Option, Some, None, is_some}
+use Rattle.std.specs.Prelude.{slice_index_or, slice_set}
 use Rattle.std.specs.List.{list_any, list_all}
 use Rattle.std.specs.Option.{option_map_or}
 use Rattle.types.specs.declared.event.Question.{Question}
@@ -84,7 +86,8 @@ has_timeout s = nat_lt 0 (amount s.timeout)
 
 -- The timeout of one sleeper ends before another's: it is less, or they are equal and the thread's number is less.
 abbrev pub ends_before : Sleeper → Sleeper → Bool
-ends_before s t = nat_lt (amount s.timeout) (amount t.timeout) || ((amount s.timeout == amount t.timeout) && nat_lt s.thread t.thread)
+ends_before s t = nat_lt (amount s.timeout) (amount t.timeout)
+    || ((amount s.timeout == amount t.timeout) && nat_lt s.thread t.thread)
 
 abbrev pub earlier : Sleeper → Option Sleeper → Sleeper
 earlier s None = s
@@ -119,7 +122,8 @@ asked q n (Wait addr width expected timeout) loaded =
 asked q n (Notify addr count) loaded =
     let woken = woken_at addr count q.sleepers in tells n (Number (length woken)) (wakes woken (Number 0) q)
 asked q n (Spawn arg) loaded =
-    if nat_lt (next_id q) (length q.due) then tells n (Number (next_id q)) (starts arg q) else tells n (Number 4294967295) q
+    if nat_lt (next_id q) (length q.due) then tells n (Number (next_id q)) (starts arg q) else tells n
+    (Number 4294967295) q
 asked q n Leave loaded = tells n (Number 0) (leaves n q)
 
 -- The step at a question.

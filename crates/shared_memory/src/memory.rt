@@ -1,7 +1,7 @@
 //! The trait of a memory that threads share.
 ghost use Rattle.std.specs.Prelude.{◌≡◌, ℕ, Bool, true, ◌≤◌, List, Option};
 ghost use Rattle.types.specs.declared.event.Entry.{Entry};
-ghost use Rattle.types.specs.Limits.{desk_name};
+ghost use Rattle.types.specs.declared.limits.TheConstants.{DESK_NAME};
 ghost use Rattle.shared_memory.specs.Events.{IsEvent, is_of_queue};
 ghost use Rattle.shared_memory.specs.Memory.{Memory, IsWhole};
 ghost use Rattle.shared_memory.specs.Legal.{MayEnter};
@@ -20,12 +20,12 @@ use types::{Event, Reply};
 /// has the queue right (`has_queue_right`): the leave to enter questions and answers, which one seat alone has, at
 /// first that of the desk. Then prove of `access` one of three things, by its reply: the event was answered as the
 /// sequential memory answers it after the list; the try was lost, and an entry of another changed what the event
-/// touches; or the log is full. Where the seat has the queue right, others enter no question and no answer
-/// meanwhile. Say how many tries a seat has lost (`lost`), by the steps of the memory itself; `access` raises that by
-/// one exactly where it answers `Again`, so it makes one try, and makes none again by itself. Prove of `meet` that both
-/// seats have the longer of the two lists, and that the right is exchanged. Say that the memory before any entry is whole
-/// pages, under the most pages that it may have. Which memory a seat belongs to is settled by its type. Everything above
-/// rests on these clauses alone.
+/// touches; or the log is full. Where the seat has the queue right, others enter no question and no answer meanwhile.
+/// Say how many tries a seat has lost (`lost`), by the steps of the memory itself; `access` raises that by one exactly
+/// where it answers `Again`, so it makes one try, and makes none again by itself. Prove of `meet` that both seats have
+/// the longer of the two lists, and that the right is exchanged. Say that the memory before any entry is whole pages,
+/// under the most pages that it may have. Which memory a seat belongs to is settled by its type. Everything above rests
+/// on these clauses alone.
 pub trait SharedMemory {
     /// A caller's place at this memory. It is made with the memory, and never twice.
     type Seat: Drop + Send;
@@ -71,7 +71,8 @@ pub trait SharedMemory {
     /// Two seats learn from each other, and exchange the queue right.
     fn meet(&self, a: &mut Self::Seat, b: &mut Self::Seat)
         ensures names { (name a.new ≡ name a.old) × (name b.new ≡ name b.old) }
-        ensures rights { (has_queue_right a.new ≡ has_queue_right b.old) × (has_queue_right b.new ≡ has_queue_right a.old) }
+        ensures rights { (has_queue_right a.new ≡ has_queue_right b.old)
+            × (has_queue_right b.new ≡ has_queue_right a.old) }
         ensures one { seen b.new ≡ seen a.new }
         ensures longer { Meets opening (name a.old) (name b.old) (has_queue_right a.old) (has_queue_right b.old)
             (seen a.old) (seen b.old) (seen a.new) }
@@ -90,7 +91,7 @@ pub trait SharedMemory {
         ensures { result ≡ pages_max self.now };
 
     /// A name is one of 65.
-    ghost names: { (s : Self.Seat) → name s ≤ desk_name };
+    ghost names: { (s : Self.Seat) → name s ≤ DESK_NAME };
 
     /// The pages that it may have are those of the memory before any entry.
     ghost most: { (m : Self) → pages_max m ≡ opening.max };

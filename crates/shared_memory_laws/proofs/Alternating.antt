@@ -8,7 +8,7 @@ use Rattle.types.specs.declared.event.Event.{Event}
 use Rattle.types.specs.declared.event.Event.TheVariants.{Ask, Told}
 use Rattle.types.specs.declared.event.Reply.{Reply}
 use Rattle.types.specs.declared.event.Reply.TheVariants.{Value, Done, OutOfBounds, Again, Full}
-use Rattle.types.specs.Limits.{most_threads}
+use Rattle.types.specs.declared.limits.TheConstants.{MOST_THREADS}
 use Rattle.shared_memory.specs.Events.{is_of_queue}
 use Rattle.shared_memory.specs.WaitQueue.{WaitQueue, first_queue, is_asleep, answer_due, after_answer, IsFree, has_open_question}
 use Rattle.shared_memory.specs.History.{entry, entries_of, of_queue, queue_step, queue_after}
@@ -124,6 +124,6 @@ none_open n = quiet_not_open (queue_after []) n (quiet_first n)
 pub exchanges_alternate : (history : List Entry) (n : ℕ) → IsQueueLegal history → Alternate (exchanges_of n history)
 unfolding IsQueueLegal queue_after
 exchanges_alternate history n legal =
-    let all : TakeTurns (has_open_question (first_queue most_threads) n) (exchanges_of n (of_queue history)) = turns n (first_queue most_threads) (of_queue history) legal IsSound-first in
+    let all : TakeTurns (has_open_question (first_queue MOST_THREADS) n) (exchanges_of n (of_queue history)) = turns n (first_queue MOST_THREADS) (of_queue history) legal IsSound-first in
     let from : TakeTurns false (exchanges_of n (of_queue history)) = subst (λ b. TakeTurns b (exchanges_of n (of_queue history))) (none_open n) all in
     subst (λ w. Alternate w) (same_exchanges n history) (from_turns (exchanges_of n (of_queue history)) from)

@@ -9,7 +9,7 @@ use Rattle.types.specs.declared.event.Event.TheVariants.{Ask, Told}
 use Rattle.types.specs.declared.event.Question.{Question}
 use Rattle.types.specs.declared.event.Reply.{Reply}
 use Rattle.types.specs.declared.event.Reply.TheVariants.{Value, Done, OutOfBounds, Again, Full}
-use Rattle.types.specs.Limits.{most_threads}
+use Rattle.types.specs.declared.limits.TheConstants.{MOST_THREADS}
 use Rattle.shared_memory.specs.WaitQueue.{WaitQueue, first_queue, is_asleep, answer_due, after_answer, IsFree, has_open_question}
 use Rattle.shared_memory.specs.History.{entry, entries_of, of_queue, queue_step, queue_from, queue_after}
 use Rattle.shared_memory.specs.Legal.{IsAllowed, IsQueueLegalFrom, IsQueueLegal}
@@ -87,6 +87,6 @@ pub open_until_answered : (history : List Entry) (n : ℕ) → IsQueueLegal hist
     → has_open_question (queue_after history) n ≡ lacks_an_answer (exchanges_of n history)
 unfolding IsQueueLegal queue_after
 open_until_answered history n legal =
-    sym (all_open n (first_queue most_threads) (of_queue history) legal IsSound-first)
+    sym (all_open n (first_queue MOST_THREADS) (of_queue history) legal IsSound-first)
     ∙ (ap (λ b. open_after b (exchanges_of n (of_queue history))) (none_open n)
     ∙ (ap (λ w. open_after false w) (same_exchanges n history) ∙ open_lacks (exchanges_of n history)))

@@ -1,5 +1,6 @@
 -- The laws of waiting and notifying (threads proposal, "Wait and notify operators"), of settling, and of histories.
-use Rattle.std.specs.Prelude.{ℕ, ◌≡◌, ◌≢◌, ◌<◌, ◌≤◌, ◌==◌, ◌&&◌, ◌⊎◌, true, false, not, List, [], ◌∷◌, ◌++◌, length, min, Some, is_some}
+use Rattle.std.specs.Prelude.{ℕ, ◌≡◌, ◌≢◌, ◌<◌, ◌≤◌, ◌==◌, ◌&&◌, ◌⊎◌, true, false, not, List, [], ◌∷◌, ◌++◌, length}
+use Rattle.std.specs.Prelude.{min, Some, is_some}
 use Rattle.std.specs.List.{filter, Contains}
 use mathlib.Core.List.{IsPrefix}
 use Rattle.types.specs.declared.event.Entry.{Entry}
@@ -59,7 +60,8 @@ pub record WakesTheLongestAsleep (n addr count : ℕ) (before after : WaitQueue)
 abbrev pub NotifyWakesTheLongestAsleep : Type 0
 NotifyWakesTheLongestAsleep = (history : List Entry) (n addr count : ℕ) (reply : Reply) → reply ≢ OutOfBounds
     → IsQueueLegal (history ++ entry n (Ask (Notify addr count)) reply ∷ [])
-    → WakesTheLongestAsleep n addr count (queue_after history) (queue_after (history ++ entry n (Ask (Notify addr count)) reply ∷ []))
+    → WakesTheLongestAsleep n addr count (queue_after history)
+    (queue_after (history ++ entry n (Ask (Notify addr count)) reply ∷ []))
 
 -- The wait queue after an entry, before it settles.
 abbrev pub unsettled : WaitQueue → ℕ → Event → Reply → WaitQueue
@@ -89,16 +91,17 @@ pub record AllSleepForGood (q : WaitQueue) : Type 0 where
   pub all_sleep : (m : ℕ) → is_alive q m ≡ true → is_asleep q m ≡ true
   pub untimed : (t : Sleeper) → Contains q.sleepers t → amount t.timeout ≡ 0
 
--- A thread that sleeps is told that it sleeps for good at no other entry than one after which all live threads sleep and
--- no timeout is left to end.
+-- A thread that sleeps is told that it sleeps for good at no other entry than one after which all live threads sleep
+-- and no timeout is left to end.
 abbrev pub ForGoodOnlyWhereNoTimeoutIsLeft : Type 0
 ForGoodOnlyWhereNoTimeoutIsLeft = (history : List Entry) (e : Entry) (s : Sleeper) → IsQueueLegal (history ++ e ∷ [])
     → Contains (unsettled (queue_after history) e.thread e.event e.reply).sleepers s
     → answer_due (queue_after (history ++ e ∷ [])) s.thread ≡ Some ForGood
     → AllSleepForGood (unsettled (queue_after history) e.thread e.event e.reply)
 
--- After no history that the wait queue allows do all live threads sleep: where somebody is alive, somebody alive is awake. So
--- nobody is left asleep whose timeout would have to end, and nobody who would have to be told that it sleeps for good.
+-- After no history that the wait queue allows do all live threads sleep: where somebody is alive, somebody alive is
+-- awake. So nobody is left asleep whose timeout would have to end, and nobody who would have to be told that it sleeps
+-- for good.
 abbrev pub SomebodyIsAwake : Type 0
 SomebodyIsAwake = (history : List Entry) (m : ℕ) → IsQueueLegal history → is_alive (queue_after history) m ≡ true
     → (n : ℕ) × (is_alive (queue_after history) n ≡ true) × (is_asleep (queue_after history) n ≡ false)

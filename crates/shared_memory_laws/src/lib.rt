@@ -1,5 +1,5 @@
-//! The laws of the shared memory's histories, each as a function that does nothing and whose contract is the law; and what
-//! two callers that met can rely on.
+//! The laws of the shared memory's histories, each as a function that does nothing and whose contract is the law; and
+//! what two callers that met can rely on.
 //!
 //! Proved: in each legal history an answer is of one open question, and where anybody is alive, somebody is awake. No
 //! thread is both asleep and owed an answer; a notify wakes those that have slept longest at its address, at most as
@@ -11,7 +11,8 @@
 mod callers;
 
 ghost use Rattle.shared_memory_laws.specs.Laws.{AnswersAlternate, OpenUntilAnswered, NeverAsleepAndOwed};
-ghost use Rattle.shared_memory_laws.specs.Laws.{NotifyWakesTheLongestAsleep, TimeoutsEndOnlyWhereAllSleep, ForGoodOnlyWhereNoTimeoutIsLeft};
+ghost use Rattle.shared_memory_laws.specs.Laws.{NotifyWakesTheLongestAsleep, TimeoutsEndOnlyWhereAllSleep};
+ghost use Rattle.shared_memory_laws.specs.Laws.{ForGoodOnlyWhereNoTimeoutIsLeft};
 ghost use Rattle.shared_memory_laws.specs.Laws.{SomebodyIsAwake, AnswersTakenLeaveItSettled};
 ghost use Rattle.shared_memory_laws.specs.Laws.{OneHistoryPerLongestList, PrefixesAreLegal};
 ghost use Rattle.shared_memory_laws.specs.Example.{WorkedHistory};
@@ -48,8 +49,8 @@ pub fn asleep_for_good_only_where_no_timeout_is_left()
     ensures { ForGoodOnlyWhereNoTimeoutIsLeft }
 {}
 
-/// After no legal history do all live threads sleep: where somebody is alive, somebody alive is awake. So no timeout is left
-/// that would have to end, and nobody sleeps who would have to be told that it does for good.
+/// After no legal history do all live threads sleep: where somebody is alive, somebody alive is awake. So no timeout is
+/// left that would have to end, and nobody sleeps who would have to be told that it does for good.
 pub fn somebody_alive_is_awake()
     ensures { SomebodyIsAwake }
 {}

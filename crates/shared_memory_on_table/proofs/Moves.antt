@@ -2,7 +2,7 @@
 use Rattle.std.proofs.Common.{◌≡◌, ℕ, zero, suc, ◌+◌, ◌-◌, ◌<◌, Bool, false, List, [], ◌∷◌, set, get_or, refl, sym, ap, ◌∙◌, subst, arith}
 use Rattle.atomic_table.specs.Table.{Me, keeps, Allows, Splits, Joins}
 use Rattle.types.specs.declared.event.Entry.{Entry}
-use Rattle.types.specs.Limits.{seat_count}
+use Rattle.types.specs.declared.limits.TheConstants.{SEATS}
 use Rattle.shared_memory_on_table.specs.declared.view.Caller.{Caller}
 use Rattle.shared_memory_on_table.specs.declared.view.View.{View}
 use Rattle.shared_memory_on_table.specs.Callers.{one_if, fresh, fresh_from}
@@ -63,5 +63,5 @@ pub is_one : (m : M) (x : Caller) → m ≡ (alone x, []) → IsOne m
 is_one m x e = subst (λ (k : M). IsOne k) (sym e) refl
 
 -- the seats that are still to be dealt, from a name on
-pub next_fresh : (n : ℕ) → n < seat_count → fresh_from (seat_count - n) n ≡ fresh n ∷ fresh_from (seat_count - (n + 1)) (n + 1)
-next_fresh n h = let e : seat_count - n ≡ suc (seat_count - (n + 1)) = omega arith in ap (λ (k : ℕ). fresh_from k n) e
+pub next_fresh : (n : ℕ) → n < SEATS → fresh_from (SEATS - n) n ≡ fresh n ∷ fresh_from (SEATS - (n + 1)) (n + 1)
+next_fresh n h = let e : SEATS - n ≡ suc (SEATS - (n + 1)) = omega arith in ap (λ (k : ℕ). fresh_from k n) e

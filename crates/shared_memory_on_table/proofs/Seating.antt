@@ -5,7 +5,7 @@ use mathlib.Core.Option.{some, some-injective, some-ne-none}
 use lib.ListN.{get_elem?}
 use Rattle.atomic_table.proofs.Lists.{at_set, at_snoc}
 use Rattle.types.specs.declared.event.Entry.{Entry}
-use Rattle.types.specs.Limits.{seat_count}
+use Rattle.types.specs.declared.limits.TheConstants.{SEATS}
 use Rattle.shared_memory.specs.Events.{is_of_queue}
 use Rattle.shared_memory_on_table.specs.declared.view.Caller.{Caller}
 use Rattle.shared_memory_on_table.specs.declared.view.View.{View}
@@ -132,10 +132,10 @@ seated-meet most history views id v a b r at is =
     )
 
 -- at first 65 callers stand on one seat
-pub seated-open : (most : ℕ) (v : View) → one_if v.keeps ≤ most → v.log ≡ [] → v.callers ≡ fresh_from seat_count 0 → AreSeated most [] (v ∷ [])
+pub seated-open : (most : ℕ) (v : View) → one_if v.keeps ≤ most → v.log ≡ [] → v.callers ≡ fresh_from SEATS 0 → AreSeated most [] (v ∷ [])
 seated-open most v few log callers = record {
   few_keepers = omega arith;
-  one_name = λ n. let r = names_once seat_count 0 n in let k = ap (total_of (has_name n)) callers in omega arith;
+  one_name = λ n. let r = names_once SEATS 0 n in let k = ap (total_of (has_name n)) callers in omega arith;
   one_right = let k : rights v ≡ 1 = ap (total_of has_right) callers in omega arith;
   each = at_one;
 }
@@ -146,6 +146,6 @@ seated-open most v few log callers = record {
         (record {
           knows = λ _. log;
           begins = subst (λ (cs : List Caller). AllGoOn cs []) (sym callers)
-              (fresh_go_on seat_count 0);
+              (fresh_go_on SEATS 0);
         })
     at_one (suc id) u e = absurd (some-ne-none u (sym e))

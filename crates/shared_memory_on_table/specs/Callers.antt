@@ -1,7 +1,7 @@
 -- What callers have seen of one history, and totals over the callers of all seats.
 use Rattle.std.specs.Prelude.{ℕ, zero, suc, ◌+◌, ◌==◌, Bool, true, false, List, [], ◌∷◌}
 use Rattle.types.specs.declared.event.Entry.{Entry}
-use Rattle.types.specs.Limits.{desk_name}
+use Rattle.types.specs.declared.limits.TheConstants.{DESK_NAME}
 use Rattle.shared_memory.specs.Access.{Gains}
 use Rattle.shared_memory_on_table.specs.declared.view.Caller.{Caller}
 use Rattle.shared_memory_on_table.specs.declared.view.View.{View}
@@ -47,7 +47,7 @@ keepers v = one_if v.keeps
 
 -- A new caller: it has seen nothing and lost no try, and the one named 64, the desk's, has the queue right.
 abbrev pub fresh : ℕ → Caller
-fresh n = record { name = n; has_queue_right = n == desk_name; seen = []; lost = 0 }
+fresh n = record { name = n; has_queue_right = n == DESK_NAME; seen = []; lost = 0 }
 
 -- So many new callers, in order of name from this one on.
 abbrev pub fresh_from : ℕ → ℕ → List Caller

@@ -6,7 +6,7 @@ use Rattle.atomic_table.specs.Seated.{TableId}
 use Rattle.types.specs.declared.event.Entry.{Entry}
 use Rattle.types.specs.declared.event.Event.{Event}
 use Rattle.types.specs.declared.event.Reply.{Reply}
-use Rattle.types.specs.Limits.{desk_name, seat_count}
+use Rattle.types.specs.declared.limits.TheConstants.{DESK_NAME, SEATS}
 use Rattle.shared_memory.specs.Memory.{Memory}
 use Rattle.shared_memory.specs.Access.{IsSeen, Accesses, Meets, lost_after}
 use Rattle.shared_memory_on_table.specs.declared.view.Caller.{Caller}
@@ -32,12 +32,13 @@ IsGathered has_keeper callers seat = seat.me ≡ (gathered has_keeper callers, [
 
 -- At first all callers stand on one seat.
 abbrev pub opened : Bool → View
-opened has_keeper = gathered has_keeper (fresh_from seat_count 0)
+opened has_keeper = gathered has_keeper (fresh_from SEATS 0)
 
 -- A seat of the table is one caller's alone; that caller has this name, 0 to 64, and has seen a history of the memory.
 abbrev pub StandsAlone : TableId → Memory → ℕ → TableId → Me ℕ View → Type 0
 StandsAlone table opening name own me =
-    (own ≡ table) × IsOne me × (name ≡ (caller_in me.0).name) × IsSeen opening (caller_in me.0).seen × (name ≤ desk_name)
+    (own ≡ table) × IsOne me × (name ≡ (caller_in me.0).name) × IsSeen opening (caller_in me.0).seen
+    × (name ≤ DESK_NAME)
 
 -- What a meeting of two callers of one memory leaves both with.
 abbrev pub MeetsIn : Memory → Caller → Caller → List Entry → Type 0
@@ -52,9 +53,10 @@ abbrev pub AccessesIn : Bool → Memory → Option ℕ → Caller → Event → 
 AccessesIn loses opening limit c event list reply =
     Accesses loses opening limit c.name c.has_queue_right event c.seen list reply
 
--- One try of an event by a caller: it keeps its name and its queue right, has seen what an access leaves it with, and has
--- lost a try more where the reply says so.
-pub record MakesTry (loses : Bool) (opening : Memory) (limit : Option ℕ) (event : Event) (reply : Reply) (before after : Caller)
+-- One try of an event by a caller: it keeps its name and its queue right, has seen what an access leaves it with, and
+-- has lost a try more where the reply says so.
+pub record MakesTry (loses : Bool) (opening : Memory) (limit : Option ℕ) (event : Event) (reply : Reply)
+    (before after : Caller)
     : Type 0 where
   pub name_is : after.name ≡ before.name
   pub right_is : after.has_queue_right ≡ before.has_queue_right

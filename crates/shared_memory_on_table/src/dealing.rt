@@ -1,6 +1,6 @@
 //! The seats of a memory that opens.
 ghost use Rattle.std.specs.Prelude.{◌≡◌, ◌<◌, ◌≤◌, ◌∷◌, [], IfOk, map};
-ghost use Rattle.types.specs.Limits.{desk_name, seat_count};
+ghost use Rattle.types.specs.declared.limits.TheConstants.{DESK_NAME, SEATS};
 ghost use Rattle.shared_memory_on_table.specs.Callers.{fresh, fresh_from};
 ghost use Rattle.shared_memory_on_table.specs.Moves.{others_of};
 ghost use Rattle.shared_memory_on_table.specs.Rule.{IsGathered, opened};
@@ -20,7 +20,7 @@ fn take_seat<B: Naming, K, H: History<K>>(
     name: u32,
 ) -> CallerSeat<B>
     requires row { (row.now.table_id ≡ B.table) × (0 < row.now.table_id.words) }
-    requires name { name ≤ desk_name }
+    requires name { name ≤ DESK_NAME }
     requires here { all.old.table_id ≡ B.table }
     requires all { IsGathered H.has_keeper (fresh name ∷ others_of all.old.me.0.callers) all.old }
     ensures seat { result.caller ≡ fresh name }
@@ -49,7 +49,7 @@ pub fn take_seats<B: Naming, K, H: History<K>>(
 ) -> Result<Vec<CallerSeat<B>>, AllocError>
     requires row { (row.now.table_id ≡ B.table) × (0 < row.now.table_id.words) }
     requires all { (all.old.table_id ≡ B.table) × (all.old.me ≡ (opened H.has_keeper, [])) }
-    ensures seats { IfOk result (λ v. map (λ s. s.caller) v.items ≡ fresh_from seat_count 0) }
+    ensures seats { IfOk result (λ v. map (λ s. s.caller) v.items ≡ fresh_from SEATS 0) }
     ensures all { IfOk result (λ _. (all.new.table_id ≡ B.table) × IsGathered H.has_keeper [] all.new) }
 {
     let mut seats = Vec::with_capacity(alloc, SEATS as usize)?;

@@ -1,6 +1,6 @@
 //! The seats of a memory, and the meeting of two of them.
 ghost use Rattle.std.specs.Prelude.{◌≡◌, ◌<◌, ◌≤◌};
-ghost use Rattle.types.specs.Limits.{desk_name};
+ghost use Rattle.types.specs.declared.limits.TheConstants.{DESK_NAME};
 ghost use Rattle.shared_memory_on_table.specs.Rule.{ExchangeRights, MeetsIn};
 
 use crate::naming::Naming;
@@ -46,7 +46,7 @@ impl<B: Naming> Standing<B> {
 pub struct CallerSeat<B: Naming> {
     /// Who stands there, and what it has seen.
     pub caller: Standing<B>,
-    pub ghost known: { caller.name ≤ desk_name },
+    pub ghost known: { caller.name ≤ DESK_NAME },
 }
 
 /// Two callers learn from each other, and exchange the queue right.

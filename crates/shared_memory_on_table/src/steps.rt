@@ -1,7 +1,8 @@
 //! Moves of the seats, each made of single steps on the table.
 ghost use Rattle.std.specs.Prelude.{◌≡◌, ◌<◌};
 ghost use Rattle.shared_memory_on_table.specs.Callers.{GoesOn};
-ghost use Rattle.shared_memory_on_table.specs.Moves.{Becomes, IsOne, caller_in, others_stay, first_goes, together, longest, after_meeting};
+ghost use Rattle.shared_memory_on_table.specs.Moves.{Becomes, IsOne, caller_in, others_stay, first_goes, together};
+ghost use Rattle.shared_memory_on_table.specs.Moves.{longest, after_meeting};
 
 use crate::rule::{History, Row};
 use crate::view::{FirstOff, Meeting, Place, Together};

@@ -1,10 +1,12 @@
 //! The sequential memory.
-ghost use Rattle.std.specs.Prelude.{◌≡◌, ◌+◌, ◌*◌, ◌^◌, ◌<◌, ◌≤◌, ◌↔◌, true, false, nat_le, if◌then◌else◌, length, IfOk, OnOk, IsErrOf};
+ghost use Rattle.std.specs.Prelude.{◌≡◌, ◌+◌, ◌*◌, ◌^◌, ◌<◌, ◌≤◌, ◌↔◌, true, false, nat_le, if◌then◌else◌, length};
+ghost use Rattle.std.specs.Prelude.{IfOk, OnOk, IsErrOf};
 ghost use Rattle.types.specs.declared.event.Event.TheVariants.{Rmw, Cmpxchg};
 ghost use Rattle.types.specs.declared.event.Reply.TheVariants.{Value, Done, OutOfBounds};
-ghost use Rattle.types.specs.Limits.{page_size, past_limit};
+ghost use Rattle.types.specs.declared.limits.TheConstants.{PAGE_SIZE, PAST_LIMIT};
 ghost use Rattle.shared_memory.specs.Events.{IsEvent, IsPart, IsAtomic, IsQuestion, FitsWidth};
-ghost use Rattle.shared_memory.specs.Memory.{pages, loaded, written, can_grow, grown, if_within, reply_to_question, reply_of, state_after};
+ghost use Rattle.shared_memory.specs.Memory.{pages, loaded, written, can_grow, grown, if_within, reply_to_question};
+ghost use Rattle.shared_memory.specs.Memory.{reply_of, state_after};
 ghost use Rattle.shared_memory_sequential.specs.Opening.{can_open, IsSized};
 
 use crate::fault::OpenFault;
@@ -24,7 +26,7 @@ pub struct OneMemory {
 }
 
 impl Model for OneMemory {
-    ghost use Rattle.types.specs.Limits.{page_size};
+    ghost use Rattle.types.specs.declared.limits.TheConstants.{PAGE_SIZE};
     ghost use Rattle.std.specs.Prelude.{◌≡◌, ◌*◌, ◌%◌, ◌≤◌, length, vec_capacity};
     ghost use Rattle.shared_memory.specs.Memory.{Memory};
     ghost use Rattle.shared_memory_sequential.specs.Opening.{IsSized};
@@ -33,7 +35,8 @@ impl Model for OneMemory {
 
     ghost view = { λ m. record { bytes = m.bytes.items; max = m.max } };
 
-    ghost invariant = { λ m. IsSized (record { bytes = m.bytes.items; max = m.max }) × (page_size * m.max ≤ vec_capacity m.bytes) };
+    ghost invariant = { λ m. IsSized (record { bytes = m.bytes.items; max = m.max })
+        × (PAGE_SIZE * m.max ≤ vec_capacity m.bytes) };
 }
 
 impl OneMemory {
@@ -45,7 +48,7 @@ impl OneMemory {
     pub fn open(alloc: Global, image: &[u8], max: u32) -> Result<OneMemory, OpenFault>
         ensures opened { IfOk result (λ m. m ≡ record { bytes = image.now; max = max }) }
         ensures within { OnOk result (can_open image.now max ≡ true) }
-        ensures past_limit { IsErrOf result OpenFault.PastLimit ↔ (can_open image.now max ≡ false) }
+        ensures PAST_LIMIT { IsErrOf result OpenFault.PastLimit ↔ (can_open image.now max ≡ false) }
     {
         if max > MOST_PAGES
             || image.len() > PAGE_SIZE * max as usize

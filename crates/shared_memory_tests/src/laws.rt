@@ -3,7 +3,6 @@
 use crate::adding::add;
 use crate::trial::{IMAGE, THREE_PAGES, Trial, try_at_recorder};
 use shared_memory::SharedMemory;
-use shared_memory_sequential::{lane_elsewhere, lane_of_with_lane};
 use shared_memory_laws::{
     a_prefix_of_a_legal_history_is_legal, a_question_is_open_until_its_answer_is_taken,
     a_worked_history, agree, an_answer_taken_leaves_the_queue_settled,
@@ -11,6 +10,7 @@ use shared_memory_laws::{
     every_answer_taken_answers_one_question, most_pages, notify_wakes_the_longest_asleep,
     one_history_per_longest_list, somebody_alive_is_awake, timeout_ends_only_where_all_sleep,
 };
+use shared_memory_sequential::{lane_elsewhere, lane_of_with_lane};
 use std::test::Fail;
 use test_cases::hold;
 

@@ -112,7 +112,8 @@ const LAST_ADDRESSES: [(Event, Reply); 5] = [
     (Event::Ask(Question::Notify { addr: TOP_FOUR, count: 1 }), Reply::OutOfBounds),
 ];
 
-/// Compare-exchanges of a byte: with an expected number that is too wide, with another one, and with the one that is there.
+/// Compare-exchanges of a byte: with an expected number that is too wide, with another one, and with the one that is
+/// there.
 #[rattlefmt::skip]
 const NARROW_EXCHANGES: [(Event, Reply); 8] = [
     (Event::Store { addr: 3, width: 1, reach: 4, value: 0x11 }, Reply::Done),

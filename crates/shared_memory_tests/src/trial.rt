@@ -106,8 +106,8 @@ where
     Ok(memory.finish(seats))
 }
 
-/// Makes a trial at a recorder over these bytes and at most so many pages, whose log takes so many entries. Answers what
-/// is left of the recorder.
+/// Makes a trial at a recorder over these bytes and at most so many pages, whose log takes so many entries. Answers
+/// what is left of the recorder.
 pub(crate) fn try_at_recorder<R: Threads + Wait + Sync>(
     rt: &R,
     alloc: Global,

@@ -10,4 +10,5 @@ IsNoTag byte = ¬ (byte ≡ 60)
 -- What is written has an element of data, and in that no tag begins but the one that ends it.
 abbrev pub AddsPage : Option (List ℕ) → Option (List ℕ) → Type 0
 AddsPage old new = (front events back : List ℕ) × All IsNoTag events
-    × Appends old new (front ++ (codes "<script type=\"application/json\" id=\"events\">" ++ (events ++ (codes "</script>" ++ back))))
+    × Appends old new (front ++ (codes "<script type=\"application/json\" id=\"events\">"
+    ++ (events ++ (codes "</script>" ++ back))))

@@ -1,4 +1,5 @@
-//! The events of the Trace Event Format, as they are spelt in JSON. Times are numbers of entries, from 0 on, as microseconds.
+//! The events of the Trace Event Format, as they are spelt in JSON. Times are numbers of entries, from 0 on, as
+//! microseconds.
 
 use serde::Serialize;
 

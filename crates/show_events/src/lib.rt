@@ -1,5 +1,5 @@
-//! The rows of a record as data: Trace Event JSON, an event a line, as Perfetto and chrome://tracing read it; and as a page that needs
-//! nothing else, with a lane for each thread, and its entries one below the other.
+//! The rows of a record as data: Trace Event JSON, an event a line, as Perfetto and chrome://tracing read it; and as a
+//! page that needs nothing else, with a lane for each thread, and its entries one below the other.
 //!
 //! Proved: `write_events` adds whole lines without `<`, one for each entry at least. A link leads to a later entry.
 //! `write_page` adds a page with the element of its data, and no `<` before that element's end.

@@ -5,8 +5,8 @@ ghost use Rattle.show_events.specs.Page.{AddsPage};
 
 use crate::script::SCRIPT;
 use crate::style::{BODY, STYLE};
-use report_choice::Look;
 use crate::{chosen_entries, write_events};
+use report_choice::Look;
 use show_rows::Shown;
 use show_text::Unwritten;
 use std::alloc::Global;
@@ -14,8 +14,8 @@ use std::io::Write;
 
 /// Writes the entries that are chosen as a page of HTML.
 ///
-/// It has the entries as data, in which no `<` is, and a script that draws them: threads as lanes, a wait as a bar up to
-/// its answer, arrows from a notify to whom it wakes and from a spawn to the first entry of its thread.
+/// It has the entries as data, in which no `<` is, and a script that draws them: threads as lanes, a wait as a bar up
+/// to its answer, arrows from a notify to whom it wakes and from a spawn to the first entry of its thread.
 pub fn write_page<W: Write>(
     alloc: Global,
     shown: Shown,

@@ -18,8 +18,8 @@ const PROCESS: &str =
 
 /// Writes the entries that are chosen as a text in the Trace Event Format.
 ///
-/// Each thread is a track, and each entry an event from its number on; a wait goes up to its answer, every other entry to
-/// the next number. Wake-ups and spawns between entries that are chosen are flows.
+/// Each thread is a track, and each entry an event from its number on; a wait goes up to its answer, every other entry
+/// to the next number. Wake-ups and spawns between entries that are chosen are flows.
 pub fn write_trace<W: Write>(
     alloc: Global,
     shown: Shown,
@@ -45,8 +45,8 @@ pub fn chosen_entries(alloc: Global, shown: Shown, look: &Look) -> Result<Vec<us
     Ok(chosen)
 }
 
-/// Writes the events of the entries at these places, which are in order, as a JSON array: lines in which no `<` is, so that
-/// it may stand in a page. Each place has a line.
+/// Writes the events of the entries at these places, which are in order, as a JSON array: lines in which no `<` is, so
+/// that it may stand in a page. Each place has a line.
 pub fn write_events<W: Write>(
     alloc: Global,
     shown: Shown,

@@ -1,5 +1,5 @@
-//! Cases of what is shown of a module: lines of source, names of functions and places of instructions. A file of cases is one for
-//! the library `test_cases`; the keys of what is asked are those of `asked.rt`.
+//! Cases of what is shown of a module: lines of source, names of functions and places of instructions. A file of cases
+//! is one for the library `test_cases`; the keys of what is asked are those of `asked.rt`.
 //!
 //! ```text
 //! module FILE            the module is this file

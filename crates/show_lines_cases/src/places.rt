@@ -1,7 +1,6 @@
 //! Places of instructions.
 
-use show_places::{BodyPlaces, code_places};
-use show_places::section_of;
+use show_places::{BodyPlaces, code_places, section_of};
 use std::alloc::{AllocError, Global};
 use std::fmt::Write;
 

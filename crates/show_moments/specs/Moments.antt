@@ -10,10 +10,13 @@ use Rattle.interp.specs.Places.{IsAtPlace, HasCallers}
 use Rattle.show_moments.specs.declared.standing.Standing.{Standing}
 use Rattle.show_moments.specs.declared.moment.Moment.{Moment}
 
--- The next instruction of each configuration that the thread stands for stands at the place, and these functions called the one that runs.
+-- The next instruction of each configuration that the thread stands for stands at the place, and these functions called
+-- the one that runs.
 pub record StandsAs (thread : Thread) (s : Standing) : Type 0 where
-  pub place : (c : Config) (left : ℕ) → StandsFor thread (Runs (At c) left) → IsAtPlace thread.parts.now s.place.function s.place.instr c
-  pub callers : (c : Config) (left : ℕ) → StandsFor thread (Runs (At c) left) → HasCallers thread.parts.now s.callers.items c
+  pub place : (c : Config) (left : ℕ) → StandsFor thread (Runs (At c) left)
+      → IsAtPlace thread.parts.now s.place.function s.place.instr c
+  pub callers : (c : Config) (left : ℕ) → StandsFor thread (Runs (At c) left)
+      → HasCallers thread.parts.now s.callers.items c
 
 -- What the thread with this number comes to wasn't seen yet.
 abbrev pub IsOpen : Moment → ℕ → Type 0

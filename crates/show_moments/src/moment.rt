@@ -114,8 +114,8 @@ impl Moment<'_> {
         Ok(())
     }
 
-    /// Where the thread stands whose first entry from here on this is: where it comes to it, or, as long as an answer is to
-    /// come, where it is.
+    /// Where the thread stands whose first entry from here on this is: where it comes to it, or, as long as an answer
+    /// is to come, where it is.
     pub fn standing(&self, first: &Entry) -> Option<&Standing> {
         let seats = match first.event {
             Event::Told(_) => &self.here,

@@ -14,8 +14,8 @@ use validate_module::ValidModule;
 /// How many bytes stand in a line.
 const IN_A_LINE: usize = 16;
 
-/// Writes a moment of a run of the module: of each thread what it comes to next or on what it sleeps, with its open functions,
-/// the one that runs first; who sleeps, in the order of the queue; and the bytes.
+/// Writes a moment of a run of the module: of each thread what it comes to next or on what it sleeps, with its open
+/// functions, the one that runs first; who sleeps, in the order of the queue; and the bytes.
 ///
 /// # Errors
 /// Where memory is refused, and where the output fails.
@@ -139,7 +139,8 @@ impl Scene<'_, '_, '_, '_, '_, '_, '_, '_, '_> {
         Ok(())
     }
 
-    /// An open function. What it called has taken operands from the top, so that there may be fewer than before the call.
+    /// An open function. What it called has taken operands from the top, so that there may be fewer than before the
+    /// call.
     fn write_function<W: Write>(&self, out: &mut W, open: OpenFunction) -> Result<(), Unwritten> {
         let Place { function, instr } = open.place;
         let locals = self.valid.local_types(self.alloc, function)?;

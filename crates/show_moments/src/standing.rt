@@ -7,8 +7,8 @@ use interp::{Kept, Place, Thread};
 use interp_state::{Caller, Progress};
 use std::alloc::{AllocError, Global};
 
-/// Where a thread stands: the place of the instruction that comes next, the functions that called the one that runs, the
-/// outermost first, and what they have.
+/// Where a thread stands: the place of the instruction that comes next, the functions that called the one that runs,
+/// the outermost first, and what they have.
 #[derive(PartialEq, Eq, Drop)]
 pub struct Standing {
     pub place: Place,
@@ -16,7 +16,8 @@ pub struct Standing {
     pub kept: Kept,
 }
 
-/// An open function of a thread: where it is, and the words of its locals and of its operands, the top of the stack last.
+/// An open function of a thread: where it is, and the words of its locals and of its operands, the top of the stack
+/// last.
 #[derive(Clone, Copy, PartialEq, Eq)]
 pub struct OpenFunction<'a> {
     /// The instruction that comes next, or a call or question that hasn't come back.

@@ -11,4 +11,5 @@ use Rattle.show_rows.specs.declared.rows.Row.{Row}
 -- The next instruction of each configuration that the thread stands for stands at the row's place.
 abbrev pub StandsThere : Thread → Row → Type 0
 StandsThere thread row =
-    (c : Config) (left : ℕ) → StandsFor thread (Runs (At c) left) → IsAtPlace thread.parts.now row.place.function row.place.instr c
+    (c : Config) (left : ℕ) → StandsFor thread (Runs (At c) left)
+    → IsAtPlace thread.parts.now row.place.function row.place.instr c

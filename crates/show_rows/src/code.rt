@@ -1,12 +1,11 @@
-//! What is known of a module's code: where its instructions are, what its functions are called, and their lines of source.
+//! What is known of a module's code: where its instructions are, what its functions are called, and their lines of
+//! source.
 
 use crate::spot::Spot;
 use binary_wire::ReadFault;
 use interp::Place;
 use show_lines::{DebugSections, LineTable, read_lines};
-use show_places::{Named, function_name, read_names};
-use show_places::{BodyPlaces, code_places};
-use show_places::section_of;
+use show_places::{BodyPlaces, Named, code_places, function_name, read_names, section_of};
 use std::alloc::{AllocError, Global};
 use types::{Import, ImportDesc, Instr, Parts, PlainInstr, Sequence};
 

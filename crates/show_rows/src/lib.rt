@@ -1,5 +1,5 @@
-//! The rows of a record as text: each entry in words, and the place in the module where it was made, which is seen by a replay as it
-//! goes along the record's log.
+//! The rows of a record as text: each entry in words, and the place in the module where it was made, which is seen by a
+//! replay as it goes along the record's log.
 //!
 //! Proved: the row of an event is where the thread stands that wants it.
 #![tactic(auto)]

@@ -1,11 +1,11 @@
 //! The rows of a record, one below the other.
 
+use crate::Row;
 use crate::code::CodeMap;
 use interp::Place;
 use replay_text::RecordParts;
 use report_choice::{Color, Look};
 use show_text::{Context, Sheet, Unwritten, Wake, Words, all_wakes, contexts};
-use crate::Row;
 use std::alloc::{AllocError, Global};
 use std::fmt::Write as _;
 use std::io::Write;

@@ -1,5 +1,5 @@
-//! A module that clang 14 and wasm-ld 14 made with `-gdwarf-4` and the switches of `examples/c/build.sh`, and a record of
-//! its run.
+//! A module that clang 14 and wasm-ld 14 made with `-gdwarf-4` and the switches of `examples/c/build.sh`, and a record
+//! of its run.
 
 /// Of this source, `small.c`:
 ///

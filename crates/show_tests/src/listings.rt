@@ -2,16 +2,15 @@
 
 use crate::asserts::is_text;
 use crate::data::{KINDS, LATE, NAMES, RECORD, SMALL, TOLD, TOLD_2};
+use crate::made::{module_of, record_of, rows_of};
 use interp::Place;
 use replay_text::Record;
 use report_choice::{Choice, Color, Look, Span};
-use show_rows::{CodeMap, Shown, write_rows};
-use show_rows::Row;
+use show_rows::{CodeMap, Row, Shown, write_rows};
 use std::alloc::Global;
 use std::process::Abort;
 use std::test::Fail;
 use test_modules::TELLING;
-use crate::made::{module_of, record_of, rows_of};
 use validate::ValidModule;
 
 /// A record of a run of a module, with the names of a file, what is chosen of it, and what is printed.

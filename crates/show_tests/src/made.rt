@@ -1,5 +1,5 @@
-//! What tests do with a module and a record, each in one call that says nothing of it: so their proofs needn't look at what the
-//! reader, the validator and the replay promise.
+//! What tests do with a module and a record, each in one call that says nothing of it: so their proofs needn't look at
+//! what the reader, the validator and the replay promise.
 
 use binary::read;
 use replay::{ReplayFault, replay_watched};

@@ -2,16 +2,15 @@
 
 use crate::asserts::is_text;
 use crate::data::TOLD;
+use crate::made::{module_of, record_of, rows_of};
 use replay_text::Record;
 use report_choice::{Choice, Color, Look};
-use show_events::write_trace;
-use show_events::write_page;
+use show_events::{write_page, write_trace};
 use show_rows::{CodeMap, Shown};
 use std::alloc::Global;
 use std::process::Abort;
 use std::test::Fail;
 use test_modules::TELLING;
-use crate::made::{module_of, record_of, rows_of};
 use validate::ValidModule;
 
 /// A name of function 1, by which a page's script would end.

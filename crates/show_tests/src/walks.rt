@@ -2,17 +2,15 @@
 
 use crate::asserts::same_text;
 use crate::data::{OTHER, RECORD, SMALL};
+use crate::made::{module_of, record_of, rows_of};
 use replay::ReplayFault;
 use show_lines::{DebugSections, LineTable, read_lines};
-use show_places::{Named, function_name, read_names};
-use show_places::{BodyPlaces, code_places};
-use show_places::section_of;
+use show_places::{BodyPlaces, Named, code_places, function_name, read_names, section_of};
 use show_rows::Row;
 use std::alloc::{AllocError, Global};
 use std::fmt::Write;
 use std::process::Abort;
 use std::test::Fail;
-use crate::made::{module_of, record_of, rows_of};
 use types::{Export, Sequence};
 use validate::ValidModule;
 

@@ -14,7 +14,7 @@ use Rattle.types.specs.declared.outcome.ThreadReport.{ThreadReport}
 use Rattle.types.specs.declared.parts.FuncType.{FuncType}
 use Rattle.types.specs.declared.parts.Body.{Body}
 use Rattle.types.specs.declared.parts.Parts.{Parts}
-use Rattle.types.specs.Limits.{desk_name}
+use Rattle.types.specs.declared.limits.TheConstants.{DESK_NAME}
 use Rattle.shared_memory.specs.Memory.{Memory}
 use Rattle.shared_memory.specs.WaitQueue.{WaitQueue}
 use Rattle.shared_memory.specs.History.{entries_of, queue_after, IsEntry}
@@ -35,7 +35,7 @@ use Rattle.spawn_host.specs.Threads.{IsCall, IsFirst, AreSpawnable}
 use Rattle.spawn_host.specs.Runs.{opening_memory, start_with, Tells, IsRun}
 
 -- Nobody enters under a name past 64.
-silent_past : (H : List Entry) (n : ℕ) → desk_name < n → AllByRecursion IsEntry H → entries_of n H ≡ []
+silent_past : (H : List Entry) (n : ℕ) → DESK_NAME < n → AllByRecursion IsEntry H → entries_of n H ≡ []
 silent_past [] n past all = refl
 silent_past (e ∷ H) n past all =
     let other : e.thread ≢ n = λ is. (let named = all.0.named in omega (arith, named, is, past)) in
@@ -166,7 +166,7 @@ module _
   silent : AreOfThreads start r.history
   silent zero h = absurd (cc h)
   silent (suc k) h =
-      elim (cases_lt desk_name (suc k)) [
+      elim (cases_lt DESK_NAME (suc k)) [
         | inl past ↦ silent_past r.history (suc k) past (recursion_from_All IsEntry r.history r.legal.entries)
         | inr within ↦ r.silent (suc k) within (λ is. absurd (omega (arith, is))) (none_spawned k (arg_of (queue_after r.history) (suc k)) refl h)
       ]

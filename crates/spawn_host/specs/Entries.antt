@@ -12,8 +12,8 @@ use Rattle.validate_module_rules.specs.Exported.{IsExported}
 use Rattle.interp_machine.specs.State.{State, At}
 use Rattle.interp.specs.Starts.{IsFunction, start_of}
 
--- The module exports a function of its own by this name: the one of this number, from 0 without the imported ones, of this type
--- and with this body.
+-- The module exports a function of its own by this name: the one of this number, from 0 without the imported ones, of
+-- this type and with this body.
 pub record Exports (m : Parts) (name : List ℕ) (own : ℕ) (t : FuncType) (b : Body) : Type 0 where
   pub exported : IsExported m name own
   pub function : IsFunction m own t b

@@ -8,8 +8,8 @@ use Rattle.shared_memory.specs.History.{memory_after}
 use Rattle.spawn_host.specs.Runs.{opening_memory, IsRunHistory}
 use Rattle.spawn_host.specs.declared.end.EndState.{EndState}
 
--- The threads ran together in the history, and the reports are theirs. The page count and the bytes are those of the sequential
--- memory after it.
+-- The threads ran together in the history, and the reports are theirs. The page count and the bytes are those of the
+-- sequential memory after it.
 pub record EndsRun (m : Parts) (entry : List ℕ) (args : List Value) (fuel : ℕ) (loses : Bool) (limit : Option ℕ)
     (history : List Entry) (end : EndState) : Type 0 where
   pub is_history : IsRunHistory m entry args fuel loses limit end.threads.items history

@@ -1,5 +1,6 @@
 -- What a run of a module gives.
-use Rattle.std.specs.Prelude.{ℕ, ◌≡◌, ◌+◌, ◌<◌, Bool, List, [], ◌∷◌, length, map, Option, Some, slice_get, slice_index_or}
+use Rattle.std.specs.Prelude.{ℕ, ◌≡◌, ◌+◌, ◌<◌, Bool, List, [], ◌∷◌, length, map, Option, Some, slice_get}
+use Rattle.std.specs.Prelude.{slice_index_or}
 use Rattle.types.specs.declared.value.Value.{Value}
 use Rattle.types.specs.declared.value.Value.TheVariants as values
 use Rattle.types.specs.declared.parts.FuncType.{FuncType}
@@ -9,7 +10,7 @@ use Rattle.types.specs.declared.event.Entry.{Entry}
 use Rattle.types.specs.declared.outcome.Outcome.{Outcome}
 use Rattle.types.specs.declared.outcome.ThreadReport.{ThreadReport}
 use Rattle.types.specs.Values.{type_of}
-use Rattle.types.specs.Limits.{most_pages, seat_count}
+use Rattle.types.specs.declared.limits.TheConstants.{MOST_PAGES, SEATS}
 use Rattle.validate_typing.specs.Image.{opening_image, pages_max_of}
 use Rattle.shared_memory.specs.Memory.{Memory}
 use Rattle.shared_memory.specs.WaitQueue.{WaitQueue}
@@ -28,7 +29,7 @@ opening_within most m = record { bytes = opening_image m; max = pages_max_of mos
 
 -- In a run that is 256.
 abbrev pub opening_memory : Parts → Memory
-opening_memory m = opening_within most_pages m
+opening_memory m = opening_within MOST_PAGES m
 
 -- What the threads of a run start with: thread 0 calls a function of this type and with this body, with the arguments.
 abbrev pub start_with : Parts → FuncType → Body → List Value → (ℕ → ℕ → State) → ℕ → Start
@@ -45,8 +46,9 @@ pub record Tells (report : ThreadReport) (fuel : ℕ) (outcome : Outcome) (left 
   pub outcome_is : report.outcome ≡ outcome
   pub budget : report.spent + left ≡ fuel
 
--- What the threads of a run begin with: thread 0 with a call of the function that is exported by the name, with the arguments, and
--- a spawned thread with one of the function for that. Where the module can start none, a spawned thread would call what thread 0 does.
+-- What the threads of a run begin with: thread 0 with a call of the function that is exported by the name, with the
+-- arguments, and a spawned thread with one of the function for that. Where the module can start none, a spawned thread
+-- would call what thread 0 does.
 pub record Beginning (m : Parts) (entry : List ℕ) (args : List Value) : Type 0 where
   pub own : ℕ
   pub func_type : FuncType
@@ -55,20 +57,23 @@ pub record Beginning (m : Parts) (entry : List ℕ) (args : List Value) : Type 0
   pub fit : map type_of args ≡ func_type.params
   pub spawned : ℕ → ℕ → State
   pub calls : StartsThreads m → CallsThreadStart m spawned
-  pub idle : (StartsThreads m → ⊥) → (n arg : ℕ) → spawned n arg ≡ At (start_of m func_type body (values.I32 n ∷ values.I32 arg ∷ []))
+  pub idle : (StartsThreads m → ⊥) → (n arg : ℕ)
+      → spawned n arg ≡ At (start_of m func_type body (values.I32 n ∷ values.I32 arg ∷ []))
 
 abbrev pub start_by : (m : Parts) (entry : List ℕ) (args : List Value) → ℕ → Beginning m entry args → Start
 start_by m entry args fuel b = start_with m b.func_type b.body args b.spawned fuel
 
--- The reports are of thread 0 and of the threads that were spawned in the history, in order of their numbers. The threads ran
--- together in that history, and so it is the history of one run: one thread that steps them all makes it, with the same memory and ends.
+-- The reports are of thread 0 and of the threads that were spawned in the history, in order of their numbers. The
+-- threads ran together in that history, and so it is the history of one run: one thread that steps them all makes it,
+-- with the same memory and ends.
 pub record IsRunHistory (m : Parts) (entry : List ℕ) (args : List Value) (fuel : ℕ) (loses : Bool) (limit : Option ℕ)
     (threads : List ThreadReport) (history : List Entry) : Type 0 where
   pub beginning : Beginning m entry args
   pub count : length threads ≡ length (WaitQueue.args (queue_after history)) + 1
   pub outcomes : ℕ → Outcome
   pub lefts : ℕ → ℕ
-  pub reports : (n : ℕ) (report : ThreadReport) → slice_get threads n ≡ Some report → Tells report fuel (outcomes n) (lefts n)
+  pub reports : (n : ℕ) (report : ThreadReport) → slice_get threads n ≡ Some report
+      → Tells report fuel (outcomes n) (lefts n)
   pub together : RanTogether (start_by m entry args fuel beginning) loses limit history outcomes lefts
   pub one : IsOneRun (start_by m entry args fuel beginning) loses limit history outcomes lefts
 
@@ -77,6 +82,6 @@ pub record IsRun {S : Type 0} (m : Parts) (entry : List ℕ) (args : List Value)
     (threads : List ThreadReport) (seats : List S) : Type 0 where
   pub history : List Entry
   pub is_history : IsRunHistory m entry args fuel mem.loses mem.limit threads history
-  pub len : length seats ≡ seat_count
-  pub names : (k : ℕ) (d : S) → k < seat_count → mem.name (slice_index_or seats k d) ≡ k
-  pub seen_by : (k : ℕ) (d : S) → k < seat_count → mem.seen (slice_index_or seats k d) ≡ history
+  pub len : length seats ≡ SEATS
+  pub names : (k : ℕ) (d : S) → k < SEATS → mem.name (slice_index_or seats k d) ≡ k
+  pub seen_by : (k : ℕ) (d : S) → k < SEATS → mem.seen (slice_index_or seats k d) ≡ history

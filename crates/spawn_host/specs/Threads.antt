@@ -5,7 +5,7 @@ use Rattle.types.specs.declared.value.Value.{Value}
 use Rattle.types.specs.declared.parts.FuncType.{FuncType}
 use Rattle.types.specs.declared.parts.Body.{Body}
 use Rattle.types.specs.declared.parts.Parts.{Parts}
-use Rattle.types.specs.Limits.{most_spawned}
+use Rattle.types.specs.declared.limits.TheConstants.{MOST_SPAWNED}
 use Rattle.schedule.specs.Machine.{Thread.Runs}
 use Rattle.interp_machine.specs.Program.{program_of}
 use Rattle.interp_machine.specs.State.{At}
@@ -14,7 +14,8 @@ use Rattle.interp.specs.Starts.{start_of}
 use Rattle.spawn_host.specs.Entries.{Takes, IsThreadStart}
 
 module _ {T : Type 0} (meaning : T → Meaning) where
-  -- A thread is about to call a function of this type and with this body, with these arguments, and has its whole budget.
+  -- A thread is about to call a function of this type and with this body, with these arguments, and has its whole
+  -- budget.
   pub record IsCall (m : Parts) (t : FuncType) (b : Body) (args : List Value) (budget : ℕ) (thread : T) : Type 0 where
     pub program_is : (meaning thread).program ≡ program_of m
     pub fuel_is : (meaning thread).fuel ≡ budget
@@ -28,7 +29,7 @@ module _ {T : Type 0} (meaning : T → Meaning) where
 
   -- The 63 threads that can be spawned are about to call the function for that, with some arguments.
   pub record AreSpawnable (m : Parts) (args : List Value) (budget : ℕ) (threads : List T) : Type 0 where
-    pub count : length threads ≡ most_spawned
+    pub count : length threads ≡ MOST_SPAWNED
     pub own : ℕ
     pub func_type : FuncType
     pub body : Body

@@ -2,8 +2,8 @@
 
 use types::Value;
 
-/// A call of an exported function, with the budget of each thread: what a run is asked for, from the command line down to
-/// thread 0.
+/// A call of an exported function, with the budget of each thread: what a run is asked for, from the command line down
+/// to thread 0.
 #[derive(Clone, Copy)]
 pub struct Call<'a> {
     /// The name under which the module exports the function.

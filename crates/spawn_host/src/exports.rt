@@ -30,8 +30,8 @@ fn func_type(valid: &ValidModule, own: usize) -> &FuncType
     func_type
 }
 
-/// The function of the module itself that is exported by a name. None where no export has the name, or what it names isn't
-/// a function of the module itself.
+/// The function of the module itself that is exported by a name. None where no export has the name, or what it names
+/// isn't a function of the module itself.
 pub fn own_function<'m>(valid: &'m ValidModule, name: &str) -> Option<OwnFunction<'m>>
     ensures { MatchOption result (IsUnknown valid.now.parts name.now)
         (λ f. (body : Body) × Exports valid.now.parts name.now f.own f.func_type.now body) }

@@ -1,4 +1,5 @@
-//! The run of a module: each of its threads is a real one, over one shared memory, and what they did together is one run.
+//! The run of a module: each of its threads is a real one, over one shared memory, and what they did together is one
+//! run.
 //!
 //! Proved: `run` is the headline over any memory of the trait; an export or arguments are refused only where they
 //! don't fit. "No thread" comes only where the module imports `thread-spawn`.

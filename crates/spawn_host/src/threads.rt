@@ -42,7 +42,8 @@ fn calling<'m>(
     fuel: u64,
 ) -> Result<Thread<'m>, AllocError>
     requires within { own < length valid.now.parts.functions }
-    requires call { (t : FuncType) × (body : Body) × IsFunction valid.now.parts own t body × (map type_of args.now ≡ t.params) }
+    requires call { (t : FuncType) × (body : Body) × IsFunction valid.now.parts own t body
+        × (map type_of args.now ≡ t.params) }
     ensures { IfOk result (λ thread. (t : FuncType) (body : Body) → IsFunction valid.now.parts own t body
         → IsCall meaning_in valid.now.parts t body args.now fuel thread) }
 {

@@ -1,6 +1,6 @@
-//! Runs of modules over both memories. Behind gates that hold threads back, threads do run at the same time, and what a run
-//! leaves doesn't depend on who comes first. Each turn has its call of the gate, and a run that can't begin has none. And the
-//! sign extensions, from bytes to values; and the laws of records and runs.
+//! Runs of modules over both memories. Behind gates that hold threads back, threads do run at the same time, and what a
+//! run leaves doesn't depend on who comes first. Each turn has its call of the gate, and a run that can't begin has
+//! none. And the sign extensions, from bytes to values; and the laws of records and runs.
 #![tactic(auto)]
 
 #[cfg(test)]

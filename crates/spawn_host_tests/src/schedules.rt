@@ -1,5 +1,5 @@
-//! Runs on schedules that gates force: each leaves what the module says, whoever comes first. The expected ends are counted
-//! by hand, from the modules' texts.
+//! Runs on schedules that gates force: each leaves what the module says, whoever comes first. The expected ends are
+//! counted by hand, from the modules' texts.
 
 use crate::holding::{Hold, Holding, Sign};
 use crate::runs::{BOTH, END, Ended, FUEL, Memory, Trouble, has_ends, run};

@@ -1,4 +1,5 @@
-//! Sign extensions, from a module's bytes to what it gives. The values are worked out by hand, and node 20.20.2 gives them too.
+//! Sign extensions, from a module's bytes to what it gives. The values are worked out by hand, and node 20.20.2 gives
+//! them too.
 
 use crate::runs::{BOTH, FUEL, has_ends, run};
 use interp_trait::OpenGate;

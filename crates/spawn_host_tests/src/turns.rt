@@ -1,5 +1,5 @@
-//! Every turn of small runs, as a gate hears of it: counted by hand, from the modules' texts. A try of an event takes two
-//! turns, one that wants it and one that gets its reply; a question takes a third, which gets its answer.
+//! Every turn of small runs, as a gate hears of it: counted by hand, from the modules' texts. A try of an event takes
+//! two turns, one that wants it and one that gets its reply; a question takes a third, which gets its answer.
 
 use crate::noting::Noting;
 use crate::runs::{BOTH, FUEL, Memory, Trouble, run};

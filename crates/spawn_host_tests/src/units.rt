@@ -1,4 +1,5 @@
-//! Threads that are alone: the units that they spend over both memories, counted by hand, and the bytes that they leave.
+//! Threads that are alone: the units that they spend over both memories, counted by hand, and the bytes that they
+//! leave.
 
 use crate::schedules::{FREE, Scheduled, check_all};
 use std::test::Fail;

@@ -12,7 +12,7 @@ use Rattle.types.specs.declared.event.Question.TheVariants.{Wait, Notify, Spawn,
 use Rattle.types.specs.declared.event.Answer.TheVariants.{Number}
 use Rattle.types.specs.declared.event.Reply.{Reply}
 use Rattle.types.specs.declared.event.Reply.TheVariants.{Value, Done, OutOfBounds, Again, Full}
-use Rattle.types.specs.Limits.{most_threads}
+use Rattle.types.specs.declared.limits.TheConstants.{MOST_THREADS}
 use Rattle.shared_memory.specs.declared.sleeper.Sleeper.{Sleeper}
 use Rattle.shared_memory.specs.WaitQueue.{WaitQueue, first_queue, is_alive, next_id, tells, wakes, sleeps, starts}
 use Rattle.shared_memory.specs.WaitQueue.{ends_at_once, ended, end_answer, is_stuck, settled, asked, after_question}
@@ -72,7 +72,7 @@ from_grow q (e ∷ xs) =
 
 later : (xs ys : List Entry) → queue_after (xs ++ ys) ≡ queue_from (queue_after xs) (of_queue ys)
 unfolding queue_after
-later xs ys = ap (queue_from (first_queue most_threads)) (of_queue-append xs ys) ∙ queue_from-append (first_queue most_threads) (of_queue xs) (of_queue ys)
+later xs ys = ap (queue_from (first_queue MOST_THREADS)) (of_queue-append xs ys) ∙ queue_from-append (first_queue MOST_THREADS) (of_queue xs) (of_queue ys)
 
 got : (xs ys : List ℕ) (k arg : ℕ) → slice_get xs k ≡ Some arg → slice_get (xs ++ ys) k ≡ Some arg
 got [] ys k arg h = absurd (cc h)
@@ -107,7 +107,7 @@ over_from q (e ∷ xs) over legal =
 legal_rest : (xs ys : List Entry) → IsQueueLegal (xs ++ ys) → IsQueueLegalFrom (queue_after xs) (of_queue ys)
 unfolding queue_after IsQueueLegal
 legal_rest xs ys legal =
-    IsQueueLegalFrom-rest (first_queue most_threads) (of_queue xs) (of_queue ys) (subst (λ w. IsQueueLegalFrom (first_queue most_threads) w) (of_queue-append xs ys) legal)
+    IsQueueLegalFrom-rest (first_queue MOST_THREADS) (of_queue xs) (of_queue ys) (subst (λ w. IsQueueLegalFrom (first_queue MOST_THREADS) w) (of_queue-append xs ys) legal)
 
 pub none_comes : (xs zs : List Entry) (n : ℕ) → IsPrefix xs zs → IsQueueLegal zs
     → WaitQueue.alive (queue_after xs) ≡ [] → arg_of (queue_after xs) n ≡ None → arg_of (queue_after zs) n ≡ None

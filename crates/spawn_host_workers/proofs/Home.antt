@@ -4,7 +4,7 @@ use Rattle.std.proofs.lemmas.Grind.{common_steps}
 use Rattle.std.proofs.lemmas.List.{get_or_default}
 use mathlib.Core.List.{IsPrefix}
 use Rattle.types.specs.declared.event.Entry.{Entry}
-use Rattle.types.specs.Limits.{most_threads, desk_name, seat_count}
+use Rattle.types.specs.declared.limits.TheConstants.{MOST_THREADS, DESK_NAME, SEATS}
 use Rattle.shared_memory.specs.Memory.{Memory}
 use Rattle.shared_memory.specs.History.{entries_of}
 use Rattle.shared_memory.specs.Legal.{IsQueueLegal}
@@ -20,40 +20,40 @@ get_or-last xs y d = grind (arith, common_steps)
 
 -- All 65 have seen one list, which goes on from what each of the first 64 had seen, by nothing of its own.
 pub record IsHome {S : Type 0} (opening : Memory) (name : S → ℕ) (seen : S → List Entry) (d : S) (home all : List S) (history : List Entry) : Type 0 where
-  pub len : length all ≡ seat_count
-  pub names : (k : ℕ) (d : S) → k < seat_count → name (get_or all k d) ≡ k
-  pub seen_by : (k : ℕ) (d : S) → k < seat_count → seen (get_or all k d) ≡ history
+  pub len : length all ≡ SEATS
+  pub names : (k : ℕ) (d : S) → k < SEATS → name (get_or all k d) ≡ k
+  pub seen_by : (k : ℕ) (d : S) → k < SEATS → seen (get_or all k d) ≡ history
   pub legal : IsSeen opening history
   pub queue : IsQueueLegal history
-  pub owned : (k : ℕ) → k < most_threads → entries_of k history ≡ entries_of k (seen (get_or home k d))
-  pub holds : (k : ℕ) → k < most_threads → IsPrefix (seen (get_or home k d)) history
-  pub desk : entries_of desk_name history ≡ []
+  pub owned : (k : ℕ) → k < MOST_THREADS → entries_of k history ≡ entries_of k (seen (get_or home k d))
+  pub holds : (k : ℕ) → k < MOST_THREADS → IsPrefix (seen (get_or home k d)) history
+  pub desk : entries_of DESK_NAME history ≡ []
 
 module _
     {S : Type 0} (opening : Memory) (name : S → ℕ) (right : S → Bool) (seen : S → List Entry) (e hub hub' : S)
-    (home home' all : List S) (count : length home ≡ most_threads)
-    (named : (k : ℕ) → k < most_threads → name (get_or home k e) ≡ k) (all_are : all ≡ home' ++ hub' ∷ [])
+    (home home' all : List S) (count : length home ≡ MOST_THREADS)
+    (named : (k : ℕ) → k < MOST_THREADS → name (get_or home k e) ≡ k) (all_are : all ≡ home' ++ hub' ∷ [])
     (level : Level opening name right seen hub hub' home home')
-    (legal : IsQueueLegal (seen hub)) (hub_name : name hub ≡ desk_name) (hub_silent : entries_of desk_name (seen hub) ≡ []) where
-  count' : length home' ≡ most_threads
+    (legal : IsQueueLegal (seen hub)) (hub_name : name hub ≡ DESK_NAME) (hub_silent : entries_of DESK_NAME (seen hub) ≡ []) where
+  count' : length home' ≡ MOST_THREADS
   count' = level.len ∙ count
 
-  all_at : (k : ℕ) (d : S) → k < most_threads → get_or all k d ≡ get_or home' k d
+  all_at : (k : ℕ) (d : S) → k < MOST_THREADS → get_or all k d ≡ get_or home' k d
   all_at k d lt = ap (λ l. get_or l k d) all_are ∙ get_or-left home' hub' k d (omega (arith, count', lt))
 
-  all_last : (d : S) → get_or all desk_name d ≡ hub'
-  all_last d = ap (λ l. get_or l desk_name d) all_are ∙ subst (λ (k : ℕ). get_or (home' ++ hub' ∷ []) k d ≡ hub') count' (get_or-last home' hub' d)
+  all_last : (d : S) → get_or all DESK_NAME d ≡ hub'
+  all_last d = ap (λ l. get_or l DESK_NAME d) all_are ∙ subst (λ (k : ℕ). get_or (home' ++ hub' ∷ []) k d ≡ hub') count' (get_or-last home' hub' d)
 
   pub come_home : IsHome opening name seen e home all (seen hub')
   come_home = record {
     len = ap length all_are ∙ length-append home' (hub' ∷ []) ∙ ap (λ (k : ℕ). k + 1) count';
     names = λ k d lt.
-        below_more (λ (j : ℕ). name (get_or all j d) ≡ j) most_threads
+        below_more (λ (j : ℕ). name (get_or all j d) ≡ j) MOST_THREADS
         (λ j low. let inside : j < length home = omega (arith, count, low) in
         rw (all_at j d low) ((level.goes j d inside).name_is ∙ (ap name (get_or_default home j d e inside) ∙ named j low)))
         (rw (all_last d) (level.hub_goes.name_is ∙ hub_name)) k lt;
     seen_by = λ k d lt.
-        below_more (λ (j : ℕ). seen (get_or all j d) ≡ seen hub') most_threads
+        below_more (λ (j : ℕ). seen (get_or all j d) ≡ seen hub') MOST_THREADS
         (λ j low. rw (all_at j d low) (level.one j d (omega (arith, count, low)))) (rw (all_last d) refl) k lt;
     legal = level.legal (omega (arith, count));
     queue = same_queue_legal (seen hub') (seen hub) level.hub_goes.queue legal;

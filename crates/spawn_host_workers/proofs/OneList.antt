@@ -8,7 +8,7 @@ use mathlib.Core.List.{IsPrefix}
 use Rattle.types.specs.declared.value.Value.TheVariants as values
 use Rattle.types.specs.declared.event.Entry.{Entry}
 use Rattle.types.specs.declared.outcome.ThreadReport.{ThreadReport}
-use Rattle.types.specs.Limits.{most_threads, most_spawned, desk_name, seat_count}
+use Rattle.types.specs.declared.limits.TheConstants.{MOST_THREADS, MOST_SPAWNED, DESK_NAME, SEATS}
 use Rattle.shared_memory.specs.Memory.{Memory}
 use Rattle.shared_memory.specs.WaitQueue.{WaitQueue, IsFree}
 use Rattle.shared_memory.specs.History.{entries_of, queue_after}
@@ -195,10 +195,10 @@ first_may_ask name seen seat named new = rw (named, new) (first_free [] refl not
 -- the seats of thread 0, of the workers and of the desk
 pub record Unpacked {S : Type 0} (seats0 : List S) (seat : S) (work : List S) (desk : S) : Type 0 where
   pub parts : seats0 ≡ (seat ∷ work) ++ desk ∷ []
-  pub len : length work ≡ most_spawned
+  pub len : length work ≡ MOST_SPAWNED
 
 pub unpacked : {S : Type 0} (seats0 popped work : List S) (seat desk : S) → seats0 ≡ popped ++ desk ∷ []
-    → length popped ≡ most_threads → seat ≡ get_or popped 0 seat
+    → length popped ≡ MOST_THREADS → seat ≡ get_or popped 0 seat
     → work ≡ take 0 popped ++ drop 1 popped
     → Unpacked seats0 seat work desk
 unpacked seats0 popped work seat desk popped_off len first others =
@@ -208,12 +208,12 @@ unpacked seats0 popped work seat desk popped_off len first others =
 
 -- a seat of the desk that has seen nothing
 pub record IsDeskSeat {S : Type 0} (name : S → ℕ) (right : S → Bool) (seen : S → List Entry) (desk : S) : Type 0 where
-  pub named : name desk ≡ desk_name
+  pub named : name desk ≡ DESK_NAME
   pub may_ask : right desk ≡ true
   pub fresh : seen desk ≡ []
 
 module _ {S : Type 0} (name : S → ℕ) (seen : S → List Entry) (seats0 : List S) (seat : S) (work : List S) (desk : S) (u : Unpacked seats0 seat work desk)
-    (names : (k : ℕ) (d : S) → k < seat_count → name (get_or seats0 k d) ≡ k) (fresh : (k : ℕ) (d : S) → k < seat_count → seen (get_or seats0 k d) ≡ []) where
+    (names : (k : ℕ) (d : S) → k < SEATS → name (get_or seats0 k d) ≡ k) (fresh : (k : ℕ) (d : S) → k < SEATS → seen (get_or seats0 k d) ≡ []) where
   pub first_name : name seat ≡ 0
   first_name = ap (λ l. name (get_or l 0 desk)) (sym u.parts) ∙ names 0 desk (omega arith)
 
@@ -235,17 +235,17 @@ module _ {S : Type 0} (name : S → ℕ) (seen : S → List Entry) (seats0 : Lis
   pub workers_new : All (λ s. entries_of (name s) (seen s) ≡ []) work
   workers_new k d lt = ap (entries_of (name (get_or work k d))) (work_new k d lt)
 
-  pub desk_is : (d : S) → get_or seats0 desk_name d ≡ desk
+  pub desk_is : (d : S) → get_or seats0 DESK_NAME d ≡ desk
   desk_is d =
-      ap (λ l. get_or l desk_name d) u.parts
+      ap (λ l. get_or l DESK_NAME d) u.parts
       ∙ subst (λ (k : ℕ). get_or ((seat ∷ work) ++ desk ∷ []) k d ≡ desk) (ap suc u.len)
       (get_or-last (seat ∷ work) desk d)
 
-  pub desk_new : (right : S → Bool) → ((d : S) → right (get_or seats0 desk_name d) ≡ true) → IsDeskSeat name right seen desk
+  pub desk_new : (right : S → Bool) → ((d : S) → right (get_or seats0 DESK_NAME d) ≡ true) → IsDeskSeat name right seen desk
   desk_new right may_ask = record {
-    named = ap name (sym (desk_is desk)) ∙ names desk_name desk (omega arith);
+    named = ap name (sym (desk_is desk)) ∙ names DESK_NAME desk (omega arith);
     may_ask = ap right (sym (desk_is desk)) ∙ may_ask desk;
-    fresh = ap seen (sym (desk_is desk)) ∙ fresh desk_name desk (omega arith);
+    fresh = ap seen (sym (desk_is desk)) ∙ fresh DESK_NAME desk (omega arith);
   }
 
 -- what the first thread's report says
@@ -272,22 +272,22 @@ first_case loses opening limit meaning first (Some report) others before last hi
 module _
     {S T : Type 0} (mem : OverMemory S) (right : S → Bool) (meaning : T → Meaning) (first : T) (spawned : List T)
     (seats0 : List S) (seat desk : S) (work : List S) (hub : S) (ends : List (WorkerEnd S)) (threads : List ThreadReport) (all : List S)
-    (parts : seats0 ≡ (seat ∷ work) ++ desk ∷ []) (len : length work ≡ most_spawned)
-    (names : (k : ℕ) (d : S) → k < seat_count → mem.name (get_or seats0 k d) ≡ k) (fresh : (k : ℕ) (d : S) → k < seat_count → mem.seen (get_or seats0 k d) ≡ [])
+    (parts : seats0 ≡ (seat ∷ work) ++ desk ∷ []) (len : length work ≡ MOST_SPAWNED)
+    (names : (k : ℕ) (d : S) → k < SEATS → mem.name (get_or seats0 k d) ≡ k) (fresh : (k : ℕ) (d : S) → k < SEATS → mem.seen (get_or seats0 k d) ≡ [])
     (crew : IsCrew mem meaning first seat spawned work ends)
     (threads_are : threads ≡ reported ends) (hub' : S) (home home' : List S) (home_is : home ≡ seats_of ends)
     (all_are : all ≡ home' ++ hub' ∷ []) (level : Level mem.opening mem.name right mem.seen hub hub' home home')
-    (legal : IsQueueLegal (mem.seen hub)) (hub_name : mem.name hub ≡ desk_name) (hub_silent : entries_of desk_name (mem.seen hub) ≡ []) where
+    (legal : IsQueueLegal (mem.seen hub)) (hub_name : mem.name hub ≡ DESK_NAME) (hub_silent : entries_of DESK_NAME (mem.seen hub) ≡ []) where
   abbrev history : List Entry
   history = mem.seen hub'
 
-  len_others : length crew.others ≡ most_spawned
+  len_others : length crew.others ≡ MOST_SPAWNED
   len_others = three_lengths (EndsWork mem meaning) spawned work crew.others crew.worked ∙ len
 
   home_parts : home ≡ WorkerEnd.seat crew.head ∷ seats_of crew.others
   home_parts = home_is ∙ ap (λ (l : List (WorkerEnd S)). seats_of l) crew.parts
 
-  len_home : length home ≡ most_threads
+  len_home : length home ≡ MOST_THREADS
   len_home = ap length home_parts ∙ ap suc (seats_length crew.others ∙ len_others)
 
   places : Unpacked seats0 seat work desk
@@ -299,43 +299,43 @@ module _
   seat_fresh : mem.seen seat ≡ []
   seat_fresh = first_new mem.name mem.seen seats0 seat work desk places names fresh
 
-  name_of_work : (k : ℕ) → k < most_spawned → mem.name (get_or work k desk) ≡ suc k
+  name_of_work : (k : ℕ) → k < MOST_SPAWNED → mem.name (get_or work k desk) ≡ suc k
   name_of_work k lt = work_name mem.name mem.seen seats0 seat work desk places names fresh k desk (omega (arith, len, lt))
 
-  work_fresh : (k : ℕ) → k < most_spawned → mem.seen (get_or work k desk) ≡ []
+  work_fresh : (k : ℕ) → k < MOST_SPAWNED → mem.seen (get_or work k desk) ≡ []
   work_fresh k lt = work_new mem.name mem.seen seats0 seat work desk places names fresh k desk (omega (arith, len, lt))
 
-  worker : (k : ℕ) (e : T) → k < most_spawned
+  worker : (k : ℕ) (e : T) → k < MOST_SPAWNED
       → EndsWork mem meaning (get_or spawned k e) (get_or work k desk)
       (get_or crew.others k crew.head)
   worker k e lt = three_at (EndsWork mem meaning) spawned work crew.others k e desk crew.head crew.worked (omega (arith, len, lt))
 
-  end_seat : (k : ℕ) → k < most_spawned → get_or home (suc k) desk ≡ WorkerEnd.seat (get_or crew.others k crew.head)
+  end_seat : (k : ℕ) → k < MOST_SPAWNED → get_or home (suc k) desk ≡ WorkerEnd.seat (get_or crew.others k crew.head)
   end_seat k lt = ap (λ l. get_or l (suc k) desk) home_parts ∙ seats_at crew.others k desk crew.head (omega (arith, len_others, lt))
 
-  home_name : (k : ℕ) → k < most_threads → mem.name (get_or home k desk) ≡ k
+  home_name : (k : ℕ) → k < MOST_THREADS → mem.name (get_or home k desk) ≡ k
   home_name zero lt = ap (λ l. mem.name (get_or l 0 desk)) home_parts ∙ (crew.ended.name_is ∙ seat_name)
   home_name (suc k) lt =
-      let below : k < most_spawned = omega (arith, lt) in
+      let below : k < MOST_SPAWNED = omega (arith, lt) in
       ap mem.name (end_seat k below) ∙ ((worker k first below).name_is ∙ name_of_work k below)
 
   came : IsHome mem.opening mem.name mem.seen desk home all history
   came = come_home mem.opening mem.name right mem.seen desk hub hub' home home' all len_home home_name all_are level legal hub_name hub_silent
 
-  owned : (k : ℕ) → k < most_threads → entries_of k history ≡ entries_of k (mem.seen (get_or home k desk))
+  owned : (k : ℕ) → k < MOST_THREADS → entries_of k history ≡ entries_of k (mem.seen (get_or home k desk))
   owned = came.owned
 
-  holds : (k : ℕ) → k < most_threads → IsPrefix (mem.seen (get_or home k desk)) history
+  holds : (k : ℕ) → k < MOST_THREADS → IsPrefix (mem.seen (get_or home k desk)) history
   holds = came.holds
 
   queue : IsQueueLegal history
   queue = came.queue
 
-  worker_case : (k : ℕ) (e : T) → k < most_spawned
+  worker_case : (k : ℕ) (e : T) → k < MOST_SPAWNED
       → CaseOf mem.loses mem.opening mem.limit (suc k) history (meaning (get_or spawned k e)) (WorkerEnd.report (get_or crew.others k crew.head))
   worker_case k e lt =
       let w = worker k e lt in
-      let up : suc k < most_threads = omega (arith, lt) in
+      let up : suc k < MOST_THREADS = omega (arith, lt) in
       let works = rw (name_of_work k lt) at w.works in
       case_of mem.loses mem.opening mem.limit (suc k) history (meaning (get_or spawned k e)) (WorkerEnd.report (get_or crew.others k crew.head))
       (mem.seen (get_or work k desk)) (mem.seen (WorkerEnd.seat (get_or crew.others k crew.head))) (work_fresh k lt)
@@ -345,13 +345,13 @@ module _
   abbrev spawns : ℕ
   spawns = length (WaitQueue.args (queue_after history))
 
-  few : spawns ≤ most_spawned
+  few : spawns ≤ MOST_SPAWNED
   few = few_spawned (queue_after history) (IsSound-after history queue)
 
   counted : Counts crew.others spawns
   counted =
       counts crew.others spawns crew.head
-      (λ k lt. let below : k < most_spawned = omega (arith, len_others, lt) in
+      (λ k lt. let below : k < MOST_SPAWNED = omega (arith, len_others, lt) in
       placed_of mem.loses mem.opening mem.limit (suc k) history (meaning (get_or spawned k first)) k
       (WorkerEnd.report (get_or crew.others k crew.head)) refl (worker_case k first below))
       (omega (arith, few, len_others))
@@ -363,7 +363,7 @@ module _
       × (length (with_report (WorkerEnd.report crew.head) (reported crew.others)) ≡ suc (length (reported crew.others)))
       × ((k : ℕ) (d : ThreadReport) → get_or (with_report (WorkerEnd.report crew.head) (reported crew.others)) (suc k) d ≡ get_or (reported crew.others) k d)
   head_case =
-      let zeroth : 0 < most_threads = omega arith in
+      let zeroth : 0 < MOST_THREADS = omega arith in
       let head_is : get_or home 0 desk ≡ WorkerEnd.seat crew.head = ap (λ l. get_or l 0 desk) home_parts in
       let works = rw seat_name at crew.ended.works in
       first_case mem.loses mem.opening mem.limit meaning first (WorkerEnd.report crew.head) (reported crew.others) (mem.seen seat)
@@ -375,15 +375,15 @@ module _
   silent_by k None e none h = h.1
   silent_by k (Some report) e none h = absurd (cc (none, h.1))
 
-  silent : (n : ℕ) → n ≤ desk_name → n ≢ 0 → arg_of (queue_after history) n ≡ None → entries_of n history ≡ []
+  silent : (n : ℕ) → n ≤ DESK_NAME → n ≢ 0 → arg_of (queue_after history) n ≡ None → entries_of n history ≡ []
   silent zero le some none = absurd (some refl)
   silent (suc k) le some none = elim (below_or k le) [
     | inl lt ↦ silent_by k (WorkerEnd.report (get_or crew.others k crew.head)) first none (worker_case k first lt)
     | inr is ↦ subst (λ j. entries_of (suc j) history ≡ []) (sym is) came.desk
   ]
     where
-      below_or : (k : ℕ) → suc k ≤ most_threads → (k < most_spawned) ⊎ (k ≡ most_spawned)
-      below_or k le = elim (cases_lt k most_spawned) [ inl lt ↦ inl (omega (arith, lt)) | inr past ↦ inr (omega (arith, le, past)) ]
+      below_or : (k : ℕ) → suc k ≤ MOST_THREADS → (k < MOST_SPAWNED) ⊎ (k ≡ MOST_SPAWNED)
+      below_or k le = elim (cases_lt k MOST_SPAWNED) [ inl lt ↦ inl (omega (arith, lt)) | inr past ↦ inr (omega (arith, le, past)) ]
 
   works_by : (k arg : ℕ) (e : T) (o : Option ThreadReport) (report : ThreadReport) → o ≡ Some report → arg_of (queue_after history) (suc k) ≡ Some arg
       → CaseOf mem.loses mem.opening mem.limit (suc k) history (meaning (get_or spawned k e)) o
@@ -399,7 +399,7 @@ module _
       → IsSpawnReport mem.loses mem.opening mem.limit (suc k) arg (meaning (get_or spawned k e)) (get_or threads (suc k) d) history
   works k arg d e has =
       let placed : k < spawns = got_within (WaitQueue.args (queue_after history)) k arg has in
-      let below : k < most_spawned = omega (arith, placed, few) in
+      let below : k < MOST_SPAWNED = omega (arith, placed, few) in
       let at : get_or threads (suc k) d ≡ get_or (reported crew.others) k d = ap (λ l. get_or l (suc k) d) threads_list ∙ head_case.2 k d in
       subst (λ x. IsSpawnReport mem.loses mem.opening mem.limit (suc k) arg (meaning (get_or spawned k e)) x history) (sym at)
       (works_by k arg e (WorkerEnd.report (get_or crew.others k crew.head)) (get_or (reported crew.others) k d)

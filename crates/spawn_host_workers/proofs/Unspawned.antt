@@ -13,7 +13,7 @@ use Rattle.types.specs.declared.event.Answer.TheVariants.{Number}
 use Rattle.types.specs.declared.event.Reply.{Reply}
 use Rattle.types.specs.declared.event.Reply.TheVariants.{Value as ValueReply, Done, OutOfBounds, Again, Full}
 use Rattle.types.specs.declared.outcome.ThreadReport.{ThreadReport}
-use Rattle.types.specs.Limits.{most_threads, desk_name, seat_count}
+use Rattle.types.specs.declared.limits.TheConstants.{MOST_THREADS, DESK_NAME, SEATS}
 use Rattle.shared_memory.specs.declared.sleeper.Sleeper.{Sleeper}
 use Rattle.shared_memory.specs.Memory.{Memory}
 use Rattle.shared_memory.specs.Events.{is_of_queue}
@@ -148,7 +148,7 @@ args_from q (e ∷ xs) sound unspawned legal none =
 
 pub none_spawned : (history : List Entry) → IsQueueLegal history → SpawnsNone 0 history → WaitQueue.args (queue_after history) ≡ []
 unfolding queue_after IsQueueLegal first_queue
-none_spawned history legal none = args_from (first_queue most_threads) (of_queue history) IsSound-first refl legal (none_of_queue 0 history none)
+none_spawned history legal none = args_from (first_queue MOST_THREADS) (of_queue history) IsSound-first refl legal (none_of_queue 0 history none)
 
 -- from a run of the first thread to one history
 
@@ -156,7 +156,7 @@ module _
     {S T : Type 0} (mem : OverMemory S) (right : S → Bool) (meaning : T → Meaning) (first : T)
     (here : (t : Running) × (meaning first).stands t × IsHere t)
     (alone : Program.imported (meaning first).program ≡ 0) (seats0 : List S) (seat desk : S) (work : List S) (places : Unpacked seats0 seat work desk)
-    (names : (k : ℕ) (d : S) → k < seat_count → mem.name (get_or seats0 k d) ≡ k) (fresh : (k : ℕ) (d : S) → k < seat_count → mem.seen (get_or seats0 k d) ≡ [])
+    (names : (k : ℕ) (d : S) → k < SEATS → mem.name (get_or seats0 k d) ≡ k) (fresh : (k : ℕ) (d : S) → k < SEATS → mem.seen (get_or seats0 k d) ≡ [])
     (report : ThreadReport) (seat' : S) (name_is : mem.name seat' ≡ mem.name seat)
     (ran : (t : Running) → (meaning first).stands t → IsHere t
     → RunsOut (meaning first).program mem.loses mem.opening mem.limit (mem.name seat) t report.outcome report.spent
@@ -164,8 +164,8 @@ module _
     (mem.seen seat'))
     (hub hub' : S) (home home' all : List S) (home_is : home ≡ seat' ∷ work) (all_are : all ≡ home' ++ hub' ∷ [])
     (level : Level mem.opening mem.name right mem.seen hub hub' home home')
-    (legal : IsQueueLegal (mem.seen hub)) (hub_name : mem.name hub ≡ desk_name)
-    (hub_silent : entries_of desk_name (mem.seen hub) ≡ []) (threads : List ThreadReport)
+    (legal : IsQueueLegal (mem.seen hub)) (hub_name : mem.name hub ≡ DESK_NAME)
+    (hub_silent : entries_of DESK_NAME (mem.seen hub) ≡ []) (threads : List ThreadReport)
     (threads_are : threads ≡ report ∷ []) where
   abbrev history : List Entry
   history = mem.seen hub'
@@ -176,7 +176,7 @@ module _
   seat_new : mem.seen seat ≡ []
   seat_new = first_new mem.name mem.seen seats0 seat work desk places names fresh
 
-  home_name : (k : ℕ) → k < most_threads → mem.name (get_or home k desk) ≡ k
+  home_name : (k : ℕ) → k < MOST_THREADS → mem.name (get_or home k desk) ≡ k
   home_name zero lt = ap (λ l. mem.name (get_or l 0 desk)) home_is ∙ (name_is ∙ seat_name)
   home_name (suc k) lt = ap (λ l. mem.name (get_or l (suc k) desk)) home_is
       ∙ work_name mem.name mem.seen seats0 seat work desk places names fresh k desk (omega (arith, lt, places.len))
@@ -213,7 +213,7 @@ module _
   unspawned : WaitQueue.args (queue_after history) ≡ []
   unspawned = none_spawned history came.queue spawns_none
 
-  others : (k : ℕ) → k < most_threads → k ≢ 0 → entries_of k history ≡ []
+  others : (k : ℕ) → k < MOST_THREADS → k ≢ 0 → entries_of k history ≡ []
   others zero lt apart = absurd (apart refl)
   others (suc k) lt apart =
       came.owned (suc k) lt
@@ -228,7 +228,7 @@ module _
     seen_by = came.seen_by;
     legal = came.legal;
     queue = came.queue;
-    silent = λ n le some none. below_more (λ (j : ℕ). j ≢ 0 → entries_of j history ≡ []) most_threads others (λ apart. came.desk) n (omega (arith, le)) some;
+    silent = λ n le some none. below_more (λ (j : ℕ). j ≢ 0 → entries_of j history ≡ []) MOST_THREADS others (λ apart. came.desk) n (omega (arith, le)) some;
     count = ap length threads_are ∙ (let e = ap length unspawned in omega (arith, e));
     leads = λ d t stands_so here_so.
         subst (λ l. IsReport mem.loses mem.opening mem.limit 0 (meaning first).program t (meaning first).fuel (get_or l 0 d) [] history) (sym threads_are)

@@ -10,13 +10,15 @@ use Rattle.spawn_host_workers.specs.declared.worker.WorkerEnd.{WorkerEnd}
 use Rattle.spawn_host_workers.specs.declared.crew.Duty.{Duty}
 
 -- A handle's promise is of this memory, this thread and this seat.
-pub record IsDuty {T M S : Type 0} (memory : M) (thread : T) (seat : S) (handle : PromisedHandle (WorkerEnd S) (Duty T M S)) : Type 0 where
+pub record IsDuty {T M S : Type 0} (memory : M) (thread : T) (seat : S)
+    (handle : PromisedHandle (WorkerEnd S) (Duty T M S)) : Type 0 where
   pub memory_is : handle.promise.memory.value ≡ memory
   pub thread_is : handle.promise.thread.value ≡ thread
   pub seat_is : handle.promise.seat.value ≡ seat
 
 -- A worker did what its handle promises.
-abbrev pub IsDone : {T M S : Type 0} → Ghosts M S → (T → Meaning) → PromisedHandle (WorkerEnd S) (Duty T M S) → WorkerEnd S → Type 0
+abbrev pub IsDone : {T M S : Type 0} → Ghosts M S → (T → Meaning) → PromisedHandle (WorkerEnd S) (Duty T M S)
+    → WorkerEnd S → Type 0
 IsDone m meaning handle end =
     EndsWork (over m handle.promise.memory.value) meaning handle.promise.thread.value handle.promise.seat.value end
 

@@ -1,7 +1,8 @@
 -- Why threads give no run.
 use Rattle.std.specs.Prelude.{ℕ}
 use Rattle.spawn_host_workers.specs.declared.report.RunFault.{RunFault}
-use Rattle.spawn_host_workers.specs.declared.report.RunFault.TheVariants.{NoMemory, UnknownExport, WrongArguments, NoThread}
+use Rattle.spawn_host_workers.specs.declared.report.RunFault.TheVariants.{NoMemory, UnknownExport, WrongArguments}
+use Rattle.spawn_host_workers.specs.declared.report.RunFault.TheVariants.{NoThread}
 
 -- The system had too little memory left, or started no further thread. The other faults are of what was asked for.
 abbrev pub IsOfSystem : RunFault → Type 0

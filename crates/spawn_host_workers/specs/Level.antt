@@ -20,7 +20,8 @@ pub record SeatGoes {S : Type 0} (name : S → ℕ) (seen : S → List Entry) (s
   pub owned : entries_of (name seat) (seen seat') ≡ entries_of (name seat) (seen seat)
 
 -- After i seats have met the hub.
-pub record Round {S : Type 0} (opening : Memory) (name : S → ℕ) (right : S → Bool) (seen : S → List Entry) (hub hub' : S)
+pub record Round {S : Type 0} (opening : Memory) (name : S → ℕ) (right : S → Bool) (seen : S
+    → List Entry) (hub hub' : S)
     (seats seats' : List S) (i : ℕ) : Type 0 where
   pub hub_goes : HubGoes name right seen hub hub'
   pub len : length seats' ≡ length seats
@@ -33,11 +34,13 @@ pub record Round {S : Type 0} (opening : Memory) (name : S → ℕ) (right : S �
   pub legal : 0 < i → IsSeen opening (seen hub')
 
 -- All have seen one list, which goes on from each one's.
-pub record Level {S : Type 0} (opening : Memory) (name : S → ℕ) (right : S → Bool) (seen : S → List Entry) (hub hub' : S)
+pub record Level {S : Type 0} (opening : Memory) (name : S → ℕ) (right : S → Bool) (seen : S
+    → List Entry) (hub hub' : S)
     (seats seats' : List S) : Type 0 where
   pub hub_goes : HubGoes name right seen hub hub'
   pub len : length seats' ≡ length seats
-  pub goes : (k : ℕ) (d : S) → k < length seats → SeatGoes name seen (slice_index_or seats k d) (slice_index_or seats' k d)
+  pub goes : (k : ℕ) (d : S) → k < length seats
+      → SeatGoes name seen (slice_index_or seats k d) (slice_index_or seats' k d)
   pub holds : (k : ℕ) (d : S) → k < length seats → IsPrefix (seen (slice_index_or seats k d)) (seen hub')
   pub one : (k : ℕ) (d : S) → k < length seats → seen (slice_index_or seats' k d) ≡ seen hub'
   pub legal : 0 < length seats → IsSeen opening (seen hub')

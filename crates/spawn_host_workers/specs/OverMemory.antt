@@ -4,8 +4,8 @@ use Rattle.types.specs.declared.event.Entry.{Entry}
 use Rattle.shared_memory.specs.Memory.{Memory}
 use Rattle.shared_memory.specs.declared.memory.SharedMemory.{Ghosts}
 
--- Whether tries can be lost, the memory before any entry, and how many entries the log takes; and of each seat its name and what it
--- has seen.
+-- Whether tries can be lost, the memory before any entry, and how many entries the log takes; and of each seat its name
+-- and what it has seen.
 pub record OverMemory (S : Type 0) : Type 0 where
   pub loses : Bool
   pub opening : Memory

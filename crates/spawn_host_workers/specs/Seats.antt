@@ -2,7 +2,7 @@
 use Rattle.std.specs.Prelude.{ℕ, ◌≡◌, ◌<◌, List, [], ◌∷◌, ◌++◌, slice_index_or}
 use Rattle.types.specs.declared.event.Event.{Event}
 use Rattle.types.specs.declared.outcome.Outcome.{Outcome}
-use Rattle.types.specs.Limits.{seat_count}
+use Rattle.types.specs.declared.limits.TheConstants.{SEATS}
 use Rattle.shared_memory.specs.declared.memory.SharedMemory.{Ghosts}
 use Rattle.shared_memory.specs.Seats.{IsSameSeat}
 use Rattle.shared_memory.specs.WaitQueue.{IsFree}
@@ -21,10 +21,10 @@ use Rattle.spawn_host_workers.specs.Composed.{IsComposed}
 
 -- The seats of a run are in order of their names; and none has seen an entry.
 abbrev pub AreInOrder : {M S : Type 0} → Ghosts M S → List S → Type 0
-AreInOrder m seats = (k : ℕ) (d : _) → k < seat_count → m.name (slice_index_or seats k d) ≡ k
+AreInOrder m seats = (k : ℕ) (d : _) → k < SEATS → m.name (slice_index_or seats k d) ≡ k
 
 abbrev pub AreNew : {M S : Type 0} → Ghosts M S → List S → Type 0
-AreNew m seats = (k : ℕ) (d : _) → k < seat_count → m.seen (slice_index_or seats k d) ≡ []
+AreNew m seats = (k : ℕ) (d : _) → k < SEATS → m.seen (slice_index_or seats k d) ≡ []
 
 -- What an event comes to.
 abbrev pub SeatServes : {M S : Type 0} → Ghosts M S → M → S → S → Event → Served → Type 0
@@ -32,7 +32,8 @@ SeatServes m memory before after event result =
     Serves m.LOSES m.opening (m.limit memory) (m.name before) event (m.seen before) (m.seen after) result
 
 -- A thread and its seat, after a part of the thread's run: it is the same thread, the same seat, and free to go on.
-pub record StaysFree {T M S : Type 0} (m : Ghosts M S) (meaning : T → Meaning) (thread thread' : T) (seat seat' : S) : Type 0 where
+pub record StaysFree {T M S : Type 0} (m : Ghosts M S) (meaning : T → Meaning) (thread thread' : T) (seat seat' : S)
+    : Type 0 where
   pub stays : StaysAs (meaning thread) (meaning thread')
   pub same : IsSameSeat m seat seat'
   pub free : IsFree (queue_after (m.seen seat')) (m.name seat)
@@ -55,7 +56,8 @@ SeatSteps m memory meaning thread thread' seat seat' turn =
 abbrev pub SeatEnds : {T M S : Type 0} → Ghosts M S → M → (T → Meaning) → T → T → S → S → Outcome → Type 0
 SeatEnds m memory meaning thread thread' seat seat' outcome =
     (t : Running) → (meaning thread).stands t → IsHere t
-    → Attends (meaning thread).program m.LOSES m.opening (m.limit memory) (m.name seat) t (Ended outcome) (meaning thread').stands
+    → Attends (meaning thread).program m.LOSES m.opening (m.limit memory) (m.name seat) t (Ended outcome)
+    (meaning thread').stands
     (watched m.seen m.lost seat) (watched m.seen m.lost seat')
 
 -- It has run to its end, and left.
@@ -74,7 +76,8 @@ AreLevel m hub hub' seats seats' = Level m.opening m.name m.has_queue_right m.se
 
 -- All seats are level with the hub, which comes last.
 abbrev pub ComeHome : {M S : Type 0} → Ghosts M S → S → List S → List S → Type 0
-ComeHome m hub seats all = (last : _) × (others : List _) × (all ≡ others ++ last ∷ []) × AreLevel m hub last seats others
+ComeHome m hub seats all = (last : _) × (others : List _) × (all ≡ others ++ last ∷ [])
+    × AreLevel m hub last seats others
 
 -- What a run gives is one history.
 abbrev pub GivesRun : {T M S : Type 0} → Ghosts M S → M → (T → Meaning) → T → List T → RunEnd S → Type 0

@@ -40,7 +40,8 @@ IsOpen (events.Ask question) replies.Done = Unit {0}
 IsOpen event reply = ⊥
 
 -- The question was entered, and its answer.
-pub record IsAnswered (limit : Option ℕ) (n : ℕ) (event : Event) (answer : Answer) (before after : List Entry) : Type 0 where
+pub record IsAnswered (limit : Option ℕ) (n : ℕ) (event : Event) (answer : Answer) (before after : List Entry)
+    : Type 0 where
   pub reply : Reply
   pub middle : List Entry
   pub opened : IsOpen event reply
@@ -75,7 +76,8 @@ lost_by (served.Replied reply) lost = lost_after reply lost
 lost_by _ lost = lost
 
 -- The thread has come from one state to another, for which it stands now.
-pub record Attends (p : Program) (loses : Bool) (opening : Memory) (limit : Option ℕ) (n : ℕ) (first : Running) (turn : Turn)
+pub record Attends (p : Program) (loses : Bool) (opening : Memory) (limit : Option ℕ) (n : ℕ) (first : Running)
+    (turn : Turn)
     (Stands : Running → Type 0)
     (before after : Watched) : Type 0 where
   pub now : Running
@@ -92,7 +94,8 @@ IsPaid p first turns.Awaits now = (left_of now < left_of first) ⊎ (wants_of p 
 IsPaid p first (turns.Ended outcome) now = Unit {0}
 
 -- The thread has made a step: it hasn't stayed as it was.
-pub record Steps (p : Program) (loses : Bool) (opening : Memory) (limit : Option ℕ) (n : ℕ) (first : Running) (turn : Turn)
+pub record Steps (p : Program) (loses : Bool) (opening : Memory) (limit : Option ℕ) (n : ℕ) (first : Running)
+    (turn : Turn)
     (Stands : Running → Type 0)
     (before after : Watched) : Type 0 where
   pub attends : Attends p loses opening limit n first turn Stands before after

@@ -16,14 +16,16 @@ use Rattle.spawn_host_workers.specs.Ends.{IsLast, RunsOut}
 use Rattle.spawn_host_workers.specs.declared.worker.WorkerEnd.{WorkerEnd}
 use Rattle.spawn_host_workers.specs.OverMemory.{OverMemory}
 
--- Thread n was spawned, and ran from its start to its end: the arguments are its number and the one that it was spawned with.
+-- Thread n was spawned, and ran from its start to its end: the arguments are its number and the one that it was spawned
+-- with.
 pub record RunsSpawned (loses : Bool) (opening : Memory) (limit : Option ℕ) (n : ℕ) (m : Meaning)
     (report : ThreadReport) (before after : List Entry) : Type 0 where
   pub arg : ℕ
   pub begun : List Entry
   pub begins_with : BeginsThread opening n arg before begun
   pub ran : (types : List ValType) (start : List Value → Config) → m.begins types start
-      → RunsOut m.program loses opening limit n (Runs (At (start (values.I32 n ∷ values.I32 arg ∷ []))) m.fuel) report.outcome report.spent
+      → RunsOut m.program loses opening limit n (Runs (At (start (values.I32 n ∷ values.I32 arg ∷ []))) m.fuel)
+      report.outcome report.spent
       m.fuel begun after
   pub grows : IsPrefix begun after
   pub last : IsLast opening n after
@@ -34,6 +36,8 @@ Works loses opening limit n m None before after = NeverBegins opening n before a
 Works loses opening limit n m (Some report) before after = RunsSpawned loses opening limit n m report before after
 
 -- A worker's end, over seats and threads of any type.
-pub record EndsWork {S T : Type 0} (mem : OverMemory S) (meaning : T → Meaning) (thread : T) (seat : S) (end : WorkerEnd S) : Type 0 where
+pub record EndsWork {S T : Type 0} (mem : OverMemory S) (meaning : T
+    → Meaning) (thread : T) (seat : S) (end : WorkerEnd S) : Type 0 where
   pub name_is : mem.name end.seat ≡ mem.name seat
-  pub works : Works mem.loses mem.opening mem.limit (mem.name seat) (meaning thread) end.report (mem.seen seat) (mem.seen end.seat)
+  pub works : Works mem.loses mem.opening mem.limit (mem.name seat) (meaning thread) end.report (mem.seen seat)
+      (mem.seen end.seat)

@@ -1,6 +1,6 @@
 //! A run of one thread, of a program that starts no other.
 ghost use Rattle.std.specs.Prelude.{◌≡◌, true, [], IfOk, IsOkUnless, slice_index_or, vec_len};
-ghost use Rattle.types.specs.Limits.{desk_name, seat_count};
+ghost use Rattle.types.specs.declared.limits.TheConstants.{DESK_NAME, SEATS};
 ghost use Rattle.interp_trait.specs.Turns.{MayRun};
 ghost use Rattle.interp_machine.specs.Program.{Program};
 ghost use Rattle.spawn_host_workers.specs.declared.report.RunFault.{RunFault};
@@ -36,10 +36,10 @@ where
     R: Wait,
     requires here { MayRun (T.meaning first) }
     requires alone { Program.imported (T.meaning first).program ≡ 0 }
-    requires len { vec_len seats ≡ seat_count }
+    requires len { vec_len seats ≡ SEATS }
     requires names { AreInOrder M.SharedMemory seats.items }
     requires new { AreNew M.SharedMemory seats.items }
-    requires right { (d : M.Seat) → M.has_queue_right (slice_index_or seats.items desk_name d) ≡ true }
+    requires right { (d : M.Seat) → M.has_queue_right (slice_index_or seats.items DESK_NAME d) ≡ true }
     ensures fault { IsOkUnless result RunFault.NoMemory }
     ensures composed { IfOk result (GivesRun M.SharedMemory memory.now T.meaning first []) }
 {

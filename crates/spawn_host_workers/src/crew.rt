@@ -149,7 +149,8 @@ where
     R: Threads + Wait + Sync,
     requires start { MayStart M.name M.seen T.meaning first seat threads.items seats.items }
     ensures { MatchResult result
-        (λ ends. IsCrew (over M.SharedMemory memory.now) T.meaning first seat threads.items seats.items ends.items) IsOfSystem }
+        (λ ends. IsCrew (over M.SharedMemory memory.now) T.meaning first seat threads.items seats.items ends.items)
+        IsOfSystem }
 {
     let mut seat = seat;
     let Ok(mut ends) = Vec::with_capacity(alloc, MOST_THREADS) else {

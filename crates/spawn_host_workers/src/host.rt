@@ -1,6 +1,7 @@
 //! A run of real threads.
-ghost use Rattle.std.specs.Prelude.{◌≡◌, ◌≤◌, ◌<◌, ◌+◌, true, [], All, IfOk, IfErr, MatchResult, slice_index_or, vec_len, vec_capacity};
-ghost use Rattle.types.specs.Limits.{most_spawned, desk_name, seat_count};
+ghost use Rattle.std.specs.Prelude.{◌≡◌, ◌≤◌, ◌<◌, ◌+◌, true, [], All, IfOk, IfErr, MatchResult, slice_index_or};
+ghost use Rattle.std.specs.Prelude.{vec_len, vec_capacity};
+ghost use Rattle.types.specs.declared.limits.TheConstants.{MOST_SPAWNED, DESK_NAME, SEATS};
 ghost use Rattle.interp_trait.specs.Turns.{MayRun, MayBeSpawned};
 ghost use Rattle.spawn_host_workers.specs.OverMemory.{over};
 ghost use Rattle.spawn_host_workers.specs.Crew.{MayStart, IsCrew};
@@ -60,7 +61,8 @@ where
     R: Threads + Wait + Sync,
     requires start { MayStart M.name M.seen T.meaning first seat threads.items seats.items }
     ensures { MatchResult result
-        (λ ends. IsCrew (over M.SharedMemory memory.now) T.meaning first seat threads.items seats.items ends.items) IsOfSystem }
+        (λ ends. IsCrew (over M.SharedMemory memory.now) T.meaning first seat threads.items seats.items ends.items)
+        IsOfSystem }
 {
     thread::scope(
         thread::scope_env(),
@@ -126,12 +128,12 @@ where
     G: Gate + Sync,
     R: Threads + Wait + Sync,
     requires here { MayRun (T.meaning first) }
-    requires count { vec_len spawned ≡ most_spawned }
+    requires count { vec_len spawned ≡ MOST_SPAWNED }
     requires begins { All (λ (t : T). MayBeSpawned (T.meaning t)) spawned.items }
-    requires len { vec_len seats ≡ seat_count }
+    requires len { vec_len seats ≡ SEATS }
     requires names { AreInOrder M.SharedMemory seats.items }
     requires new { AreNew M.SharedMemory seats.items }
-    requires right { (d : M.Seat) → M.has_queue_right (slice_index_or seats.items desk_name d) ≡ true }
+    requires right { (d : M.Seat) → M.has_queue_right (slice_index_or seats.items DESK_NAME d) ≡ true }
     ensures fault { IfErr result (λ fault. IsOfSystem fault) }
     ensures composed { IfOk result (GivesRun M.SharedMemory memory.now T.meaning first spawned.items) }
 {

@@ -1,5 +1,5 @@
-//! Runs the threads of a module as real threads, over one shared memory: each is run to its end, over a memory and a desk that it
-//! shares with others.
+//! Runs the threads of a module as real threads, over one shared memory: each is run to its end, over a memory and a
+//! desk that it shares with others.
 //!
 //! Proved: where `run_all` answers, all 65 seats have seen one legal list, and each report is of a run with its
 //! entries. `run_thread` runs any thread that makes turns: its units are its budget, and as many of its steps are lost

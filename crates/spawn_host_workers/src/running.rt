@@ -45,7 +45,8 @@ fn attend<T: TakesTurns, M: SharedMemory, W: Wait + Drop, G: Gate>(
     requires event { IsEvent event }
     requires free { IsFree (queue_after (M.seen seat.old)) (M.name seat.old) }
     ensures stays { StaysFree M.SharedMemory T.meaning thread.old thread.new seat.old seat.new }
-    ensures attended { SeatAttends M.SharedMemory memory.now T.meaning thread.old thread.new seat.old seat.new event result }
+    ensures attended { SeatAttends M.SharedMemory memory.now T.meaning thread.old thread.new seat.old seat.new event
+        result }
 {
     let name = memory.name(seat);
     match serve(memory, seat, desk, event) {
@@ -106,9 +107,9 @@ fn run_steps<T: TakesTurns, M: SharedMemory, W: Wait + Drop, G: Gate, R: Wait>(
 
 /// Runs a thread to its end, by turns of its own, tries of accesses and questions to the desk; then the thread leaves.
 ///
-/// A lost try and a full log are given to the thread too, which says what they cost: the tries that the seat lost are as many
-/// as the lost tries among the thread's steps, and each costs a unit. The gate is called before each turn.
-/// It isn't promised that this returns: a call of the desk may wait, and a thread of whose configuration nothing is
+/// A lost try and a full log are given to the thread too, which says what they cost: the tries that the seat lost are
+/// as many as the lost tries among the thread's steps, and each costs a unit. The gate is called before each turn. It
+/// isn't promised that this returns: a call of the desk may wait, and a thread of whose configuration nothing is
 /// defined never ends.
 pub fn run_thread<T: TakesTurns + Drop, M: SharedMemory, W: Wait + Drop, G: Gate, R: Wait>(
     rt: &R,

@@ -1,6 +1,6 @@
 //! The seats of a run.
 ghost use Rattle.std.specs.Prelude.{◌≡◌, ◌≤◌, ◌∷◌, ◌++◌, [], length, vec_len, vec_capacity};
-ghost use Rattle.types.specs.Limits.{most_spawned, seat_count};
+ghost use Rattle.types.specs.declared.limits.TheConstants.{MOST_SPAWNED, SEATS};
 
 /// The seats of a run, dealt out: to the first thread, to those that can be spawned, and to the desk.
 pub(crate) struct Dealt<S> {
@@ -14,10 +14,10 @@ pub(crate) struct Dealt<S> {
 
 /// Deals the seats of a run out. What is left to the workers keeps the room for all.
 pub(crate) fn deal<S: Drop>(mut seats: Vec<S>) -> Dealt<S>
-    requires { vec_len seats ≡ seat_count }
+    requires { vec_len seats ≡ SEATS }
     ensures parts { seats.items ≡ (result.first ∷ result.workers.items) ++ result.desk ∷ [] }
-    ensures len { length result.workers.items ≡ most_spawned }
-    ensures room { seat_count ≤ vec_capacity result.workers }
+    ensures len { length result.workers.items ≡ MOST_SPAWNED }
+    ensures room { SEATS ≤ vec_capacity result.workers }
 {
     let Some(desk) = seats.pop() else {
         unreachable!()

@@ -3,8 +3,8 @@
 use crate::small::{HEADER, push_all};
 use std::alloc::{AllocError, Global};
 
-/// A module whose first function, exported as `f`, gives an i32. Of the other functions the one with the index n gives n.
-/// There is one shared page.
+/// A module whose first function, exported as `f`, gives an i32. Of the other functions the one with the index n gives
+/// n. There is one shared page.
 #[derive(Clone, Copy)]
 pub struct Large<'a> {
     /// How many parameters of type i32 the first function has.

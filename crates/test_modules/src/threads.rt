@@ -24,8 +24,8 @@ pub const FOUR: &[u8] = b"\
 \x0a\x1d\x02\x18\x00\x41\x00\x10\x00\x1a\x41\x00\x10\x00\x1a\x41\x00\x10\x00\x1a\x41\x00\x10\x00\x1a\x41\x07\x0b\
 \x02\x00\x0b";
 
-/// A tree of spawns: a thread of height 3 spawns two of height 2, and so on down to height 0: 15 threads. Each adds 2 to the
-/// power of its id to the word at 0. A spawn that is refused traps.
+/// A tree of spawns: a thread of height 3 spawns two of height 2, and so on down to height 0: 15 threads. Each adds 2
+/// to the power of its id to the word at 0. A spawn that is refused traps.
 ///
 /// ```wat
 /// (module

@@ -5,7 +5,7 @@ use Rattle.types.specs.declared.value.Value.{Value}
 use Rattle.types.specs.declared.parts.FuncType.{FuncType}
 use Rattle.types.specs.declared.parts.Body.{Body}
 use Rattle.types.specs.declared.parts.Parts.{Parts}
-use Rattle.types.specs.Limits.{most_pages}
+use Rattle.types.specs.declared.limits.TheConstants.{MOST_PAGES}
 use Rattle.validate_typing.specs.Image.{opening_image, pages_max_of}
 use Rattle.shared_memory.specs.Memory.{Memory}
 use Rattle.interp_machine.specs.Config.{Config}
@@ -27,7 +27,7 @@ abbrev memory_with : List ℕ → ℕ → Memory
 memory_with xs k = record { bytes = xs; max = k }
 
 pub opened_is : (m : Parts) (memory : Memory) (bytes : List ℕ) (max : ℕ) → memory ≡ record { bytes = bytes; max = max }
-    → bytes ≡ opening_image m → max ≡ pages_max_of most_pages m → memory ≡ opening_memory m
+    → bytes ≡ opening_image m → max ≡ pages_max_of MOST_PAGES m → memory ≡ opening_memory m
 opened_is m memory bytes max is image most =
     is ∙ (ap (λ (xs : List ℕ). memory_with xs max) image ∙ ap (λ k. memory_with (opening_image m) k) most)
 

@@ -16,7 +16,7 @@ use Rattle.types.specs.Tests.{is_expression, is_type_within, is_table_within, is
 use Rattle.types.specs.Tests.{is_desc_within, is_body_within, has_few_items, has_items_within, has_bodies_within}
 use Rattle.types.specs.Tests.{has_nested_code, is_module}
 use Rattle.types.proofs.Nested.{Decides-expression}
-use Rattle.types.specs.Limits.{most_pages, most_items, most_functions, most_elements, most_params, most_locals, most_module_bytes}
+use Rattle.types.specs.declared.limits.TheConstants.{MOST_PAGES, MOST_ITEMS, MOST_FUNCTIONS, MOST_ELEMENTS, MOST_PARAMS, MOST_LOCALS, MOST_MODULE_BYTES}
 
 Decides-leb : (a b : ℕ) → Decides (nat_le a b) (a ≤ b)
 Decides-leb a b = (λ h. grind (arith, nat_tests), λ h. grind (arith, nat_tests))
@@ -25,17 +25,17 @@ Decides-all : {X : Type 0} (p : X → Bool) (P : X → Type 0) → ((x : X) → 
 Decides-all p P each xs = Decides-by_and p P (list_all p) each refl (λ _ _. refl) xs
 
 Decides-type : (t : FuncType) → Decides (is_type_within t) (IsTypeWithin t)
-Decides-type t = Decides-and _ _ (Decides-leb (length t.params) most_params) (Decides-leb (length t.results) most_params)
+Decides-type t = Decides-and _ _ (Decides-leb (length t.params) MOST_PARAMS) (Decides-leb (length t.results) MOST_PARAMS)
 
 Decides-table : (l : Limits) → Decides (is_table_within l) (IsTableWithin l)
-Decides-table l = Decides-leb l.min most_elements
+Decides-table l = Decides-leb l.min MOST_ELEMENTS
 
-Decides-max : (m : Option ℕ) → Decides (is_max_within m) (IfSome m (λ m. m ≤ most_pages))
+Decides-max : (m : Option ℕ) → Decides (is_max_within m) (IfSome m (λ m. m ≤ MOST_PAGES))
 Decides-max None = (λ _. tt, λ _. refl)
-Decides-max (Some m) = Decides-leb m most_pages
+Decides-max (Some m) = Decides-leb m MOST_PAGES
 
 Decides-memory : (l : Limits) → Decides (is_memory_within l) (IsMemoryWithin l)
-Decides-memory l = Decides-and _ _ (Decides-leb l.min most_pages) (Decides-max l.max)
+Decides-memory l = Decides-and _ _ (Decides-leb l.min MOST_PAGES) (Decides-max l.max)
 
 Decides-desc : (d : ImportDesc) → Decides (is_desc_within d) (IsDescWithin d)
 Decides-desc (imports.Func f) = (λ _. tt, λ _. refl)
@@ -44,27 +44,27 @@ Decides-desc (imports.Memory l) = Decides-memory l
 Decides-desc (imports.Global g) = (λ _. tt, λ _. refl)
 
 Decides-body : (types : List FuncType) (f : ℕ × Body) → Decides (is_body_within types f.0 f.1) (IsBodyWithin types f.0 f.1)
-Decides-body types f = Decides-leb (param_count types f.0 + length f.1.locals) most_locals
+Decides-body types f = Decides-leb (param_count types f.0 + length f.1.locals) MOST_LOCALS
 
 -- the facts of each group of tests
 record HasFewItems (m : Parts) : Type 0 where
-  types : length m.types ≤ most_items
-  imports : length m.imports ≤ most_items
-  functions : count_by (λ i. is_func i.desc) m.imports + length m.functions ≤ most_functions
-  tables : length m.tables ≤ most_items
-  memories : length m.memories ≤ most_items
-  globals : length m.globals ≤ most_items
-  exports : length m.exports ≤ most_items
-  elements : length m.elements ≤ most_items
-  data_segments : length m.data ≤ most_items
-  size : m.length ≤ most_module_bytes
+  types : length m.types ≤ MOST_ITEMS
+  imports : length m.imports ≤ MOST_ITEMS
+  functions : count_by (λ i. is_func i.desc) m.imports + length m.functions ≤ MOST_FUNCTIONS
+  tables : length m.tables ≤ MOST_ITEMS
+  memories : length m.memories ≤ MOST_ITEMS
+  globals : length m.globals ≤ MOST_ITEMS
+  exports : length m.exports ≤ MOST_ITEMS
+  elements : length m.elements ≤ MOST_ITEMS
+  data_segments : length m.data ≤ MOST_ITEMS
+  size : m.length ≤ MOST_MODULE_BYTES
 
 record HasItemsWithin (m : Parts) : Type 0 where
   each_type : All IsTypeWithin m.types
   each_import : All (λ i. IsDescWithin i.desc) m.imports
   each_table : All IsTableWithin m.tables
   each_memory : All IsMemoryWithin m.memories
-  each_element : All (λ e. length e.functions ≤ most_functions) m.elements
+  each_element : All (λ e. length e.functions ≤ MOST_FUNCTIONS) m.elements
 
 record HasNestedCode (m : Parts) : Type 0 where
   initial_values : All (λ g. IsExpression g.init) m.globals
@@ -89,16 +89,16 @@ Decides-few m =
     })
     (λ t. (((((((((t.types, t.imports), t.functions), t.tables), t.memories), t.globals), t.exports), t.elements), t.data_segments), t.size))
     (Decides-and _ _ (Decides-and _ _ (Decides-and _ _ (Decides-and _ _ (Decides-and _ _ (Decides-and _ _ (Decides-and _ _ (Decides-and _ _ (Decides-and _ _
-    (Decides-leb (length m.types) most_items)
-    (Decides-leb (length m.imports) most_items))
-    (Decides-leb (count_by (λ i. is_func i.desc) m.imports + length m.functions) most_functions))
-    (Decides-leb (length m.tables) most_items))
-    (Decides-leb (length m.memories) most_items))
-    (Decides-leb (length m.globals) most_items))
-    (Decides-leb (length m.exports) most_items))
-    (Decides-leb (length m.elements) most_items))
-    (Decides-leb (length m.data) most_items))
-    (Decides-leb m.length most_module_bytes))
+    (Decides-leb (length m.types) MOST_ITEMS)
+    (Decides-leb (length m.imports) MOST_ITEMS))
+    (Decides-leb (count_by (λ i. is_func i.desc) m.imports + length m.functions) MOST_FUNCTIONS))
+    (Decides-leb (length m.tables) MOST_ITEMS))
+    (Decides-leb (length m.memories) MOST_ITEMS))
+    (Decides-leb (length m.globals) MOST_ITEMS))
+    (Decides-leb (length m.exports) MOST_ITEMS))
+    (Decides-leb (length m.elements) MOST_ITEMS))
+    (Decides-leb (length m.data) MOST_ITEMS))
+    (Decides-leb m.length MOST_MODULE_BYTES))
 
 Decides-items : (m : Parts) → Decides (has_items_within m) (HasItemsWithin m)
 Decides-items m =
@@ -110,8 +110,8 @@ Decides-items m =
     (Decides-all (λ i. is_desc_within i.desc) (λ i. IsDescWithin i.desc) (λ i. Decides-desc i.desc) m.imports))
     (Decides-all is_table_within IsTableWithin Decides-table m.tables))
     (Decides-all is_memory_within IsMemoryWithin Decides-memory m.memories))
-    (Decides-all (λ e. nat_le (length e.functions) most_functions) (λ e. length e.functions ≤ most_functions)
-    (λ e. Decides-leb (length e.functions) most_functions) m.elements))
+    (Decides-all (λ e. nat_le (length e.functions) MOST_FUNCTIONS) (λ e. length e.functions ≤ MOST_FUNCTIONS)
+    (λ e. Decides-leb (length e.functions) MOST_FUNCTIONS) m.elements))
 
 Decides-nested : (m : Parts) → Decides (has_nested_code m) (HasNestedCode m)
 Decides-nested m =

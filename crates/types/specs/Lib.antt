@@ -3,7 +3,6 @@ pub mod Outcomes
 pub mod Widths
 pub mod Equal
 pub mod Nesting
-pub mod Limits
 pub mod Within
 pub mod Modules
 pub mod Tests

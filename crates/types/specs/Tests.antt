@@ -11,8 +11,9 @@ use Rattle.types.specs.declared.parts.ImportDesc.TheVariants as imports
 use Rattle.types.specs.declared.parts.Body.{Body}
 use Rattle.types.specs.declared.parts.Parts.{Parts}
 use Rattle.types.specs.Within.{param_count, is_func}
-use Rattle.types.specs.Limits.{most_pages, most_items, most_functions, most_elements, most_params, most_locals, most_nested}
-use Rattle.types.specs.Limits.{most_module_bytes}
+use Rattle.types.specs.declared.limits.TheConstants.{MOST_PAGES, MOST_ITEMS, MOST_FUNCTIONS, MOST_ELEMENTS, MOST_PARAMS}
+use Rattle.types.specs.declared.limits.TheConstants.{MOST_LOCALS, MOST_NESTED}
+use Rattle.types.specs.declared.limits.TheConstants.{MOST_MODULE_BYTES}
 
 -- The open blocks at a place of an expression are listed with the innermost first; the outermost is the whole
 -- expression. Of each it is kept whether an else may come: in an if that has had none.
@@ -20,7 +21,7 @@ use Rattle.types.specs.Limits.{most_module_bytes}
 -- A further block inside the innermost one.
 abbrev pub opened : Bool → List Bool → Option (List Bool)
 opened o [] = None
-opened o (out ∷ opens) = if nat_lt (length opens) most_nested then Some (o ∷ (out ∷ opens)) else None
+opened o (out ∷ opens) = if nat_lt (length opens) MOST_NESTED then Some (o ∷ (out ∷ opens)) else None
 
 -- An else in the innermost one.
 abbrev pub divided : List Bool → Option (List Bool)
@@ -57,17 +58,17 @@ abbrev pub is_expression : List Instr → Bool
 is_expression code = closes (Some (false ∷ [])) code
 
 abbrev pub is_type_within : FuncType → Bool
-is_type_within t = nat_le (length t.params) most_params && nat_le (length t.results) most_params
+is_type_within t = nat_le (length t.params) MOST_PARAMS && nat_le (length t.results) MOST_PARAMS
 
 abbrev pub is_table_within : Limits → Bool
-is_table_within l = nat_le l.min most_elements
+is_table_within l = nat_le l.min MOST_ELEMENTS
 
 abbrev pub is_max_within : Option ℕ → Bool
 is_max_within None = true
-is_max_within (Some m) = nat_le m most_pages
+is_max_within (Some m) = nat_le m MOST_PAGES
 
 abbrev pub is_memory_within : Limits → Bool
-is_memory_within l = nat_le l.min most_pages && is_max_within l.max
+is_memory_within l = nat_le l.min MOST_PAGES && is_max_within l.max
 
 abbrev pub is_desc_within : ImportDesc → Bool
 is_desc_within (imports.Func f) = true
@@ -76,25 +77,27 @@ is_desc_within (imports.Memory l) = is_memory_within l
 is_desc_within (imports.Global g) = true
 
 abbrev pub is_body_within : List FuncType → ℕ → Body → Bool
-is_body_within types index body = nat_le (param_count types index + length body.locals) most_locals
+is_body_within types index body = nat_le (param_count types index + length body.locals) MOST_LOCALS
 
 abbrev pub has_few_items : Parts → Bool
 has_few_items m =
-    nat_le (length m.types) most_items && nat_le (length m.imports) most_items && nat_le
-    (count_by (λ i. is_func i.desc) m.imports + length m.functions) most_functions
-    && nat_le (length m.tables) most_items && nat_le (length m.memories) most_items && nat_le (length m.globals)
-    most_items && nat_le (length m.exports) most_items
-    && nat_le (length m.elements) most_items && nat_le (length m.data) most_items
-    && nat_le m.length most_module_bytes
+    nat_le (length m.types) MOST_ITEMS && nat_le (length m.imports) MOST_ITEMS && nat_le
+    (count_by (λ i. is_func i.desc) m.imports + length m.functions) MOST_FUNCTIONS
+    && nat_le (length m.tables) MOST_ITEMS && nat_le (length m.memories) MOST_ITEMS && nat_le (length m.globals)
+    MOST_ITEMS && nat_le (length m.exports) MOST_ITEMS
+    && nat_le (length m.elements) MOST_ITEMS && nat_le (length m.data) MOST_ITEMS
+    && nat_le m.length MOST_MODULE_BYTES
 
 abbrev pub has_items_within : Parts → Bool
 has_items_within m =
-    list_all is_type_within m.types && list_all (λ i. is_desc_within i.desc) m.imports && list_all is_table_within m.tables
-    && list_all is_memory_within m.memories && list_all (λ e. nat_le (length e.functions) most_functions) m.elements
+    list_all is_type_within m.types && list_all (λ i. is_desc_within i.desc) m.imports && list_all is_table_within
+    m.tables
+    && list_all is_memory_within m.memories && list_all (λ e. nat_le (length e.functions) MOST_FUNCTIONS) m.elements
 
 abbrev pub has_bodies_within : Parts → Bool
 has_bodies_within m =
-    nat_eq (length m.functions) (length m.bodies) && list_all (λ f. is_body_within m.types f.0 f.1) (zip m.functions m.bodies)
+    nat_eq (length m.functions) (length m.bodies) && list_all (λ f. is_body_within m.types f.0 f.1)
+    (zip m.functions m.bodies)
 
 abbrev pub has_nested_code : Parts → Bool
 has_nested_code m =

@@ -1,4 +1,6 @@
-//! The limits of modules and runs, each in one word, as `specs/Limits.antt` has them for contracts.
+//! The limits of modules and runs, each in one word, for code and for definitions and contracts, which cite these
+//! constants. They are this project's own (Core specification 1.0, appendix 7.2, leaves them to an implementation), but
+//! for the size of a page (section 4.2.8).
 
 /// Bytes of a page (Core specification 1.0, section 4.2.8).
 pub const PAGE_SIZE: usize = 65_536;

@@ -1,7 +1,8 @@
 //! What numeric and memory instructions do: operators, and how wide an access is.
 
 ghost use Rattle.std.specs.Prelude.{◌≡◌};
-ghost use Rattle.types.specs.Widths.{narrow_type, narrow_bytes, access_type, access_bytes, load_type, load_bytes, atomic_bytes};
+ghost use Rattle.types.specs.Widths.{narrow_type, narrow_bytes, access_type, access_bytes, load_type, load_bytes};
+ghost use Rattle.types.specs.Widths.{atomic_bytes};
 
 use crate::event::RmwOp;
 use crate::value::ValType;

@@ -93,8 +93,8 @@ pub struct Body {
     pub code: Sequence<Instr>,
 }
 
-/// A module's parts: one list for each section other than custom (Core specification 1.0, section 5.5), and the length of
-/// its text.
+/// A module's parts: one list for each section other than custom (Core specification 1.0, section 5.5), and the length
+/// of its text.
 #[derive(Drop)]
 pub struct Parts {
     pub types: Sequence<FuncType>,

@@ -5,7 +5,7 @@ ghost use Rattle.types.specs.Within.{param_count, is_func};
 ghost use Rattle.types.specs.Tests.{is_type_within, is_table_within, is_max_within, is_memory_within};
 ghost use Rattle.types.specs.Tests.{is_desc_within, is_body_within, has_few_items, has_items_within};
 ghost use Rattle.types.specs.Tests.{has_bodies_within};
-ghost use Rattle.types.specs.Limits.{most_functions};
+ghost use Rattle.types.specs.declared.limits.TheConstants.{MOST_FUNCTIONS};
 
 use crate::limits::{
     MOST_ELEMENTS, MOST_FUNCTIONS, MOST_ITEMS, MOST_LOCALS, MOST_MODULE_BYTES, MOST_PAGES,
@@ -86,7 +86,8 @@ fn is_body_in(types: &[FuncType], index: u32, body: &Body) -> bool
 
 /// Whether there are as few functions as a module may have, with the imported ones.
 fn has_few_functions_in(parts: &Parts) -> bool
-    ensures { result ≡ nat_le (count_by (λ i. is_func i.desc) parts.now.imports + length parts.now.functions) most_functions }
+    ensures { result ≡ nat_le (count_by (λ i. is_func i.desc) parts.now.imports + length parts.now.functions)
+        MOST_FUNCTIONS }
 {
     let imported = imported_functions(parts.imports.as_slice());
     imported <= MOST_FUNCTIONS && parts.functions.len() <= MOST_FUNCTIONS - imported
@@ -109,7 +110,7 @@ pub fn has_few_items_in(parts: &Parts) -> bool
 }
 
 fn is_element_in(segment: &ElementSegment) -> bool
-    ensures { result ≡ nat_le (length segment.now.functions) most_functions }
+    ensures { result ≡ nat_le (length segment.now.functions) MOST_FUNCTIONS }
 {
     segment.functions.len() <= MOST_FUNCTIONS
 }
@@ -139,7 +140,7 @@ fn are_memories_in(memories: &[Limits]) -> bool
 }
 
 fn are_elements_in(elements: &[ElementSegment]) -> bool
-    ensures { result ≡ list_all (λ e. nat_le (length e.functions) most_functions) elements.now }
+    ensures { result ≡ list_all (λ e. nat_le (length e.functions) MOST_FUNCTIONS) elements.now }
 {
     elements.iter().all(is_element_in)
 }

@@ -1,5 +1,5 @@
--- The types of the operands at a place of a function of a valid module. Functions of the module itself are counted from 0 without
--- the imported ones.
+-- The types of the operands at a place of a function of a valid module. Functions of the module itself are counted from
+-- 0 without the imported ones.
 use Rattle.std.specs.Prelude.{◌≡◌, ◌⊎◌, ℕ, ◌≤◌, List, length, Option, Some}
 use Rattle.std.specs.Option.{MatchOption}
 use Rattle.std.specs.Global.{Vec}

@@ -27,8 +27,8 @@ RefusesOutside m r = IfSome (fault_outside m) (λ kind. IsErrAnd r (λ fault. Is
 abbrev pub IsMemoryAlone : ValidFault → Type 0
 IsMemoryAlone fault = fault_kind fault ≡ faults.OutOfMemory → fault ≡ OutOfMemory
 
--- A body breaks a rule at a place: that of a function of the module itself, counted from 0. The answer's function counts the
--- imported ones.
+-- A body breaks a rule at a place: that of a function of the module itself, counted from 0. The answer's function
+-- counts the imported ones.
 pub record BreaksOwn (m : Parts) (own : ℕ) (kind : Fault) (function place : ℕ) : Type 0 where
   pub index : ℕ
   pub func_type : FuncType
@@ -47,7 +47,8 @@ RefusedOwn m own (InBody kind function place) = BreaksOwn m own kind function pl
 -- A body is typed.
 abbrev pub IsTypedOwn : Parts → ℕ → Type 0
 IsTypedOwn m own =
-    (index : ℕ) (t : FuncType) (body : Body) → slice_get m.functions own ≡ Some index → slice_get m.types index ≡ Some t →
+    (index : ℕ) (t : FuncType) (body : Body) → slice_get m.functions own ≡ Some index
+    → slice_get m.types index ≡ Some t →
     slice_get m.bodies own ≡ Some body → IsTyped (in_function (context_of m) t body) body.code
 
 -- The first body that isn't typed breaks a rule at a place.

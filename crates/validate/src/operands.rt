@@ -10,8 +10,8 @@ use validate_module::{ValidModule, body, func_type};
 use validate_module_rules::IndexSpaces;
 
 /// The types of the operands of a function's frame before the instruction with this number, the topmost last; functions
-/// of the module itself, from 0. `None` where there is no such instruction, and where the place can't be reached: behind
-/// an instruction that never goes on any operands may lie (Core specification 1.0, section 3.3).
+/// of the module itself, from 0. `None` where there is no such instruction, and where the place can't be reached:
+/// behind an instruction that never goes on any operands may lie (Core specification 1.0, section 3.3).
 ///
 /// # Errors
 /// Where memory is refused.

@@ -32,8 +32,8 @@ pub fn validate(alloc: Global, module: Module) -> Result<ValidModule, ValidFault
     }
 }
 
-/// Checks whether a module is valid, as `validate` does, but makes none of what a run of it wants. It has memory for the
-/// table of one body at a time.
+/// Checks whether a module is valid, as `validate` does, but makes none of what a run of it wants. It has memory for
+/// the table of one body at a time.
 ///
 /// # Errors
 /// Those of `validate`.

@@ -1,5 +1,5 @@
--- One instruction of the pass, onward: where typed code is still to come before it, the rest of that is still to come after it. So
--- what is refused is no beginning of typed code.
+-- One instruction of the pass, onward: where typed code is still to come before it, the rest of that is still to come
+-- after it. So what is refused is no beginning of typed code.
 use Rattle.std.specs.Prelude.{◌≡◌, ℕ, List, [], ◌∷◌, ◌++◌, map, reverse, Option, Some, None}
 use Rattle.std.specs.Bool.{⊤}
 use Rattle.types.specs.declared.value.ValType.{ValType}
@@ -27,7 +27,8 @@ Awaits c Whole s labels other = ⊤
 Awaits c Lone s labels None = s.results ≡ None
 Awaits c Lone s labels (Some second) = HasType c (types_of (as_label s.label ∷ labels)) second [] (results_of s.results)
 Awaits c First s labels None = s.results ≡ None
-Awaits c First s labels (Some second) = HasType c (types_of (as_label s.label ∷ labels)) second [] (results_of s.results)
+Awaits c First s labels (Some second) =
+    HasType c (types_of (as_label s.label ∷ labels)) second [] (results_of s.results)
 
 -- What is to come in the open blocks is typed, with these types on top of the stack of the innermost one.
 abbrev pub Owed : Context → List ValType → List OpenBlock → List Level → Type 0
@@ -37,12 +38,15 @@ Owed c tops (block ∷ blocks) [] = ⊥
 Owed c tops (block ∷ blocks) (l ∷ ls) =
     (ts : List ValType) × Known block ts ×
     HasType c (types_of (map label_of (block ∷ blocks))) l.code (tops ++ ts) (results_of block.shape.results) ×
-    Awaits c block.shape.arm block.shape (map label_of blocks) l.other × Owed c (results_of block.shape.results) blocks ls
+    Awaits c block.shape.arm block.shape (map label_of blocks) l.other
+    × Owed c (results_of block.shape.results) blocks ls
 
 -- The open blocks are kept with the innermost last; `own` is where the block ends that begins, if one does.
-pub record Onward (c : Context) (i : Instr) (place : ℕ) (own : Option BlockEnd) (old new : List OpenBlock) : Type 0 where
+pub record Onward (c : Context) (i : Instr) (place : ℕ) (own : Option BlockEnd) (old new : List OpenBlock)
+    : Type 0 where
   pub owed : (ls : List Level) → Owed c [] (reverse old) (before i ls) → Owed c [] (reverse new) ls
-  pub close : (s : Ends) → Suits i own s → Close (reverse old) (ends_step i place s).opened → Close (reverse new) s.opened
+  pub close : (s : Ends) → Suits i own s → Close (reverse old) (ends_step i place s).opened
+      → Close (reverse new) s.opened
 
 abbrev pub OnwardAnywhere : Instr → ℕ → Option BlockEnd → List OpenBlock → List OpenBlock → Type 0
 OnwardAnywhere i place own old new = (c : Context) → Onward c i place own old new
@@ -54,7 +58,8 @@ pub record NoneOwed (c : Context) (i : Instr) (old : List OpenBlock) (kind : Fau
 
 abbrev pub Stuck : Context → Instr → ℕ → Option BlockEnd → List OpenBlock → Problem → Type 0
 Stuck c i place own old OutOfMemory = ⊤
-Stuck c i place own old (Wrong kind) = (s : Ends) → Suits i own s → Close (reverse old) (ends_step i place s).opened → NoneOwed c i old kind
+Stuck c i place own old (Wrong kind) = (s : Ends) → Suits i own s → Close (reverse old) (ends_step i place s).opened
+    → NoneOwed c i old kind
 
 abbrev pub StuckAnywhere : Instr → ℕ → Option BlockEnd → List OpenBlock → Problem → Type 0
 StuckAnywhere i place own old e = (c : Context) → Stuck c i place own old e

@@ -19,8 +19,8 @@ use Rattle.validate_instructions.specs.Kinds.{kind_at}
 abbrev pub TooLarge : ℕ → Problem → Type 0
 TooLarge n e = (e ≡ OutOfMemory) × (2 ^ 64 ≤ n)
 
--- Code breaks a rule at a place: no code that begins as this one does up to there, that instruction with it, is typed. The fault is
--- that of the instruction, inside some labels.
+-- Code breaks a rule at a place: no code that begins as this one does up to there, that instruction with it, is typed.
+-- The fault is that of the instruction, inside some labels.
 pub record BreaksAt (c : Context) (code : List Instr) (kind : Fault) (place : ℕ) : Type 0 where
   pub instr : Instr
   pub labels : List (List ValType)

@@ -5,8 +5,9 @@ ghost use Rattle.types.specs.declared.instr.Instr.{Instr};
 ghost use Rattle.validate_typing.specs.Context.{Context};
 ghost use Rattle.validate_bodies.specs.Reached.{HasOneTyping, AreExclusive};
 
-/// Before a place that is reached a frame has operands of these types and of no others, whatever typing of the code before
-/// it is looked at; and behind an instruction that never goes on it isn't reached (Core specification 1.0, section 3.3.5).
+/// Before a place that is reached a frame has operands of these types and of no others, whatever typing of the code
+/// before it is looked at; and behind an instruction that never goes on it isn't reached (Core specification 1.0,
+/// section 3.3.5).
 pub fn operands_have_one_type_each()
     ensures types { (c : Context) (code : List Instr) (place : ℕ) → HasOneTyping c code place }
     ensures cut_off { (c : Context) (code : List Instr) (place : ℕ) → AreExclusive c code place }

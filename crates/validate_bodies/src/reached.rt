@@ -12,7 +12,8 @@ use std::alloc::{AllocError, Global};
 use types::{Body, FuncType, Instr, ValType};
 use validate_instructions::{Declared, Flow, OpenBlock, Problem, Scope};
 
-/// The blocks that are open at a place, the innermost last. `None` where no typed code begins with what comes before it.
+/// The blocks that are open at a place, the innermost last. `None` where no typed code begins with what comes before
+/// it.
 fn blocks_at(
     alloc: Global,
     scope: &Scope,
@@ -108,11 +109,12 @@ fn types_at(
     known_types(alloc, &operands_of(alloc, &blocks)?)
 }
 
-/// The types of the operands of the whole frame before an instruction of the body of a function of this type, the topmost
-/// last (Core specification 1.0, section 3.3 and appendix "Validation Algorithm"). `place` is the instruction's number.
+/// The types of the operands of the whole frame before an instruction of the body of a function of this type, the
+/// topmost last (Core specification 1.0, section 3.3 and appendix "Validation Algorithm"). `place` is the instruction's
+/// number.
 ///
-/// `None` where the body has no instruction with this number, where one before it breaks a rule, and where one that never
-/// goes on stands before it in a block that is open there, so that any operands may lie there.
+/// `None` where the body has no instruction with this number, where one before it breaks a rule, and where one that
+/// never goes on stands before it in a block that is open there, so that any operands may lie there.
 ///
 /// # Errors
 /// Where memory is refused.

@@ -88,8 +88,8 @@ fn module_with(
     Ok(made(alloc, parts)?)
 }
 
-/// What the first body of these parts is checked to be, as that of the function 7, which has the first type. There are a function of
-/// this type and one of the second.
+/// What the first body of these parts is checked to be, as that of the function 7, which has the first type. There are
+/// a function of this type and one of the second.
 fn checked(alloc: Global, parts: &Parts, declared: &Declared) -> Option<Result<Table, ValidFault>>
     requires { IsModule parts.now }
 {

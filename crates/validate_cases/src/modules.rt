@@ -31,7 +31,8 @@ fn write_fault(fault: Option<ValidFault>, given: &mut String) -> Result<(), Allo
     }
 }
 
-/// Writes what a check that keeps no tables says of a module, and what one that keeps tables says where that is something else.
+/// Writes what a check that keeps no tables says of a module, and what one that keeps tables says where that is
+/// something else.
 fn write_answers(alloc: Global, module: Box<Module>, given: &mut String) -> Result<(), AllocError> {
     let alone = fault_alone(alloc, &module);
     let fault = fault_of(alloc, module);

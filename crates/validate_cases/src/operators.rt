@@ -92,7 +92,8 @@ fn val_type(width: AccessWidth) -> ValType {
     }
 }
 
-/// Writes a type and an access, and behind its width the rest of its name, where a narrow one that isn't signed ends in `_u`.
+/// Writes a type and an access, and behind its width the rest of its name, where a narrow one that isn't signed ends in
+/// `_u`.
 fn write_access(
     width: AccessWidth,
     name: &str,

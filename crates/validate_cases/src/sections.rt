@@ -42,7 +42,8 @@ pub(crate) fn write_sections(
     write_input(alloc, &bytes, given)
 }
 
-/// Writes whether the fronts of bytes are read as modules, but for those that end too early: refused at their end as such.
+/// Writes whether the fronts of bytes are read as modules, but for those that end too early: refused at their end as
+/// such.
 pub(crate) fn write_fronts(
     alloc: Global,
     bytes: &[u8],

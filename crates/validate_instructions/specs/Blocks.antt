@@ -1,5 +1,6 @@
 -- What is known of an open block and its operands, and what an instruction does to it or why it is refused.
-use Rattle.std.specs.Prelude.{◌≡◌, ℕ, List, [], ◌∷◌, ◌++◌, map, reverse, Option, Some, None, Bool, true, false, Result, MatchResult}
+use Rattle.std.specs.Prelude.{◌≡◌, ℕ, List, [], ◌∷◌, ◌++◌, map, reverse, Option, Some, None, Bool, true, false, Result}
+use Rattle.std.specs.Prelude.{MatchResult}
 use Rattle.std.specs.Bool.{⊤}
 use Rattle.std.specs.List.{slice_get, All}
 use Rattle.types.specs.declared.value.ValType.{ValType}
@@ -55,7 +56,8 @@ labels_at block outer = map label_of (block ∷ reverse outer)
 abbrev pub IsInnermost : OpenBlock → List OpenBlock → List OpenBlock → Type 0
 IsInnermost block around blocks = reverse blocks ≡ block ∷ reverse around
 
--- Operands of these types were taken from the block: `known` leads from what is left back to what was there, `kept` onward.
+-- Operands of these types were taken from the block: `known` leads from what is left back to what was there, `kept`
+-- onward.
 pub record Takes (ts : List ValType) (old new : OpenBlock) : Type 0 where
   pub shape : new.shape ≡ old.shape
   pub flow : new.flow ≡ old.flow
@@ -120,9 +122,10 @@ PuttingAny kind old new r = MatchResult r (λ _. PutsAny kind old new) (λ e. e 
 abbrev pub Moving : List ValType → List ValType → OpenBlock → OpenBlock → Result (Unit {0}) Problem → Type 0
 Moving takes gives old new r = MatchResult r (λ _. Moved takes gives old new) (CantMove takes old)
 
--- An instruction fits between what is known before it and after it, and these are its targets. From what is known before it leads
--- `kept` onward.
-pub record Checked (c : Context) (labels : List FlatLabel) (op : PlainInstr) (old new : OpenBlock) (targets : List Target) : Type 0 where
+-- An instruction fits between what is known before it and after it, and these are its targets. From what is known
+-- before it leads `kept` onward.
+pub record Checked (c : Context) (labels : List FlatLabel) (op : PlainInstr) (old new : OpenBlock)
+    (targets : List Target) : Type 0 where
   pub shape : new.shape ≡ old.shape
   pub live : is_live new.flow ≡ goes_on op (is_live old.flow)
   pub fits : (us : List ValType) → Known new us → (ts : List ValType) × Known old ts × Fits c (types_of labels) op ts us
@@ -141,7 +144,8 @@ CheckedAnywhere op old new = (c : Context) → CheckedInside c op old new
 abbrev pub Refused : Context → List FlatLabel → PlainInstr → OpenBlock → Problem → Type 0
 Refused c labels op old problems.OutOfMemory = ⊤
 Refused c labels op old (problems.Wrong kind) =
-    (kind ≡ kind_of c (types_of labels) op) × ((ts us : List ValType) → Known old ts → Fits c (types_of labels) op ts us → ⊥)
+    (kind ≡ kind_of c (types_of labels) op) × ((ts us : List ValType) → Known old ts → Fits c (types_of labels) op ts us
+    → ⊥)
 
 abbrev pub RefusedInside : Context → PlainInstr → OpenBlock → Problem → Type 0
 RefusedInside c op old e = (labels : List FlatLabel) → Refused c labels op old e
@@ -181,8 +185,10 @@ NeedsLabels labels ks r = MatchResult r (λ _. are_labels (types_of labels) ks �
     (λ e. (e ≡ problems.Wrong faults.UnknownLabel) × (are_labels (types_of labels) ks ≡ false))
 
 -- What a check answers.
-abbrev pub Checks : Context → List FlatLabel → PlainInstr → OpenBlock → OpenBlock → List Target → Result (Unit {0}) Problem → Type 0
-Checks c labels op old new targets r = MatchResult r (λ _. Checked c labels op old new targets) (Refused c labels op old)
+abbrev pub Checks : Context → List FlatLabel → PlainInstr → OpenBlock → OpenBlock → List Target
+    → Result (Unit {0}) Problem → Type 0
+Checks c labels op old new targets r =
+    MatchResult r (λ _. Checked c labels op old new targets) (Refused c labels op old)
 
 abbrev pub ChecksInside : Context → PlainInstr → OpenBlock → OpenBlock → Result (Unit {0}) Problem → Type 0
 ChecksInside c op old new r = MatchResult r (λ _. CheckedInside c op old new) (RefusedInside c op old)

@@ -1,5 +1,5 @@
--- Which fault is answered of an instruction that is refused: of what it names, in order, then of its alignment, and else of its
--- operands.
+-- Which fault is answered of an instruction that is refused: of what it names, in order, then of its alignment, and
+-- else of its operands.
 use Rattle.std.specs.Prelude.{ℕ, ◌^◌, if◌then◌else◌, List, ◌∷◌, Bool, nat_le, nat_eq, Option, Some, None, is_some}
 use Rattle.std.specs.List.{slice_get, list_all}
 use Rattle.types.specs.declared.value.ValType.{ValType}
@@ -10,8 +10,10 @@ use Rattle.types.specs.declared.instr.Instr.TheVariants as instrs
 use Rattle.types.specs.declared.parts.GlobalType.{GlobalType}
 use Rattle.types.specs.Widths.{load_bytes, access_bytes, atomic_bytes}
 use Rattle.validate_typing.specs.declared.fault.Fault.{Fault}
-use Rattle.validate_typing.specs.declared.fault.Fault.TheVariants.{TypeMismatch, UnknownLabel, UnknownLocal, UnknownGlobal}
-use Rattle.validate_typing.specs.declared.fault.Fault.TheVariants.{UnknownFunction, UnknownType, UnknownTable, UnknownMemory}
+use Rattle.validate_typing.specs.declared.fault.Fault.TheVariants.{TypeMismatch, UnknownLabel, UnknownLocal}
+use Rattle.validate_typing.specs.declared.fault.Fault.TheVariants.{UnknownGlobal}
+use Rattle.validate_typing.specs.declared.fault.Fault.TheVariants.{UnknownFunction, UnknownType, UnknownTable}
+use Rattle.validate_typing.specs.declared.fault.Fault.TheVariants.{UnknownMemory}
 use Rattle.validate_typing.specs.declared.fault.Fault.TheVariants.{ConstantGlobal, Alignment}
 use Rattle.validate_typing.specs.declared.fault.ValidFault.{ValidFault}
 use Rattle.validate_typing.specs.declared.fault.ValidFault.TheVariants as validity

@@ -5,13 +5,13 @@ use Rattle.std.proofs.lemmas.List.Elements.{All-weaker}
 use Rattle.std.proofs.lemmas.Option.{slice_get_within}
 use Rattle.types.specs.declared.parts.DataSegment.{DataSegment}
 use Rattle.types.specs.declared.parts.Parts.{Parts}
-use Rattle.types.specs.Limits.{page_size}
+use Rattle.types.specs.declared.limits.TheConstants.{PAGE_SIZE}
 use Rattle.validate_typing.specs.Context.{memories_of}
 use Rattle.validate_typing.specs.Image.{offset_of, min_of, opening_pages}
 use Rattle.validate_typing.specs.Validity.{IsValid, IsValidData}
 
 abbrev pub IsWithin : ℕ → DataSegment → Type 0
-IsWithin pages d = offset_of d.offset + length d.bytes ≤ page_size * pages
+IsWithin pages d = offset_of d.offset + length d.bytes ≤ PAGE_SIZE * pages
 
 pub segments_within : (m : Parts) → IsValid m → All (IsWithin (opening_pages m)) m.data
 segments_within m v = All-weaker (IsValidData m) (IsWithin (opening_pages m)) each m.data v.data_segments
@@ -24,4 +24,4 @@ segments_within m v = All-weaker (IsValidData m) (IsWithin (opening_pages m)) ea
         let pages : opening_pages m ≡ l.min = ap min_of there in
         let offset : offset_of d.offset ≡ h.1 = ap offset_of h.3 in
         let bound = h.4 in
-        subst (λ n. offset_of d.offset + length d.bytes ≤ page_size * n) (sym pages) (subst (λ n. n + length d.bytes ≤ page_size * l.min) (sym offset) bound)
+        subst (λ n. offset_of d.offset + length d.bytes ≤ PAGE_SIZE * n) (sym pages) (subst (λ n. n + length d.bytes ≤ PAGE_SIZE * l.min) (sym offset) bound)

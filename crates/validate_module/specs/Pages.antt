@@ -2,7 +2,7 @@
 use Rattle.std.specs.Prelude.{ℕ, ◌*◌, ◌≤◌, List, replicate, fold, Option, Some, None, IfSome}
 use Rattle.std.specs.List.{slice_get}
 use Rattle.types.specs.declared.parts.DataSegment.{DataSegment}
-use Rattle.types.specs.Limits.{page_size}
+use Rattle.types.specs.declared.limits.TheConstants.{PAGE_SIZE}
 use Rattle.types.specs.declared.parts.Limits.{Limits}
 use Rattle.types.specs.declared.parts.Parts.{Parts}
 use Rattle.validate_typing.specs.Context.{memories_of}
@@ -18,4 +18,4 @@ HasPagesWithin most m = IsWithinPages most (slice_get (memories_of m) 0)
 
 -- So many pages of zeros, with these segments written over them in order.
 abbrev pub image_of : ℕ → List DataSegment → List ℕ
-image_of pages segments = fold with_segment (replicate (page_size * pages) 0) segments
+image_of pages segments = fold with_segment (replicate (PAGE_SIZE * pages) 0) segments

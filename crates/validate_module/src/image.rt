@@ -2,7 +2,7 @@
 
 ghost use Rattle.std.specs.Prelude.{◌≡◌, ◌+◌, ◌*◌, ◌≤◌, length, IfOk};
 ghost use Rattle.std.specs.List.{All};
-ghost use Rattle.types.specs.Limits.{page_size};
+ghost use Rattle.types.specs.declared.limits.TheConstants.{PAGE_SIZE};
 ghost use Rattle.validate_typing.specs.Image.{offset_of, with_segment};
 ghost use Rattle.validate_module.specs.Pages.{image_of};
 
@@ -27,7 +27,7 @@ pub fn opening_image(
     pages: u32,
     segments: &[DataSegment],
 ) -> Result<Vec<u8>, AllocError>
-    requires { All (λ d. offset_of d.offset + length d.bytes ≤ page_size * pages) segments.now }
+    requires { All (λ d. offset_of d.offset + length d.bytes ≤ PAGE_SIZE * pages) segments.now }
     ensures { IfOk result (λ image. image.items ≡ image_of pages segments.now) }
 {
     let mut image = vec![in alloc; 0; PAGE_SIZE * pages as usize]?;

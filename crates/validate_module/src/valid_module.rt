@@ -3,7 +3,7 @@
 ghost use Rattle.std.specs.Prelude.{◌≡◌, ◌↔◌, ℕ, ◌<◌, length, Some, None, IsTrue, IfOk};
 ghost use Rattle.std.specs.List.{slice_get};
 ghost use Rattle.types.specs.Modules.{IsModule};
-ghost use Rattle.types.specs.Limits.{most_pages};
+ghost use Rattle.types.specs.declared.limits.TheConstants.{MOST_PAGES};
 ghost use Rattle.validate_typing.specs.Context.{imported_functions, memories_of};
 ghost use Rattle.validate_typing.specs.Image.{opening_image, opening_pages, pages_max_of};
 ghost use Rattle.validate_typing.specs.Tabled.{IsValidated};
@@ -60,10 +60,12 @@ impl Model for ValidModule {
 
     ghost view = { λ v. record { parts = v.checked.value.module; tables = v.checked.value.findings.tables.items } };
 
-    ghost invariant = { λ v. IsValidated (record { parts = v.checked.value.module; tables = v.checked.value.findings.tables.items })
+    ghost invariant = { λ v. IsValidated
+        (record { parts = v.checked.value.module; tables = v.checked.value.findings.tables.items })
         × (v.checked.value.findings.imported ≡ length (imported_functions v.checked.value.module))
         × (v.checked.value.findings.memory ≡ slice_get (memories_of v.checked.value.module) 0)
-        × (v.checked.value.findings.flats.items ≡ all_flats v.checked.value.module.bodies v.checked.value.findings.tables.items) };
+        × (v.checked.value.findings.flats.items ≡ all_flats v.checked.value.module.bodies
+        v.checked.value.findings.tables.items) };
 }
 
 impl ValidModule {
@@ -111,7 +113,7 @@ impl ValidModule {
 
     /// The most pages that the memory may have: 256 where none are stated, 0 without a memory.
     pub fn pages_max(&self) -> u32
-        ensures { result ≡ pages_max_of most_pages self.now.parts }
+        ensures { result ≡ pages_max_of MOST_PAGES self.now.parts }
     {
         self.pages_max_within(MOST_PAGES)
     }
@@ -212,8 +214,8 @@ impl ValidModule {
         local_types(alloc, self.parts(), own)
     }
 
-    /// The function of the module itself, from 0, that is exported by a name. None where no export has the name, or what
-    /// it names isn't a function of the module itself.
+    /// The function of the module itself, from 0, that is exported by a name. None where no export has the name, or
+    /// what it names isn't a function of the module itself.
     pub fn exported(&self, name: &str) -> Option<usize>
         ensures { (own : ℕ) → (result ≡ Some own) ↔ IsExported self.now.parts name.now own }
     {

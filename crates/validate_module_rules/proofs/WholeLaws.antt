@@ -16,7 +16,7 @@ use Rattle.types.specs.declared.parts.ElementSegment.{ElementSegment}
 use Rattle.types.specs.declared.parts.DataSegment.{DataSegment}
 use Rattle.types.specs.declared.parts.Parts.{Parts}
 use Rattle.types.specs.Values.{type_of}
-use Rattle.types.specs.Limits.{page_size}
+use Rattle.types.specs.declared.limits.TheConstants.{PAGE_SIZE}
 use Rattle.validate_typing.specs.declared.fault.Fault.{Fault}
 use Rattle.validate_typing.specs.declared.fault.Fault.TheVariants as faults
 use Rattle.validate_typing.specs.Context.{imported_functions, functions_of, memories_of}
@@ -81,7 +81,7 @@ Tells-elements : (m : Parts) → Tells (first_of (element_fault m) m.elements) (
 Tells-elements m = Tells-each (element_fault m) (IsValidElement m) (λ e. Tells-element_in (length (functions_of m)) (slice_get m.tables e.table) e) m.elements
 
 abbrev IsDataIn : Option Limits → DataSegment → Type 0
-IsDataIn found d = (l : Limits) × (offset : ℕ) × (found ≡ Some l) × IsConstant d.offset (values.I32 offset) × (offset + length d.bytes ≤ page_size * l.min)
+IsDataIn found d = (l : Limits) × (offset : ℕ) × (found ≡ Some l) × IsConstant d.offset (values.I32 offset) × (offset + length d.bytes ≤ PAGE_SIZE * l.min)
 
 Tells-data_in : (found : Option Limits) (d : DataSegment) → Tells (data_fault_in found d) (IsDataIn found d)
 Tells-data_in None d = Tells-never faults.UnknownMemory (λ h. let x = h.2 in cc)
@@ -89,10 +89,10 @@ Tells-data_in (Some l) d =
     Tells-like _ (λ h. (l, offset_of d.offset, refl, h.0, h.1))
     (λ h. let x = h.2 in let same : h.0 ≡ l = cc in (
       same_offset d.offset h.1 h.3,
-      subst (λ (k : Limits). offset_of d.offset + length d.bytes ≤ page_size * k.min) same
-          (moved d.offset h.1 (length d.bytes) (page_size * h.0.min) h.3 h.4),
+      subst (λ (k : Limits). offset_of d.offset + length d.bytes ≤ PAGE_SIZE * k.min) same
+          (moved d.offset h.1 (length d.bytes) (PAGE_SIZE * h.0.min) h.3 h.4),
     ))
-    (Tells-both _ _ (Tells-i32 d.offset) (Tells-unless _ faults.SegmentOutside (Decides-leb (offset_of d.offset + length d.bytes) (page_size * l.min))))
+    (Tells-both _ _ (Tells-i32 d.offset) (Tells-unless _ faults.SegmentOutside (Decides-leb (offset_of d.offset + length d.bytes) (PAGE_SIZE * l.min))))
 
 Tells-data : (m : Parts) → Tells (first_of (data_fault m) m.data) (All (IsValidData m) m.data)
 Tells-data m = Tells-each (data_fault m) (IsValidData m) (λ d. Tells-data_in (slice_get (memories_of m) d.memory) d) m.data

@@ -1,5 +1,5 @@
--- The first fault of a module outside the bodies of its functions, in this project's order of the rules. That there is none
--- exactly where the module keeps the rules is proved.
+-- The first fault of a module outside the bodies of its functions, in this project's order of the rules. That there is
+-- none exactly where the module keeps the rules is proved.
 use Rattle.std.specs.Prelude.{ℕ, ◌+◌, ◌-◌, ◌*◌, if◌then◌else◌, List, [], ◌∷◌, ◌++◌, length, Bool, true, false, ◌&&◌}
 use Rattle.std.specs.Prelude.{not, nat_le, nat_lt, nat_eq, Option, Some, None, is_none, find, codes}
 use Rattle.std.specs.Option.{option_or}
@@ -25,7 +25,7 @@ use Rattle.types.specs.declared.parts.ElementSegment.{ElementSegment}
 use Rattle.types.specs.declared.parts.DataSegment.{DataSegment}
 use Rattle.types.specs.declared.parts.Parts.{Parts}
 use Rattle.types.specs.Values.{type_of}
-use Rattle.types.specs.Limits.{page_size}
+use Rattle.types.specs.declared.limits.TheConstants.{PAGE_SIZE}
 use Rattle.types.specs.Equal.{is_type, has_type}
 use Rattle.validate_typing.specs.declared.fault.Fault.{Fault}
 use Rattle.validate_typing.specs.declared.fault.Fault.TheVariants as faults
@@ -58,7 +58,8 @@ is_import from name i = bytes_eq i.module from && bytes_eq i.name name
 
 abbrev pub import_fault_of : List FuncType → Import → ImportDesc → Option Fault
 import_fault_of types i (imports.Func index) =
-    option_or (unless (is_import (codes "wasi") (codes "thread-spawn") i) faults.UnknownImport) (spawn_type_fault (slice_get types index))
+    option_or (unless (is_import (codes "wasi") (codes "thread-spawn") i) faults.UnknownImport)
+    (spawn_type_fault (slice_get types index))
 import_fault_of types i (imports.Table l) = Some faults.UnknownImport
 import_fault_of types i (imports.Memory l) = unless (is_import (codes "env") (codes "memory") i) faults.UnknownImport
 import_fault_of types i (imports.Global g) = Some faults.UnknownImport
@@ -87,10 +88,12 @@ tables_fault tables =
     (unless (list_all (λ l. is_ordered l && not l.shared) tables) faults.Limits)
 
 abbrev pub memory_fault : Limits → Option Fault
-memory_fault l = option_or (unless (not (l.shared && is_none l.max)) faults.SharedWithoutMaximum) (unless (is_ordered l) faults.Limits)
+memory_fault l = option_or (unless (not (l.shared && is_none l.max)) faults.SharedWithoutMaximum)
+    (unless (is_ordered l) faults.Limits)
 
 abbrev pub memories_fault : List Limits → Option Fault
-memories_fault memories = option_or (unless (nat_le (length memories) 1) faults.MoreThanOne) (first_of memory_fault memories)
+memories_fault memories = option_or (unless (nat_le (length memories) 1) faults.MoreThanOne)
+    (first_of memory_fault memories)
 
 -- Constant expressions, and globals.
 
@@ -121,7 +124,8 @@ abbrev pub is_named : List ℕ → Export → Bool
 is_named name e = bytes_eq e.name name
 
 abbrev pub export_fault : Parts → List Export → Export → Option Fault
-export_fault m before e = option_or (unless (not (list_any (is_named e.name) before)) faults.DuplicateExport) (desc_fault m e.desc)
+export_fault m before e = option_or (unless (not (list_any (is_named e.name) before)) faults.DuplicateExport)
+    (desc_fault m e.desc)
 
 abbrev pub exports_fault : Parts → List Export → List Export → Option Fault
 exports_fault m before [] = None
@@ -143,7 +147,7 @@ abbrev pub data_fault_in : Option Limits → DataSegment → Option Fault
 data_fault_in None d = Some faults.UnknownMemory
 data_fault_in (Some l) d =
     option_or (constant_fault d.offset I32)
-    (unless (nat_le (offset_of d.offset + length d.bytes) (page_size * l.min)) faults.SegmentOutside)
+    (unless (nat_le (offset_of d.offset + length d.bytes) (PAGE_SIZE * l.min)) faults.SegmentOutside)
 
 abbrev pub data_fault : Parts → DataSegment → Option Fault
 data_fault m d = data_fault_in (slice_get (memories_of m) d.memory) d
@@ -200,7 +204,8 @@ names_fault m =
 
 abbrev pub uses_fault : Parts → Option Fault
 uses_fault m =
-    option_or (exports_fault m [] m.exports) (option_or (start_fault m.start) (option_or (first_of (element_fault m) m.elements)
+    option_or (exports_fault m [] m.exports)
+    (option_or (start_fault m.start) (option_or (first_of (element_fault m) m.elements)
     (option_or (first_of (data_fault m) m.data) (threads_fault m))))
 
 abbrev pub fault_outside : Parts → Option Fault

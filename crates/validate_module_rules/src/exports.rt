@@ -5,7 +5,8 @@ ghost use Rattle.std.specs.List.{list_any};
 ghost use Rattle.std.specs.Option.{option_map};
 ghost use Rattle.validate_typing.specs.Context.{imported_functions};
 ghost use Rattle.validate_module_rules.specs.Spaces.{IsSpacesOf};
-ghost use Rattle.validate_module_rules.specs.Faults.{is_named, desc_fault, export_fault, exports_fault, own_index, exported_in};
+ghost use Rattle.validate_module_rules.specs.Faults.{is_named, desc_fault, export_fault, exports_fault, own_index};
+ghost use Rattle.validate_module_rules.specs.Faults.{exported_in};
 
 use crate::sizes::unless;
 use crate::spaces::IndexSpaces;

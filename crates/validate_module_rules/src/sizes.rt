@@ -2,7 +2,8 @@
 
 ghost use Rattle.std.specs.Prelude.{◌≡◌, length, nat_le, nat_lt, ◌&&◌, not};
 ghost use Rattle.std.specs.List.{list_all};
-ghost use Rattle.validate_module_rules.specs.Faults.{unless, types_fault, tables_fault, memories_fault, memory_fault, is_ordered};
+ghost use Rattle.validate_module_rules.specs.Faults.{unless, types_fault, tables_fault, memories_fault, memory_fault};
+ghost use Rattle.validate_module_rules.specs.Faults.{is_ordered};
 
 use types::{FuncType, Limits};
 use validate_typing::Fault;

@@ -11,7 +11,8 @@ use Rattle.types.specs.declared.parts.ImportDesc.TheVariants as imports
 use Rattle.types.specs.declared.parts.Body.{Body}
 use Rattle.types.specs.declared.parts.Parts.{Parts}
 
--- What may be named by an index (Core specification 1.0, section 3.1.1). A function stands there by the index of its type.
+-- What may be named by an index (Core specification 1.0, section 3.1.1). A function stands there by the index of its
+-- type.
 pub record Context : Type 0 where
   pub types : List FuncType
   pub functions : List ℕ
@@ -57,6 +58,7 @@ context_of m = record {
   results = [];
 }
 
--- What the body of a function of this type may use (section 3.4.1): its locals are the parameters and those that the body states.
+-- What the body of a function of this type may use (section 3.4.1): its locals are the parameters and those that the
+-- body states.
 abbrev pub in_function : Context → FuncType → Body → Context
 in_function c t body = record c { locals = t.params ++ body.locals; results = t.results }

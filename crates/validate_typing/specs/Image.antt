@@ -7,7 +7,7 @@ use Rattle.types.specs.declared.instr.Instr.TheVariants as instrs
 use Rattle.types.specs.declared.parts.Limits.{Limits}
 use Rattle.types.specs.declared.parts.DataSegment.{DataSegment}
 use Rattle.types.specs.declared.parts.Parts.{Parts}
-use Rattle.types.specs.Limits.{page_size}
+use Rattle.types.specs.declared.limits.TheConstants.{PAGE_SIZE}
 use Rattle.validate_typing.specs.Context.{memories_of}
 
 -- The pages of the opening memory (Core specification 1.0, section 4.5.3): its minimum, or none without a memory.
@@ -18,8 +18,8 @@ min_of (Some l) = l.min
 abbrev pub opening_pages : Parts → ℕ
 opening_pages m = min_of (slice_get (memories_of m) 0)
 
--- The most pages that the memory may have: the maximum that is given, else the most that any may have (this project's own), or
--- none without a memory.
+-- The most pages that the memory may have: the maximum that is given, else the most that any may have (this project's
+-- own), or none without a memory.
 abbrev pub max_of_limits : ℕ → Option ℕ → ℕ
 max_of_limits most None = most
 max_of_limits most (Some n) = n
@@ -47,4 +47,4 @@ with_segment bytes d = splice bytes (offset_of d.offset) (offset_of d.offset + l
 
 -- The opening image: zeros, with the data segments written over them in order.
 abbrev pub opening_image : Parts → List ℕ
-opening_image m = fold with_segment (replicate (page_size * opening_pages m) 0) m.data
+opening_image m = fold with_segment (replicate (PAGE_SIZE * opening_pages m) 0) m.data

@@ -87,45 +87,56 @@ IsExactlyAligned arg bytes = 2 ^ arg.align ≡ bytes
 
 -- A call of a function of a type (section 3.3.5.10), where these are taken besides the arguments.
 abbrev pub CallsType : Context → List ValType → ℕ → List ValType → List ValType → Type 0
-CallsType c more index from to = (t : FuncType) × (slice_get c.types index ≡ Some t) × Moves (more ++ reverse t.params) t.results from to
+CallsType c more index from to = (t : FuncType) × (slice_get c.types index ≡ Some t)
+    × Moves (more ++ reverse t.params) t.results from to
 
--- An instruction, inside these labels, may stand between a stack of these types and a stack of those. After one that never
--- goes on, the types are free (sections 3.3.1 to 3.3.5).
+-- An instruction, inside these labels, may stand between a stack of these types and a stack of those. After one that
+-- never goes on, the types are free (sections 3.3.1 to 3.3.5).
 abbrev pub Fits : Context → List (List ValType) → PlainInstr → List ValType → List ValType → Type 0
 Fits c labels plain.Unreachable from to = ⊤
 Fits c labels plain.Nop from to = Moves [] [] from to
-Fits c labels (plain.Br l) from to = (carried : List ValType) × (slice_get labels l ≡ Some carried) × HasOnTop carried from
+Fits c labels (plain.Br l) from to = (carried : List ValType) × (slice_get labels l ≡ Some carried)
+    × HasOnTop carried from
 Fits c labels (plain.BrIf l) from to = (carried : List ValType) × (slice_get labels l ≡ Some carried)
     × Moves (I32 ∷ carried) carried from to
 Fits c labels (plain.BrTable l ls) from to =
-    (carried : List ValType) × All (λ k. slice_get labels k ≡ Some carried) (ls ++ (l ∷ [])) × HasOnTop (I32 ∷ carried) from
+    (carried : List ValType) × All (λ k. slice_get labels k ≡ Some carried) (ls ++ (l ∷ []))
+    × HasOnTop (I32 ∷ carried) from
 Fits c labels plain.Return from to = HasOnTop c.results from
-Fits c labels (plain.Call f) from to = (index : ℕ) × (slice_get c.functions f ≡ Some index) × CallsType c [] index from to
-Fits c labels (plain.CallIndirect index) from to = (l : Limits) × (slice_get c.tables 0 ≡ Some l) × CallsType c (I32 ∷ []) index from to
+Fits c labels (plain.Call f) from to = (index : ℕ) × (slice_get c.functions f ≡ Some index)
+    × CallsType c [] index from to
+Fits c labels (plain.CallIndirect index) from to = (l : Limits) × (slice_get c.tables 0 ≡ Some l)
+    × CallsType c (I32 ∷ []) index from to
 Fits c labels plain.Drop from to = (t : ValType) × Moves (t ∷ []) [] from to
 Fits c labels plain.Select from to = (t : ValType) × Moves (I32 ∷ (t ∷ (t ∷ []))) (t ∷ []) from to
 Fits c labels (plain.LocalGet x) from to = (t : ValType) × (slice_get c.locals x ≡ Some t) × Moves [] (t ∷ []) from to
 Fits c labels (plain.LocalSet x) from to = (t : ValType) × (slice_get c.locals x ≡ Some t) × Moves (t ∷ []) [] from to
-Fits c labels (plain.LocalTee x) from to = (t : ValType) × (slice_get c.locals x ≡ Some t) × Moves (t ∷ []) (t ∷ []) from to
-Fits c labels (plain.GlobalGet x) from to = (g : GlobalType) × (slice_get c.globals x ≡ Some g) × Moves [] (g.val_type ∷ []) from to
+Fits c labels (plain.LocalTee x) from to = (t : ValType) × (slice_get c.locals x ≡ Some t)
+    × Moves (t ∷ []) (t ∷ []) from to
+Fits c labels (plain.GlobalGet x) from to = (g : GlobalType) × (slice_get c.globals x ≡ Some g)
+    × Moves [] (g.val_type ∷ []) from to
 Fits c labels (plain.GlobalSet x) from to =
     (g : GlobalType) × (slice_get c.globals x ≡ Some g) × (g.mutable ≡ true) × Moves (g.val_type ∷ []) [] from to
 Fits c labels (plain.I32Const n) from to = Moves [] (I32 ∷ []) from to
 Fits c labels (plain.I64Const n) from to = Moves [] (I64 ∷ []) from to
 Fits c labels (plain.Numeric n) from to = Moves (numeric_takes n) (numeric_gives n ∷ []) from to
-Fits c labels (plain.Load op arg) from to = HasMemory c × IsAligned arg (load_bytes op) × Moves (I32 ∷ []) (load_type op ∷ []) from to
-Fits c labels (plain.Store w arg) from to = HasMemory c × IsAligned arg (access_bytes w) × Moves (access_type w ∷ (I32 ∷ [])) [] from to
+Fits c labels (plain.Load op arg) from to = HasMemory c × IsAligned arg (load_bytes op)
+    × Moves (I32 ∷ []) (load_type op ∷ []) from to
+Fits c labels (plain.Store w arg) from to = HasMemory c × IsAligned arg (access_bytes w)
+    × Moves (access_type w ∷ (I32 ∷ [])) [] from to
 Fits c labels plain.MemorySize from to = HasMemory c × Moves [] (I32 ∷ []) from to
 Fits c labels plain.MemoryGrow from to = HasMemory c × Moves (I32 ∷ []) (I32 ∷ []) from to
 Fits c labels (plain.Atomic op arg) from to =
-    HasMemory c × IsExactlyAligned arg (atomic_bytes op) × Moves (atomic_takes op) (results_of (atomic_gives op)) from to
+    HasMemory c × IsExactlyAligned arg (atomic_bytes op)
+    × Moves (atomic_takes op) (results_of (atomic_gives op)) from to
 Fits c labels plain.Fence from to = Moves [] [] from to
 
--- Nested instructions, inside these labels, lead from a stack of these types to a stack of those (sections 3.3.5 and 3.3.6). A
--- block's label carries its results, a loop's carries nothing.
+-- Nested instructions, inside these labels, lead from a stack of these types to a stack of those (sections 3.3.5 and
+-- 3.3.6). A block's label carries its results, a loop's carries nothing.
 abbrev pub HasType : Context → List (List ValType) → Code → List ValType → List ValType → Type 0
 HasType c labels Empty from to = from ≡ to
-HasType c labels (Then op rest) from to = (middle : List ValType) × Fits c labels op from middle × HasType c labels rest middle to
+HasType c labels (Then op rest) from to = (middle : List ValType) × Fits c labels op from middle
+    × HasType c labels rest middle to
 HasType c labels (BlockThen t body rest) from to =
     HasType c (results_of t ∷ labels) body [] (results_of t) × HasType c labels rest (results_of t ++ from) to
 HasType c labels (LoopThen t body rest) from to =
@@ -142,4 +153,5 @@ HasType c labels (IfElseThen t first second rest) from to =
 
 -- A flat body is typed: it stands for nested instructions that lead from an empty stack to the results (section 3.4.1).
 abbrev pub IsTyped : Context → List Instr → Type 0
-IsTyped c code = (nested : Code) × (code ≡ flat nested ++ (instrs.End ∷ [])) × HasType c (c.results ∷ []) nested [] c.results
+IsTyped c code = (nested : Code) × (code ≡ flat nested ++ (instrs.End ∷ []))
+    × HasType c (c.results ∷ []) nested [] c.results

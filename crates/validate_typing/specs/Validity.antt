@@ -1,5 +1,5 @@
--- Which modules are valid (Core specification 1.0, chapter 3.4; wasi-threads for the imported function and the entry of a
--- spawned thread; what is left out is this project's own).
+-- Which modules are valid (Core specification 1.0, chapter 3.4; wasi-threads for the imported function and the entry of
+-- a spawned thread; what is left out is this project's own).
 use Rattle.std.specs.Prelude.{◌≡◌, ℕ, ◌+◌, ◌*◌, ◌≤◌, ◌<◌, List, [], ◌∷◌, length, Some, None, true, false, IfSome, codes}
 use Rattle.std.specs.List.{slice_get, All, zip}
 use Rattle.types.specs.declared.value.ValType.{ValType}
@@ -22,8 +22,9 @@ use Rattle.types.specs.declared.parts.DataSegment.{DataSegment}
 use Rattle.types.specs.declared.parts.Body.{Body}
 use Rattle.types.specs.declared.parts.Parts.{Parts}
 use Rattle.types.specs.Values.{type_of, const_of}
-use Rattle.types.specs.Limits.{page_size}
-use Rattle.validate_typing.specs.Context.{Context, imported_functions, functions_of, memories_of, context_of, in_function}
+use Rattle.types.specs.declared.limits.TheConstants.{PAGE_SIZE}
+use Rattle.validate_typing.specs.Context.{Context, imported_functions, functions_of, memories_of, context_of}
+use Rattle.validate_typing.specs.Context.{in_function}
 use Rattle.validate_typing.specs.Typing.{IsTyped}
 
 -- A function type has one result at most (section 3.2.3).
@@ -32,7 +33,8 @@ IsValidType t = length t.results ≤ 1
 
 -- The type of a function by its index.
 abbrev pub HasFunctionType : Parts → ℕ → List ValType → List ValType → Type 0
-HasFunctionType m index params results = (t : FuncType) × (slice_get m.types index ≡ Some t) × (t.params ≡ params) × (t.results ≡ results)
+HasFunctionType m index params results = (t : FuncType) × (slice_get m.types index ≡ Some t) × (t.params ≡ params)
+    × (t.results ≡ results)
 
 -- The imports that there are: the function that starts a thread, and the memory.
 abbrev pub IsValidImportOf : Parts → List ℕ → List ℕ → ImportDesc → Type 0
@@ -74,7 +76,8 @@ IsThere m (exports.Global g) = g < length m.globals
 
 -- No two exports have one name (section 3.4.10).
 abbrev pub HasDistinctNames : List Export → Type 0
-HasDistinctNames es = (i j : ℕ) (a b : Export) → i < j → slice_get es i ≡ Some a → slice_get es j ≡ Some b → a.name ≡ b.name → ⊥
+HasDistinctNames es = (i j : ℕ) (a b : Export) → i < j → slice_get es i ≡ Some a → slice_get es j ≡ Some b
+    → a.name ≡ b.name → ⊥
 
 -- The functions of an element segment are there, and lie within the table's minimum (sections 3.4.5 and 4.5.4).
 abbrev pub IsValidElement : Parts → ElementSegment → Type 0
@@ -85,11 +88,12 @@ IsValidElement m e =
 -- The bytes of a data segment lie within the opening pages (sections 3.4.6 and 4.5.4).
 abbrev pub IsValidData : Parts → DataSegment → Type 0
 IsValidData m d =
-    (l : Limits) × (offset : ℕ) × (slice_get (memories_of m) d.memory ≡ Some l) × IsConstant d.offset (values.I32 offset) ×
-    (offset + length d.bytes ≤ page_size * l.min)
+    (l : Limits) × (offset : ℕ) × (slice_get (memories_of m) d.memory ≡ Some l)
+    × IsConstant d.offset (values.I32 offset) ×
+    (offset + length d.bytes ≤ PAGE_SIZE * l.min)
 
--- What a module that starts threads has (wasi-threads): a shared memory, and an export `wasi_thread_start`, a function of its own
--- that takes a thread's number and its argument.
+-- What a module that starts threads has (wasi-threads): a shared memory, and an export `wasi_thread_start`, a function
+-- of its own that takes a thread's number and its argument.
 pub record IsThreaded (m : Parts) : Type 0 where
   pub place : ℕ
   pub entry : Export
@@ -106,7 +110,8 @@ pub record IsThreaded (m : Parts) : Type 0 where
 
 -- A function's type is there, and its body is typed (section 3.4.1).
 abbrev pub IsValidFunction : Context → ℕ → Body → Type 0
-IsValidFunction c index body = (t : FuncType) × (slice_get c.types index ≡ Some t) × IsTyped (in_function c t body) body.code
+IsValidFunction c index body = (t : FuncType) × (slice_get c.types index ≡ Some t)
+    × IsTyped (in_function c t body) body.code
 
 -- A valid module (section 3.4.10). There is no start function.
 pub record IsValid (m : Parts) : Type 0 where

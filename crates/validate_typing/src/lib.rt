@@ -6,8 +6,8 @@
 //! `specs/Typing.antt` types nested instructions, `specs/Placed.antt` says that such instructions stand in flat code
 //! with the right table of branches, and `specs/Validity.antt` which modules are valid.
 //!
-//! `Flat` instructions: one for each instruction of a body, at most 16 bytes, with the target of its branch beside it. A thread
-//! finds by one look which instruction comes next.
+//! `Flat` instructions: one for each instruction of a body, at most 16 bytes, with the target of its branch beside it.
+//! A thread finds by one look which instruction comes next.
 #![tactic(auto)]
 
 mod fault;

@@ -1,12 +1,14 @@
 -- Which argument a spawned thread has, which question sleeps, and of whom a queue is told.
-use Rattle.std.specs.Prelude.{ℕ, ◌≡◌, ◌<◌, ◌==◌, ◌&&◌, Bool, true, false, not, nat_lt, if◌then◌else◌, List, length, Option, None, MatchOption, slice_get, zero, suc}
+use Rattle.std.specs.Prelude.{ℕ, ◌≡◌, ◌<◌, ◌==◌, ◌&&◌, Bool, true, false, not, nat_lt, if◌then◌else◌, List, length}
+use Rattle.std.specs.Prelude.{Option, None, MatchOption, slice_get, zero, suc}
 use Rattle.std.specs.List.{All}
 use Rattle.types.specs.declared.event.Answer.{Answer}
 use Rattle.types.specs.declared.event.Answer.TheVariants.{Number}
 use Rattle.types.specs.declared.event.Question.{Question}
 use Rattle.types.specs.declared.event.Question.TheVariants.{Wait, Notify, Spawn, Leave}
 use Rattle.shared_memory.specs.declared.sleeper.Sleeper.{Sleeper}
-use Rattle.shared_memory.specs.WaitQueue.{WaitQueue, is_among, is_asleep, ends_at_once, next_id, starts, wakes, woken_at, after_answer}
+use Rattle.shared_memory.specs.WaitQueue.{WaitQueue, is_among, is_asleep, ends_at_once, next_id, starts, wakes}
+use Rattle.shared_memory.specs.WaitQueue.{woken_at, after_answer}
 
 -- The argument of a spawned thread. Thread 0 has none, nor has one that wasn't spawned.
 abbrev pub arg_of : WaitQueue → ℕ → Option ℕ
@@ -36,7 +38,8 @@ TakesAnswer answer n before after = MatchOption answer (after ≡ before) (λ _.
 abbrev pub notified : ℕ → ℕ → WaitQueue → WaitQueue
 notified addr count q = wakes (woken_at addr count q.sleepers) (Number 0) q
 
--- The queue with a further thread, and the number of that; where each number has a thread, it stays, and the number is this one.
+-- The queue with a further thread, and the number of that; where each number has a thread, it stays, and the number is
+-- this one.
 abbrev pub spawned : ℕ → WaitQueue → WaitQueue
 spawned arg q = if nat_lt (next_id q) (length q.due) then starts arg q else q
 

@@ -1,8 +1,10 @@
 //! The state of the wait queue, and its steps.
-ghost use Rattle.std.specs.Prelude.{◌≡◌, ◌<◌, ◌≤◌, ◌↔◌, [], length, replicate, None, false, nat_lt, if◌then◌else◌, IsTrue, MatchOption};
+ghost use Rattle.std.specs.Prelude.{◌≡◌, ◌<◌, ◌≤◌, ◌↔◌, [], length, replicate, None, false, nat_lt, if◌then◌else◌};
+ghost use Rattle.std.specs.Prelude.{IsTrue, MatchOption};
 ghost use Rattle.std.specs.List.{list_all};
-ghost use Rattle.types.specs.Limits.{most_threads};
-ghost use Rattle.shared_memory.specs.WaitQueue.{IsFree, after_answer, after_question, answer_due, asked, first_queue, has_open_question};
+ghost use Rattle.types.specs.declared.limits.TheConstants.{MOST_THREADS};
+ghost use Rattle.shared_memory.specs.WaitQueue.{IsFree, after_answer, after_question, answer_due, asked, first_queue};
+ghost use Rattle.shared_memory.specs.WaitQueue.{has_open_question};
 ghost use Rattle.shared_memory.specs.WaitQueue.{is_alive, is_asleep, is_among, is_stuck, leaves, next_id, settled};
 ghost use Rattle.shared_memory.specs.WaitQueue.{sleeps, starts, tells, wakes, woken_at};
 ghost use Rattle.waiters.specs.Queue.{AreAsleep, TakesAnswer, arg_of, falls_asleep, id_of_spawned, notified, spawned};
@@ -36,7 +38,13 @@ impl Model for Queue {
 
     ghost Value = { WaitQueue };
 
-    ghost view = { λ a. record { alive = a.alive.items; sleepers = a.sleepers.items; due = a.due.items; args = a.args.items } };
+    ghost view = { λ a. record {
+      alive = a.alive.items;
+      sleepers = a.sleepers.items;
+      due = a.due.items;
+      args =
+          a.args.items;
+    } };
 
     ghost invariant = { λ a. IsSound (record {
       alive = a.alive.items;
@@ -51,7 +59,7 @@ impl Queue {
     #[tactic(auto, unfolding(shared_memory::specs::WaitQueue::first_queue))]
     pub fn new(threads: u32) -> Queue
         requires some { 0 < threads }
-        requires most { threads ≤ most_threads }
+        requires most { threads ≤ MOST_THREADS }
         ensures { result ≡ first_queue threads }
     {
         let mut alive = ArrayVec::new();
@@ -139,7 +147,7 @@ impl Queue {
     /// How many threads a run may have: 64 at most.
     pub fn threads(&self) -> u32
         ensures count { result ≡ length self.now.due }
-        ensures few { result ≤ most_threads }
+        ensures few { result ≤ MOST_THREADS }
     {
         self.due.len() as u32
     }
@@ -282,7 +290,7 @@ impl Queue {
 
 /// So many threads, to none of which an answer is due.
 pub(crate) fn no_answers(threads: u32) -> ArrayVec<Option<Answer>, MOST_THREADS>
-    requires { threads ≤ most_threads }
+    requires { threads ≤ MOST_THREADS }
     ensures { result.items ≡ replicate threads None }
 {
     let mut due = ArrayVec::new();

@@ -1,6 +1,6 @@
 //! Whom of the sleepers a notify or settling wakes.
 ghost use Rattle.std.specs.Prelude.{◌≡◌, ◌≤◌, ◌==◌, length, filter};
-ghost use Rattle.types.specs.Limits.{most_threads};
+ghost use Rattle.types.specs.declared.limits.TheConstants.{MOST_THREADS};
 ghost use Rattle.shared_memory.specs.declared.sleeper.Sleeper.{Sleeper};
 ghost use Rattle.shared_memory.specs.WaitQueue.{amount, due_after, earlier, ends_at_once, ends_before};
 ghost use Rattle.shared_memory.specs.WaitQueue.{first_to_end, has_timeout, is_among, woken_at};
@@ -12,7 +12,7 @@ use types::{Answer, MOST_THREADS};
 
 /// The sleepers at an address.
 fn at_address(sleepers: &[Sleeper], addr: u64) -> ArrayVec<Sleeper, MOST_THREADS>
-    requires { length sleepers.now ≤ most_threads }
+    requires { length sleepers.now ≤ MOST_THREADS }
     ensures { result.items ≡ filter (λ (s : Sleeper). s.addr == addr) sleepers.now }
 {
     let mut found = ArrayVec::new();
@@ -30,7 +30,7 @@ pub(crate) fn woken_at(
     addr: u64,
     count: u32,
 ) -> ArrayVec<Sleeper, MOST_THREADS>
-    requires { length sleepers.now ≤ most_threads }
+    requires { length sleepers.now ≤ MOST_THREADS }
     ensures { result.items ≡ woken_at addr count sleepers.now }
 {
     let mut woken = at_address(sleepers, addr);

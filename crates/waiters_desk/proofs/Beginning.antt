@@ -14,7 +14,7 @@ use Rattle.types.specs.declared.event.Answer.{Answer}
 use Rattle.types.specs.declared.event.Answer.TheVariants.{Number}
 use Rattle.types.specs.declared.event.Reply.{Reply}
 use Rattle.types.specs.declared.event.Reply.TheVariants.{Value, Done, OutOfBounds, Again, Full}
-use Rattle.types.specs.Limits.{most_threads}
+use Rattle.types.specs.declared.limits.TheConstants.{MOST_THREADS}
 use Rattle.shared_memory.specs.declared.sleeper.Sleeper.{Sleeper}
 use Rattle.shared_memory.specs.Events.{is_of_queue}
 use Rattle.shared_memory.specs.Memory.{Memory}
@@ -122,7 +122,7 @@ there_first most (suc n) known = absurd (omega arith)
 spawned_alive : (n : ℕ) (history : List Entry) → entries_of n history ≡ [] → IsQueueLegal history
     → n < next_id (queue_after history) → is_alive (queue_after history) n ≡ true
 unfolding queue_after IsQueueLegal
-spawned_alive n history none legal known = there_from n (first_queue most_threads) (of_queue history) (none_of_queue n history none) legal IsSound-first (there_first most_threads n) known
+spawned_alive n history none legal known = there_from n (first_queue MOST_THREADS) (of_queue history) (none_of_queue n history none) legal IsSound-first (there_first MOST_THREADS n) known
 
 has_number : (q : WaitQueue) (n arg : ℕ) → arg_of q n ≡ Some arg → n < next_id q
 has_number q zero arg is = absurd (cc is)

@@ -10,7 +10,7 @@ use Rattle.types.specs.declared.event.Answer.{Answer}
 use Rattle.types.specs.declared.event.Question.TheVariants.{Wait, Notify, Spawn, Leave}
 use Rattle.types.specs.declared.event.Reply.{Reply}
 use Rattle.types.specs.declared.event.Reply.TheVariants.{Value, Done, OutOfBounds}
-use Rattle.types.specs.Limits.{desk_name}
+use Rattle.types.specs.declared.limits.TheConstants.{DESK_NAME}
 use Rattle.shared_memory.specs.Memory.{Memory}
 use Rattle.shared_memory.specs.WaitQueue.{WaitQueue, answer_due, after_answer, IsFree}
 use Rattle.shared_memory.specs.History.{entries_of, queue_after}
@@ -84,8 +84,8 @@ met_last opening n m right right' after both all met p =
 
 -- the desk's own name enters nothing
 pub met_silent : (opening : Memory) (n m : ℕ) (right right' : Bool) (mine desks both : List Entry)
-    → Meets opening n m right right' mine desks both → m ≡ desk_name → entries_of desk_name desks ≡ []
-    → entries_of desk_name both ≡ []
+    → Meets opening n m right right' mine desks both → m ≡ DESK_NAME → entries_of DESK_NAME desks ≡ []
+    → entries_of DESK_NAME both ≡ []
 met_silent opening n m right right' mine desks both met named silent =
     subst (λ (k : ℕ). entries_of k both ≡ entries_of k desks) named met.own_b ∙ silent
 

@@ -13,7 +13,7 @@ use Rattle.types.specs.declared.event.Answer.{Answer}
 use Rattle.types.specs.declared.event.Answer.TheVariants.{Number}
 use Rattle.types.specs.declared.event.Reply.{Reply}
 use Rattle.types.specs.declared.event.Reply.TheVariants.{Value, Done, OutOfBounds, Again, Full}
-use Rattle.types.specs.Limits.{most_threads}
+use Rattle.types.specs.declared.limits.TheConstants.{MOST_THREADS}
 use Rattle.shared_memory.specs.declared.sleeper.Sleeper.{Sleeper}
 use Rattle.shared_memory.specs.Events.{is_of_queue}
 use Rattle.shared_memory.specs.Memory.{Memory}
@@ -111,9 +111,9 @@ free_from n q (e ∷ xs) none free =
 pub free_beside_others : (n : ℕ) (xs ys : List Entry) → entries_of n ys ≡ [] → IsFree (queue_after xs) n → IsFree (queue_after (xs ++ ys)) n
 unfolding queue_after
 free_beside_others n xs ys none free =
-    subst (λ (w : WaitQueue). IsFree w n) (sym (ap (queue_from (first_queue most_threads)) (of_queue-append xs ys)
-    ∙ queue_from-append (first_queue most_threads) (of_queue xs) (of_queue ys)))
-    (free_from n (queue_from (first_queue most_threads) (of_queue xs)) (of_queue ys) (none_of_queue n ys none) free)
+    subst (λ (w : WaitQueue). IsFree w n) (sym (ap (queue_from (first_queue MOST_THREADS)) (of_queue-append xs ys)
+    ∙ queue_from-append (first_queue MOST_THREADS) (of_queue xs) (of_queue ys)))
+    (free_from n (queue_from (first_queue MOST_THREADS) (of_queue xs)) (of_queue ys) (none_of_queue n ys none) free)
 
 -- an access that isn't of the queue
 module _ (loses : Bool) (opening : Memory) (limit : Option ℕ) (n : ℕ) (right : Bool) (event : Event)

@@ -11,7 +11,7 @@ use Rattle.types.specs.declared.event.Answer.{Answer}
 use Rattle.types.specs.declared.event.Answer.TheVariants.{Number, ForGood}
 use Rattle.types.specs.declared.event.Reply.{Reply}
 use Rattle.types.specs.declared.event.Reply.TheVariants.{Value, Done, OutOfBounds, Again, Full}
-use Rattle.types.specs.Limits.{most_threads}
+use Rattle.types.specs.declared.limits.TheConstants.{MOST_THREADS}
 use Rattle.shared_memory.specs.Events.{is_of_queue}
 use Rattle.shared_memory.specs.Memory.{Memory, loaded, reply_of, reply_to_question}
 use Rattle.shared_memory.specs.WaitQueue.{WaitQueue, first_queue, answer_due, ends_at_once, after_answer, IsFree}
@@ -283,6 +283,6 @@ some_due q q1 n question v free sound step awake none =
     let same : Some (Number told.number) ≡ None = sym told.due ∙ (ap (λ (w : WaitQueue). answer_due w n) (sym step) ∙ none) in absurd (cc same)
 
 -- before any question
-pub quiet_beside : (seen : List Entry) → of_queue seen ≡ [] → IsBeside (first_queue most_threads) seen
+pub quiet_beside : (seen : List Entry) → of_queue seen ≡ [] → IsBeside (first_queue MOST_THREADS) seen
 unfolding queue_after IsQueueLegal
 quiet_beside seen quiet = record { tied = sym (same_queue seen [] quiet); legal = same_queue_legal seen [] quiet tt }

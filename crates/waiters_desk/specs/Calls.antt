@@ -53,7 +53,8 @@ pub record EntersAtDesk (opening : Memory) (n : ℕ) (own before after : List En
   pub legal : IsQueueLegal after
 
 -- The log had room for a question: before it there stood what the caller had seen, and entries of others.
-pub record FindsRoom (limit : Option ℕ) (n : ℕ) (question : Question) (reply : Reply) (before after : List Entry) : Type 0 where
+pub record FindsRoom (limit : Option ℕ) (n : ℕ) (question : Question) (reply : Reply) (before after : List Entry)
+    : Type 0 where
   pub others : List Entry
   pub rest : List Entry
   pub list : after ≡ (before ++ others) ++ asked_with n question reply ∷ rest
@@ -61,7 +62,8 @@ pub record FindsRoom (limit : Option ℕ) (n : ℕ) (question : Question) (reply
   pub room : HasRoom limit (Ask question) (before ++ others)
 
 -- A question out of bounds: it has its answer in its reply, and the thread goes on.
-pub record Misses (opening : Memory) (limit : Option ℕ) (n : ℕ) (question : Question) (before after : List Entry) : Type 0 where
+pub record Misses (opening : Memory) (limit : Option ℕ) (n : ℕ) (question : Question) (before after : List Entry)
+    : Type 0 where
   pub enters : EntersAtDesk opening n (asked_with n question OutOfBounds ∷ []) before after
   pub room : FindsRoom limit n question OutOfBounds before after
   pub free : IsFree (queue_after after) n
@@ -93,12 +95,15 @@ Waits opening limit n addr width expected timeout before after (asked.Told numbe
     (loaded : ℕ) × Hears opening limit n (Wait addr width expected timeout) (Value loaded) number before after
     × IsAtOnce expected timeout loaded number
 Waits opening limit n addr width expected timeout before after asked.Asleep =
-    Sleeps opening limit n (Wait addr width expected timeout) (Value expected) before after × (ends_at_once timeout ≡ false)
+    Sleeps opening limit n (Wait addr width expected timeout) (Value expected) before after
+    × (ends_at_once timeout ≡ false)
 
 -- What a notify does, by what it got.
 abbrev pub Notifies : Memory → Option ℕ → ℕ → ℕ → ℕ → List Entry → List Entry → Notified → Type 0
-Notifies opening limit n addr count before after notified.OutOfBounds = Misses opening limit n (Notify addr count) before after
-Notifies opening limit n addr count before after (notified.Woke number) = Hears opening limit n (Notify addr count) Done number before after
+Notifies opening limit n addr count before after notified.OutOfBounds =
+    Misses opening limit n (Notify addr count) before after
+Notifies opening limit n addr count before after (notified.Woke number) =
+    Hears opening limit n (Notify addr count) Done number before after
 
 -- What a spawn does: its number is the id of the new thread, or 4294967295 where none is left.
 abbrev pub Spawns : Memory → Option ℕ → ℕ → ℕ → List Entry → List Entry → ℕ → Type 0
@@ -178,7 +183,8 @@ pub record Asks (opening : Memory) (limit : Option ℕ) (n : ℕ) (question : Qu
 abbrev pub Puts : Memory → Option ℕ → ℕ → Question → List Entry → List Entry → Asked → Type 0
 Puts opening limit n (Wait addr width expected timeout) before after got =
     Waits opening limit n addr width expected timeout before after got
-Puts opening limit n (Notify addr count) before after asked.OutOfBounds = Misses opening limit n (Notify addr count) before after
+Puts opening limit n (Notify addr count) before after asked.OutOfBounds =
+    Misses opening limit n (Notify addr count) before after
 Puts opening limit n (Notify addr count) before after (asked.Told number) =
     Hears opening limit n (Notify addr count) Done number before after
 Puts opening limit n (Notify addr count) before after asked.Asleep = ⊥

@@ -15,14 +15,15 @@ use Rattle.waiters_desk.specs.Calls.{IsWaiting}
 -- its new list.
 abbrev pub AFreeThreadStaysFree : Type 0
 AFreeThreadStaysFree =
-    (loses : Bool) (opening : Memory) (limit : Option ℕ) (n : ℕ) (right : Bool) (event : Event) (reply : Reply) (before after : List Entry)
+    (loses : Bool) (opening : Memory) (limit : Option ℕ) (n : ℕ) (right : Bool) (event : Event) (reply : Reply)
+    (before after : List Entry)
     → is_of_queue event ≡ false
     → Accesses loses opening limit n right event before after reply
     → IsFree (queue_after before) n
     → IsFree (queue_after after) n
 
--- What a thread's list says of it, a longer list says too: a free thread stays free; one with an open question stays alive,
--- with that open, where the longer list is legal for the wait queue; and one without entries stays without.
+-- What a thread's list says of it, a longer list says too: a free thread stays free; one with an open question stays
+-- alive, with that open, where the longer list is legal for the wait queue; and one without entries stays without.
 pub record StandsAsBefore (n : ℕ) (before after : List Entry) : Type 0 where
   pub free : IsFree (queue_after before) n → IsFree (queue_after after) n
   pub waiting : IsQueueLegal after → IsWaiting (queue_after before) n → IsWaiting (queue_after after) n

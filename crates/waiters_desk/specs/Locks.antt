@@ -1,4 +1,5 @@
--- What authors of locks rest on: a wait that is taken after a notify reads its word after all that the notifier had seen.
+-- What authors of locks rest on: a wait that is taken after a notify reads its word after all that the notifier had
+-- seen.
 use Rattle.std.specs.Prelude.{ℕ, ℤ, ◌≡◌, ◌≢◌, List, [], ◌∷◌, ◌++◌}
 use mathlib.Core.List.{IsPrefix}
 use Rattle.types.specs.declared.event.Entry.{Entry}
@@ -50,21 +51,26 @@ pub record ReadsAfter (opening : Memory) (seen upto : List Entry) (at width valu
   pub since : List Entry
   pub list : upto ≡ seen ++ since
   pub read : value ≡ loaded (memory_after opening upto) at width
-  pub fresh : loaded (memory_after opening seen) at width ≢ value → IsStoredAgain (memory_after opening seen) at width value since
+  pub fresh : loaded (memory_after opening seen) at width ≢ value
+      → IsStoredAgain (memory_after opening seen) at width value since
 
 -- Each wait of a history that stands after a notify read its word behind all that the notifier had seen.
 abbrev pub WaitsReadWhatNotifiersSaw : Memory → List Entry → Type 0
 WaitsReadWhatNotifiersSaw opening history =
     (w : WaitAfterNotify history)
-    → ReadsAfter opening w.seen (w.before ++ asked_with w.notifier (Notify w.addr w.count) w.reply ∷ w.between) w.at w.width w.value
+    → ReadsAfter opening w.seen (w.before ++ asked_with w.notifier (Notify w.addr w.count) w.reply ∷ w.between)
+    w.at w.width w.value
 
 -- It is so in every history that is legal for the memory.
 abbrev pub AWaitAfterANotifyReadsWhatItSaw : Type 0
 AWaitAfterANotifyReadsWhatItSaw =
-    (opening : Memory) (history : List Entry) → IsMemoryLegal opening history → WaitsReadWhatNotifiersSaw opening history
+    (opening : Memory) (history : List Entry) → IsMemoryLegal opening history
+    → WaitsReadWhatNotifiersSaw opening history
 
--- A call's own wait stands in the list that its caller then has, and read its word behind all that the caller had seen before.
-pub record ReadsBehind (opening : Memory) (n addr width expected : ℕ) (timeout : ℤ) (value : ℕ) (before after : List Entry) : Type 0 where
+-- A call's own wait stands in the list that its caller then has, and read its word behind all that the caller had seen
+-- before.
+pub record ReadsBehind (opening : Memory) (n addr width expected : ℕ) (timeout : ℤ) (value : ℕ)
+    (before after : List Entry) : Type 0 where
   pub upto : List Entry
   pub rest : List Entry
   pub stands : after ≡ upto ++ asked_with n (Wait addr width expected timeout) (Value value) ∷ rest
@@ -74,12 +80,13 @@ pub record ReadsBehind (opening : Memory) (n addr width expected : ℕ) (timeout
 abbrev pub WaitReads : Memory → ℕ → ℕ → ℕ → ℕ → ℤ → List Entry → List Entry → Asked → Type 0
 WaitReads opening n addr width expected timeout before after asked.OutOfBounds = Unit {0}
 WaitReads opening n addr width expected timeout before after (asked.Told number) =
-    (value : ℕ) × ReadsBehind opening n addr width expected timeout value before after × IsAtOnce expected timeout value number
+    (value : ℕ) × ReadsBehind opening n addr width expected timeout value before after
+    × IsAtOnce expected timeout value number
 WaitReads opening n addr width expected timeout before after asked.Asleep =
     ReadsBehind opening n addr width expected timeout expected before after
 
--- A call's own notify stands in the list that its caller then has; and in whatever history goes on from that list, each wait
--- behind it reads its word behind all that the caller had seen before.
+-- A call's own notify stands in the list that its caller then has; and in whatever history goes on from that list, each
+-- wait behind it reads its word behind all that the caller had seen before.
 pub record NotifiesBehind (opening : Memory) (n addr count : ℕ) (before after : List Entry) : Type 0 where
   pub reply : Reply
   pub upto : List Entry

@@ -12,7 +12,8 @@ use Rattle.waiters_desk.specs.Calls.{Asks, BeginsOrNever, Collects, EntersAtDesk
 use Rattle.waiters_desk.specs.Calls.{Notifies, Puts, Refused, Spawns, Waits, loaded_of, step_of, taken}
 use Rattle.waiters_desk.specs.Locks.{NotifiesBehind, WaitReads}
 
--- It is a seat's turn: it has the queue right, and the wait queue is the one after what it has seen, which is legal for it.
+-- It is a seat's turn: it has the queue right, and the wait queue is the one after what it has seen, which is legal for
+-- it.
 pub record HasTurn {M S : Type 0} (m : Ghosts M S) (queue : WaitQueue) (seat : S) : Type 0 where
   pub right : m.has_queue_right seat ≡ true
   pub beside : IsBeside queue (m.seen seat)

@@ -2,7 +2,7 @@
 ghost use Rattle.std.specs.Prelude.{◌≡◌, ◌%◌, [], true, false, IfOk, OnOk, OnErr};
 ghost use Rattle.types.specs.declared.event.Event.TheVariants.{Ask};
 ghost use Rattle.types.specs.declared.event.Question.TheVariants.{Wait};
-ghost use Rattle.types.specs.Limits.{desk_name};
+ghost use Rattle.types.specs.declared.limits.TheConstants.{DESK_NAME};
 ghost use Rattle.shared_memory.specs.Events.{IsQuestion, is_exempt};
 ghost use Rattle.shared_memory.specs.WaitQueue.{IsFree};
 ghost use Rattle.shared_memory.specs.History.{entries_of, of_queue, queue_after};
@@ -10,7 +10,8 @@ ghost use Rattle.shared_memory.specs.Legal.{IsQueueLegal};
 ghost use Rattle.shared_memory.specs.Seats.{SeatStays};
 ghost use Rattle.waiters_desk.specs.Calls.{IsWaiting};
 ghost use Rattle.waiters_desk.specs.Locks.{WaitsReadWhatNotifiersSaw};
-ghost use Rattle.waiters_desk.specs.Seats.{SeatBegins, SeatCollects, SeatLeaves, SeatNotifies, SeatNotifiesBehind, SeatPuts};
+ghost use Rattle.waiters_desk.specs.Seats.{SeatBegins, SeatCollects, SeatLeaves, SeatNotifies, SeatNotifiesBehind};
+ghost use Rattle.waiters_desk.specs.Seats.{SeatPuts};
 ghost use Rattle.waiters_desk.specs.Seats.{SeatReads, SeatRefused, SeatSpawns, SeatWaits};
 
 use crate::answers::{Asked, Full, Notified};
@@ -23,8 +24,8 @@ use types::{Answer, Question};
 ///
 /// Each call enters its question or its answer with the queue right, under one lock and between two meetings of the
 /// caller's seat with the desk's. So a question and the place that it takes in the wait queue are one moment of the
-/// history, and the caller knows afterwards all that earlier callers of the desk had seen. A call may wait for the lock;
-/// `collect` and `begin` also wait until there is something to tell. No call takes memory.
+/// history, and the caller knows afterwards all that earlier callers of the desk had seen. A call may wait for the
+/// lock; `collect` and `begin` also wait until there is something to tell. No call takes memory.
 pub struct Desk<M: SharedMemory, W: Wait + Drop> {
     state: Mutex<Locked<M>>,
     changed: Condvar,
@@ -46,9 +47,9 @@ impl<M: SharedMemory, W: Wait + Drop> Desk<M, W> {
     /// seen no question and no answer.
     pub fn open(rt: W, _memory: &M, seat: M::Seat) -> Desk<M, W>
         requires right { M.has_queue_right seat ≡ true }
-        requires name { M.name seat ≡ desk_name }
+        requires name { M.name seat ≡ DESK_NAME }
         requires quiet { of_queue (M.seen seat) ≡ [] }
-        requires silent { entries_of desk_name (M.seen seat) ≡ [] }
+        requires silent { entries_of DESK_NAME (M.seen seat) ≡ [] }
     {
         Desk {
             state: Mutex::new(Locked::new(seat)),
@@ -60,9 +61,9 @@ impl<M: SharedMemory, W: Wait + Drop> Desk<M, W> {
     /// Gives the desk's seat back. What it has seen is legal for the wait queue, and it has entered nothing itself.
     pub fn close(self) -> M::Seat
         ensures right { M.has_queue_right result ≡ true }
-        ensures name { M.name result ≡ desk_name }
+        ensures name { M.name result ≡ DESK_NAME }
         ensures legal { IsQueueLegal (M.seen result) }
-        ensures silent { entries_of desk_name (M.seen result) ≡ [] }
+        ensures silent { entries_of DESK_NAME (M.seen result) ≡ [] }
     {
         let Desk {
             state,

@@ -1,5 +1,6 @@
 //! What callers of a desk and authors of locks rest on.
-ghost use Rattle.waiters_desk.specs.Freedom.{AFreeThreadStaysFree, OthersLeaveAThreadAsItStands, AMeetingLeavesBothAsTheyStand};
+ghost use Rattle.waiters_desk.specs.Freedom.{AFreeThreadStaysFree, OthersLeaveAThreadAsItStands};
+ghost use Rattle.waiters_desk.specs.Freedom.{AMeetingLeavesBothAsTheyStand};
 ghost use Rattle.waiters_desk.specs.Locks.{AWaitAfterANotifyReadsWhatItSaw};
 
 /// A wait whose question stands after a notify's question in a legal history read its word after everything that the
@@ -14,7 +15,8 @@ pub fn a_free_thread_stays_free()
     ensures { AFreeThreadStaysFree }
 {}
 
-/// Entries of others leave a thread as it stands: a free one free, a waiting one waiting, and one without entries without.
+/// Entries of others leave a thread as it stands: a free one free, a waiting one waiting, and one without entries
+/// without.
 pub fn others_leave_a_thread_as_it_stands()
     ensures { OthersLeaveAThreadAsItStands }
 {}

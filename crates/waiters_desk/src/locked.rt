@@ -1,7 +1,7 @@
 //! What lies under the desk's lock.
 ghost use Rattle.std.specs.Prelude.{◌≡◌, [], true, false, IfOk, OnErr};
 ghost use Rattle.types.specs.declared.event.Event.TheVariants.{Ask};
-ghost use Rattle.types.specs.Limits.{desk_name};
+ghost use Rattle.types.specs.declared.limits.TheConstants.{DESK_NAME};
 ghost use Rattle.shared_memory.specs.Events.{IsQuestion, is_exempt};
 ghost use Rattle.shared_memory.specs.WaitQueue.{IsFree, is_asleep};
 ghost use Rattle.shared_memory.specs.History.{entries_of, of_queue, queue_after};
@@ -23,10 +23,10 @@ pub(crate) struct Locked<M: SharedMemory> {
     seat: M::Seat,
     queue: Queue,
     ghost right: { M.has_queue_right seat ≡ true },
-    ghost named: { M.name seat ≡ desk_name },
+    ghost named: { M.name seat ≡ DESK_NAME },
     ghost tied: { queue ≡ queue_after (M.seen seat) },
     ghost legal: { IsQueueLegal (M.seen seat) } by { IsQueueLegal-prop (M.seen seat) },
-    ghost silent: { entries_of desk_name (M.seen seat) ≡ [] },
+    ghost silent: { entries_of DESK_NAME (M.seen seat) ≡ [] },
 }
 
 impl<M: SharedMemory> Drop for Locked<M> {
@@ -39,9 +39,9 @@ impl<M: SharedMemory> Locked<M> {
     /// The first state, with a seat that has seen no question and no answer.
     pub(crate) fn new(seat: M::Seat) -> Locked<M>
         requires right { M.has_queue_right seat ≡ true }
-        requires name { M.name seat ≡ desk_name }
+        requires name { M.name seat ≡ DESK_NAME }
         requires quiet { of_queue (M.seen seat) ≡ [] }
-        requires silent { entries_of desk_name (M.seen seat) ≡ [] }
+        requires silent { entries_of DESK_NAME (M.seen seat) ≡ [] }
     {
         Locked {
             seat,
@@ -51,9 +51,9 @@ impl<M: SharedMemory> Locked<M> {
 
     pub(crate) fn into_seat(self) -> M::Seat
         ensures right { M.has_queue_right result ≡ true }
-        ensures name { M.name result ≡ desk_name }
+        ensures name { M.name result ≡ DESK_NAME }
         ensures legal { IsQueueLegal (M.seen result) }
-        ensures silent { entries_of desk_name (M.seen result) ≡ [] }
+        ensures silent { entries_of DESK_NAME (M.seen result) ≡ [] }
     {
         let Locked { seat, queue: _ } = self;
         seat

@@ -5,7 +5,8 @@ ghost use Rattle.types.specs.declared.event.Event.TheVariants.{Ask};
 ghost use Rattle.shared_memory.specs.Events.{IsQuestion, is_exempt};
 ghost use Rattle.shared_memory.specs.WaitQueue.{IsFree, after_answer, answer_due};
 ghost use Rattle.shared_memory.specs.Seats.{SeatStays};
-ghost use Rattle.waiters_desk.specs.Seats.{HasTurn, IsAsleepAfter, MakesStep, SeatAsks, SeatHears, SeatPuts, SeatRefused};
+ghost use Rattle.waiters_desk.specs.Seats.{HasTurn, IsAsleepAfter, MakesStep, SeatAsks, SeatHears, SeatPuts};
+ghost use Rattle.waiters_desk.specs.Seats.{SeatRefused};
 
 use crate::answers::{Asked, Full};
 use shared_memory::SharedMemory;
@@ -74,8 +75,8 @@ pub fn hear<M: SharedMemory>(memory: &M, seat: &mut M::Seat, queue: &mut Queue) 
     answer
 }
 
-/// Asks a question, and takes the answer unless the thread falls asleep. The seat has the queue right, and the queue is the
-/// one after what the seat has seen; so it serves a desk under any lock, whose seat met the caller's before.
+/// Asks a question, and takes the answer unless the thread falls asleep. The seat has the queue right, and the queue is
+/// the one after what the seat has seen; so it serves a desk under any lock, whose seat met the caller's before.
 ///
 /// # Errors
 /// `Full` where the log has reached its limit: nothing of the caller is entered, and the queue is as it was.

@@ -2,7 +2,7 @@
 use Rattle.std.proofs.Common.{◌≡◌, ℕ, List, [], Some, refl, sym, subst}
 use Rattle.types.specs.declared.event.Entry.{Entry}
 use Rattle.types.specs.declared.event.Answer.{Answer}
-use Rattle.types.specs.Limits.{most_threads}
+use Rattle.types.specs.declared.limits.TheConstants.{MOST_THREADS}
 use Rattle.shared_memory.specs.WaitQueue.{WaitQueue, first_queue, answer_due, after_answer}
 use Rattle.shared_memory.proofs.Others.{IsQuiet}
 use Rattle.shared_memory.proofs.Standing.{quiet_first}
@@ -21,10 +21,10 @@ told_quiet q n answer seen beside due =
 
 -- before any entry
 
-pub first_beside : IsBeside (first_queue most_threads) []
+pub first_beside : IsBeside (first_queue MOST_THREADS) []
 first_beside = quiet_beside [] refl
 
-pub first_quiet : (n : ℕ) → HasNoneOpen (first_queue most_threads) n
+pub first_quiet : (n : ℕ) → HasNoneOpen (first_queue MOST_THREADS) n
 first_quiet n =
-    let quiet : IsQuiet (first_queue most_threads) n = subst (λ (w : WaitQueue). IsQuiet w n) (sym first_beside.tied) (quiet_first n) in
+    let quiet : IsQuiet (first_queue MOST_THREADS) n = subst (λ (w : WaitQueue). IsQuiet w n) (sym first_beside.tied) (quiet_first n) in
     record { awake = quiet.awake; told = quiet.told }

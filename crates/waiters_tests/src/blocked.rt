@@ -191,8 +191,8 @@ fn sleep_and_collect<M: SharedMemory, W: Wait + Drop, R: Clock>(
     Some(collects(desk, memory, seat))
 }
 
-/// Thread 1 sleeps with a timeout and is blocked. The timeout ends since thread 0 falls asleep, which is blocked in turn and
-/// sleeps for good since thread 1 ends: what both were told.
+/// Thread 1 sleeps with a timeout and is blocked. The timeout ends since thread 0 falls asleep, which is blocked in
+/// turn and sleeps for good since thread 1 ends: what both were told.
 pub fn sleep_beside<M, W, R>(
     rt: &R,
     desk: &Desk<M, W>,

@@ -188,8 +188,8 @@ fn ask_alone(one: &mut OneMemory, waited: Heard) -> [Heard; 4] {
     [waited, notified, spawned, alone(one, Question::Leave, 0)]
 }
 
-/// Thread 0 of a recorder heard what it hears beside the sequential memory. It entered four questions and their answers, and
-/// the bytes are those of that memory.
+/// Thread 0 of a recorder heard what it hears beside the sequential memory. It entered four questions and their
+/// answers, and the bytes are those of that memory.
 fn is_alike(heard: Option<[Heard; 4]>, end: &Finished, one: &mut OneMemory) -> Result<(), Fail> {
     let waited = alone(one, WAIT, 1);
     let wanted = ask_alone(one, waited);

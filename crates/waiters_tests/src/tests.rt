@@ -124,8 +124,8 @@ fn try_at<R: Threads + Wait + Clock + Sync>(
     make_at_recorder::<Brand, R>(rt, alloc, prepared, trial)
 }
 
-/// Makes a trial over a page of zeros and a log of at most `limit` entries, where this has to be heard, and the log has to
-/// have so many entries then.
+/// Makes a trial over a page of zeros and a log of at most `limit` entries, where this has to be heard, and the log has
+/// to have so many entries then.
 fn hears<R: Threads + Wait + Clock + Sync>(
     rt: &R,
     alloc: Global,

@@ -8,7 +8,7 @@ use Rattle.types.specs.declared.event.Event.{Event}
 use Rattle.types.specs.declared.event.Event.TheVariants.{Size, Grow, Load, Store, Rmw, Cmpxchg, Ask, Told}
 use Rattle.types.specs.declared.event.Reply.{Reply}
 use Rattle.types.specs.declared.event.Reply.TheVariants.{Value, Done, OutOfBounds, Again, Full}
-use Rattle.types.specs.Limits.{most_pages}
+use Rattle.types.specs.declared.limits.TheConstants.{MOST_PAGES}
 use Rattle.shared_memory.specs.Numbers.{le_number}
 use Rattle.shared_memory.specs.Events.{IsEvent, is_of_queue}
 use Rattle.shared_memory.specs.Memory.{Memory, pages, state_after, touched}
@@ -297,10 +297,10 @@ place_in opening seen event stored all is within =
 
 -- What a history shows of the page count is at most 256.
 pub few_pages : (opening : Memory) (loses : Bool) (event : Event) (answer : Option Reply) (found : ℕ) (c w : Caller)
-    → IsStored opening → Steps opening loses event answer 0 c found w → found ≤ most_pages
+    → IsStored opening → Steps opening loses event answer 0 c found w → found ≤ MOST_PAGES
 few_pages opening loses event answer found c w stored s = by_list answer s.list
   where
-    by_log : (log : L) → AreEntries log → pages (memory_after opening log) ≡ found → found ≤ most_pages
+    by_log : (log : L) → AreEntries log → pages (memory_after opening log) ≡ found → found ≤ MOST_PAGES
     by_log log all e =
         let o = outlasts opening log stored all in
         let sized = o.stored.sized in
@@ -308,7 +308,7 @@ few_pages opening loses event answer found c w stored s = by_list answer s.list
         let small = sized.small in
         omega (arith, e)
 
-    by_list : (a : Option Reply) → w ≡ caller_after loses event a s.log c → found ≤ most_pages
+    by_list : (a : Option Reply) → w ≡ caller_after loses event a s.log c → found ≤ MOST_PAGES
     by_list None e = by_log s.log (subst AreEntries (ap (λ (x : Caller). x.seen) e) s.seen.entries) s.word
     by_list (Some r) e = by_log s.log (AreEntries-prefix s.log (entry c.name event r ∷ [])
         (subst AreEntries (ap (λ (x : Caller). x.seen) e) s.seen.entries)) s.word

@@ -5,7 +5,7 @@ use Rattle.std.proofs.lemmas.List.{drop_more}
 use Rattle.std.proofs.lemmas.Option.{slice_get_past, slice_get-get_or}
 use mathlib.Core.Option.{some, some-injective, some-ne-none}
 use lib.ListN.{get_elem?}
-use Rattle.types.specs.Limits.{page_size}
+use Rattle.types.specs.declared.limits.TheConstants.{PAGE_SIZE}
 use Rattle.atomic_table.specs.Table.{State}
 use Rattle.shared_memory.specs.Numbers.{le_number}
 use Rattle.shared_memory.specs.Memory.{Memory, pages, loaded}
@@ -36,10 +36,10 @@ stands_for opening max words s most r is =
 
 -- A byte is a lane of one byte.
 
-pub byte_within : (m : Memory) (addr : ℕ) → IsStored m → addr < page_size * pages m → addr < length m.bytes
+pub byte_within : (m : Memory) (addr : ℕ) → IsStored m → addr < PAGE_SIZE * pages m → addr < length m.bytes
 byte_within m addr s h = let e = whole_pages m s in omega arith
 
-pub byte_past : (m : Memory) (addr : ℕ) → IsSized m → page_size * pages m ≤ addr → None ≡ slice_get m.bytes addr
+pub byte_past : (m : Memory) (addr : ℕ) → IsSized m → PAGE_SIZE * pages m ≤ addr → None ≡ slice_get m.bytes addr
 byte_past m addr s h = let whole = s.whole in sym (slice_get_past m.bytes addr (omega arith))
 
 one_byte : (m : Memory) (addr : ℕ) → addr < length m.bytes → loaded m addr 1 ≡ get_or m.bytes addr 0

@@ -5,7 +5,7 @@ use Rattle.types.specs.declared.event.Entry.{Entry}
 use Rattle.types.specs.declared.event.Event.{Event}
 use Rattle.types.specs.declared.event.Reply.{Reply}
 use Rattle.types.specs.declared.event.Reply.TheVariants.{Value, Done, OutOfBounds, Again, Full}
-use Rattle.types.specs.Limits.{page_size, most_pages}
+use Rattle.types.specs.declared.limits.TheConstants.{PAGE_SIZE, MOST_PAGES}
 use Rattle.shared_memory.specs.Memory.{Memory, pages}
 use Rattle.shared_memory.specs.History.{entry, AreEntries, memory_after}
 use Rattle.shared_memory.specs.Access.{Answers, Accesses}
@@ -71,7 +71,7 @@ found-HasPages opening loses event answer found c w stored s = by_list answer s.
         later opening s.log (entry c.name event r ∷ []) w.seen found stored s.seen.entries (ap (λ (x : Caller). x.seen) e) (omega arith)
 
 -- it is at most 256, and what lies within it lies within the memory seen
-pub few-HasPages : (opening : Memory) (seen : L) (count : ℕ) → IsStored opening → AreEntries seen → HasPages opening seen count → count ≤ most_pages
+pub few-HasPages : (opening : Memory) (seen : L) (count : ℕ) → IsStored opening → AreEntries seen → HasPages opening seen count → count ≤ MOST_PAGES
 few-HasPages opening seen count stored all has =
     let o = outlasts opening seen stored all in
     let sized = o.stored.sized in
@@ -79,6 +79,6 @@ few-HasPages opening seen count stored all has =
     let small = sized.small in
     omega arith
 
-pub within-HasPages : (opening : Memory) (seen : L) (count end : ℕ) → HasPages opening seen count → end ≤ page_size * count
+pub within-HasPages : (opening : Memory) (seen : L) (count end : ℕ) → HasPages opening seen count → end ≤ PAGE_SIZE * count
     → end ≤ length (memory_after opening seen).bytes
 within-HasPages opening seen count end has h = omega arith

@@ -9,7 +9,7 @@ use Rattle.std.proofs.lemmas.List.Elements.{All-append, All-replicate, All-head,
 use Rattle.types.specs.declared.event.Entry.{Entry}
 use Rattle.types.specs.declared.event.Event.{Event}
 use Rattle.types.specs.declared.event.Event.TheVariants.{Size, Grow, Load, Store, Rmw, Cmpxchg, Ask, Told}
-use Rattle.types.specs.Limits.{page_size}
+use Rattle.types.specs.declared.limits.TheConstants.{PAGE_SIZE}
 use Rattle.shared_memory.specs.Numbers.{le_bytes}
 use Rattle.shared_memory.specs.Memory.{Memory, pages, loaded, written, combined, can_grow, grown, if_within, state_after}
 use Rattle.shared_memory.specs.Events.{IsEvent}
@@ -48,7 +48,7 @@ outlasts-written m addr width n s within =
       length = omega arith;
       stored = record {
         sized = record {
-          whole = ap (λ k. k % page_size) long ∙ sized.whole;
+          whole = ap (λ k. k % PAGE_SIZE) long ∙ sized.whole;
           within = let w = sized.within in omega (arith, long);
           small = sized.small;
         };
@@ -65,8 +65,8 @@ outlasts-within m w end s inside = by_test (nat_le end (length m.bytes)) refl
     by_test true e = inside (leb-true end (length m.bytes) e)
     by_test false e = same m s
 
-pub length-grown : (m : Memory) (more : ℕ) → length (grown m more).bytes ≡ length m.bytes + page_size * more
-length-grown m more = length-append m.bytes (replicate (page_size * more) 0) ∙ ap (λ k. length m.bytes + k) (length-replicate (page_size * more) 0)
+pub length-grown : (m : Memory) (more : ℕ) → length (grown m more).bytes ≡ length m.bytes + PAGE_SIZE * more
+length-grown m more = length-append m.bytes (replicate (PAGE_SIZE * more) 0) ∙ ap (λ k. length m.bytes + k) (length-replicate (PAGE_SIZE * more) 0)
 
 outlasts-grown : (m : Memory) (more : ℕ) → IsStored m → pages m + more ≤ m.max → Outlasts m (grown m more)
 outlasts-grown m more s fits =
@@ -78,8 +78,8 @@ outlasts-grown m more s fits =
       length = omega (arith, long);
       stored = record {
         sized = record { whole = omega (arith, long, whole); within = omega (arith, long, whole, fits); small = s.sized.small };
-        bytes = All-append (λ byte. byte < 256) m.bytes (replicate (page_size * more) 0) s.bytes
-            (All-replicate (λ byte. byte < 256) (page_size * more) 0 (omega arith));
+        bytes = All-append (λ byte. byte < 256) m.bytes (replicate (PAGE_SIZE * more) 0) s.bytes
+            (All-replicate (λ byte. byte < 256) (PAGE_SIZE * more) 0 (omega arith));
       };
     }
 
@@ -121,7 +121,7 @@ outlasts m (e ∷ history) s all =
     (outlasts (state_after m e.event) history step.stored (All-tail IsEntry e history all))
 
 -- A whole memory has as many bytes as its pages.
-pub whole_pages : (m : Memory) → IsStored m → page_size * pages m ≡ length m.bytes
+pub whole_pages : (m : Memory) → IsStored m → PAGE_SIZE * pages m ≡ length m.bytes
 whole_pages m s = let w = s.sized.whole in omega arith
 
 -- The words of a memory stand for it.
@@ -129,7 +129,7 @@ pub memory_of-words_of : (m : Memory) → IsStored m → memory_of m.max (words_
 memory_of-words_of m s =
     let whole = s.sized.whole in
     let within = s.sized.within in
-    let bytes : take (page_size * pages m) (bytes_of (data_words (8192 * m.max) m.bytes)) ≡ m.bytes =
+    let bytes : take (PAGE_SIZE * pages m) (bytes_of (data_words (8192 * m.max) m.bytes)) ≡ m.bytes =
     ap (λ n. take n (bytes_of (data_words (8192 * m.max) m.bytes))) (whole_pages m s)
     ∙ bytes_of-data_words (8192 * m.max) (length m.bytes / 8) m.bytes s.bytes (omega arith) (omega arith) in
     ap with_bytes bytes

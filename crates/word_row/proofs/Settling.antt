@@ -10,7 +10,7 @@ use Rattle.types.specs.declared.event.Event.TheVariants.{Size, Grow, Load, Store
 use Rattle.types.specs.declared.event.Question.TheVariants.{Wait, Notify, Spawn, Leave}
 use Rattle.types.specs.declared.event.Reply.{Reply}
 use Rattle.types.specs.declared.event.Reply.TheVariants.{Value, Done, OutOfBounds, Again, Full}
-use Rattle.types.specs.Limits.{page_size}
+use Rattle.types.specs.declared.limits.TheConstants.{PAGE_SIZE}
 use Rattle.shared_memory.specs.Numbers.{le_number, le_bytes}
 use Rattle.shared_memory.specs.Memory.{Memory, pages, loaded, written, combined, can_grow, grown, if_within, reply_of, state_after, word_at, touched}
 use Rattle.shared_memory.specs.Events.{IsEvent, IsPart, IsAtomic, may_lose}
@@ -149,7 +149,7 @@ words_written : (m : Memory) (addr width value new : ℕ) → IsStored m → InW
 words_written m addr width value new s lies within fits is =
     let some = lies.some in
     let h = holds m addr s (omega arith) in
-    let count : pages (written m addr width value) ≡ pages m = ap (λ n. n / page_size) (length-written m addr width value within) in
+    let count : pages (written m addr width value) ≡ pages m = ap (λ n. n / PAGE_SIZE) (length-written m addr width value within) in
     let replaced = splice_is_with_lane m.bytes (word_of m addr) addr width value new lies.one_word (word_bytes m addr s h) is in
     ap₂ (λ x xs. x ∷ xs) count (ap (data_words (8192 * m.max)) replaced ∙ data_words-set (8192 * m.max) (addr / 8) m.bytes new h.counted h.inside fits)
     ∙ sym (next_set (data_words (8192 * m.max) m.bytes) (pages m) (addr / 8) new)
@@ -159,9 +159,9 @@ words_grown : (m : Memory) (more : ℕ) → IsStored m → words_of (grown m mor
 words_grown m more s =
     let long = length-grown m more in
     let whole = s.sized.whole in
-    let count : pages (grown m more) ≡ pages m + more = ap (λ n. n / page_size) long
-    ∙ (let e : (length m.bytes + page_size * more) / page_size ≡ pages m + more = omega arith in e) in
-    ap₂ (λ x xs. x ∷ xs) count (data_words-zeros (8192 * m.max) (length m.bytes / 8) (page_size * more) m.bytes (omega arith))
+    let count : pages (grown m more) ≡ pages m + more = ap (λ n. n / PAGE_SIZE) long
+    ∙ (let e : (length m.bytes + PAGE_SIZE * more) / PAGE_SIZE ≡ pages m + more = omega arith in e) in
+    ap₂ (λ x xs. x ∷ xs) count (data_words-zeros (8192 * m.max) (length m.bytes / 8) (PAGE_SIZE * more) m.bytes (omega arith))
 
 -- A lane of the word that holds an address is what is loaded there.
 pub lane_is_loaded : (m : Memory) (addr width word : ℕ) → IsStored m → InWord addr width
@@ -339,14 +339,14 @@ makes_may_lose max (Told answer) old new makes = elim makes [ ]
 
 -- What the page count leaves open is a growth within the maximum, or an access within bounds.
 
-left_open : (end count : ℕ) → refusal end count ≡ None → end ≤ page_size * count
-left_open end count e = by_test (nat_le end (page_size * count)) refl e
+left_open : (end count : ℕ) → refusal end count ≡ None → end ≤ PAGE_SIZE * count
+left_open end count e = by_test (nat_le end (PAGE_SIZE * count)) refl e
   where
-    by_test : (b : Bool) → nat_le end (page_size * count) ≡ b → cond b None (Some OutOfBounds) ≡ None → end ≤ page_size * count
-    by_test true t e = leb-true end (page_size * count) t
+    by_test : (b : Bool) → nat_le end (PAGE_SIZE * count) ≡ b → cond b None (Some OutOfBounds) ≡ None → end ≤ PAGE_SIZE * count
+    by_test true t e = leb-true end (PAGE_SIZE * count) t
     by_test false t e = absurd (cc (e))
 
-pub open_within : (max : ℕ) (event : Event) (count : ℕ) → size_answer max event count ≡ None → end_of event ≤ page_size * count
+pub open_within : (max : ℕ) (event : Event) (count : ℕ) → size_answer max event count ≡ None → end_of event ≤ PAGE_SIZE * count
 open_within max Size count e = omega arith
 open_within max (Grow more) count e = omega arith
 open_within max (Load addr width reach) count e = left_open reach count e
@@ -393,12 +393,12 @@ answer_if false r a = a
 pub size_is_answer : (max : ℕ) (event : Event) (count : ℕ) → IsAnswer (size_answer max event count)
 size_is_answer max Size count = tt
 size_is_answer max (Grow more) count = answer_if (nat_le (count + more) max) (Value 4294967295) tt
-size_is_answer max (Load addr width reach) count = answer_if (nat_le reach (page_size * count)) OutOfBounds tt
-size_is_answer max (Store addr width reach value) count = answer_if (nat_le reach (page_size * count)) OutOfBounds tt
-size_is_answer max (Rmw op addr width value) count = answer_if (nat_le (addr + width) (page_size * count)) OutOfBounds tt
-size_is_answer max (Cmpxchg addr width expected replacement) count = answer_if (nat_le (addr + width) (page_size * count)) OutOfBounds tt
-size_is_answer max (Ask (Wait addr width expected timeout)) count = answer_if (nat_le (addr + width) (page_size * count)) OutOfBounds tt
-size_is_answer max (Ask (Notify addr woken)) count = by_test (nat_le (addr + 4) (page_size * count))
+size_is_answer max (Load addr width reach) count = answer_if (nat_le reach (PAGE_SIZE * count)) OutOfBounds tt
+size_is_answer max (Store addr width reach value) count = answer_if (nat_le reach (PAGE_SIZE * count)) OutOfBounds tt
+size_is_answer max (Rmw op addr width value) count = answer_if (nat_le (addr + width) (PAGE_SIZE * count)) OutOfBounds tt
+size_is_answer max (Cmpxchg addr width expected replacement) count = answer_if (nat_le (addr + width) (PAGE_SIZE * count)) OutOfBounds tt
+size_is_answer max (Ask (Wait addr width expected timeout)) count = answer_if (nat_le (addr + width) (PAGE_SIZE * count)) OutOfBounds tt
+size_is_answer max (Ask (Notify addr woken)) count = by_test (nat_le (addr + 4) (PAGE_SIZE * count))
   where
     by_test : (b : Bool) → IsAnswer (Some (cond b Done OutOfBounds))
     by_test true = tt

@@ -8,7 +8,7 @@ use Rattle.types.specs.declared.event.Reply.{Reply}
 use Rattle.types.specs.declared.event.Reply.TheVariants.{Value, Done, OutOfBounds}
 use Rattle.types.specs.declared.event.RmwOp.{RmwOp}
 use Rattle.types.specs.declared.event.RmwOp.TheVariants as ops
-use Rattle.types.specs.Limits.{page_size}
+use Rattle.types.specs.declared.limits.TheConstants.{PAGE_SIZE}
 use Rattle.shared_memory.specs.Memory.{combined}
 use Rattle.shared_memory_sequential.specs.Words.{lane_of, IsWithLane}
 use Rattle.word_row.specs.declared.single.Single.{Single}
@@ -49,7 +49,7 @@ place_of _ = 0
 
 -- An access that ends past so many pages is refused.
 abbrev pub refusal : ℕ → ℕ → Option Reply
-refusal end count = if nat_le end (page_size * count) then None else Some OutOfBounds
+refusal end count = if nat_le end (PAGE_SIZE * count) then None else Some OutOfBounds
 
 -- The reply that a page count settles. An access within bounds and a growth that can succeed are left open.
 abbrev pub size_answer : ℕ → Event → ℕ → Option Reply
@@ -60,7 +60,8 @@ size_answer max (Store addr width reach value) count = refusal reach count
 size_answer max (Rmw op addr width value) count = refusal (addr + width) count
 size_answer max (Cmpxchg addr width expected replacement) count = refusal (addr + width) count
 size_answer max (Ask (Wait addr width expected timeout)) count = refusal (addr + width) count
-size_answer max (Ask (Notify addr woken)) count = Some (if nat_le (addr + 4) (page_size * count) then Done else OutOfBounds)
+size_answer max (Ask (Notify addr woken)) count =
+    Some (if nat_le (addr + 4) (PAGE_SIZE * count) then Done else OutOfBounds)
 size_answer max (Ask (Spawn arg)) count = Some Done
 size_answer max (Ask Leave) count = Some Done
 size_answer max (Told answer) count = Some Done
@@ -77,7 +78,8 @@ word_answer _ word = None
 abbrev pub Makes : ℕ → Event → ℕ → ℕ → Type 0
 Makes max (Grow more) word new = (word + more ≤ max) × (new ≡ word + more)
 Makes max (Store addr width reach value) word new = IsWithLane word addr width value new
-Makes max (Rmw op addr width value) word new = IsWithLane word addr width (combined op width (lane_of word addr width) value) new
+Makes max (Rmw op addr width value) word new =
+    IsWithLane word addr width (combined op width (lane_of word addr width) value) new
 Makes max (Cmpxchg addr width expected replacement) word new =
     (lane_of word addr width ≡ expected) × IsWithLane word addr width replacement new
 Makes max _ word new = ⊥

@@ -1,5 +1,6 @@
 -- The rule of the row of words, and what its steps tell.
-use Rattle.std.specs.Prelude.{ℕ, ◌≡◌, ◌+◌, ◌*◌, ◌<◌, ◌≤◌, Bool, true, false, List, [], ◌∷◌, ◌++◌, All, length, Option, Some, None, slice_index}
+use Rattle.std.specs.Prelude.{ℕ, ◌≡◌, ◌+◌, ◌*◌, ◌<◌, ◌≤◌, Bool, true, false, List, [], ◌∷◌, ◌++◌, All, length, Option}
+use Rattle.std.specs.Prelude.{Some, None, slice_index}
 use Rattle.atomic_table.specs.Table.{State, Me}
 use Rattle.atomic_table.specs.Seated.{TableId}
 use Rattle.atomic_table.specs.declared.shared.Seat.{Seat}
@@ -7,7 +8,7 @@ use Rattle.types.specs.declared.event.Entry.{Entry}
 use Rattle.types.specs.declared.event.Event.{Event}
 use Rattle.types.specs.declared.event.Event.TheVariants.{Size}
 use Rattle.types.specs.declared.event.Reply.{Reply}
-use Rattle.types.specs.Limits.{desk_name}
+use Rattle.types.specs.declared.limits.TheConstants.{DESK_NAME}
 use Rattle.shared_memory.specs.Events.{IsEvent, is_of_queue}
 use Rattle.shared_memory.specs.Memory.{Memory}
 use Rattle.shared_memory.specs.History.{entry, memory_after}
@@ -60,7 +61,7 @@ AllCome caller seats host = (log : List Entry) → AllGoOn host.me.0.callers log
 
 -- What a caller may try: an event that meets its conditions, and one of the queue only with the queue right.
 pub record MayTry (c : Caller) (event : Event) : Type 0 where
-  pub known : c.name ≤ desk_name
+  pub known : c.name ≤ DESK_NAME
   pub is : IsEvent event
   pub right : is_of_queue event ≡ true → c.has_queue_right ≡ true
 
@@ -72,7 +73,8 @@ caller_after loses event (Some reply) log c = seeing (log ++ entry c.name event 
 
 -- One step on one word: the caller has seen the whole history at that point, which leaves the word found there, and
 -- its own entry stands behind it, if the word settled the reply.
-pub record Steps (opening : Memory) (loses : Bool) (event : Event) (answer : Option Reply) (place : ℕ) (before : Caller) (found : ℕ)
+pub record Steps (opening : Memory) (loses : Bool) (event : Event) (answer : Option Reply) (place : ℕ) (before : Caller)
+    (found : ℕ)
     (after : Caller) : Type 0 where
   pub log : List Entry
   pub goes_on : GoesOn before log
@@ -80,8 +82,9 @@ pub record Steps (opening : Memory) (loses : Bool) (event : Event) (answer : Opt
   pub seen : IsSeen opening after.seen
   pub word : slice_index (words_of (memory_after opening log)) place ≡ found
 
--- The steps of a caller: a load of the page count; a load of the event's word; a compare-exchange of that word, which was to be
--- old, and which loses the try where it isn't made; and a single exchange of it, which is made whatever the word is.
+-- The steps of a caller: a load of the page count; a load of the event's word; a compare-exchange of that word, which
+-- was to be old, and which loses the try where it isn't made; and a single exchange of it, which is made whatever the
+-- word is.
 abbrev pub NotesPages : Memory → Event → Caller → ℕ → Caller → Type 0
 NotesPages opening event before found after =
     Steps opening false event (size_answer opening.max event found) 0 before found after
@@ -103,14 +106,15 @@ abbrev pub StepsAs : Memory → Bool → Event → Option Reply → ℕ → Me �
 StepsAs opening loses event answer place before found after =
     IsOne after × Steps opening loses event answer place (caller_in before.0) found (caller_in after.0)
 
--- A load of the size word, a load of a data word, and a compare-exchange of a word that was to be old, which loses the try
--- where it isn't made.
+-- A load of the size word, a load of a data word, and a compare-exchange of a word that was to be old, which loses the
+-- try where it isn't made.
 abbrev pub NotesAs : Memory → Event → ℕ → Me ℕ View → ℕ → Me ℕ View → Type 0
 NotesAs opening event place before found after =
     StepsAs opening false event (size_answer opening.max event found) place before found after
 
 abbrev pub ReadsAs : Memory → Event → ℕ → Me ℕ View → ℕ → Me ℕ View → Type 0
-ReadsAs opening event place before found after = StepsAs opening false event (word_answer event found) place before found after
+ReadsAs opening event place before found after =
+    StepsAs opening false event (word_answer event found) place before found after
 
 abbrev pub ExchangesAs : Memory → Event → ℕ → ℕ → Me ℕ View → ℕ → Me ℕ View → Type 0
 ExchangesAs opening event old place before found after =

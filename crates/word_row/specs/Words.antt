@@ -1,6 +1,6 @@
 -- A memory as a row of 64-bit words.
 use Rattle.std.specs.Prelude.{ℕ, zero, suc, ◌*◌, ◌<◌, List, [], ◌∷◌, ◌++◌, All, take, drop}
-use Rattle.types.specs.Limits.{page_size}
+use Rattle.types.specs.declared.limits.TheConstants.{PAGE_SIZE}
 use Rattle.shared_memory.specs.Numbers.{le_number, le_bytes}
 use Rattle.shared_memory.specs.Memory.{Memory, pages}
 use Rattle.shared_memory_sequential.specs.Opening.{IsSized}
@@ -22,7 +22,7 @@ bytes_of (word ∷ words) = le_bytes 8 word ++ bytes_of words
 -- The memory of so many pages at most for which words stand.
 abbrev pub memory_of : ℕ → List ℕ → Memory
 memory_of max [] = record { bytes = []; max = max }
-memory_of max (count ∷ words) = record { bytes = take (page_size * count) (bytes_of words); max = max }
+memory_of max (count ∷ words) = record { bytes = take (PAGE_SIZE * count) (bytes_of words); max = max }
 
 -- A memory that can stand in words: it has the sizes of an open one, and each of its bytes is one.
 pub record IsStored (m : Memory) : Type 0 where

@@ -1,9 +1,10 @@
 //! What the page count and the word of an access settle of an event.
 ghost use Rattle.std.specs.Prelude.{◌≡◌, ◌+◌, ◌*◌, ◌%◌, ◌^◌, ◌<◌, ◌≤◌, ◌⊎◌, ◌↔◌, ℕ, true, IsTrue, IsSome, IfSome};
 ghost use Rattle.types.specs.declared.event.Event.TheVariants.{Rmw};
-ghost use Rattle.types.specs.Limits.{page_size, most_pages};
+ghost use Rattle.types.specs.declared.limits.TheConstants.{PAGE_SIZE, MOST_PAGES};
 ghost use Rattle.shared_memory.specs.Events.{IsEvent};
-ghost use Rattle.word_row.specs.Answers.{refusal, size_answer, is_access, end_of, place_of, after_single, IsMadeBy, is_single_rmw};
+ghost use Rattle.word_row.specs.Answers.{refusal, size_answer, is_access, end_of, place_of, after_single, IsMadeBy};
+ghost use Rattle.word_row.specs.Answers.{is_single_rmw};
 ghost use Rattle.word_row.specs.Changes.{IsNext, ReplacesLane};
 
 use crate::Single;
@@ -32,8 +33,8 @@ pub enum Next {
 /// Whether `width` bytes at an address end within so many pages, at most 256. The end may pass the last address.
 #[inline(always)]
 fn ends_within(addr: u64, width: u8, pages: u64) -> bool
-    requires { pages ≤ most_pages }
-    ensures { IsTrue result ↔ (addr + width ≤ page_size * pages) }
+    requires { pages ≤ MOST_PAGES }
+    ensures { IsTrue result ↔ (addr + width ≤ PAGE_SIZE * pages) }
 {
     let length = PAGE * pages;
     addr <= length && u64::from(width) <= length - addr
@@ -42,7 +43,7 @@ fn ends_within(addr: u64, width: u8, pages: u64) -> bool
 /// The refusal of an access of `width` bytes at an address, where it ends past so many pages, at most 256.
 #[inline(always)]
 fn refuse(addr: u64, width: u8, pages: u64) -> Option<Reply>
-    requires { pages ≤ most_pages }
+    requires { pages ≤ MOST_PAGES }
     ensures { result ≡ refusal (addr + width) pages }
 {
     if ends_within(addr, width, pages) {
@@ -55,8 +56,8 @@ fn refuse(addr: u64, width: u8, pages: u64) -> Option<Reply>
 /// Whether an event is an access that lies within so many pages, at most 256.
 #[inline(always)]
 pub fn is_within(event: Event, pages: u64) -> bool
-    requires { pages ≤ most_pages }
-    ensures { IsTrue result ↔ ((is_access event ≡ true) × (end_of event ≤ page_size * pages)) }
+    requires { pages ≤ MOST_PAGES }
+    ensures { IsTrue result ↔ ((is_access event ≡ true) × (end_of event ≤ PAGE_SIZE * pages)) }
 {
     match event {
         Event::Load { reach, .. } | Event::Store { reach, .. } => ends_within(reach, 0, pages),
@@ -71,7 +72,7 @@ pub fn is_within(event: Event, pages: u64) -> bool
 /// an access within bounds and a growth that can succeed. The count is at most 256.
 #[inline(always)]
 pub fn by_size(pages_max: u32, event: Event, pages: u64) -> Option<Reply>
-    requires { pages ≤ most_pages }
+    requires { pages ≤ MOST_PAGES }
     ensures { result ≡ size_answer pages_max event pages }
 {
     match event {

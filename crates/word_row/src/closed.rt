@@ -29,7 +29,8 @@ impl Model for ClosedRow {
 
     ghost view = { λ r. memory_of r.pages_max (slots_items r.closed.words) };
 
-    ghost invariant = { λ r. IsFull r.closed.words × (slots_len r.closed.slots ≡ 0) × StandFor r.pages_max (slots_items r.closed.words) };
+    ghost invariant = { λ r. IsFull r.closed.words × (slots_len r.closed.slots ≡ 0)
+        × StandFor r.pages_max (slots_items r.closed.words) };
 }
 
 impl ClosedRow {

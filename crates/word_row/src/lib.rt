@@ -11,9 +11,10 @@
 //! loads its word, and where it changes that word exchanges it whole, if it is still the one that was loaded. Where
 //! another thread has changed the word meanwhile, the try is lost, and may be made again.
 //!
-//! The rule of such a memory and the kinds of atomic step that it allows are types of `rule.rt` and `single.rt`; what each
-//! step tells stands in `specs/`, and that each keeps the rule in `proofs/`. One history of the whole run exists in the
-//! rule alone: a step of a caller puts the caller's entry behind it, and changes the one word that it is made on.
+//! The rule of such a memory and the kinds of atomic step that it allows are types of `rule.rt` and `single.rt`; what
+//! each step tells stands in `specs/`, and that each keeps the rule in `proofs/`. One history of the whole run exists
+//! in the rule alone: a step of a caller puts the caller's entry behind it, and changes the one word that it is made
+//! on.
 #![tactic(auto)]
 
 mod changes;

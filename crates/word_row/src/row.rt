@@ -1,7 +1,7 @@
 //! The row.
 ghost use Rattle.std.specs.Prelude.{◌≡◌, ◌≢◌, ◌<◌, ◌≤◌, true, None, IfOk, IsOkUnless, All, map};
 ghost use Rattle.types.specs.declared.event.Reply.TheVariants.{Again};
-ghost use Rattle.types.specs.Limits.{most_pages, seat_count};
+ghost use Rattle.types.specs.declared.limits.TheConstants.{MOST_PAGES, SEATS};
 ghost use Rattle.shared_memory.specs.Events.{IsEvent, is_of_queue};
 ghost use Rattle.shared_memory_on_table.specs.Callers.{GoesOn, fresh_from};
 ghost use Rattle.shared_memory_on_table.specs.Rule.{MakesTry, MeetsIn};
@@ -70,7 +70,7 @@ impl<B: Naming> WordRow<B> {
     ) -> Result<(WordRow<B>, Vec<WordSeat<B>>), OpenFault>
         requires table { prepared.table ≡ B.table }
         requires opening { prepared.opening ≡ B.opening }
-        ensures seats { IfOk result (λ r. map (λ s. s.caller) r.1.items ≡ fresh_from seat_count 0) }
+        ensures seats { IfOk result (λ r. map (λ s. s.caller) r.1.items ≡ fresh_from SEATS 0) }
         ensures fault { IsOkUnless result OpenFault.NoMemory }
     {
         let Prepared {
@@ -93,8 +93,8 @@ impl<B: Naming> WordRow<B> {
 
     /// Makes one try of an event, and waits for nobody. A try that another thread's change of the word overtook is
     /// answered `Again`, and may be made again; no try of an event is that a single step on its word makes. An exchange
-    /// that wasn't made counts as a lost try of the seat, so the event isn't tried again here. An event of the queue takes
-    /// the queue right.
+    /// that wasn't made counts as a lost try of the seat, so the event isn't tried again here. An event of the queue
+    /// takes the queue right.
     #[inline(always)]
     pub fn access(&self, seat: &mut WordSeat<B>, event: Event) -> Reply
         requires event { IsEvent event }
@@ -158,7 +158,7 @@ impl<B: Naming> WordRow<B> {
         requires right { is_of_queue event ≡ true → caller.old.has_queue_right ≡ true }
         ensures tried { MakesTry true B.opening None event result.1 caller.old caller.new }
         ensures single { is_single event ≡ true → result.1 ≢ Again }
-        ensures few { result.0 ≤ most_pages }
+        ensures few { result.0 ≤ MOST_PAGES }
         ensures counted { HasPages B.opening caller.new.seen result.0 }
     {
         let pages = tries::note(&self.board.shared, caller, event);

@@ -1,6 +1,6 @@
 //! The seats of a row.
 ghost use Rattle.std.specs.Prelude.{◌≡◌, ◌<◌, ◌≤◌, false, [], IfOk, map};
-ghost use Rattle.types.specs.Limits.{desk_name, most_pages, seat_count};
+ghost use Rattle.types.specs.declared.limits.TheConstants.{DESK_NAME, MOST_PAGES, SEATS};
 ghost use Rattle.shared_memory_on_table.specs.Callers.{fresh_from};
 ghost use Rattle.shared_memory_on_table.specs.Rule.{opened};
 ghost use Rattle.word_row.specs.Rows.{HasPages};
@@ -19,8 +19,8 @@ pub struct WordSeat<B: Naming> {
     /// many pages needs no load of the page count: the count never falls, so the access lies within the memory at
     /// every later point, also where its word is reached. Nothing but such an access goes by it.
     pub(crate) pages: u64,
-    pub ghost known: { caller.name ≤ desk_name },
-    pub ghost few: { pages ≤ most_pages },
+    pub ghost known: { caller.name ≤ DESK_NAME },
+    pub ghost few: { pages ≤ MOST_PAGES },
     pub ghost counted: { HasPages B.opening caller.seen pages },
 }
 
@@ -35,7 +35,7 @@ pub(crate) fn take_seats<B: Naming>(
 ) -> Result<Vec<WordSeat<B>>, AllocError>
     requires row { (row.now.table_id ≡ B.table) × (0 < row.now.table_id.words) }
     requires all { (all.old.table_id ≡ B.table) × (all.old.me ≡ (opened false, [])) }
-    ensures { IfOk result (λ v. map (λ s. s.caller) v.items ≡ fresh_from seat_count 0) }
+    ensures { IfOk result (λ v. map (λ s. s.caller) v.items ≡ fresh_from SEATS 0) }
 {
     let given = shared_memory_on_table::take_seats::<B, OneMemory, MemoryWords>(alloc, row, all)?;
     let mut seats = Vec::with_capacity(alloc, given.len())?;

@@ -1,7 +1,7 @@
 //! Calls of small modules, gone through.
 
 ghost use Rattle.std.specs.Prelude.{◌≤◌};
-ghost use Rattle.types.specs.Limits.{most_fuel};
+ghost use Rattle.types.specs.declared.limits.TheConstants.{MOST_FUEL};
 
 use crate::all_runs::examples::{BROKEN, MUTEX, PETERSON, SEQLOCK, TICKETS, WAKEUP};
 use crate::runs::FUEL;
@@ -21,7 +21,8 @@ pub(crate) const DUMP: u32 = 16;
 /// More states than any of the modules has.
 pub(crate) const MOST: usize = 10_000;
 
-/// A call of a module, and what another enumeration says of it (`bench/endings.py --dump 16`): the endings, and how many states it met.
+/// A call of a module, and what another enumeration says of it (`bench/endings.py --dump 16`): the endings, and how
+/// many states it met.
 pub(crate) struct Gone {
     pub module: &'static [u8],
     pub args: &'static [Value],
@@ -105,7 +106,7 @@ pub(crate) static MODULES: [Gone; 9] = [
 
 /// The call.
 pub(crate) fn call_of(gone: &Gone) -> Call<'static>
-    ensures { result.fuel ≤ most_fuel }
+    ensures { result.fuel ≤ MOST_FUEL }
 {
     Call {
         name: "f",

@@ -4,8 +4,7 @@ use crate::all_runs::rows::{DUMP, Gone, MODULES, MOST, as_of_run, call_of, gone_
 use crate::runs::{LIMIT, load};
 use interp_trait::OpenGate;
 use report_runs::{record_run, run_on_words};
-use search_finds::{Ending, ending_of};
-use search_finds::run_to;
+use search_finds::{Ending, ending_of, run_to};
 use search_parts::Ending as Ended;
 use search_reach::Ended as AllEnded;
 use search_scheduled::run_along;

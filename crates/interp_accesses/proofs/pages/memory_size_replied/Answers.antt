@@ -1,12 +1,12 @@
 use Rattle.std.proofs.Common.{rules, ◌<◌, length, refl, ◌∙◌}
 use Rattle.std.proofs.lemmas.Option.{slice_get_within}
-use Rattle.types.specs.Limits.{most_values}
+use Rattle.types.specs.declared.limits.TheConstants.{MOST_VALUES}
 use Rattle.interp_numeric.specs.Integers.{wrap}
 use Rattle.interp_accesses.proofs.Paging.{size_room, size_replied}
 use Rattle.interp_accesses.proofs.pages.memory_size_replied.Goals as goal
 
 pub push-requires : goal.push-requires
-push-requires c = let h : length c.args.state.now.values.items < most_values = size_room c.args.state.now c.requires in search rules
+push-requires c = let h : length c.args.state.now.values.items < MOST_VALUES = size_room c.args.state.now c.requires in search rules
 
 pub overflow_add-state : goal.overflow_add-state
 overflow_add-state c =

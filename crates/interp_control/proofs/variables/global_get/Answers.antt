@@ -1,6 +1,6 @@
 use Rattle.std.proofs.Common.{rules, ◌≡◌, ◌≢◌, ◌<◌, length, reverse, ◌∷◌, refl, ◌∙◌, ap}
 use Rattle.std.proofs.lemmas.Option.{slice_get_within}
-use Rattle.types.specs.Limits.{most_values}
+use Rattle.types.specs.declared.limits.TheConstants.{MOST_VALUES}
 use Rattle.interp_control.proofs.Slots.{global_get_ready, global_get_full, global_gets}
 use Rattle.interp_control.proofs.variables.global_get.Goals as goal
 
@@ -12,11 +12,11 @@ pub index-value-requires : goal.index-value-requires
 index-value-requires c = let h = global_get_ready c.args.state.now c.args.index c.requires in search rules
 
 pub returns-then-len-eq-MOST_VALUES : goal.returns-then-len-eq-MOST_VALUES
-returns-then-len-eq-MOST_VALUES c = let e : length c.args.state.now.values.items ≡ most_values = search rules in
+returns-then-len-eq-MOST_VALUES c = let e : length c.args.state.now.values.items ≡ MOST_VALUES = search rules in
     λ w k v st. global_get_full w c.args.state.now _ k c.args.index st c.requires e
 
 pub returns : goal.returns
-returns c = let e : length c.args.state.now.values.items ≢ most_values = search rules in
+returns c = let e : length c.args.state.now.values.items ≢ MOST_VALUES = search rules in
     λ w k v st. global_gets w c.args.state.now _ k c.args.index c.index-value.result.now st c.requires
     c.index-value.ensures (c.push.ensures.word ∙ ap (λ z. z ∷ reverse c.args.state.now.values.items) c.word.ensures.word)
     c.word.ensures.in_range e refl refl refl refl

@@ -1,6 +1,6 @@
 use Rattle.std.proofs.Common.{◌≡◌, ◌≤◌, List, length, refl, subst, ap, arith}
 use Rattle.types.specs.declared.event.Entry.{Entry}
-use Rattle.types.specs.Limits.{most_threads}
+use Rattle.types.specs.declared.limits.TheConstants.{MOST_THREADS}
 use Rattle.replay_text.specs.declared.parts.RecordParts.{RecordParts}
 use Rattle.replay_text.specs.declared.version.Version.{Version}
 use Rattle.replay_text.specs.declared.version.Version.TheVariants as versions
@@ -11,7 +11,7 @@ use Rattle.replay_walk.specs.Walked as walked
 use Rattle.replay.proofs.Deciding.{wider, first_misfit, within_log, none_left, is_recorded, is_wrong, within_ends}
 use Rattle.replay.proofs.walking.walk.Goals as goal
 
-few : (r : RecordParts) → IsRecord r → (1 ≤ r.threads) × (r.threads ≤ most_threads)
+few : (r : RecordParts) → IsRecord r → (1 ≤ r.threads) × (r.threads ≤ MOST_THREADS)
 few r kept = (counted r.version r.module_len r.threads r.max_pages kept.numbers.scale).0
 
 small : (v : Version) → header_count v ≤ 8

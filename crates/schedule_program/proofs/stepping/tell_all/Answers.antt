@@ -1,5 +1,5 @@
 use Rattle.std.proofs.Common.{◌≡◌, ◌+◌, refl, ◌∙◌, subst, arith}
-use Rattle.types.specs.Limits.{most_threads}
+use Rattle.types.specs.declared.limits.TheConstants.{MOST_THREADS}
 use Rattle.schedule.specs.System.{put}
 use Rattle.shared_memory.specs.WaitQueue.{answer_due}
 use Rattle.schedule_machine.specs.Runs.{all_hear}
@@ -32,13 +32,13 @@ loop-n-preserved g c =
 
 pub returns-clause-queue : goal.returns-clause-queue
 returns-clause-queue g c =
-    let all : c.loop-n.n ≡ most_threads = omega arith in
+    let all : c.loop-n.n ≡ MOST_THREADS = omega arith in
     told_every c.args.queue.now c.loop-n.queue c.requires.due (subst (λ k. IsToldUntil k c.args.queue.now c.loop-n.queue) all c.loop-n.invariant.queue)
 
 pub returns-clause-threads : goal.returns-clause-threads
 returns-clause-threads g c s f are may =
     let m = g.T.TakesTurns in
-    let all : c.loop-n.n ≡ most_threads = omega arith in
-    are_same m.meaning s c.loop-n.threads.items (told_until s f c.args.queue.now most_threads)
+    let all : c.loop-n.n ≡ MOST_THREADS = omega arith in
+    are_same m.meaning s c.loop-n.threads.items (told_until s f c.args.queue.now MOST_THREADS)
     (all_hear s f c.args.queue.now) (told_all s f c.args.queue.now c.requires.due)
     (subst (λ k. AreThreads m.meaning s c.loop-n.threads.items (told_until s f c.args.queue.now k)) all (c.loop-n.invariant.threads s f are may))

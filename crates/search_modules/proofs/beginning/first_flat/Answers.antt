@@ -1,5 +1,5 @@
 use Rattle.std.proofs.Common.{refl, sym, subst, inl}
-use Rattle.types.specs.Limits.{most_threads}
+use Rattle.types.specs.declared.limits.TheConstants.{MOST_THREADS}
 use Rattle.shared_memory.specs.WaitQueue.{first_queue}
 use Rattle.shared_memory_sequential.specs.Opening.{IsSized}
 use Rattle.interp_machine.specs.State.{At}
@@ -32,7 +32,7 @@ returns-clause-first c =
     let f = main s.valid.now.parts s.opening.items s.max s.main s.args.now s.worker s.callable in
     let rested = rw c.in-Some.is at c.in_ok-main.ensures.rests in
     let at = subst (λ x. RestsAt s.valid.now b (Going (At x)) c.in-Some.main) (sym (f.calls s.args.now)) (rested b f.func_type f.body refl f.function) in
-    let shared = subst (λ l. Shares l c.in_ok-shared.shared (record { memory = record { bytes = l; max = s.max }; queue = first_queue most_threads }))
+    let shared = subst (λ l. Shares l c.in_ok-shared.shared (record { memory = record { bytes = l; max = s.max }; queue = first_queue MOST_THREADS }))
     c.as_slice.ensures.value c.in_ok-shared.ensures in
     begun s.valid.now b s.opening.items c.in-Some.main at (record { shared = c.in_ok-shared.shared; threads = c.in_ok-threads.threads })
     shared c.in_ok-threads.ensures

@@ -1,6 +1,6 @@
 use Rattle.std.proofs.Common.{ℕ, Bool, List, [], ◌∷◌, ◌++◌, ◌+◌, ◌-◌, ◌≡◌, ap, sym, ◌∙◌, arith, append_assoc, length, length-append, map}
 use Rattle.std.proofs.lemmas.List.{map-append}
-use Rattle.types.specs.Limits.{seat_count}
+use Rattle.types.specs.declared.limits.TheConstants.{SEATS}
 use Rattle.atomic_table.specs.Table.{Me}
 use Rattle.shared_memory_on_table.specs.declared.view.Caller.{Caller}
 use Rattle.shared_memory_on_table.specs.declared.view.View.{View}
@@ -16,8 +16,8 @@ loop-name-preserved g c =
     let n : ℕ = c.loop-name.name in
     let i = c.loop-name.invariant in
     let keeps : Bool = g.H.History.has_keeper in
-    let rest : List Caller = fresh_from (seat_count - (n + 1)) (n + 1) in
-    let next : fresh_from (seat_count - n) n ≡ fresh n ∷ rest = next_fresh n (omega arith) in
+    let rest : List Caller = fresh_from (SEATS - (n + 1)) (n + 1) in
+    let next : fresh_from (SEATS - n) n ≡ fresh n ∷ rest = next_fresh n (omega arith) in
     let of_seat : CallerSeat g.row.B.Denot g.B.Naming → Caller = λ s. s.caller in
     let old : List (CallerSeat g.row.B.Denot g.B.Naming) = c.loop-name.seats.items in
     let had : List Caller = map of_seat old in

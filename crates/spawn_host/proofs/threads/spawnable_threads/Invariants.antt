@@ -4,7 +4,7 @@ use Rattle.types.specs.declared.parts.Body.{Body}
 use Rattle.types.specs.declared.value.Value.TheVariants as values
 use Rattle.types.specs.declared.parts.Parts.{Parts}
 use Rattle.std.specs.Prelude.{ℕ, [], ◌∷◌}
-use Rattle.types.specs.Limits.{most_spawned}
+use Rattle.types.specs.declared.limits.TheConstants.{MOST_SPAWNED}
 use Rattle.interp.specs.Starts.{IsFunction}
 use Rattle.interp.specs.declared.thread.Thread.{Thread}
 use Rattle.interp.specs.Threads.{meaning_in}
@@ -19,6 +19,6 @@ Calls m own fuel x =
 abbrev pub invariant-loop : goal.invariant-loop
 invariant-loop l = record {
   count : vec_len l.threads ≡ l.counter;
-  room : vec_capacity l.threads ≡ most_spawned;
+  room : vec_capacity l.threads ≡ MOST_SPAWNED;
   calls : All (Calls l.valid.parts l.own l.fuel) l.threads.items;
 }

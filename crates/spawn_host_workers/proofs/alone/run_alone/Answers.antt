@@ -1,7 +1,7 @@
 use Rattle.std.proofs.Common.{◌∷◌, ◌++◌, [], List, refl, ◌∙◌, ap}
 use Rattle.shared_memory.specs.History.{entries_of, of_queue}
 use Rattle.types.specs.declared.outcome.ThreadReport.{ThreadReport}
-use Rattle.types.specs.Limits.{desk_name}
+use Rattle.types.specs.declared.limits.TheConstants.{DESK_NAME}
 use Rattle.spawn_host_workers.specs.OverMemory.{over}
 use Rattle.spawn_host_workers.proofs.OneList.{Unpacked, IsDeskSeat, lead_may_ask, desk_new}
 use Rattle.spawn_host_workers.proofs.Unspawned.{composed_alone}
@@ -30,7 +30,7 @@ pub open-desk-requires-clause-quiet : goal.open-desk-requires-clause-quiet
 open-desk-requires-clause-quiet g c κs within = ap of_queue (desk g (goal.at.open-desk-requires-clause-quiet g c).After-deal-seat).fresh
 
 pub open-desk-requires-clause-silent : goal.open-desk-requires-clause-silent
-open-desk-requires-clause-silent g c κs within = ap (entries_of desk_name) (desk g (goal.at.open-desk-requires-clause-silent g c).After-deal-seat).fresh
+open-desk-requires-clause-silent g c κs within = ap (entries_of DESK_NAME) (desk g (goal.at.open-desk-requires-clause-silent g c).After-deal-seat).fresh
 
 pub run_thread-outcome-requires-clause-free : goal.run_thread-outcome-requires-clause-free
 run_thread-outcome-requires-clause-free g c κs within =

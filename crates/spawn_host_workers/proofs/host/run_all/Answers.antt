@@ -1,6 +1,6 @@
 use Rattle.std.proofs.Common.{arith, ap, refl, sym, ◌∙◌, ◌≡◌, vec_len}
 use Rattle.shared_memory.specs.History.{entries_of, of_queue}
-use Rattle.types.specs.Limits.{most_threads, desk_name}
+use Rattle.types.specs.declared.limits.TheConstants.{MOST_THREADS, DESK_NAME}
 use Rattle.spawn_host_workers.specs.OverMemory.{over}
 use Rattle.spawn_host_workers.specs.Composed.{seats_of}
 use Rattle.spawn_host_workers.proofs.OneList.{Unpacked, IsDeskSeat, lead_may_ask, workers_new, desk_new, crew_length, composed}
@@ -29,7 +29,7 @@ pub open-desk-requires-clause-quiet : goal.open-desk-requires-clause-quiet
 open-desk-requires-clause-quiet g c κs within = ap of_queue (desk g (goal.at.open-desk-requires-clause-quiet g c).After-deal-seat).fresh
 
 pub open-desk-requires-clause-silent : goal.open-desk-requires-clause-silent
-open-desk-requires-clause-silent g c κs within = ap (entries_of desk_name) (desk g (goal.at.open-desk-requires-clause-silent g c).After-deal-seat).fresh
+open-desk-requires-clause-silent g c κs within = ap (entries_of DESK_NAME) (desk g (goal.at.open-desk-requires-clause-silent g c).After-deal-seat).fresh
 
 pub run_threads-requires-clause-start : goal.run_threads-requires-clause-start
 run_threads-requires-clause-start g c κs within =
@@ -52,7 +52,7 @@ bring_home-requires-clause-room g c κs within =
     let ends = c.in-Ok-run_threads.ends in
     let count = crew_length (over m c.args.memory.now) t.meaning c.args.first c.deal-seat.result.first c.args.spawned.items
     c.deal-seat.result.workers.items ends.items c.in-Ok-run_threads.ensures in
-    let here : vec_len ends ≡ most_threads = omega (arith, count, ends.ok.0, c.deal-seat.ensures.len) in (
+    let here : vec_len ends ≡ MOST_THREADS = omega (arith, count, ends.ok.0, c.deal-seat.ensures.len) in (
       omega (arith, here, c.in-Ok.ensures.len, c.in-Ok.ensures.capacity),
       omega (arith, here, c.in-Ok-with_capacity.ensures.len, c.in-Ok-with_capacity.ensures.capacity),
     )

@@ -1,6 +1,6 @@
 use Rattle.std.proofs.Common.{◌+◌, refl, sym, ◌∙◌, ap, subst}
 use Rattle.std.specs.Prelude.{cond, nat_lt}
-use Rattle.types.specs.Limits.{most_threads}
+use Rattle.types.specs.declared.limits.TheConstants.{MOST_THREADS}
 use Rattle.shared_memory.specs.WaitQueue.{next_id, answer_due, after_question}
 use Rattle.shared_memory.proofs.Lengths.{due_length_question}
 use Rattle.schedule.specs.Scheduled.{or_started}
@@ -33,7 +33,7 @@ returns-in-Spawn-clause-next g c =
     let dues = sym (due_length_question q c.args.n c.args.question c.args.loaded) ∙ c.requires.due in
     let after = c.start_next.ensures.queue ∙ (c.tell_all.ensures.queue ∙ ap without_dues c.ask.ensures.after) in
     c.start_next.ensures.next
-    ∙ (ap (λ k. cond (nat_lt k most_threads) (k + 1) k) c.requires.next
+    ∙ (ap (λ k. cond (nat_lt k MOST_THREADS) (k + 1) k) c.requires.next
     ∙ sym (ap next_id after ∙ (next_question q dues c.args.n c.args.question c.args.loaded ∙ ap (λ z. next_after (next_id q) z) c.in-Spawn.is)))
 
 pub returns-in-Spawn-clause-threads : goal.returns-in-Spawn-clause-threads

@@ -1,6 +1,6 @@
 use Rattle.std.proofs.Common.{◌≡◌, ◌++◌, sym, ◌∙◌, ap, arith, append-nil, add-one, vec_len, vec_capacity}
 use Rattle.std.specs.Prelude.{option_to_list}
-use Rattle.types.specs.Limits.{most_threads}
+use Rattle.types.specs.declared.limits.TheConstants.{MOST_THREADS}
 use Rattle.schedule_program.specs.Runs.{reports_below}
 use Rattle.schedule_program.proofs.Slots.{none_of}
 use Rattle.schedule_program.proofs.stepping.Machine.reports.Goals as goal
@@ -35,5 +35,5 @@ loop-n-preserved g c =
 
 pub returns : goal.returns
 returns g c s w at =
-    let all : c.loop-n.n ≡ most_threads = omega arith in
+    let all : c.loop-n.n ≡ MOST_THREADS = omega arith in
     c.loop-n.invariant.reports s w at ∙ ap (λ k. reports_below k s.fuel w.threads) all

@@ -1,5 +1,5 @@
 use Rattle.std.proofs.Common.{ap, ◌∙◌}
-use Rattle.types.specs.Limits.{desk_name}
+use Rattle.types.specs.declared.limits.TheConstants.{DESK_NAME}
 use Rattle.shared_memory.specs.History.{entries_of}
 use Rattle.waiters_desk.proofs.Entering.{beside_from, met_beside, met_waiting, met_silent, collect_beside, collect_did}
 use Rattle.waiters_desk.proofs.AtOnce.{due_waiting}
@@ -47,7 +47,7 @@ pub invariant_of-self-clause-silent : goal.invariant_of-self-clause-silent
 invariant_of-self-clause-silent g c =
     let self = c.args.self.now in
     let first = met_silent _ _ _ _ _ _ _ _ c.meet.ensures.longer self.named self.silent in
-    let both = ap (entries_of desk_name) c.meet.ensures.one ∙ first in
+    let both = ap (entries_of DESK_NAME) c.meet.ensures.one ∙ first in
     let named = c.meet.ensures.names.1 ∙ self.named in
     rw (c.meet-2.ensures.one) (met_silent _ _ _ _ _ _ _ _ c.meet-2.ensures.longer named both)
 
