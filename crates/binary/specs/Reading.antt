@@ -1,6 +1,6 @@
 -- Sections and modules, read from left to right: the value, or the first fault with its offset.
 use Rattle.std.specs.Prelude.{ℕ, zero, suc, ◌-◌, List, [], ◌∷◌, ◌++◌, length, replicate, Bool, true, false, Option}
-use Rattle.std.specs.Prelude.{Some, None, Result, Ok, Err, nat_lt, nat_eq, if◌then◌else◌}
+use Rattle.std.specs.Prelude.{Some, None, Result, Ok, Err, MatchResult, ◌≡◌, slice_index_or, nat_lt, nat_eq, if◌then◌else◌}
 use Rattle.types.specs.declared.value.ValType.{ValType}
 use Rattle.types.specs.declared.parts.Limits.{Limits}
 use Rattle.types.specs.declared.parts.FuncType.{FuncType}
@@ -19,8 +19,9 @@ use Rattle.binary_wire.specs.declared.bounds.Bounds.{Bounds}
 use Rattle.binary_wire.specs.declared.fault.Fault.{Fault}
 use Rattle.binary_wire.specs.declared.fault.Fault.TheVariants as faults
 use Rattle.binary_wire.specs.declared.fault.Refusal.{Refusal}
+use Rattle.binary_wire.specs.declared.fault.ReadFault.{ReadFault}
 use Rattle.binary_wire.specs.Faults.{refusal, refused, inside, input}
-use Rattle.binary_wire.specs.Reading.{Reading, ◌>>=◌, some_or, byte_at, tag_at, end_at, front_is, slice_at, u32_at, u32_within_at}
+use Rattle.binary_wire.specs.Reading.{Reading, ◌>>=◌, Refuses, some_or, byte_at, tag_at, end_at, front_is, slice_at, u32_at, u32_within_at}
 use Rattle.binary_wire.specs.Reading.{block_at, name_at, sized_at, vector_at}
 use Rattle.binary_instructions.specs.Reading.{val_type_at, expression_at}
 use Rattle.binary.specs.declared.kinds.ExternalKind.{ExternalKind}
@@ -32,6 +33,7 @@ use Rattle.binary.specs.declared.parts.Stores.{Stores}
 use Rattle.binary.specs.declared.parts.Contents.{Contents}
 use Rattle.binary.specs.Kinds.{external_kind_of, mutability_of, table_flag_of, memory_flag_of, min_limits, min_max_limits, exported}
 use Rattle.binary.specs.Counts.{function_room}
+use Rattle.binary.specs.Grammar.{IsModuleText}
 use Rattle.types.specs.Within.{param_count}
 use Rattle.types.specs.Limits.{most_pages, most_module_bytes, most_body_bytes, most_items, most_functions}
 use Rattle.types.specs.Limits.{most_elements, most_params, most_locals}
@@ -39,6 +41,10 @@ use Rattle.types.specs.Limits.{most_elements, most_params, most_locals}
 -- A byte that has a meaning.
 unfoldable pub coded_at : {A : Type 0} → Fault → (ℕ → Option A) → Reading A
 coded_at kind code s bytes = byte_at s bytes >>= λ b. some_or (refused kind s bytes) (code b.0) >>= λ x. Ok (x, b.1)
+
+-- What an import or an export is.
+abbrev pub external_kind_at : Reading ExternalKind
+external_kind_at = coded_at faults.UnknownByte external_kind_of
 
 -- What stands behind the flag of limits.
 unfoldable pub limits_after_at : ℕ → ℕ → LimitsFlag → Reading Limits
@@ -84,7 +90,7 @@ described_at kinds.Memory s bytes = memory_at s bytes >>= λ l. Ok (imports.Memo
 described_at kinds.Global s bytes = global_type_at s bytes >>= λ g. Ok (imports.Global g.0, g.1)
 
 unfoldable pub import_desc_at : Reading ImportDesc
-import_desc_at s bytes = coded_at faults.UnknownByte external_kind_of s bytes >>= λ kind. described_at kind.0 s kind.1
+import_desc_at s bytes = external_kind_at s bytes >>= λ kind. described_at kind.0 s kind.1
 
 unfoldable pub import_at : Reading Import
 import_at s bytes = do
@@ -95,7 +101,7 @@ import_at s bytes = do
 
 unfoldable pub export_desc_at : Reading ExportDesc
 export_desc_at s bytes =
-    coded_at faults.UnknownByte external_kind_of s bytes >>= λ kind. u32_at s kind.1 >>= λ n. Ok (exported kind.0 n.0, n.1)
+    external_kind_at s bytes >>= λ kind. u32_at s kind.1 >>= λ n. Ok (exported kind.0 n.0, n.1)
 
 unfoldable pub export_at : Reading Export
 export_at s bytes = do
@@ -142,6 +148,10 @@ body_at params s bytes = do
   b ← body_contents_at params (inside s contents.1) contents.0
   whole ← end_at (inside s contents.1) b.1
   Ok (b.0, contents.1)
+
+-- The body of the function with this place among those of the module.
+abbrev pub body_of_at : List FuncType → List ℕ → ℕ → Reading Body
+body_of_at types functions place = body_at (param_count types (slice_index_or functions place 0))
 
 -- A body for each function.
 unfoldable pub bodies_at : List FuncType → List ℕ → Reading (List Body)
@@ -242,6 +252,14 @@ parts_of size signatures stores contents = record {
   length = size;
 }
 
+-- What is behind the last section of a module with so many functions and so many bodies: custom sections, and nothing else.
+-- There have to be as many functions as bodies.
+abbrev pub end_of_module_at : ℕ → ℕ → Bounds → List ℕ → Result Bool Refusal
+end_of_module_at functions bodies s bytes = do
+  rest ← customs_at (length bytes) s bytes
+  whole ← finish_at s rest
+  if nat_eq functions bodies then Ok true else Err (refused faults.CountsDiffer s rest)
+
 -- The contents of a module with these types and functions, one body for each: custom sections may stand behind them, and nothing else.
 unfoldable pub last_at : List FuncType → List ℕ → Bounds → List ℕ → Result Contents Refusal
 last_at types functions s bytes = do
@@ -263,3 +281,7 @@ unfoldable pub module_at : List ℕ → Result Parts Refusal
 module_at bytes =
     if nat_lt most_module_bytes (length bytes) then Err (refusal faults.Limit most_module_bytes)
     else (opening_at (input bytes) bytes >>= λ opened. sections_at (length bytes) (input bytes) opened)
+
+-- Where the bytes spell a module, it is the one that is read, or memory ran out.
+abbrev pub FindsModule : List ℕ → Result Parts ReadFault → Type 0
+FindsModule bytes result = (m : Parts) → IsModuleText bytes m → MatchResult result (λ found. found ≡ m) (λ e. Refuses e → ⊥)
