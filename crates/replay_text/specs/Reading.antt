@@ -39,6 +39,13 @@ u32_at = number_then (2 ^ 32 - 1) (32 ∷ [])
 abbrev pub u64_at : Reader ℕ
 u64_at = number_then (2 ^ 64 - 1) (32 ∷ [])
 
+-- An address, a width, and one or two numbers of 64 bits.
+abbrev pub access_numbers_at : Reader (ℕ × (ℕ × ℕ))
+access_numbers_at = both u64_at (both u8_at u64_at)
+
+abbrev pub four_numbers_at : Reader (ℕ × (ℕ × (ℕ × ℕ)))
+four_numbers_at = both u64_at (both u8_at (both u64_at u64_at))
+
 abbrev pub op_at : Reader RmwOp
 op_at =
     first (word_for ops.Add (codes "add "))
@@ -49,18 +56,18 @@ op_at =
     (word_for ops.Xchg (codes "xchg "))))))
 
 abbrev pub load_at : Reader Event
-load_at = made (λ x. Some (Load x.0 (x.1).0 (x.1).1)) (behind (codes "load ") (both u64_at (both u8_at u64_at)))
+load_at = made (λ x. Some (Load x.0 (x.1).0 (x.1).1)) (behind (codes "load ") access_numbers_at)
 
 abbrev pub store_at : Reader Event
 store_at = made (λ x. Some (Store x.0 (x.1).0 ((x.1).1).0 ((x.1).1).1))
-    (behind (codes "store ") (both u64_at (both u8_at (both u64_at u64_at))))
+    (behind (codes "store ") four_numbers_at)
 
 abbrev pub rmw_at : Reader Event
-rmw_at = made (λ x. Some (Rmw x.0 (x.1).0 ((x.1).1).0 ((x.1).1).1)) (behind (codes "rmw ") (both op_at (both u64_at (both u8_at u64_at))))
+rmw_at = made (λ x. Some (Rmw x.0 (x.1).0 ((x.1).1).0 ((x.1).1).1)) (behind (codes "rmw ") (both op_at access_numbers_at))
 
 abbrev pub cmpxchg_at : Reader Event
 cmpxchg_at = made (λ x. Some (Cmpxchg x.0 (x.1).0 ((x.1).1).0 ((x.1).1).1))
-    (behind (codes "cmpxchg ") (both u64_at (both u8_at (both u64_at u64_at))))
+    (behind (codes "cmpxchg ") four_numbers_at)
 
 abbrev pub wait_at : Reader Event
 wait_at = made (λ x. Some (Ask (Wait x.0 (x.1).0 ((x.1).1).0 ((x.1).1).1)))
@@ -224,6 +231,10 @@ pages_at max_pages = behind (codes "pages ") (number_then max_pages (10 ∷ []))
 
 abbrev pub last_line : List ℕ
 last_line = codes "finish" ++ 10 ∷ []
+
+-- The pages after the run, and the last line.
+abbrev pub last_lines_at : ℕ → Reader ℕ
+last_lines_at max_pages bytes = pages_at max_pages bytes >>= λ pages. after last_line pages.1 >>= λ rest. Some (pages.0, rest)
 
 abbrev pub Header : Type 0
 Header = Scale × (List ℕ × (List Value × (ℕ × ℕ)))

@@ -1,10 +1,9 @@
 //! Reading a record.
 
-ghost use Rattle.std.specs.Prelude.{◌≡◌, ◌⊎◌, IfOk};
+ghost use Rattle.std.specs.Prelude.{◌≡◌, IfOk};
 ghost use Rattle.replay_text.specs.Faults.{Gives};
 ghost use Rattle.replay_text.specs.Reading.{record_at};
-ghost use Rattle.replay_text.specs.Text.{record_text, IsRecord};
-ghost use Rattle.replay_text.specs.declared.parts.RecordParts.{RecordParts};
+ghost use Rattle.replay_text.specs.Text.{record_text, IsRecord, FindsRecord};
 
 use crate::body::body_in;
 use crate::fault::RecordFault;
@@ -49,7 +48,7 @@ fn parts_in(alloc: Global, bytes: &[u8]) -> Result<RecordParts, RecordFault>
 #[tactic(auto, using(crate::proofs::Whole::record_takes, crate::proofs::Whole::read_found))]
 pub fn read_record(alloc: Global, bytes: &[u8]) -> Result<Record, RecordFault>
     ensures ok { IfOk result (λ r. IsRecord r × (bytes.now ≡ record_text r)) }
-    ensures found { (r : RecordParts) → IsRecord r → bytes.now ≡ record_text r → (result ≡ Ok r) ⊎ (result ≡ Err RecordFault.NoMemory) }
+    ensures found { FindsRecord bytes.now result }
 {
     match parts_in(alloc, bytes) {
         Ok(parts) => Ok(Record::from_tested(parts)),
