@@ -2,8 +2,8 @@
 //! of an id or a name, what functions are called, and where the instructions of a function stand, as offsets from the start of the
 //! code section's contents.
 //!
-//! Nothing is asked of the bytes: where they are malformed, there is no section. `specs/Places.antt` computes the offsets from the
-//! bytes, beside the reading of crate `binary_instructions`.
+//! Nothing is asked of the bytes: where they are malformed, there is no section. The offsets of instructions are those
+//! that the reading of crate `binary_instructions` keeps of each (`specs/Places.antt`).
 #![tactic(auto)]
 
 mod bodies;

@@ -2,10 +2,10 @@
 
 ghost use Rattle.std.specs.Prelude.{◌≡◌, find, option_map, IfOk};
 ghost use Rattle.binary_wire.specs.Reading.{GivesInMemory, vector_at};
-ghost use Rattle.show_places.specs.Names.{named_at, IsNames, is_of, exports_it, IsCalled};
+ghost use Rattle.show_places.specs.Names.{named_at, IsNames, is_of, exports_it, exported_as, IsCalled};
 
-use binary_wire::{Item, ReadFault, Reader, read_vector};
 use crate::{custom_section, subsection_of};
+use binary_wire::{Item, ReadFault, Reader, read_vector};
 use std::alloc::{AllocError, Global};
 use std::fmt::{self, Write};
 use types::{Export, ExportDesc, Name, Sequence};
@@ -95,7 +95,7 @@ fn name_in(names: &[Named], index: u32) -> Option<&str>
 }
 
 fn exported_name(exports: &[Export], index: u32) -> Option<&str>
-    ensures { option_map (λ t. t.now) result ≡ option_map (λ e. e.name) (find (exports_it index) exports.now) }
+    ensures { option_map (λ t. t.now) result ≡ exported_as exports.now index }
 {
     for export in exports {
         if exports_it(export, index) {
