@@ -20,11 +20,12 @@ use Rattle.binary.specs.Reading.{groups_at, body_at, bodies_at, custom_at, custo
 
 -- ---- what is read within bounds that a reader has kept
 
-pub kept : {A : Type 0} (reading : Bounds → List ℕ → A) (s t : Bounds) (bytes : List ℕ) (x : A) → t ≡ s → reading t bytes ≡ x → reading s bytes ≡ x
+pub kept : {A : Type 0} (reading : Bounds → List ℕ → A) (s t : Bounds) (bytes : List ℕ) (x : A)
+    → t ≡ s → reading t bytes ≡ x → reading s bytes ≡ x
 kept reading s t bytes x same read = subst (λ (b : Bounds). reading b bytes ≡ x) same read
 
-pub fails_kept : {A : Type 0} (reading : Bounds → List ℕ → Result A Refusal) (s t : Bounds) (bytes : List ℕ) (e : ReadFault)
-    → t ≡ s → Fails e (reading t bytes) → Fails e (reading s bytes)
+pub fails_kept : {A : Type 0} (reading : Bounds → List ℕ → Result A Refusal) (s t : Bounds) (bytes : List ℕ)
+    (e : ReadFault) → t ≡ s → Fails e (reading t bytes) → Fails e (reading s bytes)
 fails_kept reading s t bytes e same read = subst (λ (b : Bounds). Fails e (reading b bytes)) same read
 
 -- ---- groups of locals

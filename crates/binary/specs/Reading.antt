@@ -1,6 +1,7 @@
 -- Sections and modules, read from left to right: the value, or the first fault with its offset.
 use Rattle.std.specs.Prelude.{ℕ, zero, suc, ◌-◌, List, [], ◌∷◌, ◌++◌, length, replicate, Bool, true, false, Option}
-use Rattle.std.specs.Prelude.{Some, None, Result, Ok, Err, MatchResult, ◌≡◌, slice_index_or, nat_lt, nat_eq, if◌then◌else◌}
+use Rattle.std.specs.Prelude.{Some, None, Result, Ok, Err, MatchResult, slice_index_or, nat_lt, nat_eq, if◌then◌else◌}
+use Rattle.std.specs.Prelude.{◌≡◌}
 use Rattle.types.specs.declared.value.ValType.{ValType}
 use Rattle.types.specs.declared.parts.Limits.{Limits}
 use Rattle.types.specs.declared.parts.FuncType.{FuncType}
@@ -21,7 +22,8 @@ use Rattle.binary_wire.specs.declared.fault.Fault.TheVariants as faults
 use Rattle.binary_wire.specs.declared.fault.Refusal.{Refusal}
 use Rattle.binary_wire.specs.declared.fault.ReadFault.{ReadFault}
 use Rattle.binary_wire.specs.Faults.{refusal, refused, inside, input}
-use Rattle.binary_wire.specs.Reading.{Reading, ◌>>=◌, Refuses, some_or, byte_at, tag_at, end_at, front_is, slice_at, u32_at, u32_within_at}
+use Rattle.binary_wire.specs.Reading.{Reading, ◌>>=◌, Refuses, some_or, byte_at, tag_at, end_at, front_is, slice_at}
+use Rattle.binary_wire.specs.Reading.{u32_at, u32_within_at}
 use Rattle.binary_wire.specs.Reading.{block_at, name_at, sized_at, vector_at}
 use Rattle.binary_instructions.specs.Reading.{val_type_at, expression_at}
 use Rattle.binary.specs.declared.kinds.ExternalKind.{ExternalKind}
@@ -252,8 +254,8 @@ parts_of size signatures stores contents = record {
   length = size;
 }
 
--- What is behind the last section of a module with so many functions and so many bodies: custom sections, and nothing else.
--- There have to be as many functions as bodies.
+-- What is behind the last section of a module with so many functions and so many bodies: custom sections, and nothing
+-- else. There have to be as many functions as bodies.
 abbrev pub end_of_module_at : ℕ → ℕ → Bounds → List ℕ → Result Bool Refusal
 end_of_module_at functions bodies s bytes = do
   rest ← customs_at (length bytes) s bytes
@@ -284,4 +286,5 @@ module_at bytes =
 
 -- Where the bytes spell a module, it is the one that is read, or memory ran out.
 abbrev pub FindsModule : List ℕ → Result Parts ReadFault → Type 0
-FindsModule bytes result = (m : Parts) → IsModuleText bytes m → MatchResult result (λ found. found ≡ m) (λ e. Refuses e → ⊥)
+FindsModule bytes result =
+    (m : Parts) → IsModuleText bytes m → MatchResult result (λ found. found ≡ m) (λ e. Refuses e → ⊥)

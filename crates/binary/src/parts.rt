@@ -4,7 +4,8 @@ ghost use Rattle.std.specs.Prelude.{◌≡◌, true, IfOk};
 ghost use Rattle.binary_wire.specs.Reading.{Gives, GivesInMemory, GivesNextInMemory, read_at};
 ghost use Rattle.binary.specs.Counts.{function_room};
 ghost use Rattle.binary.specs.Grammar.{IsModuleText};
-ghost use Rattle.binary.specs.Reading.{signatures_at, stores_at, contents_at, end_of_module_at, last_at, parts_of, sections_at, module_at, FindsModule};
+ghost use Rattle.binary.specs.Reading.{signatures_at, stores_at, contents_at, end_of_module_at, last_at, parts_of};
+ghost use Rattle.binary.specs.Reading.{sections_at, module_at, FindsModule};
 ghost use Rattle.types.specs.declared.parts.Parts.{Parts};
 
 use crate::externals::{ExportItem, ImportItem};

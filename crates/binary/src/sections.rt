@@ -1,7 +1,8 @@
 //! Sections, with custom sections before them.
 
 ghost use Rattle.std.specs.Prelude.{◌≡◌, length, true};
-ghost use Rattle.binary_wire.specs.Reading.{Gives, GivesNext, GivesNextAs, GivesNextInMemory, PassesOver, read_at, sized_at, vector_at};
+ghost use Rattle.binary_wire.specs.Reading.{Gives, GivesNext, GivesNextAs, GivesNextInMemory, PassesOver, read_at};
+ghost use Rattle.binary_wire.specs.Reading.{sized_at, vector_at};
 ghost use Rattle.binary.specs.Reading.{custom_at, customs_at, part_at, section_at, start_at, code_at, finish_at};
 
 use crate::bodies::read_code_section;

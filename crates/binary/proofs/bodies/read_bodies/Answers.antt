@@ -10,8 +10,9 @@ returns-in_err-body-clause-gives c =
     rw (p.1, p.2) (bodies_end c.args.types.now c.args.functions.now 0 c.in_err-body.field-0.0 c.loop-i.bodies.items
     c.loop-i.i c.args.reader.now.bounds c.loop-i.reader.rest.now
     (bodies_at c.args.types.now c.args.functions.now c.args.reader.now.bounds c.args.reader.now.rest.now)
-    (search (rules, arith)) (fails_kept (body_of_at c.args.types.now c.args.functions.now c.loop-i.i) c.args.reader.now.bounds c.loop-i.reader.bounds c.loop-i.reader.rest.now
-    c.in_err-body.field-0.0 c.loop-i.invariant.keeps c.in_err-body.ensures.gives) c.loop-i.invariant.so_far)
+    (search (rules, arith)) (fails_kept (body_of_at c.args.types.now c.args.functions.now c.loop-i.i)
+    c.args.reader.now.bounds c.loop-i.reader.bounds c.loop-i.reader.rest.now c.in_err-body.field-0.0
+    c.loop-i.invariant.keeps c.in_err-body.ensures.gives) c.loop-i.invariant.so_far)
 
 pub loop-i-preserved : goal.loop-i-preserved
 loop-i-preserved c = record {
@@ -19,8 +20,9 @@ loop-i-preserved c = record {
   so_far = rw c.in_ok-push.ensures.items (bodies_on c.args.types.now c.args.functions.now 0 c.loop-i.bodies.items
       c.loop-i.i c.args.reader.now.bounds c.loop-i.reader.rest.now c.in_ok-body.body _
       (bodies_at c.args.types.now c.args.functions.now c.args.reader.now.bounds c.args.reader.now.rest.now)
-      (search (rules, arith)) (kept (body_of_at c.args.types.now c.args.functions.now c.loop-i.i) c.args.reader.now.bounds c.loop-i.reader.bounds c.loop-i.reader.rest.now
-      _ c.loop-i.invariant.keeps c.in_ok-body.ensures.gives) c.loop-i.invariant.so_far);
+      (search (rules, arith)) (kept (body_of_at c.args.types.now c.args.functions.now c.loop-i.i)
+      c.args.reader.now.bounds c.loop-i.reader.bounds c.loop-i.reader.rest.now _
+      c.loop-i.invariant.keeps c.in_ok-body.ensures.gives) c.loop-i.invariant.so_far);
 }
 
 pub returns-clause-gives : goal.returns-clause-gives

@@ -12,7 +12,8 @@ returns-in_err-number-clause-gives c =
     rw (p.1, p.2) (groups_end_number c.in_err-number.field-0.0 c.loop.locals.items c.args.count c.loop.counter
     c.loop.left c.args.reader.now.bounds c.loop.reader.rest.now
     (groups_at c.args.count c.args.room c.args.reader.now.bounds c.args.reader.now.rest.now)
-    c.loop-test.true (kept (u32_within_at c.loop.left) c.args.reader.now.bounds c.loop.reader.bounds c.loop.reader.rest.now _ c.loop.invariant.keeps c.in_err-number.ensures.gives) c.loop.invariant.so_far)
+    c.loop-test.true (kept (u32_within_at c.loop.left) c.args.reader.now.bounds c.loop.reader.bounds
+    c.loop.reader.rest.now _ c.loop.invariant.keeps c.in_err-number.ensures.gives) c.loop.invariant.so_far)
 
 pub returns-in_err-val_type-clause-gives : goal.returns-in_err-val_type-clause-gives
 returns-in_err-val_type-clause-gives c =
@@ -20,8 +21,10 @@ returns-in_err-val_type-clause-gives c =
     rw (p.1, p.2) (groups_end_type c.in_err-val_type.field-0.0 c.loop.locals.items c.args.count c.loop.counter
     c.loop.left c.in_ok-number.number c.args.reader.now.bounds c.loop.reader.rest.now _
     (groups_at c.args.count c.args.room c.args.reader.now.bounds c.args.reader.now.rest.now) c.loop-test.true
-    (kept (u32_within_at c.loop.left) c.args.reader.now.bounds c.loop.reader.bounds c.loop.reader.rest.now _ c.loop.invariant.keeps c.in_ok-number.ensures.gives)
-    (kept val_type_at c.args.reader.now.bounds _ _ _ (c.in_ok-number.ensures.keeps ∙ c.loop.invariant.keeps) c.in_err-val_type.ensures.gives) c.loop.invariant.so_far)
+    (kept (u32_within_at c.loop.left) c.args.reader.now.bounds c.loop.reader.bounds c.loop.reader.rest.now _
+    c.loop.invariant.keeps c.in_ok-number.ensures.gives)
+    (kept val_type_at c.args.reader.now.bounds _ _ _ (c.in_ok-number.ensures.keeps ∙ c.loop.invariant.keeps)
+    c.in_err-val_type.ensures.gives) c.loop.invariant.so_far)
 
 pub loop-preserved : goal.loop-preserved
 loop-preserved c = record {
@@ -29,8 +32,10 @@ loop-preserved c = record {
   so_far = rw c.in_ok-push_locals.ensures (groups_on c.loop.locals.items c.args.count c.loop.counter c.loop.left
       c.in_ok-number.number c.args.reader.now.bounds c.loop.reader.rest.now _ _ c.in_ok-val_type.val_type
       (groups_at c.args.count c.args.room c.args.reader.now.bounds c.args.reader.now.rest.now) c.loop-test.true
-      (kept (u32_within_at c.loop.left) c.args.reader.now.bounds c.loop.reader.bounds c.loop.reader.rest.now _ c.loop.invariant.keeps c.in_ok-number.ensures.gives)
-      (kept val_type_at c.args.reader.now.bounds _ _ _ (c.in_ok-number.ensures.keeps ∙ c.loop.invariant.keeps) c.in_ok-val_type.ensures.gives) c.loop.invariant.so_far);
+      (kept (u32_within_at c.loop.left) c.args.reader.now.bounds c.loop.reader.bounds c.loop.reader.rest.now _
+      c.loop.invariant.keeps c.in_ok-number.ensures.gives)
+      (kept val_type_at c.args.reader.now.bounds _ _ _ (c.in_ok-number.ensures.keeps ∙ c.loop.invariant.keeps)
+      c.in_ok-val_type.ensures.gives) c.loop.invariant.so_far);
 }
 
 pub returns-clause-gives : goal.returns-clause-gives
