@@ -63,7 +63,8 @@ store_at = made (λ x. Some (Store x.0 (x.1).0 ((x.1).1).0 ((x.1).1).1))
     (behind (codes "store ") four_numbers_at)
 
 abbrev pub rmw_at : Reader Event
-rmw_at = made (λ x. Some (Rmw x.0 (x.1).0 ((x.1).1).0 ((x.1).1).1)) (behind (codes "rmw ") (both op_at access_numbers_at))
+rmw_at = made (λ x. Some (Rmw x.0 (x.1).0 ((x.1).1).0 ((x.1).1).1))
+    (behind (codes "rmw ") (both op_at access_numbers_at))
 
 abbrev pub cmpxchg_at : Reader Event
 cmpxchg_at = made (λ x. Some (Cmpxchg x.0 (x.1).0 ((x.1).1).0 ((x.1).1).1))
@@ -234,7 +235,8 @@ last_line = codes "finish" ++ 10 ∷ []
 
 -- The pages after the run, and the last line.
 abbrev pub last_lines_at : ℕ → Reader ℕ
-last_lines_at max_pages bytes = pages_at max_pages bytes >>= λ pages. after last_line pages.1 >>= λ rest. Some (pages.0, rest)
+last_lines_at max_pages bytes =
+    pages_at max_pages bytes >>= λ pages. after last_line pages.1 >>= λ rest. Some (pages.0, rest)
 
 abbrev pub Header : Type 0
 Header = Scale × (List ℕ × (List Value × (ℕ × ℕ)))

@@ -1,5 +1,6 @@
 -- The text of a record, and which records there are.
-use Rattle.std.specs.Prelude.{◌≡◌, ◌⊎◌, ℕ, ◌+◌, ◌*◌, ◌≤◌, true, List, [], ◌∷◌, ◌++◌, codes, length, map, Result, Ok, Err}
+use Rattle.std.specs.Prelude.{◌≡◌, ◌⊎◌, ℕ, ◌+◌, ◌*◌, ◌≤◌, true, List, [], ◌∷◌, ◌++◌, codes, length, map}
+use Rattle.std.specs.Prelude.{Result, Ok, Err}
 use Rattle.std.specs.List.{All}
 use Rattle.std.specs.Str.{is_utf8}
 use Rattle.std.specs.Fmt.{decimal}
@@ -93,4 +94,5 @@ pub record IsRecord (r : RecordParts) : Type 0 where
 
 -- Where the bytes are the text of a record, it is the one that is read, or memory ran out.
 abbrev pub FindsRecord : List ℕ → Result RecordParts RecordFault → Type 0
-FindsRecord bytes result = (r : RecordParts) → IsRecord r → bytes ≡ record_text r → (result ≡ Ok r) ⊎ (result ≡ Err NoMemory)
+FindsRecord bytes result =
+    (r : RecordParts) → IsRecord r → bytes ≡ record_text r → (result ≡ Ok r) ⊎ (result ≡ Err NoMemory)
