@@ -1,6 +1,6 @@
 -- Reading groups of locals, bodies and custom sections one after the other, as loops do.
 use Rattle.std.proofs.Common.{◌≡◌, ℕ, suc, ◌-◌, ◌+◌, ◌≤◌, ◌<◌, Bool, true, false, List, [], ◌∷◌, ◌++◌, length, drop}
-use Rattle.std.proofs.Common.{replicate, Result, Ok, Err, refl, sym, ap, ◌∙◌, arith}
+use Rattle.std.proofs.Common.{replicate, Result, Ok, Err, refl, sym, ap, subst, ◌∙◌, arith}
 use Rattle.std.proofs.lemmas.List.{append-nil, drop_more, drop_all}
 use Rattle.std.specs.Prelude.{slice_index_or}
 use Rattle.binary_wire.specs.declared.bounds.Bounds.{Bounds}
@@ -17,6 +17,16 @@ use Rattle.types.specs.declared.parts.Body.{Body}
 use Rattle.binary_instructions.specs.Reading.{val_type_at}
 use Rattle.types.specs.Within.{param_count}
 use Rattle.binary.specs.Reading.{groups_at, body_at, bodies_at, custom_at, customs_at}
+
+-- ---- what is read within bounds that a reader has kept
+
+pub kept : {A : Type 0} (reading : Bounds → List ℕ → A) (s t : Bounds) (bytes : List ℕ) (x : A)
+    → t ≡ s → reading t bytes ≡ x → reading s bytes ≡ x
+kept reading s t bytes x same read = subst (λ (b : Bounds). reading b bytes ≡ x) same read
+
+pub fails_kept : {A : Type 0} (reading : Bounds → List ℕ → Result A Refusal) (s t : Bounds) (bytes : List ℕ)
+    (e : ReadFault) → t ≡ s → Fails e (reading t bytes) → Fails e (reading s bytes)
+fails_kept reading s t bytes e same read = subst (λ (b : Bounds). Fails e (reading b bytes)) same read
 
 -- ---- groups of locals
 

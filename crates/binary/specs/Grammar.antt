@@ -22,10 +22,12 @@ use Rattle.binary.specs.declared.kinds.ExternalKind.{ExternalKind}
 use Rattle.binary.specs.declared.kinds.ExternalKind.TheVariants as kinds
 use Rattle.binary.specs.declared.kinds.LimitsFlag.{LimitsFlag}
 use Rattle.binary.specs.declared.kinds.LimitsFlag.TheVariants as flags
-use Rattle.binary.specs.Kinds.{external_kind_of, mutability_of, table_flag_of, memory_flag_of, min_limits, min_max_limits, exported}
+use Rattle.binary.specs.Kinds.{external_kind_of, mutability_of, table_flag_of, memory_flag_of, min_limits}
+use Rattle.binary.specs.Kinds.{min_max_limits, exported}
 use Rattle.binary.specs.Counts.{function_room}
 use Rattle.types.specs.Within.{param_count}
-use Rattle.types.specs.declared.limits.TheConstants.{MOST_PAGES, MOST_MODULE_BYTES, MOST_BODY_BYTES, MOST_ITEMS, MOST_FUNCTIONS}
+use Rattle.types.specs.declared.limits.TheConstants.{MOST_PAGES, MOST_MODULE_BYTES, MOST_BODY_BYTES, MOST_ITEMS}
+use Rattle.types.specs.declared.limits.TheConstants.{MOST_FUNCTIONS}
 use Rattle.types.specs.declared.limits.TheConstants.{MOST_ELEMENTS, MOST_PARAMS, MOST_LOCALS}
 
 -- A byte that has a meaning.
@@ -46,7 +48,8 @@ IsMinMax most_min most_max shared bytes l rest =
 
 -- What stands behind the flag of limits.
 abbrev pub IsLimitsAfter : ℕ → ℕ → LimitsFlag → Spelling Limits
-IsLimitsAfter most_min most_max flags.Min bytes l rest = (min : ℕ) × IsU32Within most_min bytes min rest × (l ≡ min_limits min)
+IsLimitsAfter most_min most_max flags.Min bytes l rest = (min : ℕ) × IsU32Within most_min bytes min rest
+    × (l ≡ min_limits min)
 IsLimitsAfter most_min most_max flags.MinMax bytes l rest = IsMinMax most_min most_max false bytes l rest
 IsLimitsAfter most_min most_max flags.SharedMinMax bytes l rest = IsMinMax most_min most_max true bytes l rest
 
@@ -83,10 +86,12 @@ IsDescribed kinds.Memory bytes d rest = (l : Limits) × IsMemory bytes l rest ×
 IsDescribed kinds.Global bytes d rest = (g : GlobalType) × IsGlobalType bytes g rest × (d ≡ imports.Global g)
 
 abbrev pub IsImportDesc : Spelling ImportDesc
-IsImportDesc bytes d rest = (kind : ExternalKind) × (mid : List ℕ) × IsCoded external_kind_of bytes kind mid × IsDescribed kind mid d rest
+IsImportDesc bytes d rest = (kind : ExternalKind) × (mid : List ℕ) × IsCoded external_kind_of bytes kind mid
+    × IsDescribed kind mid d rest
 
 abbrev pub IsImport : Spelling Import
-IsImport bytes i rest = (a : List ℕ) × (b : List ℕ) × IsName bytes i.«module» a × IsName a i.name b × IsImportDesc b i.desc rest
+IsImport bytes i rest = (a : List ℕ) × (b : List ℕ) × IsName bytes i.«module» a × IsName a i.name b
+    × IsImportDesc b i.desc rest
 
 abbrev pub IsExportDesc : Spelling ExportDesc
 IsExportDesc bytes d rest = (kind : ExternalKind) × (mid : List ℕ) × IsCoded external_kind_of bytes kind mid
@@ -100,7 +105,8 @@ IsElement bytes e rest = (a : List ℕ) × (b : List ℕ) × IsU32 bytes e.table
     × IsVector MOST_FUNCTIONS IsU32 b e.functions rest
 
 abbrev pub IsData : Spelling DataSegment
-IsData bytes d rest = (a : List ℕ) × (b : List ℕ) × IsU32 bytes d.memory a × SpellsExpression a d.offset b × IsBlock b d.bytes rest
+IsData bytes d rest = (a : List ℕ) × (b : List ℕ) × IsU32 bytes d.memory a × SpellsExpression a d.offset b
+    × IsBlock b d.bytes rest
 
 -- ---- code
 
@@ -112,19 +118,23 @@ IsGroups (suc count) room bytes locals rest =
     × ((others : List ValType) × IsGroups count (room - n) b others rest × (locals ≡ replicate n t ++ others)))
 
 abbrev pub IsLocals : ℕ → Spelling (List ValType)
-IsLocals room bytes locals rest = (count : ℕ) × (mid : List ℕ) × IsU32 bytes count mid × IsGroups count room mid locals rest
+IsLocals room bytes locals rest = (count : ℕ) × (mid : List ℕ) × IsU32 bytes count mid
+    × IsGroups count room mid locals rest
 
 -- At most 1,000 locals with the parameters.
 abbrev pub IsBodyContents : ℕ → Spelling Body
-IsBodyContents params bytes b rest = (mid : List ℕ) × IsLocals (MOST_LOCALS - params) bytes b.locals mid × SpellsExpression mid b.code rest
+IsBodyContents params bytes b rest = (mid : List ℕ) × IsLocals (MOST_LOCALS - params) bytes b.locals mid
+    × SpellsExpression mid b.code rest
 
 -- A size within a limit, and so many bytes.
 abbrev pub IsBlockWithin : ℕ → Spelling (List ℕ)
-IsBlockWithin limit bytes block rest = (mid : List ℕ) × IsU32Within limit bytes (length block) mid × (mid ≡ block ++ rest)
+IsBlockWithin limit bytes block rest = (mid : List ℕ) × IsU32Within limit bytes (length block) mid
+    × (mid ≡ block ++ rest)
 
 -- The body of a function with so many parameters.
 abbrev pub IsBody : ℕ → Spelling Body
-IsBody params bytes b rest = (block : List ℕ) × IsBlockWithin MOST_BODY_BYTES bytes block rest × IsBodyContents params block b []
+IsBody params bytes b rest = (block : List ℕ) × IsBlockWithin MOST_BODY_BYTES bytes block rest
+    × IsBodyContents params block b []
 
 -- A body for each function, which is given by the index of its type.
 abbrev pub AreBodies : List FuncType → List ℕ → Spelling (List Body)
@@ -155,11 +165,13 @@ AreCustoms (suc k) bytes rest = (mid : List ℕ) × IsCustom bytes mid × AreCus
 -- The section with an id, or what stands for it where there is none.
 abbrev pub IsSectionHere : {A : Type 0} → ℕ → A → Spelling A → Spelling A
 IsSectionHere id absent P [] x rest = (x ≡ absent) × (rest ≡ [])
-IsSectionHere id absent P (b ∷ bytes) x rest = ((b ≡ id) × IsSized P bytes x rest) ⊎ ((b ≢ id) × (x ≡ absent) × (rest ≡ b ∷ bytes))
+IsSectionHere id absent P (b ∷ bytes) x rest = ((b ≡ id) × IsSized P bytes x rest)
+    ⊎ ((b ≢ id) × (x ≡ absent) × (rest ≡ b ∷ bytes))
 
 -- The same behind custom sections.
 abbrev pub IsSectionPart : {A : Type 0} → ℕ → A → Spelling A → Spelling A
-IsSectionPart id absent P bytes x rest = (k : ℕ) × (start : List ℕ) × AreCustoms k bytes start × IsSectionHere id absent P start x rest
+IsSectionPart id absent P bytes x rest = (k : ℕ) × (start : List ℕ) × AreCustoms k bytes start
+    × IsSectionHere id absent P start x rest
 
 -- A section that is a vector.
 abbrev pub IsSection : {A : Type 0} → ℕ → ℕ → Spelling A → Spelling (List A)
@@ -175,8 +187,8 @@ abbrev pub opening_bytes : List ℕ
 opening_bytes = 0x00 ∷ (0x61 ∷ (0x73 ∷ (0x6d ∷ (0x01 ∷ (0x00 ∷ (0x00 ∷ (0x00 ∷ [])))))))
 
 -- At most 1,048,576 bytes: the opening bytes and the sections in the order of their ids, with custom sections anywhere
--- between them, and as many bodies as functions. The module knows how many bytes they are. The fields before_S are the bytes
--- from the custom sections before the section S on.
+-- between them, and as many bodies as functions. The module knows how many bytes they are. The fields before_S are the
+-- bytes from the custom sections before the section S on.
 pub record IsModuleText (bytes : List ℕ) (m : Parts) : Type 0 where
   pub size : length bytes ≤ MOST_MODULE_BYTES
   pub counted : m.length ≡ length bytes

@@ -1,6 +1,7 @@
 -- Sections and modules, read from left to right: the value, or the first fault with its offset.
 use Rattle.std.specs.Prelude.{ℕ, zero, suc, ◌-◌, List, [], ◌∷◌, ◌++◌, length, replicate, Bool, true, false, Option}
-use Rattle.std.specs.Prelude.{Some, None, Result, Ok, Err, nat_lt, nat_eq, if◌then◌else◌}
+use Rattle.std.specs.Prelude.{Some, None, Result, Ok, Err, MatchResult, slice_index_or, nat_lt, nat_eq, if◌then◌else◌}
+use Rattle.std.specs.Prelude.{◌≡◌}
 use Rattle.types.specs.declared.value.ValType.{ValType}
 use Rattle.types.specs.declared.parts.Limits.{Limits}
 use Rattle.types.specs.declared.parts.FuncType.{FuncType}
@@ -19,8 +20,10 @@ use Rattle.binary_wire.specs.declared.bounds.Bounds.{Bounds}
 use Rattle.binary_wire.specs.declared.fault.Fault.{Fault}
 use Rattle.binary_wire.specs.declared.fault.Fault.TheVariants as faults
 use Rattle.binary_wire.specs.declared.fault.Refusal.{Refusal}
+use Rattle.binary_wire.specs.declared.fault.ReadFault.{ReadFault}
 use Rattle.binary_wire.specs.Faults.{refusal, refused, inside, input}
-use Rattle.binary_wire.specs.Reading.{Reading, ◌>>=◌, some_or, byte_at, tag_at, end_at, front_is, slice_at, u32_at, u32_within_at}
+use Rattle.binary_wire.specs.Reading.{Reading, ◌>>=◌, Refuses, some_or, byte_at, tag_at, end_at, front_is, slice_at}
+use Rattle.binary_wire.specs.Reading.{u32_at, u32_within_at}
 use Rattle.binary_wire.specs.Reading.{block_at, name_at, sized_at, vector_at}
 use Rattle.binary_instructions.specs.Reading.{val_type_at, expression_at}
 use Rattle.binary.specs.declared.kinds.ExternalKind.{ExternalKind}
@@ -30,15 +33,22 @@ use Rattle.binary.specs.declared.kinds.LimitsFlag.TheVariants as flags
 use Rattle.binary.specs.declared.parts.Signatures.{Signatures}
 use Rattle.binary.specs.declared.parts.Stores.{Stores}
 use Rattle.binary.specs.declared.parts.Contents.{Contents}
-use Rattle.binary.specs.Kinds.{external_kind_of, mutability_of, table_flag_of, memory_flag_of, min_limits, min_max_limits, exported}
+use Rattle.binary.specs.Kinds.{external_kind_of, mutability_of, table_flag_of, memory_flag_of, min_limits}
+use Rattle.binary.specs.Kinds.{min_max_limits, exported}
 use Rattle.binary.specs.Counts.{function_room}
+use Rattle.binary.specs.Grammar.{IsModuleText}
 use Rattle.types.specs.Within.{param_count}
-use Rattle.types.specs.declared.limits.TheConstants.{MOST_PAGES, MOST_MODULE_BYTES, MOST_BODY_BYTES, MOST_ITEMS, MOST_FUNCTIONS}
+use Rattle.types.specs.declared.limits.TheConstants.{MOST_PAGES, MOST_MODULE_BYTES, MOST_BODY_BYTES, MOST_ITEMS}
+use Rattle.types.specs.declared.limits.TheConstants.{MOST_FUNCTIONS}
 use Rattle.types.specs.declared.limits.TheConstants.{MOST_ELEMENTS, MOST_PARAMS, MOST_LOCALS}
 
 -- A byte that has a meaning.
 unfoldable pub coded_at : {A : Type 0} → Fault → (ℕ → Option A) → Reading A
 coded_at kind code s bytes = byte_at s bytes >>= λ b. some_or (refused kind s bytes) (code b.0) >>= λ x. Ok (x, b.1)
+
+-- What an import or an export is.
+abbrev pub external_kind_at : Reading ExternalKind
+external_kind_at = coded_at faults.UnknownByte external_kind_of
 
 -- What stands behind the flag of limits.
 unfoldable pub limits_after_at : ℕ → ℕ → LimitsFlag → Reading Limits
@@ -54,7 +64,8 @@ memory_at s bytes =
 
 unfoldable pub table_at : Reading Limits
 table_at s bytes =
-    tag_at faults.UnknownByte 0x70 s bytes >>= λ start. coded_at faults.LimitsFlag table_flag_of s start >>= λ flag. limits_after_at
+    tag_at faults.UnknownByte 0x70 s bytes >>= λ start. coded_at faults.LimitsFlag table_flag_of s start >>= λ flag.
+    limits_after_at
     MOST_ELEMENTS 0xffff_ffff flag.0 s flag.1
 
 unfoldable pub global_type_at : Reading GlobalType
@@ -84,7 +95,7 @@ described_at kinds.Memory s bytes = memory_at s bytes >>= λ l. Ok (imports.Memo
 described_at kinds.Global s bytes = global_type_at s bytes >>= λ g. Ok (imports.Global g.0, g.1)
 
 unfoldable pub import_desc_at : Reading ImportDesc
-import_desc_at s bytes = coded_at faults.UnknownByte external_kind_of s bytes >>= λ kind. described_at kind.0 s kind.1
+import_desc_at s bytes = external_kind_at s bytes >>= λ kind. described_at kind.0 s kind.1
 
 unfoldable pub import_at : Reading Import
 import_at s bytes = do
@@ -95,7 +106,7 @@ import_at s bytes = do
 
 unfoldable pub export_desc_at : Reading ExportDesc
 export_desc_at s bytes =
-    coded_at faults.UnknownByte external_kind_of s bytes >>= λ kind. u32_at s kind.1 >>= λ n. Ok (exported kind.0 n.0, n.1)
+    external_kind_at s bytes >>= λ kind. u32_at s kind.1 >>= λ n. Ok (exported kind.0 n.0, n.1)
 
 unfoldable pub export_at : Reading Export
 export_at s bytes = do
@@ -143,6 +154,10 @@ body_at params s bytes = do
   whole ← end_at (inside s contents.1) b.1
   Ok (b.0, contents.1)
 
+-- The body of the function with this place among those of the module.
+abbrev pub body_of_at : List FuncType → List ℕ → ℕ → Reading Body
+body_of_at types functions place = body_at (param_count types (slice_index_or functions place 0))
+
 -- A body for each function.
 unfoldable pub bodies_at : List FuncType → List ℕ → Reading (List Body)
 bodies_at types [] s bytes = Ok ([], bytes)
@@ -167,7 +182,8 @@ custom_at s bytes = do
 -- Custom sections are passed over, at most so many.
 unfoldable pub customs_at : ℕ → Bounds → List ℕ → Result (List ℕ) Refusal
 customs_at zero s bytes = Ok bytes
-customs_at (suc most) s bytes = if front_is 0 bytes then (custom_at s bytes >>= λ x. customs_at most s x.1) else Ok bytes
+customs_at (suc most) s bytes = if front_is 0 bytes then (custom_at s bytes >>= λ x. customs_at most s x.1)
+    else Ok bytes
 
 -- The section with an id, or what stands for it where there is none. Each custom section takes a byte at least.
 unfoldable pub part_at : {A : Type 0} → ℕ → A → Reading A → Reading A
@@ -190,7 +206,8 @@ code_at types functions s bytes = part_at 10 [] (code_section_at types functions
 -- Nothing is left of the input. A section that is left is unknown, or out of order.
 abbrev pub finish_at : Bounds → List ℕ → Result Bool Refusal
 finish_at s [] = Ok true
-finish_at s (id ∷ bytes) = Err (refused (if nat_lt 11 id then faults.UnknownByte else faults.SectionOrder) s (id ∷ bytes))
+finish_at s (id ∷ bytes) =
+    Err (refused (if nat_lt 11 id then faults.UnknownByte else faults.SectionOrder) s (id ∷ bytes))
 
 -- Bytes that have to stand there.
 unfoldable pub fixed_at : Fault → List ℕ → Bounds → List ℕ → Result (List ℕ) Refusal
@@ -216,7 +233,10 @@ stores_at s bytes = do
   globals ← section_at 6 MOST_ITEMS global_at s memories.1
   exports ← section_at 7 MOST_ITEMS export_at s globals.1
   start ← start_at s exports.1
-  Ok (record { tables = tables.0; memories = memories.0; globals = globals.0; exports = exports.0; start = start.0 }, start.1)
+  Ok (
+    record { tables = tables.0; memories = memories.0; globals = globals.0; exports = exports.0; start = start.0 },
+    start.1,
+  )
 
 -- The contents of a module with these types and functions.
 unfoldable pub contents_at : List FuncType → List ℕ → Reading Contents
@@ -242,13 +262,23 @@ parts_of size signatures stores contents = record {
   length = size;
 }
 
--- The contents of a module with these types and functions, one body for each: custom sections may stand behind them, and nothing else.
+-- What is behind the last section of a module with so many functions and so many bodies: custom sections, and nothing
+-- else. There have to be as many functions as bodies.
+abbrev pub end_of_module_at : ℕ → ℕ → Bounds → List ℕ → Result Bool Refusal
+end_of_module_at functions bodies s bytes = do
+  rest ← customs_at (length bytes) s bytes
+  whole ← finish_at s rest
+  if nat_eq functions bodies then Ok true else Err (refused faults.CountsDiffer s rest)
+
+-- The contents of a module with these types and functions, one body for each: custom sections may stand behind them,
+-- and nothing else.
 unfoldable pub last_at : List FuncType → List ℕ → Bounds → List ℕ → Result Contents Refusal
 last_at types functions s bytes = do
   contents ← contents_at types functions s bytes
   rest ← customs_at (length contents.1) s contents.1
   whole ← finish_at s rest
-  if nat_eq (length functions) (length contents.0.bodies) then Ok contents.0 else Err (refused faults.CountsDiffer s rest)
+  if nat_eq (length functions) (length contents.0.bodies) then Ok contents.0 else Err
+      (refused faults.CountsDiffer s rest)
 
 -- The sections of a module of so many bytes, behind the opening bytes.
 unfoldable pub sections_at : ℕ → Bounds → List ℕ → Result Parts Refusal
@@ -263,3 +293,8 @@ unfoldable pub module_at : List ℕ → Result Parts Refusal
 module_at bytes =
     if nat_lt MOST_MODULE_BYTES (length bytes) then Err (refusal faults.Limit MOST_MODULE_BYTES)
     else (opening_at (input bytes) bytes >>= λ opened. sections_at (length bytes) (input bytes) opened)
+
+-- Where the bytes spell a module, it is the one that is read, or memory ran out.
+abbrev pub FindsModule : List ℕ → Result Parts ReadFault → Type 0
+FindsModule bytes result =
+    (m : Parts) → IsModuleText bytes m → MatchResult result (λ found. found ≡ m) (λ e. Refuses e → ⊥)

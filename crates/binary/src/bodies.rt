@@ -1,9 +1,8 @@
 //! Bodies of functions: their locals and their code.
 
-ghost use Rattle.std.specs.Prelude.{◌≡◌, ◌<◌, ◌++◌, length, replicate, slice_index_or, IfOk};
-ghost use Rattle.binary_wire.specs.Reading.{GivesInMemory};
-ghost use Rattle.types.specs.Within.{param_count};
-ghost use Rattle.binary.specs.Reading.{groups_at, locals_at, body_at, bodies_at, code_section_at};
+ghost use Rattle.std.specs.Prelude.{◌≡◌, ◌<◌, ◌++◌, length, replicate, IfOk};
+ghost use Rattle.binary_wire.specs.Reading.{GivesNextInMemory};
+ghost use Rattle.binary.specs.Reading.{groups_at, locals_at, body_at, body_of_at, bodies_at, code_section_at};
 
 use binary_instructions::{read_expression, read_val_type};
 use binary_wire::{Fault, ReadFault, Reader};
@@ -27,7 +26,7 @@ fn read_groups(
     count: u32,
     room: u32,
 ) -> Result<Sequence<ValType>, ReadFault>
-    ensures gives { GivesInMemory (λ v. (v, reader.new.rest.now)) result (groups_at count room reader.old.bounds reader.old.rest.now) }
+    ensures gives { GivesNextInMemory (groups_at count room) reader.old reader.new result }
     ensures keeps { reader.new.bounds ≡ reader.old.bounds }
 {
     let mut locals = Vec::new(alloc);
@@ -49,7 +48,7 @@ fn read_locals(
     alloc: Global,
     room: u32,
 ) -> Result<Sequence<ValType>, ReadFault>
-    ensures gives { GivesInMemory (λ v. (v, reader.new.rest.now)) result (locals_at room reader.old.bounds reader.old.rest.now) }
+    ensures gives { GivesNextInMemory (locals_at room) reader.old reader.new result }
     ensures keeps { reader.new.bounds ≡ reader.old.bounds }
 {
     let count = reader.read_u32()?;
@@ -59,7 +58,7 @@ fn read_locals(
 /// The body of a function with so many parameters (Core specification 1.0, section 5.5.13).
 #[tactic(auto, unfolding(crate::specs::Reading::body_at, crate::specs::Reading::body_contents_at, crate::specs::Reading::block_within_at))]
 fn read_body(reader: &mut Reader, alloc: Global, params: usize) -> Result<Body, ReadFault>
-    ensures gives { GivesInMemory (λ b. (b, reader.new.rest.now)) result (body_at params reader.old.bounds reader.old.rest.now) }
+    ensures gives { GivesNextInMemory (body_at params) reader.old reader.new result }
     ensures keeps { reader.new.bounds ≡ reader.old.bounds }
 {
     let size = reader.read_u32_within(MOST_BODY_BYTES)?;
@@ -80,8 +79,7 @@ fn read_body_of(
     place: usize,
 ) -> Result<Body, ReadFault>
     requires { place < length functions.now }
-    ensures gives { GivesInMemory (λ b. (b, reader.new.rest.now)) result
-        (body_at (param_count types.now (slice_index_or functions.now place 0)) reader.old.bounds reader.old.rest.now) }
+    ensures gives { GivesNextInMemory (body_of_at types.now functions.now place) reader.old reader.new result }
     ensures keeps { reader.new.bounds ≡ reader.old.bounds }
 {
     let params = param_count(types, functions[place]);
@@ -95,8 +93,7 @@ fn read_bodies(
     types: &[FuncType],
     functions: &[u32],
 ) -> Result<Sequence<Body>, ReadFault>
-    ensures gives { GivesInMemory (λ v. (v, reader.new.rest.now)) result
-        (bodies_at types.now functions.now reader.old.bounds reader.old.rest.now) }
+    ensures gives { GivesNextInMemory (bodies_at types.now functions.now) reader.old reader.new result }
     ensures keeps { reader.new.bounds ≡ reader.old.bounds }
 {
     let mut bodies = Vec::new(alloc);
@@ -115,8 +112,7 @@ pub fn read_code_section(
     types: &[FuncType],
     functions: &[u32],
 ) -> Result<Sequence<Body>, ReadFault>
-    ensures gives { GivesInMemory (λ v. (v, reader.new.rest.now)) result
-        (code_section_at types.now functions.now reader.old.bounds reader.old.rest.now) }
+    ensures gives { GivesNextInMemory (code_section_at types.now functions.now) reader.old reader.new result }
     ensures keeps { reader.new.bounds ≡ reader.old.bounds }
 {
     let offset = reader.offset();

@@ -1,7 +1,7 @@
 //! Imports and exports.
 
 ghost use Rattle.std.specs.Prelude.{◌≡◌};
-ghost use Rattle.binary_wire.specs.Reading.{Gives, GivesInMemory, name_at};
+ghost use Rattle.binary_wire.specs.Reading.{GivesNext, GivesNextInMemory, name_at};
 ghost use Rattle.binary.specs.Reading.{described_at, import_desc_at, import_at, export_desc_at, export_at};
 
 use crate::kinds::{ExternalKind, read_external_kind};
@@ -11,7 +11,7 @@ use std::alloc::Global;
 use types::{Export, ExportDesc, Import, ImportDesc, Name};
 
 fn read_name(reader: &mut Reader, alloc: Global) -> Result<Name, ReadFault>
-    ensures gives { GivesInMemory (λ n. (n, reader.new.rest.now)) result (name_at reader.old.bounds reader.old.rest.now) }
+    ensures gives { GivesNextInMemory name_at reader.old reader.new result }
     ensures keeps { reader.new.bounds ≡ reader.old.bounds }
 {
     let text = reader.read_name()?;
@@ -21,7 +21,7 @@ fn read_name(reader: &mut Reader, alloc: Global) -> Result<Name, ReadFault>
 /// What stands behind the kind of an import.
 #[tactic(auto, unfolding(crate::specs::Reading::described_at))]
 fn read_described(reader: &mut Reader, kind: ExternalKind) -> Result<ImportDesc, Refusal>
-    ensures gives { Gives (λ d. (d, reader.new.rest.now)) result (described_at kind reader.old.bounds reader.old.rest.now) }
+    ensures gives { GivesNext (described_at kind) reader.old reader.new result }
     ensures keeps { reader.new.bounds ≡ reader.old.bounds }
 {
     match kind {
@@ -34,7 +34,7 @@ fn read_described(reader: &mut Reader, kind: ExternalKind) -> Result<ImportDesc,
 
 #[tactic(auto, unfolding(crate::specs::Reading::import_desc_at))]
 fn read_import_desc(reader: &mut Reader) -> Result<ImportDesc, Refusal>
-    ensures gives { Gives (λ d. (d, reader.new.rest.now)) result (import_desc_at reader.old.bounds reader.old.rest.now) }
+    ensures gives { GivesNext import_desc_at reader.old reader.new result }
     ensures keeps { reader.new.bounds ≡ reader.old.bounds }
 {
     let kind = read_external_kind(reader)?;
@@ -60,7 +60,7 @@ impl Item for ImportItem {
 
 #[tactic(auto, unfolding(crate::specs::Reading::export_desc_at))]
 fn read_export_desc(reader: &mut Reader) -> Result<ExportDesc, Refusal>
-    ensures gives { Gives (λ d. (d, reader.new.rest.now)) result (export_desc_at reader.old.bounds reader.old.rest.now) }
+    ensures gives { GivesNext export_desc_at reader.old reader.new result }
     ensures keeps { reader.new.bounds ≡ reader.old.bounds }
 {
     let kind = read_external_kind(reader)?;

@@ -1,10 +1,10 @@
 //! Single bytes that have a meaning.
 
 ghost use Rattle.std.specs.Prelude.{◌≡◌};
-ghost use Rattle.binary_wire.specs.Reading.{Gives, tag_at};
+ghost use Rattle.binary_wire.specs.Reading.{GivesNext, PassesOver, tag_at};
 ghost use Rattle.binary_wire.specs.declared.fault.Fault.TheVariants as faults;
 ghost use Rattle.binary.specs.Kinds.{external_kind_of, mutability_of, memory_flag_of, table_flag_of};
-ghost use Rattle.binary.specs.Reading.{coded_at};
+ghost use Rattle.binary.specs.Reading.{coded_at, external_kind_at};
 
 use binary_wire::{Fault, Reader, Refusal};
 
@@ -71,8 +71,7 @@ fn table_flag(byte: u8) -> Option<LimitsFlag>
 
 #[tactic(auto, unfolding(crate::specs::Reading::coded_at))]
 pub fn read_external_kind(reader: &mut Reader) -> Result<ExternalKind, Refusal>
-    ensures gives { Gives (λ k. (k, reader.new.rest.now)) result
-        (coded_at faults.UnknownByte external_kind_of reader.old.bounds reader.old.rest.now) }
+    ensures gives { GivesNext external_kind_at reader.old reader.new result }
     ensures keeps { reader.new.bounds ≡ reader.old.bounds }
 {
     let wrong = reader.fault(Fault::UnknownByte);
@@ -81,8 +80,7 @@ pub fn read_external_kind(reader: &mut Reader) -> Result<ExternalKind, Refusal>
 
 #[tactic(auto, unfolding(crate::specs::Reading::coded_at))]
 pub fn read_mutability(reader: &mut Reader) -> Result<bool, Refusal>
-    ensures gives { Gives (λ m. (m, reader.new.rest.now)) result
-        (coded_at faults.UnknownByte mutability_of reader.old.bounds reader.old.rest.now) }
+    ensures gives { GivesNext (coded_at faults.UnknownByte mutability_of) reader.old reader.new result }
     ensures keeps { reader.new.bounds ≡ reader.old.bounds }
 {
     let wrong = reader.fault(Fault::UnknownByte);
@@ -91,8 +89,7 @@ pub fn read_mutability(reader: &mut Reader) -> Result<bool, Refusal>
 
 #[tactic(auto, unfolding(crate::specs::Reading::coded_at))]
 pub fn read_memory_flag(reader: &mut Reader) -> Result<LimitsFlag, Refusal>
-    ensures gives { Gives (λ f. (f, reader.new.rest.now)) result
-        (coded_at faults.LimitsFlag memory_flag_of reader.old.bounds reader.old.rest.now) }
+    ensures gives { GivesNext (coded_at faults.LimitsFlag memory_flag_of) reader.old reader.new result }
     ensures keeps { reader.new.bounds ≡ reader.old.bounds }
 {
     let wrong = reader.fault(Fault::LimitsFlag);
@@ -101,8 +98,7 @@ pub fn read_memory_flag(reader: &mut Reader) -> Result<LimitsFlag, Refusal>
 
 #[tactic(auto, unfolding(crate::specs::Reading::coded_at))]
 pub fn read_table_flag(reader: &mut Reader) -> Result<LimitsFlag, Refusal>
-    ensures gives { Gives (λ f. (f, reader.new.rest.now)) result
-        (coded_at faults.LimitsFlag table_flag_of reader.old.bounds reader.old.rest.now) }
+    ensures gives { GivesNext (coded_at faults.LimitsFlag table_flag_of) reader.old reader.new result }
     ensures keeps { reader.new.bounds ≡ reader.old.bounds }
 {
     let wrong = reader.fault(Fault::LimitsFlag);
@@ -111,7 +107,7 @@ pub fn read_table_flag(reader: &mut Reader) -> Result<LimitsFlag, Refusal>
 
 /// A byte that has to stand there.
 pub fn read_tag(reader: &mut Reader, tag: u8) -> Result<(), Refusal>
-    ensures gives { Gives (λ _. reader.new.rest.now) result (tag_at faults.UnknownByte tag reader.old.bounds reader.old.rest.now) }
+    ensures gives { PassesOver (tag_at faults.UnknownByte tag) reader.old reader.new result }
     ensures keeps { reader.new.bounds ≡ reader.old.bounds }
 {
     let wrong = reader.fault(Fault::UnknownByte);

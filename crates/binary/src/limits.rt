@@ -1,7 +1,7 @@
 //! Tables, memories, globals and function types.
 
 ghost use Rattle.std.specs.Prelude.{◌≡◌};
-ghost use Rattle.binary_wire.specs.Reading.{Gives};
+ghost use Rattle.binary_wire.specs.Reading.{GivesNext};
 ghost use Rattle.binary.specs.Reading.{limits_after_at, table_at, memory_at, global_type_at, global_at, func_type_at};
 
 use crate::kinds::{LimitsFlag, read_memory_flag, read_mutability, read_table_flag, read_tag};
@@ -20,8 +20,7 @@ fn read_limits_after(
     most_min: u32,
     most_max: u32,
 ) -> Result<Limits, Refusal>
-    ensures gives { Gives (λ l. (l, reader.new.rest.now)) result
-        (limits_after_at most_min most_max flag reader.old.bounds reader.old.rest.now) }
+    ensures gives { GivesNext (limits_after_at most_min most_max flag) reader.old reader.new result }
     ensures keeps { reader.new.bounds ≡ reader.old.bounds }
 {
     let min = reader.read_u32_within(most_min)?;
@@ -43,7 +42,7 @@ fn read_limits_after(
 /// A table type (Core specification 1.0, section 5.3.6).
 #[tactic(auto, unfolding(crate::specs::Reading::table_at))]
 pub fn read_table(reader: &mut Reader) -> Result<Limits, Refusal>
-    ensures gives { Gives (λ l. (l, reader.new.rest.now)) result (table_at reader.old.bounds reader.old.rest.now) }
+    ensures gives { GivesNext table_at reader.old reader.new result }
     ensures keeps { reader.new.bounds ≡ reader.old.bounds }
 {
     read_tag(reader, 0x70)?;
@@ -54,7 +53,7 @@ pub fn read_table(reader: &mut Reader) -> Result<Limits, Refusal>
 /// A memory type (Core specification 1.0, section 5.3.5).
 #[tactic(auto, unfolding(crate::specs::Reading::memory_at))]
 pub fn read_memory(reader: &mut Reader) -> Result<Limits, Refusal>
-    ensures gives { Gives (λ l. (l, reader.new.rest.now)) result (memory_at reader.old.bounds reader.old.rest.now) }
+    ensures gives { GivesNext memory_at reader.old reader.new result }
     ensures keeps { reader.new.bounds ≡ reader.old.bounds }
 {
     let flag = read_memory_flag(reader)?;
@@ -64,7 +63,7 @@ pub fn read_memory(reader: &mut Reader) -> Result<Limits, Refusal>
 /// A global type (Core specification 1.0, section 5.3.7).
 #[tactic(auto, unfolding(crate::specs::Reading::global_type_at))]
 pub fn read_global_type(reader: &mut Reader) -> Result<GlobalType, Refusal>
-    ensures gives { Gives (λ g. (g, reader.new.rest.now)) result (global_type_at reader.old.bounds reader.old.rest.now) }
+    ensures gives { GivesNext global_type_at reader.old reader.new result }
     ensures keeps { reader.new.bounds ≡ reader.old.bounds }
 {
     let val_type = read_val_type(reader)?;

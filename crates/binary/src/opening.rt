@@ -1,7 +1,7 @@
 //! The bytes that open a module.
 
 ghost use Rattle.std.specs.Prelude.{◌≡◌};
-ghost use Rattle.binary_wire.specs.Reading.{Gives};
+ghost use Rattle.binary_wire.specs.Reading.{PassesOver};
 ghost use Rattle.binary.specs.Grammar.{opening_bytes};
 ghost use Rattle.binary.specs.Reading.{fixed_at, opening_at};
 
@@ -14,7 +14,7 @@ const VERSION: [u8; 4] = [0x01, 0x00, 0x00, 0x00];
 /// Bytes that have to stand there. The fault is at the first that is another one.
 #[tactic(auto, unfolding(crate::specs::Reading::fixed_at))]
 fn read_fixed(reader: &mut Reader, expected: &[u8], kind: Fault) -> Result<(), Refusal>
-    ensures gives { Gives (λ _. reader.new.rest.now) result (fixed_at kind expected.now reader.old.bounds reader.old.rest.now) }
+    ensures gives { PassesOver (fixed_at kind expected.now) reader.old reader.new result }
     ensures keeps { reader.new.bounds ≡ reader.old.bounds }
 {
     match expected {
@@ -32,7 +32,7 @@ fn read_fixed(reader: &mut Reader, expected: &[u8], kind: Fault) -> Result<(), R
 /// The magic and the version (Core specification 1.0, section 5.5.15).
 #[tactic(auto, unfolding(crate::specs::Reading::opening_at))]
 pub fn read_opening(reader: &mut Reader) -> Result<(), Refusal>
-    ensures gives { Gives (λ _. reader.new.rest.now) result (opening_at reader.old.bounds reader.old.rest.now) }
+    ensures gives { PassesOver opening_at reader.old reader.new result }
     ensures keeps { reader.new.bounds ≡ reader.old.bounds }
 {
     read_fixed(reader, &MAGIC, Fault::Magic)?;

@@ -1,12 +1,11 @@
 //! A whole module.
 
-ghost use Rattle.std.specs.Prelude.{◌≡◌, ◌-◌, true, Ok, Err, IfOk, MatchResult, count_by, length, nat_eq, if◌then◌else◌};
-ghost use Rattle.binary_wire.specs.declared.fault.Fault.TheVariants as faults;
-ghost use Rattle.binary_wire.specs.Faults.{refused};
-ghost use Rattle.binary_wire.specs.Reading.{◌>>=◌ as ◌⇛◌, Gives, GivesInMemory, Refuses};
+ghost use Rattle.std.specs.Prelude.{◌≡◌, true, IfOk};
+ghost use Rattle.binary_wire.specs.Reading.{Gives, GivesInMemory, GivesNextInMemory, read_at};
 ghost use Rattle.binary.specs.Counts.{function_room};
 ghost use Rattle.binary.specs.Grammar.{IsModuleText};
-ghost use Rattle.binary.specs.Reading.{customs_at, finish_at, signatures_at, stores_at, contents_at, last_at, parts_of, sections_at, module_at};
+ghost use Rattle.binary.specs.Reading.{signatures_at, stores_at, contents_at, end_of_module_at, last_at, parts_of};
+ghost use Rattle.binary.specs.Reading.{sections_at, module_at, FindsModule};
 ghost use Rattle.types.specs.declared.parts.Parts.{Parts};
 
 use crate::externals::{ExportItem, ImportItem};
@@ -59,7 +58,7 @@ fn function_room(imports: &[Import]) -> u32
 
 #[tactic(auto, unfolding(crate::specs::Reading::signatures_at))]
 fn read_signatures(reader: &mut Reader, alloc: Global) -> Result<Signatures, ReadFault>
-    ensures gives { GivesInMemory (λ x. (x, reader.new.rest.now)) result (signatures_at reader.old.bounds reader.old.rest.now) }
+    ensures gives { GivesNextInMemory signatures_at reader.old reader.new result }
     ensures keeps { reader.new.bounds ≡ reader.old.bounds }
 {
     let types = read_section::<FuncTypeItem>(reader, alloc, 1, ITEMS_MAX)?;
@@ -75,7 +74,7 @@ fn read_signatures(reader: &mut Reader, alloc: Global) -> Result<Signatures, Rea
 
 #[tactic(auto, unfolding(crate::specs::Reading::stores_at))]
 fn read_stores(reader: &mut Reader, alloc: Global) -> Result<Stores, ReadFault>
-    ensures gives { GivesInMemory (λ x. (x, reader.new.rest.now)) result (stores_at reader.old.bounds reader.old.rest.now) }
+    ensures gives { GivesNextInMemory stores_at reader.old reader.new result }
     ensures keeps { reader.new.bounds ≡ reader.old.bounds }
 {
     let tables = read_section::<TableItem>(reader, alloc, 4, ITEMS_MAX)?;
@@ -100,8 +99,7 @@ fn read_contents(
     types: &[FuncType],
     functions: &[u32],
 ) -> Result<Contents, ReadFault>
-    ensures gives { GivesInMemory (λ x. (x, reader.new.rest.now)) result
-        (contents_at types.now functions.now reader.old.bounds reader.old.rest.now) }
+    ensures gives { GivesNextInMemory (contents_at types.now functions.now) reader.old reader.new result }
     ensures keeps { reader.new.bounds ≡ reader.old.bounds }
 {
     let elements = read_section::<ElementItem>(reader, alloc, 9, ITEMS_MAX)?;
@@ -114,12 +112,10 @@ fn read_contents(
     })
 }
 
-/// What is behind the last section, of a module with so many functions and so many bodies: custom sections, and then the
-/// end of the input. There have to be as many functions as bodies.
+/// What is behind the last section, of a module with so many functions and so many bodies: custom sections, and then
+/// the end of the input. There have to be as many functions as bodies.
 fn read_rest(reader: &mut Reader, functions: usize, bodies: usize) -> Result<(), Refusal>
-    ensures { Gives (λ _. true) result
-        ((customs_at (length reader.old.rest.now) reader.old.bounds reader.old.rest.now) ⇛ (λ rest. (finish_at reader.old.bounds rest)
-        ⇛ (λ whole. if nat_eq functions bodies then Ok true else Err (refused faults.CountsDiffer reader.old.bounds rest)))) }
+    ensures { Gives (λ _. true) result (read_at (end_of_module_at functions bodies) reader.old) }
 {
     read_customs(reader)?;
     read_end(reader)?;
@@ -129,7 +125,8 @@ fn read_rest(reader: &mut Reader, functions: usize, bodies: usize) -> Result<(),
     Ok(())
 }
 
-/// The contents of a module with these types and functions, behind which nothing is left. There have to be as many bodies as functions.
+/// The contents of a module with these types and functions, behind which nothing is left. There have to be as many
+/// bodies as functions.
 #[tactic(auto, unfolding(crate::specs::Reading::last_at))]
 fn read_last(
     reader: &mut Reader,
@@ -137,7 +134,7 @@ fn read_last(
     types: &[FuncType],
     functions: &[u32],
 ) -> Result<Contents, ReadFault>
-    ensures { GivesInMemory (λ x. x) result (last_at types.now functions.now reader.old.bounds reader.old.rest.now) }
+    ensures { GivesInMemory (λ x. x) result (read_at (last_at types.now functions.now) reader.old) }
 {
     let contents = read_contents(reader, alloc, types, functions)?;
     read_rest(reader, functions.len(), contents.bodies.len())?;
@@ -167,7 +164,7 @@ fn parts_of(length: u32, signatures: Signatures, stores: Stores, contents: Conte
 /// The sections of a module of so many bytes, behind the opening bytes: nothing is left behind them.
 #[tactic(auto, unfolding(crate::specs::Reading::sections_at))]
 fn read_sections(reader: &mut Reader, alloc: Global, length: u32) -> Result<Parts, ReadFault>
-    ensures { GivesInMemory (λ m. m) result (sections_at length reader.old.bounds reader.old.rest.now) }
+    ensures { GivesInMemory (λ m. m) result (read_at (sections_at length) reader.old) }
 {
     let signatures = read_signatures(reader, alloc)?;
     let stores = read_stores(reader, alloc)?;
@@ -196,7 +193,7 @@ pub fn read_parts(alloc: Global, bytes: &[u8]) -> Result<Parts, ReadFault>
     // What is read is spelled so.
     ensures found { IfOk result (λ m. IsModuleText bytes.now m) }
     // Where the bytes spell a module, it is that one, or memory ran out.
-    ensures only { (m : Parts) → IsModuleText bytes.now m → MatchResult result (λ found. found ≡ m) (λ e. Refuses e → ⊥) }
+    ensures only { FindsModule bytes.now result }
     // It is what the reading gives, or memory ran out: a fault is the first one from front to back, at its offset.
     ensures first { GivesInMemory (λ m. m) result (module_at bytes.now) }
     // The bytes spell one module at most.

@@ -1,7 +1,8 @@
 //! Sections, with custom sections before them.
 
 ghost use Rattle.std.specs.Prelude.{◌≡◌, length, true};
-ghost use Rattle.binary_wire.specs.Reading.{Gives, GivesInMemory, sized_at, vector_at};
+ghost use Rattle.binary_wire.specs.Reading.{Gives, GivesNext, GivesNextAs, GivesNextInMemory, PassesOver, read_at};
+ghost use Rattle.binary_wire.specs.Reading.{sized_at, vector_at};
 ghost use Rattle.binary.specs.Reading.{custom_at, customs_at, part_at, section_at, start_at, code_at, finish_at};
 
 use crate::bodies::read_code_section;
@@ -15,7 +16,7 @@ const DATA_ID: u8 = 11;
 /// A custom section (Core specification 1.0, section 5.5.3): a name, and anything.
 #[tactic(auto, unfolding(crate::specs::Reading::custom_at))]
 fn read_custom(reader: &mut Reader) -> Result<(), Refusal>
-    ensures gives { Gives (λ _. (true, reader.new.rest.now)) result (custom_at reader.old.bounds reader.old.rest.now) }
+    ensures gives { GivesNextAs (λ _. true) custom_at reader.old reader.new result }
     ensures keeps { reader.new.bounds ≡ reader.old.bounds }
 {
     reader.read_byte()?;
@@ -26,8 +27,7 @@ fn read_custom(reader: &mut Reader) -> Result<(), Refusal>
 
 /// Passes over custom sections.
 pub fn read_customs(reader: &mut Reader) -> Result<(), Refusal>
-    ensures gives { Gives (λ _. reader.new.rest.now) result
-        (customs_at (length reader.old.rest.now) reader.old.bounds reader.old.rest.now) }
+    ensures gives { PassesOver (customs_at (length reader.old.rest.now)) reader.old reader.new result }
     ensures keeps { reader.new.bounds ≡ reader.old.bounds }
 {
     // Each takes a byte at least.
@@ -47,8 +47,7 @@ fn read_sized_vector<T: Item>(
     alloc: Global,
     limit: u32,
 ) -> Result<Sequence<T::Value>, ReadFault>
-    ensures gives { GivesInMemory (λ v. (v, reader.new.rest.now)) result
-        (sized_at (vector_at limit T.at) reader.old.bounds reader.old.rest.now) }
+    ensures gives { GivesNextInMemory (sized_at (vector_at limit T.at)) reader.old reader.new result }
     ensures keeps { reader.new.bounds ≡ reader.old.bounds }
 {
     let mut contents = reader.read_block()?;
@@ -66,7 +65,7 @@ pub fn read_section<T: Item>(
     id: u8,
     limit: u32,
 ) -> Result<Sequence<T::Value>, ReadFault>
-    ensures gives { GivesInMemory (λ v. (v, reader.new.rest.now)) result (section_at id limit T.at reader.old.bounds reader.old.rest.now) }
+    ensures gives { GivesNextInMemory (section_at id limit T.at) reader.old reader.new result }
     ensures keeps { reader.new.bounds ≡ reader.old.bounds }
 {
     read_customs(reader)?;
@@ -80,7 +79,7 @@ pub fn read_section<T: Item>(
 /// The start section (Core specification 1.0, section 5.5.11), behind custom ones, if it is there.
 #[tactic(auto, unfolding(crate::specs::Reading::part_at, crate::specs::Reading::start_at, crate::specs::Reading::start_function_at, binary_wire::specs::Reading::sized_at))]
 pub fn read_start(reader: &mut Reader) -> Result<Option<u32>, Refusal>
-    ensures gives { Gives (λ s. (s, reader.new.rest.now)) result (start_at reader.old.bounds reader.old.rest.now) }
+    ensures gives { GivesNext start_at reader.old reader.new result }
     ensures keeps { reader.new.bounds ≡ reader.old.bounds }
 {
     read_customs(reader)?;
@@ -102,8 +101,7 @@ pub fn read_code(
     types: &[FuncType],
     functions: &[u32],
 ) -> Result<Sequence<Body>, ReadFault>
-    ensures gives { GivesInMemory (λ v. (v, reader.new.rest.now)) result
-        (code_at types.now functions.now reader.old.bounds reader.old.rest.now) }
+    ensures gives { GivesNextInMemory (code_at types.now functions.now) reader.old reader.new result }
     ensures keeps { reader.new.bounds ≡ reader.old.bounds }
 {
     read_customs(reader)?;
@@ -119,7 +117,7 @@ pub fn read_code(
 
 /// That nothing is left of the input. A section that is left is unknown, or out of order.
 pub fn read_end(reader: &Reader) -> Result<(), Refusal>
-    ensures { Gives (λ _. true) result (finish_at reader.now.bounds reader.now.rest.now) }
+    ensures { Gives (λ _. true) result (read_at finish_at reader.now) }
 {
     match reader.peek() {
         None => Ok(()),

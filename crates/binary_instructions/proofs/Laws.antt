@@ -30,7 +30,7 @@ use Rattle.types.specs.Tests.{opens_behind}
 use Rattle.binary_instructions.proofs.Nesting.{found, found_is, enters, IsCode, code_spells, code_nested, nested_code}
 use Rattle.binary_instructions.specs.Reading.{known_at, val_type_of, val_type_at, block_type_at, memarg_at, reserved_at}
 use Rattle.binary_instructions.specs.Reading.{atomic_shaped_at, atomic_at, const_at, br_table_at, call_indirect_at}
-use Rattle.binary_instructions.specs.Reading.{shaped_at, shape_at, stacked, instr_at, code_at, expression_at}
+use Rattle.binary_instructions.specs.Reading.{shaped_at, shape_at, stacked, instr_at, kept_at, each_kept_at, code_at, expression_at}
 
 -- ---- types
 
@@ -253,7 +253,7 @@ instr_shrinks (code ∷ bytes) i rest h = omega (arith, (shaped_law h.0).within 
 
 code_takes : (most : ℕ) (opens : List Bool) (s : Bounds) (bytes : List ℕ) (code : List Instr) (rest : List ℕ)
     → code_at most opens s bytes ≡ Ok (code, rest) → IsCode opens bytes code rest
-unfolding code_at
+unfolding kept_at
 code_takes most [] s bytes code rest e = take_is (λ (c : List Instr) (r : List ℕ). IsCode [] bytes c r) [] code bytes rest e (refl, refl)
 code_takes zero (b ∷ opens) s bytes code rest e = absurd cc
 code_takes (suc most) (b ∷ opens) s bytes code rest e =
@@ -269,7 +269,7 @@ code_takes (suc most) (b ∷ opens) s bytes code rest e =
 
 code_again : (most : ℕ) (opens : List Bool) (s : Bounds) (bytes : List ℕ) (code : List Instr) (rest : List ℕ)
     → length bytes ≤ most → IsCode opens bytes code rest → code_at most opens s bytes ≡ Ok (code, rest)
-unfolding code_at
+unfolding kept_at
 code_again most opens s bytes [] rest le h = rw (h.0, h.1) refl
 code_again most [] s bytes (i ∷ code) rest le h = absurd (omega (arith, h.0))
 code_again zero (b ∷ opens) s bytes (i ∷ code) rest le h = absurd (omega (arith, instr_shrinks bytes i h.1.2.0 h.1.2.1))
@@ -284,7 +284,7 @@ instrs_within bytes [] rest h = omega (arith, ap length h)
 instrs_within bytes (i ∷ code) rest h = omega (arith, instr_shrinks bytes i h.0 h.1, instrs_within h.0 code rest h.2)
 
 pub expression_law : Law SpellsExpression expression_at
-unfolding expression_at
+unfolding expression_at each_kept_at
 expression_law = record {
   takes = λ s bytes code rest e.
       let taken = code_takes (length bytes) (false ∷ []) s bytes code rest e in

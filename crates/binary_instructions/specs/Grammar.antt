@@ -36,7 +36,8 @@ IsReserved bytes rest = bytes ≡ 0x00 ∷ rest
 
 -- What stands behind the number of an atomic instruction.
 abbrev pub IsAtomicShaped : AtomicShape → Spelling Instr
-IsAtomicShaped (atomics.Access op) bytes i rest = (m : MemArg) × IsMemArg bytes m rest × (i ≡ instrs.Plain (plain.Atomic op m))
+IsAtomicShaped (atomics.Access op) bytes i rest = (m : MemArg) × IsMemArg bytes m rest
+    × (i ≡ instrs.Plain (plain.Atomic op m))
 IsAtomicShaped atomics.Fence bytes i rest = IsReserved bytes rest × (i ≡ instrs.Plain plain.Fence)
 
 -- A number in any spelling, and what stands behind it.
@@ -67,7 +68,8 @@ IsShaped shapes.BrTable bytes i rest = IsBrTable bytes i rest
 IsShaped shapes.CallIndirect bytes i rest = (n : ℕ) × (mid : List ℕ) × IsU32 bytes n mid
     × (IsReserved mid rest × (i ≡ instrs.Plain (plain.CallIndirect n)))
 IsShaped (shapes.Load op) bytes i rest = (m : MemArg) × IsMemArg bytes m rest × (i ≡ instrs.Plain (plain.Load op m))
-IsShaped (shapes.Store width) bytes i rest = (m : MemArg) × IsMemArg bytes m rest × (i ≡ instrs.Plain (plain.Store width m))
+IsShaped (shapes.Store width) bytes i rest = (m : MemArg) × IsMemArg bytes m rest
+    × (i ≡ instrs.Plain (plain.Store width m))
 IsShaped shapes.MemorySize bytes i rest = IsReserved bytes rest × (i ≡ instrs.Plain plain.MemorySize)
 IsShaped shapes.MemoryGrow bytes i rest = IsReserved bytes rest × (i ≡ instrs.Plain plain.MemoryGrow)
 IsShaped shapes.Atomic bytes i rest = IsAtomic bytes i rest

@@ -1,5 +1,5 @@
--- Which instruction an opcode begins (Core specification 1.0, section 5.4, with the sign extensions of 2.0), and a number
--- behind the prefix of atomic instructions (threads proposal, section "Binary format").
+-- Which instruction an opcode begins (Core specification 1.0, section 5.4, with the sign extensions of 2.0), and a
+-- number behind the prefix of atomic instructions (threads proposal, section "Binary format").
 use Rattle.std.specs.Prelude.{ℕ, zero, suc, ◌-◌, List, [], ◌∷◌, ◌++◌, map, Option, Some, None, Result, Ok, Err}
 use Rattle.std.specs.Prelude.{nat_lt, if◌then◌else◌, slice_index_or}
 use Rattle.binary_wire.specs.declared.fault.Fault.{Fault}
@@ -67,7 +67,8 @@ parametric = map (λ s. instr s) (shapes.Bare bare.Drop ∷ shapes.Bare bare.Sel
 
 -- Section 5.4.3.
 abbrev pub variables : List Opcode
-variables = map (λ i. instr (shapes.Index i)) (index.LocalGet ∷ index.LocalSet ∷ index.LocalTee ∷ index.GlobalGet ∷ index.GlobalSet ∷ [])
+variables = map (λ i. instr (shapes.Index i)) (index.LocalGet ∷ index.LocalSet ∷ index.LocalTee ∷ index.GlobalGet
+    ∷ index.GlobalSet ∷ [])
 
 -- Section 5.4.4.
 abbrev pub signed_load : NarrowWidth → Opcode
@@ -91,7 +92,8 @@ store width = instr (shapes.Store width)
 
 -- The widths below a type's own: first those of i32, then those of i64, the narrower first.
 abbrev pub narrow_widths : List AccessWidth
-narrow_widths = map (λ w. access.Narrow w) (narrow.I32Bits8 ∷ narrow.I32Bits16 ∷ narrow.I64Bits8 ∷ narrow.I64Bits16 ∷ narrow.I64Bits32 ∷ [])
+narrow_widths = map (λ w. access.Narrow w) (narrow.I32Bits8 ∷ narrow.I32Bits16 ∷ narrow.I64Bits8 ∷ narrow.I64Bits16
+    ∷ narrow.I64Bits32 ∷ [])
 
 abbrev pub whole_widths : List AccessWidth
 whole_widths = access.Whole types.I32 ∷ access.Whole types.I64 ∷ []
@@ -124,7 +126,8 @@ operators t =
 abbrev pub conversions : List Opcode
 conversions =
     instr (shapes.Numeric (numeric.Convert convert.WrapI64)) ∷ floats 4
-    ++ instr (shapes.Numeric (numeric.Convert convert.ExtendI32S)) ∷ instr (shapes.Numeric (numeric.Convert convert.ExtendI32U)) ∷ floats 18
+    ++ instr (shapes.Numeric (numeric.Convert convert.ExtendI32S))
+    ∷ instr (shapes.Numeric (numeric.Convert convert.ExtendI32U)) ∷ floats 18
 
 -- The sign extensions (Core specification 2.0, section 5.4.7): those of i32, then those of i64, the narrower first.
 abbrev pub sign_extensions : List Opcode
@@ -161,7 +164,8 @@ abbrev pub at_widths : (AccessWidth → AtomicOp) → List AtomicShape
 at_widths op = map (λ w. atomics.Access (op w)) (whole_widths ++ narrow_widths)
 
 abbrev pub waits : List AtomicShape
-waits = atomics.Access atomic.Notify ∷ atomics.Access (atomic.Wait types.I32) ∷ atomics.Access (atomic.Wait types.I64) ∷ atomics.Fence ∷ []
+waits = atomics.Access atomic.Notify ∷ atomics.Access (atomic.Wait types.I32) ∷ atomics.Access (atomic.Wait types.I64)
+    ∷ atomics.Fence ∷ []
 
 abbrev pub atomic_groups : List (Group (Option AtomicShape))
 atomic_groups = map (λ g. from g.first (map (λ s. Some s) g.members)) (

@@ -1,9 +1,13 @@
 -- Instructions and expressions, read from left to right: the value, or the first fault with its offset.
-use Rattle.std.specs.Prelude.{ℕ, zero, suc, ◌+◌, List, [], ◌∷◌, length, Bool, true, false, Option, Some, None, Result, Ok}
+use Rattle.std.specs.Prelude.{ℕ, zero, suc, ◌+◌, List, [], ◌∷◌, length, reverse, Bool, true, false, Option, Some, None}
+use Rattle.std.specs.Prelude.{Result, Ok}
 use Rattle.std.specs.Prelude.{Err, nat_eq, nat_lt, if◌then◌else◌}
 use Rattle.binary_wire.specs.declared.fault.Refusal.{Refusal}
+use Rattle.binary_wire.specs.declared.fault.ReadFault.{ReadFault}
+use Rattle.binary_wire.specs.declared.reader.Reader.{Reader}
 use Rattle.binary_wire.specs.Faults.{refusal, offset_of, refused, missing}
-use Rattle.binary_wire.specs.Reading.{Reading, ◌>>=◌, some_or, byte_at, front_is, tag_at, u32_at, s32_at, s64_at, vector_at}
+use Rattle.binary_wire.specs.Reading.{Reading, ◌>>=◌, GivesInMemory, GivesNextInMemoryAs}
+use Rattle.binary_wire.specs.Reading.{some_or, byte_at, front_is, tag_at, u32_at, s32_at, s64_at, vector_at}
 use Rattle.types.specs.declared.value.ValType.{ValType}
 use Rattle.types.specs.declared.value.ValType.TheVariants as types
 use Rattle.types.specs.declared.value.Value.TheVariants as values
@@ -32,7 +36,8 @@ known_at offset (Err kind) = Err (refusal kind offset)
 abbrev pub val_type_of : ℕ → Result ValType Fault
 val_type_of b =
     if nat_eq b 0x7f then Ok types.I32 else (if nat_eq b 0x7e then Ok types.I64
-    else (if nat_eq b 0x7d then Err kinds.Float else (if nat_eq b 0x7c then Err kinds.Float else Err kinds.UnknownByte)))
+    else (if nat_eq b 0x7d then Err kinds.Float else
+    (if nat_eq b 0x7c then Err kinds.Float else Err kinds.UnknownByte)))
 
 unfoldable pub val_type_at : Reading ValType
 val_type_at s bytes = do
@@ -126,6 +131,10 @@ stacked offset [] shapes.End = Err (refusal kinds.UnknownByte offset)
 stacked offset (may_divide ∷ opens) shapes.End = Ok opens
 stacked offset opens _ = Ok opens
 
+-- What code answers that enters, divides or leaves a block, and keeps the open blocks with the innermost last.
+abbrev pub GivesBlocks : {X : Type 0} → ℕ → Shape → List Bool → List Bool → Result X ReadFault → Type 0
+GivesBlocks offset shape old new result = GivesInMemory (λ _. reverse new) result (stacked offset (reverse old) shape)
+
 -- An instruction, and the blocks that are open behind it.
 unfoldable pub instr_at : List Bool → Reading (Instr × List Bool)
 instr_at opens s bytes = do
@@ -134,15 +143,27 @@ instr_at opens s bytes = do
   instr ← shaped_at shape.0 s shape.1
   Ok ((instr.0, inside), instr.1)
 
--- Instructions until no block is open, at most so many.
-unfoldable pub code_at : ℕ → List Bool → Reading (List Instr)
-code_at most [] s bytes = Ok ([], bytes)
-code_at zero (may_divide ∷ opens) s bytes = Err (missing s)
-code_at (suc most) (may_divide ∷ opens) s bytes = do
-  first ← instr_at (may_divide ∷ opens) s bytes
-  others ← code_at most first.0.1 s first.1
-  Ok (first.0.0 ∷ others.0, others.1)
+-- What code answers that reads the next instruction, and keeps the open blocks with the innermost last.
+abbrev pub GivesInstr : List Bool → List Bool → Reader → Reader → Result Instr ReadFault → Type 0
+GivesInstr opens inside old new result =
+    GivesNextInMemoryAs (λ i. (i, reverse inside)) (instr_at (reverse opens)) old new result
 
--- Each instruction takes a byte at least.
+-- What is kept of instructions, each by its offset, until no block is open: of at most so many.
+unfoldable pub kept_at : {A : Type 0} → (ℕ → Instr → A) → ℕ → List Bool → Reading (List A)
+kept_at kept most [] s bytes = Ok ([], bytes)
+kept_at kept zero (may_divide ∷ opens) s bytes = Err (missing s)
+kept_at kept (suc most) (may_divide ∷ opens) s bytes = do
+  first ← instr_at (may_divide ∷ opens) s bytes
+  others ← kept_at kept most first.0.1 s first.1
+  Ok (kept (offset_of s bytes) first.0.0 ∷ others.0, others.1)
+
+-- What is kept of an expression's instructions. Each instruction takes a byte at least.
+unfoldable pub each_kept_at : {A : Type 0} → (ℕ → Instr → A) → Reading (List A)
+each_kept_at kept s bytes = kept_at kept (length bytes) (false ∷ []) s bytes
+
+-- Instructions until no block is open, at most so many.
+abbrev pub code_at : ℕ → List Bool → Reading (List Instr)
+code_at most opens s bytes = kept_at (λ offset instr. instr) most opens s bytes
+
 unfoldable pub expression_at : Reading (List Instr)
-expression_at s bytes = code_at (length bytes) (false ∷ []) s bytes
+expression_at s bytes = each_kept_at (λ offset instr. instr) s bytes

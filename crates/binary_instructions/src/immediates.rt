@@ -1,7 +1,7 @@
 //! What stands behind an opcode.
 
 ghost use Rattle.std.specs.Prelude.{◌≡◌};
-ghost use Rattle.binary_wire.specs.Reading.{Gives, GivesInMemory};
+ghost use Rattle.binary_wire.specs.Reading.{GivesNext, GivesNextInMemory};
 ghost use Rattle.types.specs.declared.instr.Instr.TheVariants as instrs;
 ghost use Rattle.binary_instructions.specs.Reading.{val_type_of, val_type_at, block_type_at, memarg_at, reserved_at};
 
@@ -22,7 +22,7 @@ fn val_type_of_byte(byte: u8) -> Result<ValType, Fault>
 /// A type of values (Core specification 1.0, section 5.3.1).
 #[tactic(auto, unfolding(crate::specs::Reading::val_type_at))]
 pub fn read_val_type(reader: &mut Reader) -> Result<ValType, Refusal>
-    ensures gives { Gives (λ t. (t, reader.new.rest.now)) result (val_type_at reader.old.bounds reader.old.rest.now) }
+    ensures gives { GivesNext val_type_at reader.old reader.new result }
     ensures keeps { reader.new.bounds ≡ reader.old.bounds }
 {
     let offset = reader.offset();
@@ -35,7 +35,7 @@ pub fn read_val_type(reader: &mut Reader) -> Result<ValType, Refusal>
 /// The type of a block (Core specification 1.0, section 5.3.2).
 #[tactic(auto, unfolding(crate::specs::Reading::block_type_at))]
 pub fn read_block_type(reader: &mut Reader) -> Result<BlockType, Refusal>
-    ensures gives { Gives (λ t. (t, reader.new.rest.now)) result (block_type_at reader.old.bounds reader.old.rest.now) }
+    ensures gives { GivesNext block_type_at reader.old reader.new result }
     ensures keeps { reader.new.bounds ≡ reader.old.bounds }
 {
     if reader.front_is(0x40) {
@@ -48,7 +48,7 @@ pub fn read_block_type(reader: &mut Reader) -> Result<BlockType, Refusal>
 /// The immediates of a memory instruction (Core specification 1.0, section 5.4.4).
 #[tactic(auto, unfolding(crate::specs::Reading::memarg_at))]
 pub fn read_memarg(reader: &mut Reader) -> Result<MemArg, Refusal>
-    ensures gives { Gives (λ m. (m, reader.new.rest.now)) result (memarg_at reader.old.bounds reader.old.rest.now) }
+    ensures gives { GivesNext memarg_at reader.old reader.new result }
     ensures keeps { reader.new.bounds ≡ reader.old.bounds }
 {
     let align = reader.read_u32()?;
@@ -59,8 +59,7 @@ pub fn read_memarg(reader: &mut Reader) -> Result<MemArg, Refusal>
 /// An instruction that ends with a reserved byte, which has to be `00`.
 #[tactic(auto, unfolding(crate::specs::Reading::reserved_at))]
 pub fn read_reserved(reader: &mut Reader, instr: PlainInstr) -> Result<Instr, ReadFault>
-    ensures gives { GivesInMemory (λ i. (i, reader.new.rest.now)) result
-        (reserved_at (instrs.Plain instr) reader.old.bounds reader.old.rest.now) }
+    ensures gives { GivesNextInMemory (reserved_at (instrs.Plain instr)) reader.old reader.new result }
     ensures keeps { reader.new.bounds ≡ reader.old.bounds }
 {
     let offset = reader.offset();

@@ -13,5 +13,5 @@ mod immediates;
 mod opcodes;
 mod shaped;
 
-pub use expression::{read_expression, read_instr};
+pub use expression::{Keep, read_each, read_expression};
 pub use immediates::read_val_type;

@@ -1,9 +1,10 @@
 //! Instructions, each by the shape of its opcode.
 
 ghost use Rattle.std.specs.Prelude.{◌≡◌};
-ghost use Rattle.binary_wire.specs.Reading.{Gives, GivesInMemory};
+ghost use Rattle.binary_wire.specs.Reading.{GivesNext, GivesNextInMemory};
 ghost use Rattle.binary_instructions.specs.Instructions.{opening, bare_instr, index_instr};
-ghost use Rattle.binary_instructions.specs.Reading.{shape_at, atomic_at, const_at, br_table_at, call_indirect_at, shaped_at};
+ghost use Rattle.binary_instructions.specs.Reading.{shape_at, atomic_at, const_at, br_table_at, call_indirect_at};
+ghost use Rattle.binary_instructions.specs.Reading.{shaped_at};
 
 use crate::immediates::{read_block_type, read_memarg, read_reserved};
 use crate::opcodes::{
@@ -53,7 +54,7 @@ fn index_instr_of(op: IndexInstr, index: u32) -> PlainInstr
 /// An opcode.
 #[tactic(auto, unfolding(crate::specs::Reading::shape_at))]
 pub fn read_shape(reader: &mut Reader) -> Result<Shape, Refusal>
-    ensures gives { Gives (λ s. (s, reader.new.rest.now)) result (shape_at reader.old.bounds reader.old.rest.now) }
+    ensures gives { GivesNext shape_at reader.old reader.new result }
     ensures keeps { reader.new.bounds ≡ reader.old.bounds }
 {
     let offset = reader.offset();
@@ -66,7 +67,7 @@ pub fn read_shape(reader: &mut Reader) -> Result<Shape, Refusal>
 /// The instruction of a number behind the prefix of atomic instructions (threads proposal, section "Binary format").
 #[tactic(auto, unfolding(crate::specs::Reading::atomic_at, crate::specs::Reading::atomic_shaped_at))]
 fn read_atomic(reader: &mut Reader) -> Result<Instr, ReadFault>
-    ensures gives { GivesInMemory (λ i. (i, reader.new.rest.now)) result (atomic_at reader.old.bounds reader.old.rest.now) }
+    ensures gives { GivesNextInMemory atomic_at reader.old reader.new result }
     ensures keeps { reader.new.bounds ≡ reader.old.bounds }
 {
     let offset = reader.offset();
@@ -87,7 +88,7 @@ fn read_atomic(reader: &mut Reader) -> Result<Instr, ReadFault>
 /// A constant (Core specification 1.0, section 5.4.5).
 #[tactic(auto, unfolding(crate::specs::Reading::const_at))]
 fn read_const(reader: &mut Reader, val_type: ValType) -> Result<Instr, ReadFault>
-    ensures gives { GivesInMemory (λ i. (i, reader.new.rest.now)) result (const_at val_type reader.old.bounds reader.old.rest.now) }
+    ensures gives { GivesNextInMemory (const_at val_type) reader.old reader.new result }
     ensures keeps { reader.new.bounds ≡ reader.old.bounds }
 {
     let instr = match val_type {
@@ -100,7 +101,7 @@ fn read_const(reader: &mut Reader, val_type: ValType) -> Result<Instr, ReadFault
 /// The labels of `br_table`, and its default label (Core specification 1.0, section 5.4.1).
 #[tactic(auto, unfolding(crate::specs::Reading::br_table_at))]
 fn read_br_table(reader: &mut Reader, alloc: Global) -> Result<Instr, ReadFault>
-    ensures gives { GivesInMemory (λ i. (i, reader.new.rest.now)) result (br_table_at reader.old.bounds reader.old.rest.now) }
+    ensures gives { GivesNextInMemory br_table_at reader.old reader.new result }
     ensures keeps { reader.new.bounds ≡ reader.old.bounds }
 {
     let labels = read_vector::<IndexItem>(reader, alloc, u32::MAX)?;
@@ -111,7 +112,7 @@ fn read_br_table(reader: &mut Reader, alloc: Global) -> Result<Instr, ReadFault>
 /// The type of `call_indirect` and its reserved byte (Core specification 1.0, section 5.4.1).
 #[tactic(auto, unfolding(crate::specs::Reading::call_indirect_at))]
 fn read_call_indirect(reader: &mut Reader) -> Result<Instr, ReadFault>
-    ensures gives { GivesInMemory (λ i. (i, reader.new.rest.now)) result (call_indirect_at reader.old.bounds reader.old.rest.now) }
+    ensures gives { GivesNextInMemory call_indirect_at reader.old reader.new result }
     ensures keeps { reader.new.bounds ≡ reader.old.bounds }
 {
     let type_index = reader.read_u32()?;
@@ -121,7 +122,7 @@ fn read_call_indirect(reader: &mut Reader) -> Result<Instr, ReadFault>
 /// The immediates of an instruction, behind its opcode.
 #[tactic(auto, unfolding(crate::specs::Reading::shaped_at))]
 pub fn read_shaped(reader: &mut Reader, alloc: Global, shape: Shape) -> Result<Instr, ReadFault>
-    ensures gives { GivesInMemory (λ i. (i, reader.new.rest.now)) result (shaped_at shape reader.old.bounds reader.old.rest.now) }
+    ensures gives { GivesNextInMemory (shaped_at shape) reader.old reader.new result }
     ensures keeps { reader.new.bounds ≡ reader.old.bounds }
 {
     let instr = match shape {

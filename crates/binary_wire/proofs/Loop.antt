@@ -1,5 +1,5 @@
 -- Reading items one after the other, as a loop does.
-use Rattle.std.proofs.Common.{◌≡◌, ℕ, suc, ◌-◌, ◌+◌, ◌≤◌, ◌<◌, List, [], ◌∷◌, ◌++◌, Result, Ok, Err, refl, sym, ap, ◌∙◌, append_assoc, arith}
+use Rattle.std.proofs.Common.{◌≡◌, ℕ, suc, ◌-◌, ◌+◌, ◌≤◌, ◌<◌, List, [], ◌∷◌, ◌++◌, Result, Ok, Err, refl, sym, ap, subst, ◌∙◌, append_assoc, arith}
 use Rattle.std.proofs.lemmas.List.{append-nil}
 use Rattle.binary_wire.specs.declared.bounds.Bounds.{Bounds}
 use Rattle.binary_wire.specs.declared.fault.Refusal.{Refusal}
@@ -23,24 +23,26 @@ pub regroup_one : {A : Type 0} (front : List A) (n : A) (read : Result (List A �
 regroup_one {A} front n (Ok x) = ap (λ (ns : List A). gives ns x.1) (simp append_assoc)
 regroup_one front n (Err e) = refl
 
-pub goes_on : {A : Type 0} (item : Reading A) (front : List A) (count i : ℕ) (s : Bounds) (bytes : List ℕ)
-    (n : A) (after : List ℕ) (total : Result (List A × List ℕ) Refusal) → i < count → item s bytes ≡ Ok (n, after)
+pub goes_on : {A : Type 0} (item : Reading A) (front : List A) (count i : ℕ) (s t : Bounds) (bytes : List ℕ)
+    (n : A) (after : List ℕ) (total : Result (List A × List ℕ) Refusal) → i < count → t ≡ s → item t bytes ≡ Ok (n, after)
     → with_front front (items_at item (count - i) s bytes) ≡ total → with_front (front ++ n ∷ []) (items_at item (count - (i + 1)) s after) ≡ total
 unfolding items_at
-goes_on item front count i s bytes n after total lt h so_far =
+goes_on item front count i s t bytes n after total lt same read so_far =
     let k : count - i ≡ suc (count - (i + 1)) = omega arith in
+    let h = subst (λ (b : Bounds). item b bytes ≡ Ok (n, after)) same read in
     let one : with_front front (items_at item (count - i) s bytes) ≡ with_front (front ++ n ∷ [])
     (items_at item (count - (i + 1)) s after) = rw (k, h)
     (regroup_one front n (items_at item (count - (i + 1)) s after)) in
     sym one ∙ so_far
 
-pub ends : {A : Type 0} (item : Reading A) (e : ReadFault) (front : List A) (count i : ℕ) (s : Bounds)
-    (bytes : List ℕ) (total : Result (List A × List ℕ) Refusal) → i < count → Fails e (item s bytes)
+pub ends : {A : Type 0} (item : Reading A) (e : ReadFault) (front : List A) (count i : ℕ) (s t : Bounds)
+    (bytes : List ℕ) (total : Result (List A × List ℕ) Refusal) → i < count → t ≡ s → Fails e (item t bytes)
     → with_front front (items_at item (count - i) s bytes) ≡ total → Fails e total
 unfolding items_at
-ends item OutOfMemory front count i s bytes total lt h so_far = tt
-ends item (Malformed kind offset) front count i s bytes total lt h so_far =
+ends item OutOfMemory front count i s t bytes total lt same read so_far = tt
+ends item (Malformed kind offset) front count i s t bytes total lt same read so_far =
     let k : count - i ≡ suc (count - (i + 1)) = omega arith in
+    let h = subst (λ (b : Bounds). Fails (Malformed kind offset) (item b bytes)) same read in
     let one : with_front front (items_at item (count - i) s bytes) ≡ bad (refusal kind offset) = rw (k, h) refl in
     sym so_far ∙ one
 

@@ -3,6 +3,7 @@ use Rattle.std.specs.Prelude.{◌≡◌, ℕ, zero, suc, ◌+◌, ◌-◌, ◌*�
 use Rattle.std.specs.Prelude.{None, Result, Ok, Err, nat_lt, nat_eq, Bool, true, false, if◌then◌else◌}
 use Rattle.std.specs.Str.{is_utf8}
 use Rattle.binary_wire.specs.declared.bounds.Bounds.{Bounds}
+use Rattle.binary_wire.specs.declared.reader.Reader.{Reader}
 use Rattle.binary_wire.specs.declared.fault.Fault.{Fault}
 use Rattle.binary_wire.specs.declared.fault.Fault.TheVariants as kinds
 use Rattle.binary_wire.specs.declared.fault.Refusal.{Refusal}
@@ -43,6 +44,31 @@ Gives view (Err e) read = read ≡ Err e
 abbrev pub GivesInMemory : {X Y : Type 0} → (X → Y) → Result X ReadFault → Result Y Refusal → Type 0
 GivesInMemory view (Ok x) read = read ≡ Ok (view x)
 GivesInMemory view (Err e) read = Fails e read
+
+-- What reading gives of what a reader has left.
+abbrev pub read_at : {A : Type 0} → (Bounds → List ℕ → Result A Refusal) → Reader → Result A Refusal
+read_at reading reader = reading reader.bounds reader.rest.now
+
+-- What a reader answers that reads the value at the front of what it had left, seen by view, and is left at the bytes
+-- behind it.
+abbrev pub GivesNextAs : {X A : Type 0} → (X → A) → Reading A → Reader → Reader → Result X Refusal → Type 0
+GivesNextAs view reading old new result = Gives (λ x. (view x, new.rest.now)) result (read_at reading old)
+
+abbrev pub GivesNext : {A : Type 0} → Reading A → Reader → Reader → Result A Refusal → Type 0
+GivesNext reading old new result = GivesNextAs (λ x. x) reading old new result
+
+-- The same of one that takes memory.
+abbrev pub GivesNextInMemoryAs : {X A : Type 0} → (X → A) → Reading A → Reader → Reader → Result X ReadFault → Type 0
+GivesNextInMemoryAs view reading old new result =
+    GivesInMemory (λ x. (view x, new.rest.now)) result (read_at reading old)
+
+abbrev pub GivesNextInMemory : {A : Type 0} → Reading A → Reader → Reader → Result A ReadFault → Type 0
+GivesNextInMemory reading old new result = GivesNextInMemoryAs (λ x. x) reading old new result
+
+-- What a reader answers that passes over what has to stand at the front of what it had left.
+abbrev pub PassesOver : {X : Type 0} → (Bounds → List ℕ → Result (List ℕ) Refusal) → Reader → Reader → Result X Refusal
+    → Type 0
+PassesOver reading old new result = Gives (λ _. new.rest.now) result (read_at reading old)
 
 abbrev pub front : List ℕ → Option ℕ
 front [] = None
@@ -90,7 +116,8 @@ unfoldable pub signed_at : ℕ → ℕ → Reading ℕ
 signed_at half first s [] = Err (missing s)
 signed_at half first s (b ∷ rest) =
     if nat_lt b 64 then (if nat_lt b half then Ok (b, rest) else Err (refusal kinds.Number first))
-    else (if nat_lt b 128 then (if nat_lt (b + half) 128 then Err (refusal kinds.Number first) else Ok (half - (128 - b) + half, rest))
+    else (if nat_lt b 128 then (if nat_lt (b + half) 128 then Err (refusal kinds.Number first) else Ok
+    (half - (128 - b) + half, rest))
     else (if nat_lt 64 half then (signed_at (half / 128) first s rest >>= λ x. Ok (b - 128 + 128 * x.0, x.1))
     else Err (refusal kinds.Number first)))
 

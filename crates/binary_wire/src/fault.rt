@@ -70,7 +70,8 @@ impl Fault {
     }
 }
 
-/// Why bytes are refused: how they are malformed, and the offset in the input. What takes no memory fails by this alone.
+/// Why bytes are refused: how they are malformed, and the offset in the input. What takes no memory fails by this
+/// alone.
 #[derive(Clone, Copy, Debug, PartialEq, Eq, Error)]
 #[error("{kind} at {offset}")]
 pub struct Refusal {

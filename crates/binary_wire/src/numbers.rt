@@ -2,7 +2,7 @@
 
 ghost use Rattle.std.specs.Prelude.{◌≡◌, ◌*◌, ◌^◌, ◌<◌, ◌≤◌, IfOk};
 ghost use Rattle.binary_wire.specs.Grammar.{IsPower, IsTop};
-ghost use Rattle.binary_wire.specs.Reading.{Gives, unsigned_at, signed_at, s32_at, s64_at, u32_at, u32_within_at};
+ghost use Rattle.binary_wire.specs.Reading.{GivesNext, unsigned_at, signed_at, s32_at, s64_at, u32_at, u32_within_at};
 ghost use Rattle.binary_wire.specs.Faults.{refusal};
 ghost use Rattle.binary_wire.specs.declared.fault.Fault.TheVariants as kinds;
 
@@ -23,7 +23,7 @@ impl<'a> Reader<'a> {
     #[tactic(auto, unfolding(crate::specs::Reading::unsigned_at))]
     fn read_unsigned(&mut self, top: u64, first: usize) -> Result<u64, Refusal>
         requires { IsTop top }
-        ensures gives { Gives (λ n. (n, self.new.rest.now)) result (unsigned_at top first self.old.bounds self.old.rest.now) }
+        ensures gives { GivesNext (unsigned_at top first) self.old self.new result }
         ensures keeps { self.new.bounds ≡ self.old.bounds }
         ensures fits { IfOk result (λ n. n ≤ top) }
     {
@@ -46,7 +46,7 @@ impl<'a> Reader<'a> {
     fn read_signed(&mut self, half: u64, first: usize) -> Result<u64, Refusal>
         requires power { IsPower half }
         requires most { half ≤ 2 ^ 63 }
-        ensures gives { Gives (λ n. (n, self.new.rest.now)) result (signed_at half first self.old.bounds self.old.rest.now) }
+        ensures gives { GivesNext (signed_at half first) self.old self.new result }
         ensures keeps { self.new.bounds ≡ self.old.bounds }
         ensures fits { IfOk result (λ n. n < 2 * half) }
     {
@@ -72,7 +72,7 @@ impl<'a> Reader<'a> {
 
     /// An unsigned number of 32 bits.
     pub fn read_u32(&mut self) -> Result<u32, Refusal>
-        ensures gives { Gives (λ n. (n, self.new.rest.now)) result (u32_at self.old.bounds self.old.rest.now) }
+        ensures gives { GivesNext u32_at self.old self.new result }
         ensures keeps { self.new.bounds ≡ self.old.bounds }
     {
         let first = self.offset();
@@ -83,7 +83,7 @@ impl<'a> Reader<'a> {
     /// An unsigned number of 32 bits that is no more than a limit.
     #[tactic(auto, unfolding(crate::specs::Reading::u32_within_at))]
     pub fn read_u32_within(&mut self, limit: u32) -> Result<u32, Refusal>
-        ensures gives { Gives (λ n. (n, self.new.rest.now)) result (u32_within_at limit self.old.bounds self.old.rest.now) }
+        ensures gives { GivesNext (u32_within_at limit) self.old self.new result }
         ensures keeps { self.new.bounds ≡ self.old.bounds }
         ensures fits { IfOk result (λ n. n ≤ limit) }
     {
@@ -100,7 +100,7 @@ impl<'a> Reader<'a> {
 
     /// A signed number of 32 bits, in two's complement.
     pub fn read_s32(&mut self) -> Result<u32, Refusal>
-        ensures gives { Gives (λ n. (n, self.new.rest.now)) result (s32_at self.old.bounds self.old.rest.now) }
+        ensures gives { GivesNext s32_at self.old self.new result }
         ensures keeps { self.new.bounds ≡ self.old.bounds }
     {
         let first = self.offset();
@@ -110,7 +110,7 @@ impl<'a> Reader<'a> {
 
     /// A signed number of 64 bits, in two's complement.
     pub fn read_s64(&mut self) -> Result<u64, Refusal>
-        ensures gives { Gives (λ n. (n, self.new.rest.now)) result (s64_at self.old.bounds self.old.rest.now) }
+        ensures gives { GivesNext s64_at self.old self.new result }
         ensures keeps { self.new.bounds ≡ self.old.bounds }
     {
         let first = self.offset();

@@ -2,7 +2,6 @@
 
 ghost use Rattle.std.specs.Prelude.{◌≡◌, ◌-◌, ◌≤◌, length, IfOk, true};
 ghost use Rattle.std.specs.Str.{is_utf8};
-ghost use Rattle.binary_wire.specs.Reading.{Gives, byte_at, slice_at, block_at, name_at, end_at, front_is, front};
 ghost use Rattle.binary_wire.specs.Faults.{refused, missing, input, inside};
 
 use crate::bounds::Bounds;
@@ -17,6 +16,9 @@ pub struct Reader<'a> {
 }
 
 impl<'a> Reader<'a> {
+    ghost use Rattle.binary_wire.specs.Reading.{Gives, GivesNext, GivesNextAs, read_at, byte_at, slice_at, block_at};
+    ghost use Rattle.binary_wire.specs.Reading.{name_at, end_at, front_is, front};
+
     /// A reader of the whole input.
     pub fn new(bytes: &'a [u8]) -> Reader<'a>
         ensures rest { result.rest.now ≡ bytes.now }
@@ -87,7 +89,7 @@ impl<'a> Reader<'a> {
 
     /// The next byte.
     pub fn read_byte(&mut self) -> Result<u8, Refusal>
-        ensures gives { Gives (λ b. (b, self.new.rest.now)) result (byte_at self.old.bounds self.old.rest.now) }
+        ensures gives { GivesNext byte_at self.old self.new result }
         ensures keeps { self.new.bounds ≡ self.old.bounds }
     {
         match self.rest {
@@ -101,7 +103,7 @@ impl<'a> Reader<'a> {
 
     /// The next bytes, so many.
     fn read_slice(&mut self, len: usize) -> Result<&'a [u8], Refusal>
-        ensures gives { Gives (λ s. (s.now, self.new.rest.now)) result (slice_at len self.old.bounds self.old.rest.now) }
+        ensures gives { GivesNextAs (λ s. s.now) (slice_at len) self.old self.new result }
         ensures keeps { self.new.bounds ≡ self.old.bounds }
     {
         if self.rest.len() < len {
@@ -114,7 +116,7 @@ impl<'a> Reader<'a> {
 
     /// A reader of the next bytes, so many, as contents of stated size.
     pub fn read_part(&mut self, len: usize) -> Result<Reader<'a>, Refusal>
-        ensures gives { Gives (λ r. (r.rest.now, self.new.rest.now)) result (slice_at len self.old.bounds self.old.rest.now) }
+        ensures gives { GivesNextAs (λ r. r.rest.now) (slice_at len) self.old self.new result }
         ensures keeps { self.new.bounds ≡ self.old.bounds }
         ensures bounds { IfOk result (λ r. r.bounds ≡ inside self.new.bounds self.new.rest.now) }
     {
@@ -130,7 +132,7 @@ impl<'a> Reader<'a> {
 
     /// That nothing is left of contents of stated size.
     pub fn finish(&self) -> Result<(), Refusal>
-        ensures gives { Gives (λ _. true) result (end_at self.now.bounds self.now.rest.now) }
+        ensures gives { Gives (λ _. true) result (read_at end_at self.now) }
     {
         match self.rest {
             [] => Ok(()),
@@ -141,7 +143,7 @@ impl<'a> Reader<'a> {
     /// A size, and a reader of so many bytes.
     #[tactic(auto, unfolding(crate::specs::Reading::block_at))]
     pub fn read_block(&mut self) -> Result<Reader<'a>, Refusal>
-        ensures gives { Gives (λ r. (r.rest.now, self.new.rest.now)) result (block_at self.old.bounds self.old.rest.now) }
+        ensures gives { GivesNextAs (λ r. r.rest.now) block_at self.old self.new result }
         ensures keeps { self.new.bounds ≡ self.old.bounds }
         ensures bounds { IfOk result (λ r. r.bounds ≡ inside self.new.bounds self.new.rest.now) }
     {
@@ -152,7 +154,7 @@ impl<'a> Reader<'a> {
     /// A size, and so many bytes.
     #[tactic(auto, unfolding(crate::specs::Reading::block_at))]
     pub fn read_bytes(&mut self) -> Result<&'a [u8], Refusal>
-        ensures gives { Gives (λ s. (s.now, self.new.rest.now)) result (block_at self.old.bounds self.old.rest.now) }
+        ensures gives { GivesNextAs (λ s. s.now) block_at self.old self.new result }
         ensures keeps { self.new.bounds ≡ self.old.bounds }
     {
         let len = self.read_u32()?;
@@ -162,7 +164,7 @@ impl<'a> Reader<'a> {
     /// A name (Core specification 1.0, section 5.2.4).
     #[tactic(auto, unfolding(crate::specs::Reading::name_at, crate::specs::Reading::block_at))]
     pub fn read_name(&mut self) -> Result<&'a str, Refusal>
-        ensures gives { Gives (λ s. (s.now, self.new.rest.now)) result (name_at self.old.bounds self.old.rest.now) }
+        ensures gives { GivesNextAs (λ s. s.now) name_at self.old self.new result }
         ensures keeps { self.new.bounds ≡ self.old.bounds }
     {
         let size = self.read_u32()?;

@@ -1,7 +1,7 @@
 //! Vectors: a count, and so many items (Core specification 1.0, section 5.1.3).
 
 ghost use Rattle.std.specs.Prelude.{◌≡◌};
-ghost use Rattle.binary_wire.specs.Reading.{Reading, GivesInMemory, vector_at, items_at, u32_at};
+ghost use Rattle.binary_wire.specs.Reading.{Reading, GivesNextInMemory, vector_at, items_at, u32_at};
 
 use crate::fault::ReadFault;
 use crate::reader::Reader;
@@ -18,7 +18,7 @@ pub trait Item {
 
     /// Reads one item.
     fn read(reader: &mut Reader, alloc: Global) -> Result<Self::Value, ReadFault>
-        ensures gives { GivesInMemory (λ x. (x, reader.new.rest.now)) result (at reader.old.bounds reader.old.rest.now) }
+        ensures gives { GivesNextInMemory at reader.old reader.new result }
         ensures keeps { reader.new.bounds ≡ reader.old.bounds };
 }
 
@@ -41,7 +41,7 @@ fn read_items<T: Item>(
     alloc: Global,
     count: u32,
 ) -> Result<Sequence<T::Value>, ReadFault>
-    ensures gives { GivesInMemory (λ v. (v, reader.new.rest.now)) result (items_at T.at count reader.old.bounds reader.old.rest.now) }
+    ensures gives { GivesNextInMemory (items_at T.at count) reader.old reader.new result }
     ensures keeps { reader.new.bounds ≡ reader.old.bounds }
 {
     let mut items = Vec::new(alloc);
@@ -59,7 +59,7 @@ pub fn read_vector<T: Item>(
     alloc: Global,
     limit: u32,
 ) -> Result<Sequence<T::Value>, ReadFault>
-    ensures gives { GivesInMemory (λ v. (v, reader.new.rest.now)) result (vector_at limit T.at reader.old.bounds reader.old.rest.now) }
+    ensures gives { GivesNextInMemory (vector_at limit T.at) reader.old reader.new result }
     ensures keeps { reader.new.bounds ≡ reader.old.bounds }
 {
     let count = reader.read_u32_within(limit)?;

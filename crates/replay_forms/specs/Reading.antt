@@ -1,6 +1,7 @@
 -- Reading from left to right: the value at the front and the bytes behind it, or nothing.
 use Rattle.std.specs.Prelude.{◌≡◌, ℕ, zero, suc, ◌+◌, ◌-◌, ◌*◌, ◌^◌, ◌==◌, ◌≤◌, ◌&&◌, Bool, cond, nat_lt, nat_le}
 use Rattle.std.specs.Prelude.{List, [], ◌∷◌, length, Option, Some, None, option_and_then, pos, negsuc, ℤ}
+use Rattle.std.specs.Borrow.{Bor}
 
 infixl 10 ◌>>=◌
 abbrev pub ◌>>=◌ : {A B : Type 0} → Option A → (A → Option B) → Option B
@@ -13,6 +14,13 @@ Reader A = List ℕ → Option (A × List ℕ)
 abbrev pub Reads : {X Y : Type 0} → (X → Y) → Option X → Option Y → Type 0
 Reads view None read = read ≡ None
 Reads view (Some x) read = read ≡ Some (view x)
+
+-- What a reader in code answers that reads the value at the front of bytes, seen by view, and the bytes behind it.
+abbrev pub ReadsNextAs : {X A : Type 0} → (X → A) → Reader A → List ℕ → Option (X × Bor (List ℕ)) → Type 0
+ReadsNextAs view at bytes result = Reads (λ r. (view r.0, r.1.now)) result (at bytes)
+
+abbrev pub ReadsNext : {A : Type 0} → Reader A → List ℕ → Option (A × Bor (List ℕ)) → Type 0
+ReadsNext at bytes result = ReadsNextAs (λ x. x) at bytes result
 
 -- The bytes behind a word that has to stand there.
 unfoldable pub after : List ℕ → List ℕ → Option (List ℕ)
@@ -74,9 +82,13 @@ abbrev pub FitsSigned64 : ℤ → Type 0
 FitsSigned64 (pos n) = n ≤ 2 ^ 63 - 1
 FitsSigned64 (negsuc n) = suc n ≤ 2 ^ 63
 
+-- A negative number of 64 bits, and the word behind it.
+abbrev pub negative_then : List ℕ → Reader ℤ
+negative_then word = made negative (behind (45 ∷ []) (number_then (2 ^ 63) word))
+
 -- A signed number of 64 bits, and the word behind it.
 abbrev pub signed_then : List ℕ → Reader ℤ
-signed_then word = first (made positive (number_then (2 ^ 63 - 1) word)) (made negative (behind (45 ∷ []) (number_then (2 ^ 63) word)))
+signed_then word = first (made positive (number_then (2 ^ 63 - 1) word)) (negative_then word)
 
 abbrev pub more_of : {A : Type 0} → Option (A × List ℕ) → List ℕ → (List ℕ → List A × List ℕ) → List A × List ℕ
 more_of None bytes others = ([], bytes)
@@ -98,4 +110,5 @@ hex_byte_at (c ∷ d ∷ rest) = hex_value c >>= λ high. hex_value d >>= λ low
 
 -- As many items as are there, and the word behind the last.
 abbrev pub listed : {A : Type 0} → (ℕ → Reader A) → List ℕ → Reader (List A)
-listed at word bytes = after word (several at 0 (length bytes) bytes).1 >>= λ rest. Some ((several at 0 (length bytes) bytes).0, rest)
+listed at word bytes = after word (several at 0 (length bytes) bytes).1 >>= λ rest. Some
+    ((several at 0 (length bytes) bytes).0, rest)

@@ -1,5 +1,10 @@
 -- Texts of lines and words.
-use Rattle.std.specs.Prelude.{ℕ, ◌+◌, ◌/◌, ◌%◌, List, [], ◌∷◌, ◌++◌, nat_lt, if◌then◌else◌}
+use Rattle.std.specs.Prelude.{ℕ, ◌+◌, ◌/◌, ◌%◌, List, [], ◌∷◌, ◌++◌, nat_lt, if◌then◌else◌, Option, Result, OnOk}
+use Rattle.std.specs.Io.KnownBytes.{Appends}
+
+-- What a function answers that writes a text: where it answers Ok, the writer took exactly that text.
+abbrev pub Wrote : {W X E : Type 0} → (W → Option (List ℕ)) → W → W → Result X E → List ℕ → Type 0
+Wrote contents old new result text = OnOk result (Appends (contents old) (contents new) text)
 
 -- The words, a space before each, and a line feed behind the last, in front of other bytes.
 abbrev pub words_line : List (List ℕ) → List ℕ → List ℕ

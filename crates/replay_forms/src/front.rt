@@ -1,8 +1,8 @@
 //! Readers of one word or one number at the front of bytes.
 
-ghost use Rattle.std.specs.Prelude.{◌≡◌, ◌<◌, ◌≤◌, ◌^◌, [], ◌∷◌, IfSome};
-ghost use Rattle.replay_forms.specs.Reading.{Reads, after, digits_after, number_at, number_within};
-ghost use Rattle.replay_forms.specs.Reading.{number_then, signed_then, made, behind, negative};
+ghost use Rattle.std.specs.Prelude.{◌≡◌, ◌<◌, ◌≤◌, IfSome};
+ghost use Rattle.replay_forms.specs.Reading.{Reads, ReadsNext, after, digits_after, number_at, number_within};
+ghost use Rattle.replay_forms.specs.Reading.{number_then, signed_then, negative_then};
 ghost use Rattle.replay_forms.specs.Texts.{hex_digit};
 
 /// The bytes behind a word that has to stand there.
@@ -22,7 +22,7 @@ pub fn after<'a>(word: &[u8], bytes: &'a [u8]) -> Option<&'a [u8]>
 /// The number that is made by the digits in front of `bytes` behind those of `n`.
 #[tactic(auto, unfolding(crate::specs::Reading::digits_after))]
 fn digits_after(n: u64, bytes: &[u8]) -> Option<(u64, &[u8])>
-    ensures { Reads (λ r. (r.0, r.1.now)) result (digits_after n bytes.now) }
+    ensures { ReadsNext (digits_after n) bytes.now result }
 {
     match bytes {
         [] => Some((n, bytes)),
@@ -45,7 +45,7 @@ fn digits_after(n: u64, bytes: &[u8]) -> Option<(u64, &[u8])>
 /// An unsigned decimal without leading zeros.
 #[tactic(auto, unfolding(crate::specs::Reading::number_at))]
 fn number_at(bytes: &[u8]) -> Option<(u64, &[u8])>
-    ensures { Reads (λ r. (r.0, r.1.now)) result (number_at bytes.now) }
+    ensures { ReadsNext number_at bytes.now result }
 {
     match bytes {
         [] => None,
@@ -64,7 +64,7 @@ fn number_at(bytes: &[u8]) -> Option<(u64, &[u8])>
 
 /// An unsigned decimal of at most `max`, without leading zeros.
 pub fn number_within(max: u64, bytes: &[u8]) -> Option<(u64, &[u8])>
-    ensures reads { Reads (λ r. (r.0, r.1.now)) result (number_within max bytes.now) }
+    ensures reads { ReadsNext (number_within max) bytes.now result }
     ensures within { IfSome result (λ r. r.0 ≤ max) }
 {
     let (n, rest) = number_at(bytes)?;
@@ -73,7 +73,7 @@ pub fn number_within(max: u64, bytes: &[u8]) -> Option<(u64, &[u8])>
 
 /// An unsigned decimal of at most `max`, without leading zeros, and the word behind it.
 pub fn number_then<'a>(max: u64, word: &[u8], bytes: &'a [u8]) -> Option<(u64, &'a [u8])>
-    ensures reads { Reads (λ r. (r.0, r.1.now)) result (number_then max word.now bytes.now) }
+    ensures reads { ReadsNext (number_then max word.now) bytes.now result }
     ensures within { IfSome result (λ r. r.0 ≤ max) }
 {
     let (n, rest) = number_within(max, bytes)?;
@@ -82,7 +82,7 @@ pub fn number_then<'a>(max: u64, word: &[u8], bytes: &'a [u8]) -> Option<(u64, &
 }
 
 fn negative_then<'a>(word: &[u8], bytes: &'a [u8]) -> Option<(i64, &'a [u8])>
-    ensures { Reads (λ r. (r.0, r.1.now)) result (made negative (behind (45 ∷ []) (number_then (2 ^ 63) word.now)) bytes.now) }
+    ensures { ReadsNext (negative_then word.now) bytes.now result }
 {
     let rest = after(b"-", bytes)?;
     let (n, rest) = number_then(1 << 63, word, rest)?;
@@ -94,7 +94,7 @@ fn negative_then<'a>(word: &[u8], bytes: &'a [u8]) -> Option<(i64, &'a [u8])>
 
 /// A signed decimal of 64 bits without leading zeros and never `-0`, and the word behind it.
 pub fn signed_then<'a>(word: &[u8], bytes: &'a [u8]) -> Option<(i64, &'a [u8])>
-    ensures { Reads (λ r. (r.0, r.1.now)) result (signed_then word.now bytes.now) }
+    ensures { ReadsNext (signed_then word.now) bytes.now result }
 {
     if let Some((n, rest)) = number_then(i64::MAX as u64, word, bytes) {
         return Some((n as i64, rest));

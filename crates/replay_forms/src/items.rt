@@ -12,7 +12,7 @@ use std::io::{self, Write};
 /// crate, and of numbers that it has read before.
 pub trait Item {
     ghost use Rattle.std.specs.Prelude.{ℕ, List, Option};
-    ghost use Rattle.replay_forms.specs.Reading.{Reads};
+    ghost use Rattle.replay_forms.specs.Reading.{ReadsNext};
 
     type Value: Drop;
 
@@ -21,7 +21,7 @@ pub trait Item {
 
     /// Reads the item of a place.
     fn read<'a>(&self, place: usize, bytes: &'a [u8]) -> Option<(Self::Value, &'a [u8])>
-        ensures { Reads (λ r. (r.0, r.1.now)) result (at self.now place bytes.now) };
+        ensures { ReadsNext (at self.now place) bytes.now result };
 }
 
 /// As many items as stand there, and at most `most`. Memory is taken as they come.

@@ -49,7 +49,8 @@ EventFits (Grow more) = Fits32 more
 EventFits (Load addr width reach) = Fits64 addr × (Fits8 width × Fits64 reach)
 EventFits (Store addr width reach value) = Fits64 addr × (Fits8 width × (Fits64 reach × Fits64 value))
 EventFits (Rmw op addr width value) = Fits64 addr × (Fits8 width × Fits64 value)
-EventFits (Cmpxchg addr width expected replacement) = Fits64 addr × (Fits8 width × (Fits64 expected × Fits64 replacement))
+EventFits (Cmpxchg addr width expected replacement) = Fits64 addr
+    × (Fits8 width × (Fits64 expected × Fits64 replacement))
 EventFits (Ask question) = QuestionFits question
 EventFits (Told answer) = IsAnswer answer
 

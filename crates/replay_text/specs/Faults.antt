@@ -1,5 +1,7 @@
 -- Why a record could not be read.
-use Rattle.std.specs.Prelude.{◌≡◌, ℕ, Option, Some, None, Result, Ok, Err}
+use Rattle.std.specs.Prelude.{◌≡◌, ℕ, List, Option, Some, None, Result, Ok, Err}
+use Rattle.std.specs.Borrow.{Bor}
+use Rattle.replay_forms.specs.Reading.{Reader}
 use Rattle.replay_text.specs.declared.fault.RecordFault.{RecordFault}
 use Rattle.replay_text.specs.declared.fault.WriteFault.{WriteFault}
 use Rattle.replay_text.specs.declared.fault.WriteFault.TheVariants as writes
@@ -16,6 +18,13 @@ Fails EndMissing read = read ≡ None
 abbrev pub Gives : {X Y : Type 0} → (X → Y) → Result X RecordFault → Option Y → Type 0
 Gives view (Ok x) read = read ≡ Some (view x)
 Gives view (Err e) read = Fails e read
+
+-- What a reader of lines answers: the value, seen by view, and the bytes behind the lines.
+abbrev pub GivesLinesAs : {X A : Type 0} → (X → A) → Reader A → List ℕ → Result (X × Bor (List ℕ)) RecordFault → Type 0
+GivesLinesAs view at bytes result = Gives (λ r. (view r.0, r.1.now)) result (at bytes)
+
+abbrev pub GivesLines : {A : Type 0} → Reader A → List ℕ → Result (A × Bor (List ℕ)) RecordFault → Type 0
+GivesLines at bytes result = GivesLinesAs (λ x. x) at bytes result
 
 abbrev pub record_fault_number : RecordFault → ℕ
 record_fault_number (Header line) = 1

@@ -4,3 +4,4 @@ pub mod Versions
 pub mod Text
 pub mod Reading
 pub mod Faults
+pub mod Views

@@ -1,5 +1,6 @@
 -- Reading the lines of a record.
-use Rattle.std.specs.Prelude.{ℕ, ◌+◌, ◌-◌, ◌*◌, ◌^◌, ◌==◌, ◌&&◌, cond, codes, List, [], ◌∷◌, ◌++◌, Option, Some, None, if◌then◌else◌}
+use Rattle.std.specs.Prelude.{ℕ, ◌+◌, ◌-◌, ◌*◌, ◌^◌, ◌==◌, ◌&&◌, cond, codes, List, [], ◌∷◌, ◌++◌, Option, Some, None}
+use Rattle.std.specs.Prelude.{if◌then◌else◌}
 use Rattle.std.specs.Str.{is_utf8}
 use Rattle.types.specs.declared.value.Value.{Value}
 use Rattle.types.specs.declared.value.Value.TheVariants as values
@@ -19,7 +20,8 @@ use Rattle.types.specs.declared.outcome.Stop.TheVariants as stops
 use Rattle.types.specs.declared.outcome.Outcome.{Outcome}
 use Rattle.types.specs.declared.outcome.Outcome.TheVariants as outcomes
 use Rattle.types.specs.declared.outcome.ThreadReport.{ThreadReport}
-use Rattle.types.specs.declared.limits.TheConstants.{MOST_PAGES, MOST_THREADS, MOST_SPAWNED, MOST_LIMIT, MOST_FUEL, MOST_MODULE_BYTES}
+use Rattle.types.specs.declared.limits.TheConstants.{MOST_PAGES, MOST_THREADS, MOST_SPAWNED, MOST_LIMIT, MOST_FUEL}
+use Rattle.types.specs.declared.limits.TheConstants.{MOST_MODULE_BYTES}
 use Rattle.replay_forms.specs.Reading.{◌>>=◌, Reader, after, number_within, number_then, signed_then, behind, both}
 use Rattle.replay_forms.specs.Reading.{made, word_for, first, several, listed, hex_byte_at}
 use Rattle.shared_memory.specs.Conditions.{is_event}
@@ -39,6 +41,13 @@ u32_at = number_then (2 ^ 32 - 1) (32 ∷ [])
 abbrev pub u64_at : Reader ℕ
 u64_at = number_then (2 ^ 64 - 1) (32 ∷ [])
 
+-- An address, a width, and one or two numbers of 64 bits.
+abbrev pub access_numbers_at : Reader (ℕ × (ℕ × ℕ))
+access_numbers_at = both u64_at (both u8_at u64_at)
+
+abbrev pub four_numbers_at : Reader (ℕ × (ℕ × (ℕ × ℕ)))
+four_numbers_at = both u64_at (both u8_at (both u64_at u64_at))
+
 abbrev pub op_at : Reader RmwOp
 op_at =
     first (word_for ops.Add (codes "add "))
@@ -49,18 +58,19 @@ op_at =
     (word_for ops.Xchg (codes "xchg "))))))
 
 abbrev pub load_at : Reader Event
-load_at = made (λ x. Some (Load x.0 (x.1).0 (x.1).1)) (behind (codes "load ") (both u64_at (both u8_at u64_at)))
+load_at = made (λ x. Some (Load x.0 (x.1).0 (x.1).1)) (behind (codes "load ") access_numbers_at)
 
 abbrev pub store_at : Reader Event
 store_at = made (λ x. Some (Store x.0 (x.1).0 ((x.1).1).0 ((x.1).1).1))
-    (behind (codes "store ") (both u64_at (both u8_at (both u64_at u64_at))))
+    (behind (codes "store ") four_numbers_at)
 
 abbrev pub rmw_at : Reader Event
-rmw_at = made (λ x. Some (Rmw x.0 (x.1).0 ((x.1).1).0 ((x.1).1).1)) (behind (codes "rmw ") (both op_at (both u64_at (both u8_at u64_at))))
+rmw_at = made (λ x. Some (Rmw x.0 (x.1).0 ((x.1).1).0 ((x.1).1).1))
+    (behind (codes "rmw ") (both op_at access_numbers_at))
 
 abbrev pub cmpxchg_at : Reader Event
 cmpxchg_at = made (λ x. Some (Cmpxchg x.0 (x.1).0 ((x.1).1).0 ((x.1).1).1))
-    (behind (codes "cmpxchg ") (both u64_at (both u8_at (both u64_at u64_at))))
+    (behind (codes "cmpxchg ") four_numbers_at)
 
 abbrev pub wait_at : Reader Event
 wait_at = made (λ x. Some (Ask (Wait x.0 (x.1).0 ((x.1).1).0 ((x.1).1).1)))
@@ -104,10 +114,12 @@ reply_at =
 
 -- An entry of one of so many threads, where the event meets its conditions and the reply is of the right kind.
 abbrev pub entry_of : ℕ × (Event × Reply) → Option Entry
-entry_of x = cond (is_event (x.1).0 && is_reply_to (x.1).0 (x.1).1) (Some (record { thread = x.0; event = (x.1).0; reply = (x.1).1 })) None
+entry_of x = cond (is_event (x.1).0 && is_reply_to (x.1).0 (x.1).1)
+    (Some (record { thread = x.0; event = (x.1).0; reply = (x.1).1 })) None
 
 unfoldable pub entry_at : ℕ → Reader Entry
-entry_at threads bytes = made entry_of (both (number_then (threads - 1) (32 ∷ [])) (both event_at (behind (codes "= ") reply_at))) bytes
+entry_at threads bytes = made entry_of
+    (both (number_then (threads - 1) (32 ∷ [])) (both event_at (behind (codes "= ") reply_at))) bytes
 
 abbrev pub i32_at : Reader Value
 i32_at = made (λ n. Some (values.I32 n)) (behind (codes "i32:") (number_within (2 ^ 32 - 1)))
@@ -225,6 +237,11 @@ pages_at max_pages = behind (codes "pages ") (number_then max_pages (10 ∷ []))
 abbrev pub last_line : List ℕ
 last_line = codes "finish" ++ 10 ∷ []
 
+-- The pages after the run, and the last line.
+abbrev pub last_lines_at : ℕ → Reader ℕ
+last_lines_at max_pages bytes =
+    pages_at max_pages bytes >>= λ pages. after last_line pages.1 >>= λ rest. Some (pages.0, rest)
+
 abbrev pub Header : Type 0
 Header = Scale × (List ℕ × (List Value × (ℕ × ℕ)))
 
@@ -255,7 +272,8 @@ ends_at threads max_pages bytes = some_items (several end_at 0 threads bytes).0 
       rest,
     )
 
--- What stands behind the header of a run with so many threads and pages, whose log took so many entries before it was full.
+-- What stands behind the header of a run with so many threads and pages, whose log took so many entries before it was
+-- full.
 unfoldable pub body_at : ℕ → ℕ → ℕ → Reader Body
 body_at threads max_pages limit bytes =
     ends_at threads max_pages (several (λ place. entry_at threads) 0 (limit + 3 * threads) bytes).1 >>= λ x. Some
@@ -283,4 +301,5 @@ nothing_left (b ∷ bytes) x = None
 -- The record that the bytes are the text of.
 unfoldable pub record_at : List ℕ → Option RecordParts
 record_at bytes =
-    header_at bytes >>= λ h. body_at (threads_in h.0) (max_pages_in h.0) (limit_in h.0) h.1 >>= λ b. nothing_left b.1 (parts_of h.0 b.0)
+    header_at bytes >>= λ h. body_at (threads_in h.0) (max_pages_in h.0) (limit_in h.0) h.1 >>= λ b. nothing_left b.1
+    (parts_of h.0 b.0)

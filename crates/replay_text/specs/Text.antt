@@ -1,5 +1,6 @@
 -- The text of a record, and which records there are.
-use Rattle.std.specs.Prelude.{◌≡◌, ℕ, ◌+◌, ◌*◌, ◌≤◌, true, List, [], ◌∷◌, ◌++◌, codes, length, map}
+use Rattle.std.specs.Prelude.{◌≡◌, ◌⊎◌, ℕ, ◌+◌, ◌*◌, ◌≤◌, true, List, [], ◌∷◌, ◌++◌, codes, length, map}
+use Rattle.std.specs.Prelude.{Result, Ok, Err}
 use Rattle.std.specs.List.{All}
 use Rattle.std.specs.Str.{is_utf8}
 use Rattle.std.specs.Fmt.{decimal}
@@ -13,6 +14,8 @@ use Rattle.replay_text.specs.Versions.{IsScale}
 use Rattle.replay_text.specs.declared.version.Version.{Version}
 use Rattle.replay_text.specs.declared.version.Version.TheVariants as versions
 use Rattle.replay_text.specs.declared.parts.RecordParts.{RecordParts}
+use Rattle.replay_text.specs.declared.fault.RecordFault.{RecordFault}
+use Rattle.replay_text.specs.declared.fault.RecordFault.TheVariants.{NoMemory}
 
 -- A name: its bytes by two digits each, or a dash for the empty one.
 abbrev pub name_word : List ℕ → List ℕ
@@ -34,6 +37,10 @@ scale_lines versions.Two module_len threads max_pages =
     ∷ (codes "max-pages" ∷ decimal max_pages ∷ [])
     ∷ []
 
+-- The lines of a record's version.
+abbrev pub version_lines : RecordParts → List (List (List ℕ))
+version_lines r = scale_lines r.version r.module_len r.threads r.max_pages
+
 -- The lines of the call, and of what it may use.
 abbrev pub call_lines : RecordParts → List (List (List ℕ))
 call_lines r =
@@ -45,7 +52,7 @@ call_lines r =
 
 -- The lines of a record before its entries.
 abbrev pub header_lines : RecordParts → List (List (List ℕ))
-header_lines r = scale_lines r.version r.module_len r.threads r.max_pages ++ call_lines r
+header_lines r = version_lines r ++ call_lines r
 
 -- The lines of a record.
 abbrev pub record_lines : RecordParts → List (List (List ℕ))
@@ -61,9 +68,13 @@ record_lines r =
 abbrev pub record_text : RecordParts → List ℕ
 record_text r = lines_text (record_lines r)
 
+-- The length of a record's module, and how many threads and pages there may be.
+abbrev pub HasScale : RecordParts → Type 0
+HasScale r = IsScale r.version r.module_len r.threads r.max_pages
+
 -- The numbers and the lengths of a record.
 pub record HasNumbers (r : RecordParts) : Type 0 where
-  pub scale : IsScale r.version r.module_len r.threads r.max_pages
+  pub scale : HasScale r
   pub fuel : r.fuel ≤ MOST_FUEL
   pub limit_low : 1 ≤ r.limit
   pub limit : r.limit ≤ MOST_LIMIT
@@ -80,3 +91,8 @@ pub record IsRecord (r : RecordParts) : Type 0 where
   pub args : All IsValue r.args
   pub log : All (IsEntry r.threads) r.log
   pub ends : All IsReport r.ends
+
+-- Where the bytes are the text of a record, it is the one that is read, or memory ran out.
+abbrev pub FindsRecord : List ℕ → Result RecordParts RecordFault → Type 0
+FindsRecord bytes result =
+    (r : RecordParts) → IsRecord r → bytes ≡ record_text r → (result ≡ Ok r) ⊎ (result ≡ Err NoMemory)

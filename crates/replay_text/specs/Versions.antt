@@ -18,6 +18,8 @@ first_pages = 64
 
 -- The length of the module, and how many threads and pages there may be.
 abbrev pub IsScale : Version → ℕ → ℕ → ℕ → Type 0
-IsScale versions.One module_len threads max_pages = (module_len ≡ 0) × ((threads ≡ first_threads) × (max_pages ≡ first_pages))
+IsScale versions.One module_len threads max_pages = (module_len ≡ 0)
+    × ((threads ≡ first_threads) × (max_pages ≡ first_pages))
 IsScale versions.Two module_len threads max_pages =
-    (module_len ≤ MOST_MODULE_BYTES) × (((1 ≤ threads) × (threads ≤ MOST_THREADS)) × ((1 ≤ max_pages) × (max_pages ≤ MOST_PAGES)))
+    (module_len ≤ MOST_MODULE_BYTES)
+    × (((1 ≤ threads) × (threads ≤ MOST_THREADS)) × ((1 ≤ max_pages) × (max_pages ≤ MOST_PAGES)))

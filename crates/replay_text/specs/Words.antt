@@ -1,5 +1,5 @@
 -- The words of entries and of ends.
-use Rattle.std.specs.Prelude.{ℕ, List, [], ◌∷◌, ◌++◌, codes, Option, Some, None}
+use Rattle.std.specs.Prelude.{ℕ, List, [], ◌∷◌, ◌++◌, codes, map, Option, Some, None}
 use Rattle.std.specs.Fmt.{decimal, signed_decimal}
 use Rattle.types.specs.declared.event.RmwOp.{RmwOp}
 use Rattle.types.specs.declared.event.RmwOp.TheVariants as ops
@@ -17,7 +17,12 @@ use Rattle.types.specs.declared.outcome.Outcome.TheVariants as outcomes
 use Rattle.types.specs.declared.outcome.ThreadReport.{ThreadReport}
 use Rattle.types.specs.declared.value.Value.{Value}
 use Rattle.types.specs.Values.{value_text}
+use Rattle.replay_forms.specs.Texts.{spaced}
 use Rattle.types.specs.Outcomes.{trap_number, stop_number}
+
+-- A word and numbers, a space behind each.
+abbrev pub numbers_text : List ℕ → List ℕ → List ℕ
+numbers_text word numbers = spaced (word ∷ map decimal numbers) []
 
 abbrev pub op_word : RmwOp → List ℕ
 op_word ops.Add = codes "add"
@@ -42,7 +47,8 @@ abbrev pub event_words : Event → List (List ℕ)
 event_words Size = codes "size" ∷ []
 event_words (Grow more) = codes "grow" ∷ decimal more ∷ []
 event_words (Load addr width reach) = codes "load" ∷ decimal addr ∷ decimal width ∷ decimal reach ∷ []
-event_words (Store addr width reach value) = codes "store" ∷ decimal addr ∷ decimal width ∷ decimal reach ∷ decimal value ∷ []
+event_words (Store addr width reach value) = codes "store" ∷ decimal addr ∷ decimal width ∷ decimal reach
+    ∷ decimal value ∷ []
 event_words (Rmw op addr width value) = codes "rmw" ∷ op_word op ∷ decimal addr ∷ decimal width ∷ decimal value ∷ []
 event_words (Cmpxchg addr width expected replacement) =
     codes "cmpxchg" ∷ decimal addr ∷ decimal width ∷ decimal expected ∷ decimal replacement ∷ []
@@ -57,9 +63,13 @@ reply_word replies.OutOfBounds = codes "out"
 reply_word replies.Again = codes "again"
 reply_word replies.Full = codes "full"
 
+-- What an event got, behind its words.
+abbrev pub reply_words : Reply → List (List ℕ)
+reply_words reply = codes "=" ∷ reply_word reply ∷ []
+
 -- An entry: the thread's number, its event, and what that got.
 abbrev pub entry_words : Entry → List (List ℕ)
-entry_words e = decimal e.thread ∷ (event_words e.event ++ codes "=" ∷ reply_word e.reply ∷ [])
+entry_words e = decimal e.thread ∷ (event_words e.event ++ reply_words e.reply)
 
 abbrev pub result_word : Option Value → List ℕ
 result_word None = codes "-"

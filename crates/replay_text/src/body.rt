@@ -1,10 +1,10 @@
 //! Reading what stands behind the header.
 
-ghost use Rattle.std.specs.Prelude.{◌≤◌, ℕ, List, Some, option_and_then};
+ghost use Rattle.std.specs.Prelude.{◌≤◌};
 ghost use Rattle.types.specs.declared.limits.TheConstants.{MOST_LIMIT, MOST_THREADS};
-ghost use Rattle.replay_text.specs.Faults.{Gives, Refuses};
-ghost use Rattle.replay_text.specs.Reading.{pages_at, last_line, ends_at, body_at};
-ghost use Rattle.replay_forms.specs.Reading.{after};
+ghost use Rattle.replay_text.specs.Faults.{GivesLines, GivesLinesAs, Refuses};
+ghost use Rattle.replay_text.specs.Views.{ends_of, body_of};
+ghost use Rattle.replay_text.specs.Reading.{last_lines_at, ends_at, body_at};
 
 use crate::end::EndLine;
 use crate::entry::EntryLine;
@@ -44,8 +44,7 @@ fn fault_at(line: usize, rest: &[u8]) -> RecordFault
 /// The pages after the run, and the line `finish`.
 fn last_lines_in(max_pages: u32, line: usize, bytes: &[u8]) -> Result<(u32, &[u8]), RecordFault>
     requires { line ≤ 2000064 }
-    ensures { Gives {Y = ℕ × List ℕ} (λ r. (r.0, r.1.now)) result (option_and_then
-        (λ pages. option_and_then (λ rest. Some (pages.0, rest)) (after last_line pages.1)) (pages_at max_pages bytes.now)) }
+    ensures { GivesLines (last_lines_at max_pages) bytes.now result }
 {
     let Some((pages, rest)) = u32_behind(b"pages ", max_pages, b"\n", bytes) else {
         return Err(fault_at(line, bytes));
@@ -66,7 +65,7 @@ fn ends_in(
 ) -> Result<(Ends, &[u8]), RecordFault>
     requires line { line ≤ 2000000 }
     requires threads { scale.threads ≤ MOST_THREADS }
-    ensures { Gives (λ r. ((r.0.ends, r.0.pages), r.1.now)) result (ends_at scale.threads scale.max_pages bytes.now) }
+    ensures { GivesLinesAs ends_of (ends_at scale.threads scale.max_pages) bytes.now result }
 {
     let (ends, rest) = several(alloc, &EndLine, scale.threads as usize, bytes)?;
     if ends.is_empty() {
@@ -90,7 +89,7 @@ pub fn body_in(
 ) -> Result<(RecordBody, &[u8]), RecordFault>
     requires limit { limit ≤ MOST_LIMIT }
     requires threads { scale.threads ≤ MOST_THREADS }
-    ensures { Gives (λ r. ((r.0.log, (r.0.ends, r.0.pages)), r.1.now)) result (body_at scale.threads scale.max_pages limit bytes.now) }
+    ensures { GivesLinesAs body_of (body_at scale.threads scale.max_pages limit) bytes.now result }
 {
     let threads = scale.threads;
     let most = limit as usize + 3 * threads as usize;

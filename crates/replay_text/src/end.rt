@@ -1,8 +1,9 @@
 //! Reading the ends of threads.
 
 ghost use Rattle.std.specs.Prelude.{◌≡◌, codes};
-ghost use Rattle.replay_forms.specs.Reading.{Reads, behind};
-ghost use Rattle.replay_text.specs.Reading.{trap_of, stop_of, result_at, trap_at, stop_at, outcome_at, report_of, end_at};
+ghost use Rattle.replay_forms.specs.Reading.{ReadsNext, behind};
+ghost use Rattle.replay_text.specs.Reading.{trap_of, stop_of, result_at, trap_at, stop_at, outcome_at, report_of};
+ghost use Rattle.replay_text.specs.Reading.{end_at};
 
 use crate::number::number_behind;
 use crate::value::value_at;
@@ -39,7 +40,7 @@ fn stop_of(number: u64) -> Option<Stop>
 }
 
 fn result_at(bytes: &[u8]) -> Option<(Outcome, &[u8])>
-    ensures { Reads (λ r. (r.0, r.1.now)) result (behind (codes "ok ") result_at bytes.now) }
+    ensures { ReadsNext (behind (codes "ok ") result_at) bytes.now result }
 {
     let Some(rest) = after(b"ok ", bytes) else {
         return None;
@@ -54,7 +55,7 @@ fn result_at(bytes: &[u8]) -> Option<(Outcome, &[u8])>
 }
 
 fn trap_at(bytes: &[u8]) -> Option<(Outcome, &[u8])>
-    ensures { Reads (λ r. (r.0, r.1.now)) result (trap_at bytes.now) }
+    ensures { ReadsNext trap_at bytes.now result }
 {
     let Some((number, rest)) = number_behind(b"trap ", 10, b" ", bytes) else {
         return None;
@@ -66,7 +67,7 @@ fn trap_at(bytes: &[u8]) -> Option<(Outcome, &[u8])>
 }
 
 fn stop_at(bytes: &[u8]) -> Option<(Outcome, &[u8])>
-    ensures { Reads (λ r. (r.0, r.1.now)) result (stop_at bytes.now) }
+    ensures { ReadsNext stop_at bytes.now result }
 {
     let Some((number, rest)) = number_behind(b"stop ", 3, b" ", bytes) else {
         return None;
@@ -78,7 +79,7 @@ fn stop_at(bytes: &[u8]) -> Option<(Outcome, &[u8])>
 }
 
 fn outcome_at(bytes: &[u8]) -> Option<(Outcome, &[u8])>
-    ensures { Reads (λ r. (r.0, r.1.now)) result (outcome_at bytes.now) }
+    ensures { ReadsNext outcome_at bytes.now result }
 {
     if let Some(rest) = after(b"ok - ", bytes) {
         return Some((Outcome::Done(None), rest));
@@ -106,7 +107,7 @@ fn report_of(thread: usize, number: u64, report: ThreadReport) -> Option<ThreadR
 /// The line of this thread's end.
 #[tactic(auto, unfolding(crate::specs::Reading::end_at))]
 fn end_at(thread: usize, bytes: &[u8]) -> Option<(ThreadReport, &[u8])>
-    ensures { Reads (λ r. (r.0, r.1.now)) result (end_at thread bytes.now) }
+    ensures { ReadsNext (end_at thread) bytes.now result }
 {
     let Some(rest) = after(b"end ", bytes) else {
         return None;

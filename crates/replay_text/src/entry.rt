@@ -1,6 +1,6 @@
 //! Reading entries.
 
-ghost use Rattle.replay_forms.specs.Reading.{Reads};
+ghost use Rattle.replay_forms.specs.Reading.{ReadsNext};
 ghost use Rattle.replay_text.specs.Reading.{reply_at, entry_at};
 
 use crate::conditions::is_reply_to;
@@ -12,7 +12,7 @@ use types::{Entry, Reply};
 
 /// What an entry's event got, and the line feed behind it.
 fn reply_at(bytes: &[u8]) -> Option<(Reply, &[u8])>
-    ensures { Reads (λ r. (r.0, r.1.now)) result (reply_at bytes.now) }
+    ensures { ReadsNext reply_at bytes.now result }
 {
     if let Some((value, rest)) = number_then(u64::MAX, b"\n", bytes) {
         return Some((Reply::Value(value), rest));
@@ -29,7 +29,7 @@ fn reply_at(bytes: &[u8]) -> Option<(Reply, &[u8])>
 /// The line of an entry of one of so many threads.
 #[tactic(auto, unfolding(crate::specs::Reading::entry_at))]
 fn entry_at(threads: u32, bytes: &[u8]) -> Option<(Entry, &[u8])>
-    ensures { Reads (λ r. (r.0, r.1.now)) result (entry_at threads bytes.now) }
+    ensures { ReadsNext (entry_at threads) bytes.now result }
 {
     let Some((thread, rest)) = u32_then(threads.saturating_sub(1), b" ", bytes) else {
         return None;

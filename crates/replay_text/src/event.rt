@@ -1,7 +1,9 @@
 //! Reading events.
 
-ghost use Rattle.replay_forms.specs.Reading.{Reads, behind, both, word_for};
-ghost use Rattle.replay_text.specs.Reading.{u8_at, u64_at, op_at, load_at, rmw_at, wait_at, notify_at, access_at, plain_at, event_at};
+ghost use Rattle.replay_forms.specs.Reading.{ReadsNext, ReadsNextAs, behind, word_for};
+ghost use Rattle.replay_text.specs.Views.{three_of, four_of};
+ghost use Rattle.replay_text.specs.Reading.{access_numbers_at, four_numbers_at, op_at, load_at, rmw_at, wait_at};
+ghost use Rattle.replay_text.specs.Reading.{notify_at, access_at, plain_at, event_at};
 
 use crate::number::{number_behind, u32_behind, u32_then};
 use replay_forms::{after, number_then, signed_then};
@@ -9,7 +11,7 @@ use types::{Answer, Event, Question, RmwOp};
 
 /// An address, a width, and a number of 64 bits.
 fn access_numbers(bytes: &[u8]) -> Option<((u64, u8, u64), &[u8])>
-    ensures { Reads (λ r. ((r.0.0, (r.0.1, r.0.2)), r.1.now)) result (both u64_at (both u8_at u64_at) bytes.now) }
+    ensures { ReadsNextAs three_of access_numbers_at bytes.now result }
 {
     let Some((addr, rest)) = number_then(u64::MAX, b" ", bytes) else {
         return None;
@@ -25,8 +27,7 @@ fn access_numbers(bytes: &[u8]) -> Option<((u64, u8, u64), &[u8])>
 
 /// A word, and behind it an address, a width, and two numbers of 64 bits.
 fn four_behind<'a>(word: &[u8], bytes: &'a [u8]) -> Option<((u64, u8, u64, u64), &'a [u8])>
-    ensures { Reads (λ r. ((r.0.0, (r.0.1, (r.0.2, r.0.3))), r.1.now)) result
-        (behind word.now (both u64_at (both u8_at (both u64_at u64_at))) bytes.now) }
+    ensures { ReadsNextAs four_of (behind word.now four_numbers_at) bytes.now result }
 {
     let Some(rest) = after(word, bytes) else {
         return None;
@@ -42,7 +43,7 @@ fn four_behind<'a>(word: &[u8], bytes: &'a [u8]) -> Option<((u64, u8, u64, u64),
 
 /// An operator, where its word stands there.
 fn op_for<'a>(op: RmwOp, word: &[u8], bytes: &'a [u8]) -> Option<(RmwOp, &'a [u8])>
-    ensures { Reads (λ r. (r.0, r.1.now)) result (word_for op word.now bytes.now) }
+    ensures { ReadsNext (word_for op word.now) bytes.now result }
 {
     let Some(rest) = after(word, bytes) else {
         return None;
@@ -51,7 +52,7 @@ fn op_for<'a>(op: RmwOp, word: &[u8], bytes: &'a [u8]) -> Option<(RmwOp, &'a [u8
 }
 
 fn op_at(bytes: &[u8]) -> Option<(RmwOp, &[u8])>
-    ensures { Reads (λ r. (r.0, r.1.now)) result (op_at bytes.now) }
+    ensures { ReadsNext op_at bytes.now result }
 {
     if let Some(found) = op_for(RmwOp::Add, b"add ", bytes) {
         return Some(found);
@@ -72,7 +73,7 @@ fn op_at(bytes: &[u8]) -> Option<(RmwOp, &[u8])>
 }
 
 fn load_at(bytes: &[u8]) -> Option<(Event, &[u8])>
-    ensures { Reads (λ r. (r.0, r.1.now)) result (load_at bytes.now) }
+    ensures { ReadsNext load_at bytes.now result }
 {
     let Some(rest) = after(b"load ", bytes) else {
         return None;
@@ -84,7 +85,7 @@ fn load_at(bytes: &[u8]) -> Option<(Event, &[u8])>
 }
 
 fn rmw_at(bytes: &[u8]) -> Option<(Event, &[u8])>
-    ensures { Reads (λ r. (r.0, r.1.now)) result (rmw_at bytes.now) }
+    ensures { ReadsNext rmw_at bytes.now result }
 {
     let Some(rest) = after(b"rmw ", bytes) else {
         return None;
@@ -105,7 +106,7 @@ fn rmw_at(bytes: &[u8]) -> Option<(Event, &[u8])>
 }
 
 fn wait_at(bytes: &[u8]) -> Option<(Event, &[u8])>
-    ensures { Reads (λ r. (r.0, r.1.now)) result (wait_at bytes.now) }
+    ensures { ReadsNext wait_at bytes.now result }
 {
     let Some(rest) = after(b"wait ", bytes) else {
         return None;
@@ -126,7 +127,7 @@ fn wait_at(bytes: &[u8]) -> Option<(Event, &[u8])>
 }
 
 fn notify_at(bytes: &[u8]) -> Option<(Event, &[u8])>
-    ensures { Reads (λ r. (r.0, r.1.now)) result (notify_at bytes.now) }
+    ensures { ReadsNext notify_at bytes.now result }
 {
     let Some((addr, rest)) = number_behind(b"notify ", u64::MAX, b" ", bytes) else {
         return None;
@@ -139,7 +140,7 @@ fn notify_at(bytes: &[u8]) -> Option<(Event, &[u8])>
 
 /// The events that have an address.
 fn access_at(bytes: &[u8]) -> Option<(Event, &[u8])>
-    ensures { Reads (λ r. (r.0, r.1.now)) result (access_at bytes.now) }
+    ensures { ReadsNext access_at bytes.now result }
 {
     if let Some(found) = load_at(bytes) {
         return Some(found);
@@ -173,7 +174,7 @@ fn access_at(bytes: &[u8]) -> Option<(Event, &[u8])>
 
 /// The other events.
 fn plain_at(bytes: &[u8]) -> Option<(Event, &[u8])>
-    ensures { Reads (λ r. (r.0, r.1.now)) result (plain_at bytes.now) }
+    ensures { ReadsNext plain_at bytes.now result }
 {
     if let Some((arg, rest)) = u32_behind(b"spawn ", u32::MAX, b" ", bytes) {
         return Some((Event::Ask(Question::Spawn { arg }), rest));
@@ -198,7 +199,7 @@ fn plain_at(bytes: &[u8]) -> Option<(Event, &[u8])>
 
 /// An event's words, and the space behind them.
 pub fn event_at(bytes: &[u8]) -> Option<(Event, &[u8])>
-    ensures { Reads (λ r. (r.0, r.1.now)) result (event_at bytes.now) }
+    ensures { ReadsNext event_at bytes.now result }
 {
     if let Some(found) = access_at(bytes) {
         return Some(found);

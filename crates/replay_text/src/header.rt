@@ -2,9 +2,11 @@
 
 ghost use Rattle.std.specs.Prelude.{◌≤◌, IfOk, IfSome};
 ghost use Rattle.types.specs.declared.limits.TheConstants.{MOST_LIMIT, MOST_THREADS};
-ghost use Rattle.replay_forms.specs.Reading.{Reads, both};
-ghost use Rattle.replay_text.specs.Faults.{Gives};
-ghost use Rattle.replay_text.specs.Reading.{named, count_at, scale_at, invoke_at, args_at, fuel_at, limit_at, header_at};
+ghost use Rattle.replay_forms.specs.Reading.{Reads, ReadsNext, both};
+ghost use Rattle.replay_text.specs.Faults.{GivesLines, GivesLinesAs};
+ghost use Rattle.replay_text.specs.Views.{scale_of, header_of};
+ghost use Rattle.replay_text.specs.Reading.{named, count_at, scale_at, invoke_at, args_at, fuel_at, limit_at};
+ghost use Rattle.replay_text.specs.Reading.{header_at};
 
 use crate::fault::RecordFault;
 use crate::number::{number_behind, u32_behind};
@@ -37,7 +39,7 @@ pub struct Header {
 
 /// A line of a word and a number, 1 to `max`.
 fn count_at<'a>(word: &[u8], max: u32, bytes: &'a [u8]) -> Option<(u32, &'a [u8])>
-    ensures reads { Reads (λ r. (r.0, r.1.now)) result (count_at word.now max bytes.now) }
+    ensures reads { ReadsNext (count_at word.now max) bytes.now result }
     ensures within { IfSome result (λ r. r.0 ≤ max) }
 {
     let Some((number, rest)) = u32_behind(word, max, b"\n", bytes) else {
@@ -53,7 +55,7 @@ fn count_at<'a>(word: &[u8], max: u32, bytes: &'a [u8]) -> Option<(u32, &'a [u8]
 #[tactic(auto, unfolding(crate::specs::Reading::scale_at))]
 fn scale_in(bytes: &[u8]) -> Result<(Scale, &[u8]), RecordFault>
     ensures threads { IfOk result (λ r. r.0.threads ≤ MOST_THREADS) }
-    ensures gives { Gives (λ r. ((r.0.version, (r.0.module_len, (r.0.threads, r.0.max_pages))), r.1.now)) result (scale_at bytes.now) }
+    ensures gives { GivesLinesAs scale_of scale_at bytes.now result }
 {
     if let Some(rest) = after(b"wathread-record 1\n", bytes) {
         let scale = Scale {
@@ -102,7 +104,7 @@ fn name_of(bytes: Vec<u8>) -> Option<Name>
 
 #[tactic(auto, unfolding(crate::specs::Reading::invoke_at))]
 fn invoke_in(alloc: Global, line: usize, bytes: &[u8]) -> Result<(Name, &[u8]), RecordFault>
-    ensures { Gives (λ r. (r.0, r.1.now)) result (invoke_at bytes.now) }
+    ensures { GivesLines invoke_at bytes.now result }
 {
     let Some(rest) = after(b"invoke ", bytes) else {
         return Err(RecordFault::Header(line));
@@ -126,7 +128,7 @@ fn args_in(
     line: usize,
     bytes: &[u8],
 ) -> Result<(Sequence<Value>, &[u8]), RecordFault>
-    ensures { Gives (λ r. (r.0, r.1.now)) result (args_at bytes.now) }
+    ensures { GivesLines args_at bytes.now result }
 {
     let Some(rest) = after(b"args", bytes) else {
         return Err(RecordFault::Header(line));
@@ -142,7 +144,7 @@ fn args_in(
 fn budget_in(line: usize, bytes: &[u8]) -> Result<((u64, u32), &[u8]), RecordFault>
     requires { line ≤ 7 }
     ensures limit { IfOk result (λ r. r.0.1 ≤ MOST_LIMIT) }
-    ensures gives { Gives (λ r. (r.0, r.1.now)) result (both fuel_at limit_at bytes.now) }
+    ensures gives { GivesLines (both fuel_at limit_at) bytes.now result }
 {
     let Some((fuel, rest)) = number_behind(b"fuel ", MOST_FUEL, b"\n", bytes) else {
         return Err(RecordFault::Header(line));
@@ -158,13 +160,7 @@ fn budget_in(line: usize, bytes: &[u8]) -> Result<((u64, u32), &[u8]), RecordFau
 pub fn header_in(alloc: Global, bytes: &[u8]) -> Result<(Header, &[u8]), RecordFault>
     ensures limit { IfOk result (λ r. r.0.limit ≤ MOST_LIMIT) }
     ensures threads { IfOk result (λ r. r.0.scale.threads ≤ MOST_THREADS) }
-    ensures gives { Gives (λ r. (
-      (
-        (r.0.scale.version, (r.0.scale.module_len, (r.0.scale.threads, r.0.scale.max_pages))),
-        (r.0.invoke, (r.0.args, (r.0.fuel, r.0.limit))),
-      ),
-      r.1.now,
-    )) result (header_at bytes.now) }
+    ensures gives { GivesLinesAs header_of header_at bytes.now result }
 {
     let (scale, rest) = scale_in(bytes)?;
     let last = scale.version.header_lines();

@@ -1,13 +1,13 @@
 //! Reading numbers behind words, and numbers of 32 bits.
 
 ghost use Rattle.std.specs.Prelude.{◌≤◌, IfSome};
-ghost use Rattle.replay_forms.specs.Reading.{Reads, behind, number_then};
+ghost use Rattle.replay_forms.specs.Reading.{ReadsNext, behind, number_then};
 
 use replay_forms::{after, number_then};
 
 /// A decimal of at most `max`, without leading zeros, and the word behind it.
 pub fn u32_then<'a>(max: u32, end: &[u8], bytes: &'a [u8]) -> Option<(u32, &'a [u8])>
-    ensures reads { Reads (λ r. (r.0, r.1.now)) result (number_then max end.now bytes.now) }
+    ensures reads { ReadsNext (number_then max end.now) bytes.now result }
     ensures within { IfSome result (λ r. r.0 ≤ max) }
 {
     let Some((n, rest)) = number_then(max as u64, end, bytes) else {
@@ -23,7 +23,7 @@ pub fn number_behind<'a>(
     end: &[u8],
     bytes: &'a [u8],
 ) -> Option<(u64, &'a [u8])>
-    ensures reads { Reads (λ r. (r.0, r.1.now)) result (behind word.now (number_then max end.now) bytes.now) }
+    ensures reads { ReadsNext (behind word.now (number_then max end.now)) bytes.now result }
     ensures within { IfSome result (λ r. r.0 ≤ max) }
 {
     let Some(rest) = after(word, bytes) else {
@@ -34,7 +34,7 @@ pub fn number_behind<'a>(
 
 /// The same of 32 bits.
 pub fn u32_behind<'a>(word: &[u8], max: u32, end: &[u8], bytes: &'a [u8]) -> Option<(u32, &'a [u8])>
-    ensures reads { Reads (λ r. (r.0, r.1.now)) result (behind word.now (number_then max end.now) bytes.now) }
+    ensures reads { ReadsNext (behind word.now (number_then max end.now)) bytes.now result }
     ensures within { IfSome result (λ r. r.0 ≤ max) }
 {
     let Some(rest) = after(word, bytes) else {

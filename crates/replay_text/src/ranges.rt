@@ -1,11 +1,10 @@
 //! The ranges of a record, as tests.
 
 ghost use Rattle.std.specs.Prelude.{◌≡◌, ◌≤◌, ◌↔◌, IsTrue, true};
-ghost use Rattle.replay_text.specs.Versions.{IsScale};
 ghost use Rattle.std.specs.List.{All};
 ghost use Rattle.std.specs.Str.{is_utf8};
 ghost use Rattle.replay_text.specs.Conditions.{IsValue, IsEntry, IsReport};
-ghost use Rattle.replay_text.specs.Text.{HasNumbers, IsRecord};
+ghost use Rattle.replay_text.specs.Text.{HasScale, HasNumbers, IsRecord};
 
 use crate::conditions::is_reply_to;
 use crate::parts::RecordParts;
@@ -76,7 +75,7 @@ fn show_name_is_text(name: &str)
 {}
 
 fn has_scale_in(parts: &RecordParts) -> bool
-    ensures { IsTrue result ↔ IsScale parts.now.version parts.now.module_len parts.now.threads parts.now.max_pages }
+    ensures { IsTrue result ↔ HasScale parts.now }
 {
     match parts.version {
         Version::One => {

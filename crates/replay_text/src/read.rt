@@ -1,10 +1,9 @@
 //! Reading a record.
 
-ghost use Rattle.std.specs.Prelude.{◌≡◌, ◌⊎◌, IfOk};
+ghost use Rattle.std.specs.Prelude.{◌≡◌, IfOk};
 ghost use Rattle.replay_text.specs.Faults.{Gives};
 ghost use Rattle.replay_text.specs.Reading.{record_at};
-ghost use Rattle.replay_text.specs.Text.{record_text, IsRecord};
-ghost use Rattle.replay_text.specs.declared.parts.RecordParts.{RecordParts};
+ghost use Rattle.replay_text.specs.Text.{record_text, IsRecord, FindsRecord};
 
 use crate::body::body_in;
 use crate::fault::RecordFault;
@@ -41,15 +40,15 @@ fn parts_in(alloc: Global, bytes: &[u8]) -> Result<RecordParts, RecordFault>
 
 /// The record whose text the bytes are, all of them.
 ///
-/// The text is cut into lines at each line feed; a last piece without one is no line. A wrong or missing line among the first
-/// eight, or five where the first says version 1, is `Header` with the number of the first such line. Behind them the first line
-/// that is wrong where it stands is `Unreadable` with its number, from 1 on; a text that ends before the line `finish` is
-/// `EndMissing`; and any byte behind that line is `Unreadable` with the number of the line behind it. `NoMemory` says nothing of
-/// the bytes.
+/// The text is cut into lines at each line feed; a last piece without one is no line. A wrong or missing line among the
+/// first eight, or five where the first says version 1, is `Header` with the number of the first such line. Behind them
+/// the first line that is wrong where it stands is `Unreadable` with its number, from 1 on; a text that ends before the
+/// line `finish` is `EndMissing`; and any byte behind that line is `Unreadable` with the number of the line behind it.
+/// `NoMemory` says nothing of the bytes.
 #[tactic(auto, using(crate::proofs::Whole::record_takes, crate::proofs::Whole::read_found))]
 pub fn read_record(alloc: Global, bytes: &[u8]) -> Result<Record, RecordFault>
     ensures ok { IfOk result (λ r. IsRecord r × (bytes.now ≡ record_text r)) }
-    ensures found { (r : RecordParts) → IsRecord r → bytes.now ≡ record_text r → (result ≡ Ok r) ⊎ (result ≡ Err RecordFault.NoMemory) }
+    ensures found { FindsRecord bytes.now result }
 {
     match parts_in(alloc, bytes) {
         Ok(parts) => Ok(Record::from_tested(parts)),

@@ -1,13 +1,13 @@
 //! Reading values.
 
-ghost use Rattle.replay_forms.specs.Reading.{Reads};
+ghost use Rattle.replay_forms.specs.Reading.{ReadsNext};
 ghost use Rattle.replay_text.specs.Reading.{i32_at, i64_at, value_at};
 
 use replay_forms::{Item, after, number_within};
 use types::Value;
 
 fn i32_at(bytes: &[u8]) -> Option<(Value, &[u8])>
-    ensures { Reads (λ r. (r.0, r.1.now)) result (i32_at bytes.now) }
+    ensures { ReadsNext i32_at bytes.now result }
 {
     let Some(rest) = after(b"i32:", bytes) else {
         return None;
@@ -19,7 +19,7 @@ fn i32_at(bytes: &[u8]) -> Option<(Value, &[u8])>
 }
 
 fn i64_at(bytes: &[u8]) -> Option<(Value, &[u8])>
-    ensures { Reads (λ r. (r.0, r.1.now)) result (i64_at bytes.now) }
+    ensures { ReadsNext i64_at bytes.now result }
 {
     let Some(rest) = after(b"i64:", bytes) else {
         return None;
@@ -32,7 +32,7 @@ fn i64_at(bytes: &[u8]) -> Option<(Value, &[u8])>
 
 /// A value.
 pub fn value_at(bytes: &[u8]) -> Option<(Value, &[u8])>
-    ensures { Reads (λ r. (r.0, r.1.now)) result (value_at bytes.now) }
+    ensures { ReadsNext value_at bytes.now result }
 {
     if let Some(found) = i32_at(bytes) {
         return Some(found);

@@ -1,11 +1,10 @@
 //! Writing a record.
 
-ghost use Rattle.std.specs.Prelude.{◌≡◌, OnOk, codes, [], ◌∷◌, ◌++◌, map};
-ghost use Rattle.std.specs.Fmt.{decimal};
-ghost use Rattle.std.specs.Io.KnownBytes.{Appends};
-ghost use Rattle.replay_forms.specs.Texts.{line, spaced, lines_text};
-ghost use Rattle.replay_text.specs.Text.{record_text, name_word, scale_lines, header_lines};
-ghost use Rattle.replay_text.specs.Words.{op_word, event_words, question_words, reply_word, outcome_words};
+ghost use Rattle.std.specs.Prelude.{◌≡◌, codes, [], ◌++◌};
+ghost use Rattle.replay_forms.specs.Texts.{Wrote, line, spaced, lines_text};
+ghost use Rattle.replay_text.specs.Text.{record_text, name_word, version_lines, header_lines};
+ghost use Rattle.replay_text.specs.Words.{op_word, numbers_text, event_words, question_words, reply_words};
+ghost use Rattle.replay_text.specs.Words.{outcome_words};
 
 use crate::end::EndLine;
 use crate::entry::EntryLine;
@@ -49,14 +48,14 @@ impl Printed for SpacedNumber {
 
 /// Writes a word and numbers, a space behind each.
 fn write_numbers<W: Write>(writer: &mut W, word: &str, numbers: &[u64]) -> io::Result<()>
-    ensures { OnOk result (Appends (W.contents writer.old) (W.contents writer.new) (spaced (word.now ∷ map decimal numbers.now) [])) }
+    ensures { Wrote W.contents writer.old writer.new result (numbers_text word.now numbers.now) }
 {
     write!(writer, "{word} ")?;
     write_items::<SpacedNumber, W>(writer, numbers)
 }
 
 fn write_question<W: Write>(writer: &mut W, question: Question) -> io::Result<()>
-    ensures { OnOk result (Appends (W.contents writer.old) (W.contents writer.new) (spaced (question_words question) [])) }
+    ensures { Wrote W.contents writer.old writer.new result (spaced (question_words question) []) }
 {
     match question {
         Question::Wait {
@@ -73,7 +72,7 @@ fn write_question<W: Write>(writer: &mut W, question: Question) -> io::Result<()
 
 /// Writes an event's words, and a space behind each.
 fn write_event<W: Write>(writer: &mut W, event: Event) -> io::Result<()>
-    ensures { OnOk result (Appends (W.contents writer.old) (W.contents writer.new) (spaced (event_words event) [])) }
+    ensures { Wrote W.contents writer.old writer.new result (spaced (event_words event) []) }
 {
     match event {
         Event::Size => write_numbers(writer, "size", &[]),
@@ -110,7 +109,7 @@ fn write_event<W: Write>(writer: &mut W, event: Event) -> io::Result<()>
 }
 
 fn write_reply<W: Write>(writer: &mut W, reply: Reply) -> io::Result<()>
-    ensures { OnOk result (Appends (W.contents writer.old) (W.contents writer.new) (line (codes "=" ∷ reply_word reply ∷ []) [])) }
+    ensures { Wrote W.contents writer.old writer.new result (line (reply_words reply) []) }
 {
     match reply {
         Reply::Value(value) => write!(writer, "= {value}\n"),
@@ -122,7 +121,7 @@ fn write_reply<W: Write>(writer: &mut W, reply: Reply) -> io::Result<()>
 }
 
 fn write_outcome<W: Write>(writer: &mut W, outcome: Outcome) -> io::Result<()>
-    ensures { OnOk result (Appends (W.contents writer.old) (W.contents writer.new) (spaced (outcome_words outcome) [])) }
+    ensures { Wrote W.contents writer.old writer.new result (spaced (outcome_words outcome) []) }
 {
     match outcome {
         Outcome::Done(None) => write_numbers(writer, "ok -", &[]),
@@ -180,7 +179,7 @@ impl Printed for Argument {
 }
 
 fn write_invoke<W: Write>(writer: &mut W, name: &str) -> io::Result<()>
-    ensures { OnOk result (Appends (W.contents writer.old) (W.contents writer.new) (name_word name.now)) }
+    ensures { Wrote W.contents writer.old writer.new result (name_word name.now) }
 {
     if name.is_empty() {
         return writer.write_all(b"-");
@@ -190,8 +189,7 @@ fn write_invoke<W: Write>(writer: &mut W, name: &str) -> io::Result<()>
 
 /// Writes the lines that the record's version begins with.
 fn write_scale<W: Write>(writer: &mut W, parts: &RecordParts) -> io::Result<()>
-    ensures { OnOk result (Appends (W.contents writer.old) (W.contents writer.new)
-        (lines_text (scale_lines parts.now.version parts.now.module_len parts.now.threads parts.now.max_pages))) }
+    ensures { Wrote W.contents writer.old writer.new result (lines_text (version_lines parts.now)) }
 {
     match parts.version {
         Version::One => writer.write_all(b"wathread-record 1\n"),
@@ -208,7 +206,7 @@ fn write_scale<W: Write>(writer: &mut W, parts: &RecordParts) -> io::Result<()>
 }
 
 fn write_header<W: Write>(writer: &mut W, parts: &RecordParts) -> io::Result<()>
-    ensures { OnOk result (Appends (W.contents writer.old) (W.contents writer.new) (lines_text (header_lines parts.now))) }
+    ensures { Wrote W.contents writer.old writer.new result (lines_text (header_lines parts.now)) }
 {
     write_scale(writer, parts)?;
     writer.write_all(b"invoke ")?;
@@ -221,7 +219,7 @@ fn write_header<W: Write>(writer: &mut W, parts: &RecordParts) -> io::Result<()>
 }
 
 fn write_parts<W: Write>(writer: &mut W, parts: &RecordParts) -> io::Result<()>
-    ensures { OnOk result (Appends (W.contents writer.old) (W.contents writer.new) (record_text parts.now)) }
+    ensures { Wrote W.contents writer.old writer.new result (record_text parts.now) }
 {
     write_header(writer, parts)?;
     write_items::<EntryLine, W>(writer, parts.log.as_slice())?;
@@ -232,7 +230,7 @@ fn write_parts<W: Write>(writer: &mut W, parts: &RecordParts) -> io::Result<()>
 
 /// Writes the text of the record. Where it answers no error, the writer took exactly that text.
 pub fn write_record<W: Write>(of: &Record, writer: &mut W) -> Result<(), WriteFault>
-    ensures { OnOk result (Appends (W.contents writer.old) (W.contents writer.new) (record_text of.now)) }
+    ensures { Wrote W.contents writer.old writer.new result (record_text of.now) }
 {
     write_parts(writer, of.parts())?;
     Ok(())

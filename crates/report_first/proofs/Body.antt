@@ -17,7 +17,7 @@ use Rattle.binary_wire.specs.Faults.{refusal, offset_of}
 use Rattle.binary_wire.specs.Reading.{◌>>=◌, s32_at, signed_at, unsigned_at}
 use Rattle.binary_instructions.specs.Instructions.{const_instr}
 use Rattle.binary_instructions.specs.Opcodes.{opcode, atomic_number}
-use Rattle.binary_instructions.specs.Reading.{instr_at, shape_at, shaped_at, const_at, code_at, expression_at, atomic_at, atomic_shaped_at, memarg_at}
+use Rattle.binary_instructions.specs.Reading.{instr_at, shape_at, shaped_at, const_at, kept_at, each_kept_at, code_at, expression_at, atomic_at, atomic_shaped_at, memarg_at}
 use Rattle.report_first.specs.First.{first_code, whole_word}
 
 -- a number below 64 is one byte
@@ -46,7 +46,7 @@ with_first i r = r >>= λ others. Ok (i ∷ others.0, others.1)
 
 behind : (most : ℕ) (s : Bounds) (n : ℕ) (rest : List ℕ) (code : List Instr) → n < 64 → code_at most (false ∷ []) s rest ≡ Ok (code, [])
     → code_at (suc most) (false ∷ []) s (0x41 ∷ n ∷ rest) ≡ Ok (const_instr (values.I32 n) ∷ code, [])
-unfolding code_at
+unfolding kept_at
 behind most s n rest code below is =
     ap (with_others most s) (constant s n rest below)
     ∙ ap (with_first (const_instr (values.I32 n))) is
@@ -58,13 +58,13 @@ abbrev add_code : List Instr
 add_code = instrs.Plain (plain.Atomic (atomic.Rmw ops.Add (access.Whole types.I32)) whole_word) ∷ instrs.End ∷ []
 
 add_read : (s : Bounds) → code_at 7 (false ∷ []) s add_bytes ≡ Ok (add_code, [])
-unfolding code_at instr_at shape_at shaped_at atomic_at atomic_shaped_at memarg_at unsigned_at opcode atomic_number
+unfolding kept_at instr_at shape_at shaped_at atomic_at atomic_shaped_at memarg_at unsigned_at opcode atomic_number
 add_read s = refl
 
 abbrev pub code_bytes : ℕ → ℕ → List ℕ
 code_bytes a v = 0x41 ∷ a ∷ 0x41 ∷ v ∷ add_bytes
 
 pub code_read : (s : Bounds) (a v : ℕ) → a < 64 → v < 64 → expression_at s (code_bytes a v) ≡ Ok (first_code a v, [])
-unfolding expression_at
+unfolding expression_at each_kept_at
 code_read s a v below small_too =
     behind 8 s a (0x41 ∷ v ∷ add_bytes) (const_instr (values.I32 v) ∷ add_code) below (behind 7 s v add_bytes add_code small_too (add_read s))

@@ -1,10 +1,11 @@
 -- The lines on standard output.
-use Rattle.std.specs.Prelude.{ℕ, ◌+◌, ◌-◌, ◌/◌, ◌%◌, ◌==◌, nat_lt, if◌then◌else◌, List, [], ◌∷◌, ◌++◌, take, codes}
+use Rattle.std.specs.Prelude.{ℕ, ◌+◌, ◌/◌, ◌%◌, ◌==◌, if◌then◌else◌, List, [], ◌∷◌, ◌++◌, take, codes}
 use Rattle.std.specs.Fmt.{decimal}
 use Rattle.std.specs.List.{flat_map}
 use Rattle.types.specs.declared.outcome.Outcome.{Outcome}
 use Rattle.types.specs.declared.outcome.ThreadReport.{ThreadReport}
 use Rattle.types.specs.Outcomes.{outcome_text}
+use Rattle.replay_forms.specs.Texts.{hex_digit}
 
 -- The line of a thread.
 abbrev pub thread_line : ℕ → Outcome → List ℕ
@@ -18,10 +19,6 @@ pages_line pages = codes "pages " ++ decimal pages ++ codes "\n"
 abbrev pub thread_lines : ℕ → List ThreadReport → List ℕ
 thread_lines n [] = []
 thread_lines n (report ∷ reports) = thread_line n report.outcome ++ thread_lines (n + 1) reports
-
--- A digit of base 16, in lower case.
-abbrev pub hex_digit : ℕ → ℕ
-hex_digit d = if nat_lt d 10 then 48 + d else 97 + (d - 10)
 
 -- A byte: a space and two digits.
 abbrev pub hex_byte : ℕ → List ℕ

@@ -1,8 +1,8 @@
 //! The lines on standard output.
-ghost use Rattle.std.specs.Prelude.{◌≡◌, ◌∷◌, [], ◌<◌, OnOk};
-ghost use Rattle.std.specs.Io.KnownBytes.{Appends};
-ghost use Rattle.report_lines.specs.Lines.{thread_line, thread_lines, pages_line, bytes_line, hex_bytes, hex_digit, end_lines};
+ghost use Rattle.replay_forms.specs.Texts.{Wrote};
+ghost use Rattle.report_lines.specs.Lines.{thread_line, thread_lines, pages_line, bytes_line, hex_bytes, end_lines};
 
+use replay_forms::hex_digit;
 use std::io::{self, Write};
 use types::{Outcome, ThreadReport};
 
@@ -14,7 +14,7 @@ pub fn write_end<W: Write>(
     dump: u32,
     bytes: &[u8],
 ) -> io::Result<()>
-    ensures { OnOk result (Appends (W.contents out.old) (W.contents out.new) (end_lines threads.now pages dump bytes.now)) }
+    ensures { Wrote W.contents out.old out.new result (end_lines threads.now pages dump bytes.now) }
 {
     write_threads(out, threads)?;
     write_pages(out, pages)?;
@@ -24,7 +24,7 @@ pub fn write_end<W: Write>(
 
 /// The lines of threads, from thread 0 on.
 fn write_threads<W: Write>(out: &mut W, reports: &[ThreadReport]) -> io::Result<()>
-    ensures { OnOk result (Appends (W.contents out.old) (W.contents out.new) (thread_lines 0 reports.now)) }
+    ensures { Wrote W.contents out.old out.new result (thread_lines 0 reports.now) }
 {
     for (thread, report) in reports.iter().enumerate() {
         write_thread(out, thread, report.outcome)?;
@@ -34,21 +34,21 @@ fn write_threads<W: Write>(out: &mut W, reports: &[ThreadReport]) -> io::Result<
 
 /// The line of a thread: `thread T: ` and its outcome.
 fn write_thread<W: Write>(out: &mut W, thread: usize, outcome: Outcome) -> io::Result<()>
-    ensures { OnOk result (Appends (W.contents out.old) (W.contents out.new) (thread_line thread outcome)) }
+    ensures { Wrote W.contents out.old out.new result (thread_line thread outcome) }
 {
     write!(out, "thread {thread}: {outcome}\n")
 }
 
 /// The line of the page count: `pages P`.
 fn write_pages<W: Write>(out: &mut W, pages: u32) -> io::Result<()>
-    ensures { OnOk result (Appends (W.contents out.old) (W.contents out.new) (pages_line pages)) }
+    ensures { Wrote W.contents out.old out.new result (pages_line pages) }
 {
     write!(out, "pages {pages}\n")
 }
 
 /// The line of the first `dump` bytes, or of all if there are fewer; none where `dump` is 0.
 fn write_bytes<W: Write>(out: &mut W, dump: u32, bytes: &[u8]) -> io::Result<()>
-    ensures { OnOk result (Appends (W.contents out.old) (W.contents out.new) (bytes_line dump bytes.now)) }
+    ensures { Wrote W.contents out.old out.new result (bytes_line dump bytes.now) }
 {
     if dump == 0 {
         return Ok(());
@@ -60,21 +60,10 @@ fn write_bytes<W: Write>(out: &mut W, dump: u32, bytes: &[u8]) -> io::Result<()>
 }
 
 fn write_hex<W: Write>(out: &mut W, bytes: &[u8]) -> io::Result<()>
-    ensures { OnOk result (Appends (W.contents out.old) (W.contents out.new) (hex_bytes bytes.now)) }
+    ensures { Wrote W.contents out.old out.new result (hex_bytes bytes.now) }
 {
     for byte in bytes {
-        out.write_all(&[b' ', digit(*byte / 16), digit(*byte % 16)])?;
+        out.write_all(&[b' ', hex_digit(*byte / 16), hex_digit(*byte % 16)])?;
     }
     Ok(())
-}
-
-fn digit(value: u8) -> u8
-    requires { value < 16 }
-    ensures { result ≡ hex_digit value }
-{
-    if value < 10 {
-        b'0' + value
-    } else {
-        b'a' + (value - 10)
-    }
 }

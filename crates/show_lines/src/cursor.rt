@@ -43,7 +43,8 @@ impl<'a> Cursor<'a> {
 
     /// The next bytes, so many.
     pub fn read_bytes(&mut self, len: u64) -> Result<&'a [u8], Fault>
-        ensures { IfOk result (λ b. (length b.now ≡ len) × (self.old.rest.now ≡ b.now ++ self.new.rest.now)) }
+        ensures count { IfOk result (λ b. length b.now ≡ len) }
+        ensures front { IfOk result (λ b. self.old.rest.now ≡ b.now ++ self.new.rest.now) }
     {
         if (self.rest.len() as u64) < len {
             return Err(Fault::Unreadable);

@@ -1,8 +1,9 @@
 -- The offsets of the instructions of bodies, read from left to right (Core specification 1.0, section 5.5.13).
 use Rattle.std.specs.Prelude.{ℕ, List, Ok, Result}
 use Rattle.binary_wire.specs.declared.fault.Refusal.{Refusal}
+use Rattle.binary_wire.specs.declared.fault.ReadFault.{ReadFault}
 use Rattle.binary_wire.specs.Faults.{offset_of, inside, input}
-use Rattle.binary_wire.specs.Reading.{Reading, ◌>>=◌, block_at, u32_at, vector_at}
+use Rattle.binary_wire.specs.Reading.{Reading, ◌>>=◌, GivesInMemory, block_at, u32_at, vector_at}
 use Rattle.binary_instructions.specs.Reading.{val_type_at}
 use Rattle.show_places.specs.declared.bodies.BodyPlaces.{BodyPlaces}
 use Rattle.show_places.specs.Places.{places_in}
@@ -25,3 +26,7 @@ body_at s bytes = do
 -- A count, and so many bodies.
 abbrev pub bodies_in : List ℕ → Result (List BodyPlaces × List ℕ) Refusal
 bodies_in contents = vector_at 0xffff_ffff body_at (input contents) contents
+
+-- What a function answers that reads them, whatever is left behind them.
+abbrev pub GivesBodies : List ℕ → Result (List BodyPlaces) ReadFault → Type 0
+GivesBodies contents result = (rest : List ℕ) × GivesInMemory (λ bodies. (bodies, rest)) result (bodies_in contents)

@@ -1,5 +1,6 @@
 -- Names of functions, and which of them counts.
 use Rattle.std.specs.Prelude.{◌≡◌, ◌⊎◌, ℕ, List, [], Ok, Option, Some, None, Bool, false, nat_eq, find, codes}
+use Rattle.std.specs.Prelude.{option_map}
 use Rattle.types.specs.declared.parts.Export.{Export}
 use Rattle.types.specs.declared.parts.ExportDesc.{ExportDesc}
 use Rattle.types.specs.declared.parts.ExportDesc.TheVariants as exported
@@ -37,6 +38,10 @@ is_function index _ = false
 
 abbrev pub exports_it : ℕ → Export → Bool
 exports_it index e = is_function index e.desc
+
+-- The name of the first export of the function with this index.
+abbrev pub exported_as : List Export → ℕ → Option (List ℕ)
+exported_as exports index = option_map (λ e. e.name) (find (exports_it index) exports)
 
 -- By the first name, else by the first export, else by the index.
 abbrev pub IsCalledBy : Option Named → Option Export → ℕ → FunctionName → Type 0

@@ -1,5 +1,5 @@
 -- Sections, and what stands behind some of them (Core specification 1.0, section 5.5.2).
-use Rattle.std.specs.Prelude.{◌≡◌, ℕ, ◌+◌, List, [], ◌∷◌, length, take, drop, Result, Ok}
+use Rattle.std.specs.Prelude.{◌≡◌, ℕ, ◌+◌, List, [], ◌∷◌, length, take, drop, Ok}
 use Rattle.binary_wire.specs.declared.bounds.Bounds.{Bounds}
 use Rattle.binary_wire.specs.Reading.{Reading, ◌>>=◌, byte_at, block_at, u32_at}
 use Rattle.binary_wire.specs.Faults.{input}

@@ -1,8 +1,6 @@
 //! The offsets of the instructions of each body.
 
-ghost use Rattle.std.specs.Prelude.{ℕ, List};
-ghost use Rattle.binary_wire.specs.Reading.{GivesInMemory};
-ghost use Rattle.show_places.specs.Bodies.{group_at, body_at, bodies_in};
+ghost use Rattle.show_places.specs.Bodies.{group_at, body_at, GivesBodies};
 
 use crate::places::read_places;
 use binary_instructions::read_val_type;
@@ -54,7 +52,7 @@ impl Item for BodyItem {
 /// The places of each body of a code section, by its contents: the first is that of the first function of the module
 /// itself.
 pub fn code_places(alloc: Global, contents: &[u8]) -> Result<Sequence<BodyPlaces>, ReadFault>
-    ensures { (rest : List ℕ) × GivesInMemory (λ bodies. (bodies, rest)) result (bodies_in contents.now) }
+    ensures { GivesBodies contents.now result }
 {
     let mut reader = Reader::new(contents);
     read_vector::<BodyItem>(&mut reader, alloc, u32::MAX)

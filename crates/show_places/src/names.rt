@@ -2,10 +2,10 @@
 
 ghost use Rattle.std.specs.Prelude.{◌≡◌, find, option_map, IfOk};
 ghost use Rattle.binary_wire.specs.Reading.{GivesInMemory, vector_at};
-ghost use Rattle.show_places.specs.Names.{named_at, IsNames, is_of, exports_it, IsCalled};
+ghost use Rattle.show_places.specs.Names.{named_at, IsNames, is_of, exports_it, exported_as, IsCalled};
 
-use binary_wire::{Item, ReadFault, Reader, read_vector};
 use crate::{custom_section, subsection_of};
+use binary_wire::{Item, ReadFault, Reader, read_vector};
 use std::alloc::{AllocError, Global};
 use std::fmt::{self, Write};
 use types::{Export, ExportDesc, Name, Sequence};
@@ -33,8 +33,8 @@ impl Item for NamedItem {
     }
 }
 
-/// The names of functions of a module's name section (Core specification 1.0, appendix "Custom sections"); none where it
-/// has no such section, or where that is malformed.
+/// The names of functions of a module's name section (Core specification 1.0, appendix "Custom sections"); none where
+/// it has no such section, or where that is malformed.
 pub fn read_names(alloc: Global, bytes: &[u8]) -> Result<Sequence<Named>, AllocError>
     ensures { IfOk result (IsNames bytes.now) }
 {
@@ -95,7 +95,7 @@ fn name_in(names: &[Named], index: u32) -> Option<&str>
 }
 
 fn exported_name(exports: &[Export], index: u32) -> Option<&str>
-    ensures { option_map (λ t. t.now) result ≡ option_map (λ e. e.name) (find (exports_it index) exports.now) }
+    ensures { option_map (λ t. t.now) result ≡ exported_as exports.now index }
 {
     for export in exports {
         if exports_it(export, index) {
@@ -105,8 +105,8 @@ fn exported_name(exports: &[Export], index: u32) -> Option<&str>
     None
 }
 
-/// What the function of an index is called, the imported functions counted: by the first of the names that has its index,
-/// else by its first export, else by its index.
+/// What the function of an index is called, the imported functions counted: by the first of the names that has its
+/// index, else by its first export, else by its index.
 pub fn function_name<'a>(names: &'a [Named], exports: &'a [Export], index: u32) -> FunctionName<'a>
     ensures { IsCalled names.now exports.now index result }
 {

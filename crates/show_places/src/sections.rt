@@ -1,7 +1,7 @@
 //! Sections, and how they are found.
 
 ghost use Rattle.std.specs.Prelude.{◌≡◌, ◌+◌, length, drop, IfOk, IfSome};
-ghost use Rattle.binary_wire.specs.Reading.{Gives};
+ghost use Rattle.binary_wire.specs.Reading.{GivesNextAs};
 ghost use Rattle.binary_wire.specs.Faults.{input};
 ghost use Rattle.show_places.specs.Sections.{section_at, HasPart, HasSection, HasSubsection, IsNamed, HasCustom};
 
@@ -18,7 +18,7 @@ pub struct Section<'a> {
 /// The section at the front of what is left.
 #[tactic(auto, unfolding(crate::specs::Sections::section_at))]
 pub fn next_section<'a>(reader: &mut Reader<'a>) -> Result<Section<'a>, Refusal>
-    ensures gives { Gives (λ s. ((s.id, s.contents.now), reader.new.rest.now)) result (section_at reader.old.bounds reader.old.rest.now) }
+    ensures gives { GivesNextAs (λ s. (s.id, s.contents.now)) section_at reader.old reader.new result }
     ensures keeps { reader.new.bounds ≡ reader.old.bounds }
 {
     let id = reader.read_byte()?;

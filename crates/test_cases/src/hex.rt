@@ -10,8 +10,8 @@ fn digit(letter: char) -> Option<u8> {
     }
 }
 
-/// The bytes that pairs of digits spell, in small letters; what is no digit, as spaces and line feeds, is passed over, and so is
-/// a last digit without another one.
+/// The bytes that pairs of digits spell, in small letters; what is no digit, as spaces and line feeds, is passed over,
+/// and so is a last digit without another one.
 pub fn from_hex(alloc: Global, text: &str) -> Result<Vec<u8>, AllocError> {
     let mut bytes = Vec::new(alloc);
     let mut first = None;

@@ -1,6 +1,6 @@
-//! Cases as text, for those who try them. A file of cases is read line by line: a case begins with a line `== TITLE`, and
-//! each of its lines is a key, a space and what the key has. Several lines of one key are a text of several lines. What stands
-//! before the first case is for the reader alone, and so is a line that begins with `#`.
+//! Cases as text, for those who try them. A file of cases is read line by line: a case begins with a line `== TITLE`,
+//! and each of its lines is a key, a space and what the key has. Several lines of one key are a text of several lines.
+//! What stands before the first case is for the reader alone, and so is a line that begins with `#`.
 //!
 //! Proved: a `Tally` is wrong exactly where a case was, and `hold` succeeds exactly where each row holds.
 //!
@@ -13,9 +13,10 @@
 //! out pages 1
 //! ```
 //!
-//! A row of a file of cases may also replace lines of a text (`Edit`): `3-4 TEXT` puts the lines of TEXT in place of lines 3 and 4,
-//! counted from 1 on, and `3 TEXT` in place of line 3. In TEXT `\n` separates lines, and `\r` is a carriage return; where it is
-//! empty the lines are left out. Behind ` => ` a row says why a text so changed is refused.
+//! A row of a file of cases may also replace lines of a text (`Edit`): `3-4 TEXT` puts the lines of TEXT in place of
+//! lines 3 and 4, counted from 1 on, and `3 TEXT` in place of line 3. In TEXT `\n` separates lines, and `\r` is a
+//! carriage return; where it is empty the lines are left out. Behind ` => ` a row says why a text so changed is
+//! refused.
 //!
 //! What isn't a case but a test says what it has to find row by row, to `hold`.
 #![tactic(auto)]

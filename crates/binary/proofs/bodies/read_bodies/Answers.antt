@@ -1,7 +1,7 @@
 use Rattle.std.proofs.Common.{◌∙◌, arith, rules}
 use Rattle.std.proofs.lemmas.Result.{err_from_is_err_and}
-use Rattle.binary.specs.Reading.{bodies_at}
-use Rattle.binary.proofs.Loops.{bodies_on, bodies_end, bodies_done}
+use Rattle.binary.specs.Reading.{body_of_at, bodies_at}
+use Rattle.binary.proofs.Loops.{kept, fails_kept, bodies_on, bodies_end, bodies_done}
 use Rattle.binary.proofs.bodies.read_bodies.Goals as goal
 
 pub returns-in_err-body-clause-gives : goal.returns-in_err-body-clause-gives
@@ -10,7 +10,9 @@ returns-in_err-body-clause-gives c =
     rw (p.1, p.2) (bodies_end c.args.types.now c.args.functions.now 0 c.in_err-body.field-0.0 c.loop-i.bodies.items
     c.loop-i.i c.args.reader.now.bounds c.loop-i.reader.rest.now
     (bodies_at c.args.types.now c.args.functions.now c.args.reader.now.bounds c.args.reader.now.rest.now)
-    (search (rules, arith)) (rw c.loop-i.invariant.keeps at c.in_err-body.ensures.gives) c.loop-i.invariant.so_far)
+    (search (rules, arith)) (fails_kept (body_of_at c.args.types.now c.args.functions.now c.loop-i.i)
+    c.args.reader.now.bounds c.loop-i.reader.bounds c.loop-i.reader.rest.now c.in_err-body.field-0.0
+    c.loop-i.invariant.keeps c.in_err-body.ensures.gives) c.loop-i.invariant.so_far)
 
 pub loop-i-preserved : goal.loop-i-preserved
 loop-i-preserved c = record {
@@ -18,7 +20,9 @@ loop-i-preserved c = record {
   so_far = rw c.in_ok-push.ensures.items (bodies_on c.args.types.now c.args.functions.now 0 c.loop-i.bodies.items
       c.loop-i.i c.args.reader.now.bounds c.loop-i.reader.rest.now c.in_ok-body.body _
       (bodies_at c.args.types.now c.args.functions.now c.args.reader.now.bounds c.args.reader.now.rest.now)
-      (search (rules, arith)) (rw c.loop-i.invariant.keeps at c.in_ok-body.ensures.gives) c.loop-i.invariant.so_far);
+      (search (rules, arith)) (kept (body_of_at c.args.types.now c.args.functions.now c.loop-i.i)
+      c.args.reader.now.bounds c.loop-i.reader.bounds c.loop-i.reader.rest.now _
+      c.loop-i.invariant.keeps c.in_ok-body.ensures.gives) c.loop-i.invariant.so_far);
 }
 
 pub returns-clause-gives : goal.returns-clause-gives
