@@ -4,6 +4,5 @@ pub mod AtRest
 pub mod Opened
 pub mod Leaving
 pub mod Untouching
-pub mod Values
 pub mod Standings
 pub mod SharedParts

@@ -1,6 +1,5 @@
 -- Memories and queues that are equal are the same.
-use Rattle.std.specs.Prelude.{ℕ, ◌≡◌, ◌&&◌, Bool, true, List, fold, nat_eq, length, replicate, None}
-use Rattle.std.proofs.Common.{sym, ap, ◌∙◌}
+use Rattle.std.specs.Prelude.{ℕ, ◌≡◌, ◌&&◌, true, List, fold, nat_eq, replicate, None}
 use Rattle.std.proofs.lemmas.Bool.{eqb-true}
 use Rattle.std.specs.Cmp.{first_so, second_so}
 use Rattle.std.specs.Cmp.Lexicographic.{pointwise}
@@ -13,7 +12,7 @@ use Rattle.search_memory.specs.declared.beside.Changes.{Changes}
 use Rattle.search_memory.specs.contracts.beside.ChangePartialEq.TheImpl as change_eq
 use Rattle.search_memory.specs.contracts.beside.ChangesPartialEq.TheImpl as changes_eq
 use Rattle.search_memory.specs.Memories.{memory_of, padded, with_change}
-use Rattle.search_parts.proofs.Values.{same_list, same_sleeper}
+use Rattle.search_parts.specs.Values.{same_list, same_sleeper}
 
 same_number : (a b : ℕ) → nat_eq a b ≡ true → a ≡ b
 same_number a b e = eqb-true a b e

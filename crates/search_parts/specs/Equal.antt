@@ -6,7 +6,7 @@ use Rattle.std.proofs.lemmas.Bool.{eqb-true}
 use Rattle.types.specs.contracts.outcome.OutcomePartialEq.TheImpl as outcome_eq
 use Rattle.types.specs.contracts.outcome.OutcomeEq.TheImpl.Laws.{laws-law}
 use Rattle.search_runs.specs.Ends.{Ending}
-use Rattle.search_parts.proofs.Values.{same_outcome, same_list}
+use Rattle.search_parts.specs.Values.{same_outcome, same_list}
 use Rattle.search_parts.specs.Endings.{is_same_ending, EqualEndingsAreTheSame}
 
 pub same_ending_equiv : IsEquivalence is_same_ending
