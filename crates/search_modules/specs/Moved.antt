@@ -11,7 +11,7 @@ use Rattle.search_settled.specs.Threads.{ThreadSystem}
 use Rattle.search_settled.specs.Flat.{IsMadeBy}
 use Rattle.search_walkers.specs.Walkers.{RestsAt}
 use Rattle.search_walkers.specs.declared.walker.Standing.{Standing}
-use Rattle.search_parts.specs.Parts.{IsRested, IsAfter, IsLost}
+use Rattle.search_parts.specs.Parts.{IsAfter, IsLost}
 use Rattle.search_parts.specs.Threads.{threads_of}
 use Rattle.search_parts.specs.declared.event.Made.{Made}
 use Rattle.search_parts.specs.declared.shared.Common.{Common}
@@ -26,10 +26,6 @@ called s = called_of s.valid.now.parts s.opening.items s.max s.main s.args.now s
 -- Its threads, and what stands for them.
 abbrev pub threads : Searched → ThreadSystem Shared Thread Event Reply Answer Common Walker Made
 threads s = threads_of s.valid.now (called s) s.opening.items
-
--- One of them, at rest.
-abbrev pub IsThread : Searched → Walker → Thread → Type 0
-IsThread s t v = IsRested s.valid.now (called s) t.standing v
 
 -- Thread n made an event in one of its states.
 abbrev pub IsMade : Searched → Made → ℕ → State Shared Thread → Event → Type 0
