@@ -1,6 +1,7 @@
 -- A memory beside the one that was opened.
-use Rattle.std.specs.Prelude.{ℕ, ◌-◌, ◌++◌, Bool, nat_lt, List, length, take, replicate, fold, slice_set}
-use Rattle.shared_memory.specs.Memory.{Memory}
+use Rattle.std.specs.Prelude.{ℕ, ◌≡◌, ◌-◌, ◌++◌, Bool, nat_lt, List, length, take, replicate, fold, slice_set}
+use Rattle.types.specs.declared.event.Event.{Event}
+use Rattle.shared_memory.specs.Memory.{Memory, state_after, written}
 use Rattle.search_memory.specs.declared.beside.Change.{Change}
 use Rattle.search_memory.specs.declared.beside.Changes.{Changes}
 use Rattle.search_memory.specs.declared.looking.Beside.{Beside}
@@ -20,6 +21,10 @@ changed_bytes opening len changes = fold with_change (padded opening len) change
 abbrev pub memory_of : List ℕ → Changes → Memory
 memory_of opening c = record { bytes = changed_bytes opening c.len c.changes.items; max = c.max }
 
+-- The changes are those after this event.
+abbrev pub AreAfter : List ℕ → Changes → Event → Changes → Type 0
+AreAfter opening before event after = memory_of opening after ≡ state_after (memory_of opening before) event
+
 -- The changes at lower addresses, and those at higher ones.
 abbrev pub is_below : ℕ → Change → Bool
 is_below at change = nat_lt change.at at
@@ -30,3 +35,11 @@ is_above at change = nat_lt at change.at
 -- The memory that is looked at.
 abbrev pub memory_at : Beside → Memory
 memory_at b = memory_of b.opening.now b.changed.now
+
+-- The changes are those once a number is written to so many bytes at an address.
+abbrev pub AreWritten : Beside → ℕ → ℕ → ℕ → Changes → Type 0
+AreWritten b addr width value after = memory_of b.opening.now after ≡ written (memory_at b) addr width value
+
+-- One byte more is changed.
+abbrev pub WithByte : List ℕ → ℕ → List Change → ℕ → ℕ → List Change → Type 0
+WithByte opening len before at byte after = changed_bytes opening len after ≡ slice_set (changed_bytes opening len before) at byte

@@ -1,7 +1,7 @@
 //! A byte of a memory that is given by its changes, and one more change.
 
-ghost use Rattle.std.specs.Prelude.{◌≡◌, ◌++◌, ◌<◌, filter, get_or, slice_set, IfOk};
-ghost use Rattle.search_memory.specs.Memories.{padded, changed_bytes, is_below, is_above};
+ghost use Rattle.std.specs.Prelude.{◌≡◌, ◌++◌, ◌<◌, filter, get_or, IfOk};
+ghost use Rattle.search_memory.specs.Memories.{padded, changed_bytes, is_below, is_above, WithByte};
 
 use crate::beside::Change;
 use std::alloc::{AllocError, Global};
@@ -62,7 +62,7 @@ pub(crate) fn with_byte(
     byte: u8,
 ) -> Result<Vec<Change>, AllocError>
     requires { at < len }
-    ensures { IfOk result (λ v. changed_bytes opening.now len v.items ≡ slice_set (changed_bytes opening.now len changes.now) at byte) }
+    ensures { IfOk result (λ v. WithByte opening.now len changes.now at byte v.items) }
 {
     let mut all = lower(alloc, changes, at)?;
     if byte != opened(opening, at) {

@@ -2,9 +2,9 @@
 
 ghost use Rattle.std.specs.Prelude.{◌≡◌, ◌+◌, ◌^◌, ◌<◌, ◌≤◌, length, nat_le, IfOk};
 ghost use Rattle.shared_memory.specs.Events.{IsEvent, IsQuestion};
-ghost use Rattle.shared_memory.specs.Memory.{loaded, pages, reply_of, reply_to_question, written};
+ghost use Rattle.shared_memory.specs.Memory.{loaded, pages, reply_of, reply_to_question};
 ghost use Rattle.shared_memory_sequential.specs.Opening.{IsSized};
-ghost use Rattle.search_memory.specs.Memories.{memory_at, memory_of};
+ghost use Rattle.search_memory.specs.Memories.{memory_at, memory_of, AreWritten};
 
 use crate::beside::{Changes, copied};
 use crate::bytes::{byte_at, with_byte};
@@ -114,7 +114,7 @@ impl Beside<'_> {
         value: u64,
     ) -> Result<Changes, AllocError>
         requires { addr + width ≤ length (memory_at self.now).bytes }
-        ensures written { IfOk result (λ c. memory_of self.now.opening.now c ≡ written (memory_at self.now) addr width value) }
+        ensures written { IfOk result (AreWritten self.now addr width value) }
         ensures sized { IsSized (memory_at self.now) → IfOk result (λ c. IsSized (memory_of self.now.opening.now c)) }
     {
         let changed = self.changed;

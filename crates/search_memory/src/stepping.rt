@@ -2,9 +2,9 @@
 
 ghost use Rattle.std.specs.Prelude.{◌≡◌, fold, IfOk};
 ghost use Rattle.shared_memory.specs.Events.{IsEvent};
-ghost use Rattle.shared_memory.specs.Memory.{reply_of, state_after};
+ghost use Rattle.shared_memory.specs.Memory.{reply_of};
 ghost use Rattle.shared_memory_sequential.specs.Opening.{IsSized};
-ghost use Rattle.search_memory.specs.Memories.{memory_of, with_change};
+ghost use Rattle.search_memory.specs.Memories.{memory_of, with_change, AreAfter};
 
 use crate::beside::{Change, Changes, changes_in, padded};
 use crate::looking::Beside;
@@ -56,7 +56,7 @@ fn grown(
 ) -> Result<Changes, AllocError>
     requires sized { IsSized (memory_of opening.now changed.now) }
     requires event { IsEvent event.now }
-    ensures after { IfOk result (λ c. memory_of opening.now c ≡ state_after (memory_of opening.now changed.now) event.now) }
+    ensures after { IfOk result (AreAfter opening.now changed.now event.now) }
     ensures sized { IfOk result (λ c. IsSized (memory_of opening.now c)) }
 {
     let mut memory = memory(alloc, opening, changed)?;
@@ -73,7 +73,7 @@ fn after(
 ) -> Result<Changes, AllocError>
     requires sized { IsSized (memory_of opening.now changed.now) }
     requires event { IsEvent event.now }
-    ensures after { IfOk result (λ c. memory_of opening.now c ≡ state_after (memory_of opening.now changed.now) event.now) }
+    ensures after { IfOk result (AreAfter opening.now changed.now event.now) }
     ensures sized { IfOk result (λ c. IsSized (memory_of opening.now c)) }
 {
     let beside = Beside { opening, changed };
@@ -118,7 +118,7 @@ pub fn step(
 ) -> Result<(Changes, Reply), AllocError>
     requires sized { IsSized (memory_of opening.now changed.now) }
     requires event { IsEvent event.now }
-    ensures after { IfOk result (λ r. memory_of opening.now r.0 ≡ state_after (memory_of opening.now changed.now) event.now) }
+    ensures after { IfOk result (λ r. AreAfter opening.now changed.now event.now r.0) }
     ensures sized { IfOk result (λ r. IsSized (memory_of opening.now r.0)) }
     ensures reply { IfOk result (λ r. r.1 ≡ reply_of (memory_of opening.now changed.now) event.now) }
 {

@@ -12,13 +12,13 @@ use Rattle.search_threads.specs.Budgets.{first_without}
 use Rattle.search_settled.specs.Settled.{Settles}
 use Rattle.search_settled.specs.Next.{IsBeginning}
 use Rattle.search_runs.specs.Called.{Called, Walker as Thread, system_of, first_state, first_shared}
-use Rattle.search_settled.specs.Flat.{IsFlat}
 use Rattle.search_settled.specs.declared.flat.Flat.{Flat}
 use Rattle.search_walkers.specs.Walkers.{RestsAt}
 use Rattle.search_walkers.specs.declared.walker.Standing.{Standing}
 use Rattle.search_walkers.specs.declared.walker.Standing.TheVariants as standings
-use Rattle.search_parts.specs.Sharing.{Shares, Makes, started_in}
+use Rattle.search_parts.specs.Sharing.{Shares}
 use Rattle.search_parts.specs.Parts.{IsRested}
+use Rattle.search_parts.specs.Threads.{threads_of}
 use Rattle.search_parts.specs.declared.shared.Common.{Common}
 use Rattle.search_parts.specs.declared.shared.Walker.{Walker}
 use Rattle.search_parts.proofs.AtRest.{rested_so}
@@ -58,8 +58,7 @@ module _ (w : WithTables) (b : Called) (opening : List ℕ) (main : Standing) (a
 
   pub begun : (c : Flat Common Walker) → Shares opening c.shared (first_shared b)
       → (t : Walker) × (c.threads.items ≡ t ∷ []) × (t.standing ≡ main)
-      → IsBeginning (system_of b) (first_state b)
-      (IsFlat (system_of b) (first_state b) started_in (Shares opening) (λ t v. IsRested w b t.standing v) Makes) c
+      → IsBeginning (threads_of w b opening) c
   unfolding first_queue
   begun c shared first = record {
     settled = record { shared = first_shared b; threads = threads };

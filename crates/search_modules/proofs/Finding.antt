@@ -8,9 +8,10 @@ use Rattle.schedule.specs.System as systems
 use Rattle.schedule_threads.specs.Shared.{Shared}
 use Rattle.spawn_host.specs.Entries.{StartsThreads}
 use Rattle.search_reach.specs.Paths.{Reaches}
-use Rattle.search_reach.specs.Search.{HasAllEnds, AreEnds, CanGetStuck}
+use Rattle.search_reach.specs.Search.{StepSystem, HasAllEnds, AreEnds, CanGetStuck}
 use Rattle.search_settled.specs.Settled.{StepsBy}
-use Rattle.search_settled.specs.Next.{IsFirstOf}
+use Rattle.search_settled.specs.Turns.{turns_of}
+use Rattle.search_settled.specs.declared.flat.Flat.{Flat}
 use Rattle.search_runs.specs.Called.{Called, Walker as Thread, system_of, first_state}
 use Rattle.search_runs.specs.Ends.{Ending, HasEndedSo}
 use Rattle.search_runs.proofs.Tame.{scheduled}
@@ -19,22 +20,32 @@ use Rattle.search_modules.proofs.Returning.{what_runs_return_is_reached}
 use Rattle.search_parts.specs.Endings.{is_same_ending}
 use Rattle.search_parts.specs.Equal.{equal_ones}
 use Rattle.search_parts.specs.Parts.{IsLost}
-use Rattle.search_modules.specs.Endings.{HasEveryEnding, AllCanEndSo, IsWorkerOf, RunsOn, BeginsUnknown, CanBeLost}
+use Rattle.search_parts.specs.declared.shared.Common.{Common}
+use Rattle.search_parts.specs.declared.shared.Walker.{Walker as SharedWalker}
+use Rattle.search_walkers.specs.Rests.{RunsOn}
+use Rattle.search_modules.specs.declared.called.Searched.{Searched}
+use Rattle.search_modules.specs.Moved.{called, threads, IsStuck}
+use Rattle.search_modules.specs.Endings.{HasEveryEnding, AllCanEndSo, IsWorkerOf, BeginsUnknown, CanBeLost}
 
-module _ (m : Parts) (entry : List ℕ) (args : List Value) (b : Called) (call : IsCall m entry args b) (dump : ℕ) (endings : List Ending) where
-  every : HasDistinctNames m.exports
-      → HasAllEnds (StepsBy (system_of b)) (IsFirstOf (first_state b)) (HasEndedSo dump) is_same_ending endings → HasEveryEnding m entry args dump endings
+-- what is gone through
+abbrev gone : Searched → StepSystem (Flat Common SharedWalker) (systems.State Shared Thread) Ending
+gone s = turns_of (threads s) (HasEndedSo s.dump) (IsStuck s)
+
+module _ (m : Parts) (entry : List ℕ) (args : List Value) (s : Searched) (call : IsCall m entry args (called s)) (dump : ℕ)
+    (looked : s.dump ≡ dump) (endings : List Ending) where
+  abbrev b : Called
+  b = called s
+
+  every : HasDistinctNames m.exports → HasAllEnds (gone s) is_same_ending endings → HasEveryEnding m entry args s.dump endings
   every distinct all fuel loses limit history end ends enough =
-      let reached = what_runs_return_is_reached m distinct entry args b call fuel loses limit history end ends enough dump in
-      let found = all (first_state b) reached.0 (ending_of dump end) refl reached.1 reached.2 in
-      subst (Contains endings) (sym (equal_ones (ending_of dump end) found.key found.is)) found.among
+      let reached = what_runs_return_is_reached m distinct entry args b call fuel loses limit history end ends enough s.dump in
+      let found = all (first_state b) reached.0 (ending_of s.dump end) refl reached.1 reached.2 in
+      subst (Contains endings) (sym (equal_ones (ending_of s.dump end) found.key found.is)) found.among
 
-  pub every_by : (looked : ℕ) → looked ≡ dump → HasDistinctNames m.exports
-      → HasAllEnds (StepsBy (system_of b)) (IsFirstOf (first_state b)) (HasEndedSo looked) is_same_ending endings → HasEveryEnding m entry args dump endings
-  every_by looked is distinct all = every distinct
-      (subst (λ (d : ℕ). HasAllEnds (StepsBy (system_of b)) (IsFirstOf (first_state b)) (HasEndedSo d) is_same_ending endings) is all)
+  pub every_by : HasDistinctNames m.exports → HasAllEnds (gone s) is_same_ending endings → HasEveryEnding m entry args dump endings
+  every_by distinct all = subst (λ (d : ℕ). HasEveryEnding m entry args d endings) looked (every distinct all)
 
-  sound : AreEnds (StepsBy (system_of b)) (IsFirstOf (first_state b)) (HasEndedSo dump) endings → AllCanEndSo m entry args dump endings
+  sound : AreEnds (gone s) endings → AllCanEndSo m entry args s.dump endings
   sound are e among =
       let is = are e among in
       let reached : Reaches (StepsBy (system_of b)) (first_state b) is.can.end =
@@ -48,9 +59,8 @@ module _ (m : Parts) (entry : List ℕ) (args : List Value) (b : Called) (call :
         ended = is.can.is;
       }
 
-  pub sound_by : (looked : ℕ) → looked ≡ dump → AreEnds (StepsBy (system_of b)) (IsFirstOf (first_state b)) (HasEndedSo looked) endings
-      → AllCanEndSo m entry args dump endings
-  sound_by looked is are = sound (subst (λ (d : ℕ). AreEnds (StepsBy (system_of b)) (IsFirstOf (first_state b)) (HasEndedSo d) endings) is are)
+  pub sound_by : AreEnds (gone s) endings → AllCanEndSo m entry args dump endings
+  sound_by are = subst (λ (d : ℕ). AllCanEndSo m entry args d endings) looked (sound are)
 
 -- where it cannot tell
 
@@ -66,18 +76,18 @@ module _ (m : Parts) (b : Called) where
     | inr begins ↦ inr (unknown worker is begins.0, begins.1, begins.2)
   ]
 
-  pub lost_by : (entry : List ℕ) (args : List Value) → IsCall m entry args b → (worker : Option ℕ) → IsWorkerOf m worker
-      → CanGetStuck (StepsBy (system_of b)) (λ (z : systems.State Shared Thread). (n : ℕ) × IsLost worker b z n) (IsFirstOf (first_state b))
-      → CanBeLost m entry args
-  lost_by entry args call worker is stuck =
-      let gets = stuck.gets in
-      let reached : Reaches (StepsBy (system_of b)) (first_state b) gets.end =
-      subst (λ (w : systems.State Shared Thread). Reaches (StepsBy (system_of b)) w gets.end) stuck.begun gets.path in
-      record {
-        called = b;
-        call = call;
-        state = gets.end;
-        reached = reached;
-        thread = gets.is.0;
-        lost = lost_so worker is gets.end gets.is.0 gets.is.1;
-      }
+pub lost_by : (m : Parts) (s : Searched) (entry : List ℕ) (args : List Value) → IsCall m entry args (called s) → IsWorkerOf m s.worker
+    → CanGetStuck (gone s) → CanBeLost m entry args
+lost_by m s entry args call worker stuck =
+    let gets = stuck.gets in
+    let b = called s in
+    let reached : Reaches (StepsBy (system_of b)) (first_state b) gets.end =
+    subst (λ (w : systems.State Shared Thread). Reaches (StepsBy (system_of b)) w gets.end) stuck.begun gets.path in
+    record {
+      called = b;
+      call = call;
+      state = gets.end;
+      reached = reached;
+      thread = gets.is.0;
+      lost = lost_so m b s.worker worker gets.end gets.is.0 gets.is.1;
+    }

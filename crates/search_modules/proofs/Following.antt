@@ -5,18 +5,18 @@ use Rattle.types.specs.declared.event.Event.{Event}
 use Rattle.schedule.specs.System.{State}
 use Rattle.schedule.specs.Scheduled.{after_event}
 use Rattle.schedule_threads.specs.Shared.{Shared}
-use Rattle.search_runs.specs.Called.{Walker as Thread, system_of, first_state}
+use Rattle.search_runs.specs.Called.{Walker as Thread, system_of}
 use Rattle.search_runs.proofs.Tame.{missing}
 use Rattle.search_settled.specs.Flat.{RestsAfter, ComesAfter, BeginsAfter}
 use Rattle.search_walkers.specs.Walkers.{RestsAt}
 use Rattle.search_walkers.specs.declared.walker.Standing.{Standing}
 use Rattle.search_walkers.specs.declared.walker.Standing.TheVariants as standings
-use Rattle.search_parts.specs.Sharing.{Shares, Makes, started_in}
+use Rattle.search_parts.specs.Sharing.{started_in}
 use Rattle.search_parts.specs.Parts.{IsRested, IsAfter}
 use Rattle.search_parts.specs.declared.event.Made.{Made}
 use Rattle.search_parts.specs.declared.shared.Walker.{Walker}
 use Rattle.search_parts.proofs.AtRest.{rested_so}
-use Rattle.search_modules.specs.Moved.{called, IsThread, IsMade}
+use Rattle.search_modules.specs.Moved.{called, threads, IsMade}
 use Rattle.search_modules.specs.declared.called.Searched.{Searched}
 use Rattle.search_modules.proofs.Begun.{missing_rests}
 use Rattle.search_modules.proofs.Callable.{workers}
@@ -46,7 +46,7 @@ module _ (s : Searched) (made : Made) (n m : ℕ) where
 
   rests_after : (before : Standing) (after : Walker) → Rests before after.standing → (z : State Shared Thread) (e : Event)
       → IsAfter s.valid.now s.worker made n before m (called s) z e
-      → RestsAfter (system_of (called s)) (first_state (called s)) started_in (Shares s.opening.items) (IsThread s) Makes z n e m after
+      → RestsAfter (threads s) z n e m after
   rests_after before after rests z e is =
       let at = rests z e is in
       record {
@@ -56,9 +56,9 @@ module _ (s : Searched) (made : Made) (n m : ℕ) where
       }
 
   pub comes_after : (before after : Walker) → Rests before.standing after.standing
-      → ComesAfter (system_of (called s)) (first_state (called s)) started_in (Shares s.opening.items) (IsThread s) Makes made n before m after
+      → ComesAfter (threads s) made n before m after
   comes_after before after rests z e by is = rests_after before.standing after rests z e (is_after before.standing z e by is)
 
   pub begins_after : (new : Walker) → Rests standings.Missing new.standing
-      → BeginsAfter (system_of (called s)) (first_state (called s)) started_in (Shares s.opening.items) (IsThread s) Makes made n m new
+      → BeginsAfter (threads s) made n m new
   begins_after new rests z e by past = rests_after standings.Missing new rests z e (is_new z e by past)

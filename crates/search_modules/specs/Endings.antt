@@ -9,12 +9,13 @@ use Rattle.schedule.specs.System.{State}
 use Rattle.schedule_threads.specs.Shared.{Shared}
 use Rattle.spawn_host.specs.Entries.{StartsThreads, IsThreadStart}
 use Rattle.spawn_host.specs.declared.end.EndState.{EndState}
+use Rattle.spawn_host.specs.declared.call.Call.{Call}
 use Rattle.spawn_host.specs.RunEnds.{EndsRun}
 use Rattle.interp_trait.specs.Turns.{spawned_in}
 use Rattle.search_threads.specs.Unlimited.{Unlimited.Going}
-use Rattle.search_settled.specs.Settled.{MakesTurns}
-use Rattle.search_walkers.specs.Walkers.{patience}
-use Rattle.search_runs.specs.Called.{Called, Walker as Thread, system_of}
+use Rattle.search_reach.specs.Found.{Claims}
+use Rattle.search_walkers.specs.Rests.{RunsOn}
+use Rattle.search_runs.specs.Called.{Called, Walker as Thread}
 use Rattle.search_runs.specs.Ends.{Ending, HasEndedSo}
 use Rattle.search_runs.specs.Theorems.{CanReach, IsScheduled}
 use Rattle.search_modules.specs.Returned.{IsCall, AllHadEnough, ending_of}
@@ -44,10 +45,6 @@ abbrev pub IsWorkerOf : Parts → Option ℕ → Type 0
 IsWorkerOf m None = StartsThreads m → ⊥
 IsWorkerOf m (Some own) = StartsThreads m × (func_type : FuncType) × (body : Body) × IsThreadStart m own func_type body
 
--- A thread makes a million turns of its own without coming to rest.
-abbrev pub RunsOn : Called → Thread → Type 0
-RunsOn b v = MakesTurns (system_of b) patience v
-
 -- Thread n stands where a spawned one begins, in a module that can start none, so that no function is known for that.
 abbrev pub BeginsUnknown : Parts → Called → ℕ → Thread → Type 0
 BeginsUnknown m b n v = (StartsThreads m → ⊥) × (arg : ℕ) × (v ≡ Going (spawned_in b.worker n arg))
@@ -60,3 +57,12 @@ pub record CanBeLost (m : Parts) (entry : List ℕ) (args : List Value) : Type 0
   pub reached : CanReach called state
   pub thread : ℕ
   pub lost : RunsOn called (state.threads thread) ⊎ BeginsUnknown m called thread (state.threads thread)
+
+-- What a search of this call claims: its list has the ending of every run, threads can end as each of the list says, and they can come
+-- to where nothing can be told of one of them.
+abbrev pub claims_of : Parts → Call → ℕ → Claims Ending
+claims_of m call dump = record {
+  complete = HasEveryEnding m call.name.now call.args.now dump;
+  sound = AllCanEndSo m call.name.now call.args.now dump;
+  lost = CanBeLost m call.name.now call.args.now;
+}

@@ -1,13 +1,18 @@
 -- The states of a search: what is shared and each thread at rest, of a module's threads.
 use Rattle.std.specs.Prelude.{ℕ}
+use Rattle.types.specs.declared.event.Answer.{Answer}
 use Rattle.types.specs.declared.event.Event.{Event}
+use Rattle.types.specs.declared.event.Reply.{Reply}
 use Rattle.schedule.specs.System.{State}
+use Rattle.schedule.specs.Scheduled.{after_event}
 use Rattle.schedule_threads.specs.Shared.{Shared}
-use Rattle.search_runs.specs.Called.{Called, Walker as Thread, system_of, first_state}
-use Rattle.search_settled.specs.Flat.{IsFlat, IsMadeBy}
-use Rattle.search_settled.specs.declared.flat.Flat.{Flat}
-use Rattle.search_parts.specs.Sharing.{Shares, Makes, started_in}
-use Rattle.search_parts.specs.Parts.{IsRested, IsLost}
+use Rattle.search_runs.specs.Called.{Called, Walker as Thread, system_of}
+use Rattle.search_settled.specs.Threads.{ThreadSystem}
+use Rattle.search_settled.specs.Flat.{IsMadeBy}
+use Rattle.search_walkers.specs.Walkers.{RestsAt}
+use Rattle.search_walkers.specs.declared.walker.Standing.{Standing}
+use Rattle.search_parts.specs.Parts.{IsAfter, IsLost}
+use Rattle.search_parts.specs.Threads.{threads_of}
 use Rattle.search_parts.specs.declared.event.Made.{Made}
 use Rattle.search_parts.specs.declared.shared.Common.{Common}
 use Rattle.search_parts.specs.declared.shared.Walker.{Walker}
@@ -18,19 +23,29 @@ use Rattle.search_modules.specs.declared.called.Searched.{Searched}
 abbrev pub called : Searched → Called
 called s = called_of s.valid.now.parts s.opening.items s.max s.main s.args.now s.worker
 
--- One of its threads, at rest.
-abbrev pub IsThread : Searched → Walker → Thread → Type 0
-IsThread s t v = IsRested s.valid.now (called s) t.standing v
-
--- One of its states, settled.
-abbrev pub IsState : Searched → Flat Common Walker → State Shared Thread → Type 0
-IsState s = IsFlat (system_of (called s)) (first_state (called s)) started_in (Shares s.opening.items) (IsThread s) Makes
+-- Its threads, and what stands for them.
+abbrev pub threads : Searched → ThreadSystem Shared Thread Event Reply Answer Common Walker Made
+threads s = threads_of s.valid.now (called s) s.opening.items
 
 -- Thread n made an event in one of its states.
 abbrev pub IsMade : Searched → Made → ℕ → State Shared Thread → Event → Type 0
-IsMade s made n z e =
-    IsMadeBy (system_of (called s)) (first_state (called s)) started_in (Shares s.opening.items) (IsThread s) Makes made z n e
+IsMade s made n z e = IsMadeBy (threads s) made z n e
+
+-- Thread m stands so before an event of thread n: there is such a state, and what is so of each after the event.
+module _ (s : Searched) (made : Made) (n : ℕ) (before : Standing) (m : ℕ) where
+  abbrev pub IsSomewhereAfter : Type 0
+  IsSomewhereAfter = (z : State Shared Thread) × (e : Event) × IsAfter s.valid.now s.worker made n before m (called s) z e
+
+  abbrev pub OfAfter : (State Shared Thread → Type 0) → Type 0
+  OfAfter so = (z : State Shared Thread) (e : Event) → IsAfter s.valid.now s.worker made n before m (called s) z e
+      → so (after_event (system_of (called s)) z n e)
+
+  abbrev pub RestsThen : Walker → Type 0
+  RestsThen t = OfAfter (λ z. RestsAt s.valid.now (called s) (z.threads m) t.standing)
 
 -- Nothing can be told of one of the threads: it makes a million turns of its own, or it begins and no function is known for that.
 abbrev pub IsStuck : Searched → State Shared Thread → Type 0
 IsStuck s z = (m : ℕ) × IsLost s.worker (called s) z m
+
+abbrev pub IsStuckThen : Searched → Made → ℕ → Standing → ℕ → Type 0
+IsStuckThen s made n before m = OfAfter s made n before m (IsStuck s)

@@ -1,13 +1,14 @@
 //! All endings of a call.
 
-ghost use Rattle.std.specs.Prelude.{◌≡◌, ◌<◌, IfOk, IfErr, vec_len};
+ghost use Rattle.std.specs.Prelude.{◌≡◌, IfOk, IfErr, vec_len};
 ghost use Rattle.indexmap.specs.IndexSet.{index_set_len};
 ghost use Rattle.spawn_host.specs.Faults.{IsFaultOf};
-ghost use Rattle.search_modules.specs.Endings.{HasEveryEnding, AllCanEndSo, CanBeLost};
+ghost use Rattle.search_reach.specs.Found.{AreListed};
+ghost use Rattle.search_modules.specs.Endings.{claims_of};
 
 use crate::calling::searched;
 use search_parts::Ending;
-use search_reach::{Ended, Follows, Verdict, Wish};
+use search_reach::{Ended, Follows};
 use search_settled::search_all;
 use spawn_host::Call;
 use spawn_host_workers::RunFault;
@@ -36,14 +37,8 @@ pub fn all_endings<F: Follows>(
     dump: usize,
     follower: &mut F,
 ) -> Result<Ended<Ending>, RunFault>
-    ensures all { IfOk result (λ r. r.verdict ≡ Verdict.All
-        → HasEveryEnding valid.now.parts call.entry.name.now call.entry.args.now dump r.endings.keys) }
-    ensures sound { IfOk result (λ r. AllCanEndSo valid.now.parts call.entry.name.now call.entry.args.now dump r.endings.keys) }
+    ensures found { IfOk result (AreListed (claims_of valid.now.parts call.entry dump) most_states (F.wish follower.new)) }
     ensures paths { IfOk result (λ r. vec_len r.paths ≡ index_set_len r.endings) }
-    ensures bound { IfOk result (λ r. r.verdict ≡ Verdict.TooMany → most_states < r.states) }
-    ensures cannot_tell { IfOk result (λ r. r.verdict ≡ Verdict.CannotTell
-        → CanBeLost valid.now.parts call.entry.name.now call.entry.args.now) }
-    ensures told { IfOk result (λ r. r.verdict ≡ Verdict.Told → F.wish follower.new ≡ Wish.End) }
     ensures fault { IfErr result (IsFaultOf valid.now.parts call.entry.name.now call.entry.args.now) }
 {
     let searched = searched(alloc, valid, call, dump)?;

@@ -2,8 +2,7 @@
 
 ghost use Rattle.std.specs.Prelude.{◌≡◌, None, IfOk, IfSome};
 ghost use Rattle.search_settled.specs.Next.{IsBeginning};
-ghost use Rattle.search_runs.specs.Called.{system_of, first_state};
-ghost use Rattle.search_modules.specs.Moved.{called, IsState, IsStuck};
+ghost use Rattle.search_modules.specs.Moved.{threads, IsStuck};
 
 use crate::called::Searched;
 use search_parts::{Common, SharedWalker, first_common, first_threads};
@@ -19,9 +18,8 @@ pub(crate) fn first_flat(
     alloc: Global,
     searched: &Searched,
 ) -> Result<Option<Flat<Common, SharedWalker>>, AllocError>
-    ensures first { IfOk result (λ o. IfSome o (IsBeginning (system_of (called searched.now)) (first_state (called searched.now))
-        (IsState searched.now))) }
-    ensures gives_up { IfOk result (λ o. o ≡ None → IsStuck searched.now (first_state (called searched.now))) }
+    ensures first { IfOk result (λ o. IfSome o (IsBeginning (threads searched.now))) }
+    ensures gives_up { IfOk result (λ o. o ≡ None → IsStuck searched.now (threads searched.now).first) }
 {
     let Some(main) = begin(alloc, searched.valid, searched.main, searched.args)? else {
         return Ok(None);

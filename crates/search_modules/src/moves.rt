@@ -11,12 +11,10 @@ impl Moves for Searched<'_> {
     ghost use Rattle.types.specs.declared.event.Event.{Event};
     ghost use Rattle.types.specs.declared.event.Reply.{Reply};
     ghost use Rattle.types.specs.declared.event.Answer.{Answer};
-    ghost use Rattle.types.specs.declared.limits.TheConstants.{MOST_THREADS};
     ghost use Rattle.schedule_threads.specs.Shared.{Shared};
-    ghost use Rattle.search_runs.specs.Called.{Walker as Thread, system_of, first_state};
+    ghost use Rattle.search_runs.specs.Called.{Walker as Thread};
     ghost use Rattle.search_runs.specs.Ends.{HasEndedSo};
-    ghost use Rattle.search_parts.specs.Sharing.{Shares, Makes, started_in};
-    ghost use Rattle.search_modules.specs.Moved.{called, IsThread, IsStuck};
+    ghost use Rattle.search_modules.specs.Moved.{called, threads, IsStuck};
     ghost use Rattle.search_runs.proofs.Tame.{tame};
     ghost use Rattle.search_parts.proofs.Bounds.{bounded, over, same_shared, same_thread};
 
@@ -38,21 +36,9 @@ impl Moves for Searched<'_> {
 
     ghost A = { Answer };
 
-    ghost system = { λ t. system_of (called t) };
-
-    ghost beginning = { λ t. first_state (called t) };
+    ghost threads = { threads };
 
     ghost ends = { λ t. HasEndedSo t.dump };
-
-    ghost count = { λ t. started_in };
-
-    ghost most = { λ t. MOST_THREADS };
-
-    ghost shares = { λ t. Shares t.opening.items };
-
-    ghost is_thread = { IsThread };
-
-    ghost makes = { λ t. Makes };
 
     ghost stuck = { IsStuck };
 

@@ -12,7 +12,7 @@ use Rattle.search_memory.specs.Memories.{memory_of}
 use Rattle.search_threads.specs.Unlimited.{Unlimited.Away as Left}
 use Rattle.search_settled.specs.Next.{IsAt}
 use Rattle.search_settled.specs.declared.flat.Flat.{Flat}
-use Rattle.search_runs.specs.Called.{Called, Walker as Thread, system_of, first_state}
+use Rattle.search_runs.specs.Called.{Called, Walker as Thread}
 use Rattle.search_runs.specs.Ends.{Ending, HasEndedSo}
 use Rattle.search_runs.proofs.Tame.{missing}
 use Rattle.search_walkers.specs.Walkers.{StandsFor}
@@ -20,7 +20,8 @@ use Rattle.search_walkers.specs.declared.walker.Standing.{Standing}
 use Rattle.search_walkers.specs.declared.walker.Standing.TheVariants.{Missing, Going, Ended, Leaving, Away}
 use Rattle.search_parts.specs.declared.shared.Common.{Common}
 use Rattle.search_parts.specs.declared.shared.Walker.{Walker}
-use Rattle.search_parts.specs.Endings.{outcome_away, outcome_at, HaveLeft, IsOneHere, IsStateOf}
+use Rattle.search_parts.specs.Endings.{outcome_away, outcome_at, HaveLeft, IsOneHere}
+use Rattle.search_parts.specs.Threads.{threads_of}
 
 -- lists
 
@@ -86,7 +87,7 @@ one_ending dump z x y one other =
     λ i. record { outcomes = outcomes i; pages = pages_so i; bytes = bytes_so i }
 
 module _ (w : WithTables) (b : Called) (opening : List ℕ) (flat : Flat Common Walker) (z : systems.State Shared Thread)
-    (at : IsAt (system_of b) (first_state b) (IsStateOf w b opening) flat z) where
+    (at : IsAt (threads_of w b opening) flat z) where
   abbrev threads : List Walker
   threads = flat.threads.items
 

@@ -1,6 +1,5 @@
 -- Memories and queues that are equal are the same.
-use Rattle.std.specs.Prelude.{ℕ, ◌≡◌, ◌&&◌, Bool, true, List, fold, nat_eq, length, replicate, None}
-use Rattle.std.proofs.Common.{sym, ap, ◌∙◌}
+use Rattle.std.specs.Prelude.{ℕ, ◌≡◌, ◌&&◌, true, List, fold, nat_eq, replicate, None}
 use Rattle.std.proofs.lemmas.Bool.{eqb-true}
 use Rattle.std.specs.Cmp.{first_so, second_so}
 use Rattle.std.specs.Cmp.Lexicographic.{pointwise}

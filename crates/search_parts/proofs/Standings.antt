@@ -1,17 +1,15 @@
 -- Threads at rest that are equal stand for the same.
-use Rattle.std.specs.Prelude.{ℕ, ◌≡◌, ◌&&◌, Bool, true, refl, nat_eq}
-use Rattle.std.proofs.Common.{sym, ap, ◌∙◌, subst}
+use Rattle.std.specs.Prelude.{◌≡◌, ◌&&◌, Bool, true, nat_eq}
+use Rattle.std.proofs.Common.{sym, ◌∙◌, subst}
 use Rattle.std.proofs.lemmas.Bool.{eqb-true}
 use Rattle.std.specs.Cmp.{first_so, second_so}
 use Rattle.std.specs.Cmp.Lexicographic.{pointwise}
 use Rattle.types.specs.contracts.value.ValuePartialEq.TheImpl as value_eq
-use Rattle.types.specs.declared.outcome.Outcome.{Outcome}
 use Rattle.validate_typing.specs.Tabled.{WithTables}
 use Rattle.interp_state.specs.declared.state.State.{State}
 use Rattle.interp_state.specs.contracts.state.CallerPartialEq.TheImpl as caller_eq
 use Rattle.interp_state.specs.contracts.state.ProgressPartialEq.TheImpl as progress_eq
-use Rattle.interp_machine.specs.Config.{Config}
-use Rattle.interp.specs.Kept.{IsOf, IsKept}
+use Rattle.interp.specs.Kept.{IsOf}
 use Rattle.interp.specs.declared.kept.Kept.{Kept}
 use Rattle.interp.specs.contracts.kept.KeptPartialEq.TheImpl as kept_eq
 use Rattle.search_runs.specs.Called.{Walker}

@@ -1,21 +1,12 @@
 -- How the threads of a state have left, and when two endings are the same.
-use Rattle.std.specs.Prelude.{ℕ, ◌≡◌, Bool, true, List, Contains, map, Option, Some, None, nat_eq}
+use Rattle.std.specs.Prelude.{◌≡◌, Bool, true, List, Contains, map, Option, Some, None, nat_eq}
 use Rattle.std.specs.Ordering.{on, eq_of_both}
 use Rattle.std.specs.Cmp.Lexicographic.{pointwise}
 use Rattle.types.specs.declared.outcome.Outcome.{Outcome}
 use Rattle.types.specs.contracts.outcome.OutcomePartialEq.TheImpl as outcomes
-use Rattle.validate_typing.specs.Tabled.{WithTables}
-use Rattle.schedule.specs.System.{State}
-use Rattle.schedule_threads.specs.Shared.{Shared}
-use Rattle.search_settled.specs.declared.flat.Flat.{Flat}
-use Rattle.search_settled.specs.Flat.{IsFlat}
-use Rattle.search_runs.specs.Called.{Called, Walker as Thread, system_of, first_state}
 use Rattle.search_runs.specs.Ends.{Ending}
 use Rattle.search_walkers.specs.declared.walker.Standing.{Standing}
 use Rattle.search_walkers.specs.declared.walker.Standing.TheVariants.{Missing, Going, Ended, Leaving, Away}
-use Rattle.search_parts.specs.Sharing.{Shares, Makes, started_in}
-use Rattle.search_parts.specs.Parts.{IsRested}
-use Rattle.search_parts.specs.declared.shared.Common.{Common}
 use Rattle.search_parts.specs.declared.shared.Walker.{Walker}
 
 -- The outcome of a thread that has left.
@@ -36,11 +27,6 @@ HaveLeft threads outcomes = map outcome_at threads ≡ map (λ o. Some o) outcom
 -- One of them hasn't.
 abbrev pub IsOneHere : List Walker → Type 0
 IsOneHere threads = (t : Walker) × Contains threads t × (outcome_at t ≡ None)
-
--- This is a settled state of a call, part by part.
-abbrev pub IsStateOf : WithTables → Called → List ℕ → Flat Common Walker → State Shared Thread → Type 0
-IsStateOf w b opening =
-    IsFlat (system_of b) (first_state b) started_in (Shares opening) (λ (t : Walker). IsRested w b t.standing) Makes
 
 -- Endings are compared by all that they say.
 abbrev pub is_same_ending : Ending → Ending → Bool

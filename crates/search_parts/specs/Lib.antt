@@ -4,4 +4,6 @@ pub mod Endings
 pub mod Equal
 pub mod Untouched
 pub mod Same
+pub mod Rests
+pub mod Threads
 pub mod Values

@@ -15,10 +15,10 @@ use Rattle.interp_machine.specs.Config.{Config}
 use Rattle.interp.specs.Starts.{IsFunction, start_of}
 use Rattle.interp_trait.specs.Turns.{spawned_in}
 use Rattle.search_threads.specs.Unlimited.{Unlimited.Going}
-use Rattle.search_settled.specs.Settled.{MakesTurns}
 use Rattle.search_runs.specs.Called.{Called, Walker as Thread, system_of}
 use Rattle.search_runs.specs.Theorems.{CanReach}
-use Rattle.search_walkers.specs.Walkers.{IsOf, StandsFor, patience}
+use Rattle.search_walkers.specs.Walkers.{IsOf, StandsFor}
+use Rattle.search_walkers.specs.Rests.{RunsOn}
 use Rattle.search_walkers.specs.declared.walker.Standing.{Standing}
 use Rattle.search_parts.specs.Sharing.{Shares, Makes}
 use Rattle.search_parts.specs.declared.shared.Common.{Common}
@@ -63,5 +63,5 @@ pub record IsAfter (w : WithTables) (worker : Option ℕ) (made : Made) (n : ℕ
 -- Nothing can be told of thread m: it makes a million turns of its own, or it begins and no function is known that it calls.
 abbrev pub IsLost : Option ℕ → Called → systems.State Shared Thread → ℕ → Type 0
 IsLost worker b z m =
-    MakesTurns (system_of b) patience (z.threads m)
+    RunsOn b (z.threads m)
     ⊎ ((worker ≡ None) × (arg : ℕ) × (z.threads m ≡ Going (spawned_in b.worker m arg)))

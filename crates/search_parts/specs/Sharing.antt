@@ -1,10 +1,11 @@
 -- What stands for the shared state, and what an event of a thread makes.
 use Rattle.std.specs.Prelude.{ℕ, ◌≡◌, List, length, cond, nat_lt, Option, Some, None}
+use Rattle.types.specs.Limits.{most_threads}
 use Rattle.types.specs.declared.event.Event.{Event}
 use Rattle.types.specs.declared.event.Event.TheVariants as events
 use Rattle.types.specs.declared.event.Question.TheVariants as questions
 use Rattle.shared_memory.specs.Memory.{reply_of}
-use Rattle.shared_memory.specs.WaitQueue.{WaitQueue, next_id}
+use Rattle.shared_memory.specs.WaitQueue.{WaitQueue, first_queue, next_id}
 use Rattle.shared_memory_sequential.specs.Opening.{IsSized}
 use Rattle.schedule_threads.specs.Shared.{Shared, queue_by}
 use Rattle.waiters.specs.Kept.{queue_of}
@@ -18,6 +19,11 @@ pub record Shares (opening : List ℕ) (c : Common) (x : Shared) : Type 0 where
   pub memory : memory_of opening c.memory ≡ x.memory
   pub queue : queue_of c.queue ≡ x.queue
   pub sized : IsSized (memory_of opening c.memory)
+
+-- It is the memory before any event, and the queue in which thread 0 alone is alive.
+abbrev pub SharesFirst : List ℕ → ℕ → Common → Type 0
+SharesFirst opening max c =
+    Shares opening c (record { memory = record { bytes = opening; max = max }; queue = first_queue most_threads })
 
 -- How many threads were started, thread 0 among them.
 abbrev pub started_in : Shared → ℕ

@@ -1,6 +1,6 @@
 -- Equal values are the same.
-use Rattle.std.specs.Prelude.{ℕ, ◌≡◌, ◌&&◌, ◌==◌, Bool, true, false, List, [], ◌∷◌, Option, Some, None, cond, refl, nat_eq}
-use Rattle.std.proofs.Common.{sym, ap, ◌∙◌, subst, true≢false, int_eq}
+use Rattle.std.specs.Prelude.{◌≡◌, ◌&&◌, Bool, true, false, List, [], ◌∷◌, Option, Some, None, cond, refl, nat_eq}
+use Rattle.std.proofs.Common.{sym, ap, ◌∙◌, true≢false, int_eq}
 use Rattle.std.proofs.lemmas.Bool.{eqb-true}
 use Rattle.std.proofs.lemmas.Bool.Decides.{Decides-int_eq}
 use Rattle.std.specs.Cmp.{first_so, second_so}

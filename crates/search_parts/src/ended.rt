@@ -1,11 +1,8 @@
 //! How the threads of a module have ended.
 
 ghost use Rattle.std.specs.Prelude.{◌≡◌, take, IfOk, MatchOption};
-ghost use Rattle.validate_typing.specs.Tabled.{WithTables};
-ghost use Rattle.search_settled.specs.Next.{HasEnded, IsSomewhere};
-ghost use Rattle.search_runs.specs.Called.{Called, system_of, first_state};
-ghost use Rattle.search_runs.specs.Ends.{HasEndedSo};
-ghost use Rattle.search_parts.specs.Endings.{outcome_away, HaveLeft, IsOneHere, IsStateOf, EqualEndingsAreTheSame};
+ghost use Rattle.search_parts.specs.Endings.{outcome_away, HaveLeft, IsOneHere, EqualEndingsAreTheSame};
+ghost use Rattle.search_parts.specs.Threads.{IsSettled, HasEndedIn};
 
 use crate::shared::Common;
 use crate::shared_walker::SharedWalker;
@@ -141,9 +138,8 @@ pub fn ending_of(
     flat: &Flat<Common, SharedWalker>,
     dump: usize,
 ) -> Result<Option<Ending>, AllocError>
-    requires { (w : WithTables) × (b : Called) × IsSomewhere (system_of b) (first_state b) (IsStateOf w b opening.now) flat.now }
-    ensures { IfOk result (λ o. (w : WithTables) (b : Called)
-        → HasEnded (system_of b) (first_state b) (IsStateOf w b opening.now) (HasEndedSo dump) flat.now o) }
+    requires { IsSettled opening.now flat.now }
+    ensures { IfOk result (HasEndedIn opening.now dump flat.now) }
 {
     let Some(outcomes) = outcomes_of(alloc, flat.threads.as_slice())? else {
         return Ok(None);

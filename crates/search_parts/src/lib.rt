@@ -20,7 +20,9 @@ pub use ended::{Ending, ending_of, equal_endings_are_the_same};
 pub use event::{Begun, Made};
 pub use opening::{first_common, first_threads};
 pub use resting::rest_after;
-pub use same::{equal_memories_are_the_same, equal_queues_are_the_same, equal_standings_are_the_same};
+pub use same::{
+    equal_memories_are_the_same, equal_queues_are_the_same, equal_standings_are_the_same,
+};
 pub use shared::{Common, Walker};
 pub use shared_walker::SharedWalker;
 pub use stepping::make_event;

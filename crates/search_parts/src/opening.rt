@@ -1,10 +1,8 @@
 //! Where all threads come to rest in the beginning.
 
 ghost use Rattle.std.specs.Prelude.{◌≡◌, [], ◌∷◌, IfOk};
-ghost use Rattle.types.specs.declared.limits.TheConstants.{MOST_THREADS};
-ghost use Rattle.shared_memory.specs.WaitQueue.{first_queue};
 ghost use Rattle.shared_memory_sequential.specs.Opening.{IsSized};
-ghost use Rattle.search_parts.specs.Sharing.{Shares};
+ghost use Rattle.search_parts.specs.Sharing.{SharesFirst};
 ghost use Rattle.search_parts.specs.declared.shared.Walker.{Walker};
 
 use crate::shared::Common;
@@ -33,10 +31,7 @@ pub fn first_threads(alloc: Global, main: Standing) -> Result<Vec<SharedWalker>,
 /// Where memory is refused.
 pub fn first_common(alloc: Global, opening: &[u8], max: u32) -> Result<Common, AllocError>
     requires { IsSized (record { bytes = opening.now; max = max }) }
-    ensures { IfOk result (λ c. Shares opening.now c (record {
-      memory = record { bytes = opening.now; max = max };
-      queue = first_queue MOST_THREADS;
-    })) }
+    ensures { IfOk result (SharesFirst opening.now max) }
 {
     let memory = Changes {
         len: opening.len(),

@@ -1,20 +1,20 @@
 //! Where a thread comes to rest after an event of another, or of its own.
 
-ghost use Rattle.std.specs.Prelude.{◌≡◌, ◌<◌, ◌⊎◌, ℕ, List, Some, None, IfOk, IfSome};
-ghost use Rattle.types.specs.declared.event.Event.{Event};
-ghost use Rattle.types.specs.declared.value.Value as numbers;
-ghost use Rattle.types.specs.declared.event.Answer as answers;
-ghost use Rattle.types.specs.declared.limits.TheConstants.{MOST_THREADS};
-ghost use Rattle.schedule.specs.System.{State, Want.Awaits, put};
-ghost use Rattle.schedule.specs.Scheduled.{after_event, hears_any};
-ghost use Rattle.schedule_threads.specs.Shared.{Shared};
-ghost use Rattle.interp_machine.specs.Config.{Config};
-ghost use Rattle.interp_trait.specs.Turns.{spawned_in};
-ghost use Rattle.search_threads.specs.Unlimited.{Unlimited.Going};
-ghost use Rattle.search_settled.specs.Settled.{MakesTurns};
-ghost use Rattle.search_runs.specs.Called.{Called, Walker as Thread, system_of, reply_by};
-ghost use Rattle.search_walkers.specs.Walkers.{IsOf, RestsAt, patience};
-ghost use Rattle.search_parts.specs.Parts.{AreWorkers, IsRested, IsAfter, IsLost};
+ghost use Rattle.std.specs.Prelude.{◌≡◌, ◌<◌, None, IfOk, IfSome};
+ghost use Rattle.types.specs.Limits.{most_threads};
+ghost use Rattle.search_parts.specs.Rests.{
+  CanStart,
+  StartsAndRests,
+  StartsAndRunsOn,
+  CanBeTold,
+  IsToldAndRests,
+  IsToldAndRunsOn,
+  IsSomewhereAfter,
+  IsRepliedAndRests,
+  IsRepliedAndRunsOn,
+  RestsThen,
+  IsLostThen,
+};
 
 use crate::event::{Begun, Made};
 use search_walkers::{Standing, begin, hear, take};
@@ -30,11 +30,9 @@ fn started(
     worker: Option<usize>,
     begun: Begun,
 ) -> Result<Option<Standing>, AllocError>
-    requires { (f : List numbers.Value → Config) × AreWorkers valid.now.parts f worker }
-    ensures rests { IfOk result (λ o. IfSome o (λ s. (b : Called) → IsOf b valid.now → AreWorkers valid.now.parts b.worker worker
-        → RestsAt valid.now b (Going (spawned_in b.worker begun.id begun.arg)) s)) }
-    ensures gives_up { IfOk result (λ o. o ≡ None → (b : Called) → IsOf b valid.now → AreWorkers valid.now.parts b.worker worker
-        → MakesTurns (system_of b) patience (Going (spawned_in b.worker begun.id begun.arg)) ⊎ (worker ≡ None)) }
+    requires { CanStart valid.now worker }
+    ensures rests { IfOk result (λ o. IfSome o (StartsAndRests valid.now worker begun)) }
+    ensures gives_up { IfOk result (λ o. o ≡ None → StartsAndRunsOn valid.now worker begun) }
 {
     let Some(own) = worker else {
         return Ok(None);
@@ -54,14 +52,9 @@ fn told(
     standing: Standing,
     answer: Option<Answer>,
 ) -> Result<Option<Standing>, AllocError>
-    requires { (b : Called) × (v : Thread) × IsOf b valid.now × IsRested valid.now b standing v
-        × ((a : answers.Answer) → answer ≡ Some a → (system_of b).wants v ≡ Awaits) }
-    ensures rests { IfOk result (λ o. IfSome o (λ s. (b : Called) (v : Thread) → IsOf b valid.now → IsRested valid.now b standing v
-        → ((a : answers.Answer) → answer ≡ Some a → (system_of b).wants v ≡ Awaits)
-        → RestsAt valid.now b (hears_any (system_of b) v answer) s)) }
-    ensures gives_up { IfOk result (λ o. o ≡ None → (b : Called) (v : Thread) → IsOf b valid.now → IsRested valid.now b standing v
-        → ((a : answers.Answer) → answer ≡ Some a → (system_of b).wants v ≡ Awaits)
-        → MakesTurns (system_of b) patience (hears_any (system_of b) v answer)) }
+    requires { CanBeTold valid.now standing answer }
+    ensures rests { IfOk result (λ o. IfSome o (IsToldAndRests valid.now standing answer)) }
+    ensures gives_up { IfOk result (λ o. o ≡ None → IsToldAndRunsOn valid.now standing answer) }
 {
     let Some(answer) = answer else {
         return Ok(Some(standing));
@@ -83,13 +76,9 @@ fn replied(
     standing: &Standing,
     m: usize,
 ) -> Result<Option<Standing>, AllocError>
-    requires { (b : Called) × (z : State Shared Thread) × (e : Event) × IsAfter valid.now worker made.now n standing.now m b z e }
-    ensures rests { IfOk result (λ o. IfSome o (λ s. (b : Called) (z : State Shared Thread) (e : Event)
-        → IsAfter valid.now worker made.now n standing.now m b z e
-        → RestsAt valid.now b (put z.threads n ((system_of b).takes (z.threads n) (reply_by z.shared n e)) m) s)) }
-    ensures gives_up { IfOk result (λ o. o ≡ None → (b : Called) (z : State Shared Thread) (e : Event)
-        → IsAfter valid.now worker made.now n standing.now m b z e
-        → MakesTurns (system_of b) patience (put z.threads n ((system_of b).takes (z.threads n) (reply_by z.shared n e)) m)) }
+    requires { IsSomewhereAfter valid.now worker made.now n standing.now m }
+    ensures rests { IfOk result (λ o. IfSome o (IsRepliedAndRests valid.now worker made.now n standing.now m)) }
+    ensures gives_up { IfOk result (λ o. o ≡ None → IsRepliedAndRunsOn valid.now worker made.now n standing.now m) }
 {
     if n == m {
         let Some(taken) = take(alloc, valid, standing, made.reply)? else {
@@ -114,14 +103,10 @@ pub fn rest_after(
     standing: &Standing,
     m: usize,
 ) -> Result<Option<Standing>, AllocError>
-    requires after { (b : Called) × (z : State Shared Thread) × (e : Event) × IsAfter valid.now worker made.now n standing.now m b z e }
-    requires few { m < MOST_THREADS }
-    ensures rests { IfOk result (λ o. IfSome o (λ s. (b : Called) (z : State Shared Thread) (e : Event)
-        → IsAfter valid.now worker made.now n standing.now m b z e
-        → RestsAt valid.now b ((after_event (system_of b) z n e).threads m) s)) }
-    ensures gives_up { IfOk result (λ o. o ≡ None → (b : Called) (z : State Shared Thread) (e : Event)
-        → IsAfter valid.now worker made.now n standing.now m b z e
-        → IsLost worker b (after_event (system_of b) z n e) m) }
+    requires after { IsSomewhereAfter valid.now worker made.now n standing.now m }
+    requires few { m < most_threads }
+    ensures rests { IfOk result (λ o. IfSome o (RestsThen valid.now worker made.now n standing.now m)) }
+    ensures gives_up { IfOk result (λ o. o ≡ None → IsLostThen valid.now worker made.now n standing.now m) }
 {
     if let Some(begun) = made.begun {
         if begun.id as usize == m {

@@ -1,12 +1,7 @@
 //! The event that a thread wants, made.
 
 ghost use Rattle.std.specs.Prelude.{IfOk};
-ghost use Rattle.schedule.specs.System.{State};
-ghost use Rattle.schedule_threads.specs.Shared.{Shared};
-ghost use Rattle.search_runs.specs.Called.{Called, Walker as Thread, system_of, first_state};
-ghost use Rattle.search_settled.specs.Flat.{IsEventOf};
-ghost use Rattle.search_parts.specs.Parts.{IsThreadIn, IsRested};
-ghost use Rattle.search_parts.specs.Sharing.{Shares, Makes, started_in};
+ghost use Rattle.search_parts.specs.Threads.{IsInCall, IsEventIn};
 
 use crate::event::{Made, enter, thread_begun};
 use crate::shared::{Common, Walker};
@@ -28,11 +23,8 @@ pub fn make_event(
     thread: &Walker,
     n: usize,
 ) -> Result<Option<(Common, Made)>, AllocError>
-    requires { (b : Called) × (z : State Shared Thread) × IsThreadIn valid.now opening.now shared.now thread.now.standing n b z }
-    ensures { IfOk result (λ o. (b : Called) (z : State Shared Thread)
-        → IsThreadIn valid.now opening.now shared.now thread.now.standing n b z
-        → IsEventOf (system_of b) (first_state b) started_in (Shares opening.now) (λ (t : Walker). IsRested valid.now b t.standing) Makes
-        z n o) }
+    requires { IsInCall valid.now opening.now shared.now thread.now.standing n }
+    ensures { IfOk result (IsEventIn valid.now opening.now shared.now thread.now.standing n) }
 {
     let Some(event) = wanted(alloc, valid, &thread.standing)? else {
         return Ok(None);

@@ -6,7 +6,7 @@ use Rattle.std.proofs.lemmas.List.Elements.{Contains-push, Contains-push_cases}
 use Rattle.std.proofs.lemmas.Option.{none-some}
 use Rattle.std.specs.List.{list_any}
 use Rattle.indexmap.specs.IndexSet.{insert_key}
-use Rattle.search_reach.specs.Search.{IsMet, IsEnding, HasEqual, AllEnds, HasAllEnds, IsAll, IsEnd, Ended}
+use Rattle.search_reach.specs.Search.{StepSystem, IsMet, IsEnding, HasEqual, AllEnds, HasAllEnds, IsAll, IsEnd, Ended}
 use Rattle.search_reach.proofs.Paths.{onward}
 use Rattle.search_reach.proofs.Searching.{Begins, Begins-self, found, Begins-insert_key, holds-insert_key, Contains-longer}
 
@@ -24,31 +24,31 @@ module _ {E : Type 0} (eq : E → E → Bool) (self : (e : E) → eq e e ≡ tru
       by false h =
           subst (λ c. HasEqual eq (if c then es else es ++ e ∷ []) e) (sym h) (record { key = e; among = Contains-push es e; is = self e })
 
-  module _ {S W : Type 0} (stands : S → W → Type 0) (steps : W → W → Type 0) (begins : W → Type 0) (ends : W → E → Type 0) where
+  module _ {S W : Type 0} (k : StepSystem S W E) where
     abbrev Goes-on : List S → ℕ → List E → Type 0
-    Goes-on = Ended stands steps begins ends eq
+    Goes-on = Ended k eq
 
     taken : (ks : List S) (i : ℕ) (s : S) → i < length ks → s ≡ get_or ks i s → take (i + 1) ks ≡ take i ks ++ s ∷ []
     taken ks i s h is = take_more ks i s h ∙ ap (λ y. take i ks ++ y ∷ []) (sym is)
 
-    all-more : (ks : List S) (i : ℕ) (s : S) (es fs : List E) → i < length ks → s ≡ get_or ks i s → AllEnds stands ends eq (take i ks) es → Begins es fs
-        → ((w : W) (e : E) → stands s w → ends w e → HasEqual eq fs e) → AllEnds stands ends eq (take (i + 1) ks) fs
+    all-more : (ks : List S) (i : ℕ) (s : S) (es fs : List E) → i < length ks → s ≡ get_or ks i s → AllEnds k eq (take i ks) es → Begins es fs
+        → ((w : W) (e : E) → k.stands s w → k.ends w e → HasEqual eq fs e) → AllEnds k eq (take (i + 1) ks) fs
     all-more ks i s es fs h is all b here x c w e t d = by (Contains-push_cases (take i ks) s x (subst (λ l. Contains l x) (taken ks i s h is) c))
       where
         by : Contains (take i ks) x ⊎ (s ≡ x) → HasEqual eq fs e
         by (inl a) = has-longer es fs e b (all x a w e t d)
-        by (inr q) = here w e (subst (λ y. stands y w) (sym q) t) d
+        by (inr q) = here w e (subst (λ y. k.stands y w) (sym q) t) d
 
-    is-end : (s : S) (r : Option E) (e : E) → IsMet stands steps begins s → IsEnding stands steps ends s r → r ≡ Some e → IsEnd steps begins ends e
+    is-end : (s : S) (r : Option E) (e : E) → IsMet k s → IsEnding k s r → r ≡ Some e → IsEnd k e
     is-end s r e m n q =
         let can = n.sound m.comes.end e m.comes.is q in
-        record { from = m.from; begun = m.begun; can = record { end = can.end; path = onward steps m.from m.comes.end can.end m.comes.path can.path; is = can.is } }
+        record { from = m.from; begun = m.begun; can = record { end = can.end; path = onward k.steps m.from m.comes.end can.end m.comes.path can.path; is = can.is } }
 
     ended-insert : (ks : List S) (i : ℕ) (s : S) (r : Option E) (e : E) (es : List E) → i < length ks → s ≡ get_or ks i s → Goes-on ks i es
-        → IsMet stands steps begins s → IsEnding stands steps ends s r → r ≡ Some e → Goes-on ks (i + 1) (insert_key eq es e)
+        → IsMet k s → IsEnding k s r → r ≡ Some e → Goes-on ks (i + 1) (insert_key eq es e)
     ended-insert ks i s r e es h is d m n q = record {
       all = all-more ks i s es (insert_key eq es e) h is d.all (Begins-insert_key eq es e) (λ w f t x. subst (λ y. HasEqual eq (insert_key eq es e) y) (one f (n.all w f t x)) (has-insert_key es e));
-      sound = holds-insert_key eq (IsEnd steps begins ends) es e d.sound (is-end s r e m n q);
+      sound = holds-insert_key eq (IsEnd k) es e d.sound (is-end s r e m n q);
     }
       where
         one : (f : E) → r ≡ Some f → e ≡ f
@@ -56,24 +56,24 @@ module _ {E : Type 0} (eq : E → E → Bool) (self : (e : E) → eq e e ≡ tru
 
     -- A state that has ended.
     pub ended-some : (ks : List S) (i : ℕ) (s : S) (r : Option E) (e : E) (es fs : List E) → i < length ks → s ≡ get_or ks i s → Goes-on ks i es
-        → IsMet stands steps begins s → IsEnding stands steps ends s r → r ≡ Some e → fs ≡ insert_key eq es e → Goes-on ks (i + 1) fs
+        → IsMet k s → IsEnding k s r → r ≡ Some e → fs ≡ insert_key eq es e → Goes-on ks (i + 1) fs
     ended-some ks i s r e es fs h is d m n q f = subst (λ l. Goes-on ks (i + 1) l) (sym f) (ended-insert ks i s r e es h is d m n q)
 
     -- One that has not.
     pub ended-none : (ks : List S) (i : ℕ) (s : S) (r : Option E) (es fs : List E) → i < length ks → s ≡ get_or ks i s → Goes-on ks i es
-        → IsEnding stands steps ends s r → r ≡ None → fs ≡ es → Goes-on ks (i + 1) fs
+        → IsEnding k s r → r ≡ None → fs ≡ es → Goes-on ks (i + 1) fs
     ended-none ks i s r es fs h is d n q f = subst (λ l. Goes-on ks (i + 1) l) (sym f) (record {
       all = all-more ks i s es es h is d.all (Begins-self es) (λ w e t x. absurd (none-some e (sym q ∙ n.all w e t x)));
       sound = d.sound;
     })
 
     -- The last one was looked at.
-    pub ended-all : (ks : List S) (i : ℕ) (es : List E) → Goes-on ks i es → length ks ≤ i → AllEnds stands ends eq ks es
+    pub ended-all : (ks : List S) (i : ℕ) (es : List E) → Goes-on ks i es → length ks ≤ i → AllEnds k eq ks es
     ended-all ks i es d h s c = d.all s (subst (λ l. Contains l s) (sym (take_all i ks h)) c)
 
-module _ {S W E : Type 0} (stands : S → W → Type 0) (steps : W → W → Type 0) (begins : W → Type 0) (ends : W → E → Type 0) (eq : E → E → Bool) where
+module _ {S W E : Type 0} (k : StepSystem S W E) (eq : E → E → Bool) where
   -- The endings of all states are all.
-  pub endings-of_all : (ks ls : List S) (es : List E) → ls ≡ ks → IsAll stands steps begins ks → AllEnds stands ends eq ls es → HasAllEnds steps begins ends eq es
+  pub endings-of_all : (ks ls : List S) (es : List E) → ls ≡ ks → IsAll k ks → AllEnds k eq ls es → HasAllEnds k eq es
   endings-of_all ks ls es same all each w z e b r d =
       let c = all w z b r in
       each c.state (subst (λ l. Contains l c.state) (sym same) c.among) z e c.is d

@@ -10,7 +10,7 @@ use Rattle.std.proofs.lemmas.Option.{slice_get_within, get_or_from_slice_get, no
 use Rattle.std.specs.List.{list_any}
 use Rattle.indexmap.specs.IndexSet.{insert_key, insert_all}
 use Rattle.search_reach.specs.Paths.{Goes}
-use Rattle.search_reach.specs.Search.{Covers, AreNext, IsFirst, IsMet, IsAll, Explored, GetsStuck, CanGetStuck}
+use Rattle.search_reach.specs.Search.{StepSystem, Covers, AreNext, IsFirst, IsMet, IsAll, Explored, AllGetStuck, CanGetStuck}
 use Rattle.search_reach.proofs.Paths.{stays, onward}
 
 outside : {S : Type 0} (ks : List S) (i : ℕ) → i < length ks → slice_get ks i ≡ None → ⊥
@@ -91,105 +91,104 @@ module _ {S : Type 0} (eq : S → S → Bool) where
   holds-insert_all P ks (x ∷ xs) h p s c =
       holds-insert_all P (insert_key eq ks x) xs (holds-insert_key P ks x h (p x (Contains-head x xs))) (λ y d. p y (Contains-tail x y xs d)) s c
 
-  module _ {W : Type 0} (stands : S → W → Type 0) (same : (x y : S) → eq x y ≡ true → (w : W) → stands x w → stands y w) where
-    covers-longer : (ks ls : List S) (w : W) → Begins ks ls → Covers stands ks w → Covers stands ls w
+  module _ {W E : Type 0} (k : StepSystem S W E) (same : (x y : S) → eq x y ≡ true → (w : W) → k.stands x w → k.stands y w) where
+    covers-longer : (ks ls : List S) (w : W) → Begins ks ls → Covers k ks w → Covers k ls w
     covers-longer ks ls w b c = record { state = c.state; among = Contains-longer ks ls c.state b c.among; is = c.is }
 
-    covers-insert_key : (ks : List S) (k : S) (w : W) → stands k w → Covers stands (insert_key eq ks k) w
-    covers-insert_key ks k w h = by (list_any (eq k) ks) refl
+    covers-insert_key : (ks : List S) (x : S) (w : W) → k.stands x w → Covers k (insert_key eq ks x) w
+    covers-insert_key ks x w h = by (list_any (eq x) ks) refl
       where
-        by : (b : Bool) → list_any (eq k) ks ≡ b → Covers stands (if list_any (eq k) ks then ks else ks ++ k ∷ []) w
+        by : (b : Bool) → list_any (eq x) ks ≡ b → Covers k (if list_any (eq x) ks then ks else ks ++ x ∷ []) w
         by true e =
-            let f = found ks k e in
-            subst (λ c. Covers stands (if c then ks else ks ++ k ∷ []) w) (sym e) (record { state = f.0; among = f.1; is = same k f.0 f.2 w h })
+            let f = found ks x e in
+            subst (λ c. Covers k (if c then ks else ks ++ x ∷ []) w) (sym e) (record { state = f.0; among = f.1; is = same x f.0 f.2 w h })
         by false e =
-            subst (λ c. Covers stands (if c then ks else ks ++ k ∷ []) w) (sym e) (record { state = k; among = Contains-push ks k; is = h })
+            subst (λ c. Covers k (if c then ks else ks ++ x ∷ []) w) (sym e) (record { state = x; among = Contains-push ks x; is = h })
 
-    covers-insert_all : (ks xs : List S) (w : W) (s : S) → Contains xs s → stands s w → Covers stands (insert_all eq ks xs) w
+    covers-insert_all : (ks xs : List S) (w : W) (s : S) → Contains xs s → k.stands s w → Covers k (insert_all eq ks xs) w
     covers-insert_all ks [] w s c h = absurd (omega (arith, c.1))
     covers-insert_all ks (x ∷ xs) w s c h = by (Contains-append_cases (x ∷ []) xs s c) (λ d. covers-insert_all (insert_key eq ks x) xs w s d h)
       where
-        head : Contains [] s ⊎ (x ≡ s) → Covers stands (insert_all eq (insert_key eq ks x) xs) w
+        head : Contains [] s ⊎ (x ≡ s) → Covers k (insert_all eq (insert_key eq ks x) xs) w
         head (inl d) = absurd (omega (arith, d.1))
         head (inr e) =
             covers-longer (insert_key eq ks x) (insert_all eq (insert_key eq ks x) xs) w (Begins-insert_all (insert_key eq ks x) xs)
-            (covers-insert_key ks x w (subst (λ y. stands y w) (sym e) h))
+            (covers-insert_key ks x w (subst (λ y. k.stands y w) (sym e) h))
 
-        by : Contains (x ∷ []) s ⊎ Contains xs s → (Contains xs s → Covers stands (insert_all eq (insert_key eq ks x) xs) w) → Covers stands (insert_all eq (insert_key eq ks x) xs) w
+        by : Contains (x ∷ []) s ⊎ Contains xs s → (Contains xs s → Covers k (insert_all eq (insert_key eq ks x) xs) w) → Covers k (insert_all eq (insert_key eq ks x) xs) w
         by (inl d) rest = head (Contains-push_cases [] x s d)
         by (inr d) rest = rest d
 
-    module _ (steps : W → W → Type 0) (begins : W → Type 0) where
-      -- Before the first state is gone on from.
-      pub explored-first : (s : S) → IsFirst stands steps begins s → Explored stands steps begins (s ∷ []) 0
-      explored-first s f = record {
-        within = omega arith;
-        begun = λ w b. record { state = s; among = Contains-head s []; is = f.all w b };
-        closed = λ x c. absurd (omega (arith, c.1));
-        sound = λ x c. subst (IsMet stands steps begins) (only x c) met;
-      }
-        where
-          met : IsMet stands steps begins s
-          met = record { from = f.one; begun = f.begun; comes = record { end = f.one; path = stays steps f.one; is = f.all f.one f.begun } }
+    -- Before the first state is gone on from.
+    pub explored-first : (s : S) → IsFirst k s → Explored k (s ∷ []) 0
+    explored-first s f = record {
+      within = omega arith;
+      begun = λ w b. record { state = s; among = Contains-head s []; is = f.all w b };
+      closed = λ x c. absurd (omega (arith, c.1));
+      sound = λ x c. subst (IsMet k) (only x c) met;
+    }
+      where
+        met : IsMet k s
+        met = record { from = f.one; begun = f.begun; comes = record { end = f.one; path = stays k.steps f.one; is = f.all f.one f.begun } }
 
-          only : (x : S) → Contains (s ∷ []) x → s ≡ x
-          only x c = by (Contains-push_cases [] s x c)
-            where
-              by : Contains [] x ⊎ (s ≡ x) → s ≡ x
-              by (inl d) = absurd (omega (arith, d.1))
-              by (inr e) = e
+        only : (x : S) → Contains (s ∷ []) x → s ≡ x
+        only x c = by (Contains-push_cases [] s x c)
+          where
+            by : Contains [] x ⊎ (s ≡ x) → s ≡ x
+            by (inl d) = absurd (omega (arith, d.1))
+            by (inr e) = e
 
-      met-next : (s : S) (xs : List S) → AreNext stands steps s xs → IsMet stands steps begins s → (x : S) → Contains xs x → IsMet stands steps begins x
-      met-next s xs n m x c =
-          let r = n.sound m.comes.end m.comes.is x c in
-          record { from = m.from; begun = m.begun; comes = record { end = r.end; path = onward steps m.from m.comes.end r.end m.comes.path r.path; is = r.is } }
+    met-next : (s : S) (xs : List S) → AreNext k s xs → IsMet k s → (x : S) → Contains xs x → IsMet k x
+    met-next s xs n m x c =
+        let r = n.sound m.comes.end m.comes.is x c in
+        record { from = m.from; begun = m.begun; comes = record { end = r.end; path = onward k.steps m.from m.comes.end r.end m.comes.path r.path; is = r.is } }
 
-      -- The next one is gone on from.
-      pub explored-more : (ks xs : List S) (i : ℕ) (s : S) → Explored stands steps begins ks i → slice_get ks i ≡ Some s → AreNext stands steps s xs
-          → Explored stands steps begins (insert_all eq ks xs) (i + 1)
-      explored-more ks xs i s e at n = record {
-        within = omega (arith, inside, length-longer ks (insert_all eq ks xs) (Begins-insert_all ks xs));
-        begun = λ w b. covers-longer ks (insert_all eq ks xs) w (Begins-insert_all ks xs) (e.begun w b);
-        closed = λ x c w z h t. by x w z h t (Contains-push_cases (take i ks) s x (subst (λ l. Contains l x) taken c));
-        sound = holds-insert_all (IsMet stands steps begins) ks xs e.sound (met-next s xs n (e.sound s there));
-      }
-        where
-          inside : i < length ks
-          inside = slice_get_within ks i s at
+    -- The next one is gone on from.
+    pub explored-more : (ks xs : List S) (i : ℕ) (s : S) → Explored k ks i → slice_get ks i ≡ Some s → AreNext k s xs
+        → Explored k (insert_all eq ks xs) (i + 1)
+    explored-more ks xs i s e at n = record {
+      within = omega (arith, inside, length-longer ks (insert_all eq ks xs) (Begins-insert_all ks xs));
+      begun = λ w b. covers-longer ks (insert_all eq ks xs) w (Begins-insert_all ks xs) (e.begun w b);
+      closed = λ x c w z h t. by x w z h t (Contains-push_cases (take i ks) s x (subst (λ l. Contains l x) taken c));
+      sound = holds-insert_all (IsMet k) ks xs e.sound (met-next s xs n (e.sound s there));
+    }
+      where
+        inside : i < length ks
+        inside = slice_get_within ks i s at
 
-          there : Contains ks s
-          there = (i, inside, get_or_from_slice_get ks i s s at)
+        there : Contains ks s
+        there = (i, inside, get_or_from_slice_get ks i s s at)
 
-          taken : take (i + 1) (insert_all eq ks xs) ≡ take i ks ++ s ∷ []
-          taken =
-              take-longer ks (insert_all eq ks xs) (i + 1) (Begins-insert_all ks xs) (omega (arith, inside))
-              ∙ take_more ks i s inside ∙ ap (λ y. take i ks ++ y ∷ []) (get_or_from_slice_get ks i s s at)
+        taken : take (i + 1) (insert_all eq ks xs) ≡ take i ks ++ s ∷ []
+        taken =
+            take-longer ks (insert_all eq ks xs) (i + 1) (Begins-insert_all ks xs) (omega (arith, inside))
+            ∙ take_more ks i s inside ∙ ap (λ y. take i ks ++ y ∷ []) (get_or_from_slice_get ks i s s at)
 
-          after : (z : W) → stands s z ⊎ Covers stands xs z → Covers stands (insert_all eq ks xs) z
-          after z (inl h) = covers-longer ks (insert_all eq ks xs) z (Begins-insert_all ks xs) (record { state = s; among = there; is = h })
-          after z (inr c) = covers-insert_all ks xs z c.state c.among c.is
+        after : (z : W) → k.stands s z ⊎ Covers k xs z → Covers k (insert_all eq ks xs) z
+        after z (inl h) = covers-longer ks (insert_all eq ks xs) z (Begins-insert_all ks xs) (record { state = s; among = there; is = h })
+        after z (inr c) = covers-insert_all ks xs z c.state c.among c.is
 
-          by : (x : S) (w z : W) → stands x w → steps w z → Contains (take i ks) x ⊎ (s ≡ x) → Covers stands (insert_all eq ks xs) z
-          by x w z h t (inl c) = covers-longer ks (insert_all eq ks xs) z (Begins-insert_all ks xs) (e.closed x c w z h t)
-          by x w z h t (inr q) = after z (n.all w z (subst (λ y. stands y w) (sym q) h) t)
+        by : (x : S) (w z : W) → k.stands x w → k.steps w z → Contains (take i ks) x ⊎ (s ≡ x) → Covers k (insert_all eq ks xs) z
+        by x w z h t (inl c) = covers-longer ks (insert_all eq ks xs) z (Begins-insert_all ks xs) (e.closed x c w z h t)
+        by x w z h t (inr q) = after z (n.all w z (subst (λ y. k.stands y w) (sym q) h) t)
 
-      -- The same, as the code has it.
-      pub explored-next : (ks ls xs : List S) (i : ℕ) (s : S) → Explored stands steps begins ks i → slice_get ks i ≡ Some s → AreNext stands steps s xs
-          → ls ≡ insert_all eq ks xs → Explored stands steps begins ls (i + 1)
-      explored-next ks ls xs i s e at n is =
-          subst (λ l. Explored stands steps begins l (i + 1)) (sym is) (explored-more ks xs i s e at n)
+    -- The same, as the code has it.
+    pub explored-next : (ks ls xs : List S) (i : ℕ) (s : S) → Explored k ks i → slice_get ks i ≡ Some s → AreNext k s xs
+        → ls ≡ insert_all eq ks xs → Explored k ls (i + 1)
+    explored-next ks ls xs i s e at n is =
+        subst (λ l. Explored k l (i + 1)) (sym is) (explored-more ks xs i s e at n)
 
-module _ {S W : Type 0} (stands : S → W → Type 0) (steps : W → W → Type 0) (begins : W → Type 0) where
-  along : (ks : List S) → ((s : S) → Contains ks s → (w z : W) → stands s w → steps w z → Covers stands ks z) → (count : ℕ) (w z : W) → Covers stands ks w → Goes steps count w z → Covers stands ks z
-  along ks closed zero w z c e = subst (Covers stands ks) e c
+module _ {S W E : Type 0} (k : StepSystem S W E) where
+  along : (ks : List S) → ((s : S) → Contains ks s → (w z : W) → k.stands s w → k.steps w z → Covers k ks z) → (count : ℕ) (w z : W) → Covers k ks w → Goes k.steps count w z → Covers k ks z
+  along ks closed zero w z c e = subst (Covers k ks) e c
   along ks closed (suc count) w z c p = along ks closed count p.0 z (closed c.state c.among w p.0 c.is p.1) p.2
 
   -- Each is gone on from.
-  pub explored-all : (ks : List S) (i : ℕ) → Explored stands steps begins ks i → length ks ≤ i → IsAll stands steps begins ks
+  pub explored-all : (ks : List S) (i : ℕ) → Explored k ks i → length ks ≤ i → IsAll k ks
   explored-all ks i e h w z b r = along ks (λ s c. e.closed s (subst (λ l. Contains l s) (sym (take_all i ks h)) c)) r.count w z (e.begun w b) r.path
 
   -- The same, as the code has it.
-  pub explored-end : (ks : List S) (i : ℕ) → Explored stands steps begins ks i → slice_get ks i ≡ None → IsAll stands steps begins ks
+  pub explored-end : (ks : List S) (i : ℕ) → Explored k ks i → slice_get ks i ≡ None → IsAll k ks
   explored-end ks i e none = explored-all ks i e (past (cases_lt i (length ks)))
     where
       past : (i < length ks) ⊎ (length ks ≤ i) → length ks ≤ i
@@ -197,17 +196,17 @@ module _ {S W : Type 0} (stands : S → W → Type 0) (steps : W → W → Type 
       past (inl h) = absurd (outside ks i h none)
 
   -- What it takes up was met.
-  pub explored-is_met : (ks : List S) (i : ℕ) (s : S) → Explored stands steps begins ks i → slice_get ks i ≡ Some s → IsMet stands steps begins s
+  pub explored-is_met : (ks : List S) (i : ℕ) (s : S) → Explored k ks i → slice_get ks i ≡ Some s → IsMet k s
   explored-is_met ks i s e at = e.sound s (i, slice_get_within ks i s at, get_or_from_slice_get ks i s s at)
 
-  -- Where nothing can be told of what one of them stands for.
-  pub explored-stuck : (stuck : W → Type 0) (ks : List S) (i : ℕ) (s : S) → Explored stands steps begins ks i → slice_get ks i ≡ Some s
-      → ((w : W) → stands s w → GetsStuck steps stuck w) → CanGetStuck steps stuck begins
-  explored-stuck stuck ks i s e at gives_up =
+  -- Where nothing can be told of what one of them k.stands for.
+  pub explored-stuck : (ks : List S) (i : ℕ) (s : S) → Explored k ks i → slice_get ks i ≡ Some s
+      → AllGetStuck k s → CanGetStuck k
+  explored-stuck ks i s e at gives_up =
       let met = explored-is_met ks i s e at in
       let gets = gives_up met.comes.end met.comes.is in
       record {
         from = met.from;
         begun = met.begun;
-        gets = record { end = gets.end; path = onward steps met.from met.comes.end gets.end met.comes.path gets.path; is = gets.is };
+        gets = record { end = gets.end; path = onward k.steps met.from met.comes.end gets.end met.comes.path gets.path; is = gets.is };
       }

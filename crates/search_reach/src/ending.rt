@@ -1,10 +1,11 @@
 //! How the states that were met have ended.
-ghost use Rattle.std.specs.Prelude.{◌≡◌, ◌<◌, IfOk, OnOk, length, vec_len};
+ghost use Rattle.std.specs.Prelude.{◌≡◌, IfOk, OnOk, vec_len};
 ghost use Rattle.indexmap.specs.IndexSet.{index_set_len, insert_key};
-ghost use Rattle.search_reach.specs.Search.{IsSound, AllEnds, AreEnds, HasAllEnds, CanGetStuck};
+ghost use Rattle.search_reach.specs.Search.{IsSound, AllEnds, AreEnds};
+ghost use Rattle.search_reach.specs.Found.{AreEndings};
 
 use crate::path::paths_to;
-use crate::{Explores, Follows, Found, Verdict, Wish, reach_all};
+use crate::{Explores, Follows, Found, Verdict, reach_all};
 use indexmap::IndexSet;
 use std::alloc::{AllocError, Global};
 use std::hash::Hash;
@@ -40,9 +41,9 @@ pub fn endings<T: Explores>(
     system: &T,
     met: &[T::State],
 ) -> Result<Listed<T::Ending>, AllocError>
-    requires { IsSound (T.stands system.now) (T.steps system.now) (T.begins system.now) met.now }
-    ensures all { IfOk result (λ r. AllEnds (T.stands system.now) (T.ends system.now) T.Ending.eq met.now r.endings.keys) }
-    ensures sound { IfOk result (λ r. AreEnds (T.steps system.now) (T.begins system.now) (T.ends system.now) r.endings.keys) }
+    requires { IsSound (T.system system.now) met.now }
+    ensures all { IfOk result (λ r. AllEnds (T.system system.now) T.Ending.eq met.now r.endings.keys) }
+    ensures sound { IfOk result (λ r. AreEnds (T.system system.now) r.endings.keys) }
     ensures firsts { IfOk result (λ r. vec_len r.firsts ≡ index_set_len r.endings) }
 {
     let mut endings = IndexSet::new(alloc);
@@ -75,9 +76,9 @@ fn endings_with_paths<T: Explores>(
     system: &T,
     found: &Found<T::State>,
 ) -> Result<(IndexSet<T::Ending>, Vec<Vec<usize>>), AllocError>
-    requires { IsSound (T.stands system.now) (T.steps system.now) (T.begins system.now) found.now.met.keys }
-    ensures all { IfOk result (λ r. AllEnds (T.stands system.now) (T.ends system.now) T.Ending.eq found.now.met.keys r.0.keys) }
-    ensures sound { IfOk result (λ r. AreEnds (T.steps system.now) (T.begins system.now) (T.ends system.now) r.0.keys) }
+    requires { IsSound (T.system system.now) found.now.met.keys }
+    ensures all { IfOk result (λ r. AllEnds (T.system system.now) T.Ending.eq found.now.met.keys r.0.keys) }
+    ensures sound { IfOk result (λ r. AreEnds (T.system system.now) r.0.keys) }
     ensures paths { IfOk result (λ r. vec_len r.1 ≡ index_set_len r.0) }
 {
     let listed = endings(alloc, system, found.met.as_slice())?;
@@ -92,14 +93,8 @@ pub fn all_endings<T: Explores, F: Follows>(
     most: usize,
     follower: &mut F,
 ) -> Result<Ended<T::Ending>, AllocError>
-    ensures all { IfOk result (λ r. r.verdict ≡ Verdict.All
-        → HasAllEnds (T.steps system.now) (T.begins system.now) (T.ends system.now) T.Ending.eq r.endings.keys) }
-    ensures sound { IfOk result (λ r. AreEnds (T.steps system.now) (T.begins system.now) (T.ends system.now) r.endings.keys) }
+    ensures found { IfOk result (AreEndings (T.system system.now) T.Ending.eq most (F.wish follower.new)) }
     ensures paths { IfOk result (λ r. vec_len r.paths ≡ index_set_len r.endings) }
-    ensures bound { IfOk result (λ r. r.verdict ≡ Verdict.TooMany → most < r.states) }
-    ensures gives_up { IfOk result (λ r. r.verdict ≡ Verdict.CannotTell
-        → CanGetStuck (T.steps system.now) (T.stuck system.now) (T.begins system.now)) }
-    ensures told { IfOk result (λ r. r.verdict ≡ Verdict.Told → F.wish follower.new ≡ Wish.End) }
 {
     let found = reach_all(alloc, system, most, follower)?;
     let (endings, paths) = endings_with_paths(alloc, system, &found)?;

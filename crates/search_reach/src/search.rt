@@ -1,7 +1,8 @@
 //! The search.
-ghost use Rattle.std.specs.Prelude.{◌≡◌, ◌<◌, [], IfOk, OnOk, vec_len};
+ghost use Rattle.std.specs.Prelude.{◌≡◌, [], IfOk, OnOk, vec_len};
 ghost use Rattle.indexmap.specs.IndexSet.{index_set_len, insert_all};
-ghost use Rattle.search_reach.specs.Search.{IsAll, IsSound, CanGetStuck, Explored};
+ghost use Rattle.search_reach.specs.Search.{Explored};
+ghost use Rattle.search_reach.specs.Found.{AreStates, IsSearched};
 
 use crate::{Explores, Follows, Wish};
 use indexmap::IndexSet;
@@ -72,16 +73,10 @@ fn explore<T: Explores, F: Follows>(
     met: &mut IndexSet<T::State>,
     from: &mut Vec<Step>,
 ) -> Result<Verdict, AllocError>
-    requires explored { Explored (T.stands system.now) (T.steps system.now) (T.begins system.now) met.old.keys 0 }
+    requires explored { Explored (T.system system.now) met.old.keys 0 }
     requires from { vec_len from.old ≡ index_set_len met.old }
-    ensures all { IfOk result (λ v. v ≡ Verdict.All
-        → IsAll (T.stands system.now) (T.steps system.now) (T.begins system.now) met.new.keys) }
-    ensures sound { OnOk result (IsSound (T.stands system.now) (T.steps system.now) (T.begins system.now) met.new.keys) }
+    ensures found { IfOk result (AreStates (T.system system.now) most (F.wish follower.new) met.new) }
     ensures from { OnOk result (vec_len from.new ≡ index_set_len met.new) }
-    ensures bound { IfOk result (λ v. v ≡ Verdict.TooMany → most < index_set_len met.new) }
-    ensures gives_up { IfOk result (λ v. v ≡ Verdict.CannotTell
-        → CanGetStuck (T.steps system.now) (T.stuck system.now) (T.begins system.now)) }
-    ensures told { IfOk result (λ v. v ≡ Verdict.Told → F.wish follower.new ≡ Wish.End) }
 {
     let mut at: usize = 0;
     while let Some(state) = met.get_index(at) {
@@ -111,14 +106,8 @@ fn explore_from_first<T: Explores, F: Follows>(
 ) -> Result<Verdict, AllocError>
     requires met { met.old.keys ≡ [] }
     requires from { vec_len from.old ≡ 0 }
-    ensures all { IfOk result (λ v. v ≡ Verdict.All
-        → IsAll (T.stands system.now) (T.steps system.now) (T.begins system.now) met.new.keys) }
-    ensures sound { OnOk result (IsSound (T.stands system.now) (T.steps system.now) (T.begins system.now) met.new.keys) }
+    ensures found { IfOk result (AreStates (T.system system.now) most (F.wish follower.new) met.new) }
     ensures from { OnOk result (vec_len from.new ≡ index_set_len met.new) }
-    ensures bound { IfOk result (λ v. v ≡ Verdict.TooMany → most < index_set_len met.new) }
-    ensures gives_up { IfOk result (λ v. v ≡ Verdict.CannotTell
-        → CanGetStuck (T.steps system.now) (T.stuck system.now) (T.begins system.now)) }
-    ensures told { IfOk result (λ v. v ≡ Verdict.Told → F.wish follower.new ≡ Wish.End) }
 {
     let Some(first) = system.first(alloc)? else {
         return Ok(Verdict::CannotTell);
@@ -139,14 +128,8 @@ pub fn reach_all<T: Explores, F: Follows>(
     most: usize,
     follower: &mut F,
 ) -> Result<Found<T::State>, AllocError>
-    ensures all { IfOk result (λ f. f.verdict ≡ Verdict.All
-        → IsAll (T.stands system.now) (T.steps system.now) (T.begins system.now) f.met.keys) }
-    ensures sound { IfOk result (λ f. IsSound (T.stands system.now) (T.steps system.now) (T.begins system.now) f.met.keys) }
+    ensures found { IfOk result (IsSearched (T.system system.now) most (F.wish follower.new)) }
     ensures from { IfOk result (λ f. vec_len f.from ≡ index_set_len f.met) }
-    ensures bound { IfOk result (λ f. f.verdict ≡ Verdict.TooMany → most < index_set_len f.met) }
-    ensures gives_up { IfOk result (λ f. f.verdict ≡ Verdict.CannotTell
-        → CanGetStuck (T.steps system.now) (T.stuck system.now) (T.begins system.now)) }
-    ensures told { IfOk result (λ f. f.verdict ≡ Verdict.Told → F.wish follower.new ≡ Wish.End) }
 {
     let mut met = IndexSet::new(alloc);
     let mut from = Vec::new(alloc);

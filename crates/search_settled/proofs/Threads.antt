@@ -4,13 +4,14 @@ use Rattle.std.specs.Prelude.{Result, IfOk, IfSome}
 use Rattle.std.specs.List.{slice_get}
 use Rattle.std.proofs.lemmas.Option.{slice_get-get_or}
 use Rattle.std.proofs.lemmas.Result.{IfOk-weaker}
-use Rattle.schedule.specs.System.{System, State}
+use Rattle.schedule.specs.System.{State}
 use Rattle.schedule.specs.Scheduled.{after_event}
 use Rattle.search_reach.proofs.Paths.{onward}
 use Rattle.search_settled.specs.Settled.{StepsBy}
 use Rattle.search_settled.proofs.Reaching.{by_event}
 use Rattle.search_settled.proofs.Laws.{if-some}
-use Rattle.search_settled.specs.Flat.{AreBounded, IsMadeBy, RestsAfter, AreBefore, RestsBehind, IsMove, AllComeAfter, ComesAfter, BeginsAfter}
+use Rattle.search_settled.specs.Threads.{ThreadSystem}
+use Rattle.search_settled.specs.Flat.{AreBounded, IsMadeBy, RestsAfter, AreBefore, RestsBehind, IsMove, AllComeAfter, ComesAfter, BeginsAfter, IsStuckBy, IsStuckByStart, IsStuckBehind}
 
 pub if-some-at : {B : Type 0} (P : B → Type 0) (o : Option B) (x : B) → o ≡ Some x → IfSome o P → P x
 if-some-at P None x is h = absurd (cc is)
@@ -38,13 +39,12 @@ slice_get_push (y ∷ xs) x (suc m) t h = by (slice_get_push xs x m t h)
     by (inl h) = inl h
     by (inr h) = inr (ap suc h.0, h.1)
 
-module _ {X T E V A G H M : Type 0} (s : System X T E V A) (first : State X T) (count : X → ℕ)
-    (shares : G → X → Type 0) (is_thread : H → T → Type 0) (makes : M → X → ℕ → E → Type 0) where
+module _ {X T E V A G H M : Type 0} (k : ThreadSystem X T E V A G H M) where
   abbrev Move : G → M → ℕ → List H → State X T → E → Type 0
-  Move after made n threads z e = IsMove s first count shares is_thread makes after made n threads z e
+  Move after made n threads z e = IsMove k after made n threads z e
 
   abbrev Rests : State X T → ℕ → E → ℕ → H → Type 0
-  Rests z n e m t = RestsAfter s first count shares is_thread makes z n e m t
+  Rests z n e m t = RestsAfter k z n e m t
 
   -- so far
   pub record SoFar (after : G) (made : M) (n : ℕ) (threads : List H) (m : ℕ) (rested : List H) : Type 0 where
@@ -69,10 +69,10 @@ module _ {X T E V A G H M : Type 0} (s : System X T E V A) (first : State X T) (
           subst (λ j. Rests z n e j t) place (subst (λ r. Rests z n e m r) h.1 (comes z e move))
 
   abbrev Before : M → ℕ → List H → State X T → E → Type 0
-  Before made n threads z e = AreBefore s first count shares is_thread makes made n threads z e
+  Before made n threads z e = AreBefore k made n threads z e
 
   abbrev Behind : M → ℕ → List H → ℕ → H → Type 0
-  Behind made n threads m new = RestsBehind s first count shares is_thread makes made n threads m new
+  Behind made n threads m new = RestsBehind k made n threads m new
 
   -- the threads before an event
   pub before-move : (after : G) (made : M) (n : ℕ) (threads : List H) (z : State X T) (e : E) → Move after made n threads z e → Before made n threads z e
@@ -84,51 +84,51 @@ module _ {X T E V A G H M : Type 0} (s : System X T E V A) (first : State X T) (
 
   -- a thread that was there, and one that begins
   pub came : {F : Type 0} (made : M) (n : ℕ) (threads : List H) (m : ℕ) (thread : H) → slice_get threads m ≡ Some thread
-      → (r : Result (Option H) F) → IfOk r (λ o. IfSome o (ComesAfter s first count shares is_thread makes made n thread m))
+      → (r : Result (Option H) F) → IfOk r (λ o. IfSome o (ComesAfter k made n thread m))
       → IfOk r (λ o. IfSome o (Behind made n threads m))
-  came made n threads m thread at r = if-ok-some r (ComesAfter s first count shares is_thread makes made n thread m) (Behind made n threads m)
+  came made n threads m thread at r = if-ok-some r (ComesAfter k made n thread m) (Behind made n threads m)
       (λ new comes z e before. comes z e before.made_by (before.each m thread at))
 
   pub begun : {F : Type 0} (made : M) (n : ℕ) (threads : List H) (m : ℕ) → length threads ≤ m
-      → (r : Result (Option H) F) → IfOk r (λ o. IfSome o (BeginsAfter s first count shares is_thread makes made n m))
+      → (r : Result (Option H) F) → IfOk r (λ o. IfSome o (BeginsAfter k made n m))
       → IfOk r (λ o. IfSome o (Behind made n threads m))
-  begun made n threads m past r = if-ok-some r (BeginsAfter s first count shares is_thread makes made n m) (Behind made n threads m)
+  begun made n threads m past r = if-ok-some r (BeginsAfter k made n m) (Behind made n threads m)
       (λ new begins z e before. begins z e before.made_by (let len = before.len in omega (arith, len, past)))
 
   -- where it cannot be told
   pub came-not : {F : Type 0} (stuck : State X T → Type 0) (made : M) (n : ℕ) (threads : List H) (m : ℕ) (thread : H) → slice_get threads m ≡ Some thread
       → (r : Result (Option H) F)
-      → IfOk r (λ o. o ≡ None → (z : State X T) (e : E) → IsMadeBy s first count shares is_thread makes made z n e → is_thread thread (z.threads m) → stuck (after_event s z n e))
-      → IfOk r (λ o. o ≡ None → (z : State X T) (e : E) → Before made n threads z e → stuck (after_event s z n e))
+      → IfOk r (λ o. o ≡ None → IsStuckBy k stuck made n thread m)
+      → IfOk r (λ o. o ≡ None → IsStuckBehind k stuck made n threads)
   came-not stuck made n threads m thread at r =
-      IfOk-weaker r (λ o. o ≡ None → (z : State X T) (e : E) → IsMadeBy s first count shares is_thread makes made z n e → is_thread thread (z.threads m) → stuck (after_event s z n e))
-      (λ o. o ≡ None → (z : State X T) (e : E) → Before made n threads z e → stuck (after_event s z n e))
+      IfOk-weaker r (λ o. o ≡ None → IsStuckBy k stuck made n thread m)
+      (λ o. o ≡ None → IsStuckBehind k stuck made n threads)
       (λ o gives none z e before. gives none z e before.made_by (before.each m thread at))
 
   pub begun-not : {F : Type 0} (stuck : State X T → Type 0) (made : M) (n : ℕ) (threads : List H) (m : ℕ) → length threads ≤ m
       → (r : Result (Option H) F)
-      → IfOk r (λ o. o ≡ None → (z : State X T) (e : E) → IsMadeBy s first count shares is_thread makes made z n e → count z.shared ≤ m → stuck (after_event s z n e))
-      → IfOk r (λ o. o ≡ None → (z : State X T) (e : E) → Before made n threads z e → stuck (after_event s z n e))
+      → IfOk r (λ o. o ≡ None → IsStuckByStart k stuck made n m)
+      → IfOk r (λ o. o ≡ None → IsStuckBehind k stuck made n threads)
   begun-not stuck made n threads m past r =
-      IfOk-weaker r (λ o. o ≡ None → (z : State X T) (e : E) → IsMadeBy s first count shares is_thread makes made z n e → count z.shared ≤ m → stuck (after_event s z n e))
-      (λ o. o ≡ None → (z : State X T) (e : E) → Before made n threads z e → stuck (after_event s z n e))
+      IfOk-weaker r (λ o. o ≡ None → IsStuckByStart k stuck made n m)
+      (λ o. o ≡ None → IsStuckBehind k stuck made n threads)
       (λ o gives none z e before. gives none z e before.made_by (let len = before.len in omega (arith, len, past)))
 
   -- how many there can be after it
-  pub after-few : (most : ℕ) → AreBounded s first count most → (z : State X T) (n : ℕ) (e : E) → (made : M)
-      → IsMadeBy s first count shares is_thread makes made z n e → count (s.after z.shared n e) ≤ most
-  after-few most bounded z n e made by = bounded.few (after_event s z n e)
-      (onward (StepsBy s) first z (after_event s z n e) by.reached (by_event s z n e by.wants))
+  pub after-few : AreBounded k.system k.first k.count k.most → (z : State X T) (n : ℕ) (e : E) → (made : M)
+      → IsMadeBy k made z n e → k.count (k.system.after z.shared n e) ≤ k.most
+  after-few bounded z n e made by = bounded.few (after_event k.system z n e)
+      (onward (StepsBy k.system) k.first z (after_event k.system z n e) by.reached (by_event k.system z n e by.wants))
 
   pub all-done : (after : G) (made : M) (n : ℕ) (threads : List H) (m : ℕ) (rested : List H) (total : ℕ)
-      → SoFar after made n threads m rested → ((x : X) → shares after x → total ≡ count x) → m ≡ total
-      → AllComeAfter s first count shares is_thread makes after made n threads rested
+      → SoFar after made n threads m rested → ((x : X) → k.shares after x → total ≡ k.count x) → m ≡ total
+      → AllComeAfter k after made n threads rested
   all-done after made n threads m rested total so is done = record {
-    len = λ z e move. so.len ∙ (done ∙ is (s.after z.shared n e) move.shared);
+    len = λ z e move. so.len ∙ (done ∙ is (k.system.after z.shared n e) move.shared);
     each = so.each;
   }
 
   pub all-come : (after : G) (made : M) (n : ℕ) (threads others rested : List H) → threads ≡ others
-      → AllComeAfter s first count shares is_thread makes after made n threads rested
-      → AllComeAfter s first count shares is_thread makes after made n others rested
-  all-come after made n threads others rested same come = subst (λ l. AllComeAfter s first count shares is_thread makes after made n l rested) same come
+      → AllComeAfter k after made n threads rested
+      → AllComeAfter k after made n others rested
+  all-come after made n threads others rested same come = subst (λ l. AllComeAfter k after made n l rested) same come

@@ -1,5 +1,6 @@
 pub mod Settled
+pub mod Threads
 pub mod Next
-pub mod Equal
 pub mod Flat
+pub mod Turns
 pub mod Same

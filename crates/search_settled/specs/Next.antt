@@ -1,52 +1,53 @@
--- The settled states that come next, and what they show of a search. Types: as in Settled, and S for what stands for settled
--- states, O for endings.
+-- The settled states that come next, and what they show of a search. Types: as in Threads, and O for endings.
 use Rattle.std.specs.Prelude.{ℕ, ◌≡◌, List, Contains, Option, Some}
 use Rattle.schedule.specs.System.{Want.Turns, Want.Calls, System, State}
 use Rattle.schedule.specs.Scheduled.{after_event}
+use Rattle.search_settled.specs.declared.flat.Flat.{Flat}
 use Rattle.search_settled.specs.Settled.{ComesToRest, IsReached}
+use Rattle.search_settled.specs.Threads.{ThreadSystem, IsFlat}
 
-module _ {X T E V A S : Type 0} (s : System X T E V A) (first : State X T) (is : S → State X T → Type 0) where
+module _ {X T E V A G H M : Type 0} (k : ThreadSystem X T E V A G H M) where
   -- It stands for each state that can be reached and comes to rest in one that it is.
-  pub record StandsFor (c : S) (w : State X T) : Type 0 where
-    pub reached : IsReached s first w
+  pub record StandsFor (c : Flat G H) (w : State X T) : Type 0 where
+    pub reached : IsReached k.system k.first w
     pub settled : State X T
-    pub rest : ComesToRest s w settled
-    pub settled_is : is c settled
+    pub rest : ComesToRest k.system w settled
+    pub settled_is : IsFlat k c settled
 
   -- It is where all come to rest in the beginning.
-  pub record IsBeginning (c : S) : Type 0 where
+  pub record IsBeginning (c : Flat G H) : Type 0 where
     pub settled : State X T
-    pub rest : ComesToRest s first settled
-    pub settled_is : is c settled
+    pub rest : ComesToRest k.system k.first settled
+    pub settled_is : IsFlat k c settled
 
   -- It is a settled state that can be reached.
-  pub record IsAt (c : S) (z : State X T) : Type 0 where
-    pub reached : IsReached s first z
-    pub settled_is : is c z
+  pub record IsAt (c : Flat G H) (z : State X T) : Type 0 where
+    pub reached : IsReached k.system k.first z
+    pub settled_is : IsFlat k c z
 
-  abbrev pub IsSomewhere : S → Type 0
+  abbrev pub IsSomewhere : Flat G H → Type 0
   IsSomewhere c = (z : State X T) × IsAt c z
 
   -- It is where all come to rest after an event of thread n.
-  pub record IsNextBy (z : State X T) (n : ℕ) (e : E) (x : S) : Type 0 where
+  pub record IsNextBy (z : State X T) (n : ℕ) (e : E) (x : Flat G H) : Type 0 where
     pub settled : State X T
-    pub rest : ComesToRest s (after_event s z n e) settled
-    pub settled_is : is x settled
+    pub rest : ComesToRest k.system (after_event k.system z n e) settled
+    pub settled_is : IsFlat k x settled
 
   -- There is an event after which it is stuck.
-  abbrev pub IsStuckAfter : (State X T → Type 0) → S → Type 0
-  IsStuckAfter stuck c =
-      (z : State X T) → IsAt c z → (n : ℕ) × (e : E) × (s.wants (z.threads n) ≡ Calls e) × stuck (after_event s z n e)
+  abbrev pub IsStuckAfter : (State X T → Type 0) → Flat G H → Type 0
+  IsStuckAfter stuck c = (z : State X T) → IsAt c z
+      → (n : ℕ) × (e : E) × (k.system.wants (z.threads n) ≡ Calls e) × stuck (after_event k.system z n e)
 
   -- For each thread that wants an event there is one of these, and each of these is of such a thread.
-  pub record HasNext (c : S) (xs : List S) : Type 0 where
-    pub all : (z : State X T) → IsAt c z → (n : ℕ) (e : E) → s.wants (z.threads n) ≡ Calls e
-        → (x : S) × Contains xs x × IsNextBy z n e x
-    pub sound : (z : State X T) → IsAt c z → (x : S) → Contains xs x
-        → (n : ℕ) × (e : E) × (s.wants (z.threads n) ≡ Calls e) × IsNextBy z n e x
+  pub record HasNext (c : Flat G H) (xs : List (Flat G H)) : Type 0 where
+    pub all : (z : State X T) → IsAt c z → (n : ℕ) (e : E) → k.system.wants (z.threads n) ≡ Calls e
+        → (x : Flat G H) × Contains xs x × IsNextBy z n e x
+    pub sound : (z : State X T) → IsAt c z → (x : Flat G H) → Contains xs x
+        → (n : ℕ) × (e : E) × (k.system.wants (z.threads n) ≡ Calls e) × IsNextBy z n e x
 
   -- This is how it has ended, if it has.
-  pub record HasEnded {O : Type 0} (ends : State X T → O → Type 0) (c : S) (r : Option O) : Type 0 where
+  pub record HasEnded {O : Type 0} (ends : State X T → O → Type 0) (c : Flat G H) (r : Option O) : Type 0 where
     pub all : (z : State X T) (o : O) → IsAt c z → ends z o → r ≡ Some o
     pub sound : (z : State X T) (o : O) → IsAt c z → r ≡ Some o → ends z o
 

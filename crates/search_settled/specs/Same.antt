@@ -4,9 +4,10 @@ use Rattle.std.proofs.Common.{sym, ap, ◌∙◌, true≢false}
 use Rattle.std.specs.Cmp.{first_so, second_so}
 use Rattle.std.specs.Cmp.Lexicographic.{pointwise}
 use Rattle.std.specs.List.{slice_get}
-use Rattle.schedule.specs.System.{System, State}
+use Rattle.schedule.specs.System.{State}
 use Rattle.search_settled.specs.declared.flat.Flat.{Flat}
-use Rattle.search_settled.specs.Flat.{IsFlat}
+use Rattle.search_settled.specs.Threads.{ThreadSystem, IsFlat}
+use Rattle.search_settled.specs.Next.{StandsFor}
 
 module _ {H : Type 0} (eq : H → H → Bool) where
   same_length : (xs ys : List H) → pointwise eq xs ys ≡ true → length xs ≡ length ys
@@ -26,14 +27,12 @@ module _ {H : Type 0} (eq : H → H → Bool) where
       (x, refl, ap (eq x) (sym same) ∙ first_so (eq x z) (pointwise eq xs ys) e)
   one_at (x ∷ xs) (z ∷ ys) (suc m) y e at = one_at xs ys m y (second_so (eq x z) (pointwise eq xs ys) e) at
 
-pub flat_alike : {X T E V A G H M : Type 0} (eq_shared : G → G → Bool) (eq_thread : H → H → Bool)
-    (s : System X T E V A) (first : State X T) (count : X → ℕ)
-    (shares : G → X → Type 0) (is_thread : H → T → Type 0) (makes : M → X → ℕ → E → Type 0)
-    → ((x y : G) → eq_shared x y ≡ true → (w : X) → shares x w → shares y w)
-    → ((x y : H) → eq_thread x y ≡ true → (w : T) → is_thread x w → is_thread y w)
-    → (x y : Flat G H) (z : State X T) → (eq_shared x.shared y.shared && pointwise eq_thread x.threads.items y.threads.items) ≡ true
-    → IsFlat s first count shares is_thread makes x z → IsFlat s first count shares is_thread makes y z
-flat_alike eq_shared eq_thread s first count shares is_thread makes same_shared same_thread x y z e is =
+pub flat_alike : {X T E V A G H M : Type 0} (eq_shared : G → G → Bool) (eq_thread : H → H → Bool) (k : ThreadSystem X T E V A G H M)
+    → ((x y : G) → eq_shared x y ≡ true → (w : X) → k.shares x w → k.shares y w)
+    → ((x y : H) → eq_thread x y ≡ true → (w : T) → k.is_thread x w → k.is_thread y w)
+    → (x y : Flat G H) → (eq_shared x.shared y.shared && pointwise eq_thread x.threads.items y.threads.items) ≡ true
+    → (z : State X T) → IsFlat k x z → IsFlat k y z
+flat_alike eq_shared eq_thread k same_shared same_thread x y e z is =
     let a = first_so (eq_shared x.shared y.shared) (pointwise eq_thread x.threads.items y.threads.items) e in
     let b = second_so (eq_shared x.shared y.shared) (pointwise eq_thread x.threads.items y.threads.items) e in
     record {
@@ -43,3 +42,9 @@ flat_alike eq_shared eq_thread s first count shares is_thread makes same_shared 
           same_thread o.0 t o.2 (z.threads m) (is.each m o.0 o.1));
       others = is.others;
     }
+
+-- What is the same settled state stands for the same.
+pub stands_alike : {X T E V A G H M : Type 0} (k : ThreadSystem X T E V A G H M) (x y : Flat G H)
+    → ((z : State X T) → IsFlat k x z → IsFlat k y z) → (w : State X T) → StandsFor k x w → StandsFor k y w
+stands_alike k x y same w st =
+    record { reached = st.reached; settled = st.settled; rest = st.rest; settled_is = same st.settled st.settled_is }

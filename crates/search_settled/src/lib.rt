@@ -8,24 +8,19 @@
 //!
 //! - `specs/Settled.antt`: where threads come to rest, and what is asked of a system: answers go to who awaits them, and only some
 //!   threads make turns.
-//! - `specs/Next.antt`: what a settled state stands for, and which settled states come next.
-//! - `SettledStates` is what a system supplies, and `endings_of_turns` the search: at `Verdict::All` the list has the ending of each
-//!   run, whatever the order of the turns.
+//! - `specs/Threads.antt`: what stands for settled states; `specs/Next.antt`: what a settled state stands for, and which settled states
+//!   come next.
 //! - `proofs/Resting.antt` and `proofs/Stepping.antt`: a turn from what comes to rest in a state stays there, or is the event of a
 //!   thread that rests. `proofs/Reaching.antt`: where threads come to rest can be reached, by their own turns.
-//! - `Flat` is a settled state as a value, `Moves` what a system supplies whose threads are moved one by one, and `search_all` the
-//!   search over these.
+//! - `Flat` is a settled state as a value, `Moves` what a system supplies, whose threads are moved one by one, and `search_all` the
+//!   search: at `Verdict::All` the list has the ending of each run, whatever the order of the turns.
 #![tactic(auto)]
 
 mod flat;
 mod moves;
 mod next;
-mod settled;
 mod states;
-mod turns;
 
 pub use flat::Flat;
 pub use moves::Moves;
-pub use settled::SettledStates;
 pub use states::search_all;
-pub use turns::endings_of_turns;

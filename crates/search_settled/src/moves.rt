@@ -1,10 +1,20 @@
 //! Threads that are moved one by one.
-ghost use Rattle.std.specs.Prelude.{◌≡◌, ◌<◌, ◌≤◌, ℕ, true, None, IfOk, IfSome};
-ghost use Rattle.schedule.specs.System.{System, State, Want.Gone};
-ghost use Rattle.schedule.specs.Scheduled.{after_event};
+ghost use Rattle.std.specs.Prelude.{◌≡◌, ◌<◌, ◌≤◌, true, None, IfOk, IfSome};
+ghost use Rattle.schedule.specs.System.{State};
 ghost use Rattle.search_settled.specs.Settled.{AreTame};
 ghost use Rattle.search_settled.specs.Next.{IsBeginning, IsSomewhere, HasEnded, NobodyTurns};
-ghost use Rattle.search_settled.specs.Flat.{AreBounded, IsFlat, IsThreadOf, IsEventOf, IsMadeBy, ComesAfter, BeginsAfter};
+ghost use Rattle.search_settled.specs.Threads.{ThreadSystem};
+ghost use Rattle.search_settled.specs.Flat.{
+  AreBounded,
+  IsThreadOf,
+  IsEventAt,
+  StandsSomewhere,
+  ComesAfter,
+  IsStuckBy,
+  StartsSomewhere,
+  BeginsAfter,
+  IsStuckByStart,
+};
 
 use crate::Flat;
 use std::alloc::{AllocError, Global};
@@ -35,37 +45,23 @@ pub trait Moves {
 
     ghost A: { Type 0 };
 
-    /// The system, the state that it begins in, and how a state has ended.
-    ghost system: { Self → System X T E V A };
+    /// The system, and what stands for its states.
+    ghost threads: { Self → ThreadSystem X T E V A Self.Shared Self.Thread Self.Made };
 
-    ghost beginning: { Self → State X T };
-
+    /// How a state has ended.
     ghost ends: { Self → State X T → Self.Ending → Type 0 };
-
-    /// How many threads were started, and how many can be.
-    ghost count: { Self → X → ℕ };
-
-    ghost most: { Self → ℕ };
-
-    /// What is shared, a thread, and what an event of a thread makes.
-    ghost shares: { Self → Self.Shared → X → Type 0 };
-
-    ghost is_thread: { Self → Self.Thread → T → Type 0 };
-
-    ghost makes: { Self → Self.Made → X → ℕ → E → Type 0 };
 
     /// Of which states it cannot tell where all threads come to rest.
     ghost stuck: { Self → State X T → Type 0 };
 
     /// Where all threads come to rest in the beginning, or nothing where it cannot tell that.
     fn first(&self, alloc: Global) -> Result<Option<Flat<Self::Shared, Self::Thread>>, AllocError>
-        ensures first { IfOk result (λ o. IfSome o (IsBeginning (system self.now) (beginning self.now)
-            (IsFlat (system self.now) (beginning self.now) (count self.now) (shares self.now) (is_thread self.now) (makes self.now)))) }
-        ensures gives_up { IfOk result (λ o. o ≡ None → stuck self.now (beginning self.now)) };
+        ensures first { IfOk result (λ o. IfSome o (IsBeginning (threads self.now))) }
+        ensures gives_up { IfOk result (λ o. o ≡ None → stuck self.now (threads self.now).first) };
 
     /// How many threads were started.
     fn started(&self, shared: &Self::Shared) -> usize
-        ensures { (x : X) → shares self.now shared.now x → result ≡ count self.now x };
+        ensures { (x : X) → (threads self.now).shares shared.now x → result ≡ (threads self.now).count x };
 
     /// The event that thread n wants to make, if it wants one.
     fn event(
@@ -75,13 +71,8 @@ pub trait Moves {
         thread: &Self::Thread,
         n: usize,
     ) -> Result<Option<(Self::Shared, Self::Made)>, AllocError>
-        requires { (z : State X T) × IsThreadOf (system self.now) (beginning self.now) (count self.now) (shares self.now)
-            (is_thread self.now) (makes self.now) shared.now thread.now n z }
-        ensures { IfOk result (λ o. (z : State X T)
-            → IsThreadOf (system self.now) (beginning self.now) (count self.now) (shares self.now) (is_thread self.now) (makes self.now)
-            shared.now thread.now n z
-            → IsEventOf (system self.now) (beginning self.now) (count self.now) (shares self.now) (is_thread self.now)
-            (makes self.now) z n o) };
+        requires { (z : State X T) × IsThreadOf (threads self.now) shared.now thread.now n z }
+        ensures { IfOk result (IsEventAt (threads self.now) shared.now thread.now n) };
 
     /// Where thread m comes to rest after an event of thread n, or nothing where it cannot tell that.
     fn after(
@@ -92,13 +83,10 @@ pub trait Moves {
         thread: &Self::Thread,
         m: usize,
     ) -> Result<Option<Self::Thread>, AllocError>
-        requires { (z : State X T) × (e : E) × IsMadeBy (system self.now) (beginning self.now) (count self.now) (shares self.now)
-            (is_thread self.now) (makes self.now) made.now z n e × is_thread self.now thread.now (z.threads m) × (m < most self.now) }
-        ensures rests { IfOk result (λ o. IfSome o (ComesAfter (system self.now) (beginning self.now) (count self.now) (shares self.now)
-            (is_thread self.now) (makes self.now) made.now n thread.now m)) }
-        ensures gives_up { IfOk result (λ o. o ≡ None → (z : State X T) (e : E) → IsMadeBy (system self.now) (beginning self.now)
-            (count self.now) (shares self.now) (is_thread self.now) (makes self.now) made.now z n e
-            → is_thread self.now thread.now (z.threads m) → stuck self.now (after_event (system self.now) z n e)) };
+        requires somewhere { StandsSomewhere (threads self.now) made.now n thread.now m }
+        requires few { m < (threads self.now).most }
+        ensures rests { IfOk result (λ o. IfSome o (ComesAfter (threads self.now) made.now n thread.now m)) }
+        ensures gives_up { IfOk result (λ o. o ≡ None → IsStuckBy (threads self.now) (stuck self.now) made.now n thread.now m) };
 
     /// Where thread m first comes to rest, which an event of thread n starts, or nothing where it cannot tell that.
     fn first_after(
@@ -108,13 +96,10 @@ pub trait Moves {
         n: usize,
         m: usize,
     ) -> Result<Option<Self::Thread>, AllocError>
-        requires { (z : State X T) × (e : E) × IsMadeBy (system self.now) (beginning self.now) (count self.now) (shares self.now)
-            (is_thread self.now) (makes self.now) made.now z n e × (count self.now z.shared ≤ m) × (m < most self.now) }
-        ensures rests { IfOk result (λ o. IfSome o (BeginsAfter (system self.now) (beginning self.now) (count self.now) (shares self.now)
-            (is_thread self.now) (makes self.now) made.now n m)) }
-        ensures gives_up { IfOk result (λ o. o ≡ None → (z : State X T) (e : E) → IsMadeBy (system self.now) (beginning self.now)
-            (count self.now) (shares self.now) (is_thread self.now) (makes self.now) made.now z n e
-            → count self.now z.shared ≤ m → stuck self.now (after_event (system self.now) z n e)) };
+        requires somewhere { StartsSomewhere (threads self.now) made.now n m }
+        requires few { m < (threads self.now).most }
+        ensures rests { IfOk result (λ o. IfSome o (BeginsAfter (threads self.now) made.now n m)) }
+        ensures gives_up { IfOk result (λ o. o ≡ None → IsStuckByStart (threads self.now) (stuck self.now) made.now n m) };
 
     /// How a settled state has ended, where it has.
     fn ending(
@@ -122,23 +107,22 @@ pub trait Moves {
         alloc: Global,
         flat: &Flat<Self::Shared, Self::Thread>,
     ) -> Result<Option<Self::Ending>, AllocError>
-        requires { IsSomewhere (system self.now) (beginning self.now)
-            (IsFlat (system self.now) (beginning self.now) (count self.now) (shares self.now) (is_thread self.now) (makes self.now))
-            flat.now }
-        ensures { IfOk result (HasEnded (system self.now) (beginning self.now)
-            (IsFlat (system self.now) (beginning self.now) (count self.now) (shares self.now) (is_thread self.now) (makes self.now))
-            (ends self.now) flat.now) };
+        requires { IsSomewhere (threads self.now) flat.now }
+        ensures { IfOk result (HasEnded (threads self.now) (ends self.now) flat.now) };
 
     /// Answers go to who awaits them, and no more threads are there than can be.
-    ghost tame: { (t : Self) → AreTame (system t) (beginning t) (most t) };
+    ghost tame: { (t : Self) → AreTame (threads t).system (threads t).first (threads t).most };
 
-    ghost bounded: { (t : Self) → AreBounded (system t) (beginning t) (count t) (most t) };
+    ghost bounded: { (t : Self)
+        → AreBounded (threads t).system (threads t).first (threads t).count (threads t).most };
 
     /// Nobody makes turns in the end.
-    ghost over: { (t : Self) → NobodyTurns (system t) (ends t) };
+    ghost over: { (t : Self) → NobodyTurns (threads t).system (ends t) };
 
     /// Equal ones are the same.
-    ghost same_shared: { (t : Self) (x y : Self.Shared) → Self.Shared.eq x y ≡ true → (w : X) → shares t x w → shares t y w };
+    ghost same_shared: { (t : Self) (x y : Self.Shared) → Self.Shared.eq x y ≡ true → (w : X)
+        → (threads t).shares x w → (threads t).shares y w };
 
-    ghost same_thread: { (t : Self) (x y : Self.Thread) → Self.Thread.eq x y ≡ true → (w : T) → is_thread t x w → is_thread t y w };
+    ghost same_thread: { (t : Self) (x y : Self.Thread) → Self.Thread.eq x y ≡ true → (w : T)
+        → (threads t).is_thread x w → (threads t).is_thread y w };
 }

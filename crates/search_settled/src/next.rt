@@ -1,10 +1,16 @@
 //! The next states: of each thread that wants an event, what comes of it.
-ghost use Rattle.std.specs.Prelude.{◌≡◌, ◌+◌, ◌<◌, ℕ, true, false, Some, None, IfOk, IfSome};
+ghost use Rattle.std.specs.Prelude.{◌≡◌, ◌<◌, true, false, Some, None, IfOk, IfSome};
 ghost use Rattle.std.specs.List.{slice_get};
-ghost use Rattle.schedule.specs.System.{State};
-ghost use Rattle.schedule.specs.Scheduled.{after_event};
 ghost use Rattle.search_settled.specs.Next.{IsSomewhere, IsStuckAfter, HasNext};
-ghost use Rattle.search_settled.specs.Flat.{IsFlat, AreBefore, RestsBehind, IsMove, AllComeAfter, HasNextBelow};
+ghost use Rattle.search_settled.specs.Flat.{
+  AreSomewhere,
+  RestsBehind,
+  IsStuckBehind,
+  MovesSomewhere,
+  AllComeAfter,
+  IsStuckByMove,
+  HasOneMore,
+};
 
 use crate::{Flat, Moves};
 use std::alloc::{AllocError, Global};
@@ -18,14 +24,10 @@ fn thread_after<M: Moves>(
     threads: &[M::Thread],
     m: usize,
 ) -> Result<Option<M::Thread>, AllocError>
-    requires event { (z : State M.X M.T) × (e : M.E) × AreBefore (M.system system.now) (M.beginning system.now) (M.count system.now)
-        (M.shares system.now) (M.is_thread system.now) (M.makes system.now) made.now n threads.now z e }
-    requires few { m < M.most system.now }
-    ensures rests { IfOk result (λ o. IfSome o (RestsBehind (M.system system.now) (M.beginning system.now) (M.count system.now)
-        (M.shares system.now) (M.is_thread system.now) (M.makes system.now) made.now n threads.now m)) }
-    ensures gives_up { IfOk result (λ o. o ≡ None → (z : State M.X M.T) (e : M.E) → AreBefore (M.system system.now)
-        (M.beginning system.now) (M.count system.now) (M.shares system.now) (M.is_thread system.now) (M.makes system.now)
-        made.now n threads.now z e → M.stuck system.now (after_event (M.system system.now) z n e)) }
+    requires event { AreSomewhere (M.threads system.now) made.now n threads.now }
+    requires few { m < (M.threads system.now).most }
+    ensures rests { IfOk result (λ o. IfSome o (RestsBehind (M.threads system.now) made.now n threads.now m)) }
+    ensures gives_up { IfOk result (λ o. o ≡ None → IsStuckBehind (M.threads system.now) (M.stuck system.now) made.now n threads.now) }
 {
     match threads.get(m) {
         Some(thread) => system.after(alloc, made, n, thread, m),
@@ -42,13 +44,9 @@ fn threads_after<M: Moves>(
     n: usize,
     threads: &[M::Thread],
 ) -> Result<Option<Vec<M::Thread>>, AllocError>
-    requires { (z : State M.X M.T) × (e : M.E) × IsMove (M.system system.now) (M.beginning system.now) (M.count system.now)
-        (M.shares system.now) (M.is_thread system.now) (M.makes system.now) shared.now made.now n threads.now z e }
-    ensures rests { IfOk result (λ o. IfSome o (λ v. AllComeAfter (M.system system.now) (M.beginning system.now) (M.count system.now)
-        (M.shares system.now) (M.is_thread system.now) (M.makes system.now) shared.now made.now n threads.now v.items)) }
-    ensures gives_up { IfOk result (λ o. o ≡ None → (z : State M.X M.T) (e : M.E) → IsMove (M.system system.now)
-        (M.beginning system.now) (M.count system.now) (M.shares system.now) (M.is_thread system.now) (M.makes system.now)
-        shared.now made.now n threads.now z e → M.stuck system.now (after_event (M.system system.now) z n e)) }
+    requires { MovesSomewhere (M.threads system.now) shared.now made.now n threads.now }
+    ensures rests { IfOk result (λ o. IfSome o (λ v. AllComeAfter (M.threads system.now) shared.now made.now n threads.now v.items)) }
+    ensures gives_up { IfOk result (λ o. o ≡ None → IsStuckByMove (M.threads system.now) (M.stuck system.now) shared.now made.now n threads.now) }
 {
     let count = system.started(shared);
     let mut rested = Vec::with_capacity(alloc, count)?;
@@ -71,16 +69,10 @@ fn put_next<M: Moves>(
     n: usize,
     all: &mut Vec<Flat<M::Shared, M::Thread>>,
 ) -> Result<bool, AllocError>
-    requires somewhere { IsSomewhere (M.system system.now) (M.beginning system.now) (IsFlat (M.system system.now) (M.beginning system.now)
-        (M.count system.now) (M.shares system.now) (M.is_thread system.now) (M.makes system.now)) flat.now }
+    requires somewhere { IsSomewhere (M.threads system.now) flat.now }
     requires thread { slice_get flat.now.threads.items n ≡ Some thread.now }
-    ensures next { IfOk result (λ told. told ≡ true → HasNextBelow (M.system system.now) (M.beginning system.now)
-        (M.count system.now) (M.shares system.now) (M.is_thread system.now) (M.makes system.now) flat.now n all.old.items
-        → HasNextBelow (M.system system.now) (M.beginning system.now)
-        (M.count system.now) (M.shares system.now) (M.is_thread system.now) (M.makes system.now) flat.now (n + 1) all.new.items) }
-    ensures gives_up { IfOk result (λ told. told ≡ false → IsStuckAfter (M.system system.now) (M.beginning system.now)
-        (IsFlat (M.system system.now) (M.beginning system.now) (M.count system.now) (M.shares system.now) (M.is_thread system.now)
-        (M.makes system.now)) (M.stuck system.now) flat.now) }
+    ensures next { IfOk result (λ told. told ≡ true → HasOneMore (M.threads system.now) flat.now n all.old.items all.new.items) }
+    ensures gives_up { IfOk result (λ told. told ≡ false → IsStuckAfter (M.threads system.now) (M.stuck system.now) flat.now) }
 {
     let Some((shared, made)) = system.event(alloc, &flat.shared, thread, n)? else {
         return Ok(true);
@@ -99,14 +91,9 @@ pub(crate) fn next_states<M: Moves>(
     system: &M,
     flat: &Flat<M::Shared, M::Thread>,
 ) -> Result<Option<Vec<Flat<M::Shared, M::Thread>>>, AllocError>
-    requires { IsSomewhere (M.system system.now) (M.beginning system.now) (IsFlat (M.system system.now) (M.beginning system.now)
-        (M.count system.now) (M.shares system.now) (M.is_thread system.now) (M.makes system.now)) flat.now }
-    ensures next { IfOk result (λ o. IfSome o (λ v. HasNext (M.system system.now) (M.beginning system.now)
-        (IsFlat (M.system system.now) (M.beginning system.now)
-        (M.count system.now) (M.shares system.now) (M.is_thread system.now) (M.makes system.now)) flat.now v.items)) }
-    ensures gives_up { IfOk result (λ o. o ≡ None → IsStuckAfter (M.system system.now) (M.beginning system.now)
-        (IsFlat (M.system system.now) (M.beginning system.now) (M.count system.now) (M.shares system.now) (M.is_thread system.now)
-        (M.makes system.now)) (M.stuck system.now) flat.now) }
+    requires { IsSomewhere (M.threads system.now) flat.now }
+    ensures next { IfOk result (λ o. IfSome o (λ v. HasNext (M.threads system.now) flat.now v.items)) }
+    ensures gives_up { IfOk result (λ o. o ≡ None → IsStuckAfter (M.threads system.now) (M.stuck system.now) flat.now) }
 {
     let mut all = Vec::new(alloc);
     let mut n: usize = 0;

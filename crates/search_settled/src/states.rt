@@ -1,60 +1,35 @@
 //! All endings of threads that are moved one by one.
-ghost use Rattle.std.specs.Prelude.{◌≡◌, ◌<◌, IfOk, vec_len};
+ghost use Rattle.std.specs.Prelude.{◌≡◌, IfOk, vec_len};
 ghost use Rattle.indexmap.specs.IndexSet.{index_set_len};
-ghost use Rattle.search_reach.specs.Search.{HasAllEnds, AreEnds, CanGetStuck};
-ghost use Rattle.search_settled.specs.Settled.{StepsBy};
-ghost use Rattle.search_settled.specs.Next.{IsFirstOf};
+ghost use Rattle.search_reach.specs.Found.{AreEndings};
+ghost use Rattle.search_settled.specs.Turns.{turns};
 
 use crate::next::next_states;
 use crate::{Flat, Moves};
-use search_reach::{Ended, Follows, Verdict, Wish};
-use crate::{SettledStates, endings_of_turns};
+use search_reach::{Ended, Explores, Follows, all_endings};
 use std::alloc::{AllocError, Global};
 
-/// The settled states of such a system.
+/// The turns of threads, in any order, gone through by their settled states.
 #[derive(Drop)]
-struct States<'s, M> {
+struct Turns<'s, M> {
     system: &'s M,
 }
 
-impl<M: Moves> SettledStates for States<'_, M> {
-    ghost use Rattle.search_settled.specs.Flat.{IsFlat};
-    ghost use Rattle.search_settled.specs.Same.{flat_alike};
+impl<M: Moves> Explores for Turns<'_, M> {
+    ghost use Rattle.schedule.specs.System.{State as SystemState};
+    ghost use Rattle.search_settled.specs.Turns.{turns};
+    ghost use Rattle.search_settled.specs.Same.{flat_alike, stands_alike};
 
-    type Settled = Flat<M::Shared, M::Thread>;
+    type State = Flat<M::Shared, M::Thread>;
 
     type Ending = M::Ending;
 
-    ghost Shared = { M.X };
+    ghost World = { SystemState M.X M.T };
 
-    ghost Thread = { M.T };
+    ghost system = { λ t. turns M.Moves t.system.now };
 
-    ghost Event = { M.E };
-
-    ghost Reply = { M.V };
-
-    ghost Answer = { M.A };
-
-    ghost system = { λ t. M.system t.system.now };
-
-    ghost beginning = { λ t. M.beginning t.system.now };
-
-    ghost is = { λ t. IsFlat (M.system t.system.now) (M.beginning t.system.now) (M.count t.system.now) (M.shares t.system.now)
-        (M.is_thread t.system.now) (M.makes t.system.now) };
-
-    ghost ends = { λ t. M.ends t.system.now };
-
-    ghost count = { λ t. M.most t.system.now };
-
-    ghost tame = { λ t. M.tame t.system.now };
-
-    ghost over = { λ t. M.over t.system.now };
-
-    ghost stuck = { λ t. M.stuck t.system.now };
-
-    ghost same = { λ t x y e w. flat_alike M.Shared.eq M.Thread.eq (M.system t.system.now)
-        (M.beginning t.system.now) (M.count t.system.now) (M.shares t.system.now) (M.is_thread t.system.now) (M.makes t.system.now)
-        (M.same_shared t.system.now) (M.same_thread t.system.now) x y w e };
+    ghost same = { λ t x y e. stands_alike (M.threads t.system.now) x y (flat_alike M.Shared.eq M.Thread.eq (M.threads t.system.now)
+        (M.same_shared t.system.now) (M.same_thread t.system.now) x y e) };
 
     fn first(&self, alloc: Global) -> Result<Option<Flat<M::Shared, M::Thread>>, AllocError> {
         self.system.first(alloc)
@@ -63,17 +38,17 @@ impl<M: Moves> SettledStates for States<'_, M> {
     fn next(
         &self,
         alloc: Global,
-        settled: &Flat<M::Shared, M::Thread>,
+        state: &Flat<M::Shared, M::Thread>,
     ) -> Result<Option<Vec<Flat<M::Shared, M::Thread>>>, AllocError> {
-        next_states(alloc, self.system, settled)
+        next_states(alloc, self.system, state)
     }
 
     fn ending(
         &self,
         alloc: Global,
-        settled: &Flat<M::Shared, M::Thread>,
+        state: &Flat<M::Shared, M::Thread>,
     ) -> Result<Option<M::Ending>, AllocError> {
-        self.system.ending(alloc, settled)
+        self.system.ending(alloc, state)
     }
 }
 
@@ -85,16 +60,9 @@ pub fn search_all<M: Moves, F: Follows>(
     most: usize,
     follower: &mut F,
 ) -> Result<Ended<M::Ending>, AllocError>
-    ensures all { IfOk result (λ r. r.verdict ≡ Verdict.All
-        → HasAllEnds (StepsBy (M.system system.now)) (IsFirstOf (M.beginning system.now)) (M.ends system.now) M.Ending.eq r.endings.keys) }
-    ensures sound { IfOk result (λ r. AreEnds (StepsBy (M.system system.now)) (IsFirstOf (M.beginning system.now)) (M.ends system.now)
-        r.endings.keys) }
+    ensures found { IfOk result (AreEndings (turns M.Moves system.now) M.Ending.eq most (F.wish follower.new)) }
     ensures paths { IfOk result (λ r. vec_len r.paths ≡ index_set_len r.endings) }
-    ensures bound { IfOk result (λ r. r.verdict ≡ Verdict.TooMany → most < r.states) }
-    ensures gives_up { IfOk result (λ r. r.verdict ≡ Verdict.CannotTell
-        → CanGetStuck (StepsBy (M.system system.now)) (M.stuck system.now) (IsFirstOf (M.beginning system.now))) }
-    ensures told { IfOk result (λ r. r.verdict ≡ Verdict.Told → F.wish follower.new ≡ Wish.End) }
 {
-    let states = States { system };
-    endings_of_turns(alloc, &states, most, follower)
+    let states = Turns { system };
+    all_endings(alloc, &states, most, follower)
 }

@@ -1,15 +1,10 @@
 //! Where a thread comes to rest.
 
 ghost use Rattle.std.specs.Prelude.{◌≡◌, ◌<◌, ℕ, None, IfOk, IfSome};
-ghost use Rattle.validate_typing.specs.Tabled.{WithTables};
 ghost use Rattle.schedule.specs.Machine.{Thread.Runs};
 ghost use Rattle.interp_machine.specs.State.{State};
-ghost use Rattle.interp.specs.Kept.{RunsBy};
 ghost use Rattle.interp.specs.Threads.{StandsFor, meaning_in};
-ghost use Rattle.search_threads.specs.Unlimited.{Unlimited.Going};
-ghost use Rattle.search_settled.specs.Settled.{MakesTurns};
-ghost use Rattle.search_runs.specs.Called.{Called, system_of};
-ghost use Rattle.search_walkers.specs.Walkers.{IsOf, RestsAt};
+ghost use Rattle.search_walkers.specs.Rests.{ComesToRestAt, SpendsAll};
 
 use crate::walker::Standing;
 use interp::Thread;
@@ -25,10 +20,8 @@ pub(crate) const FUEL: u64 = 1_000_001;
 pub(crate) fn rest(alloc: Global, thread: Thread) -> Result<Option<Standing>, AllocError>
     requires fuel { thread.fuel ≡ FUEL }
     requires stands { (x : State) × (left : ℕ) × StandsFor thread (Runs x left) }
-    ensures rests { IfOk result (λ o. IfSome o (λ s. (w : WithTables) (b : Called) (x : State) (left : ℕ) → IsOf b w
-        → RunsBy w thread.entry → StandsFor thread.entry (Runs x left) → RestsAt w b (Going x) s)) }
-    ensures gives_up { IfOk result (λ o. o ≡ None → (w : WithTables) (b : Called) (x : State) (left : ℕ) → IsOf b w
-        → RunsBy w thread.entry → StandsFor thread.entry (Runs x left) → MakesTurns (system_of b) left (Going x)) }
+    ensures rests { IfOk result (λ o. IfSome o (ComesToRestAt thread.entry)) }
+    ensures gives_up { IfOk result (λ o. o ≡ None → SpendsAll thread.entry) }
 {
     let mut thread = thread;
     let turn = thread.own_turns(0, &OpenGate);

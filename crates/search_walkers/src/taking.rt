@@ -1,15 +1,19 @@
 //! A thread takes a reply, or hears an answer, and comes to rest.
 
 ghost use Rattle.std.specs.Prelude.{◌≡◌, None, IfOk, IfSome};
-ghost use Rattle.types.specs.declared.event.Event.{Event};
-ghost use Rattle.schedule.specs.System.{Want.Calls, Want.Awaits};
 ghost use Rattle.interp_machine.specs.Config.{Config};
-ghost use Rattle.interp_machine.specs.State.{At};
 ghost use Rattle.schedule_machine.specs.Threads.{IsMade};
-ghost use Rattle.search_threads.specs.Unlimited.{Unlimited.Going};
-ghost use Rattle.search_settled.specs.Settled.{MakesTurns};
-ghost use Rattle.search_runs.specs.Called.{Called, Walker, system_of};
-ghost use Rattle.search_walkers.specs.Walkers.{IsOf, RestsAt, StandsFor, MayBeGiven, given_to, patience};
+ghost use Rattle.search_walkers.specs.Walkers.{MayBeGiven};
+ghost use Rattle.search_walkers.specs.Rests.{
+  IsGivenAndRests,
+  IsGivenAndRunsOn,
+  CanTake,
+  TakesAndRests,
+  TakesAndRunsOn,
+  CanHear,
+  HearsAndRests,
+  HearsAndRunsOn,
+};
 
 use crate::rest::{FUEL, rest};
 use crate::walker::Standing;
@@ -28,10 +32,8 @@ fn after_given(
     given: Given,
 ) -> Result<Option<Standing>, AllocError>
     requires { (c : Config) × MayBeGiven valid.now kept.now FUEL given c }
-    ensures rests { IfOk result (λ o. IfSome o (λ s. (b : Called) (c : Config) → IsOf b valid.now
-        → MayBeGiven valid.now kept.now FUEL given c → RestsAt valid.now b (given_to b (Going (At c)) given) s)) }
-    ensures gives_up { IfOk result (λ o. o ≡ None → (b : Called) (c : Config) → IsOf b valid.now
-        → MayBeGiven valid.now kept.now FUEL given c → MakesTurns (system_of b) patience (given_to b (Going (At c)) given)) }
+    ensures rests { IfOk result (λ o. IfSome o (IsGivenAndRests valid.now kept.now FUEL given)) }
+    ensures gives_up { IfOk result (λ o. o ≡ None → IsGivenAndRunsOn valid.now kept.now FUEL given) }
 {
     let mut thread = Thread::resume(alloc, valid, kept, FUEL)?;
     if let Turn::Ended(outcome) = thread.turn(given) {
@@ -55,14 +57,9 @@ pub fn take(
     reply: Reply,
 ) -> Result<Option<Standing>, AllocError>
     requires made { IsMade reply }
-    requires wants { (b : Called) × (v : Walker) × IsOf b valid.now × StandsFor valid.now standing.now v
-        × (e : Event) × ((system_of b).wants v ≡ Calls e) }
-    ensures rests { IfOk result (λ o. IfSome o (λ s. (b : Called) (v : Walker) (e : Event) → IsOf b valid.now
-        → StandsFor valid.now standing.now v → (system_of b).wants v ≡ Calls e
-        → RestsAt valid.now b ((system_of b).takes v reply) s)) }
-    ensures gives_up { IfOk result (λ o. o ≡ None → (b : Called) (v : Walker) (e : Event) → IsOf b valid.now
-        → StandsFor valid.now standing.now v → (system_of b).wants v ≡ Calls e
-        → MakesTurns (system_of b) patience ((system_of b).takes v reply)) }
+    requires wants { CanTake valid.now standing.now }
+    ensures rests { IfOk result (λ o. IfSome o (TakesAndRests valid.now standing.now reply)) }
+    ensures gives_up { IfOk result (λ o. o ≡ None → TakesAndRunsOn valid.now standing.now reply) }
 {
     match standing {
         Standing::Going(kept) => {
@@ -87,13 +84,9 @@ pub fn hear(
     standing: &Standing,
     answer: Answer,
 ) -> Result<Option<Standing>, AllocError>
-    requires { (b : Called) × (v : Walker) × IsOf b valid.now × StandsFor valid.now standing.now v × ((system_of b).wants v ≡ Awaits) }
-    ensures rests { IfOk result (λ o. IfSome o (λ s. (b : Called) (v : Walker) → IsOf b valid.now
-        → StandsFor valid.now standing.now v → (system_of b).wants v ≡ Awaits
-        → RestsAt valid.now b ((system_of b).hears v answer) s)) }
-    ensures gives_up { IfOk result (λ o. o ≡ None → (b : Called) (v : Walker) → IsOf b valid.now
-        → StandsFor valid.now standing.now v → (system_of b).wants v ≡ Awaits
-        → MakesTurns (system_of b) patience ((system_of b).hears v answer)) }
+    requires { CanHear valid.now standing.now }
+    ensures rests { IfOk result (λ o. IfSome o (HearsAndRests valid.now standing.now answer)) }
+    ensures gives_up { IfOk result (λ o. o ≡ None → HearsAndRunsOn valid.now standing.now answer) }
 {
     match standing {
         Standing::Going(kept) => {

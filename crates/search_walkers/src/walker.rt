@@ -21,16 +21,14 @@ pub enum Standing {
 
 impl Standing {
     ghost use Rattle.std.specs.Prelude.{IfOk};
-    ghost use Rattle.validate_typing.specs.Tabled.{WithTables};
-    ghost use Rattle.search_runs.specs.Called.{Walker as Thread};
-    ghost use Rattle.search_walkers.specs.Walkers.{StandsFor};
+    ghost use Rattle.search_walkers.specs.Rests.{StandsForAll};
 
     /// A copy.
     ///
     /// # Errors
     /// Where memory is refused.
     pub fn copy(&self, alloc: Global) -> Result<Standing, AllocError>
-        ensures { IfOk result (λ s. (w : WithTables) (v : Thread) → StandsFor w self.now v → StandsFor w s v) }
+        ensures { IfOk result (StandsForAll self.now) }
     {
         match self {
             Standing::Missing => Ok(Standing::Missing),

@@ -1,14 +1,12 @@
 //! What a thread wants.
 
-ghost use Rattle.std.specs.Prelude.{◌≡◌, IfOk, IfSome};
+ghost use Rattle.std.specs.Prelude.{IfOk, IfSome};
 ghost use Rattle.shared_memory.specs.Events.{IsEvent};
 ghost use Rattle.interp_machine.specs.Config.{Config};
-ghost use Rattle.interp_machine.specs.State.{At};
 ghost use Rattle.interp.specs.Kept.{IsKept};
-ghost use Rattle.schedule_machine.specs.Threads.{called};
-ghost use Rattle.search_threads.specs.Unlimited.{Unlimited.Going};
-ghost use Rattle.search_runs.specs.Called.{Called, Walker, system_of};
-ghost use Rattle.search_walkers.specs.Walkers.{IsOf, StandsFor};
+ghost use Rattle.search_runs.specs.Called.{Walker};
+ghost use Rattle.search_walkers.specs.Walkers.{StandsFor};
+ghost use Rattle.search_walkers.specs.Rests.{IsWantedAt, IsWantedOf};
 
 use crate::rest::FUEL;
 use crate::walker::Standing;
@@ -21,8 +19,7 @@ use validate_module::ValidModule;
 /// The event that a thread wants that runs, if it wants one.
 fn wanted_by(alloc: Global, valid: &ValidModule, kept: &Kept) -> Result<Option<Event>, AllocError>
     requires { (c : Config) × IsKept valid.now kept.now c }
-    ensures wanted { IfOk result (λ o. (b : Called) (c : Config) → IsOf b valid.now → IsKept valid.now kept.now c
-        → o ≡ called ((system_of b).wants (Going (At c)))) }
+    ensures wanted { IfOk result (IsWantedAt valid.now kept.now) }
     ensures event { IfOk result (λ o. IfSome o IsEvent) }
 {
     let mut thread = Thread::resume(alloc, valid, kept, FUEL)?;
@@ -42,8 +39,7 @@ pub fn wanted(
     standing: &Standing,
 ) -> Result<Option<Event>, AllocError>
     requires { (v : Walker) × StandsFor valid.now standing.now v }
-    ensures wanted { IfOk result (λ o. (b : Called) (v : Walker) → IsOf b valid.now → StandsFor valid.now standing.now v
-        → o ≡ called ((system_of b).wants v)) }
+    ensures wanted { IfOk result (IsWantedOf valid.now standing.now) }
     ensures event { IfOk result (λ o. IfSome o IsEvent) }
 {
     match standing {

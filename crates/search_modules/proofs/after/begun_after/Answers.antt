@@ -3,11 +3,11 @@ use Rattle.search_modules.proofs.after.begun_after.Goals as goal
 
 pub rested-requires-clause-after : goal.rested-requires-clause-after
 rested-requires-clause-after c =
-    let r = c.requires in
+    let r = c.requires.somewhere in
     (r.0, r.1, is_new c.args.searched.now c.args.made.now c.args.n c.args.m r.0 r.1 r.2 r.3)
 
 pub rested-requires-clause-few : goal.rested-requires-clause-few
-rested-requires-clause-few c = c.requires.4
+rested-requires-clause-few c = c.requires.few
 
 pub returns-clause-rests : goal.returns-clause-rests
 returns-clause-rests c =

@@ -9,12 +9,12 @@ use Rattle.search_modules.proofs.Following.{is_after, comes_after}
 use Rattle.search_modules.proofs.after.thread_after.Goals as goal
 
 pub is_untouched-requires : goal.is_untouched-requires
-is_untouched-requires c = c.requires.4
+is_untouched-requires c = c.requires.few
 
 pub rested-requires-clause-after : goal.rested-requires-clause-after
 rested-requires-clause-after c =
     let s = c.args.searched.now in
-    let r = c.requires in (
+    let r = c.requires.somewhere in (
       r.0,
       r.1,
       subst (λ (t : Walker). IsAfter s.valid.now s.worker c.args.made.now c.args.n t.standing c.args.m (called s) r.0 r.1) (sym c.walker-walker.ensures)

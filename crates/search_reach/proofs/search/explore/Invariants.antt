@@ -5,7 +5,7 @@ use Rattle.search_reach.proofs.search.explore.Given as goal
 
 abbrev pub invariant-loop-state : goal.invariant-loop-state
 invariant-loop-state g l = record {
-  explored : Explored (g.T.Explores.stands l.system) (g.T.Explores.steps l.system) (g.T.Explores.begins l.system) l.met.keys l.at;
+  explored : Explored (g.T.Explores.system l.system) l.met.keys l.at;
   from : vec_len l.from ≡ index_set_len l.met;
 }
 

@@ -9,7 +9,6 @@ put_next-requires-clause-thread g c = ap (λ l. slice_get l c.loop-thread.n) (sy
     ∙ at-get c.deref.result.now c.loop-thread.n c.in-Some.thread.now c.in-Some.ensures.lookup.3.0 c.in-Some.ensures.lookup.1
 
 pub returns-clause-next : goal.returns-clause-next
-returns-clause-next g c = below-all (g.M.Moves.system c.args.system.now) (g.M.Moves.beginning c.args.system.now) (g.M.Moves.count c.args.system.now)
-    (g.M.Moves.shares c.args.system.now) (g.M.Moves.is_thread c.args.system.now) (g.M.Moves.makes c.args.system.now)
+returns-clause-next g c = below-all (g.M.Moves.threads c.args.system.now)
     c.args.flat.now c.loop-thread.n c.loop-thread.all.items c.loop-thread.invariant
     (at-end c.deref.result.now c.args.flat.now.threads.items c.loop-thread.n c.deref.ensures.value c.in_default.ensures.lookup.3)

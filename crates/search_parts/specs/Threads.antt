@@ -1,0 +1,47 @@
+-- The threads of a call, and what stands for them.
+use Rattle.std.specs.Prelude.{ℕ, List, Option}
+use Rattle.types.specs.Limits.{most_threads}
+use Rattle.types.specs.declared.event.Answer.{Answer}
+use Rattle.types.specs.declared.event.Event.{Event}
+use Rattle.types.specs.declared.event.Reply.{Reply}
+use Rattle.validate_typing.specs.Tabled.{WithTables}
+use Rattle.schedule.specs.System.{State}
+use Rattle.schedule_threads.specs.Shared.{Shared}
+use Rattle.search_runs.specs.Called.{Called, Walker as Thread, system_of, first_state}
+use Rattle.search_runs.specs.Ends.{Ending, HasEndedSo}
+use Rattle.search_settled.specs.declared.flat.Flat.{Flat}
+use Rattle.search_settled.specs.Threads.{ThreadSystem}
+use Rattle.search_settled.specs.Next.{IsSomewhere, HasEnded}
+use Rattle.search_settled.specs.Flat.{IsEventOf}
+use Rattle.search_walkers.specs.declared.walker.Standing.{Standing}
+use Rattle.search_parts.specs.Sharing.{Shares, Makes, started_in}
+use Rattle.search_parts.specs.Parts.{IsRested, IsThreadIn}
+use Rattle.search_parts.specs.declared.event.Made.{Made}
+use Rattle.search_parts.specs.declared.shared.Common.{Common}
+use Rattle.search_parts.specs.declared.shared.Walker.{Walker}
+
+abbrev pub threads_of : WithTables → Called → List ℕ → ThreadSystem Shared Thread Event Reply Answer Common Walker Made
+threads_of w b opening = record {
+  system = system_of b;
+  first = first_state b;
+  count = started_in;
+  most = most_threads;
+  shares = Shares opening;
+  is_thread = λ t. IsRested w b t.standing;
+  makes = Makes;
+}
+
+-- Thread n stands so in a state of a call, and this is the event that it wants.
+abbrev pub IsInCall : WithTables → List ℕ → Common → Standing → ℕ → Type 0
+IsInCall w opening c s n = (b : Called) × (z : State Shared Thread) × IsThreadIn w opening c s n b z
+
+abbrev pub IsEventIn : WithTables → List ℕ → Common → Standing → ℕ → Option (Common × Made) → Type 0
+IsEventIn w opening c s n o = (b : Called) (z : State Shared Thread) → IsThreadIn w opening c s n b z
+    → IsEventOf (threads_of w b opening) z n o
+
+-- A settled state of a call, and how it has ended.
+abbrev pub IsSettled : List ℕ → Flat Common Walker → Type 0
+IsSettled opening flat = (w : WithTables) × (b : Called) × IsSomewhere (threads_of w b opening) flat
+
+abbrev pub HasEndedIn : List ℕ → ℕ → Flat Common Walker → Option Ending → Type 0
+HasEndedIn opening dump flat o = (w : WithTables) (b : Called) → HasEnded (threads_of w b opening) (HasEndedSo dump) flat o
