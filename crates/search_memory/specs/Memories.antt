@@ -42,4 +42,5 @@ AreWritten b addr width value after = memory_of b.opening.now after ≡ written 
 
 -- One byte more is changed.
 abbrev pub WithByte : List ℕ → ℕ → List Change → ℕ → ℕ → List Change → Type 0
-WithByte opening len before at byte after = changed_bytes opening len after ≡ slice_set (changed_bytes opening len before) at byte
+WithByte opening len before at byte after =
+    changed_bytes opening len after ≡ slice_set (changed_bytes opening len before) at byte

@@ -52,7 +52,8 @@ fn put_higher(all: &mut Vec<Change>, changes: &[Change], at: usize) -> Result<()
     Ok(())
 }
 
-/// The changes with this byte at an address: where it isn't the one that was opened, a change at its place among the others.
+/// The changes with this byte at an address: where it isn't the one that was opened, a change at its place among the
+/// others.
 pub(crate) fn with_byte(
     alloc: Global,
     opening: &[u8],

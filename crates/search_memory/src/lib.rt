@@ -2,9 +2,9 @@
 //!
 //! Proved: changed bytes stand for one memory, of which `step` gives the sequential memory's reply and the next.
 //!
-//! Most states of a search differ from the opening memory in a few bytes. `Changes` has these alone, so states take little room and
-//! are compared quickly; an event reads and changes the bytes that it touches alone, and only `memory.grow` makes the memory that
-//! they stand for.
+//! Most states of a search differ from the opening memory in a few bytes. `Changes` has these alone, so states take
+//! little room and are compared quickly; an event reads and changes the bytes that it touches alone, and only
+//! `memory.grow` makes the memory that they stand for.
 #![tactic(auto)]
 
 mod beside;

@@ -20,15 +20,15 @@ use Rattle.search_runs.specs.Ends.{Ending, HasEndedSo}
 use Rattle.search_runs.specs.Theorems.{CanReach, IsScheduled}
 use Rattle.search_modules.specs.Returned.{IsCall, AllHadEnough, ending_of}
 
--- Every run of the module by this call, over a memory that loses tries or not, with a log or without one, and whatever its budget:
--- where all its threads had units and room enough, its ending is there, with so many first bytes.
+-- Every run of the module by this call, over a memory that loses tries or not, with a log or without one, and whatever
+-- its budget: where all its threads had units and room enough, its ending is there, with so many first bytes.
 abbrev pub HasEveryEnding : Parts → List ℕ → List Value → ℕ → List Ending → Type 0
 HasEveryEnding m entry args dump endings =
     (fuel : ℕ) (loses : Bool) (limit : Option ℕ) (history : List Entry) (end : EndState)
     → EndsRun m entry args fuel loses limit history end → AllHadEnough end → Contains endings (ending_of dump end)
 
--- Threads of the module without budgets can end so by this call, and the machine of a run comes there too, along some turns and with
--- some budget.
+-- Threads of the module without budgets can end so by this call, and the machine of a run comes there too, along some
+-- turns and with some budget.
 pub record CanEndSo (m : Parts) (entry : List ℕ) (args : List Value) (dump : ℕ) (e : Ending) : Type 0 where
   pub called : Called
   pub call : IsCall m entry args called
@@ -58,8 +58,8 @@ pub record CanBeLost (m : Parts) (entry : List ℕ) (args : List Value) : Type 0
   pub thread : ℕ
   pub lost : RunsOn called (state.threads thread) ⊎ BeginsUnknown m called thread (state.threads thread)
 
--- What a search of this call claims: its list has the ending of every run, threads can end as each of the list says, and they can come
--- to where nothing can be told of one of them.
+-- What a search of this call claims: its list has the ending of every run, threads can end as each of the list says,
+-- and they can come to where nothing can be told of one of them.
 abbrev pub claims_of : Parts → Call → ℕ → Claims Ending
 claims_of m call dump = record {
   complete = HasEveryEnding m call.name.now call.args.now dump;

@@ -34,7 +34,8 @@ IsMade s made n z e = IsMadeBy (threads s) made z n e
 -- Thread m stands so before an event of thread n: there is such a state, and what is so of each after the event.
 module _ (s : Searched) (made : Made) (n : ℕ) (before : Standing) (m : ℕ) where
   abbrev pub IsSomewhereAfter : Type 0
-  IsSomewhereAfter = (z : State Shared Thread) × (e : Event) × IsAfter s.valid.now s.worker made n before m (called s) z e
+  IsSomewhereAfter = (z : State Shared Thread) × (e : Event)
+      × IsAfter s.valid.now s.worker made n before m (called s) z e
 
   abbrev pub OfAfter : (State Shared Thread → Type 0) → Type 0
   OfAfter so = (z : State Shared Thread) (e : Event) → IsAfter s.valid.now s.worker made n before m (called s) z e
@@ -43,7 +44,8 @@ module _ (s : Searched) (made : Made) (n : ℕ) (before : Standing) (m : ℕ) wh
   abbrev pub RestsThen : Walker → Type 0
   RestsThen t = OfAfter (λ z. RestsAt s.valid.now (called s) (z.threads m) t.standing)
 
--- Nothing can be told of one of the threads: it makes a million turns of its own, or it begins and no function is known for that.
+-- Nothing can be told of one of the threads: it makes a million turns of its own, or it begins and no function is known
+-- for that.
 abbrev pub IsStuck : Searched → State Shared Thread → Type 0
 IsStuck s z = (m : ℕ) × IsLost s.worker (called s) z m
 

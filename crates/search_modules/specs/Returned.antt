@@ -38,9 +38,9 @@ outcome_in report = report.outcome
 abbrev pub ending_of : ℕ → EndState → Ending
 ending_of dump end = record { outcomes = map outcome_in end.threads.items; pages = end.pages; bytes = take dump end.bytes.items }
 
--- Whatever a run of a module whose exports have distinct names (as those of a valid one have) returns, over a memory that loses
--- tries or not, with a log or without one, and whatever its budget: where all its threads had units and room enough, threads
--- without budgets come to an end that is the same.
+-- Whatever a run of a module whose exports have distinct names (as those of a valid one have) returns, over a memory
+-- that loses tries or not, with a log or without one, and whatever its budget: where all its threads had units and room
+-- enough, threads without budgets come to an end that is the same.
 abbrev pub WhatRunsReturnIsReached : Type 0
 WhatRunsReturnIsReached =
     (m : Parts) → HasDistinctNames m.exports → (entry : List ℕ) (args : List Value) (b : Called) → IsCall m entry args b

@@ -46,7 +46,8 @@ abbrev pub can_spawn : Parts → Option ℕ → Bool
 can_spawn m None = true
 can_spawn m (Some own) = can_call m own (types.I32 ∷ types.I32 ∷ [])
 
--- What is called: thread 0 calls one function with these arguments, and spawned threads another one, over this opening memory.
+-- What is called: thread 0 calls one function with these arguments, and spawned threads another one, over this opening
+-- memory.
 abbrev pub worker_of : Parts → ℕ → Option ℕ → List Value → Config
 worker_of m own None args = call_of m own args
 worker_of m own (Some worker) args = call_of m worker args
@@ -61,4 +62,5 @@ called_of m opening max own args worker = record {
 
 -- Whether that can be called.
 abbrev pub is_callable : Parts → List ℕ → ℕ → ℕ → List Value → Option ℕ → Bool
-is_callable m opening max own args worker = can_open opening max && (can_call m own (map type_of args) && can_spawn m worker)
+is_callable m opening max own args worker =
+    can_open opening max && (can_call m own (map type_of args) && can_spawn m worker)

@@ -1,8 +1,9 @@
 //! Where the threads of a call come to rest after an event.
 
 ghost use Rattle.std.specs.Prelude.{◌≡◌, ◌<◌, None, IfOk, IfSome};
-ghost use Rattle.types.specs.Limits.{most_threads};
-ghost use Rattle.search_settled.specs.Flat.{StandsSomewhere, ComesAfter, IsStuckBy, StartsSomewhere, BeginsAfter, IsStuckByStart};
+ghost use Rattle.types.specs.declared.limits.TheConstants.{MOST_THREADS};
+ghost use Rattle.search_settled.specs.Flat.{StandsSomewhere, ComesAfter, IsStuckBy, StartsSomewhere, BeginsAfter};
+ghost use Rattle.search_settled.specs.Flat.{IsStuckByStart};
 ghost use Rattle.search_modules.specs.Moved.{threads, IsSomewhereAfter, RestsThen, IsStuckThen, IsStuck};
 
 use crate::called::Searched;
@@ -23,7 +24,7 @@ fn rested(
     m: usize,
 ) -> Result<Option<SharedWalker>, AllocError>
     requires after { IsSomewhereAfter searched.now made.now n standing.now m }
-    requires few { m < most_threads }
+    requires few { m < MOST_THREADS }
     ensures rests { IfOk result (λ o. IfSome o (RestsThen searched.now made.now n standing.now m)) }
     ensures gives_up { IfOk result (λ o. o ≡ None → IsStuckThen searched.now made.now n standing.now m) }
 {
@@ -48,9 +49,10 @@ pub(crate) fn thread_after(
     m: usize,
 ) -> Result<Option<SharedWalker>, AllocError>
     requires somewhere { StandsSomewhere (threads searched.now) made.now n thread.now m }
-    requires few { m < most_threads }
+    requires few { m < MOST_THREADS }
     ensures rests { IfOk result (λ o. IfSome o (ComesAfter (threads searched.now) made.now n thread.now m)) }
-    ensures gives_up { IfOk result (λ o. o ≡ None → IsStuckBy (threads searched.now) (IsStuck searched.now) made.now n thread.now m) }
+    ensures gives_up { IfOk result (λ o. o ≡ None
+        → IsStuckBy (threads searched.now) (IsStuck searched.now) made.now n thread.now m) }
 {
     if is_untouched(made, n, m) {
         let same = thread.share()?;
@@ -75,9 +77,10 @@ pub(crate) fn begun_after(
     m: usize,
 ) -> Result<Option<SharedWalker>, AllocError>
     requires somewhere { StartsSomewhere (threads searched.now) made.now n m }
-    requires few { m < most_threads }
+    requires few { m < MOST_THREADS }
     ensures rests { IfOk result (λ o. IfSome o (BeginsAfter (threads searched.now) made.now n m)) }
-    ensures gives_up { IfOk result (λ o. o ≡ None → IsStuckByStart (threads searched.now) (IsStuck searched.now) made.now n m) }
+    ensures gives_up { IfOk result (λ o. o ≡ None
+        → IsStuckByStart (threads searched.now) (IsStuck searched.now) made.now n m) }
 {
     let Some(new) = rested(alloc, searched, made, n, &Standing::Missing, m)? else {
         return Ok(None);

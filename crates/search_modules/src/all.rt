@@ -15,20 +15,22 @@ use spawn_host_workers::RunFault;
 use std::alloc::Global;
 use validate_module::ValidModule;
 
-/// All endings of a call of an exported function, each with so many first bytes of the memory: its threads are gone through in every
-/// order of their events, until there are no more states, more than `most_states` were met, or the follower tells it to end.
+/// All endings of a call of an exported function, each with so many first bytes of the memory: its threads are gone
+/// through in every order of their events, until there are no more states, more than `most_states` were met, or the
+/// follower tells it to end.
 ///
-/// At `Verdict::All` the list has the ending of every run of the module by this call, over either memory, whatever its budget and its
-/// log, in which no thread stopped for want of units or for a full log (`HasEveryEnding`). Whatever the verdict, threads can end by
-/// this call as each of the list says, and the machine of a run comes there along some turns, with some budget
-/// (`search_runs::every_end_is_scheduled`). Beside each stands a path, a hint that `search_finds::run_to` judges. It says
-/// `Verdict::TooMany` only where it met more than `most_states` states, and `Verdict::CannotTell` only where threads can come by this
-/// call to where one makes a million turns of its own without coming to rest, or stands where a spawned one begins in a module that
-/// can start none (`CanBeLost`), and `Verdict::Told` only where the follower's last wish is that it ends.
+/// At `Verdict::All` the list has the ending of every run of the module by this call, over either memory, whatever its
+/// budget and its log, in which no thread stopped for want of units or for a full log (`HasEveryEnding`). Whatever the
+/// verdict, threads can end by this call as each of the list says, and the machine of a run comes there along some
+/// turns, with some budget (`search_runs::every_end_is_scheduled`). Beside each stands a path, a hint that
+/// `search_finds::run_to` judges. It says `Verdict::TooMany` only where it met more than `most_states` states, and
+/// `Verdict::CannotTell` only where threads can come by this call to where one makes a million turns of its own without
+/// coming to rest, or stands where a spawned one begins in a module that can start none (`CanBeLost`), and
+/// `Verdict::Told` only where the follower's last wish is that it ends.
 ///
 /// # Errors
-/// `UnknownExport` where no function of the module itself is exported under the name. `WrongArguments` where one is, and the
-/// arguments don't fit it. `NoMemory` where memory is refused.
+/// `UnknownExport` where no function of the module itself is exported under the name. `WrongArguments` where one is,
+/// and the arguments don't fit it. `NoMemory` where memory is refused.
 pub fn all_endings<F: Follows>(
     alloc: Global,
     valid: &ValidModule,
@@ -37,7 +39,8 @@ pub fn all_endings<F: Follows>(
     dump: usize,
     follower: &mut F,
 ) -> Result<Ended<Ending>, RunFault>
-    ensures found { IfOk result (AreListed (claims_of valid.now.parts call.entry dump) most_states (F.wish follower.new)) }
+    ensures found { IfOk result (AreListed (claims_of valid.now.parts call.entry dump) most_states
+        (F.wish follower.new)) }
     ensures paths { IfOk result (λ r. vec_len r.paths ≡ index_set_len r.endings) }
     ensures fault { IfErr result (IsFaultOf valid.now.parts call.entry.name.now call.entry.args.now) }
 {

@@ -10,7 +10,8 @@ use search_settled::Flat;
 use search_walkers::begin;
 use std::alloc::{AllocError, Global};
 
-/// Where all threads come to rest in the beginning, or nothing where that can't be told, since thread 0 has spent its units before.
+/// Where all threads come to rest in the beginning, or nothing where that can't be told, since thread 0 has spent its
+/// units before.
 ///
 /// # Errors
 /// Where memory is refused.

@@ -4,9 +4,10 @@
 //! full log. Whatever the verdict, threads can end by the call as each of the list says, and the scheduled machine
 //! comes there.
 //!
-//! `report_runs::record_run` and `report_runs::run_on_words` say of what they answer that it is the end of a run (`EndsRun`,
-//! `EndsRunOnWords`). `specs/Returned.antt` says that such an end is one of those that the module's threads come to without
-//! budgets (crate `search_runs`), if no thread stopped for want of units or for a full log: so it is among what is found here.
+//! `report_runs::record_run` and `report_runs::run_on_words` say of what they answer that it is the end of a run
+//! (`EndsRun`, `EndsRunOnWords`). `specs/Returned.antt` says that such an end is one of those that the module's threads
+//! come to without budgets (crate `search_runs`), if no thread stopped for want of units or for a full log: so it is
+//! among what is found here.
 #![tactic(auto)]
 
 mod after;

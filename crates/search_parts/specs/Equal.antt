@@ -12,7 +12,8 @@ use Rattle.search_parts.specs.Endings.{is_same_ending, EqualEndingsAreTheSame}
 pub same_ending_equiv : IsEquivalence is_same_ending
 same_ending_equiv =
     and_equiv (on_equiv (λ (e : Ending). e.pages) nat_eq_equiv)
-    (and_equiv (on_equiv (λ (e : Ending). e.outcomes) (lists_equiv laws-law)) (on_equiv (λ (e : Ending). e.bytes) nat_list_eq_equiv))
+    (and_equiv (on_equiv (λ (e : Ending). e.outcomes) (lists_equiv laws-law))
+    (on_equiv (λ (e : Ending). e.bytes) nat_list_eq_equiv))
 
 pub equal_ones : EqualEndingsAreTheSame
 equal_ones x y e =
@@ -20,6 +21,7 @@ equal_ones x y e =
     let bytes_so = pointwise nat_eq x.bytes y.bytes in
     let rest = second_so (nat_eq x.pages y.pages) (outcomes_so && bytes_so) e in
     let pages = eqb-true x.pages y.pages (first_so (nat_eq x.pages y.pages) (outcomes_so && bytes_so) e) in
-    let outcomes = same_list outcome_eq.eq-value.it same_outcome x.outcomes y.outcomes (first_so outcomes_so bytes_so rest) in
+    let outcomes = same_list outcome_eq.eq-value.it same_outcome x.outcomes y.outcomes
+    (first_so outcomes_so bytes_so rest) in
     let bytes = same_list nat_eq (λ a b so. eqb-true a b so) x.bytes y.bytes (second_so outcomes_so bytes_so rest) in
     λ i. record { outcomes = outcomes i; pages = pages i; bytes = bytes i }

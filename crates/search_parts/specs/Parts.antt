@@ -43,7 +43,8 @@ pub record IsWorker (m : Parts) (worker : List Value → Config) (own : ℕ) : T
   pub body : Body
   pub function : IsFunction m own func_type body
   pub takes : func_type.params ≡ types.I32 ∷ types.I32 ∷ []
-  pub begins : (n arg : ℕ) → worker (values.I32 n ∷ values.I32 arg ∷ []) ≡ start_of m func_type body (values.I32 n ∷ values.I32 arg ∷ [])
+  pub begins : (n arg : ℕ) → worker (values.I32 n ∷ values.I32 arg ∷ []) ≡ start_of m func_type body
+      (values.I32 n ∷ values.I32 arg ∷ [])
 
 -- Where no function is known for that, nothing is said of spawned threads.
 abbrev pub AreWorkers : Parts → (List Value → Config) → Option ℕ → Type 0
@@ -60,7 +61,8 @@ pub record IsAfter (w : WithTables) (worker : Option ℕ) (made : Made) (n : ℕ
   pub makes : Makes made z.shared n e
   pub rested : IsRested w b s (z.threads m)
 
--- Nothing can be told of thread m: it makes a million turns of its own, or it begins and no function is known that it calls.
+-- Nothing can be told of thread m: it makes a million turns of its own, or it begins and no function is known that it
+-- calls.
 abbrev pub IsLost : Option ℕ → Called → systems.State Shared Thread → ℕ → Type 0
 IsLost worker b z m =
     RunsOn b (z.threads m)

@@ -50,7 +50,8 @@ module _ (w : WithTables) where
   abbrev pub IsToldAndRunsOn : Standing → Option Answer → Type 0
   IsToldAndRunsOn before answer = OfTold before answer RunsOn
 
-  -- Thread m stands so before an event of thread n: what is so of each once thread n has its reply, and of the state after the event.
+  -- Thread m stands so before an event of thread n: what is so of each once thread n has its reply, and of the state
+  -- after the event.
   module _ (worker : Option ℕ) (made : Made) (n : ℕ) (before : Standing) (m : ℕ) where
     abbrev pub IsSomewhereAfter : Type 0
     IsSomewhereAfter = (b : Called) × (z : State Shared Thread) × (e : Event) × IsAfter w worker made n before m b z e

@@ -1,6 +1,6 @@
 -- What stands for the shared state, and what an event of a thread makes.
 use Rattle.std.specs.Prelude.{ℕ, ◌≡◌, List, length, cond, nat_lt, Option, Some, None}
-use Rattle.types.specs.Limits.{most_threads}
+use Rattle.types.specs.declared.limits.TheConstants.{MOST_THREADS}
 use Rattle.types.specs.declared.event.Event.{Event}
 use Rattle.types.specs.declared.event.Event.TheVariants as events
 use Rattle.types.specs.declared.event.Question.TheVariants as questions
@@ -23,7 +23,7 @@ pub record Shares (opening : List ℕ) (c : Common) (x : Shared) : Type 0 where
 -- It is the memory before any event, and the queue in which thread 0 alone is alive.
 abbrev pub SharesFirst : List ℕ → ℕ → Common → Type 0
 SharesFirst opening max c =
-    Shares opening c (record { memory = record { bytes = opening; max = max }; queue = first_queue most_threads })
+    Shares opening c (record { memory = record { bytes = opening; max = max }; queue = first_queue MOST_THREADS })
 
 -- How many threads were started, thread 0 among them.
 abbrev pub started_in : Shared → ℕ
@@ -31,7 +31,8 @@ started_in x = next_id x.queue
 
 -- The thread that an event starts: a spawn starts the one with the next number, while there is room.
 abbrev pub begun_in : WaitQueue → Event → Option Begun
-begun_in q (events.Ask (questions.Spawn arg)) = cond (nat_lt (next_id q) (length q.due)) (Some (record { id = next_id q; arg = arg })) None
+begun_in q (events.Ask (questions.Spawn arg)) =
+    cond (nat_lt (next_id q) (length q.due)) (Some (record { id = next_id q; arg = arg })) None
 begun_in q _ = None
 
 -- What an event makes: its reply, the queue with the answers that are due then, and the thread that it starts.

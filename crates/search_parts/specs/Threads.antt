@@ -1,6 +1,6 @@
 -- The threads of a call, and what stands for them.
 use Rattle.std.specs.Prelude.{ℕ, List, Option}
-use Rattle.types.specs.Limits.{most_threads}
+use Rattle.types.specs.declared.limits.TheConstants.{MOST_THREADS}
 use Rattle.types.specs.declared.event.Answer.{Answer}
 use Rattle.types.specs.declared.event.Event.{Event}
 use Rattle.types.specs.declared.event.Reply.{Reply}
@@ -25,7 +25,7 @@ threads_of w b opening = record {
   system = system_of b;
   first = first_state b;
   count = started_in;
-  most = most_threads;
+  most = MOST_THREADS;
   shares = Shares opening;
   is_thread = λ t. IsRested w b t.standing;
   makes = Makes;
@@ -44,4 +44,5 @@ abbrev pub IsSettled : List ℕ → Flat Common Walker → Type 0
 IsSettled opening flat = (w : WithTables) × (b : Called) × IsSomewhere (threads_of w b opening) flat
 
 abbrev pub HasEndedIn : List ℕ → ℕ → Flat Common Walker → Option Ending → Type 0
-HasEndedIn opening dump flat o = (w : WithTables) (b : Called) → HasEnded (threads_of w b opening) (HasEndedSo dump) flat o
+HasEndedIn opening dump flat o = (w : WithTables) (b : Called)
+    → HasEnded (threads_of w b opening) (HasEndedSo dump) flat o

@@ -36,7 +36,8 @@ same_value (values.I64 a) (values.I32 b) e = untrue e
 same_value (values.I64 a) (values.I64 b) e = ap values.I64 (eqb-true a b e)
 
 abbrev all_traps : List Trap
-all_traps = traps.Unreachable ∷ traps.DivideByZero ∷ traps.IntegerOverflow ∷ traps.OutOfBounds ∷ traps.UnalignedAtomic ∷ traps.NotShared
+all_traps = traps.Unreachable ∷ traps.DivideByZero ∷ traps.IntegerOverflow ∷ traps.OutOfBounds ∷ traps.UnalignedAtomic
+    ∷ traps.NotShared
     ∷ traps.UndefinedElement ∷ traps.UninitializedElement ∷ traps.SignatureMismatch ∷ traps.StackExhausted ∷ []
 
 -- the first one of a list that is told to be it
@@ -72,15 +73,23 @@ same_stop stops.RecordFull stops.RecordFull e = refl
 
 pub same_caller : (x y : Caller) → caller_eq.eq-value.it x y ≡ true → x ≡ y
 same_caller x y e =
-    let e1 = second_so (nat_eq x.function y.function) (nat_eq x.pc y.pc && (nat_eq x.base y.base && (nat_eq x.operands y.operands && nat_eq x.results y.results))) e in
-    let e2 = second_so (nat_eq x.pc y.pc) (nat_eq x.base y.base && (nat_eq x.operands y.operands && nat_eq x.results y.results)) e1 in
+    let e1 = second_so (nat_eq x.function y.function)
+    (nat_eq x.pc y.pc && (nat_eq x.base y.base && (nat_eq x.operands y.operands && nat_eq x.results y.results)))
+    e in
+    let e2 = second_so (nat_eq x.pc y.pc)
+    (nat_eq x.base y.base && (nat_eq x.operands y.operands && nat_eq x.results y.results)) e1 in
     let e3 = second_so (nat_eq x.base y.base) (nat_eq x.operands y.operands && nat_eq x.results y.results) e2 in
     let function = eqb-true x.function y.function (first_so (nat_eq x.function y.function)
     (nat_eq x.pc y.pc && (nat_eq x.base y.base && (nat_eq x.operands y.operands && nat_eq x.results y.results))) e) in
-    let pc = eqb-true x.pc y.pc (first_so (nat_eq x.pc y.pc) (nat_eq x.base y.base && (nat_eq x.operands y.operands && nat_eq x.results y.results)) e1) in
-    let base = eqb-true x.base y.base (first_so (nat_eq x.base y.base) (nat_eq x.operands y.operands && nat_eq x.results y.results) e2) in
-    let operands = eqb-true x.operands y.operands (first_so (nat_eq x.operands y.operands) (nat_eq x.results y.results) e3) in
-    let results = eqb-true x.results y.results (second_so (nat_eq x.operands y.operands) (nat_eq x.results y.results) e3) in
+    let pc = eqb-true x.pc y.pc
+    (first_so (nat_eq x.pc y.pc)
+    (nat_eq x.base y.base && (nat_eq x.operands y.operands && nat_eq x.results y.results)) e1) in
+    let base = eqb-true x.base y.base
+    (first_so (nat_eq x.base y.base) (nat_eq x.operands y.operands && nat_eq x.results y.results) e2) in
+    let operands = eqb-true x.operands y.operands (first_so (nat_eq x.operands y.operands) (nat_eq x.results y.results)
+    e3) in
+    let results = eqb-true x.results y.results (second_so (nat_eq x.operands y.operands) (nat_eq x.results y.results)
+    e3) in
     λ i. record { function = function i; pc = pc i; base = base i; operands = operands i; results = results i }
 
 pub same_progress : (x y : Progress) → progress_eq.eq-value.it x y ≡ true → x ≡ y
@@ -97,9 +106,11 @@ same_progress reached.Asked reached.Asked e = refl
 pub same_sleeper : (x y : Sleeper) → sleeper_eq.eq-value.it x y ≡ true → x ≡ y
 same_sleeper x y e =
     let e1 = second_so (nat_eq x.thread y.thread) (nat_eq x.addr y.addr && int_eq x.timeout y.timeout) e in
-    let thread = eqb-true x.thread y.thread (first_so (nat_eq x.thread y.thread) (nat_eq x.addr y.addr && int_eq x.timeout y.timeout) e) in
+    let thread = eqb-true x.thread y.thread
+    (first_so (nat_eq x.thread y.thread) (nat_eq x.addr y.addr && int_eq x.timeout y.timeout) e) in
     let addr = eqb-true x.addr y.addr (first_so (nat_eq x.addr y.addr) (int_eq x.timeout y.timeout) e1) in
-    let timeout : x.timeout ≡ y.timeout = (Decides-int_eq x.timeout y.timeout).0 (second_so (nat_eq x.addr y.addr) (int_eq x.timeout y.timeout) e1) in
+    let timeout : x.timeout ≡ y.timeout =
+    (Decides-int_eq x.timeout y.timeout).0 (second_so (nat_eq x.addr y.addr) (int_eq x.timeout y.timeout) e1) in
     λ i. record { thread = thread i; addr = addr i; timeout = timeout i }
 
 pub same_done : (a b : Option Value) → outcome_eq.eq-value.it (outcomes.Done a) (outcomes.Done b) ≡ true → a ≡ b
@@ -119,7 +130,8 @@ same_outcome (outcomes.Stop a) (outcomes.Done b) e = untrue e
 same_outcome (outcomes.Stop a) (outcomes.Trap b) e = untrue e
 same_outcome (outcomes.Stop a) (outcomes.Stop b) e = ap outcomes.Stop (same_stop a b e)
 
-pub same_list : {A : Type 0} (eq : A → A → Bool) → ((x y : A) → eq x y ≡ true → x ≡ y) → (xs ys : List A) → pointwise eq xs ys ≡ true → xs ≡ ys
+pub same_list : {A : Type 0} (eq : A → A → Bool) → ((x y : A) → eq x y ≡ true → x ≡ y) → (xs ys : List A)
+    → pointwise eq xs ys ≡ true → xs ≡ ys
 same_list eq same [] [] e = refl
 same_list eq same [] (y ∷ ys) e = untrue e
 same_list eq same (x ∷ xs) [] e = untrue e

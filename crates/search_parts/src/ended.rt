@@ -128,7 +128,8 @@ fn first_bytes(alloc: Global, bytes: &[u8], dump: usize) -> Result<Vec<u8>, Allo
     Vec::from_slice(alloc, &bytes[..count])
 }
 
-/// How a settled state of a call has ended, where all its threads have left: with so many bytes, or all if there are fewer.
+/// How a settled state of a call has ended, where all its threads have left: with so many bytes, or all if there are
+/// fewer.
 ///
 /// # Errors
 /// Where memory is refused.

@@ -20,7 +20,8 @@ pub struct Begun {
     pub arg: u32,
 }
 
-/// What an event makes of threads: the reply, the queue with the answers that are due then, and the thread that it starts.
+/// What an event makes of threads: the reply, the queue with the answers that are due then, and the thread that it
+/// starts.
 #[derive(Drop)]
 pub struct Made {
     pub reply: Reply,

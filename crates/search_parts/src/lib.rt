@@ -1,5 +1,5 @@
-//! The parts of a state of a search: what a module's threads share, and each of them at rest; what an event makes of them, and how
-//! they have ended. What is equal in a search is the same.
+//! The parts of a state of a search: what a module's threads share, and each of them at rest; what an event makes of
+//! them, and how they have ended. What is equal in a search is the same.
 //!
 //! Proved: `make_event` and `rest_after` give what an event makes of memory, queue and threads. What is equal is the
 //! same. `ending_of` gives how a state has ended, where all threads that were started have left.

@@ -1,7 +1,7 @@
 //! Where a thread comes to rest after an event of another, or of its own.
 
 ghost use Rattle.std.specs.Prelude.{◌≡◌, ◌<◌, None, IfOk, IfSome};
-ghost use Rattle.types.specs.Limits.{most_threads};
+ghost use Rattle.types.specs.declared.limits.TheConstants.{MOST_THREADS};
 ghost use Rattle.search_parts.specs.Rests.{
   CanStart,
   StartsAndRests,
@@ -22,8 +22,8 @@ use std::alloc::{AllocError, Global};
 use types::{Answer, Value};
 use validate_module::ValidModule;
 
-/// Where a thread that a spawn starts first comes to rest, or nothing where it makes more turns of its own than there is patience
-/// for, or no function is known for it.
+/// Where a thread that a spawn starts first comes to rest, or nothing where it makes more turns of its own than there
+/// is patience for, or no function is known for it.
 fn started(
     alloc: Global,
     valid: &ValidModule,
@@ -44,8 +44,8 @@ fn started(
     Ok(Some(standing))
 }
 
-/// Where a thread at rest comes to rest with the answer that it is given, if it is given one; or nothing where it makes more turns of
-/// its own then than there is patience for.
+/// Where a thread at rest comes to rest with the answer that it is given, if it is given one; or nothing where it makes
+/// more turns of its own then than there is patience for.
 fn told(
     alloc: Global,
     valid: &ValidModule,
@@ -65,8 +65,8 @@ fn told(
     Ok(Some(after))
 }
 
-/// Where thread m comes to rest with the reply to the event of thread n, if it is its own; or nothing where it makes more turns of
-/// its own then than there is patience for.
+/// Where thread m comes to rest with the reply to the event of thread n, if it is its own; or nothing where it makes
+/// more turns of its own then than there is patience for.
 fn replied(
     alloc: Global,
     valid: &ValidModule,
@@ -89,8 +89,8 @@ fn replied(
     Ok(Some(standing.copy(alloc)?))
 }
 
-/// Where thread m comes to rest after an event of thread n; or nothing where it makes more turns of its own then than there is
-/// patience for, or where it begins and no function is known for that.
+/// Where thread m comes to rest after an event of thread n; or nothing where it makes more turns of its own then than
+/// there is patience for, or where it begins and no function is known for that.
 ///
 /// # Errors
 /// Where memory is refused.
@@ -104,7 +104,7 @@ pub fn rest_after(
     m: usize,
 ) -> Result<Option<Standing>, AllocError>
     requires after { IsSomewhereAfter valid.now worker made.now n standing.now m }
-    requires few { m < most_threads }
+    requires few { m < MOST_THREADS }
     ensures rests { IfOk result (λ o. IfSome o (RestsThen valid.now worker made.now n standing.now m)) }
     ensures gives_up { IfOk result (λ o. o ≡ None → IsLostThen valid.now worker made.now n standing.now m) }
 {

@@ -2,8 +2,8 @@
 use Rattle.std.specs.Prelude.{◌≡◌, ◌≤◌, ℕ, ◌⊎◌, Bool, true, Option, Some, List, length, take, Contains}
 use Rattle.search_reach.specs.Paths.{Reaches}
 
--- What is searched: what a concrete state stands for, where it begins, its steps, how an abstract state has ended, and of which
--- abstract states nothing can be told.
+-- What is searched: what a concrete state stands for, where it begins, its steps, how an abstract state has ended, and
+-- of which abstract states nothing can be told.
 pub record StepSystem (S W E : Type 0) : Type 1 where
   pub stands : S → W → Type 0
   pub begins : W → Type 0
@@ -52,8 +52,8 @@ module _ {S W E : Type 0} (k : StepSystem S W E) where
     pub path : Reaches k.steps w end
     pub is : k.stands s end
 
-  -- These are the next states of s: each step from what s stands for stays within s or leads to one of them, and what s stands
-  -- for leads to each.
+  -- These are the next states of s: each step from what s stands for stays within s or leads to one of them, and what s
+  -- stands for leads to each.
   pub record AreNext (s : S) (xs : List S) : Type 0 where
     pub all : (w z : W) → k.stands s w → k.steps w z → k.stands s z ⊎ Covers xs z
     pub sound : (w : W) → k.stands s w → (x : S) → Contains xs x → Comes w x
@@ -85,7 +85,8 @@ module _ {S W E : Type 0} (k : StepSystem S W E) where
     pub closed : (s : S) → Contains (take i ks) s → (w z : W) → k.stands s w → k.steps w z → Covers ks z
     pub sound : IsSound ks
 
-  -- This is how s has ended: whatever it stands for that has ended, has ended so, and whatever it stands for can end so.
+  -- This is how s has ended: whatever it stands for that has ended, has ended so, and whatever it stands for can end
+  -- so.
   pub record IsEnding (s : S) (r : Option E) : Type 0 where
     pub all : (w : W) (e : E) → k.stands s w → k.ends w e → r ≡ Some e
     pub sound : (w : W) (e : E) → k.stands s w → r ≡ Some e → CanEnd w e

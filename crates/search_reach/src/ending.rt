@@ -61,8 +61,8 @@ pub fn endings<T: Explores>(
 pub struct Ended<E: Eq + Hash> {
     /// The endings, each once.
     pub endings: IndexSet<E>,
-    /// For each ending a way to it from the first state: which of the next states of each is the next one. No clause says that it
-    /// leads there: it is a hint, to be judged by whoever follows it.
+    /// For each ending a way to it from the first state: which of the next states of each is the next one. No clause
+    /// says that it leads there: it is a hint, to be judged by whoever follows it.
     pub paths: Vec<Vec<usize>>,
     /// How many states were met.
     pub states: usize,

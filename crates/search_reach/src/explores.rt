@@ -16,8 +16,8 @@ pub trait Explores {
     /// The abstract states.
     ghost World: { Type 0 };
 
-    /// What a concrete state stands for, where it begins, its steps, how an abstract state has ended, and of which it cannot tell what
-    /// comes of them.
+    /// What a concrete state stands for, where it begins, its steps, how an abstract state has ended, and of which it
+    /// cannot tell what comes of them.
     ghost system: { Self → StepSystem Self.State World Self.Ending };
 
     /// The first state, or nothing where it cannot tell it.

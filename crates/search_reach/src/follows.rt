@@ -8,8 +8,8 @@ pub enum Wish {
     End,
 }
 
-/// Hears how far a search came while it is on its way, and wishes each time that it goes on or ends. A search ends early only where that
-/// is wished; whatever else is done with what is heard, it answers the same.
+/// Hears how far a search came while it is on its way, and wishes each time that it goes on or ends. A search ends
+/// early only where that is wished; whatever else is done with what is heard, it answers the same.
 pub trait Follows {
     ghost use Rattle.search_reach.specs.declared.follows.Wish.{Wish};
 

@@ -34,8 +34,8 @@ pub struct Step {
 pub struct Found<S: Eq + Hash> {
     /// The states that it met, each once, in the order of their meeting.
     pub met: IndexSet<S>,
-    /// For each how it was met first; for the first one two zeros. No clause says so: it is a hint at a path, to be judged by whoever
-    /// follows it.
+    /// For each how it was met first; for the first one two zeros. No clause says so: it is a hint at a path, to be
+    /// judged by whoever follows it.
     pub from: Vec<Step>,
     /// Whether these are all.
     pub verdict: Verdict,
@@ -63,8 +63,8 @@ fn add_all<S: Eq + Hash + Drop>(
     Ok(())
 }
 
-/// Goes on from each state that was met, until there are no more, it has met more than `most`, one of which the next states cannot be
-/// told, or it is told to end.
+/// Goes on from each state that was met, until there are no more, it has met more than `most`, one of which the next
+/// states cannot be told, or it is told to end.
 fn explore<T: Explores, F: Follows>(
     alloc: Global,
     system: &T,
@@ -120,8 +120,8 @@ fn explore_from_first<T: Explores, F: Follows>(
     explore(alloc, system, most, follower, met, from)
 }
 
-/// Goes through the states of a system, until there are no more, it has met more than `most`, or it is told to end. The follower hears
-/// of each how many were met.
+/// Goes through the states of a system, until there are no more, it has met more than `most`, or it is told to end. The
+/// follower hears of each how many were met.
 pub fn reach_all<T: Explores, F: Follows>(
     alloc: Global,
     system: &T,

@@ -71,4 +71,5 @@ abbrev pub first_threads : Called → ℕ → Option State
 first_threads b = put (λ (m : ℕ). None) 0 (Some (At b.main))
 
 abbrev pub first_state : Called → systems.State Shared Walker
-first_state b = first_state_without (machine_of b.program) reply_by shared_by answer_by (begun_by b) (first_shared b) (first_threads b)
+first_state b = first_state_without (machine_of b.program) reply_by shared_by answer_by (begun_by b) (first_shared b)
+    (first_threads b)

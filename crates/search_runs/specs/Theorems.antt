@@ -27,9 +27,10 @@ ThreadsAreTame = (b : Called) → AreTame (system_of b) (first_state b) MOST_THR
 abbrev pub CanReach : Called → systems.State Shared Walker → Type 0
 CanReach b w = IsReached (system_of b) (first_state b) w
 
--- The outcomes are those of thread 0 and of the threads that were spawned in the history, and none is a stop for want of units or
--- for a full log; pages and first bytes are those of the memory after it.
-pub record IsEndingOf (b : Called) (dump : ℕ) (H : List entries.Entry) (outcomes_of : ℕ → Outcome) (e : Ending) : Type 0 where
+-- The outcomes are those of thread 0 and of the threads that were spawned in the history, and none is a stop for want
+-- of units or for a full log; pages and first bytes are those of the memory after it.
+pub record IsEndingOf (b : Called) (dump : ℕ) (H : List entries.Entry) (outcomes_of : ℕ
+    → Outcome) (e : Ending) : Type 0 where
   pub count : length e.outcomes ≡ length (WaitQueue.args (queue_after H)) + 1
   pub are : (m : ℕ) (o : Outcome) → slice_get e.outcomes m ≡ Some o → o ≡ outcomes_of m
   pub has_units : (m : ℕ) (o : Outcome) → slice_get e.outcomes m ≡ Some o → o ≢ outcomes.Stop stops.OutOfFuel
@@ -37,11 +38,12 @@ pub record IsEndingOf (b : Called) (dump : ℕ) (H : List entries.Entry) (outcom
   pub pages_are : e.pages ≡ pages (memory_after b.opening H)
   pub bytes_are : e.bytes ≡ take dump (Memory.bytes (memory_after b.opening H))
 
--- However threads ran together, with whatever budget and whatever log, over a memory that loses tries or not: where none of them
--- stopped for want of units or for a full log, threads without budgets can end so.
+-- However threads ran together, with whatever budget and whatever log, over a memory that loses tries or not: where
+-- none of them stopped for want of units or for a full log, threads without budgets can end so.
 abbrev pub EveryRunEndsSo : Type 0
 EveryRunEndsSo =
-    (b : Called) (fuel : ℕ) (loses : Bool) (limit : Option ℕ) (H : List entries.Entry) (outcomes_of : ℕ → Outcome) (lefts : ℕ → ℕ)
+    (b : Called) (fuel : ℕ) (loses : Bool) (limit : Option ℕ) (H : List entries.Entry) (outcomes_of : ℕ
+    → Outcome) (lefts : ℕ → ℕ)
     → RanTogether (with_fuel b fuel) loses limit H outcomes_of lefts
     → (dump : ℕ) (e : Ending) → IsEndingOf b dump H outcomes_of e
     → (w : systems.State Shared Walker) × CanReach b w × HasEndedSo dump w e
@@ -50,9 +52,11 @@ EveryRunEndsSo =
 pub record IsScheduled (b : Called) (w : systems.State Shared Walker) : Type 0 where
   pub fuel : ℕ
   pub turns : List ℕ
-  pub shared : (scheduled_run (runs.system_of (with_fuel b fuel)) (runs.first_state (with_fuel b fuel)) (turns_of turns)).shared ≡ w.shared
+  pub shared : (scheduled_run (runs.system_of (with_fuel b fuel)) (runs.first_state (with_fuel b fuel))
+      (turns_of turns)).shared ≡ w.shared
   pub threads : (m : ℕ) → IsSame (w.threads m)
-      ((scheduled_run (runs.system_of (with_fuel b fuel)) (runs.first_state (with_fuel b fuel)) (turns_of turns)).threads m)
+      ((scheduled_run (runs.system_of (with_fuel b fuel)) (runs.first_state (with_fuel b fuel))
+      (turns_of turns)).threads m)
 
 abbrev pub EveryEndIsScheduled : Type 0
 EveryEndIsScheduled = (b : Called) (w : systems.State Shared Walker) → CanReach b w → IsScheduled b w

@@ -12,14 +12,14 @@
 
 ghost use Rattle.search_runs.specs.Theorems.{ThreadsAreTame, EveryRunEndsSo, EveryEndIsScheduled};
 
-/// Wherever these threads come, an event gives answers to its own thread or to one that awaits it, and threads 0 to 63 alone make
-/// turns of their own.
+/// Wherever these threads come, an event gives answers to its own thread or to one that awaits it, and threads 0 to 63
+/// alone make turns of their own.
 pub fn threads_are_tame()
     ensures { ThreadsAreTame }
 {}
 
-/// However threads ran together, where none of them stopped for want of units or for a full log, threads without budgets can
-/// end as they did.
+/// However threads ran together, where none of them stopped for want of units or for a full log, threads without
+/// budgets can end as they did.
 pub fn every_run_ends_so()
     ensures { EveryRunEndsSo }
 {}

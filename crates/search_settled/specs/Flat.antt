@@ -8,8 +8,10 @@ use Rattle.search_settled.specs.Threads.{ThreadSystem}
 use Rattle.search_settled.specs.Next.{IsAt, IsNextBy}
 use Rattle.search_settled.specs.declared.flat.Flat.{Flat}
 
--- So many threads were started, and no more than can be: an event takes none back, and starts none but those that are counted then.
-pub record AreBounded {X T E V A : Type 0} (s : System X T E V A) (first : State X T) (count : X → ℕ) (most : ℕ) : Type 0 where
+-- So many threads were started, and no more than can be: an event takes none back, and starts none but those that are
+-- counted then.
+pub record AreBounded {X T E V A : Type 0} (s : System X T E V A) (first : State X T) (count : X
+    → ℕ) (most : ℕ) : Type 0 where
   pub few : (w : State X T) → IsReached s first w → count w.shared ≤ most
   pub more : (w : State X T) → IsReached s first w → (n : ℕ) (e : E) → count w.shared ≤ count (s.after w.shared n e)
   pub none : (w : State X T) → IsReached s first w → (n m : ℕ) (e : E) → s.wants (w.threads n) ≡ Calls e
@@ -24,7 +26,8 @@ module _ {X T E V A G H M : Type 0} (k : ThreadSystem X T E V A G H M) where
   abbrev pub IsEventOf : State X T → ℕ → Option (G × M) → Type 0
   IsEventOf z n None = (e : E) → k.system.wants (z.threads n) ≡ Calls e → ⊥
   IsEventOf z n (Some p) =
-      (e : E) × (k.system.wants (z.threads n) ≡ Calls e) × k.shares p.0 (k.system.after z.shared n e) × k.makes p.1 z.shared n e
+      (e : E) × (k.system.wants (z.threads n) ≡ Calls e) × k.shares p.0 (k.system.after z.shared n e)
+      × k.makes p.1 z.shared n e
 
   -- It is so wherever a thread n that stands so can come.
   abbrev pub IsEventAt : G → H → ℕ → Option (G × M) → Type 0
@@ -53,11 +56,13 @@ module _ {X T E V A G H M : Type 0} (k : ThreadSystem X T E V A G H M) where
   -- Nothing can be told after it.
   abbrev pub IsStuckBy : (State X T → Type 0) → M → ℕ → H → ℕ → Type 0
   IsStuckBy stuck made n before m =
-      (z : State X T) (e : E) → IsMadeBy made z n e → k.is_thread before (z.threads m) → stuck (after_event k.system z n e)
+      (z : State X T) (e : E) → IsMadeBy made z n e → k.is_thread before (z.threads m)
+      → stuck (after_event k.system z n e)
 
   -- Thread m, which it starts, comes to rest after it.
   abbrev pub BeginsAfter : M → ℕ → ℕ → H → Type 0
-  BeginsAfter made n m new = (z : State X T) (e : E) → IsMadeBy made z n e → k.count z.shared ≤ m → RestsAfter z n e m new
+  BeginsAfter made n m new = (z : State X T) (e : E) → IsMadeBy made z n e → k.count z.shared ≤ m
+      → RestsAfter z n e m new
 
   -- There is such an event.
   abbrev pub StartsSomewhere : M → ℕ → ℕ → Type 0
@@ -84,7 +89,8 @@ module _ {X T E V A G H M : Type 0} (k : ThreadSystem X T E V A G H M) where
 
   -- Nothing can be told after it.
   abbrev pub IsStuckBehind : (State X T → Type 0) → M → ℕ → List H → Type 0
-  IsStuckBehind stuck made n threads = (z : State X T) (e : E) → AreBefore made n threads z e → stuck (after_event k.system z n e)
+  IsStuckBehind stuck made n threads = (z : State X T) (e : E) → AreBefore made n threads z e
+      → stuck (after_event k.system z n e)
 
   -- Thread n of these threads made an event, and this is shared after it.
   pub record IsMove (after : G) (made : M) (n : ℕ) (threads : List H) (z : State X T) (e : E) : Type 0 where
@@ -95,7 +101,8 @@ module _ {X T E V A G H M : Type 0} (k : ThreadSystem X T E V A G H M) where
 
   -- All come to rest after it, and so do those that it starts.
   pub record AllComeAfter (after : G) (made : M) (n : ℕ) (threads rested : List H) : Type 0 where
-    pub len : (z : State X T) (e : E) → IsMove after made n threads z e → length rested ≡ k.count (k.system.after z.shared n e)
+    pub len : (z : State X T) (e : E) → IsMove after made n threads z e
+        → length rested ≡ k.count (k.system.after z.shared n e)
     pub each : (z : State X T) (e : E) → IsMove after made n threads z e
         → (m : ℕ) (t : H) → slice_get rested m ≡ Some t → RestsAfter z n e m t
 
@@ -105,7 +112,8 @@ module _ {X T E V A G H M : Type 0} (k : ThreadSystem X T E V A G H M) where
 
   -- Nothing can be told after it.
   abbrev pub IsStuckByMove : (State X T → Type 0) → G → M → ℕ → List H → Type 0
-  IsStuckByMove stuck after made n threads = (z : State X T) (e : E) → IsMove after made n threads z e → stuck (after_event k.system z n e)
+  IsStuckByMove stuck after made n threads = (z : State X T) (e : E) → IsMove after made n threads z e
+      → stuck (after_event k.system z n e)
 
   -- The next states by the events of the threads below a number.
   pub record HasNextBelow (c : Flat G H) (i : ℕ) (xs : List (Flat G H)) : Type 0 where

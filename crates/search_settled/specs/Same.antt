@@ -27,7 +27,8 @@ module _ {H : Type 0} (eq : H → H → Bool) where
       (x, refl, ap (eq x) (sym same) ∙ first_so (eq x z) (pointwise eq xs ys) e)
   one_at (x ∷ xs) (z ∷ ys) (suc m) y e at = one_at xs ys m y (second_so (eq x z) (pointwise eq xs ys) e) at
 
-pub flat_alike : {X T E V A G H M : Type 0} (eq_shared : G → G → Bool) (eq_thread : H → H → Bool) (k : ThreadSystem X T E V A G H M)
+pub flat_alike : {X T E V A G H M : Type 0} (eq_shared : G → G → Bool) (eq_thread : H → H
+    → Bool) (k : ThreadSystem X T E V A G H M)
     → ((x y : G) → eq_shared x y ≡ true → (w : X) → k.shares x w → k.shares y w)
     → ((x y : H) → eq_thread x y ≡ true → (w : T) → k.is_thread x w → k.is_thread y w)
     → (x y : Flat G H) → (eq_shared x.shared y.shared && pointwise eq_thread x.threads.items y.threads.items) ≡ true

@@ -1,4 +1,5 @@
--- Settled states: no thread wants a turn of its own. Types: shared states X, threads T, events E, replies V and answers A.
+-- Settled states: no thread wants a turn of its own. Types: shared states X, threads T, events E, replies V and answers
+-- A.
 use Rattle.std.specs.Prelude.{ℕ, zero, suc, ◌≡◌, ◌≢◌, ◌≤◌, Some}
 use Rattle.schedule.specs.System.{Want.Turns, Want.Calls, Want.Awaits, Kind.Turn, System, State}
 use Rattle.schedule.specs.Scheduled.{after_mark}

@@ -8,7 +8,8 @@ use Rattle.search_settled.specs.declared.flat.Flat.{Flat}
 use Rattle.search_settled.specs.declared.moves.Moves.{Ghosts}
 
 -- A settled state stands for the states that come to rest in it; a step is a turn of one thread.
-abbrev pub turns_of : {X T E V A G H M O : Type 0} → ThreadSystem X T E V A G H M → (State X T → O → Type 0) → (State X T → Type 0)
+abbrev pub turns_of : {X T E V A G H M O : Type 0} → ThreadSystem X T E V A G H M → (State X T → O → Type 0)
+    → (State X T → Type 0)
     → StepSystem (Flat G H) (State X T) O
 turns_of k ends stuck =
     record { stands = StandsFor k; begins = IsFirstOf k.first; steps = StepsBy k.system; ends = ends; stuck = stuck }

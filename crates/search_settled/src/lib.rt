@@ -2,18 +2,19 @@
 //!
 //! Proved: at `Verdict::All` the list has the ending of every run of turns, in any order, and no other ending.
 //!
-//! A thread's own turns change nobody else. So whoever goes through all runs of threads goes from settled state to settled state:
-//! one thread makes the event that it wants, and then each makes its turns of its own. It is stated over any system of threads
-//! (crate `schedule`), and searched by crate `search_reach`.
+//! A thread's own turns change nobody else. So whoever goes through all runs of threads goes from settled state to
+//! settled state: one thread makes the event that it wants, and then each makes its turns of its own. It is stated over
+//! any system of threads (crate `schedule`), and searched by crate `search_reach`.
 //!
-//! - `specs/Settled.antt`: where threads come to rest, and what is asked of a system: answers go to who awaits them, and only some
-//!   threads make turns.
-//! - `specs/Threads.antt`: what stands for settled states; `specs/Next.antt`: what a settled state stands for, and which settled states
-//!   come next.
-//! - `proofs/Resting.antt` and `proofs/Stepping.antt`: a turn from what comes to rest in a state stays there, or is the event of a
-//!   thread that rests. `proofs/Reaching.antt`: where threads come to rest can be reached, by their own turns.
-//! - `Flat` is a settled state as a value, `Moves` what a system supplies, whose threads are moved one by one, and `search_all` the
-//!   search: at `Verdict::All` the list has the ending of each run, whatever the order of the turns.
+//! - `specs/Settled.antt`: where threads come to rest, and what is asked of a system: answers go to who awaits them,
+//!   and only some threads make turns.
+//! - `specs/Threads.antt`: what stands for settled states; `specs/Next.antt`: what a settled state stands for, and
+//!   which settled states come next.
+//! - `proofs/Resting.antt` and `proofs/Stepping.antt`: a turn from what comes to rest in a state stays there, or is the
+//!   event of a thread that rests. `proofs/Reaching.antt`: where threads come to rest can be reached, by their own
+//!   turns.
+//! - `Flat` is a settled state as a value, `Moves` what a system supplies, whose threads are moved one by one, and
+//!   `search_all` the search: at `Verdict::All` the list has the ending of each run, whatever the order of the turns.
 #![tactic(auto)]
 
 mod flat;

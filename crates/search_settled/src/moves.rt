@@ -86,7 +86,8 @@ pub trait Moves {
         requires somewhere { StandsSomewhere (threads self.now) made.now n thread.now m }
         requires few { m < (threads self.now).most }
         ensures rests { IfOk result (λ o. IfSome o (ComesAfter (threads self.now) made.now n thread.now m)) }
-        ensures gives_up { IfOk result (λ o. o ≡ None → IsStuckBy (threads self.now) (stuck self.now) made.now n thread.now m) };
+        ensures gives_up { IfOk result (λ o. o ≡ None
+            → IsStuckBy (threads self.now) (stuck self.now) made.now n thread.now m) };
 
     /// Where thread m first comes to rest, which an event of thread n starts, or nothing where it cannot tell that.
     fn first_after(

@@ -27,7 +27,8 @@ fn thread_after<M: Moves>(
     requires event { AreSomewhere (M.threads system.now) made.now n threads.now }
     requires few { m < (M.threads system.now).most }
     ensures rests { IfOk result (λ o. IfSome o (RestsBehind (M.threads system.now) made.now n threads.now m)) }
-    ensures gives_up { IfOk result (λ o. o ≡ None → IsStuckBehind (M.threads system.now) (M.stuck system.now) made.now n threads.now) }
+    ensures gives_up { IfOk result (λ o. o ≡ None
+        → IsStuckBehind (M.threads system.now) (M.stuck system.now) made.now n threads.now) }
 {
     match threads.get(m) {
         Some(thread) => system.after(alloc, made, n, thread, m),
@@ -45,8 +46,10 @@ fn threads_after<M: Moves>(
     threads: &[M::Thread],
 ) -> Result<Option<Vec<M::Thread>>, AllocError>
     requires { MovesSomewhere (M.threads system.now) shared.now made.now n threads.now }
-    ensures rests { IfOk result (λ o. IfSome o (λ v. AllComeAfter (M.threads system.now) shared.now made.now n threads.now v.items)) }
-    ensures gives_up { IfOk result (λ o. o ≡ None → IsStuckByMove (M.threads system.now) (M.stuck system.now) shared.now made.now n threads.now) }
+    ensures rests { IfOk result
+        (λ o. IfSome o (λ v. AllComeAfter (M.threads system.now) shared.now made.now n threads.now v.items)) }
+    ensures gives_up { IfOk result (λ o. o ≡ None
+        → IsStuckByMove (M.threads system.now) (M.stuck system.now) shared.now made.now n threads.now) }
 {
     let count = system.started(shared);
     let mut rested = Vec::with_capacity(alloc, count)?;
@@ -59,8 +62,8 @@ fn threads_after<M: Moves>(
     Ok(Some(rested))
 }
 
-/// Puts the next state by the event of thread n, if it wants one, behind those of the threads before it. It answers no where it
-/// cannot tell that state.
+/// Puts the next state by the event of thread n, if it wants one, behind those of the threads before it. It answers no
+/// where it cannot tell that state.
 fn put_next<M: Moves>(
     alloc: Global,
     system: &M,
@@ -71,8 +74,10 @@ fn put_next<M: Moves>(
 ) -> Result<bool, AllocError>
     requires somewhere { IsSomewhere (M.threads system.now) flat.now }
     requires thread { slice_get flat.now.threads.items n ≡ Some thread.now }
-    ensures next { IfOk result (λ told. told ≡ true → HasOneMore (M.threads system.now) flat.now n all.old.items all.new.items) }
-    ensures gives_up { IfOk result (λ told. told ≡ false → IsStuckAfter (M.threads system.now) (M.stuck system.now) flat.now) }
+    ensures next { IfOk result (λ told. told ≡ true
+        → HasOneMore (M.threads system.now) flat.now n all.old.items all.new.items) }
+    ensures gives_up { IfOk result (λ told. told ≡ false
+        → IsStuckAfter (M.threads system.now) (M.stuck system.now) flat.now) }
 {
     let Some((shared, made)) = system.event(alloc, &flat.shared, thread, n)? else {
         return Ok(true);

@@ -28,7 +28,8 @@ impl<M: Moves> Explores for Turns<'_, M> {
 
     ghost system = { λ t. turns M.Moves t.system.now };
 
-    ghost same = { λ t x y e. stands_alike (M.threads t.system.now) x y (flat_alike M.Shared.eq M.Thread.eq (M.threads t.system.now)
+    ghost same = { λ t x y e. stands_alike (M.threads t.system.now) x y
+        (flat_alike M.Shared.eq M.Thread.eq (M.threads t.system.now)
         (M.same_shared t.system.now) (M.same_thread t.system.now) x y e) };
 
     fn first(&self, alloc: Global) -> Result<Option<Flat<M::Shared, M::Thread>>, AllocError> {
@@ -52,8 +53,8 @@ impl<M: Moves> Explores for Turns<'_, M> {
     }
 }
 
-/// The endings of all runs of threads, whatever the order of their turns; it meets no more than `most` settled states and a few, and
-/// those before it is told to end.
+/// The endings of all runs of threads, whatever the order of their turns; it meets no more than `most` settled states
+/// and a few, and those before it is told to end.
 pub fn search_all<M: Moves, F: Follows>(
     alloc: Global,
     system: &M,

@@ -7,7 +7,8 @@ use Rattle.schedule.specs.Histories.{Place, Place.Unstarted, places_after, share
 use Rattle.schedule.specs.Schedules.{ThreadsRun, Makes}
 use Rattle.schedule.specs.Machine.{Machine, MachineLaws, Thread, Thread.Absent, Thread.Runs, Thread.Over, Thread.Leaves}
 use Rattle.schedule.specs.Machine.{Thread.Left, system}
-use Rattle.search_threads.specs.Unlimited.{Unlimited, Unlimited.Missing, Unlimited.Going, Unlimited.Leaving, Unlimited.Away, unlimited}
+use Rattle.search_threads.specs.Unlimited.{Unlimited, Unlimited.Missing, Unlimited.Going, Unlimited.Leaving}
+use Rattle.search_threads.specs.Unlimited.{Unlimited.Away, unlimited}
 
 -- A thread, its units aside. One that stopped for want of them or for a full log is away.
 abbrev pub unmetered : {C O : Type 0} → Thread C O → Unlimited C O
@@ -51,9 +52,11 @@ turn_of n = record { thread = n; kind = Turn }
 abbrev pub turns_of : List ℕ → List Mark
 turns_of ns = map turn_of ns
 
-module _ {C E V A O X : Type 0} (k : Machine C E V A O) (reply : X → ℕ → E → V) (after : X → ℕ → E → X) (gives : X → ℕ → E → ℕ → Option A)
+module _ {C E V A O X : Type 0} (k : Machine C E V A O) (reply : X → ℕ → E → V) (after : X → ℕ → E → X) (gives : X → ℕ
+    → E → ℕ → Option A)
     (starts : X → ℕ → E → ℕ → Option C) where
-  -- The system of threads with a budget, and without one; the configuration in which an event starts a thread is the same.
+  -- The system of threads with a budget, and without one; the configuration in which an event starts a thread is the
+  -- same.
   abbrev pub with_budget : ℕ → System X (Thread C O) E V A
   with_budget fuel = system k reply after gives (λ (x : X) (n : ℕ) (e : E) (m : ℕ). started_with fuel (starts x n e m))
 
@@ -76,7 +79,8 @@ module _ {C E V A O X : Type 0} (k : Machine C E V A O) (reply : X → ℕ → E
       (H : List (Entry E V A)) : Type 0 where
     pub turns : List ℕ
     pub makes : Makes without_budget (first_state_without x first) H (turns_of turns)
-    pub shared : (scheduled_run without_budget (first_state_without x first) (turns_of turns)).shared ≡ shared_after without_budget x H
+    pub shared : (scheduled_run without_budget (first_state_without x first) (turns_of turns)).shared
+        ≡ shared_after without_budget x H
     pub threads : (m : ℕ) → (places_after without_budget x places H m ≡ Unstarted → ⊥)
         → (scheduled_run without_budget (first_state_without x first) (turns_of turns)).threads m ≡ unmetered (ends m)
 
@@ -86,25 +90,30 @@ module _ {C E V A O X : Type 0} (k : Machine C E V A O) (reply : X → ℕ → E
         ≡ entries_made without_budget (first_state_without x first) (turns_of turns)
     pub shared : (scheduled_run (with_budget fuel) (first_state_with fuel x first) (turns_of turns)).shared
         ≡ (scheduled_run without_budget (first_state_without x first) (turns_of turns)).shared
-    pub threads : (m : ℕ) → IsSame ((scheduled_run without_budget (first_state_without x first) (turns_of turns)).threads m)
+    pub threads : (m : ℕ) → IsSame
+        ((scheduled_run without_budget (first_state_without x first) (turns_of turns)).threads m)
         ((scheduled_run (with_budget fuel) (first_state_with fuel x first) (turns_of turns)).threads m)
 
 -- Threads without a budget keep the laws of threads.
 abbrev pub UnlimitedThreadsKeepTheLaws : (C E V A O X : Type 0) → Type 0
 UnlimitedThreadsKeepTheLaws C E V A O X =
     (k : Machine C E V A O) → MachineLaws k
-    → (reply : X → ℕ → E → V) (after : X → ℕ → E → X) (gives : X → ℕ → E → ℕ → Option A) (starts : X → ℕ → E → ℕ → Option C)
+    → (reply : X → ℕ → E → V) (after : X → ℕ → E → X) (gives : X → ℕ → E → ℕ → Option A) (starts : X → ℕ → E → ℕ
+    → Option C)
     → Laws (without_budget k reply after gives starts)
 
--- A run of threads with a budget in which nobody stops for want of units or for a full log is, units and lost tries aside, one
--- of threads without a budget.
+-- A run of threads with a budget in which nobody stops for want of units or for a full log is, units and lost tries
+-- aside, one of threads without a budget.
 abbrev pub RunsWithoutStopsNeedNoBudget : (C E V A O X : Type 0) → Type 0
 RunsWithoutStopsNeedNoBudget C E V A O X =
     (k : Machine C E V A O) → MachineLaws k
-    → (reply : X → ℕ → E → V) (after : X → ℕ → E → X) (gives : X → ℕ → E → ℕ → Option A) (starts : X → ℕ → E → ℕ → Option C)
-    → (fuel : ℕ) (x : X) (first : ℕ → Option C) (places : ℕ → Place A) (steps : ℕ → List (Step E V A)) (ends : ℕ → Thread C O)
+    → (reply : X → ℕ → E → V) (after : X → ℕ → E → X) (gives : X → ℕ → E → ℕ → Option A) (starts : X → ℕ → E → ℕ
+    → Option C)
+    → (fuel : ℕ) (x : X) (first : ℕ → Option C) (places : ℕ → Place A) (steps : ℕ → List (Step E V A)) (ends : ℕ
+    → Thread C O)
     → (H : List (Entry E V A))
-    → ThreadsRun (with_budget k reply after gives starts fuel) (first_state_with k reply after gives starts fuel x first)
+    → ThreadsRun (with_budget k reply after gives starts fuel)
+    (first_state_with k reply after gives starts fuel x first)
     places steps ends H
     → NobodyStops k reply after gives starts ends
     → RunsUnlimited k reply after gives starts x first places ends H
@@ -113,6 +122,7 @@ RunsWithoutStopsNeedNoBudget C E V A O X =
 abbrev pub UnlimitedRunsHaveBudgets : (C E V A O X : Type 0) → Type 0
 UnlimitedRunsHaveBudgets C E V A O X =
     (k : Machine C E V A O)
-    → (reply : X → ℕ → E → V) (after : X → ℕ → E → X) (gives : X → ℕ → E → ℕ → Option A) (starts : X → ℕ → E → ℕ → Option C)
+    → (reply : X → ℕ → E → V) (after : X → ℕ → E → X) (gives : X → ℕ → E → ℕ → Option A) (starts : X → ℕ → E → ℕ
+    → Option C)
     → (fuel : ℕ) (x : X) (first : ℕ → Option C) (turns : List ℕ) → length turns < fuel
     → RunsWithBudget k reply after gives starts fuel x first turns

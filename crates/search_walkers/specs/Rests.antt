@@ -31,7 +31,8 @@ RunsOn b v = MakesTurns (system_of b) patience v
 
 -- It is so of each thread with this state and so many units.
 abbrev pub OfRunning : Thread → (WithTables → Called → State → ℕ → Type 0) → Type 0
-OfRunning t so = (w : WithTables) (b : Called) (x : State) (left : ℕ) → IsOf b w → RunsBy w t → threads.StandsFor t (Runs x left) → so w b x left
+OfRunning t so = (w : WithTables) (b : Called) (x : State) (left : ℕ) → IsOf b w → RunsBy w t
+    → threads.StandsFor t (Runs x left) → so w b x left
 
 abbrev pub ComesToRestAt : Thread → Standing → Type 0
 ComesToRestAt t s = OfRunning t (λ w b x left. RestsAt w b (Going x) s)
@@ -67,7 +68,8 @@ module _ (w : WithTables) where
 
   -- It is so of each thread that was given this.
   abbrev pub OfGiven : Kept → ℕ → Given → (Called → Walker → Type 0) → Type 0
-  OfGiven k fuel given so = (b : Called) (c : Config) → IsOf b w → MayBeGiven w k fuel given c → so b (given_to b (Going (At c)) given)
+  OfGiven k fuel given so = (b : Called) (c : Config) → IsOf b w → MayBeGiven w k fuel given c
+      → so b (given_to b (Going (At c)) given)
 
   abbrev pub IsGivenAndRests : Kept → ℕ → Given → Standing → Type 0
   IsGivenAndRests k fuel given s = OfGiven k fuel given (λ b v. RestsAt w b v s)
@@ -80,7 +82,8 @@ module _ (w : WithTables) where
   CanTake s = (b : Called) × (v : Walker) × IsOf b w × StandsFor w s v × (e : Event) × ((system_of b).wants v ≡ Calls e)
 
   abbrev pub OfTaker : Standing → Reply → (Called → Walker → Type 0) → Type 0
-  OfTaker before reply so = (b : Called) (v : Walker) (e : Event) → IsOf b w → StandsFor w before v → (system_of b).wants v ≡ Calls e
+  OfTaker before reply so = (b : Called) (v : Walker) (e : Event) → IsOf b w → StandsFor w before v
+      → (system_of b).wants v ≡ Calls e
       → so b ((system_of b).takes v reply)
 
   abbrev pub TakesAndRests : Standing → Reply → Standing → Type 0
@@ -94,7 +97,8 @@ module _ (w : WithTables) where
   CanHear s = (b : Called) × (v : Walker) × IsOf b w × StandsFor w s v × ((system_of b).wants v ≡ Awaits)
 
   abbrev pub OfHearer : Standing → Answer → (Called → Walker → Type 0) → Type 0
-  OfHearer before answer so = (b : Called) (v : Walker) → IsOf b w → StandsFor w before v → (system_of b).wants v ≡ Awaits
+  OfHearer before answer so = (b : Called) (v : Walker) → IsOf b w → StandsFor w before v
+      → (system_of b).wants v ≡ Awaits
       → so b ((system_of b).hears v answer)
 
   abbrev pub HearsAndRests : Standing → Answer → Standing → Type 0

@@ -10,8 +10,8 @@ use std::alloc::{AllocError, Global};
 use types::Value;
 use validate_module::ValidModule;
 
-/// Where a thread first comes to rest that calls a function of the module itself, from 0 without the imported ones, with these
-/// arguments; or nothing where it makes more turns of its own than there is patience for.
+/// Where a thread first comes to rest that calls a function of the module itself, from 0 without the imported ones,
+/// with these arguments; or nothing where it makes more turns of its own than there is patience for.
 ///
 /// # Errors
 /// Where memory is refused.

@@ -3,7 +3,8 @@
 //! Proved: a walker stands for its thread, wants the thread's event, and comes to rest where the thread does. It gives
 //! up only where the thread makes a million turns of its own.
 //!
-//! `specs/Walkers.antt` says which thread without a budget (crate `search_threads`) a walker stands for, and where it comes to rest.
+//! `specs/Walkers.antt` says which thread without a budget (crate `search_threads`) a walker stands for, and where it
+//! comes to rest.
 #![tactic(auto)]
 
 mod beginning;

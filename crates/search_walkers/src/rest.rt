@@ -11,12 +11,12 @@ use interp::Thread;
 use interp_trait::{OpenGate, TakesTurns, Turn};
 use std::alloc::{AllocError, Global};
 
-/// How many units a thread has from one event to the next: a million for turns of its own, `patience` of `specs/Walkers.antt`, and
-/// one for the reply before them.
+/// How many units a thread has from one event to the next: a million for turns of its own, `patience` of
+/// `specs/Walkers.antt`, and one for the reply before them.
 pub(crate) const FUEL: u64 = 1_000_001;
 
-/// Where a thread comes to rest by turns of its own, or nothing where it has spent all its units: then it makes as many turns of its
-/// own as it had units left.
+/// Where a thread comes to rest by turns of its own, or nothing where it has spent all its units: then it makes as many
+/// turns of its own as it had units left.
 pub(crate) fn rest(alloc: Global, thread: Thread) -> Result<Option<Standing>, AllocError>
     requires fuel { thread.fuel ≡ FUEL }
     requires stands { (x : State) × (left : ℕ) × StandsFor thread (Runs x left) }

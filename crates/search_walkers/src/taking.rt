@@ -45,8 +45,8 @@ fn after_given(
     Ok(Some(standing))
 }
 
-/// Where a thread comes to rest after the reply to the event that it wants, which was made; or nothing where it makes more turns of
-/// its own then than there is patience for.
+/// Where a thread comes to rest after the reply to the event that it wants, which was made; or nothing where it makes
+/// more turns of its own then than there is patience for.
 ///
 /// # Errors
 /// Where memory is refused.
@@ -73,8 +73,8 @@ pub fn take(
     }
 }
 
-/// Where a thread comes to rest after the answer to its question; or nothing where it makes more turns of its own then than there
-/// is patience for.
+/// Where a thread comes to rest after the answer to its question; or nothing where it makes more turns of its own then
+/// than there is patience for.
 ///
 /// # Errors
 /// Where memory is refused.
