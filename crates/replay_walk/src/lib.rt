@@ -1,7 +1,7 @@
 //! Replaying a recorded run by one thread: the walk along its log, entry by entry.
 //!
-//! Proved: `Walk::along` takes all of a log or names the first entry that doesn't fit, and stands where the machine
-//! does. A `Watch` is called, before each entry, where the walk came along those before it.
+//! Proved: `Walk::along_watched` takes all of a log or names the first entry that doesn't fit, and stands where the
+//! machine does. A `Watch` is called, before each entry, where the walk came along those before it.
 //!
 //! How the pieces go together:
 //! - Crate `replay_rules` says what a recorded run is: some schedule without lost tries makes the log, and its
