@@ -1,14 +1,19 @@
 -- Small functions, and a program of each, to read the definitions by.
-use Rattle.std.specs.Prelude.{ℕ, [], ◌∷◌, Some, None, false, true}
+use Rattle.std.specs.Prelude.{ℕ, ◌≡◌, [], ◌∷◌, Some, None, false, true}
 use Rattle.types.specs.declared.value.ValType.TheVariants.{I32, I64}
 use Rattle.types.specs.declared.operators.AccessWidth.TheVariants as access
 use Rattle.types.specs.declared.operators.MemArg.{MemArg}
 use Rattle.types.specs.declared.instr.PlainInstr.{PlainInstr}
 use Rattle.types.specs.declared.instr.PlainInstr.TheVariants as plain
 use Rattle.types.specs.declared.parts.FuncType.{FuncType}
+use Rattle.types.specs.declared.value.Value.TheVariants as values
+use Rattle.types.specs.declared.outcome.Outcome.{Outcome}
+use Rattle.types.specs.declared.outcome.Outcome.TheVariants.{Done}
+use Rattle.types.specs.declared.event.Event.TheVariants.{Store}
+use Rattle.types.specs.declared.event.Reply.TheVariants as replies
 use Rattle.types.specs.Nesting.{Code, Empty, Then, BlockThen, IfThen, IfElseThen}
 use Rattle.interp_machine.specs.Program.{Program, Function}
-use Rattle.interp_machine.specs.State.{State, At, start_in}
+use Rattle.interp_machine.specs.State.{State, At, Over, start_in, gone_times, wanted, replied}
 
 abbrev pub const : ℕ → PlainInstr
 const n = plain.I32Const n
@@ -75,3 +80,26 @@ with_table i = record {
   table = Some 1 ∷ (Some 2 ∷ (None ∷ []));
   shared = false;
 }
+
+-- What a small function comes to by so many units.
+abbrev pub CostsWith : ℕ → Program → Code → Outcome → Type 0
+CostsWith units p code outcome = gone_times units p (start_with code) ≡ Over outcome
+
+abbrev pub Costs : ℕ → Code → Outcome → Type 0
+Costs units code outcome = CostsWith units (program_with code) code outcome
+
+abbrev pub gives : ℕ → Outcome
+gives n = Done (Some (values.I32 n))
+
+-- The store over two words: where it wants its first part, where its second, and behind both.
+abbrev pub at_low : State
+at_low = gone_times 2 (program_with two_word_store) (start_with two_word_store)
+
+abbrev pub at_high : State
+at_high = replied (program_with two_word_store) at_low replies.Done
+
+abbrev pub behind_both : State
+behind_both = replied (program_with two_word_store) at_high replies.Done
+
+abbrev pub WantsStore : State → ℕ → ℕ → ℕ → ℕ → Type 0
+WantsStore state addr bytes end number = wanted (program_with two_word_store) state ≡ Some (Store addr bytes end number)
