@@ -1,20 +1,25 @@
 -- What is kept of a search.
-use Rattle.std.specs.Prelude.{ℕ, ◌≡◌, ◌≤◌, ◌⊎◌, List, map, true, false, is_some}
-use Rattle.std.specs.Io.KnownBytes.{Appends}
+use Rattle.std.specs.Prelude.{ℕ, ◌≡◌, ◌≢◌, ◌≤◌, ◌⊎◌, Bool, List, [], true, false, is_some}
+use Rattle.std.specs.List.{list_all}
 use Rattle.types.specs.declared.value.Value.{Value}
 use Rattle.types.specs.declared.parts.Parts.{Parts}
 use Rattle.validate_typing.specs.Validity.{IsValid}
 use Rattle.binary.specs.Grammar.{IsModuleText}
 use Rattle.replay_text.specs.declared.parts.RecordParts.{RecordParts}
-use Rattle.replay_text.specs.Text.{record_text}
 use Rattle.spawn_host.specs.declared.end.EndState.{EndState}
 use Rattle.replay.specs.Runs.{IsRunOf}
 use Rattle.search_scheduled.specs.Headers.{IsOfCall}
+use Rattle.search_reach.specs.declared.ending.Ended.{Ended}
+use Rattle.search_reach.specs.declared.search.Verdict.TheVariants as verdicts
+use Rattle.search_runs.specs.Ends.{Ending}
+use Rattle.spawn_host.specs.declared.call.Call.{Call}
+use Rattle.search_modules.specs.Endings.{HasEveryEnding, AllCanEndSo}
 use Rattle.search_finds.specs.declared.sought.Sought.{Sought}
 use Rattle.search_finds.specs.Finds.{EndsAsLookedFor}
 use Rattle.report_command.specs.declared.search.Search.{Search}
-use Rattle.report_jobs.specs.Arguments.{AreSpelled}
-use Rattle.report_jobs.specs.Prints.{Change, Request, request}
+use Rattle.report_jobs.specs.Arguments.{AreSpelled, texts_in}
+use Rattle.report_jobs.specs.Prints.{Change, IsKept, Request, is_done, request}
+use Rattle.report_jobs.specs.Troubles.{IsTrouble}
 use Rattle.report_jobs.specs.declared.running.Trouble.{Trouble}
 use Rattle.report_jobs.specs.declared.running.Trouble.TheVariants as troubles
 
@@ -34,17 +39,56 @@ sought_of s = record {
 -- A run of the module by the call that was asked for, which ends as is looked for; and its record was written, where one is wanted.
 pub record IsFindKept (m : Parts) (s : Search) (save : Change) : Type 0 where
   pub args : List Value
-  pub spelled : AreSpelled (map (λ text. text.now) s.args.items) args
+  pub spelled : AreSpelled (texts_in s.args.items) args
   pub record_is : RecordParts
   pub end : EndState
   pub run : IsRunOf m record_is end
   pub of_call : IsOfCall m s.invoke.now args s.fuel s.limit record_is
   pub ends : EndsAsLookedFor (sought_of s) s.dump end
-  pub kept : is_some s.save ≡ true → Appends save.old save.new (record_text record_is)
+  pub kept : IsKept (is_some s.save) save record_is
+
+-- Nothing was written, or the record of a run that was found.
+abbrev pub KeepsNoneOrFind : Parts → Search → Change → Type 0
+KeepsNoneOrFind m s save = (save.new ≡ save.old) ⊎ IsFindKept m s save
 
 -- Nothing was found and nothing written, or a run was found, and the status is 1.
 abbrev pub Finds : Parts → Search → Change → ℕ → Type 0
 Finds m s save status = ((status ≤ 1) × (save.new ≡ save.old)) ⊎ ((status ≡ 1) × IsFindKept m s save)
+
+-- All threads ended well; and in each of these endings they did.
+abbrev pub threads_end_well : Ending → Bool
+threads_end_well e = list_all is_done e.outcomes
+
+abbrev pub all_end_well : List Ending → Bool
+all_end_well endings = list_all threads_end_well endings
+
+-- These are all endings that were looked for, there is one, and in each all threads ended well.
+pub record AreAllWell (all : Ended Ending) : Type 0 where
+  pub are_all : all.verdict ≡ verdicts.All
+  pub some : all.endings.keys ≢ []
+  pub well : all_end_well all.endings.keys ≡ true
+
+-- Runs of the module by the call that was asked for can end; and each that ends, all its threads with units and room enough, ends
+-- well: all threads' functions returned.
+pub record EndWell (m : Parts) (s : Search) : Type 0 where
+  pub args : List Value
+  pub spelled : AreSpelled (texts_in s.args.items) args
+  pub endings : List Ending
+  pub every : HasEveryEnding m s.invoke.now args s.dump endings
+  pub can : AllCanEndSo m s.invoke.now args s.dump endings
+  pub some : endings ≢ []
+  pub well : all_end_well endings ≡ true
+
+-- They are all endings of a call, where that is said; and each is one.
+abbrev pub FindsEvery : Parts → Call → ℕ → Ended Ending → Type 0
+FindsEvery m call dump all = all.verdict ≡ verdicts.All → HasEveryEnding m call.name.now call.args.now dump all.endings.keys
+
+abbrev pub FindsNoOther : Parts → Call → ℕ → Ended Ending → Type 0
+FindsNoOther m call dump all = AllCanEndSo m call.name.now call.args.now dump all.endings.keys
+
+-- What status 0 says of a search through every order of entries.
+abbrev pub IsWellAt : Parts → Search → ℕ → Type 0
+IsWellAt m s status = is_some s.all ≡ true → status ≡ 0 → EndWell m s
 
 -- The bytes are a valid module's text, and its runs were searched.
 pub record HasSearched (bytes : List ℕ) (s : Search) (save : Change) (status : ℕ) : Type 0 where
@@ -52,10 +96,15 @@ pub record HasSearched (bytes : List ℕ) (s : Search) (save : Change) (status :
   pub text : IsModuleText bytes parts
   pub valid : IsValid parts
   pub finds : Finds parts s save status
+  pub well : IsWellAt parts s status
 
 -- The call of a search, as that of a run.
 abbrev pub request_of_search : Search → Request
-request_of_search s = request s.invoke.now (map (λ text. text.now) s.args.items) s.fuel s.limit false (is_some s.save) s.dump
+request_of_search s = request s.invoke.now (texts_in s.args.items) s.fuel s.limit false (is_some s.save) s.dump
+
+-- That of a search.
+abbrev pub IsTroubleIn : Parts → Search → Trouble → Type 0
+IsTroubleIn m s = IsTrouble m s.invoke.now (texts_in s.args.items)
 
 -- A trouble that is the system's.
 abbrev pub IsOfSystem : Trouble → Type 0

@@ -1,17 +1,16 @@
 //! Every order of the entries of a call: what is printed, and the record of what was found.
-ghost use Rattle.std.specs.Prelude.{◌≡◌, ◌≤◌, ◌⊎◌, map, IfOk, IfErr, IfSome};
+ghost use Rattle.std.specs.Prelude.{◌≡◌, ◌≤◌, ◌↔◌, true, IfOk, IfErr, IfSome};
 ghost use Rattle.search_finds.specs.Finds.{IsLookedFor};
 ghost use Rattle.report_command.specs.Searches.{IsSearchInRange};
-ghost use Rattle.report_jobs.specs.Arguments.{AreSpelled};
-ghost use Rattle.report.specs.Searches.{Finds, IsFindKept, IsOfSystem, sought_of};
-ghost use Rattle.report_jobs.specs.Prints.{change};
-ghost use Rattle.report_jobs.specs.Troubles.{IsTrouble};
+ghost use Rattle.report_jobs.specs.Arguments.{AreSpelled, texts_in};
+ghost use Rattle.report.specs.Searches.{Finds, FindsEvery, FindsNoOther, KeepsNoneOrFind, IsOfSystem, IsTroubleIn, sought_of};
+ghost use Rattle.report.specs.Searches.{EndWell, AreAllWell, threads_end_well, all_end_well};
+ghost use Rattle.report_jobs.specs.Prints.{changed};
 
 use crate::searching::{no_memory, sought_by, tell_made, wanted_by, write_ending};
 use report_command::Search;
 use report_jobs::{Trouble, args_of, is_done};
-use search_finds::Ending;
-use search_finds::{Sought, run_to};
+use search_finds::{Ending, Sought, run_to};
 use search_modules::{Ending as Ended, all_endings};
 use search_reach::{Ended as AllEnded, Follows, Verdict};
 use spawn_host::Call;
@@ -48,7 +47,9 @@ fn all_of<F: Follows>(
     dump: u32,
     follower: &mut F,
 ) -> Result<All, Trouble>
-    ensures { IfErr result IsOfSystem }
+    ensures every { IfOk result (FindsEvery «module».now.parts call.entry dump) }
+    ensures can { IfOk result (FindsNoOther «module».now.parts call.entry dump) }
+    ensures trouble { IfErr result IsOfSystem }
 {
     match all_endings(alloc, module, call, most as usize, dump as usize, follower) {
         Ok(all) => Ok(all),
@@ -56,28 +57,33 @@ fn all_of<F: Follows>(
     }
 }
 
-/// Whether the endings are all.
-fn are_all(all: &All) -> bool {
-    all.verdict == Verdict::All
+/// The word for so many.
+fn word_of(count: usize, one: &'static str, more: &'static str) -> &'static str {
+    if count == 1 { one } else { more }
 }
 
 /// The line that says whether the endings are all.
 fn write_verdict<W: Write>(out: &mut W, all: &All, most: u32) -> io::Result<()> {
     let endings = all.endings.len();
     let states = all.states;
+    let ending = word_of(endings, "ending", "endings");
+    let state = word_of(states, "state", "states");
     match all.verdict {
-        Verdict::All => write!(out, "all: {endings} endings, {states} states\n"),
-        Verdict::TooMany => write!(
-            out,
-            "not all: more than {most} states; {endings} endings so far\n"
-        ),
+        Verdict::All => write!(out, "all: {endings} {ending}, {states} {state}\n"),
+        Verdict::TooMany => {
+            let state = word_of(most as usize, "state", "states");
+            write!(
+                out,
+                "not all: more than {most} {state}; {endings} {ending} so far\n"
+            )
+        }
         Verdict::CannotTell => write!(
             out,
-            "not all: a thread spends its units without an entry; {endings} endings so far\n"
+            "not all: a thread spends its units without an entry; {endings} {ending} so far\n"
         ),
         Verdict::Told => write!(
             out,
-            "not all: told to end; {endings} endings, {states} states so far\n"
+            "not all: told to end; {endings} {ending}, {states} {state} so far\n"
         ),
     }
 }
@@ -95,15 +101,38 @@ fn write_all<W: Write>(alloc: Global, out: &mut W, all: &All, most: u32) -> Resu
     Ok(())
 }
 
-/// Whether they are not all, or one has a trap or a stop.
-fn has_failed(all: &All) -> bool {
-    if !are_all(all) {
-        return true;
+/// Whether all threads ended well.
+fn has_ended_well(ended: &Ended) -> bool
+    ensures { result ≡ threads_end_well ended.now }
+{
+    ended.outcomes().iter().all(|outcome| is_done(*outcome))
+}
+
+/// Whether in each of the endings all threads ended well.
+fn all_ended_well(endings: &[Ended]) -> bool
+    ensures { result ≡ all_end_well endings.now }
+{
+    endings.iter().all(|ended| has_ended_well(ended))
+}
+
+/// Whether the endings are all, there is one, and in each all threads ended well. Where no run ends there is none.
+fn are_well(all: &All) -> bool
+    ensures { (result ≡ true) ↔ AreAllWell all.now }
+{
+    let endings = all.endings.as_slice();
+    let is_all = matches!(all.verdict, Verdict::All);
+    is_all && !endings.is_empty() && all_ended_well(endings)
+}
+
+/// The status where nothing is looked for or found: 0 where they are all well, and else 1.
+fn status_of(all: &All) -> u8
+    ensures well { result ≡ 0 → AreAllWell all.now }
+    ensures status { result ≤ 1 }
+{
+    if are_well(all) {
+        return 0;
     }
-    all.endings.as_slice().iter().any(|ended| ended
-        .outcomes()
-        .iter()
-        .any(|outcome| !is_done(*outcome)))
+    1
 }
 
 /// The first ending that is looked for.
@@ -140,10 +169,9 @@ fn tell_wanted<W: Write, S: Write>(
     save: &mut S,
 ) -> Result<(), Trouble>
     requires call { (call.name.now ≡ search.now.invoke.now) × (call.fuel ≡ search.now.fuel) }
-    requires spelled { AreSpelled (map (λ text. text.now) search.now.args.items) call.args.now }
+    requires spelled { AreSpelled (texts_in search.now.args.items) call.args.now }
     requires wanted { IsLookedFor (sought_of search.now) wanted.now.ending }
-    ensures told { IfOk result (λ _. (S.contents save.new ≡ S.contents save.old)
-        ⊎ IsFindKept «module».now.parts search.now (change (S.contents save.old) (S.contents save.new))) }
+    ensures told { IfOk result (λ _. KeepsNoneOrFind «module».now.parts search.now (changed S.contents save.old save.new)) }
     ensures trouble { IfErr result IsOfSystem }
 {
     let number = wanted.number;
@@ -173,7 +201,7 @@ fn tell_wanted<W: Write, S: Write>(
 
 /// Goes through every order of the entries of a call, prints the endings, and of the first that is looked for the lines of a run that
 /// ends so; and writes its record, where one is wanted. Answers the status: 1 where such an ending was found, one has a trap or a stop,
-/// or they are not all, and else 0.
+/// there is none, or they are not all, and else 0.
 pub(crate) fn search_all_orders<F: Follows, W: Write, S: Write>(
     alloc: Global,
     module: &ValidModule,
@@ -184,8 +212,9 @@ pub(crate) fn search_all_orders<F: Follows, W: Write, S: Write>(
     save: &mut S,
 ) -> Result<u8, Trouble>
     requires { IsSearchInRange search.now }
-    ensures finds { IfOk result (Finds «module».now.parts search.now (change (S.contents save.old) (S.contents save.new))) }
-    ensures trouble { IfErr result (IsTrouble «module».now.parts search.now.invoke.now (map (λ text. text.now) search.now.args.items)) }
+    ensures finds { IfOk result (Finds «module».now.parts search.now (changed S.contents save.old save.new)) }
+    ensures well { IfOk result (λ status. status ≡ 0 → EndWell «module».now.parts search.now) }
+    ensures trouble { IfErr result (IsTroubleIn «module».now.parts search.now) }
 {
     let args = args_of(alloc, module, &wanted_by(&*search))?;
     let call = Call {
@@ -198,7 +227,7 @@ pub(crate) fn search_all_orders<F: Follows, W: Write, S: Write>(
     write_all(alloc, out, &all, most)?;
     let sought = sought_by(search);
     let Some(wanted) = first_wanted(alloc, &all, &sought)? else {
-        return Ok(u8::from(has_failed(&all)));
+        return Ok(status_of(&all));
     };
     tell_wanted(alloc, module, call, search, &wanted, out, save)?;
     Ok(1)

@@ -7,17 +7,17 @@ ghost use Rattle.replay_text.specs.Text.{record_text};
 ghost use Rattle.search_finds.specs.Endings.{HaveOneEnding};
 ghost use Rattle.search_finds.specs.Finds.{IsFind, EndsAsLookedFor};
 ghost use Rattle.report_command.specs.Searches.{IsSearchInRange};
-ghost use Rattle.report_jobs.specs.Arguments.{AreSpelled};
-ghost use Rattle.report.specs.Searches.{Finds, IsFindKept, IsOfSystem, sought_of};
-ghost use Rattle.report_jobs.specs.Prints.{change};
-ghost use Rattle.report_jobs.specs.Troubles.{IsTrouble};
+ghost use Rattle.report_jobs.specs.Arguments.{AreSpelled, texts_in};
+ghost use Rattle.report.specs.Searches.{Finds, IsFindKept, IsOfSystem, IsTroubleIn, IsWellAt, sought_of};
+ghost use Rattle.report_jobs.specs.Prints.{changed};
 ghost use Rattle.report_jobs.specs.declared.running.Trouble.TheVariants as troubles;
 
 use crate::all::search_all_orders;
 use report_command::Search;
 use report_jobs::{Trouble, Wanted, args_of, is_done, keep, print};
-use search_finds::{Ending, Met, Table};
-use search_finds::{Found, Halt, Searched, Size, Sought, first_found, shrunk, size_of};
+use search_finds::{
+    Ending, Found, Halt, Met, Searched, Size, Sought, Table, first_found, shrunk, size_of,
+};
 use search_reach::Follows;
 use search_scheduled::{Made, SearchFault};
 use spawn_host::Call;
@@ -137,8 +137,8 @@ fn search_drawn<R: Threads + Sync, F: Follows, W: Write, S: Write>(
     save: &mut S,
 ) -> Result<u8, Trouble>
     requires { IsSearchInRange search.now }
-    ensures finds { IfOk result (Finds «module».now.parts search.now (change (S.contents save.old) (S.contents save.new))) }
-    ensures trouble { IfErr result (IsTrouble «module».now.parts search.now.invoke.now (map (λ text. text.now) search.now.args.items)) }
+    ensures finds { IfOk result (Finds «module».now.parts search.now (changed S.contents save.old save.new)) }
+    ensures trouble { IfErr result (IsTroubleIn «module».now.parts search.now) }
 {
     let args = args_of(alloc, module, &wanted_by(&*search))?;
     let call = Call {
@@ -177,8 +177,9 @@ pub fn search_module<R: Threads + Sync, F: Follows, W: Write, S: Write>(
     save: &mut S,
 ) -> Result<u8, Trouble>
     requires { IsSearchInRange search.now }
-    ensures finds { IfOk result (Finds «module».now.parts search.now (change (S.contents save.old) (S.contents save.new))) }
-    ensures trouble { IfErr result (IsTrouble «module».now.parts search.now.invoke.now (map (λ text. text.now) search.now.args.items)) }
+    ensures finds { IfOk result (Finds «module».now.parts search.now (changed S.contents save.old save.new)) }
+    ensures well { IfOk result (IsWellAt «module».now.parts search.now) }
+    ensures trouble { IfErr result (IsTroubleIn «module».now.parts search.now) }
 {
     match search.all {
         Some(most) => search_all_orders(alloc, module, search, most, follower, out, save),
@@ -224,9 +225,9 @@ pub(crate) fn tell_made<W: Write, S: Write>(
 ) -> Result<(), Trouble>
     requires find { IsFind «module».now.parts call search.now.limit made }
     requires call { (call.name.now ≡ search.now.invoke.now) × (call.fuel ≡ search.now.fuel) }
-    requires spelled { AreSpelled (map (λ text. text.now) search.now.args.items) call.args.now }
+    requires spelled { AreSpelled (texts_in search.now.args.items) call.args.now }
     requires ends { EndsAsLookedFor (sought_of search.now) search.now.dump made.end }
-    ensures kept { IfOk result (λ _. IsFindKept «module».now.parts search.now (change (S.contents save.old) (S.contents save.new))) }
+    ensures kept { IfOk result (λ _. IsFindKept «module».now.parts search.now (changed S.contents save.old save.new)) }
     ensures trouble { IfErr result IsOfSystem }
 {
     let kept = shrunk_if_asked(alloc, module, call, search, made, out)?;
@@ -247,9 +248,9 @@ fn tell_found<W: Write, S: Write>(
 ) -> Result<(), Trouble>
     requires find { IsFind «module».now.parts call search.now.limit found.made }
     requires call { (call.name.now ≡ search.now.invoke.now) × (call.fuel ≡ search.now.fuel) }
-    requires spelled { AreSpelled (map (λ text. text.now) search.now.args.items) call.args.now }
+    requires spelled { AreSpelled (texts_in search.now.args.items) call.args.now }
     requires ends { EndsAsLookedFor (sought_of search.now) search.now.dump found.made.end }
-    ensures kept { IfOk result (λ _. IsFindKept «module».now.parts search.now (change (S.contents save.old) (S.contents save.new))) }
+    ensures kept { IfOk result (λ _. IsFindKept «module».now.parts search.now (changed S.contents save.old save.new)) }
     ensures trouble { IfErr result IsOfSystem }
 {
     let Found { run, made } = found;

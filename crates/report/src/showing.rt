@@ -8,54 +8,81 @@ ghost use Rattle.report_jobs.specs.Jobs.{IsNoRecordOf, IsNoValidModule, IsUnfit,
 use replay::{ReplayFault, replay_watched};
 use replay_text::{Record, RecordFault, RecordParts, read_record};
 use report_command::{At, Look, View};
-use report_jobs::{Unfit, load, misfit, refuse, reject};
-use show_events::write_trace;
+use report_jobs::{Streams, Unfit, load, misfit, refuse, reject};
+use show_events::{write_page, write_trace};
 use show_moments::{Bytes, Moment, write_moment};
-use show_events::write_page;
-use show_rows::{CodeMap, Shown, write_rows};
+use show_rows::{CodeMap, Row, Rows, Shown, write_rows};
 use show_text::Unwritten;
-use show_rows::{Row, Rows};
 use std::alloc::Global;
 use std::io::Write;
 use validate_module::ValidModule;
 
 /// Shows the entries of the record whose text `saved` is: each in words, with its place in the module. `names` are the bytes
 /// that have the names of functions and the lines of source: those of the module, or of another build of its code. `view` may
-/// ask for what threads and memory are like before a line, for a page or for a trace, in place of rows.
+/// ask for what threads and memory are like before a line, for a page or for a trace, in place of rows. A page and a trace are the
+/// file that it makes.
 ///
 /// Answers 0 only where the record is of a run of the module, 4 only where the bytes are the text of no record of a run of it,
 /// 2 for a refused module, and 5 where memory or a stream failed.
-pub fn show_saved<W: Write, E: Write>(
+pub fn show_saved<W: Write, E: Write, S: Write>(
     alloc: Global,
     module: &[u8],
     names: &[u8],
     saved: &[u8],
     look: &Look,
     view: View,
-    out: &mut W,
-    err: &mut E,
+    streams: &mut Streams<W, E, S>,
 ) -> u8
     ensures shown { result ≡ 0 → IsRecordOf «module».now saved.now }
     ensures refused { result ≡ 2 → IsNoValidModule «module».now }
     ensures none { result ≡ 4 → IsNoRecordOf «module».now saved.now }
     ensures status { (result ≡ 0) ⊎ (result ≡ 2) ⊎ (result ≡ 4) ⊎ (result ≡ 5) }
 {
-    let valid = match load(alloc, module) {
+    let Streams { out, err, save } = streams;
+    let code = CodeBytes { module, names };
+    if view.path().is_some() {
+        return show_to(alloc, code, saved, look, view, save, err);
+    }
+    show_to(alloc, code, saved, look, view, out, err)
+}
+
+/// The same on one of the streams.
+fn show_to<W: Write, E: Write>(
+    alloc: Global,
+    code: CodeBytes,
+    saved: &[u8],
+    look: &Look,
+    view: View,
+    out: &mut W,
+    err: &mut E,
+) -> u8
+    ensures shown { result ≡ 0 → IsRecordOf code.entry.«module».now saved.now }
+    ensures refused { result ≡ 2 → IsNoValidModule code.entry.«module».now }
+    ensures none { result ≡ 4 → IsNoRecordOf code.entry.«module».now saved.now }
+    ensures status { (result ≡ 0) ⊎ (result ≡ 2) ⊎ (result ≡ 4) ⊎ (result ≡ 5) }
+{
+    let valid = match load(alloc, code.module) {
         Ok(valid) => valid,
         Err(refusal) => return refuse(err, refusal),
     };
-    match show_record(alloc, &valid, module, names, saved, look, view, out) {
+    match show_record(alloc, &valid, code, saved, look, view, out) {
         Ok(()) => 0,
         Err(unfit) => reject(err, unfit),
     }
 }
 
-/// Shows the entries of the record whose text `saved` is. `bytes` are those of the module.
+/// The bytes of a module, and those that have the names of its functions and the lines of its source.
+#[derive(Clone, Copy)]
+struct CodeBytes<'a> {
+    module: &'a [u8],
+    names: &'a [u8],
+}
+
+/// Shows the entries of the record whose text `saved` is.
 fn show_record<W: Write>(
     alloc: Global,
     module: &ValidModule,
-    bytes: &[u8],
-    names: &[u8],
+    code: CodeBytes,
     saved: &[u8],
     look: &Look,
     view: View,
@@ -65,13 +92,26 @@ fn show_record<W: Write>(
     ensures unfit { IfErr result (λ unfit. IsUnfit «module».now.parts saved.now unfit) }
 {
     let seen = rows_of(alloc, module, saved)?;
-    let wrote = match view {
-        View::Moment(at) => print_moment(alloc, module, &seen, bytes, names, at, out),
-        _ => print_rows(alloc, module, &seen, bytes, names, look, view, out),
-    };
-    match wrote {
+    match print_seen(alloc, module, &seen, code, look, view, out) {
         Ok(()) => Ok(()),
         Err(unwritten) => Err(unfit_of(unwritten)),
+    }
+}
+
+/// Writes what is asked for of the record.
+fn print_seen<W: Write>(
+    alloc: Global,
+    module: &ValidModule,
+    seen: &SeenRun,
+    code: CodeBytes,
+    look: &Look,
+    view: View,
+    out: &mut W,
+) -> Result<(), Unwritten> {
+    let code = CodeMap::read(alloc, module.parts(), code.module, code.names)?;
+    match view {
+        View::Moment(at) => print_moment(alloc, module, seen, &code, at, out),
+        _ => print_rows(alloc, seen, &code, look, view, out),
     }
 }
 
@@ -127,22 +167,19 @@ fn watched(
     }
 }
 
-/// Writes the rows, or the page or trace that has them, with the names and lines in `names`.
+/// Writes the rows, or the page or trace that has them.
 fn print_rows<W: Write>(
     alloc: Global,
-    module: &ValidModule,
     seen: &SeenRun,
-    bytes: &[u8],
-    names: &[u8],
+    code: &CodeMap,
     look: &Look,
     view: View,
     out: &mut W,
 ) -> Result<(), Unwritten> {
-    let code = CodeMap::read(alloc, module.parts(), bytes, names)?;
     let shown = Shown {
         record: seen.record.parts(),
         rows: seen.rows.as_slice(),
-        code: &code,
+        code,
     };
     match view {
         View::Page(_) => write_page(alloc, shown, look, out),
@@ -183,17 +220,15 @@ fn print_moment<W: Write>(
     alloc: Global,
     module: &ValidModule,
     seen: &SeenRun,
-    bytes: &[u8],
-    names: &[u8],
+    code: &CodeMap,
     at: At,
     out: &mut W,
 ) -> Result<(), Unwritten> {
     let moment = moment_of(alloc, module, &seen.record, at)?;
-    let code = CodeMap::read(alloc, module.parts(), bytes, names)?;
     let shown = Shown {
         record: seen.record.parts(),
         rows: seen.rows.as_slice(),
-        code: &code,
+        code,
     };
     write_moment(alloc, module, shown, &moment, out)
 }

@@ -1,7 +1,7 @@
 //! The program on a command line: what it writes, and its status.
 ghost use Rattle.report_command.specs.Jobs.{IsInRange};
 
-use report::{Job, perform, show_saved};
+use report::{Job, Streams, perform, show_saved};
 use report_command::{Order, Usage, asked};
 use report_reasons::{Done, explain_done};
 use search_reach::{Follows, Wish};
@@ -13,9 +13,7 @@ use std::thread::Threads;
 /// What the program wrote, and its status.
 #[derive(Drop)]
 pub(crate) struct Gave {
-    pub(crate) out: Vec<u8>,
-    pub(crate) err: Vec<u8>,
-    pub(crate) record: Vec<u8>,
+    pub(crate) streams: Streams<Vec<u8>, Vec<u8>, Vec<u8>>,
     pub(crate) status: u8,
 }
 
@@ -23,18 +21,20 @@ impl Gave {
     /// Nothing.
     pub(crate) fn new(alloc: Global) -> Gave {
         Gave {
-            out: Vec::new(alloc),
-            err: Vec::new(alloc),
-            record: Vec::new(alloc),
+            streams: Streams {
+                out: Vec::new(alloc),
+                err: Vec::new(alloc),
+                save: Vec::new(alloc),
+            },
             status: 0,
         }
     }
 
     /// Forgets what was written.
     fn clear(&mut self) {
-        self.out.clear();
-        self.err.clear();
-        self.record.clear();
+        self.streams.out.clear();
+        self.streams.err.clear();
+        self.streams.save.clear();
         self.status = 0;
     }
 }
@@ -90,8 +90,7 @@ where
             saved,
             look,
             *view,
-            &mut gave.out,
-            &mut gave.err,
+            &mut gave.streams,
         ),
         _ => perform(
             rt,
@@ -99,9 +98,7 @@ where
             job,
             module,
             saved,
-            &mut gave.out,
-            &mut gave.err,
-            &mut gave.record,
+            &mut gave.streams,
             &mut Wishes { wish },
         ),
     };
@@ -113,11 +110,11 @@ fn explain(alloc: Global, job: &Job, input: Input, gave: &mut Gave) -> Result<()
     let done = Done {
         module: input.module,
         saved: input.saved,
-        printed: &gave.out,
+        printed: &gave.streams.out,
         status: gave.status,
     };
     explain_done(alloc, job, done, &mut lines)?;
-    gave.err.extend_from_slice(lines.as_bytes())?;
+    gave.streams.err.extend_from_slice(lines.as_bytes())?;
     Ok(())
 }
 
@@ -125,11 +122,11 @@ fn explain(alloc: Global, job: &Job, input: Input, gave: &mut Gave) -> Result<()
 fn tell_usage(usage: &Usage, gave: &mut Gave) {
     gave.status = match usage {
         Usage::Help(text) => {
-            let _ = write!(gave.out, "{text}");
+            let _ = write!(gave.streams.out, "{text}");
             0
         }
         Usage::Wrong(text) => {
-            let _ = write!(gave.err, "{text}");
+            let _ = write!(gave.streams.err, "{text}");
             3
         }
         Usage::NoMemory => 5,

@@ -18,10 +18,10 @@ fn pages_line(out: &[u8]) -> &str {
 
 /// Whether a record has these lines right before the line of the pages, which was printed too.
 fn ends_with(gave: &Gave, end: &[u8]) -> bool {
-    let Some(rest) = gave.record.strip_suffix(b"\nfinish\n".as_slice()) else {
+    let Some(rest) = gave.streams.save.strip_suffix(b"\nfinish\n".as_slice()) else {
         return false;
     };
-    match rest.strip_suffix(pages_line(&gave.out).as_bytes()) {
+    match rest.strip_suffix(pages_line(&gave.streams.out).as_bytes()) {
         Some(rest) => rest.ends_with(end),
         None => false,
     }
@@ -63,10 +63,17 @@ fn is_run(rt: &HostRuntime, place: Place, case: &Case, gave: &Gave) -> Result<bo
     let end = case.text(rt.alloc(), "record-end")?;
     let lines = case.all(rt.alloc(), "record-has")?;
     let is_right = ends_with(gave, &end)
-        && has_lines(&gave.record, &lines)
-        && is_written_again(rt.alloc(), &gave.record);
+        && has_lines(&gave.streams.save, &lines)
+        && is_written_again(rt.alloc(), &gave.streams.save);
     if !is_right {
-        tell(rt, place, &lines, "end of the record", &end, &gave.record);
+        tell(
+            rt,
+            place,
+            &lines,
+            "end of the record",
+            &end,
+            &gave.streams.save,
+        );
     }
     Ok(is_right)
 }
@@ -75,12 +82,12 @@ fn is_run(rt: &HostRuntime, place: Place, case: &Case, gave: &Gave) -> Result<bo
 fn is_whole(rt: &HostRuntime, place: Place, case: &Case, gave: &Gave) -> Result<bool, AllocError> {
     let whole = case.text(rt.alloc(), "record")?;
     let is_right = if whole.is_empty() && case.get("again").is_some() {
-        is_written_again(rt.alloc(), &gave.record)
+        is_written_again(rt.alloc(), &gave.streams.save)
     } else {
-        whole == gave.record
+        whole == gave.streams.save
     };
     if !is_right {
-        tell(rt, place, &[], "record", &whole, &gave.record);
+        tell(rt, place, &[], "record", &whole, &gave.streams.save);
     }
     Ok(is_right)
 }
@@ -96,10 +103,10 @@ pub(crate) fn is_kept(
     let is_end = case.get("record-end").is_some() || case.get("record-has").is_some();
     match kept {
         Kept::Nothing => {
-            if !gave.record.is_empty() {
-                tell(rt, place, &[], "record", b"", &gave.record);
+            if !gave.streams.save.is_empty() {
+                tell(rt, place, &[], "record", b"", &gave.streams.save);
             }
-            Ok(gave.record.is_empty())
+            Ok(gave.streams.save.is_empty())
         }
         Kept::AsSaid if !is_end => is_whole(rt, place, case, gave),
         Kept::Run | Kept::AsSaid => is_run(rt, place, case, gave),

@@ -6,8 +6,7 @@ use crate::trial::{Trial, try_line};
 use crate::wanted::Wanted;
 use std::sync::Wait;
 use std::thread::Threads;
-use test_cases::{Stop, Tally};
-use test_cases::{Edit, edited};
+use test_cases::{Edit, Stop, Tally, edited};
 
 /// Says of a row that it can't be read.
 fn tell_row(rt: &HostRuntime, place: Place, row: &str, tally: &mut Tally) {

@@ -119,14 +119,14 @@ fn comes_again<'a, R: Threads + Wait + Sync>(
             Some(text.as_slice()),
             number_of(trial.case, "again-status", 0),
         ),
-        Over::Recorder => (Some(ran.out.as_slice()), ran.status),
+        Over::Recorder => (Some(ran.streams.out.as_slice()), ran.status),
     };
     let wanted = Wanted {
         out,
         err: b"",
         status,
     };
-    is_replayed(rt, threads, trial, &ran.record, wanted)
+    is_replayed(rt, threads, trial, &ran.streams.save, wanted)
 }
 
 /// Does a command line, and says what came out otherwise than wanted.

@@ -116,14 +116,14 @@ pub(crate) fn wrote(
     wanted: Wanted,
     gave: &Gave,
 ) -> bool {
-    let is_out = is_printed(wanted.out, &gave.out);
+    let is_out = is_printed(wanted.out, &gave.streams.out);
     if !is_out {
         let lines = wanted.out.unwrap_or(b"anything\n");
-        tell(rt, place, words, "out", lines, &gave.out);
+        tell(rt, place, words, "out", lines, &gave.streams.out);
     }
-    let is_err = gave.err.as_slice() == wanted.err;
+    let is_err = gave.streams.err.as_slice() == wanted.err;
     if !is_err {
-        tell(rt, place, words, "err", wanted.err, &gave.err);
+        tell(rt, place, words, "err", wanted.err, &gave.streams.err);
     }
     let is_status = gave.status == wanted.status;
     if !is_status {

@@ -10,7 +10,6 @@ mod search;
 mod show;
 
 pub use command_line::{Job, Misuse, Order, Usage, asked, command, misused};
+pub use report_choice::{Color, Look, Way};
 pub use search::Search;
-pub use report_choice::Way;
 pub use show::{At, View};
-pub use report_choice::{Color, Look};

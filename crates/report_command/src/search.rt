@@ -116,10 +116,15 @@ const JOBS: Argument = Argument {
     ..OPTION
 };
 
+/// What is said of every order in place of drawn runs.
+const ALL_HELP: &str =
+    "In place of drawn runs, go through every order of the threads' entries, by each state once. `all` is of runs that \
+     end: one that goes on for ever has no ending and isn't told";
+
 /// Every order in place of drawn runs.
 const ALL: Argument = Argument {
     name: "all",
-    help: "In place of drawn runs, go through every order of the threads' entries, by each state once",
+    help: ALL_HELP,
     conflicts: &["runs", "from", "seed", "strategy", "jobs"],
     ..FLAG
 };

@@ -8,7 +8,8 @@ use Rattle.binary.specs.Grammar.{IsModuleText}
 use Rattle.replay_text.specs.declared.parts.RecordParts.{RecordParts}
 use Rattle.replay_text.specs.Text.{record_text, IsRecord}
 use Rattle.spawn_host.specs.declared.end.EndState.{EndState}
-use Rattle.replay.specs.Runs.{IsRunOf}
+use Rattle.replay.specs.declared.fault.ReplayFault.{ReplayFault}
+use Rattle.replay.specs.Runs.{IsRunOf, ShowsNoRun}
 use Rattle.report_lines.specs.Lines.{functions_line, end_lines}
 use Rattle.report_jobs.specs.Arguments.{CannotCall}
 use Rattle.report_jobs.specs.Prints.{Change, Request, PrintsRun, status_of}
@@ -24,6 +25,10 @@ pub record IsAccepted (bytes : List ℕ) (old new : Option (List ℕ)) : Type 0 
   pub text : IsModuleText bytes parts
   pub valid : IsValid parts
   pub line : Appends old new (functions_line (length parts.functions))
+
+-- They are one with so many functions of its own.
+abbrev pub IsAcceptedAs : List ℕ → ℕ → Type 0
+IsAcceptedAs bytes count = (old new : Option (List ℕ)) → Appends old new (functions_line count) → IsAccepted bytes old new
 
 -- The bytes are no module's text.
 abbrev pub IsNoModule : List ℕ → Type 0
@@ -47,6 +52,10 @@ IsRefused bytes (Validity ValidityOutOfMemory) = Unit {0}
 IsRefused bytes (Validity (Outside kind)) = IsInvalid bytes
 IsRefused bytes (Validity (InBody kind function place)) = IsInvalid bytes
 
+-- A status says of what was refused: with 2 no valid module is spelled.
+abbrev pub IsStatusOfRefusal : Refusal → ℕ → Type 0
+IsStatusOfRefusal refusal status = (bytes : List ℕ) → IsRefused bytes refusal → status ≡ 2 → IsNoValidModule bytes
+
 -- The bytes are a record's text, the record is of a run of the module, and what was written are the lines of that run.
 pub record PrintsReplay (m : Parts) (saved : List ℕ) (dump : ℕ) (old new : Option (List ℕ)) (status : ℕ) : Type 0 where
   pub record_is : RecordParts
@@ -66,6 +75,22 @@ IsUnfit m saved (Unread fault) = IsOfNoRun m saved
 IsUnfit m saved (Misfit fault) = IsOfNoRun m saved
 IsUnfit m saved NoMemory = Unit {0}
 IsUnfit m saved Output = Unit {0}
+
+-- What a replay's fault says of the text of its record.
+abbrev pub IsUnfitFor : ReplayFault → Unfit → Type 0
+IsUnfitFor fault unfit =
+    (m : Parts) (r : RecordParts) (saved : List ℕ) → IsRecord r → saved ≡ record_text r → ShowsNoRun m r fault → IsUnfit m saved unfit
+
+-- A status says of what was refused: with 4 the bytes are the text of no record of a run of the module.
+abbrev pub IsStatusOfUnfit : Unfit → ℕ → Type 0
+IsStatusOfUnfit unfit status = (m : Parts) (saved : List ℕ) → IsUnfit m saved unfit → status ≡ 4 → IsOfNoRun m saved
+
+-- The same of a record, of the bytes that are its text.
+abbrev pub PrintsReplayOf : Parts → RecordParts → ℕ → Change → ℕ → Type 0
+PrintsReplayOf m r dump out status = (saved : List ℕ) → saved ≡ record_text r → PrintsReplay m saved dump out.old out.new status
+
+abbrev pub IsUnfitTextOf : Parts → RecordParts → Unfit → Type 0
+IsUnfitTextOf m r unfit = (saved : List ℕ) → saved ≡ record_text r → IsUnfit m saved unfit
 
 -- The bytes are a valid module's text, and a record of a run of it was replayed.
 pub record IsReplayed (bytes saved : List ℕ) (dump : ℕ) (old new : Option (List ℕ)) (status : ℕ) : Type 0 where

@@ -36,6 +36,9 @@ pub record Change : Type 0 where
 abbrev pub change : Option (List ℕ) → Option (List ℕ) → Change
 change old new = record { old = old; new = new }
 
+abbrev pub changed : {W : Type 0} → (W → Option (List ℕ)) → W → W → Change
+changed contents old new = change (contents old) (contents new)
+
 -- What was written are the lines of an end of a run, and the status is its.
 pub record Prints (end : EndState) (dump : ℕ) (out : Change) (status : ℕ) : Type 0 where
   pub lines : Appends out.old out.new (end_lines end.threads.items end.pages dump end.bytes.items)
@@ -55,12 +58,20 @@ abbrev pub request : List ℕ → List (List ℕ) → ℕ → ℕ → Bool → B
 request name texts fuel limit on_words is_kept dump =
     record { name = name; texts = texts; fuel = fuel; limit = limit; on_words = on_words; is_kept = is_kept; dump = dump }
 
+-- What was written is the text of a record, where that is wanted.
+abbrev pub IsKept : Bool → Change → RecordParts → Type 0
+IsKept is_wanted save r = is_wanted ≡ true → Appends save.old save.new (record_text r)
+
+-- The lines of an end of a run were printed, and its record kept.
+abbrev pub PrintsAndKeeps : Request → RecordParts → EndState → Change → Change → ℕ → Type 0
+PrintsAndKeeps asked r end out save status = Prints end asked.dump out status × IsKept asked.is_kept save r
+
 -- A record of the run that ended so. Where it is wanted, what was written to its writer is its text.
 pub record IsRecorded (m : Parts) (asked : Request) (args : List Value) (save : Change) (end : EndState) : Type 0 where
   pub record_is : RecordParts
   pub records : RecordsRun m asked.name args asked.fuel asked.limit record_is end
   pub run : IsRunOf m record_is end
-  pub kept : asked.is_kept ≡ true → Appends save.old save.new (record_text record_is)
+  pub kept : IsKept asked.is_kept save record_is
 
 -- The end is that of a run by these arguments over the memory that was asked for.
 abbrev pub EndsAsAsked : Parts → Request → List Value → Change → EndState → Type 0

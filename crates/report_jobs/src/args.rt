@@ -3,7 +3,7 @@ ghost use Rattle.std.specs.Prelude.{◌≡◌, ◌↔◌, List, Some, None, map,
 ghost use Rattle.std.specs.Option.{MatchOption};
 ghost use Rattle.types.specs.declared.value.Value.{Value};
 ghost use Rattle.types.specs.Values.{type_of};
-ghost use Rattle.report_jobs.specs.Arguments.{Spells, AreSpelled};
+ghost use Rattle.report_jobs.specs.Arguments.{Spells, SpellNone, AreSpelledAs, texts_in};
 
 use std::alloc::{AllocError, Global};
 use types::{ValType, Value};
@@ -29,9 +29,8 @@ pub(crate) fn read_args(
     params: &[ValType],
     texts: &[&str],
 ) -> Result<Option<Vec<Value>>, AllocError>
-    ensures { IfOk result (λ read. MatchOption read
-        ((args : List Value) → AreSpelled (map (λ text. text.now) texts.now) args → map type_of args ≡ params.now → ⊥)
-        (λ args. AreSpelled (map (λ text. text.now) texts.now) args.items × (map type_of args.items ≡ params.now))) }
+    ensures { IfOk result (λ read. MatchOption read (SpellNone (texts_in texts.now) params.now)
+        (λ args. AreSpelledAs (texts_in texts.now) params.now args.items)) }
 {
     if params.len() != texts.len() {
         return Ok(None);

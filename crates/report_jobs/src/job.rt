@@ -1,15 +1,13 @@
 //! Checks, runs and replays of a module's bytes: what is printed, and with which status they end.
-ghost use Rattle.std.specs.Prelude.{◌≡◌, ◌≤◌, ◌⊎◌, ℕ, List, length, Option, IfOk, IfErr, OnOk};
+ghost use Rattle.std.specs.Prelude.{◌≡◌, ◌≤◌, ◌⊎◌, length, IfOk, IfErr, OnOk};
 ghost use Rattle.std.specs.Io.KnownBytes.{Appends};
 ghost use Rattle.report_lines.specs.Lines.{functions_line};
-ghost use Rattle.types.specs.declared.parts.Parts.{Parts};
-ghost use Rattle.types.specs.declared.limits.TheConstants.{MOST_FUEL};
-ghost use Rattle.report_jobs.specs.Arguments.{CannotCall};
-ghost use Rattle.report_jobs.specs.Jobs.{IsAccepted, HasRun, HasNoSuchCall, IsReplayed, IsNoRecordOf, IsRefused};
-ghost use Rattle.report_jobs.specs.Jobs.{IsNoValidModule, IsUnfit, IsOfNoRun};
-ghost use Rattle.report_jobs.specs.Prints.{change};
+ghost use Rattle.types.specs.Limits.{most_fuel};
+ghost use Rattle.report_jobs.specs.Jobs.{IsAccepted, IsAcceptedAs, HasRun, HasNoSuchCall, IsReplayed, IsNoRecordOf, IsRefused};
+ghost use Rattle.report_jobs.specs.Jobs.{IsNoValidModule, IsStatusOfRefusal, IsStatusOfUnfit};
+ghost use Rattle.report_jobs.specs.Prints.{changed};
 ghost use Rattle.report_jobs.specs.declared.loading.Refusal.{Refusal};
-ghost use Rattle.report_jobs.specs.Troubles.{IsTrouble, request_of};
+ghost use Rattle.report_jobs.specs.Troubles.{IsStatusOfTrouble, request_of};
 
 use crate::loading::{Refusal, load, load_checked};
 use crate::replaying::{Unfit, replay_record};
@@ -48,8 +46,7 @@ pub fn check<W: Write, E: Write>(alloc: Global, bytes: &[u8], out: &mut W, err: 
 
 /// How many functions of its own the valid module has which the bytes spell.
 fn functions_in(alloc: Global, bytes: &[u8]) -> Result<usize, Refusal>
-    ensures ok { IfOk result (λ count. (old new : Option (List ℕ)) → Appends old new (functions_line count)
-        → IsAccepted bytes.now old new) }
+    ensures ok { IfOk result (IsAcceptedAs bytes.now) }
     ensures err { IfErr result (λ e. IsRefused bytes.now e) }
 {
     match load_checked(alloc, bytes) {
@@ -86,7 +83,7 @@ fn accept<W: Write, E: Write>(functions: usize, out: &mut W, err: &mut E) -> u8
 /// Says why a module was refused, and answers the status: 2, or 5 where memory ran out.
 pub fn refuse<E: Write>(err: &mut E, refusal: Refusal) -> u8
     ensures status { (result ≡ 2) ⊎ (result ≡ 5) }
-    ensures refused { (bytes : List ℕ) → IsRefused bytes refusal → result ≡ 2 → IsNoValidModule bytes }
+    ensures refused { IsStatusOfRefusal refusal result }
 {
     match refusal {
         Refusal::Read(fault) => refuse_text(err, fault),
@@ -97,7 +94,7 @@ pub fn refuse<E: Write>(err: &mut E, refusal: Refusal) -> u8
 /// Says why bytes are no module's text, and answers the status.
 fn refuse_text<E: Write>(err: &mut E, fault: ReadFault) -> u8
     ensures status { (result ≡ 2) ⊎ (result ≡ 5) }
-    ensures refused { (bytes : List ℕ) → IsRefused bytes (Refusal.Read fault) → result ≡ 2 → IsNoValidModule bytes }
+    ensures refused { IsStatusOfRefusal (Refusal.Read fault) result }
 {
     match fault {
         ReadFault::OutOfMemory => {
@@ -115,7 +112,7 @@ fn refuse_text<E: Write>(err: &mut E, fault: ReadFault) -> u8
 /// Says why a module isn't valid, and answers the status.
 fn refuse_module<E: Write>(err: &mut E, fault: ValidFault) -> u8
     ensures status { (result ≡ 2) ⊎ (result ≡ 5) }
-    ensures refused { (bytes : List ℕ) → IsRefused bytes (Refusal.Validity fault) → result ≡ 2 → IsNoValidModule bytes }
+    ensures refused { IsStatusOfRefusal (Refusal.Validity fault) result }
 {
     match fault {
         ValidFault::OutOfMemory => {
@@ -169,9 +166,9 @@ where
     W: Write,
     E: Write,
     S: Write,
-    requires { wanted.now.fuel ≤ MOST_FUEL }
-    ensures made { result ≤ 1 → HasRun «module».now (request_of wanted.now) (change (W.contents out.old) (W.contents out.new))
-        (change (S.contents save.old) (S.contents save.new)) result }
+    requires { wanted.now.fuel ≤ most_fuel }
+    ensures made { result ≤ 1 → HasRun «module».now (request_of wanted.now) (changed W.contents out.old out.new)
+        (changed S.contents save.old save.new) result }
     ensures refused { result ≡ 2 → IsNoValidModule «module».now }
     ensures cannot { result ≡ 3 → HasNoSuchCall «module».now (request_of wanted.now) }
     ensures status { (result ≤ 3) ⊎ (result ≡ 5) }
@@ -217,7 +214,7 @@ pub fn replay_saved<W: Write, E: Write>(
 /// Says why a record was refused, or why its lines couldn't be written, and answers the status.
 pub fn reject<E: Write>(err: &mut E, unfit: Unfit) -> u8
     ensures status { (result ≡ 4) ⊎ (result ≡ 5) }
-    ensures unfit { (m : Parts) (saved : List ℕ) → IsUnfit m saved unfit → result ≡ 4 → IsOfNoRun m saved }
+    ensures unfit { IsStatusOfUnfit unfit result }
 {
     match unfit {
         Unfit::Unread(fault) => {
@@ -242,8 +239,7 @@ pub fn reject<E: Write>(err: &mut E, unfit: Unfit) -> u8
 /// Says why there was no run, or why its lines or its record couldn't be written, and answers the status.
 pub fn complain<E: Write>(err: &mut E, trouble: Trouble, path: Option<&str>) -> u8
     ensures status { (result ≡ 3) ⊎ (result ≡ 5) }
-    ensures refused { (m : Parts) (name : List ℕ) (texts : List (List ℕ)) → IsTrouble m name texts trouble → result ≡ 3
-        → CannotCall m name texts }
+    ensures refused { IsStatusOfTrouble trouble result }
 {
     match trouble {
         Trouble::UnknownExport => {

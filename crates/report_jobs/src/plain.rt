@@ -1,20 +1,22 @@
 //! The plain jobs of the command line: a check, a run and a replay.
 ghost use Rattle.report_command.specs.Jobs.{IsInRange};
 ghost use Rattle.report_jobs.specs.Plain.{IsPlain, PerformsPlain};
-ghost use Rattle.report_jobs.specs.Prints.{change};
+ghost use Rattle.report_jobs.specs.Prints.{changed};
 
 use crate::job::{check, replay_saved, run};
 use crate::running::Wanted;
+use crate::streams::Streams;
 use report_command::Job;
 use std::alloc::Global;
 use std::io::Write;
 use std::sync::Wait;
 use std::thread::Threads;
 
-/// Does a check, a run or a replay on a module's bytes: writes its lines to `out`, and at most one line about what went wrong to `err`.
+/// Does a check, a run or a replay on a module's bytes: writes its lines, and at most one line about what went wrong; and the record
+/// that a run makes, after the lines.
 ///
 /// The job's numbers are in their ranges, as those of a job are that `command` gives. `saved` has the bytes of the record that a
-/// replay reads, and else nothing. `save` takes the record that a run makes, after the lines.
+/// replay reads, and else nothing.
 ///
 /// Answers the program's status: 0 where the module was accepted or all threads ended well, 1 for a trap or stop, 2
 /// for a refused module, 3 for a refused run, 4 for a refused record, 5 where memory, a thread or a stream failed. A write
@@ -25,9 +27,7 @@ pub fn perform_plain<R, W, E, S>(
     job: &Job,
     module: &[u8],
     saved: &[u8],
-    out: &mut W,
-    err: &mut E,
-    save: &mut S,
+    streams: &mut Streams<W, E, S>,
 ) -> u8
 where
     R: Threads + Wait + Sync,
@@ -36,9 +36,10 @@ where
     S: Write,
     requires range { IsInRange job.now }
     requires plain { IsPlain job.now }
-    ensures { PerformsPlain job.now «module».now saved.now (change (W.contents out.old) (W.contents out.new))
-        (change (S.contents save.old) (S.contents save.new)) result }
+    ensures { PerformsPlain job.now «module».now saved.now (changed W.contents streams.old.out streams.new.out)
+        (changed S.contents streams.old.save streams.new.save) result }
 {
+    let Streams { out, err, save } = streams;
     match job {
         Job::Check { .. } => check(alloc, module, out, err),
         Job::Run {

@@ -1,10 +1,8 @@
 //! The replay of a record by the program: what is printed, or why there is nothing to print.
-ghost use Rattle.std.specs.Prelude.{◌≡◌, ◌≤◌, ℕ, List, IfOk, IfErr};
-ghost use Rattle.types.specs.declared.parts.Parts.{Parts};
-ghost use Rattle.replay_text.specs.declared.parts.RecordParts.{RecordParts};
-ghost use Rattle.replay_text.specs.Text.{record_text, IsRecord};
-ghost use Rattle.replay.specs.Runs.{ShowsNoRun};
-ghost use Rattle.report_jobs.specs.Jobs.{PrintsReplay, IsUnfit};
+ghost use Rattle.std.specs.Prelude.{IfOk, IfErr};
+ghost use Rattle.replay_text.specs.Text.{IsRecord};
+ghost use Rattle.report_jobs.specs.Jobs.{PrintsReplay, PrintsReplayOf, IsUnfit, IsUnfitFor, IsUnfitTextOf};
+ghost use Rattle.report_jobs.specs.Prints.{changed};
 
 use crate::running::print;
 use replay::{ReplayFault, replay};
@@ -36,7 +34,7 @@ pub(crate) fn replay_record<W: Write>(
     out: &mut W,
 ) -> Result<u8, Unfit>
     ensures prints { IfOk result (PrintsReplay «module».now.parts saved.now dump (W.contents out.old) (W.contents out.new)) }
-    ensures unfit { IfErr result (λ unfit. IsUnfit «module».now.parts saved.now unfit) }
+    ensures unfit { IfErr result (IsUnfit «module».now.parts saved.now) }
 {
     match read_record(alloc, saved) {
         Ok(record) => {
@@ -58,9 +56,8 @@ fn print_replay<W: Write>(
     out: &mut W,
 ) -> Result<u8, Unfit>
     requires { IsRecord recorded.now }
-    ensures prints { IfOk result (λ status. (saved : List ℕ) → saved ≡ record_text recorded.now
-        → PrintsReplay «module».now.parts saved dump (W.contents out.old) (W.contents out.new) status) }
-    ensures unfit { IfErr result (λ unfit. (saved : List ℕ) → saved ≡ record_text recorded.now → IsUnfit «module».now.parts saved unfit) }
+    ensures prints { IfOk result (PrintsReplayOf «module».now.parts recorded.now dump (changed W.contents out.old out.new)) }
+    ensures unfit { IfErr result (IsUnfitTextOf «module».now.parts recorded.now) }
 {
     match replay(alloc, module, recorded) {
         Ok(end) => match print(out, &end, dump) {
@@ -73,8 +70,7 @@ fn print_replay<W: Write>(
 
 /// What the fault of a replay says of the record's bytes.
 pub fn misfit(fault: ReplayFault) -> Unfit
-    ensures { (m : Parts) (r : RecordParts) (saved : List ℕ) → IsRecord r → saved ≡ record_text r
-        → ShowsNoRun m r fault → IsUnfit m saved result }
+    ensures { IsUnfitFor fault result }
 {
     match fault {
         ReplayFault::Line(_) => Unfit::Misfit(fault),

@@ -6,10 +6,10 @@ ghost use Rattle.types.specs.declared.limits.TheConstants.{MOST_FUEL};
 ghost use Rattle.validate_typing.specs.Validity.{HasDistinctNames};
 ghost use Rattle.spawn_host.specs.Entries.{Takes};
 ghost use Rattle.replay_text.specs.Text.{record_text};
-ghost use Rattle.report_jobs.specs.Arguments.{AreSpelled};
+ghost use Rattle.report_jobs.specs.Arguments.{AreSpelled, texts_in};
 ghost use Rattle.report_jobs.specs.Prints as specified;
-ghost use Rattle.report_jobs.specs.Prints.{Change, change, Prints, PrintsRun};
-ghost use Rattle.report_jobs.specs.Troubles.{IsTrouble, request_of, trouble_of, trouble_of_recording};
+ghost use Rattle.report_jobs.specs.Prints.{Change, changed, Prints, PrintsRun, PrintsAndKeeps, IsKept};
+ghost use Rattle.report_jobs.specs.Troubles.{IsTroubleOf, IsUnwritten, AreArgumentsOf, request_of, trouble_of, trouble_of_recording};
 ghost use Rattle.report_jobs.specs.declared.running.Trouble.TheVariants as troubles;
 
 use crate::args::read_args;
@@ -112,9 +112,8 @@ fn show_distinct(module: &ValidModule)
 
 /// The values of the arguments of an exported function.
 pub fn args_of(alloc: Global, module: &ValidModule, wanted: &Wanted) -> Result<Vec<Value>, Trouble>
-    ensures takes { IfOk result (λ args. AreSpelled (map (λ text. text.now) wanted.now.args.now) args.items
-        × Takes «module».now.parts wanted.now.invoke.now args.items) }
-    ensures trouble { IfErr result (IsTrouble «module».now.parts wanted.now.invoke.now (map (λ text. text.now) wanted.now.args.now)) }
+    ensures takes { IfOk result (λ args. AreArgumentsOf «module».now.parts wanted.now args.items) }
+    ensures trouble { IfErr result (IsTroubleOf «module».now.parts wanted.now) }
 {
     let Some(function) = own_function(module, wanted.invoke) else {
         return Err(Trouble::UnknownExport);
@@ -142,8 +141,8 @@ where
     S: Write,
     requires fuel { wanted.now.fuel ≤ MOST_FUEL }
     ensures made { IfOk result (PrintsRun «module».now.parts (request_of wanted.now)
-        (change (W.contents out.old) (W.contents out.new)) (change (S.contents save.old) (S.contents save.new))) }
-    ensures trouble { IfErr result (IsTrouble «module».now.parts wanted.now.invoke.now (map (λ text. text.now) wanted.now.args.now)) }
+        (changed W.contents out.old out.new) (changed S.contents save.old save.new)) }
+    ensures trouble { IfErr result (IsTroubleOf «module».now.parts wanted.now) }
 {
     let args = args_of(alloc, module, wanted)?;
     if wanted.on_words {
@@ -166,11 +165,11 @@ where
     R: Threads + Wait + Sync,
     W: Write,
     requires memory { wanted.now.on_words ≡ true }
-    requires spelled { AreSpelled (map (λ text. text.now) wanted.now.args.now) args.now }
+    requires spelled { AreSpelled (texts_in wanted.now.args.now) args.now }
     requires takes { Takes «module».now.parts wanted.now.invoke.now args.now }
     ensures made { IfOk result (λ status. (saved : Change) → PrintsRun «module».now.parts (request_of wanted.now)
-        (change (W.contents out.old) (W.contents out.new)) saved status) }
-    ensures trouble { IfErr result (IsTrouble «module».now.parts wanted.now.invoke.now (map (λ text. text.now) wanted.now.args.now)) }
+        (changed W.contents out.old out.new) saved status) }
+    ensures trouble { IfErr result (IsTroubleOf «module».now.parts wanted.now) }
 {
     let call = Call {
         name: wanted.invoke,
@@ -198,11 +197,11 @@ where
     S: Write,
     requires fuel { wanted.now.fuel ≤ MOST_FUEL }
     requires memory { wanted.now.on_words ≡ false }
-    requires spelled { AreSpelled (map (λ text. text.now) wanted.now.args.now) args.now }
+    requires spelled { AreSpelled (texts_in wanted.now.args.now) args.now }
     requires takes { Takes «module».now.parts wanted.now.invoke.now args.now }
     ensures made { IfOk result (PrintsRun «module».now.parts (request_of wanted.now)
-        (change (W.contents out.old) (W.contents out.new)) (change (S.contents save.old) (S.contents save.new))) }
-    ensures trouble { IfErr result (IsTrouble «module».now.parts wanted.now.invoke.now (map (λ text. text.now) wanted.now.args.now)) }
+        (changed W.contents out.old out.new) (changed S.contents save.old save.new)) }
+    ensures trouble { IfErr result (IsTroubleOf «module».now.parts wanted.now) }
 {
     let call = Call {
         name: wanted.invoke,
@@ -225,9 +224,9 @@ fn print_and_keep<W: Write, S: Write>(
     out: &mut W,
     save: &mut S,
 ) -> Result<u8, Trouble>
-    ensures made { IfOk result (λ status. Prints end.now wanted.now.dump (change (W.contents out.old) (W.contents out.new)) status
-        × (is_some wanted.now.save ≡ true → Appends (S.contents save.old) (S.contents save.new) (record_text recorded.now))) }
-    ensures trouble { IfErr result (λ trouble. (trouble ≡ troubles.Output) ⊎ (trouble ≡ troubles.Save)) }
+    ensures made { IfOk result (PrintsAndKeeps (request_of wanted.now) recorded.now end.now
+        (changed W.contents out.old out.new) (changed S.contents save.old save.new)) }
+    ensures trouble { IfErr result IsUnwritten }
 {
     let status = print(out, end, wanted.dump)?;
     keep(recorded, wanted.save.is_some(), save)?;
@@ -236,7 +235,7 @@ fn print_and_keep<W: Write, S: Write>(
 
 /// Prints how the threads ended and what the memory is, and answers the status.
 pub fn print<W: Write>(out: &mut W, end: &EndState, dump: u32) -> Result<u8, Trouble>
-    ensures prints { IfOk result (Prints end.now dump (change (W.contents out.old) (W.contents out.new))) }
+    ensures prints { IfOk result (Prints end.now dump (changed W.contents out.old out.new)) }
     ensures output { IfErr result (λ trouble. trouble ≡ troubles.Output) }
 {
     match write_end(out, &end.threads, end.pages, dump, &end.bytes) {
@@ -261,7 +260,7 @@ fn all_done(reports: &[ThreadReport]) -> bool
 
 /// Writes a record to its file, where it is wanted.
 pub fn keep<S: Write>(record: &Record, is_wanted: bool, save: &mut S) -> Result<(), Trouble>
-    ensures kept { OnOk result (is_wanted ≡ true → Appends (S.contents save.old) (S.contents save.new) (record_text «record».now)) }
+    ensures kept { OnOk result (IsKept is_wanted (changed S.contents save.old save.new) «record».now) }
     ensures save { IfErr result (λ trouble. trouble ≡ troubles.Save) }
 {
     if !is_wanted {

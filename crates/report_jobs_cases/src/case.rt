@@ -130,7 +130,7 @@ fn try_example<R: Threads + Wait + Sync>(
         threads,
         example,
         Changed::Record,
-        &ran.record,
+        &ran.streams.save,
         &mut numbers,
         tally,
     )?

@@ -5,7 +5,7 @@ ghost use Rattle.report_jobs.specs.Plain.{IsPlain};
 
 use crate::answers::is_answer;
 use report_command::Job;
-use report_jobs::perform_plain;
+use report_jobs::{Streams, perform_plain};
 use std::alloc::{AllocError, Global};
 use std::sync::Wait;
 use std::thread::Threads;
@@ -23,15 +23,13 @@ const DUMP: u32 = 64;
 #[derive(Drop)]
 pub(crate) struct Gave {
     status: u8,
-    out: Vec<u8>,
-    err: Vec<u8>,
-    pub(crate) record: Vec<u8>,
+    pub(crate) streams: Streams<Vec<u8>, Vec<u8>, Vec<u8>>,
 }
 
 impl Gave {
     /// Whether the job ended as a job can.
     fn is_right(&self) -> bool {
-        is_answer(self.status, &self.out, &self.err)
+        is_answer(self.status, &self.streams.out, &self.streams.err)
     }
 
     /// Whether there was a run.
@@ -53,20 +51,13 @@ fn give<R: Threads + Wait + Sync>(
 {
     let mut gave = Gave {
         status: 0,
-        out: Vec::new(alloc),
-        err: Vec::new(alloc),
-        record: Vec::new(alloc),
+        streams: Streams {
+            out: Vec::new(alloc),
+            err: Vec::new(alloc),
+            save: Vec::new(alloc),
+        },
     };
-    gave.status = perform_plain(
-        rt,
-        alloc,
-        job,
-        module,
-        saved,
-        &mut gave.out,
-        &mut gave.err,
-        &mut gave.record,
-    );
+    gave.status = perform_plain(rt, alloc, job, module, saved, &mut gave.streams);
     gave
 }
 
@@ -134,8 +125,13 @@ fn is_recorded<R: Threads + Wait + Sync>(
     if !ran.ran() {
         return Ok(ran.is_right());
     }
-    let again = replay(rt, alloc, module, &ran.record);
-    Ok(ran.is_right() && again.status == ran.status && again.out == ran.out && again.err.is_empty())
+    let again = replay(rt, alloc, module, &ran.streams.save);
+    Ok(
+        ran.is_right()
+            && again.status == ran.status
+            && again.streams.out == ran.streams.out
+            && again.streams.err.is_empty(),
+    )
 }
 
 /// Whether a module is refused or accepted as it can be, and where it is accepted its runs end as they can.

@@ -1,8 +1,8 @@
 //! What a job reads.
 
 use crate::stop::Stop;
-use report_command::{Job, Search};
 use crate::{Unread, read_module, read_saved};
+use report_command::{Job, Search};
 
 /// What a job reads: a module, a record where one is replayed or shown, and the file that has the names, where it is
 /// another one.

@@ -1,8 +1,8 @@
 //! Why a job isn't done.
 
+use crate::Unread;
 use crate::telling::{tell_file_fault, tell_no_memory, tell_usage};
 use report_command::Usage;
-use crate::Unread;
 use std::io;
 
 /// Why a job isn't done.

@@ -4,8 +4,9 @@ use crate::copied::Copied;
 use crate::input::{Input, read};
 use crate::stop::Stop;
 use crate::telling::{tell, tell_file_fault};
-use report_command::{Job, Misuse, Search, misused};
 use crate::{Noted, Place, SavedFile, is_one_file};
+use report_command::{Job, Misuse, Search, misused};
+use report_jobs::Streams;
 use std::io::{self, BufWriter, ErrorKind, Write};
 
 /// The bytes of standard output, which is written in one piece: 64 lines of threads, one of pages and 4096 bytes shown fit.
@@ -17,16 +18,12 @@ const LINE: usize = 256;
 /// The bytes of a record that are written at once.
 const RECORD: usize = 65_536;
 
-/// A job that was begun: what was read for it, and where it writes its lines, what went wrong, and the file that it makes.
+/// A job that was begun: what was read for it, and where it writes. Standard output gets its lines in one piece; what is said on
+/// standard error is said when it ends, and then the file that it makes gets its path.
 #[derive(Drop)]
 pub struct Task<'a, W: Write + Drop> {
     pub input: Input,
-    /// Its lines, which standard output gets in one piece.
-    pub out: BufWriter<Copied<Noted<W>>>,
-    /// What is said on standard error when it ends.
-    pub err: Vec<u8>,
-    /// The file that it makes, which gets its path when it ends.
-    pub save: BufWriter<SavedFile<'a>>,
+    pub streams: Streams<BufWriter<Copied<Noted<W>>>, Vec<u8>, BufWriter<SavedFile<'a>>>,
 }
 
 /// The path of the file that a job makes, a record, a page or a trace, or none.
@@ -112,9 +109,7 @@ fn begin<'a, W: Write + Drop>(
     let save = BufWriter::with_capacity(alloc, RECORD, SavedFile::new(rt, place))?;
     Ok(Task {
         input,
-        out,
-        err,
-        save,
+        streams: Streams { out, err, save },
     })
 }
 
@@ -153,7 +148,7 @@ pub fn open_task<'a, W: Write + Drop>(
 impl<W: Write + Drop> Task<'_, W> {
     /// Says what went wrong, and keeps the file that the job made, if it came to a status with which there is one. Answers the status.
     pub fn end(self, rt: &HostRuntime, job: &Job, status: u8) -> u8 {
-        let Task { out, err, save, .. } = self;
+        let Streams { out, err, save } = self.streams;
         if !out.get_ref().stream().is_closed() {
             tell(rt, &err);
         }

@@ -1,7 +1,7 @@
 //! What is said, each text in one piece, and the statuses that go with it.
 
-use report_command::Usage;
 use crate::Noted;
+use report_command::Usage;
 use std::fmt::Display;
 use std::io::{BufWriter, Write};
 

@@ -1,3 +1,4 @@
 pub mod FaultNumbers
+pub mod Called
 pub mod Logs
 pub mod RunFaults

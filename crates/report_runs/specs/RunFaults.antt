@@ -7,6 +7,8 @@ use Rattle.types.specs.declared.limits.TheConstants.{MOST_LIMIT}
 use Rattle.shared_memory_sequential.specs.declared.fault.OpenFault.TheVariants as open_faults
 use Rattle.spawn_host.specs.Entries.{Takes}
 use Rattle.spawn_host.specs.Faults.{IsFaultOf}
+use Rattle.spawn_host.specs.declared.call.Call.{Call}
+use Rattle.spawn_host_workers.specs.declared.report.RunFault.{RunFault}
 use Rattle.report_runs.specs.declared.recording.RecordRunFault.{RecordRunFault}
 use Rattle.report_runs.specs.declared.recording.RecordRunFault.TheVariants as faults
 
@@ -28,3 +30,20 @@ IsWordsFault m name args (faults.Open open_faults.PastLimit) = ⊥
 IsWordsFault m name args (faults.Open open_faults.NoMemory) = Takes m name args
 IsWordsFault m name args (faults.Run fault) = IsFaultOf m name args fault
 IsWordsFault m name args faults.NoMemory = Takes m name args
+
+-- The same of a call.
+abbrev pub IsFaultOfCall : Parts → Call → RunFault → Type 0
+IsFaultOfCall m call = IsFaultOf m call.name.now call.args.now
+
+abbrev pub IsRecordingFaultOf : Parts → Call → ℕ → RecordRunFault → Type 0
+IsRecordingFaultOf m call = IsRecordingFault m call.name.now call.args.now
+
+abbrev pub IsWordsFaultOf : Parts → Call → RecordRunFault → Type 0
+IsWordsFaultOf m call = IsWordsFault m call.name.now call.args.now
+
+-- The same of each call that can be made.
+abbrev pub IsRecordingFaultOfAll : Parts → ℕ → RecordRunFault → Type 0
+IsRecordingFaultOfAll m limit fault = (name : List ℕ) (args : List Value) → Takes m name args → IsRecordingFault m name args limit fault
+
+abbrev pub IsWordsFaultOfAll : Parts → RecordRunFault → Type 0
+IsWordsFaultOfAll m fault = (name : List ℕ) (args : List Value) → Takes m name args → IsWordsFault m name args fault

@@ -11,6 +11,5 @@ mod words;
 
 pub use laws::the_log_is_the_history_that_all_seats_saw;
 pub use recording::{RecordRunFault, record_run};
-pub use spawn_host::EndState;
-pub use spawn_host::Call;
+pub use spawn_host::{Call, EndState};
 pub use words::run_on_words;

@@ -1,15 +1,14 @@
 //! A run over the memory that records.
-ghost use Rattle.std.specs.Prelude.{◌≡◌, ◌≤◌, ◌+◌, ◌++◌, ℕ, List, [], length, vec_len, vec_capacity, IfOk, OnOk, IfErr};
-ghost use Rattle.types.specs.declared.value.Value.{Value};
-ghost use Rattle.types.specs.declared.limits.TheConstants.{MOST_THREADS, MOST_LIMIT, MOST_FUEL};
+ghost use Rattle.std.specs.Prelude.{◌≡◌, ◌≤◌, ◌+◌, ◌++◌, [], length, vec_len, vec_capacity, IfOk, OnOk, IfErr};
+ghost use Rattle.types.specs.Limits.{most_threads, most_limit, most_fuel};
 ghost use Rattle.spawn_host.specs.Runs.{opening_memory};
 ghost use Rattle.replay.specs.Runs.{IsRunOf};
 ghost use Rattle.replay.specs.Recorded.{RecordsRun};
 ghost use Rattle.report_runs.specs.FaultNumbers.{record_run_fault_number};
-ghost use Rattle.report_runs.specs.RunFaults.{IsRecordingFault};
+ghost use Rattle.report_runs.specs.Called.{RecordsCall};
+ghost use Rattle.report_runs.specs.RunFaults.{IsFaultOfCall, IsRecordingFault, IsRecordingFaultOf, IsRecordingFaultOfAll};
 ghost use Rattle.report_runs.specs.declared.recording.RecordRunFault.TheVariants as faults;
 ghost use Rattle.spawn_host.specs.Entries.{Takes};
-ghost use Rattle.spawn_host.specs.Faults.{IsFaultOf};
 ghost use Rattle.replay_text.specs.Text.{IsRecord};
 ghost use Rattle.replay_rules.specs.Ranges.{AreTyped};
 
@@ -111,11 +110,10 @@ pub fn record_run<G, R>(
 where
     G: Gate + Sync,
     R: Threads + Wait + Sync,
-    requires fuel { call.fuel ≤ MOST_FUEL }
-    ensures record { IfOk result (λ r. RecordsRun «module».now.parts call.entry.name.now call.entry.args.now call.entry.fuel
-        limit r.0 r.1) }
+    requires fuel { call.fuel ≤ most_fuel }
+    ensures record { IfOk result (λ r. RecordsCall «module».now.parts call.entry limit r.0 r.1) }
     ensures run { IfOk result (λ r. IsRunOf «module».now.parts r.0 r.1) }
-    ensures fault { IfErr result (λ fault. IsRecordingFault «module».now.parts call.entry.name.now call.entry.args.now limit fault) }
+    ensures fault { IfErr result (IsRecordingFaultOf «module».now.parts call.entry limit) }
 {
     if limit == 0 || limit > MOST_LIMIT {
         return Err(RecordRunFault::Open(OpenFault::PastLimit));
@@ -133,7 +131,7 @@ where
 /// Looks whether the call can be made, before a memory takes room, so that one that can't be is told as such.
 pub(crate) fn check_call(alloc: Global, module: &ValidModule, call: Call) -> Result<(), RunFault>
     ensures takes { OnOk result (Takes «module».now.parts call.entry.name.now call.entry.args.now) }
-    ensures fault { IfErr result (λ fault. IsFaultOf «module».now.parts call.entry.name.now call.entry.args.now fault) }
+    ensures fault { IfErr result (IsFaultOfCall «module».now.parts call.entry) }
 {
     match first_thread(alloc, module, call) {
         Ok(_) => Ok(()),
@@ -170,9 +168,8 @@ where
     R: Threads + Wait + Sync,
     requires range { (1 ≤ limit) × (limit ≤ MOST_LIMIT) }
     requires takes { Takes «module».now.parts call.name.now call.args.now }
-    ensures made { IfOk result (λ r. RecordsRun «module».now.parts call.entry.name.now call.entry.args.now call.entry.fuel
-        limit r.0 r.1) }
-    ensures fault { IfErr result (λ fault. IsRecordingFault «module».now.parts call.entry.name.now call.entry.args.now limit fault) }
+    ensures made { IfOk result (λ r. RecordsCall «module».now.parts call.entry limit r.0 r.1) }
+    ensures fault { IfErr result (IsRecordingFaultOf «module».now.parts call.entry limit) }
 {
     let Ok(header) = header_of(alloc, call) else {
         return Err(RecordRunFault::NoMemory);
@@ -211,8 +208,7 @@ fn prepare(alloc: Global, module: &ValidModule, limit: u32) -> Result<Prepared, 
     requires range { (1 ≤ limit) × (limit ≤ MOST_LIMIT) }
     ensures opening { IfOk result (λ p. p.opening ≡ opening_memory «module».now.parts) }
     ensures limit { IfOk result (λ p. p.limit ≡ limit) }
-    ensures fault { IfErr result (λ fault. (name : List ℕ) (args : List Value) → Takes «module».now.parts name args
-        → IsRecordingFault «module».now.parts name args limit fault) }
+    ensures fault { IfErr result (IsRecordingFaultOfAll «module».now.parts limit) }
 {
     show_memory_opens(module);
     let Ok(image) = module.image(alloc) else {
@@ -248,7 +244,7 @@ where
     requires room { MOST_THREADS ≤ vec_capacity header.ends }
     requires takes { Takes «module».now.parts header.invoke header.args }
     ensures made { IfOk result (λ r. RecordsRun «module».now.parts header.invoke header.args header.fuel limit r.0 r.1) }
-    ensures fault { IfErr result (λ fault. IsRecordingFault «module».now.parts header.invoke header.args limit fault) }
+    ensures fault { IfErr result (IsRecordingFault «module».now.parts header.invoke header.args limit) }
 {
     let Ok((memory, seats)) = LockedRecorder::<B, &R>::open(alloc, rt, prepared) else {
         drop(header);

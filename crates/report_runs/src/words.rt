@@ -1,11 +1,10 @@
 //! A run over the row of words.
-ghost use Rattle.std.specs.Prelude.{◌≡◌, ◌≤◌, ◌*◌, ℕ, List, [], length, vec_capacity, IfOk, IfErr};
-ghost use Rattle.types.specs.declared.value.Value.{Value};
-ghost use Rattle.types.specs.declared.limits.TheConstants.{PAGE_SIZE};
+ghost use Rattle.std.specs.Prelude.{◌≡◌, ◌≤◌, ◌*◌, [], length, vec_capacity, IfOk, IfErr};
+ghost use Rattle.types.specs.Limits.{page_size};
 ghost use Rattle.spawn_host.specs.Entries.{Takes};
 ghost use Rattle.spawn_host.specs.Runs.{opening_memory};
-ghost use Rattle.spawn_host.specs.RunEnds.{EndsRunOnWords};
-ghost use Rattle.report_runs.specs.RunFaults.{IsWordsFault};
+ghost use Rattle.report_runs.specs.Called.{EndsCallOnWords};
+ghost use Rattle.report_runs.specs.RunFaults.{IsWordsFaultOf, IsWordsFaultOfAll};
 
 use crate::fitting::show_memory_opens;
 use crate::recording::{RecordRunFault, check_call};
@@ -41,8 +40,8 @@ pub fn run_on_words<G, R>(
 where
     G: Gate + Sync,
     R: Threads + Wait + Sync,
-    ensures end { IfOk result (λ end. EndsRunOnWords «module».now.parts call.entry.name.now call.entry.args.now call.entry.fuel end) }
-    ensures fault { IfErr result (λ fault. IsWordsFault «module».now.parts call.entry.name.now call.entry.args.now fault) }
+    ensures end { IfOk result (EndsCallOnWords «module».now.parts call.entry) }
+    ensures fault { IfErr result (IsWordsFaultOf «module».now.parts call.entry) }
 {
     if let Err(fault) = check_call(alloc, module, call) {
         return Err(RecordRunFault::Run(fault));
@@ -78,9 +77,9 @@ where
     requires image { B.opening ≡ opening_memory «module».now.parts }
     requires takes { Takes «module».now.parts call.name.now call.args.now }
     requires none { bytes.items ≡ [] }
-    requires room { PAGE_SIZE * (opening_memory «module».now.parts).max ≤ vec_capacity bytes }
-    ensures end { IfOk result (λ end. EndsRunOnWords «module».now.parts call.entry.name.now call.entry.args.now call.entry.fuel end) }
-    ensures fault { IfErr result (λ fault. IsWordsFault «module».now.parts call.entry.name.now call.entry.args.now fault) }
+    requires room { page_size * (opening_memory «module».now.parts).max ≤ vec_capacity bytes }
+    ensures end { IfOk result (EndsCallOnWords «module».now.parts call.entry) }
+    ensures fault { IfErr result (IsWordsFaultOf «module».now.parts call.entry) }
 {
     let Ok((memory, seats)) = WordRow::<B>::open(alloc, prepared) else {
         return Err(RecordRunFault::Open(OpenFault::NoMemory));
@@ -102,8 +101,7 @@ where
 /// What a row of words is made of, where it is the module's.
 fn prepare(alloc: Global, module: &ValidModule) -> Result<Prepared, RecordRunFault>
     ensures opening { IfOk result (λ p. p.opening ≡ opening_memory «module».now.parts) }
-    ensures fault { IfErr result (λ fault. (name : List ℕ) (args : List Value) → Takes «module».now.parts name args
-        → IsWordsFault «module».now.parts name args fault) }
+    ensures fault { IfErr result (IsWordsFaultOfAll «module».now.parts) }
 {
     show_memory_opens(module);
     let Ok(image) = module.image(alloc) else {

@@ -34,21 +34,14 @@ fn work<R: Threads + Wait + Sync>(rt: &HostRuntime, threads: &R, job: &Job) -> u
         Ok(task) => task,
         Err(status) => return status,
     };
-    let Task {
-        input,
-        out,
-        err,
-        save,
-    } = &mut task;
+    let Task { input, streams } = &mut task;
     let status = perform_plain(
         threads,
         rt.alloc(),
         job,
         &input.module,
         &input.saved,
-        out,
-        err,
-        save,
+        streams,
     );
     task.end(rt, job, status)
 }

@@ -35,11 +35,11 @@ pub(crate) static MODULES: [Gone; 9] = [
         module: BROKEN,
         args: &[Value::I32(2)],
         endings: &[
-            "ok, ok; pages 1; 00000000020000000000000000000000",
-            "ok, ok; pages 1; 00000000030000000000000000000000",
-            "ok, ok; pages 1; 00000000040000000000000000000000",
+            "ok i32:2, ok; pages 1; 00000000020000000100000000000000",
+            "ok i32:3, ok; pages 1; 00000000030000000100000000000000",
+            "ok i32:4, ok; pages 1; 00000000040000000100000000000000",
         ],
-        states: 382,
+        states: 493,
     },
     Gone {
         module: MUTEX,
@@ -51,10 +51,10 @@ pub(crate) static MODULES: [Gone; 9] = [
         module: PETERSON,
         args: &[Value::I32(2)],
         endings: &[
-            "ok, ok; pages 1; 00000000000000000000000004000000",
-            "ok, ok; pages 1; 00000000000000000100000004000000",
+            "ok i32:4, ok; pages 1; 00000000000000000000000004000000",
+            "ok i32:4, ok; pages 1; 00000000000000000100000004000000",
         ],
-        states: 249,
+        states: 303,
     },
     Gone {
         module: SEQLOCK,
@@ -85,10 +85,10 @@ pub(crate) static MODULES: [Gone; 9] = [
         module: BROKEN,
         args: &[Value::I32(1)],
         endings: &[
-            "ok, ok; pages 1; 00000000010000000000000000000000",
-            "ok, ok; pages 1; 00000000020000000000000000000000",
+            "ok i32:1, ok; pages 1; 00000000010000000100000000000000",
+            "ok i32:2, ok; pages 1; 00000000020000000100000000000000",
         ],
-        states: 77,
+        states: 119,
     },
     Gone {
         module: MUTEX,

@@ -1,4 +1,4 @@
-use Rattle.report_jobs.specs.Prints.{change}
+use Rattle.report_jobs.specs.Prints.{changed}
 use Rattle.report.proofs.Plain.{is_plain, performs}
 use Rattle.report.proofs.job.perform.Goals as goal
 
@@ -9,17 +9,17 @@ perform_plain-requires-clause-plain g c κs within =
 pub returns-in_default : goal.returns-in_default
 returns-in_default g c =
     let job = c.args.job.now in
-    performs job c.args.module.now c.args.saved.now (change (g.W.Write.contents c.args.out.now) (g.W.Write.contents c.perform_plain.new.out))
-    (change (g.S.Write.contents c.args.save.now) (g.S.Write.contents c.perform_plain.new.save)) c.perform_plain.result
+    performs job c.args.module.now c.args.saved.now (changed g.W.Write.contents c.args.streams.now.out c.perform_plain.new.streams.out)
+    (changed g.S.Write.contents c.args.streams.now.save c.perform_plain.new.streams.save) c.perform_plain.result
     (is_plain job c.in_default.not-Show c.in_default.not-Search) c.perform_plain.ensures
 
 pub returns-in-Show : goal.returns-in-Show
 returns-in-Show g c =
     rw c.in-Show.is (record {
-      shown = c.show.ensures.shown;
-      refused = c.show.ensures.refused;
-      none = c.show.ensures.none;
-      statuses = c.show.ensures.status;
+      shown = c.show_saved.ensures.shown;
+      refused = c.show_saved.ensures.refused;
+      none = c.show_saved.ensures.none;
+      statuses = c.show_saved.ensures.status;
     })
 
 pub returns-in-Search : goal.returns-in-Search

@@ -1,13 +1,13 @@
 use Rattle.std.proofs.Common.{ℕ, List, map, is_some, Bor, subst}
 use Rattle.report_jobs.specs.Jobs.{Runs}
-use Rattle.report_jobs.specs.Prints.{change, request}
+use Rattle.report_jobs.specs.Prints.{changed, request}
 use Rattle.report_jobs.proofs.plain.perform_plain.Goals as goal
 
 pub returns-in-Run : goal.returns-in-Run
 returns-in-Run g c =
     let it = c.in-Run in
-    let out = change (g.W.Write.contents c.args.out.now) (g.W.Write.contents c.run.new.out) in
-    let save = change (g.S.Write.contents c.args.save.now) (g.S.Write.contents c.run.new.save) in
+    let out = changed g.W.Write.contents c.args.streams.now.out c.run.new.out in
+    let save = changed g.S.Write.contents c.args.streams.now.save c.run.new.save in
     let Asked : List (Bor (List ℕ)) → Type 0
     = λ texts. Runs c.args.module.now (request it.invoke.now (map (λ text. text.now) texts) it.fuel it.limit it.on_words (is_some it.path) it.dump)
     out save c.run.result in

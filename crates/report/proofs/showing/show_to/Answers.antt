@@ -1,4 +1,4 @@
-use Rattle.report.proofs.showing.show_saved.Goals as goal
+use Rattle.report.proofs.showing.show_to.Goals as goal
 
 pub returns-clause-none : goal.returns-clause-none
 returns-clause-none g c = λ four. record {
@@ -9,4 +9,4 @@ returns-clause-none g c = λ four. record {
 }
 
 pub returns-in-Err-clause-refused : goal.returns-in-Err-clause-refused
-returns-in-Err-clause-refused g c = λ two. c.refuse.ensures.refused c.args.module.now c.in-Err.ensures.err two
+returns-in-Err-clause-refused g c = λ two. c.refuse.ensures.refused c.args.code.module.now c.in-Err.ensures.err two
