@@ -9,16 +9,16 @@ use Rattle.report_jobs.specs.Jobs.{IsNoValidModule, IsNoRecordOf, IsRecordOf, Ha
 use Rattle.report_jobs.specs.Plain.{PerformsPlain}
 use Rattle.report.specs.Searches.{HasSearched, request_of_search}
 
--- What the status of a show says: 0 of a record of a run, 2 of a refused module, 4 of a record of no run. 5 is that memory or a stream
--- failed.
+-- What the status of a show says: 0 of a record of a run, 2 of a refused module, 4 of a record of no run. 5 is that
+-- memory or a stream failed.
 pub record Shows (bytes saved : List ℕ) (status : ℕ) : Type 0 where
   pub shown : status ≡ 0 → IsRecordOf bytes saved
   pub refused : status ≡ 2 → IsNoValidModule bytes
   pub none : status ≡ 4 → IsNoRecordOf bytes saved
   pub statuses : (status ≡ 0) ⊎ (status ≡ 2) ⊎ (status ≡ 4) ⊎ (status ≡ 5)
 
--- What that of a search says: 0 and 1 of runs that were made, 2 of a refused module, 3 of a call that can't be made. 5 is that memory or a
--- stream failed.
+-- What that of a search says: 0 and 1 of runs that were made, 2 of a refused module, 3 of a call that can't be made. 5
+-- is that memory or a stream failed.
 pub record Searches (bytes : List ℕ) (s : Search) (save : Change) (status : ℕ) : Type 0 where
   pub made : status ≤ 1 → HasSearched bytes s save status
   pub refused : status ≡ 2 → IsNoValidModule bytes

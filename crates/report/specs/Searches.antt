@@ -36,7 +36,8 @@ sought_of s = record {
   expect = s.expect;
 }
 
--- A run of the module by the call that was asked for, which ends as is looked for; and its record was written, where one is wanted.
+-- A run of the module by the call that was asked for, which ends as is looked for; and its record was written, where
+-- one is wanted.
 pub record IsFindKept (m : Parts) (s : Search) (save : Change) : Type 0 where
   pub args : List Value
   pub spelled : AreSpelled (texts_in s.args.items) args
@@ -68,8 +69,8 @@ pub record AreAllWell (all : Ended Ending) : Type 0 where
   pub some : all.endings.keys ≢ []
   pub well : all_end_well all.endings.keys ≡ true
 
--- Runs of the module by the call that was asked for can end; and each that ends, all its threads with units and room enough, ends
--- well: all threads' functions returned.
+-- Runs of the module by the call that was asked for can end; and each that ends, all its threads with units and room
+-- enough, ends well: all threads' functions returned.
 pub record EndWell (m : Parts) (s : Search) : Type 0 where
   pub args : List Value
   pub spelled : AreSpelled (texts_in s.args.items) args
@@ -81,7 +82,8 @@ pub record EndWell (m : Parts) (s : Search) : Type 0 where
 
 -- They are all endings of a call, where that is said; and each is one.
 abbrev pub FindsEvery : Parts → Call → ℕ → Ended Ending → Type 0
-FindsEvery m call dump all = all.verdict ≡ verdicts.All → HasEveryEnding m call.name.now call.args.now dump all.endings.keys
+FindsEvery m call dump all = all.verdict ≡ verdicts.All
+    → HasEveryEnding m call.name.now call.args.now dump all.endings.keys
 
 abbrev pub FindsNoOther : Parts → Call → ℕ → Ended Ending → Type 0
 FindsNoOther m call dump all = AllCanEndSo m call.name.now call.args.now dump all.endings.keys

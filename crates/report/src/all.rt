@@ -3,7 +3,8 @@ ghost use Rattle.std.specs.Prelude.{◌≡◌, ◌≤◌, ◌↔◌, true, IfOk,
 ghost use Rattle.search_finds.specs.Finds.{IsLookedFor};
 ghost use Rattle.report_command.specs.Searches.{IsSearchInRange};
 ghost use Rattle.report_jobs.specs.Arguments.{AreSpelled, texts_in};
-ghost use Rattle.report.specs.Searches.{Finds, FindsEvery, FindsNoOther, KeepsNoneOrFind, IsOfSystem, IsTroubleIn, sought_of};
+ghost use Rattle.report.specs.Searches.{Finds, FindsEvery, FindsNoOther, KeepsNoneOrFind, IsOfSystem, IsTroubleIn};
+ghost use Rattle.report.specs.Searches.{sought_of};
 ghost use Rattle.report.specs.Searches.{EndWell, AreAllWell, threads_end_well, all_end_well};
 ghost use Rattle.report_jobs.specs.Prints.{changed};
 
@@ -171,7 +172,8 @@ fn tell_wanted<W: Write, S: Write>(
     requires call { (call.name.now ≡ search.now.invoke.now) × (call.fuel ≡ search.now.fuel) }
     requires spelled { AreSpelled (texts_in search.now.args.items) call.args.now }
     requires wanted { IsLookedFor (sought_of search.now) wanted.now.ending }
-    ensures told { IfOk result (λ _. KeepsNoneOrFind «module».now.parts search.now (changed S.contents save.old save.new)) }
+    ensures told { IfOk result
+        (λ _. KeepsNoneOrFind «module».now.parts search.now (changed S.contents save.old save.new)) }
     ensures trouble { IfErr result IsOfSystem }
 {
     let number = wanted.number;
@@ -199,9 +201,9 @@ fn tell_wanted<W: Write, S: Write>(
     }
 }
 
-/// Goes through every order of the entries of a call, prints the endings, and of the first that is looked for the lines of a run that
-/// ends so; and writes its record, where one is wanted. Answers the status: 1 where such an ending was found, one has a trap or a stop,
-/// there is none, or they are not all, and else 0.
+/// Goes through every order of the entries of a call, prints the endings, and of the first that is looked for the lines
+/// of a run that ends so; and writes its record, where one is wanted. Answers the status: 1 where such an ending was
+/// found, one has a trap or a stop, there is none, or they are not all, and else 0.
 pub(crate) fn search_all_orders<F: Follows, W: Write, S: Write>(
     alloc: Global,
     module: &ValidModule,

@@ -16,17 +16,18 @@ use std::io::Write;
 use std::sync::Wait;
 use std::thread::Threads;
 
-/// Does a job on a module's bytes: writes its lines, and at most one line about what went wrong; and the record that a run makes, or that
-/// of what a search found, after the lines, or the file that a show makes.
+/// Does a job on a module's bytes: writes its lines, and at most one line about what went wrong; and the record that a
+/// run makes, or that of what a search found, after the lines, or the file that a show makes.
 ///
 /// The job's numbers are in their ranges, as those of a job are that `command` gives.
 ///
-/// `saved` has the bytes of the record that a replay or a show reads, and else nothing. A show takes names from the module
-/// itself (`show_saved` takes them from another file's bytes). `follower` hears how far a search came.
+/// `saved` has the bytes of the record that a replay or a show reads, and else nothing. A show takes names from the
+/// module itself (`show_saved` takes them from another file's bytes). `follower` hears how far a search came.
 ///
-/// Answers the program's status: 0 where the module was accepted or all threads ended well, 1 for a trap or stop, or where a search
-/// found a run, has not all endings or none, 2 for a refused module, 3 for a refused run, 4 for a refused record, 5 where memory, a
-/// thread or a stream failed. A write about what went wrong that fails doesn't change it.
+/// Answers the program's status: 0 where the module was accepted or all threads ended well, 1 for a trap or stop, or
+/// where a search found a run, has not all endings or none, 2 for a refused module, 3 for a refused run, 4 for a
+/// refused record, 5 where memory, a thread or a stream failed. A write about what went wrong that fails doesn't change
+/// it.
 pub fn perform<R, W, E, S, F>(
     rt: &R,
     alloc: Global,
@@ -71,7 +72,8 @@ where
     S: Write,
     F: Follows,
     requires { IsSearchInRange asked.now }
-    ensures made { result ≤ 1 → HasSearched «module».now asked.now (changed S.contents streams.old.save streams.new.save) result }
+    ensures made { result ≤ 1
+        → HasSearched «module».now asked.now (changed S.contents streams.old.save streams.new.save) result }
     ensures refused { result ≡ 2 → IsNoValidModule «module».now }
     ensures cannot { result ≡ 3 → HasNoSuchCall «module».now (request_of_search asked.now) }
     ensures status { (result ≤ 3) ⊎ (result ≡ 5) }

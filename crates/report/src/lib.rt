@@ -1,6 +1,6 @@
-//! What the program does, as a library: the command line as a job, and the lines that a job prints. `showing` has the entries of a
-//! record in words, as rows, a moment, a page or a trace; `searching` and `all` searches through runs of a module, drawn ones and
-//! every order of the entries.
+//! What the program does, as a library: the command line as a job, and the lines that a job prints. `showing` has the
+//! entries of a record in words, as rows, a moment, a page or a trace; `searching` and `all` searches through runs of a
+//! module, drawn ones and every order of the entries.
 //!
 //! Proved: what each status of a job says; of `show` and `search` nothing of what they print. 0 of a show: the record
 //! is of a run of the module. 0 or 1 of a search: the bytes spell a valid module; and nothing was written to the

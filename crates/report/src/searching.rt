@@ -57,7 +57,8 @@ pub(crate) fn wanted_by<'a>(search: &'a Search<'a>) -> Wanted<'a>
     }
 }
 
-/// What a fault of a run along a schedule is: a run of a call that fits, with numbers in their ranges, has no other one.
+/// What a fault of a run along a schedule is: a run of a call that fits, with numbers in their ranges, has no other
+/// one.
 pub(crate) fn no_memory(_fault: SearchFault) -> Trouble
     ensures { result ≡ troubles.NoMemory }
 {
@@ -124,9 +125,9 @@ fn write_sizes<W: Write>(out: &mut W, before: Size, after: Size) -> io::Result<(
     )
 }
 
-/// Makes the runs that a search asks for, prints the table of their endings, and of a run that was found its lines, or that
-/// it was told to end; and writes the record of what was found, where one is wanted. Answers the status: 1 where a run was
-/// found or an ending has a trap or a stop, and else 0.
+/// Makes the runs that a search asks for, prints the table of their endings, and of a run that was found its lines, or
+/// that it was told to end; and writes the record of what was found, where one is wanted. Answers the status: 1 where a
+/// run was found or an ending has a trap or a stop, and else 0.
 fn search_drawn<R: Threads + Sync, F: Follows, W: Write, S: Write>(
     rt: &R,
     alloc: Global,

@@ -17,13 +17,13 @@ use std::alloc::Global;
 use std::io::Write;
 use validate_module::ValidModule;
 
-/// Shows the entries of the record whose text `saved` is: each in words, with its place in the module. `names` are the bytes
-/// that have the names of functions and the lines of source: those of the module, or of another build of its code. `view` may
-/// ask for what threads and memory are like before a line, for a page or for a trace, in place of rows. A page and a trace are the
-/// file that it makes.
+/// Shows the entries of the record whose text `saved` is: each in words, with its place in the module. `names` are the
+/// bytes that have the names of functions and the lines of source: those of the module, or of another build of its
+/// code. `view` may ask for what threads and memory are like before a line, for a page or for a trace, in place of
+/// rows. A page and a trace are the file that it makes.
 ///
-/// Answers 0 only where the record is of a run of the module, 4 only where the bytes are the text of no record of a run of it,
-/// 2 for a refused module, and 5 where memory or a stream failed.
+/// Answers 0 only where the record is of a run of the module, 4 only where the bytes are the text of no record of a run
+/// of it, 2 for a refused module, and 5 where memory or a stream failed.
 pub fn show_saved<W: Write, E: Write, S: Write>(
     alloc: Global,
     module: &[u8],

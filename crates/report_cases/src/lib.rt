@@ -1,7 +1,8 @@
-//! Cases of runs: command lines of the program, on modules and records, with what each is to print. The files that cases name lie
-//! in the folder where they are tried.
+//! Cases of runs: command lines of the program, on modules and records, with what each is to print. The files that
+//! cases name lie in the folder where they are tried.
 //!
-//! A file of cases is one for the library `test_cases`: `== TITLE`, and below it lines of a key, a space and what the key has.
+//! A file of cases is one for the library `test_cases`: `== TITLE`, and below it lines of a key, a space and what the
+//! key has.
 //!
 //! ```text
 //! module FILE            the module is this file
@@ -39,8 +40,9 @@
 //! again-status 1         the replay's status, 0 without this line
 //! ```
 //!
-//! A case without one of the last five lines writes nothing to a record. A run over the recorder needs none of them: its record
-//! ends as `record-end` says, and is replayed to the same lines with the same status. A record is also written as it is read.
+//! A case without one of the last five lines writes nothing to a record. A run over the recorder needs none of them:
+//! its record ends as `record-end` says, and is replayed to the same lines with the same status. A record is also
+//! written as it is read.
 #![tactic(auto)]
 
 mod case;

@@ -603,8 +603,8 @@ fn order_of<'a>(alloc: Global, matches: &ArgMatches<'a>) -> Result<Order<'a>, Us
 /// Reads the command line, of which the first word is the program's name.
 ///
 /// # Errors
-/// `Wrong` where the words are no job, also where a record of a memory of words is wanted, which keeps none, or one at the
-/// path of the module; `Help` where they ask for help or the version; `NoMemory`.
+/// `Wrong` where the words are no job, also where a record of a memory of words is wanted, which keeps none, or one at
+/// the path of the module; `Help` where they ask for help or the version; `NoMemory`.
 pub fn asked<'a>(alloc: Global, words: &'a [&'a str]) -> Result<Order<'a>, Usage>
     ensures range { IfOk result (λ asked. IsInRange asked.job) }
     ensures kept { IfOk result (λ asked. KeepsItsModule asked.job) }

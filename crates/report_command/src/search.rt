@@ -33,7 +33,8 @@ pub struct Search<'a> {
     pub shrink: bool,
     /// How many threads make runs; without a number as many as there are processors.
     pub jobs: Option<u32>,
-    /// Where every order of entries is gone through in place of drawn runs: how many states are met at most, 1 to 1,000,000,000.
+    /// Where every order of entries is gone through in place of drawn runs: how many states are met at most, 1 to
+    /// 1,000,000,000.
     pub all: Option<u32>,
     /// The path of the file at which the search ends, if there is one.
     pub until: Option<&'a str>,
@@ -170,8 +171,9 @@ const SHRINK: Argument = Argument {
     ..FLAG
 };
 
-/// The file that ends it. The launcher adds this option to the words of every search: what is said of words that are wrong is the same
-/// with it and without, since usage lines leave it out. So does the list of options, and the help's last line has it.
+/// The file that ends it. The launcher adds this option to the words of every search: what is said of words that are
+/// wrong is the same with it and without, since usage lines leave it out. So does the list of options, and the help's
+/// last line has it.
 const UNTIL: Argument = Argument {
     name: "until",
     value: "PATH",
@@ -180,8 +182,9 @@ const UNTIL: Argument = Argument {
     ..OPTION
 };
 
-/// `search FILE --invoke NAME [--runs N] [--from I] [--seed S] [--strategy random|pct:D] [--jobs N] [--all [--states N]]
-/// [--find WORDS] [--expect WORDS] [--record OUT] [--shrink] [--until PATH] [--fuel N] [--limit N] [--dump N] [ARG..]`
+/// `search FILE --invoke NAME [--runs N] [--from I] [--seed S] [--strategy random|pct:D] [--jobs N] [--all [--states
+/// N]] [--find WORDS] [--expect WORDS] [--record OUT] [--shrink] [--until PATH] [--fuel N] [--limit N] [--dump N]
+/// [ARG..]`
 pub(crate) static SEARCH: CommandRow = CommandRow {
     name: "search",
     call: "wathread search",

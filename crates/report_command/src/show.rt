@@ -158,8 +158,8 @@ const COLOR: Argument = Argument {
     ..OPTION
 };
 
-/// `show FILE RECORD [--lines A-B] [--thread T,..] [--addr A[-B]] [--names FILE2] [--width N] [--color WHEN] [--html OUT]
-/// [--trace OUT]`, and `show FILE RECORD --at LINE [--dump A:N] [--names FILE2]`
+/// `show FILE RECORD [--lines A-B] [--thread T,..] [--addr A[-B]] [--names FILE2] [--width N] [--color WHEN] [--html
+/// OUT] [--trace OUT]`, and `show FILE RECORD --at LINE [--dump A:N] [--names FILE2]`
 pub(crate) static SHOW: CommandRow = CommandRow {
     name: "show",
     call: "wathread show",

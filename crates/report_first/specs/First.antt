@@ -94,4 +94,5 @@ page_after address addend = if is_aligned address then page_with address addend 
 
 -- How the thread ends: with the value before the add, or by the trap.
 abbrev pub first_outcome : ℕ → Outcome
-first_outcome address = if is_aligned address then outcomes.Done (Some (values.I32 0)) else outcomes.Trap traps.UnalignedAtomic
+first_outcome address = if is_aligned address then outcomes.Done (Some (values.I32 0))
+    else outcomes.Trap traps.UnalignedAtomic

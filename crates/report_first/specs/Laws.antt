@@ -25,8 +25,8 @@ pub record IsFirstEnd (address addend : ℕ) (end : EndState) : Type 0 where
   pub pages : end.pages ≡ 1
   pub bytes : end.bytes.items ≡ page_after address addend
 
--- Every run of it that has four units or more, and a log that takes an entry if it has one, ends so: over a memory in which tries can be
--- lost, and over one in which they can't.
+-- Every run of it that has four units or more, and a log that takes an entry if it has one, ends so: over a memory in
+-- which tries can be lost, and over one in which they can't.
 abbrev pub FirstModulesEndSo : Type 0
 FirstModulesEndSo =
     (address addend fuel : ℕ) (loses : Bool) (limit : Option ℕ) (history : List Entry) (end : EndState)

@@ -12,7 +12,8 @@ use Rattle.report_first.specs.declared.bytes_to_lines.FirstFault.TheVariants as 
 
 -- The lines: the thread's, that of one page, and the first bytes where they are wanted.
 abbrev pub first_lines : ℕ → ℕ → ℕ → List ℕ
-first_lines address addend dump = thread_line 0 (first_outcome address) ++ pages_line 1 ++ bytes_line dump (page_after address addend)
+first_lines address addend dump = thread_line 0 (first_outcome address) ++ pages_line 1 ++ bytes_line dump
+    (page_after address addend)
 
 -- The status with which the program ends.
 abbrev pub first_status : ℕ → ℕ

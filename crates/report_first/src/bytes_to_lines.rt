@@ -230,7 +230,8 @@ fn all_done(reports: &[ThreadReport]) -> bool
     reports.iter().all(|report| is_done(report.outcome))
 }
 
-/// Prints how the threads ended and what the memory is, and answers the status: 0 where all ended well, and otherwise 1.
+/// Prints how the threads ended and what the memory is, and answers the status: 0 where all ended well, and otherwise
+/// 1.
 fn print<W: Write>(out: &mut W, end: &EndState, dump: u32) -> Result<u8, FirstFault>
     ensures lines { OnOk result (Appends (W.contents out.old) (W.contents out.new)
         (end_lines end.now.threads.items end.now.pages dump end.now.bytes.items)) }
@@ -243,16 +244,16 @@ fn print<W: Write>(out: &mut W, end: &EndState, dump: u32) -> Result<u8, FirstFa
     }
 }
 
-/// Runs a module of one atomic add, and writes the lines of its thread, of the page count, and of the first `dump` bytes (of
-/// all, if there are fewer; no line where `dump` is 0). Answers the program's status: 0, or 1 for a trap.
+/// Runs a module of one atomic add, and writes the lines of its thread, of the page count, and of the first `dump`
+/// bytes (of all, if there are fewer; no line where `dump` is 0). Answers the program's status: 0, or 1 for a trap.
 ///
-/// The modules are the 4,096 of 46 bytes whose function adds a number below 64 to the i32 at an address below 64 of a shared
-/// page, and answers the value before. An address that 4 doesn't divide traps, with no access. They are read, validated, run
-/// over the memory that records, and printed by the calls that serve every module.
+/// The modules are the 4,096 of 46 bytes whose function adds a number below 64 to the i32 at an address below 64 of a
+/// shared page, and answers the value before. An address that 4 doesn't divide traps, with no access. They are read,
+/// validated, run over the memory that records, and printed by the calls that serve every module.
 ///
 /// # Errors
-/// `NotHere` exactly where the bytes are none of these modules, and then nothing is written; `Memory` where memory is refused,
-/// and then nothing is written; `Writer` where the writer fails, and then what was written isn't said.
+/// `NotHere` exactly where the bytes are none of these modules, and then nothing is written; `Memory` where memory is
+/// refused, and then nothing is written; `Writer` where the writer fails, and then what was written isn't said.
 pub fn first<R, W>(
     rt: &R,
     alloc: Global,

@@ -11,8 +11,8 @@ pub fn first_modules_are_valid()
     ensures { FirstModulesAreValid }
 {}
 
-/// Whatever a run of it returns, over either memory: one thread ran, its outcome is that of an add to a zero, or the trap of
-/// an address that 4 doesn't divide; there is one page, of zeros but for the addend.
+/// Whatever a run of it returns, over either memory: one thread ran, its outcome is that of an add to a zero, or the
+/// trap of an address that 4 doesn't divide; there is one page, of zeros but for the addend.
 pub fn first_modules_end_so()
     ensures { FirstModulesEndSo }
 {}

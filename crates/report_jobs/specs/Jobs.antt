@@ -15,7 +15,8 @@ use Rattle.report_jobs.specs.Arguments.{CannotCall}
 use Rattle.report_jobs.specs.Prints.{Change, Request, PrintsRun, status_of}
 use Rattle.report_jobs.specs.declared.replaying.Unfit.{Unfit}
 use Rattle.report_jobs.specs.declared.replaying.Unfit.TheVariants.{Unread, Misfit, NoMemory, Output}
-use Rattle.validate_typing.specs.declared.fault.ValidFault.TheVariants.{OutOfMemory as ValidityOutOfMemory, Outside, InBody}
+use Rattle.validate_typing.specs.declared.fault.ValidFault.TheVariants.{OutOfMemory as ValidityOutOfMemory, Outside}
+use Rattle.validate_typing.specs.declared.fault.ValidFault.TheVariants.{InBody}
 use Rattle.report_jobs.specs.declared.loading.Refusal.{Refusal}
 use Rattle.report_jobs.specs.declared.loading.Refusal.TheVariants.{Read, Validity}
 
@@ -28,7 +29,8 @@ pub record IsAccepted (bytes : List ℕ) (old new : Option (List ℕ)) : Type 0 
 
 -- They are one with so many functions of its own.
 abbrev pub IsAcceptedAs : List ℕ → ℕ → Type 0
-IsAcceptedAs bytes count = (old new : Option (List ℕ)) → Appends old new (functions_line count) → IsAccepted bytes old new
+IsAcceptedAs bytes count = (old new : Option (List ℕ)) → Appends old new (functions_line count)
+    → IsAccepted bytes old new
 
 -- The bytes are no module's text.
 abbrev pub IsNoModule : List ℕ → Type 0
@@ -79,7 +81,8 @@ IsUnfit m saved Output = Unit {0}
 -- What a replay's fault says of the text of its record.
 abbrev pub IsUnfitFor : ReplayFault → Unfit → Type 0
 IsUnfitFor fault unfit =
-    (m : Parts) (r : RecordParts) (saved : List ℕ) → IsRecord r → saved ≡ record_text r → ShowsNoRun m r fault → IsUnfit m saved unfit
+    (m : Parts) (r : RecordParts) (saved : List ℕ) → IsRecord r → saved ≡ record_text r → ShowsNoRun m r fault
+    → IsUnfit m saved unfit
 
 -- A status says of what was refused: with 4 the bytes are the text of no record of a run of the module.
 abbrev pub IsStatusOfUnfit : Unfit → ℕ → Type 0
@@ -87,7 +90,8 @@ IsStatusOfUnfit unfit status = (m : Parts) (saved : List ℕ) → IsUnfit m save
 
 -- The same of a record, of the bytes that are its text.
 abbrev pub PrintsReplayOf : Parts → RecordParts → ℕ → Change → ℕ → Type 0
-PrintsReplayOf m r dump out status = (saved : List ℕ) → saved ≡ record_text r → PrintsReplay m saved dump out.old out.new status
+PrintsReplayOf m r dump out status = (saved : List ℕ) → saved ≡ record_text r
+    → PrintsReplay m saved dump out.old out.new status
 
 abbrev pub IsUnfitTextOf : Parts → RecordParts → Unfit → Type 0
 IsUnfitTextOf m r unfit = (saved : List ℕ) → saved ≡ record_text r → IsUnfit m saved unfit
@@ -126,16 +130,16 @@ pub record Checks (bytes : List ℕ) (out : Change) (status : ℕ) : Type 0 wher
   pub refused : status ≡ 2 → IsNoValidModule bytes
   pub statuses : (status ≡ 0) ⊎ (status ≡ 2) ⊎ (status ≡ 5)
 
--- What that of a run says: 0 and 1 of a run that was made, 2 of a refused module, 3 of a call that can't be made. 5 is that memory, a
--- thread or a stream failed.
+-- What that of a run says: 0 and 1 of a run that was made, 2 of a refused module, 3 of a call that can't be made. 5 is
+-- that memory, a thread or a stream failed.
 pub record Runs (bytes : List ℕ) (asked : Request) (out save : Change) (status : ℕ) : Type 0 where
   pub made : status ≤ 1 → HasRun bytes asked out save status
   pub refused : status ≡ 2 → IsNoValidModule bytes
   pub cannot : status ≡ 3 → HasNoSuchCall bytes asked
   pub statuses : (status ≤ 3) ⊎ (status ≡ 5)
 
--- What that of a replay says: 0 and 1 of a record of a run, 2 of a refused module, 4 of a record of no run. 5 is that memory or a stream
--- failed.
+-- What that of a replay says: 0 and 1 of a record of a run, 2 of a refused module, 4 of a record of no run. 5 is that
+-- memory or a stream failed.
 pub record Replays (bytes saved : List ℕ) (dump : ℕ) (out : Change) (status : ℕ) : Type 0 where
   pub replayed : status ≤ 1 → IsReplayed bytes saved dump out.old out.new status
   pub refused : status ≡ 2 → IsNoValidModule bytes

@@ -44,7 +44,8 @@ pub record Prints (end : EndState) (dump : ℕ) (out : Change) (status : ℕ) : 
   pub lines : Appends out.old out.new (end_lines end.threads.items end.pages dump end.bytes.items)
   pub status_is : status ≡ status_of end.threads.items
 
--- How a run is asked for: the name and the texts of the arguments, the budget, the memory, whether its record is wanted.
+-- How a run is asked for: the name and the texts of the arguments, the budget, the memory, whether its record is
+-- wanted.
 pub record Request : Type 0 where
   pub name : List ℕ
   pub texts : List (List ℕ)
@@ -56,7 +57,16 @@ pub record Request : Type 0 where
 
 abbrev pub request : List ℕ → List (List ℕ) → ℕ → ℕ → Bool → Bool → ℕ → Request
 request name texts fuel limit on_words is_kept dump =
-    record { name = name; texts = texts; fuel = fuel; limit = limit; on_words = on_words; is_kept = is_kept; dump = dump }
+    record {
+      name = name;
+      texts = texts;
+      fuel = fuel;
+      limit = limit;
+      on_words = on_words;
+      is_kept = is_kept;
+      dump =
+          dump;
+    }
 
 -- What was written is the text of a record, where that is wanted.
 abbrev pub IsKept : Bool → Change → RecordParts → Type 0

@@ -39,7 +39,8 @@ IsTrouble m name texts troubles.Save = Unit {0}
 -- A status says of what was refused: with 3 no function can be called so.
 abbrev pub IsStatusOfTrouble : Trouble → ℕ → Type 0
 IsStatusOfTrouble trouble status =
-    (m : Parts) (name : List ℕ) (texts : List (List ℕ)) → IsTrouble m name texts trouble → status ≡ 3 → CannotCall m name texts
+    (m : Parts) (name : List ℕ) (texts : List (List ℕ)) → IsTrouble m name texts trouble → status ≡ 3
+    → CannotCall m name texts
 
 -- That of a run that was asked for so.
 abbrev pub IsTroubleOf : Parts → Wanted → Trouble → Type 0

@@ -2,8 +2,9 @@
 ghost use Rattle.std.specs.Prelude.{◌≡◌, ◌≤◌, ◌⊎◌, length, IfOk, IfErr, OnOk};
 ghost use Rattle.std.specs.Io.KnownBytes.{Appends};
 ghost use Rattle.report_lines.specs.Lines.{functions_line};
-ghost use Rattle.types.specs.Limits.{most_fuel};
-ghost use Rattle.report_jobs.specs.Jobs.{IsAccepted, IsAcceptedAs, HasRun, HasNoSuchCall, IsReplayed, IsNoRecordOf, IsRefused};
+ghost use Rattle.types.specs.declared.limits.TheConstants.{MOST_FUEL};
+ghost use Rattle.report_jobs.specs.Jobs.{IsAccepted, IsAcceptedAs, HasRun, HasNoSuchCall, IsReplayed, IsNoRecordOf};
+ghost use Rattle.report_jobs.specs.Jobs.{IsRefused};
 ghost use Rattle.report_jobs.specs.Jobs.{IsNoValidModule, IsStatusOfRefusal, IsStatusOfUnfit};
 ghost use Rattle.report_jobs.specs.Prints.{changed};
 ghost use Rattle.report_jobs.specs.declared.loading.Refusal.{Refusal};
@@ -147,11 +148,11 @@ fn write_functions<W: Write>(out: &mut W, count: usize) -> io::Result<()>
     out.flush()
 }
 
-/// Runs a function of a module as is wanted, prints how its threads ended, the pages and the first bytes of the memory, and writes its
-/// record where one is wanted.
+/// Runs a function of a module as is wanted, prints how its threads ended, the pages and the first bytes of the memory,
+/// and writes its record where one is wanted.
 ///
-/// Answers 0 where all threads ended well and 1 for a trap or stop, both only of a run that was made and printed so; 2 for a refused
-/// module, 3 only where no function can be called so, and 5 where memory, a thread or a stream failed.
+/// Answers 0 where all threads ended well and 1 for a trap or stop, both only of a run that was made and printed so; 2
+/// for a refused module, 3 only where no function can be called so, and 5 where memory, a thread or a stream failed.
 pub fn run<R, W, E, S>(
     rt: &R,
     alloc: Global,
@@ -166,7 +167,7 @@ where
     W: Write,
     E: Write,
     S: Write,
-    requires { wanted.now.fuel ≤ most_fuel }
+    requires { wanted.now.fuel ≤ MOST_FUEL }
     ensures made { result ≤ 1 → HasRun «module».now (request_of wanted.now) (changed W.contents out.old out.new)
         (changed S.contents save.old save.new) result }
     ensures refused { result ≡ 2 → IsNoValidModule «module».now }
@@ -183,11 +184,11 @@ where
     }
 }
 
-/// Replays the record whose text the bytes are, and prints what its run printed: how the threads ended, the pages and the
-/// first `dump` bytes of the memory.
+/// Replays the record whose text the bytes are, and prints what its run printed: how the threads ended, the pages and
+/// the first `dump` bytes of the memory.
 ///
-/// Answers 0 or 1 only where the record is of a run of the module and its lines were written, 4 only where the bytes are the
-/// text of no record of a run of it, 2 for a refused module, and 5 where memory or a stream failed.
+/// Answers 0 or 1 only where the record is of a run of the module and its lines were written, 4 only where the bytes
+/// are the text of no record of a run of it, 2 for a refused module, and 5 where memory or a stream failed.
 pub fn replay_saved<W: Write, E: Write>(
     alloc: Global,
     module: &[u8],
@@ -196,7 +197,8 @@ pub fn replay_saved<W: Write, E: Write>(
     out: &mut W,
     err: &mut E,
 ) -> u8
-    ensures replayed { result ≤ 1 → IsReplayed «module».now saved.now dump (W.contents out.old) (W.contents out.new) result }
+    ensures replayed { result ≤ 1
+        → IsReplayed «module».now saved.now dump (W.contents out.old) (W.contents out.new) result }
     ensures refused { result ≡ 2 → IsNoValidModule «module».now }
     ensures none { result ≡ 4 → IsNoRecordOf «module».now saved.now }
     ensures status { (result ≤ 2) ⊎ (result ≡ 4) ⊎ (result ≡ 5) }

@@ -24,8 +24,8 @@ pub enum Refusal {
     Validity(ValidFault),
 }
 
-/// Reads a module in the binary format (Core specification 1.0, chapter 5). A fault other than out of memory comes only where
-/// the bytes spell none.
+/// Reads a module in the binary format (Core specification 1.0, chapter 5). A fault other than out of memory comes only
+/// where the bytes spell none.
 fn read_text(alloc: Global, bytes: &[u8]) -> Result<Module, Refusal>
     ensures ok { IfOk result (λ m. IsModuleText bytes.now m) }
     ensures err { IfErr result (λ e. IsRefused bytes.now e) }

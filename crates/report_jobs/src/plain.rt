@@ -12,14 +12,14 @@ use std::io::Write;
 use std::sync::Wait;
 use std::thread::Threads;
 
-/// Does a check, a run or a replay on a module's bytes: writes its lines, and at most one line about what went wrong; and the record
-/// that a run makes, after the lines.
+/// Does a check, a run or a replay on a module's bytes: writes its lines, and at most one line about what went wrong;
+/// and the record that a run makes, after the lines.
 ///
-/// The job's numbers are in their ranges, as those of a job are that `command` gives. `saved` has the bytes of the record that a
-/// replay reads, and else nothing.
+/// The job's numbers are in their ranges, as those of a job are that `command` gives. `saved` has the bytes of the
+/// record that a replay reads, and else nothing.
 ///
-/// Answers the program's status: 0 where the module was accepted or all threads ended well, 1 for a trap or stop, 2
-/// for a refused module, 3 for a refused run, 4 for a refused record, 5 where memory, a thread or a stream failed. A write
+/// Answers the program's status: 0 where the module was accepted or all threads ended well, 1 for a trap or stop, 2 for
+/// a refused module, 3 for a refused run, 4 for a refused record, 5 where memory, a thread or a stream failed. A write
 /// to `err` that fails doesn't change it.
 pub fn perform_plain<R, W, E, S>(
     rt: &R,

@@ -24,8 +24,8 @@ pub enum Unfit {
     Output,
 }
 
-/// Replays the record whose text the bytes are, and prints what its run printed. Answers the status: 0 where all threads
-/// ended well, 1 for a trap or stop.
+/// Replays the record whose text the bytes are, and prints what its run printed. Answers the status: 0 where all
+/// threads ended well, 1 for a trap or stop.
 pub(crate) fn replay_record<W: Write>(
     alloc: Global,
     module: &ValidModule,
@@ -33,7 +33,8 @@ pub(crate) fn replay_record<W: Write>(
     dump: u32,
     out: &mut W,
 ) -> Result<u8, Unfit>
-    ensures prints { IfOk result (PrintsReplay «module».now.parts saved.now dump (W.contents out.old) (W.contents out.new)) }
+    ensures prints { IfOk result (PrintsReplay «module».now.parts saved.now dump (W.contents out.old)
+        (W.contents out.new)) }
     ensures unfit { IfErr result (IsUnfit «module».now.parts saved.now) }
 {
     match read_record(alloc, saved) {
@@ -56,7 +57,8 @@ fn print_replay<W: Write>(
     out: &mut W,
 ) -> Result<u8, Unfit>
     requires { IsRecord recorded.now }
-    ensures prints { IfOk result (PrintsReplayOf «module».now.parts recorded.now dump (changed W.contents out.old out.new)) }
+    ensures prints { IfOk result
+        (PrintsReplayOf «module».now.parts recorded.now dump (changed W.contents out.old out.new)) }
     ensures unfit { IfErr result (IsUnfitTextOf «module».now.parts recorded.now) }
 {
     match replay(alloc, module, recorded) {

@@ -9,7 +9,8 @@ ghost use Rattle.replay_text.specs.Text.{record_text};
 ghost use Rattle.report_jobs.specs.Arguments.{AreSpelled, texts_in};
 ghost use Rattle.report_jobs.specs.Prints as specified;
 ghost use Rattle.report_jobs.specs.Prints.{Change, changed, Prints, PrintsRun, PrintsAndKeeps, IsKept};
-ghost use Rattle.report_jobs.specs.Troubles.{IsTroubleOf, IsUnwritten, AreArgumentsOf, request_of, trouble_of, trouble_of_recording};
+ghost use Rattle.report_jobs.specs.Troubles.{IsTroubleOf, IsUnwritten, AreArgumentsOf, request_of, trouble_of};
+ghost use Rattle.report_jobs.specs.Troubles.{trouble_of_recording};
 ghost use Rattle.report_jobs.specs.declared.running.Trouble.TheVariants as troubles;
 
 use crate::args::read_args;

@@ -112,7 +112,8 @@ fn is_refusal(status: u8, text: &str) -> bool {
         .any(|(number, form)| *number == status && has_form(line, form))
 }
 
-/// Whether a job can end so: with this status and these texts. Not that memory or threads ran out, or that a file failed.
+/// Whether a job can end so: with this status and these texts. Not that memory or threads ran out, or that a file
+/// failed.
 pub(crate) fn is_answer(status: u8, out: &[u8], err: &[u8]) -> bool {
     let (Ok(out), Ok(err)) = (str::from_utf8(out), str::from_utf8(err)) else {
         return false;

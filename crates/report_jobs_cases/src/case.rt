@@ -142,8 +142,8 @@ fn try_example<R: Threads + Wait + Sync>(
     Ok(())
 }
 
-/// Tries each front of the module of a case, and so many changed modules and records as it says. Counts them, and prints the bytes
-/// that came to no end that there is.
+/// Tries each front of the module of a case, and so many changed modules and records as it says. Counts them, and
+/// prints the bytes that came to no end that there is.
 ///
 /// # Errors
 /// Where memory is refused, the module can't be read, or the case names none, or no function.

@@ -1,8 +1,9 @@
-//! Cases of changed bytes: a module and the records of its runs, changed as a seed determines, with each front of the module. Each
-//! change is to come to one of the ends that there are, with its lines; and where a module is still accepted, its run's record is
-//! to be replayed to the same lines.
+//! Cases of changed bytes: a module and the records of its runs, changed as a seed determines, with each front of the
+//! module. Each change is to come to one of the ends that there are, with its lines; and where a module is still
+//! accepted, its run's record is to be replayed to the same lines.
 //!
-//! A file of cases is one for the library `test_cases`: `== TITLE`, and below it lines of a key, a space and what the key has.
+//! A file of cases is one for the library `test_cases`: `== TITLE`, and below it lines of a key, a space and what the
+//! key has.
 //!
 //! ```text
 //! module FILE            the module is this file, in the folder where the case is tried

@@ -1,5 +1,6 @@
-//! A program but for what it does of its jobs: the command line, the files and the streams. Of files there are the front of one that
-//! is read, and a record that takes the place of one once all of it is there; of streams one whose reader went away.
+//! A program but for what it does of its jobs: the command line, the files and the streams. Of files there are the
+//! front of one that is read, and a record that takes the place of one once all of it is there; of streams one whose
+//! reader went away.
 //!
 //! Proved: a job comes to what performs it only with its numbers in range. `read_front` gives the first bytes of a
 //! reader.

@@ -1,5 +1,5 @@
-//! Files that are read to some length at most, so that neither an endless nor a large one takes more time or memory than a file
-//! that can be accepted.
+//! Files that are read to some length at most, so that neither an endless nor a large one takes more time or memory
+//! than a file that can be accepted.
 ghost use Rattle.std.specs.Prelude.{◌≡◌, IfOk, IfSome, take};
 
 use std::alloc::Global;
@@ -66,8 +66,8 @@ pub fn read_module(rt: &HostRuntime, path: &str) -> Result<Vec<u8>, Unread> {
     Ok(read_front(rt.alloc(), file, MODULE_FRONT)?)
 }
 
-/// The bytes of a record's file, or of one that is too long for the record of a run as many as the longest can have; where it
-/// doesn't begin as a record does, only those that show it.
+/// The bytes of a record's file, or of one that is too long for the record of a run as many as the longest can have;
+/// where it doesn't begin as a record does, only those that show it.
 ///
 /// # Errors
 /// `File` where it can't be read, `NoMemory`.

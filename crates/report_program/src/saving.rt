@@ -58,8 +58,8 @@ impl Place {
     /// Where a record with this path goes: links are followed, and what is there stays as it is.
     ///
     /// # Errors
-    /// Where that is a folder, or can't be written, or nothing can be made beside it. Of the kind `OutOfMemory` where the system
-    /// had too little memory left.
+    /// Where that is a folder, or can't be written, or nothing can be made beside it. Of the kind `OutOfMemory` where
+    /// the system had too little memory left.
     pub fn new(rt: &HostRuntime, path: &str) -> io::Result<Place> {
         let found = match fs::metadata(rt, path) {
             Ok(found) => found,

@@ -9,7 +9,8 @@ use report_command::{Job, Misuse, Search, misused};
 use report_jobs::Streams;
 use std::io::{self, BufWriter, ErrorKind, Write};
 
-/// The bytes of standard output, which is written in one piece: 64 lines of threads, one of pages and 4096 bytes shown fit.
+/// The bytes of standard output, which is written in one piece: 64 lines of threads, one of pages and 4096 bytes shown
+/// fit.
 const OUT: usize = 16_384;
 
 /// The bytes of a line on standard error, beside a path in it.
@@ -18,8 +19,8 @@ const LINE: usize = 256;
 /// The bytes of a record that are written at once.
 const RECORD: usize = 65_536;
 
-/// A job that was begun: what was read for it, and where it writes. Standard output gets its lines in one piece; what is said on
-/// standard error is said when it ends, and then the file that it makes gets its path.
+/// A job that was begun: what was read for it, and where it writes. Standard output gets its lines in one piece; what
+/// is said on standard error is said when it ends, and then the file that it makes gets its path.
 #[derive(Drop)]
 pub struct Task<'a, W: Write + Drop> {
     pub input: Input,
@@ -81,7 +82,8 @@ fn keep_module<'a>(rt: &HostRuntime, job: &Job<'a>) -> Result<(), Stop<'a>> {
     }
 }
 
-/// Gives the file its path where the job made all of it, and else takes away what there is of it. Answers the job's status.
+/// Gives the file its path where the job made all of it, and else takes away what there is of it. Answers the job's
+/// status.
 fn finish(rt: &HostRuntime, job: &Job, status: u8, save: SavedFile) -> u8 {
     if status > 1 {
         save.give_up();
@@ -93,7 +95,8 @@ fn finish(rt: &HostRuntime, job: &Job, status: u8, save: SavedFile) -> u8 {
     }
 }
 
-/// Begins a job with what was read for it, and with the path and the place of the file that it makes. An error is that of memory.
+/// Begins a job with what was read for it, and with the path and the place of the file that it makes. An error is that
+/// of memory.
 fn begin<'a, W: Write + Drop>(
     rt: &'a HostRuntime,
     stdout: W,
@@ -127,12 +130,12 @@ fn prepare<'a, 'j, W: Write + Drop>(
     Ok(begin(rt, stdout, input, path, place, explain)?)
 }
 
-/// Begins a job: reads its files, and takes the place of the file that it makes and the memory of its streams. Where it is to explain, a
-/// copy of its lines is kept.
+/// Begins a job: reads its files, and takes the place of the file that it makes and the memory of its streams. Where it
+/// is to explain, a copy of its lines is kept.
 ///
 /// # Errors
-/// The status, once it was said on standard error why: 3 where the file would take the place of one that is read, 5 where a file or memory
-/// failed.
+/// The status, once it was said on standard error why: 3 where the file would take the place of one that is read, 5
+/// where a file or memory failed.
 pub fn open_task<'a, W: Write + Drop>(
     rt: &'a HostRuntime,
     stdout: W,
@@ -146,7 +149,8 @@ pub fn open_task<'a, W: Write + Drop>(
 }
 
 impl<W: Write + Drop> Task<'_, W> {
-    /// Says what went wrong, and keeps the file that the job made, if it came to a status with which there is one. Answers the status.
+    /// Says what went wrong, and keeps the file that the job made, if it came to a status with which there is one.
+    /// Answers the status.
     pub fn end(self, rt: &HostRuntime, job: &Job, status: u8) -> u8 {
         let Streams { out, err, save } = self.streams;
         if !out.get_ref().stream().is_closed() {

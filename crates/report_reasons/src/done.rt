@@ -5,11 +5,11 @@ ghost use Rattle.std.specs.String.{string_bytes};
 ghost use Rattle.report_reasons.specs.Added.{IsAddedTo};
 
 use crate::misfit::{Unfit, unfit_in};
+use crate::{Misfit, Refused, explain};
 use binary::read;
 use binary_wire::ReadFault;
 use replay_text::{Record, RecordFault, read_record};
 use report_command::Job;
-use crate::{Misfit, Refused, explain};
 use std::alloc::{AllocError, Global};
 use std::str::from_utf8;
 use types::Module;
@@ -28,8 +28,8 @@ pub struct Done<'a> {
     pub status: u8,
 }
 
-/// Adds to a text the lines that explain why a job came to its status: where threads were stopped (1), or its module (2), its
-/// call (3) or its record (4) was refused. Of other statuses there is nothing to say.
+/// Adds to a text the lines that explain why a job came to its status: where threads were stopped (1), or its module
+/// (2), its call (3) or its record (4) was refused. Of other statuses there is nothing to say.
 ///
 /// # Errors
 /// Where memory is refused; then the text stays as it was.
@@ -100,7 +100,8 @@ fn explain_call(alloc: Global, job: &Job, bytes: &[u8], out: &mut String) -> Res
     }
 }
 
-/// Adds the lines on a call, by this name and with so many arguments, that can't be made of the module that the bytes spell.
+/// Adds the lines on a call, by this name and with so many arguments, that can't be made of the module that the bytes
+/// spell.
 fn explain_invoke(
     alloc: Global,
     name: &str,

@@ -1,5 +1,5 @@
-//! The lines behind the one line on standard error, for which `--explain` asks: why a job's module, call or record is refused or its
-//! threads were stopped, and what to do.
+//! The lines behind the one line on standard error, for which `--explain` asks: why a job's module, call or record is
+//! refused or its threads were stopped, and what to do.
 //!
 //! Proved: `explain` and `explain_done` add to a text, or leave it as it was.
 #![tactic(auto)]

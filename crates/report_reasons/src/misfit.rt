@@ -1,5 +1,6 @@
 //! What the thread of a record's line does in place of it.
 
+use crate::Instead;
 use binary::read;
 use interp::{Place, Thread};
 use interp_trait::Turn;
@@ -7,14 +8,13 @@ use replay::{ReplayFault, replay_watched};
 use replay_text::Record;
 use replay_walk::{Walk, Watch};
 use shared_memory_sequential::OneMemory;
-use crate::Instead;
 use show_rows::CodeMap;
 use std::alloc::{AllocError, Global};
 use types::{Entry, Parts};
 use validate::{ValidModule, validate};
 
-/// Of the entry that comes next along a log: where its thread stands behind its last entry, and what it comes to from there by
-/// turns of its own.
+/// Of the entry that comes next along a log: where its thread stands behind its last entry, and what it comes to from
+/// there by turns of its own.
 #[derive(Drop)]
 struct Next<'a> {
     log: &'a [Entry],

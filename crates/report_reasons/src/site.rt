@@ -1,8 +1,7 @@
 //! Where in a module's bytes an offset lies.
 
 use binary_wire::Reader;
-use show_places::{function_name, read_names};
-use show_places::{Section, next_section, section_of};
+use show_places::{Section, function_name, next_section, read_names, section_of};
 use show_text::Plain;
 use std::alloc::{AllocError, Global};
 

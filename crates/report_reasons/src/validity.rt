@@ -1,8 +1,7 @@
 //! Modules that aren't valid.
 
 use crate::site::add_function;
-use show_places::code_places;
-use show_places::section_of;
+use show_places::{code_places, section_of};
 use show_text::Plain;
 use std::alloc::{AllocError, Global};
 use types::{Import, ImportDesc, Parts};

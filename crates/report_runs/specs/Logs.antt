@@ -21,11 +21,12 @@ of_callers caller loses opening limit = record {
   seen = λ s. (caller s).seen;
 }
 
--- With the seats of a whole run, the log that a recorder gives up is the history that they all saw: neither longer nor another.
--- The list of each seat begins that log, which has of its name what it has, and has entries of no other names.
+-- With the seats of a whole run, the log that a recorder gives up is the history that they all saw: neither longer nor
+-- another. The list of each seat begins that log, which has of its name what it has, and has entries of no other names.
 abbrev pub TheLogIsTheHistorySeen : Type 0 → Type 0
 TheLogIsTheHistorySeen S =
-    (caller : S → Caller) (m : Parts) (entry : List ℕ) (args : List Value) (fuel : ℕ) (loses : Bool) (opening : Memory) (limit : Option ℕ)
+    (caller : S → Caller) (m : Parts) (entry : List ℕ) (args : List Value) (fuel : ℕ) (loses : Bool) (opening : Memory)
+    (limit : Option ℕ)
     (threads : List ThreadReport) (seats : List S) (log : List Entry) (count : ℕ) (contents : List ℕ)
     → (run : IsRun m entry args fuel (of_callers caller loses opening limit) threads seats)
     → All (λ s. Begins (caller s) log) seats

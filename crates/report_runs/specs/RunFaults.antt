@@ -1,5 +1,5 @@
--- Why there is no run over a memory of its own. The memory of a valid module can always be opened where there is room for it; so
--- what the caller gets wrong is told as such, whatever room there is.
+-- Why there is no run over a memory of its own. The memory of a valid module can always be opened where there is room
+-- for it; so what the caller gets wrong is told as such, whatever room there is.
 use Rattle.std.specs.Prelude.{ℕ, ◌≤◌, List}
 use Rattle.types.specs.declared.value.Value.{Value}
 use Rattle.types.specs.declared.parts.Parts.{Parts}
@@ -16,8 +16,8 @@ use Rattle.report_runs.specs.declared.recording.RecordRunFault.TheVariants as fa
 abbrev pub IsLogLimit : ℕ → Type 0
 IsLogLimit limit = (1 ≤ limit) × (limit ≤ MOST_LIMIT)
 
--- Over a memory that records: the limit of its log is out of its range; or it isn't, and the call can't be made; or it can, and
--- the system had too little memory left, or started no further thread.
+-- Over a memory that records: the limit of its log is out of its range; or it isn't, and the call can't be made; or it
+-- can, and the system had too little memory left, or started no further thread.
 abbrev pub IsRecordingFault : Parts → List ℕ → List Value → ℕ → RecordRunFault → Type 0
 IsRecordingFault m name args limit (faults.Open open_faults.PastLimit) = IsLogLimit limit → ⊥
 IsRecordingFault m name args limit (faults.Open open_faults.NoMemory) = IsLogLimit limit × Takes m name args
@@ -43,7 +43,8 @@ IsWordsFaultOf m call = IsWordsFault m call.name.now call.args.now
 
 -- The same of each call that can be made.
 abbrev pub IsRecordingFaultOfAll : Parts → ℕ → RecordRunFault → Type 0
-IsRecordingFaultOfAll m limit fault = (name : List ℕ) (args : List Value) → Takes m name args → IsRecordingFault m name args limit fault
+IsRecordingFaultOfAll m limit fault = (name : List ℕ) (args : List Value) → Takes m name args
+    → IsRecordingFault m name args limit fault
 
 abbrev pub IsWordsFaultOfAll : Parts → RecordRunFault → Type 0
 IsWordsFaultOfAll m fault = (name : List ℕ) (args : List Value) → Takes m name args → IsWordsFault m name args fault

@@ -1,5 +1,5 @@
-//! What the types of a record's parts say of its numbers, and that of modules of their memories: functions that only look, for
-//! the facts.
+//! What the types of a record's parts say of its numbers, and that of modules of their memories: functions that only
+//! look, for the facts.
 ghost use Rattle.std.specs.List.{All};
 ghost use Rattle.std.specs.Prelude.{◌≡◌, ◌≤◌, true};
 ghost use Rattle.std.specs.Str.{is_utf8};

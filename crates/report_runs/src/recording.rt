@@ -1,12 +1,13 @@
 //! A run over the memory that records.
 ghost use Rattle.std.specs.Prelude.{◌≡◌, ◌≤◌, ◌+◌, ◌++◌, [], length, vec_len, vec_capacity, IfOk, OnOk, IfErr};
-ghost use Rattle.types.specs.Limits.{most_threads, most_limit, most_fuel};
+ghost use Rattle.types.specs.declared.limits.TheConstants.{MOST_THREADS, MOST_LIMIT, MOST_FUEL};
 ghost use Rattle.spawn_host.specs.Runs.{opening_memory};
 ghost use Rattle.replay.specs.Runs.{IsRunOf};
 ghost use Rattle.replay.specs.Recorded.{RecordsRun};
 ghost use Rattle.report_runs.specs.FaultNumbers.{record_run_fault_number};
 ghost use Rattle.report_runs.specs.Called.{RecordsCall};
-ghost use Rattle.report_runs.specs.RunFaults.{IsFaultOfCall, IsRecordingFault, IsRecordingFaultOf, IsRecordingFaultOfAll};
+ghost use Rattle.report_runs.specs.RunFaults.{IsFaultOfCall, IsRecordingFault, IsRecordingFaultOf};
+ghost use Rattle.report_runs.specs.RunFaults.{IsRecordingFaultOfAll};
 ghost use Rattle.report_runs.specs.declared.recording.RecordRunFault.TheVariants as faults;
 ghost use Rattle.spawn_host.specs.Entries.{Takes};
 ghost use Rattle.replay_text.specs.Text.{IsRecord};
@@ -87,18 +88,18 @@ struct Header {
     ends: Vec<ThreadReport>,
 }
 
-/// Runs an exported function over a new memory that records, and gives the record of the run, and what the run leaves. The
-/// limit is 1 to 1,000,000 entries, and the fuel of the call 0 to 1,000,000,000,000 units.
+/// Runs an exported function over a new memory that records, and gives the record of the run, and what the run leaves.
+/// The limit is 1 to 1,000,000 entries, and the fuel of the call 0 to 1,000,000,000,000 units.
 ///
 /// There is one history that all threads saw: the record's log. It is legal for the memory and for the wait queue; each
 /// thread's report follows from its own entries in it; and one thread that steps all threads along it comes to the same
 /// reports, pages and bytes. So the record is of a run of the module, and that ends as this one did.
 ///
 /// # Errors
-/// `Open` with `PastLimit` exactly where the limit is out of its range. Otherwise `Run` with `UnknownExport` exactly where no
-/// function of the module itself is exported under the name, and with `WrongArguments` exactly where one is, and the arguments
-/// don't fit it. Otherwise `NoMemory`, `Open` or `Run` where memory is refused, and `Run` with `NoThread` where the system
-/// starts no further thread. All come before the first turn.
+/// `Open` with `PastLimit` exactly where the limit is out of its range. Otherwise `Run` with `UnknownExport` exactly
+/// where no function of the module itself is exported under the name, and with `WrongArguments` exactly where one is,
+/// and the arguments don't fit it. Otherwise `NoMemory`, `Open` or `Run` where memory is refused, and `Run` with
+/// `NoThread` where the system starts no further thread. All come before the first turn.
 pub fn record_run<G, R>(
     rt: &R,
     alloc: Global,
@@ -110,7 +111,7 @@ pub fn record_run<G, R>(
 where
     G: Gate + Sync,
     R: Threads + Wait + Sync,
-    requires fuel { call.fuel ≤ most_fuel }
+    requires fuel { call.fuel ≤ MOST_FUEL }
     ensures record { IfOk result (λ r. RecordsCall «module».now.parts call.entry limit r.0 r.1) }
     ensures run { IfOk result (λ r. IsRunOf «module».now.parts r.0 r.1) }
     ensures fault { IfErr result (IsRecordingFaultOf «module».now.parts call.entry limit) }

@@ -1,6 +1,6 @@
 //! A run over the row of words.
 ghost use Rattle.std.specs.Prelude.{◌≡◌, ◌≤◌, ◌*◌, [], length, vec_capacity, IfOk, IfErr};
-ghost use Rattle.types.specs.Limits.{page_size};
+ghost use Rattle.types.specs.declared.limits.TheConstants.{PAGE_SIZE};
 ghost use Rattle.spawn_host.specs.Entries.{Takes};
 ghost use Rattle.spawn_host.specs.Runs.{opening_memory};
 ghost use Rattle.report_runs.specs.Called.{EndsCallOnWords};
@@ -21,15 +21,15 @@ use word_row::{ClosedRow, Naming, Prepared, WordRow};
 
 /// Runs an exported function over a new row of words, and gives what the run leaves. The call may have any fuel.
 ///
-/// There is one history that all threads saw, though no memory keeps it: it is legal for the memory and for the wait queue;
-/// each thread's report follows from its own entries in it; and one thread that steps all threads along it comes to the same
-/// reports, pages and bytes.
+/// There is one history that all threads saw, though no memory keeps it: it is legal for the memory and for the wait
+/// queue; each thread's report follows from its own entries in it; and one thread that steps all threads along it comes
+/// to the same reports, pages and bytes.
 ///
 /// # Errors
 /// `Run` with `UnknownExport` exactly where no function of the module itself is exported under the name, and with
-/// `WrongArguments` exactly where one is, and the arguments don't fit it. Otherwise `NoMemory`, `Open` or `Run` where memory is
-/// refused, and `Run` with `NoThread` where the system starts no further thread. All come before the first turn: room for the
-/// final bytes is taken before it, and nothing afterwards.
+/// `WrongArguments` exactly where one is, and the arguments don't fit it. Otherwise `NoMemory`, `Open` or `Run` where
+/// memory is refused, and `Run` with `NoThread` where the system starts no further thread. All come before the first
+/// turn: room for the final bytes is taken before it, and nothing afterwards.
 pub fn run_on_words<G, R>(
     rt: &R,
     alloc: Global,
@@ -77,7 +77,7 @@ where
     requires image { B.opening ≡ opening_memory «module».now.parts }
     requires takes { Takes «module».now.parts call.name.now call.args.now }
     requires none { bytes.items ≡ [] }
-    requires room { page_size * (opening_memory «module».now.parts).max ≤ vec_capacity bytes }
+    requires room { PAGE_SIZE * (opening_memory «module».now.parts).max ≤ vec_capacity bytes }
     ensures end { IfOk result (EndsCallOnWords «module».now.parts call.entry) }
     ensures fault { IfErr result (IsWordsFaultOf «module».now.parts call.entry) }
 {

@@ -3,7 +3,8 @@
 //! fail; files of which a front is read, records that take the place of a file once all of them is there, and streams
 //! that nobody reads; what a record holds. `report_cases` has command lines and what they print.
 //!
-//! The scheduled machine is stepped along the schedules of real runs, and each law of schedules and of walks is called once.
+//! The scheduled machine is stepped along the schedules of real runs, and each law of schedules and of walks is called
+//! once.
 #![tactic(auto)]
 
 #[cfg(test)]

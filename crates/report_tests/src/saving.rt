@@ -24,7 +24,8 @@ fn has(rt: &HostRuntime, path: &str, text: Option<&str>) -> bool {
     }
 }
 
-/// Writes a record at a path where this text is, if there is one. Answers whether that stayed while the record was written.
+/// Writes a record at a path where this text is, if there is one. Answers whether that stayed while the record was
+/// written.
 fn save(rt: &HostRuntime, path: &str, before: Option<&str>, end: End) -> io::Result<bool> {
     let mut file = SavedFile::new(rt, Some(Place::new(rt, path)?));
     let untouched = has(rt, path, before);
@@ -46,8 +47,8 @@ static SAVED: [(Option<&str>, End, Option<&str>); 4] = [
     (Some("old"), End::GivenUp, Some("old")),
 ];
 
-/// Writes a record, and answers whether all went as it has to: what is there before stays, and what is there behind it is
-/// the only file of the room.
+/// Writes a record, and answers whether all went as it has to: what is there before stays, and what is there behind it
+/// is the only file of the room.
 fn is_saved(
     rt: &HostRuntime,
     room: &PathBuf,

@@ -171,8 +171,8 @@ fn one_thread_alone(rt: HostRuntime) -> Result<(), Fail> {
     Ok(())
 }
 
-/// Of these marks the first is a try that can't be lost, one is of a thread that isn't there, one finds no full log, and the last is
-/// of a thread that has left.
+/// Of these marks the first is a try that can't be lost, one is of a thread that isn't there, one finds no full log,
+/// and the last is of a thread that has left.
 const SOME_IDLE: [Mark; 10] = [
     Mark {
         thread: 0,
@@ -216,7 +216,8 @@ const SOME_IDLE: [Mark; 10] = [
     },
 ];
 
-/// The thread spends a unit on each of two constants, on the try that it loses, on the one that it makes, and on its return.
+/// The thread spends a unit on each of two constants, on the try that it loses, on the one that it makes, and on its
+/// return.
 #[test]
 fn some_marks_are_idle(rt: HostRuntime) -> Result<(), Fail> {
     let bytes = ADDING.bytes(rt.alloc())?;

@@ -10,8 +10,8 @@ use std::test::Fail;
 use std::thread::Threads;
 use test_modules::COUNTDOWN;
 
-/// A budget of a hundred million units or one less and the number that is counted down from, what is printed, with which status,
-/// and the end of the record.
+/// A budget of a hundred million units or one less and the number that is counted down from, what is printed, with
+/// which status, and the end of the record.
 struct Count {
     lacks: u64,
     from: &'static str,
@@ -60,7 +60,8 @@ fn wanted_of<'a>(count: &Count, on_words: bool, path: &'a str, args: &'a [&'a st
     }
 }
 
-/// Counts down over one memory. Answers what was written to the record, where the printed lines are those that are wanted.
+/// Counts down over one memory. Answers what was written to the record, where the printed lines are those that are
+/// wanted.
 fn counted<R: Threads + Wait + Sync>(
     rt: &R,
     alloc: Global,

@@ -64,9 +64,9 @@ impl Write for Narrow {
     }
 }
 
-/// Runs the atomic add with so much room on standard output and in the record's file, which take so many bytes at once. Answers
-/// whether this is said of it, with this status, and each of the two took what it has room for: the record nothing where standard
-/// output failed.
+/// Runs the atomic add with so much room on standard output and in the record's file, which take so many bytes at once.
+/// Answers whether this is said of it, with this status, and each of the two took what it has room for: the record
+/// nothing where standard output failed.
 fn is_said<R: Threads + Wait + Sync>(
     rt: &R,
     alloc: Global,

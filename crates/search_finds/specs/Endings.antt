@@ -1,4 +1,5 @@
--- The ending of a run: how its threads ended, whatever they have spent, the page count, and the first bytes of the memory.
+-- The ending of a run: how its threads ended, whatever they have spent, the page count, and the first bytes of the
+-- memory.
 use Rattle.std.specs.Prelude.{ℕ, ◌≡◌, List, map, take}
 use Rattle.types.specs.declared.outcome.Outcome.{Outcome}
 use Rattle.spawn_host.specs.declared.end.EndState.{EndState}

@@ -6,7 +6,8 @@ use Rattle.search_finds.specs.declared.met.Met.{Met}
 use Rattle.search_finds.specs.declared.met.Table.{Table}
 use Rattle.search_finds.specs.Endings.{AreOneEnding}
 
--- The ending was met in one run more than before: its count is one more, its first run is the same, and all others are as they were.
+-- The ending was met in one run more than before: its count is one more, its first run is the same, and all others are
+-- as they were.
 pub record IsMetAgain (e : Ending) (old new : List Met) : Type 0 where
   pub place : ℕ
   pub within : place < length old

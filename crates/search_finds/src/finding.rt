@@ -6,8 +6,8 @@ ghost use Rattle.search_finds.specs.Finds.{IsFind, IsMet, EndsAsLookedFor};
 ghost use Rattle.search_finds.specs.Halts.{IfFound};
 
 use crate::sought::Sought;
-use report_choice::{MOST_DEPTH, Way};
 use crate::{Ending, Table, ending_of};
+use report_choice::{MOST_DEPTH, Way};
 use search_reach::{Follows, Wish};
 use search_scheduled::{Made, SearchFault, Spares, run_along, run_with_spares};
 use search_strategies::{Along, Pct, Random};
@@ -55,7 +55,8 @@ struct Search<'a> {
     ghost some: { 0 < entries },
 }
 
-/// How many entries the run has in which a thread goes on as long as it can: among so many lie the points at which priorities change.
+/// How many entries the run has in which a thread goes on as long as it can: among so many lie the points at which
+/// priorities change.
 fn plain_entries(
     alloc: Global,
     module: &ValidModule,
@@ -79,7 +80,8 @@ impl<'a> Search<'a> {
     fn run(&self, alloc: Global, run: u64, spares: &mut Spares<'a>) -> Result<Made, SearchFault>
         requires { AreSpares meaning_in self.now.«module».now.parts self.now.call.fuel spares.old.threads.items }
         ensures find { IfOk result (IsFind self.now.«module».now.parts self.now.call self.now.sought.limit) }
-        ensures spares { OnOk result (AreSpares meaning_in self.now.«module».now.parts self.now.call.fuel spares.new.threads.items) }
+        ensures spares { OnOk result
+            (AreSpares meaning_in self.now.«module».now.parts self.now.call.fuel spares.new.threads.items) }
     {
         let sought = &self.sought;
         match sought.way {
@@ -117,8 +119,10 @@ impl<'a> Search<'a> {
         spares: &mut Spares<'a>,
     ) -> Result<Ending, SearchFault>
         requires { AreSpares meaning_in self.now.«module».now.parts self.now.call.fuel spares.old.threads.items }
-        ensures met { IfOk result (IsMet self.now.«module».now.parts self.now.call self.now.sought.limit self.now.sought.dump) }
-        ensures spares { OnOk result (AreSpares meaning_in self.now.«module».now.parts self.now.call.fuel spares.new.threads.items) }
+        ensures met { IfOk result
+            (IsMet self.now.«module».now.parts self.now.call self.now.sought.limit self.now.sought.dump) }
+        ensures spares { OnOk result
+            (AreSpares meaning_in self.now.«module».now.parts self.now.call.fuel spares.new.threads.items) }
     {
         let made = self.run(alloc, run, spares)?;
         Ok(ending_of(alloc, &made.end, self.sought.dump)?)
@@ -142,7 +146,8 @@ impl<'a> Search<'a> {
 
     /// Makes the run of this number, which is given where it ends as is looked for.
     fn found(&self, alloc: Global, run: u64) -> Result<Option<Found>, SearchFault>
-        ensures { IfOk result (λ found. IfSome found (λ f. IsFind self.now.«module».now.parts self.now.call self.now.sought.limit f.made
+        ensures { IfOk result (λ found. IfSome found
+            (λ f. IsFind self.now.«module».now.parts self.now.call self.now.sought.limit f.made
             × EndsAsLookedFor self.now.sought self.now.sought.dump f.made.end)) }
     {
         let made = self.run_anew(alloc, run)?;
@@ -173,13 +178,17 @@ impl<'a> Search<'a> {
         endings: &mut Vec<Ending>,
         pieces: &mut Vec<Result<Vec<Ending>, SearchFault>>,
     ) -> Result<(), SearchFault>
-        requires endings { All (IsMet self.now.«module».now.parts self.now.call self.now.sought.limit self.now.sought.dump)
+        requires endings { All (IsMet self.now.«module».now.parts self.now.call self.now.sought.limit
+            self.now.sought.dump)
             endings.old.items }
-        requires pieces { All (λ piece. IfOk piece (λ made. All (IsMet self.now.«module».now.parts self.now.call self.now.sought.limit
+        requires pieces { All (λ piece. IfOk piece
+            (λ made. All (IsMet self.now.«module».now.parts self.now.call self.now.sought.limit
             self.now.sought.dump) made.items)) pieces.old.items }
-        ensures endings { OnOk result (All (IsMet self.now.«module».now.parts self.now.call self.now.sought.limit self.now.sought.dump)
+        ensures endings { OnOk result
+            (All (IsMet self.now.«module».now.parts self.now.call self.now.sought.limit self.now.sought.dump)
             endings.new.items) }
-        ensures pieces { OnOk result (All (λ piece. IfOk piece (λ made. All (IsMet self.now.«module».now.parts self.now.call
+        ensures pieces { OnOk result
+            (All (λ piece. IfOk piece (λ made. All (IsMet self.now.«module».now.parts self.now.call
             self.now.sought.limit self.now.sought.dump) made.items)) pieces.new.items) }
     {
         let Some(piece) = pieces.pop() else {
@@ -219,8 +228,8 @@ impl<'a> Search<'a> {
         Ok(endings)
     }
 
-    /// The ending of the run of this number, with which `left` runs are left: one that was made ahead, or it is made, and others after
-    /// it.
+    /// The ending of the run of this number, with which `left` runs are left: one that was made ahead, or it is made,
+    /// and others after it.
     fn next_ending<R: Threads + Sync>(
         &self,
         rt: &R,
@@ -230,9 +239,12 @@ impl<'a> Search<'a> {
         left: u64,
         ahead: &mut Vec<Ending>,
     ) -> Result<Ending, SearchFault>
-        requires { All (IsMet self.now.«module».now.parts self.now.call self.now.sought.limit self.now.sought.dump) ahead.old.items }
-        ensures met { IfOk result (IsMet self.now.«module».now.parts self.now.call self.now.sought.limit self.now.sought.dump) }
-        ensures ahead { OnOk result (All (IsMet self.now.«module».now.parts self.now.call self.now.sought.limit self.now.sought.dump)
+        requires { All (IsMet self.now.«module».now.parts self.now.call self.now.sought.limit self.now.sought.dump)
+            ahead.old.items }
+        ensures met { IfOk result
+            (IsMet self.now.«module».now.parts self.now.call self.now.sought.limit self.now.sought.dump) }
+        ensures ahead { OnOk result
+            (All (IsMet self.now.«module».now.parts self.now.call self.now.sought.limit self.now.sought.dump)
             ahead.new.items) }
     {
         if let Some(ending) = ahead.pop() {
@@ -246,12 +258,13 @@ impl<'a> Search<'a> {
     }
 }
 
-/// Makes runs of an exported function of a module in the order of their numbers, by so many threads, and notes the ending of each, up to
-/// the first that is looked for, or behind which the follower tells it to end. Run number I of a seed is the same run, whoever makes it,
-/// and so is what is found. The follower hears of each how many were made, with how many endings.
+/// Makes runs of an exported function of a module in the order of their numbers, by so many threads, and notes the
+/// ending of each, up to the first that is looked for, or behind which the follower tells it to end. Run number I of a
+/// seed is the same run, whoever makes it, and so is what is found. The follower hears of each how many were made, with
+/// how many endings.
 ///
-/// Each ending of the table is one of a run of the module by the call, and so is what is found: it ends as is looked for. Where nothing
-/// is found, all runs were made, or the follower's last wish is that it ends.
+/// Each ending of the table is one of a run of the module by the call, and so is what is found: it ends as is looked
+/// for. Where nothing is found, all runs were made, or the follower's last wish is that it ends.
 ///
 /// # Errors
 /// As of `run_along`.
@@ -265,7 +278,8 @@ pub fn first_found<R: Threads + Sync, F: Follows>(
     follower: &mut F,
 ) -> Result<Searched, SearchFault>
     requires { sought.now.from + sought.now.runs < 2 ^ 64 }
-    ensures met { IfOk result (λ s. All (λ met. IsMet «module».now.parts call.entry sought.now.limit sought.now.dump met.ending)
+    ensures met { IfOk result
+        (λ s. All (λ met. IsMet «module».now.parts call.entry sought.now.limit sought.now.dump met.ending)
         s.table.met.items) }
     ensures found { IfOk result (λ s. IfFound s.halt (λ f. IsFind «module».now.parts call.entry sought.now.limit f.made
         × EndsAsLookedFor sought.now sought.now.dump f.made.end)) }

@@ -1,5 +1,5 @@
-//! Searching: many runs of a module along schedules that are drawn, the first with an ending that is looked for, and of that one a
-//! run with few switches of threads.
+//! Searching: many runs of a module along schedules that are drawn, the first with an ending that is looked for, and of
+//! that one a run with few switches of threads.
 //!
 //! Proved: a find is a run of the module by the call that ends as is looked for; each ending of a table is one of such
 //! a run. Where none is found, all runs that were asked for were made, or the follower's last wish was to end.
@@ -7,14 +7,14 @@
 //!
 //! - `Sought` says which runs are made, and what is looked for.
 //! - `Ending` is how a run ended, and `Table` counts the endings that were met.
-//! - `first_found` makes them one by one and notes their endings, up to the first that is looked for, or until it is told to end; `Halt`
-//!   says which.
-//! - `shrunk` tries parts of that run's schedule; a run that ends alike with fewer switches, or with as many and fewer entries, takes
-//!   its place.
+//! - `first_found` makes them one by one and notes their endings, up to the first that is looked for, or until it is
+//!   told to end; `Halt` says which.
+//! - `shrunk` tries parts of that run's schedule; a run that ends alike with fewer switches, or with as many and fewer
+//!   entries, takes its place.
 //! - `run_to` follows choices to an ending: it answers a run only where that ends so.
 //!
-//! All runs are `search_scheduled::run_along`'s: so what is found, and what becomes of it, is a run of the module (`IsFind`,
-//! specs/Finds.antt).
+//! All runs are `search_scheduled::run_along`'s: so what is found, and what becomes of it, is a run of the module
+//! (`IsFind`, specs/Finds.antt).
 #![tactic(auto)]
 
 mod ending;

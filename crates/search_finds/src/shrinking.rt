@@ -3,8 +3,8 @@ ghost use Rattle.std.specs.Prelude.{IfOk, IfSome};
 ghost use Rattle.search_finds.specs.Endings.{HaveOneEnding};
 ghost use Rattle.search_finds.specs.Finds.{IsFind};
 
-use crate::size::{schedule_of, size_of};
 use crate::have_one_ending;
+use crate::size::{schedule_of, size_of};
 use search_scheduled::{Made, SearchFault, run_along};
 use search_strategies::Along;
 use spawn_host::Call;
@@ -51,7 +51,8 @@ fn without(alloc: Global, schedule: &[u32], cut: Cut) -> Result<Vec<u32>, AllocE
     Ok(rest)
 }
 
-/// Tries the run whose schedule is that of another without a cut: it is given where it is smaller and ends as the other.
+/// Tries the run whose schedule is that of another without a cut: it is given where it is smaller and ends as the
+/// other.
 fn tried(
     alloc: Global,
     module: &ValidModule,
@@ -96,8 +97,8 @@ fn better(
     }
 }
 
-/// Of a run a smaller one that ends alike, found by leaving out parts of its schedule, halves first and single stretches last
-/// (delta debugging), in 10,000 runs at most.
+/// Of a run a smaller one that ends alike, found by leaving out parts of its schedule, halves first and single
+/// stretches last (delta debugging), in 10,000 runs at most.
 ///
 /// # Errors
 /// As of `run_along`.

@@ -4,8 +4,8 @@ use replay_text::Record;
 use std::alloc::{AllocError, Global};
 use types::Event;
 
-/// How often another thread makes the next event, and how many entries the log has. Fewer switches are smaller, and of as many switches
-/// fewer entries.
+/// How often another thread makes the next event, and how many entries the log has. Fewer switches are smaller, and of
+/// as many switches fewer entries.
 #[derive(Clone, Copy, PartialEq, Eq, PartialOrd, Ord)]
 pub struct Size {
     pub switches: usize,

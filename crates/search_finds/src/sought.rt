@@ -3,8 +3,8 @@ ghost use Rattle.std.specs.Prelude.{◌≡◌, ◌↔◌, true, IfOk, Some};
 ghost use Rattle.search_finds.specs.Words.{HasLineWith, LacksInThread0};
 ghost use Rattle.search_finds.specs.Finds.{IsLookedFor};
 
-use report_choice::Way;
 use crate::{Ending, has_line_with, lacks_in_thread_0};
+use report_choice::Way;
 use std::alloc::{AllocError, Global};
 
 /// Which runs are made, and what is looked for.
@@ -27,7 +27,8 @@ pub struct Sought<'a> {
 
 /// Whether some thread's line has the words, where there are words.
 fn is_found(alloc: Global, ending: &Ending, words: Option<&str>) -> Result<bool, AllocError>
-    ensures { IfOk result (λ is. (is ≡ true) ↔ ((w : _) × (words.entry ≡ Some w) × HasLineWith w.now ending.now.outcomes.items)) }
+    ensures { IfOk result (λ is. (is ≡ true) ↔ ((w : _) × (words.entry ≡ Some w)
+        × HasLineWith w.now ending.now.outcomes.items)) }
 {
     match words {
         Some(words) => has_line_with(alloc, ending, words),
@@ -37,7 +38,8 @@ fn is_found(alloc: Global, ending: &Ending, words: Option<&str>) -> Result<bool,
 
 /// Whether thread 0's line hasn't the words, where there are words.
 fn is_unexpected(alloc: Global, ending: &Ending, words: Option<&str>) -> Result<bool, AllocError>
-    ensures { IfOk result (λ is. (is ≡ true) ↔ ((w : _) × (words.entry ≡ Some w) × LacksInThread0 w.now ending.now.outcomes.items)) }
+    ensures { IfOk result (λ is. (is ≡ true) ↔ ((w : _) × (words.entry ≡ Some w)
+        × LacksInThread0 w.now ending.now.outcomes.items)) }
 {
     match words {
         Some(words) => {

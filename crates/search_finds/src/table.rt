@@ -39,7 +39,8 @@ impl Table {
     pub fn note(&mut self, run: u64, ending: Ending) -> Result<bool, AllocError>
         requires { self.old.runs < 2 ^ 64 - 1 }
         ensures noted { IfOk result (λ is_new. IsNoted run ending is_new self.old self.new) }
-        ensures refused { IfErr result (λ _. (self.new.runs ≡ self.old.runs) × (self.new.met.items ≡ self.old.met.items)) }
+        ensures refused { IfErr result (λ _. (self.new.runs ≡ self.old.runs)
+            × (self.new.met.items ≡ self.old.met.items)) }
     {
         match self.place_of(&ending) {
             Some(place) => {

@@ -5,11 +5,12 @@ use std::fs;
 use std::io::IsTerminal;
 use std::time::{Duration, Instant};
 
-/// How many milliseconds a line stands before another takes its place, and the file that ends the search isn't looked for again.
+/// How many milliseconds a line stands before another takes its place, and the file that ends the search isn't looked
+/// for again.
 const PAUSE: u64 = 250;
 
-/// Follows a search that is on its way. Where standard error is a terminal, a line there has how much it did, how much in a second, and
-/// how many endings it met. Where a path is given, it ends once there is a file with it.
+/// Follows a search that is on its way. Where standard error is a terminal, a line there has how much it did, how much
+/// in a second, and how many endings it met. Where a path is given, it ends once there is a file with it.
 #[derive(Drop)]
 pub(crate) struct Progress<'a> {
     rt: &'a HostRuntime,
@@ -69,7 +70,8 @@ impl<'a> Progress<'a> {
         }
     }
 
-    /// Looks for the file that ends the search, and answers how long it takes by now, where it is time and a line is to be written.
+    /// Looks for the file that ends the search, and answers how long it takes by now, where it is time and a line is to
+    /// be written.
     fn line_due(&mut self) -> Option<Duration> {
         let took = self.due()?;
         self.look();

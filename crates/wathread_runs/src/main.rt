@@ -1,5 +1,5 @@
-//! The program that checks, runs and replays, of which the launcher builds less before the first run. What it does is the library
-//! `report_jobs`'s.
+//! The program that checks, runs and replays, of which the launcher builds less before the first run. What it does is
+//! the library `report_jobs`'s.
 #![tactic(auto)]
 
 ghost use Rattle.report_command.specs.Jobs.{IsInRange};
