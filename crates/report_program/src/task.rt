@@ -152,7 +152,8 @@ impl<W: Write + Drop> Task<'_, W> {
     /// Says what went wrong, and keeps the file that the job made, if it came to a status with which there is one.
     /// Answers the status.
     pub fn end(self, rt: &HostRuntime, job: &Job, status: u8) -> u8 {
-        let Streams { out, err, save } = self.streams;
+        let Task { streams, .. } = self;
+        let Streams { out, err, save } = streams;
         if !out.get_ref().stream().is_closed() {
             tell(rt, &err);
         }
