@@ -1,5 +1,6 @@
 -- What is found.
-use Rattle.std.specs.Prelude.{ℕ, ◌≡◌, ◌⊎◌, Some}
+use Rattle.std.specs.Prelude.{ℕ, ◌≡◌, ◌⊎◌, Option, Some, All, List}
+use Rattle.std.specs.Borrow.{Bor}
 use Rattle.types.specs.declared.parts.Parts.{Parts}
 use Rattle.spawn_host.specs.declared.end.EndState.{EndState}
 use Rattle.replay.specs.Runs.{IsRunOf}
@@ -7,7 +8,8 @@ use Rattle.spawn_host.specs.declared.call.Call.{Call}
 use Rattle.search_scheduled.specs.Headers.{IsOfCall}
 use Rattle.search_scheduled.specs.declared.running.Made.{Made}
 use Rattle.search_finds.specs.declared.ending.Ending.{Ending}
-use Rattle.search_finds.specs.Endings.{IsEndingOf}
+use Rattle.search_finds.specs.declared.met.Table.{Table}
+use Rattle.search_finds.specs.Endings.{IsEndingOf, HaveOneEnding}
 use Rattle.search_finds.specs.Words.{HasLineWith, LacksInThread0}
 use Rattle.search_finds.specs.declared.sought.Sought.{Sought}
 
@@ -22,11 +24,30 @@ pub record IsMet (m : Parts) (call : Call) (limit dump : ℕ) (e : Ending) : Typ
   pub find : IsFind m call limit made
   pub ending : IsEndingOf dump made.end e
 
+-- There are words, and a thread's line has them.
+abbrev pub HasWantedWords : Option (Bor (List ℕ)) → Ending → Type 0
+HasWantedWords words e = (w : _) × (words ≡ Some w) × HasLineWith w.now e.outcomes.items
+
+-- There are words, and that of thread 0 hasn't them.
+abbrev pub LacksWantedWords : Option (Bor (List ℕ)) → Ending → Type 0
+LacksWantedWords words e = (w : _) × (words ≡ Some w) × LacksInThread0 w.now e.outcomes.items
+
 -- A thread's line has the words that are looked for, or that of thread 0 hasn't those that are expected.
 abbrev pub IsLookedFor : Sought → Ending → Type 0
-IsLookedFor s e = ((words : _) × (s.find ≡ Some words) × HasLineWith words.now e.outcomes.items)
-    ⊎ ((words : _) × (s.expect ≡ Some words) × LacksInThread0 words.now e.outcomes.items)
+IsLookedFor s e = HasWantedWords s.find e ⊎ LacksWantedWords s.expect e
 
 -- So a run ended.
 abbrev pub EndsAsLookedFor : Sought → ℕ → EndState → Type 0
 EndsAsLookedFor s dump end = (e : Ending) × IsEndingOf dump end e × IsLookedFor s e
+
+-- A run of the module by this call that ends as is looked for.
+abbrev pub IsFound : Parts → Call → Sought → Made → Type 0
+IsFound m call s made = IsFind m call s.limit made × EndsAsLookedFor s s.dump made.end
+
+-- Each ending of the table is that of a run of the module by this call.
+abbrev pub AreMet : Parts → Call → Sought → Table → Type 0
+AreMet m call s table = All (λ met. IsMet m call s.limit s.dump met.ending) table.met.items
+
+-- A run of the module by this call that ends as another one.
+abbrev pub IsFindAlike : Parts → Call → ℕ → ℕ → Made → Made → Type 0
+IsFindAlike m call limit dump other made = IsFind m call limit made × HaveOneEnding dump other.end made.end

@@ -1,4 +1,5 @@
 pub mod Finds
+pub mod Searching
 pub mod Halts
 pub mod Endings
 pub mod Words

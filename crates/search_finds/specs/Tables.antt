@@ -6,6 +6,16 @@ use Rattle.search_finds.specs.declared.met.Met.{Met}
 use Rattle.search_finds.specs.declared.met.Table.{Table}
 use Rattle.search_finds.specs.Endings.{AreOneEnding}
 
+-- No row of a table has this ending.
+abbrev pub IsNewTo : Table → Ending → Type 0
+IsNewTo table e = All (λ m. AreOneEnding m.ending e → ⊥) table.met.items
+
+-- The row at a place has it.
+abbrev pub HasRowAt : Table → Ending → ℕ → Type 0
+HasRowAt table e place =
+    (place < length table.met.items) × (m : Met) × (slice_index_or table.met.items place m ≡ m)
+    × AreOneEnding m.ending e
+
 -- The ending was met in one run more than before: its count is one more, its first run is the same, and all others are
 -- as they were.
 pub record IsMetAgain (e : Ending) (old new : List Met) : Type 0 where

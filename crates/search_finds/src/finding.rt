@@ -1,10 +1,10 @@
 //! The first run with an ending that is looked for.
 ghost use Rattle.std.specs.Prelude.{◌≡◌, ◌+◌, ◌<◌, ◌≤◌, ◌^◌, true, All, IfOk, OnOk, IfSome};
-ghost use Rattle.interp.specs.Threads.{meaning_in};
-ghost use Rattle.search_scheduled.specs.SpareThreads.{AreSpares};
-ghost use Rattle.search_finds.specs.Finds.{IsFind, IsMet, EndsAsLookedFor};
+ghost use Rattle.search_finds.specs.Finds.{IsFound, AreMet, EndsAsLookedFor};
+ghost use Rattle.search_finds.specs.Searching.{IsMadeIn, IsMetIn, IsFoundIn, AreSparesIn};
 ghost use Rattle.search_finds.specs.Halts.{IfFound};
 
+use crate::search::Search;
 use crate::sought::Sought;
 use crate::{Ending, Table, ending_of};
 use report_choice::{MOST_DEPTH, Way};
@@ -44,17 +44,6 @@ pub struct Searched {
     pub halt: Halt,
 }
 
-/// A module, the call of a function of it, and what is looked for among the runs by that call.
-#[derive(Clone, Copy)]
-struct Search<'a> {
-    module: &'a ValidModule,
-    call: Call<'a>,
-    sought: Sought<'a>,
-    /// Among how many entries the points lie at which priorities change.
-    entries: u32,
-    ghost some: { 0 < entries },
-}
-
 /// How many entries the run has in which a thread goes on as long as it can: among so many lie the points at which
 /// priorities change.
 fn plain_entries(
@@ -78,10 +67,9 @@ fn plain_entries(
 impl<'a> Search<'a> {
     /// Makes a run of this number, with the threads that the runs before it didn't start.
     fn run(&self, alloc: Global, run: u64, spares: &mut Spares<'a>) -> Result<Made, SearchFault>
-        requires { AreSpares meaning_in self.now.«module».now.parts self.now.call.fuel spares.old.threads.items }
-        ensures find { IfOk result (IsFind self.now.«module».now.parts self.now.call self.now.sought.limit) }
-        ensures spares { OnOk result
-            (AreSpares meaning_in self.now.«module».now.parts self.now.call.fuel spares.new.threads.items) }
+        requires { AreSparesIn self.now spares.old }
+        ensures find { IfOk result (IsMadeIn self.now) }
+        ensures spares { OnOk result (AreSparesIn self.now spares.new) }
     {
         let sought = &self.sought;
         match sought.way {
@@ -118,11 +106,9 @@ impl<'a> Search<'a> {
         run: u64,
         spares: &mut Spares<'a>,
     ) -> Result<Ending, SearchFault>
-        requires { AreSpares meaning_in self.now.«module».now.parts self.now.call.fuel spares.old.threads.items }
-        ensures met { IfOk result
-            (IsMet self.now.«module».now.parts self.now.call self.now.sought.limit self.now.sought.dump) }
-        ensures spares { OnOk result
-            (AreSpares meaning_in self.now.«module».now.parts self.now.call.fuel spares.new.threads.items) }
+        requires { AreSparesIn self.now spares.old }
+        ensures met { IfOk result (IsMetIn self.now) }
+        ensures spares { OnOk result (AreSparesIn self.now spares.new) }
     {
         let made = self.run(alloc, run, spares)?;
         Ok(ending_of(alloc, &made.end, self.sought.dump)?)
@@ -130,7 +116,7 @@ impl<'a> Search<'a> {
 
     /// Makes the run of this number, with threads of its own.
     fn run_anew(&self, alloc: Global, run: u64) -> Result<Made, SearchFault>
-        ensures { IfOk result (IsFind self.now.«module».now.parts self.now.call self.now.sought.limit) }
+        ensures { IfOk result (IsMadeIn self.now) }
     {
         let mut spares = Spares::new(alloc);
         self.run(alloc, run, &mut spares)
@@ -146,9 +132,7 @@ impl<'a> Search<'a> {
 
     /// Makes the run of this number, which is given where it ends as is looked for.
     fn found(&self, alloc: Global, run: u64) -> Result<Option<Found>, SearchFault>
-        ensures { IfOk result (λ found. IfSome found
-            (λ f. IsFind self.now.«module».now.parts self.now.call self.now.sought.limit f.made
-            × EndsAsLookedFor self.now.sought self.now.sought.dump f.made.end)) }
+        ensures { IfOk result (λ found. IfSome found (λ f. IsFoundIn self.now f.made)) }
     {
         let made = self.run_anew(alloc, run)?;
         if self.is_sought(alloc, &made.end)? {
@@ -160,8 +144,7 @@ impl<'a> Search<'a> {
 
     /// The endings of runs in a row, the last first.
     fn endings(&self, alloc: Global, from: u64, count: usize) -> Result<Vec<Ending>, SearchFault>
-        ensures { IfOk result (λ endings. All (IsMet self.now.«module».now.parts self.now.call self.now.sought.limit
-            self.now.sought.dump) endings.items) }
+        ensures { IfOk result (λ endings. All (IsMetIn self.now) endings.items) }
     {
         let mut endings = Vec::new(alloc);
         let mut spares = Spares::new(alloc);
@@ -178,18 +161,11 @@ impl<'a> Search<'a> {
         endings: &mut Vec<Ending>,
         pieces: &mut Vec<Result<Vec<Ending>, SearchFault>>,
     ) -> Result<(), SearchFault>
-        requires endings { All (IsMet self.now.«module».now.parts self.now.call self.now.sought.limit
-            self.now.sought.dump)
-            endings.old.items }
-        requires pieces { All (λ piece. IfOk piece
-            (λ made. All (IsMet self.now.«module».now.parts self.now.call self.now.sought.limit
-            self.now.sought.dump) made.items)) pieces.old.items }
-        ensures endings { OnOk result
-            (All (IsMet self.now.«module».now.parts self.now.call self.now.sought.limit self.now.sought.dump)
-            endings.new.items) }
-        ensures pieces { OnOk result
-            (All (λ piece. IfOk piece (λ made. All (IsMet self.now.«module».now.parts self.now.call
-            self.now.sought.limit self.now.sought.dump) made.items)) pieces.new.items) }
+        requires endings { All (IsMetIn self.now) endings.old.items }
+        requires pieces { All (λ piece. IfOk piece (λ made. All (IsMetIn self.now) made.items)) pieces.old.items }
+        ensures endings { OnOk result (All (IsMetIn self.now) endings.new.items) }
+        ensures pieces { OnOk result (All (λ piece. IfOk piece (λ made. All (IsMetIn self.now) made.items))
+            pieces.new.items) }
     {
         let Some(piece) = pieces.pop() else {
             return Ok(());
@@ -208,8 +184,7 @@ impl<'a> Search<'a> {
         from: u64,
         count: u64,
     ) -> Result<Vec<Ending>, SearchFault>
-        ensures { IfOk result (λ endings. All (IsMet self.now.«module».now.parts self.now.call self.now.sought.limit
-            self.now.sought.dump) endings.items) }
+        ensures { IfOk result (λ endings. All (IsMetIn self.now) endings.items) }
     {
         let mut pieces = map_indices(
             rt,
@@ -239,13 +214,9 @@ impl<'a> Search<'a> {
         left: u64,
         ahead: &mut Vec<Ending>,
     ) -> Result<Ending, SearchFault>
-        requires { All (IsMet self.now.«module».now.parts self.now.call self.now.sought.limit self.now.sought.dump)
-            ahead.old.items }
-        ensures met { IfOk result
-            (IsMet self.now.«module».now.parts self.now.call self.now.sought.limit self.now.sought.dump) }
-        ensures ahead { OnOk result
-            (All (IsMet self.now.«module».now.parts self.now.call self.now.sought.limit self.now.sought.dump)
-            ahead.new.items) }
+        requires { All (IsMetIn self.now) ahead.old.items }
+        ensures met { IfOk result (IsMetIn self.now) }
+        ensures ahead { OnOk result (All (IsMetIn self.now) ahead.new.items) }
     {
         if let Some(ending) = ahead.pop() {
             return Ok(ending);
@@ -278,11 +249,8 @@ pub fn first_found<R: Threads + Sync, F: Follows>(
     follower: &mut F,
 ) -> Result<Searched, SearchFault>
     requires { sought.now.from + sought.now.runs < 2 ^ 64 }
-    ensures met { IfOk result
-        (λ s. All (λ met. IsMet «module».now.parts call.entry sought.now.limit sought.now.dump met.ending)
-        s.table.met.items) }
-    ensures found { IfOk result (λ s. IfFound s.halt (λ f. IsFind «module».now.parts call.entry sought.now.limit f.made
-        × EndsAsLookedFor sought.now sought.now.dump f.made.end)) }
+    ensures met { IfOk result (λ s. AreMet «module».now.parts call.entry sought.now s.table) }
+    ensures found { IfOk result (λ s. IfFound s.halt (λ f. IsFound «module».now.parts call.entry sought.now f.made)) }
     ensures all_made { IfOk result (λ s. s.halt ≡ Halt.AllMade → s.table.runs ≡ sought.now.runs) }
     ensures told { IfOk result (λ s. s.halt ≡ Halt.Told → F.wish follower.new ≡ Wish.End) }
 {

@@ -1,7 +1,7 @@
 //! Of a run one with fewer switches of threads that ends alike.
 ghost use Rattle.std.specs.Prelude.{IfOk, IfSome};
 ghost use Rattle.search_finds.specs.Endings.{HaveOneEnding};
-ghost use Rattle.search_finds.specs.Finds.{IsFind};
+ghost use Rattle.search_finds.specs.Finds.{IsFind, IsFindAlike};
 
 use crate::have_one_ending;
 use crate::size::{schedule_of, size_of};
@@ -62,8 +62,7 @@ fn tried(
     best: &Made,
     cut: Cut,
 ) -> Result<Option<Made>, SearchFault>
-    ensures { IfOk result (λ o. IfSome o (λ made. IsFind «module».now.parts call.entry limit made
-        × HaveOneEnding dump best.now.end made.end)) }
+    ensures { IfOk result (λ o. IfSome o (IsFindAlike «module».now.parts call.entry limit dump best.now)) }
 {
     let schedule = schedule_of(alloc, &best.record)?;
     let rest = without(alloc, &schedule, cut)?;

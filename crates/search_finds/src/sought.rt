@@ -1,7 +1,6 @@
 //! What is looked for.
-ghost use Rattle.std.specs.Prelude.{◌≡◌, ◌↔◌, true, IfOk, Some};
-ghost use Rattle.search_finds.specs.Words.{HasLineWith, LacksInThread0};
-ghost use Rattle.search_finds.specs.Finds.{IsLookedFor};
+ghost use Rattle.std.specs.Prelude.{◌≡◌, ◌↔◌, true, IfOk};
+ghost use Rattle.search_finds.specs.Finds.{IsLookedFor, HasWantedWords, LacksWantedWords};
 
 use crate::{Ending, has_line_with, lacks_in_thread_0};
 use report_choice::Way;
@@ -27,8 +26,7 @@ pub struct Sought<'a> {
 
 /// Whether some thread's line has the words, where there are words.
 fn is_found(alloc: Global, ending: &Ending, words: Option<&str>) -> Result<bool, AllocError>
-    ensures { IfOk result (λ is. (is ≡ true) ↔ ((w : _) × (words.entry ≡ Some w)
-        × HasLineWith w.now ending.now.outcomes.items)) }
+    ensures { IfOk result (λ is. (is ≡ true) ↔ HasWantedWords words.entry ending.now) }
 {
     match words {
         Some(words) => has_line_with(alloc, ending, words),
@@ -38,8 +36,7 @@ fn is_found(alloc: Global, ending: &Ending, words: Option<&str>) -> Result<bool,
 
 /// Whether thread 0's line hasn't the words, where there are words.
 fn is_unexpected(alloc: Global, ending: &Ending, words: Option<&str>) -> Result<bool, AllocError>
-    ensures { IfOk result (λ is. (is ≡ true) ↔ ((w : _) × (words.entry ≡ Some w)
-        × LacksInThread0 w.now ending.now.outcomes.items)) }
+    ensures { IfOk result (λ is. (is ≡ true) ↔ LacksWantedWords words.entry ending.now) }
 {
     match words {
         Some(words) => {

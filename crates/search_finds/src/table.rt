@@ -1,7 +1,6 @@
 //! How endings are noted.
-ghost use Rattle.std.specs.Prelude.{◌≡◌, ℕ, ◌<◌, ◌≤◌, ◌^◌, ◌-◌, IfOk, IfErr, MatchOption, All, length, slice_index_or};
-ghost use Rattle.search_finds.specs.Endings.{AreOneEnding};
-ghost use Rattle.search_finds.specs.Tables.{IsNoted, IsMetAgain};
+ghost use Rattle.std.specs.Prelude.{◌≡◌, ◌<◌, ◌^◌, ◌-◌, IfOk, IfErr, MatchOption, length};
+ghost use Rattle.search_finds.specs.Tables.{IsNewTo, HasRowAt, IsNoted, IsMetAgain};
 
 use crate::ending::Ending;
 use crate::met::{Met, Table};
@@ -20,9 +19,7 @@ impl Table {
 
     /// Where an ending stands that was met before.
     fn place_of(&self, ending: &Ending) -> Option<usize>
-        ensures { MatchOption result (All (λ m. AreOneEnding m.ending ending.now → ⊥) self.now.met.items)
-            (λ place. (place < length self.now.met.items)
-            × (m : Met) × (slice_index_or self.now.met.items place m ≡ m) × AreOneEnding m.ending ending.now) }
+        ensures { MatchOption result (IsNewTo self.now ending.now) (HasRowAt self.now ending.now) }
     {
         for (place, met) in self.met.iter().enumerate() {
             if met.ending.is_same(ending) {

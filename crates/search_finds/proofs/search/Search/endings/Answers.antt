@@ -2,7 +2,7 @@ use Rattle.std.proofs.Common.{List, All, subst, sym}
 use Rattle.std.proofs.lemmas.List.Elements.{All-push}
 use Rattle.search_finds.specs.declared.ending.Ending.{Ending}
 use Rattle.search_finds.specs.Finds.{IsMet}
-use Rattle.search_finds.proofs.finding.Search.endings.Goals as goal
+use Rattle.search_finds.proofs.search.Search.endings.Goals as goal
 
 pub loop-n-preserved : goal.loop-n-preserved
 loop-n-preserved c =

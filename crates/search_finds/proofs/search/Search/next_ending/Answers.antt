@@ -1,6 +1,6 @@
 use Rattle.search_finds.specs.Finds.{IsMet}
 use Rattle.search_finds.proofs.Popped.{popped}
-use Rattle.search_finds.proofs.finding.Search.next_ending.Goals as goal
+use Rattle.search_finds.proofs.search.Search.next_ending.Goals as goal
 
 pub returns-in-Some-clause-met : goal.returns-in-Some-clause-met
 returns-in-Some-clause-met g c =

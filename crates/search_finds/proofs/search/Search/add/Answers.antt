@@ -3,7 +3,7 @@ use Rattle.std.proofs.lemmas.List.Elements.{All-append}
 use Rattle.search_finds.specs.declared.ending.Ending.{Ending}
 use Rattle.search_finds.specs.Finds.{IsMet}
 use Rattle.search_finds.proofs.Popped.{popped}
-use Rattle.search_finds.proofs.finding.Search.add.Goals as goal
+use Rattle.search_finds.proofs.search.Search.add.Goals as goal
 
 pub returns-clause-endings : goal.returns-clause-endings
 returns-clause-endings c =

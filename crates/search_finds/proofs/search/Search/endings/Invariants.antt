@@ -2,7 +2,7 @@ use Rattle.std.proofs.Common.{All}
 use Rattle.interp.specs.Threads.{meaning_in}
 use Rattle.search_scheduled.specs.SpareThreads.{AreSpares}
 use Rattle.search_finds.specs.Finds.{IsMet}
-use Rattle.search_finds.proofs.finding.Search.endings.Given as goal
+use Rattle.search_finds.proofs.search.Search.endings.Given as goal
 
 abbrev pub invariant-loop-n : goal.invariant-loop-n
 invariant-loop-n l = All (IsMet l.self.module.now.parts l.self.call l.self.sought.limit l.self.sought.dump) l.endings.items
