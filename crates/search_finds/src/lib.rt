@@ -1,6 +1,10 @@
 //! Searching: many runs of a module along schedules that are drawn, the first with an ending that is looked for, and of
 //! that one a run with few switches of threads.
 //!
+//! Proved: a find is a run of the module by the call that ends as is looked for; each ending of a table is one of such
+//! a run. Where none is found, all runs that were asked for were made, or the follower's last wish was to end.
+//! `shrunk` answers a run by the same call that ends alike.
+//!
 //! - `Sought` says which runs are made, and what is looked for.
 //! - `Ending` is how a run ended, and `Table` counts the endings that were met.
 //! - `first_found` makes them one by one and notes their endings, up to the first that is looked for, or until it is
