@@ -1,10 +1,10 @@
 //! The law of the machine, its worked runs and the laws of its numbers, each called once.
 use interp_laws::no_thread_is_ever_stuck;
-use interp_machine::{
+use interp_numeric::{below_stays, typed_results, unsigned_of_signed};
+use schedule_examples::{
     a_branch_costs_one_unit, a_store_over_two_words_has_two_parts, an_empty_arm_costs_its_end,
     an_indirect_call_is_tested, either_arm_costs_the_same, the_thousandth_call_traps,
 };
-use interp_numeric::{below_stays, typed_results, unsigned_of_signed};
 
 #[test]
 fn laws_of_the_machine_ask_for_nothing() {

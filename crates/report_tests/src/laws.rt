@@ -1,8 +1,11 @@
 //! Each law at one choice of types: a machine's configurations as `u64`, its events as `u8`, what is shared as `bool`.
 use schedule::{
-    a_worked_run, acts_and_losses_fix_the_end, another_schedule_gives_the_same,
-    every_other_gives_the_same, no_answer_of_another_thread, no_entry_after_leave, one_schedule,
-    schedule_follows, scheduled_runs_go_on, threads_leave_last, threads_with_budgets_keep_the_laws,
+    acts_and_losses_fix_the_end, every_other_gives_the_same, one_schedule, schedule_follows,
+    scheduled_runs_go_on, threads_leave_last, threads_with_budgets_keep_the_laws,
+};
+use schedule_examples::{
+    a_worked_run, another_schedule_gives_the_same, no_answer_of_another_thread,
+    no_entry_after_leave,
 };
 
 #[test]

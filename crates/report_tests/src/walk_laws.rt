@@ -2,9 +2,8 @@
 use replay_rules::{
     ends_are_the_same, runs_are_in_range, runs_are_recorded, stops_are_misfits, walks_are_made,
 };
-use schedule_runs::{
-    beginnings_stay, nobody_begins_later, threads_make_one_run, two_threads_ran_together,
-};
+use schedule_examples::two_threads_ran_together;
+use schedule_runs::{beginnings_stay, nobody_begins_later, threads_make_one_run};
 use schedule_threads::{
     programs_keep_the_laws_of_a_machine, threads_over_memory_and_queue_keep_the_laws,
 };
