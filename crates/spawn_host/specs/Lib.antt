@@ -1,4 +1,5 @@
 pub mod Entries
+pub mod Requests
 pub mod Faults
 pub mod Threads
 pub mod Runs

@@ -5,6 +5,7 @@ use Rattle.types.specs.declared.event.Entry.{Entry}
 use Rattle.types.specs.declared.parts.Parts.{Parts}
 use Rattle.shared_memory.specs.Memory.{pages}
 use Rattle.shared_memory.specs.History.{memory_after}
+use Rattle.spawn_host.specs.Requests.{Requested}
 use Rattle.spawn_host.specs.Runs.{opening_memory, IsRunHistory}
 use Rattle.spawn_host.specs.declared.end.EndState.{EndState}
 
@@ -19,3 +20,7 @@ pub record EndsRun (m : Parts) (entry : List ℕ) (args : List Value) (fuel : �
 -- A run over a memory in which tries can be lost, and which has no limit.
 abbrev pub EndsRunOnWords : Parts → List ℕ → List Value → ℕ → EndState → Type 0
 EndsRunOnWords m entry args fuel end = (history : List Entry) × EndsRun m entry args fuel true None history end
+
+-- The same of what is requested.
+abbrev pub EndsRequestOnWords : Requested → EndState → Type 0
+EndsRequestOnWords r = EndsRunOnWords r.parts r.name r.args r.fuel

@@ -22,6 +22,7 @@ use Rattle.schedule_runs.specs.Runs.{Start, RanTogether}
 use Rattle.schedule_runs.specs.Theorem.{IsOneRun}
 use Rattle.spawn_host_workers.specs.OverMemory.{OverMemory}
 use Rattle.spawn_host.specs.Entries.{Exports, StartsThreads, CallsThreadStart}
+use Rattle.spawn_host.specs.Requests.{Requested}
 
 -- The memory of a module before the first instruction, where one without a maximum may have so many pages.
 abbrev pub opening_within : ℕ → Parts → Memory
@@ -85,3 +86,7 @@ pub record IsRun {S : Type 0} (m : Parts) (entry : List ℕ) (args : List Value)
   pub len : length seats ≡ SEATS
   pub names : (k : ℕ) (d : S) → k < SEATS → mem.name (slice_index_or seats k d) ≡ k
   pub seen_by : (k : ℕ) (d : S) → k < SEATS → mem.seen (slice_index_or seats k d) ≡ history
+
+-- The same of what is requested.
+abbrev pub IsRunOfRequest : {S : Type 0} → Requested → OverMemory S → List ThreadReport → List S → Type 0
+IsRunOfRequest r mem threads seats = IsRun r.parts r.name r.args r.fuel mem threads seats

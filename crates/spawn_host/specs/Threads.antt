@@ -12,6 +12,7 @@ use Rattle.interp_machine.specs.State.{At}
 use Rattle.interp_trait.specs.Turns.{Meaning}
 use Rattle.interp.specs.Starts.{start_of}
 use Rattle.spawn_host.specs.Entries.{Takes, IsThreadStart}
+use Rattle.spawn_host.specs.Requests.{Requested}
 
 module _ {T : Type 0} (meaning : T → Meaning) where
   -- A thread is about to call a function of this type and with this body, with these arguments, and has its whole
@@ -26,6 +27,10 @@ module _ {T : Type 0} (meaning : T → Meaning) where
   pub record IsFirst (m : Parts) (name : List ℕ) (args : List Value) (budget : ℕ) (thread : T) : Type 0 where
     pub takes : Takes m name args
     pub call : IsCall m takes.func_type takes.body args budget thread
+
+  -- The same of what is requested.
+  abbrev pub BeginsRequest : Requested → T → Type 0
+  BeginsRequest r thread = IsFirst r.parts r.name r.args r.fuel thread
 
   -- The 63 threads that can be spawned are about to call the function for that, with some arguments.
   pub record AreSpawnable (m : Parts) (args : List Value) (budget : ℕ) (threads : List T) : Type 0 where

@@ -9,11 +9,13 @@ mod call;
 mod end;
 mod exports;
 mod fit;
+mod request;
 mod running;
 mod threads;
 
 pub use call::Call;
 pub use end::EndState;
 pub use exports::{OwnFunction, own_function};
-pub use running::run;
+pub use request::{CallFault, Request};
+pub use running::{RunFault, run, run_request};
 pub use threads::{first_thread, spawnable_threads};

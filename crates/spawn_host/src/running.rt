@@ -2,18 +2,62 @@
 ghost use Rattle.std.specs.Prelude.{◌≡◌, ◌<◌, ℕ, true, [], IfOk, IfErr, slice_index_or, vec_len};
 ghost use Rattle.types.specs.declared.limits.TheConstants.{DESK_NAME, SEATS};
 ghost use Rattle.spawn_host_workers.specs.OverMemory.{over};
-ghost use Rattle.spawn_host.specs.Faults.{IsFaultOf};
-ghost use Rattle.spawn_host.specs.Runs.{opening_memory, IsRun};
+ghost use Rattle.spawn_host.specs.Faults.{IsFaultOf, IsStartFault, run_fault_number};
+ghost use Rattle.spawn_host.specs.Runs.{opening_memory, IsRun, IsRunOfRequest};
+ghost use Rattle.spawn_host.specs.declared.running.RunFault.TheVariants as faults;
 
 use crate::call::Call;
+use crate::request::{CallFault, Request};
 use crate::threads::{first_thread, spawnable_threads};
 use interp_trait::Gate;
 use shared_memory::SharedMemory;
-use spawn_host_workers::{RunEnd, RunFault, run_all, run_alone};
+use spawn_host_workers::{RunEnd, StartFault, run_all, run_alone};
 use std::alloc::Global;
 use std::sync::Wait;
 use std::thread::Threads;
+use thiserror::Error;
 use validate_module::ValidModule;
+
+/// Why there's no run.
+#[derive(Clone, Copy, PartialEq, Eq, Debug, Error)]
+pub enum RunFault {
+    /// The call can't be made.
+    #[error("{0}")]
+    Call(CallFault),
+    /// It can, and its threads weren't started.
+    #[error("{0}")]
+    Start(StartFault),
+}
+
+impl RunFault {
+    /// The fault's number: 1 for no memory, 2 for an unknown export, 3 for wrong arguments, 4 for no thread.
+    pub fn number(self) -> u8
+        ensures { result ≡ run_fault_number self }
+    {
+        match self {
+            RunFault::Start(StartFault::NoMemory) => 1,
+            RunFault::Call(CallFault::UnknownExport) => 2,
+            RunFault::Call(CallFault::WrongArguments) => 3,
+            RunFault::Start(StartFault::NoThread) => 4,
+        }
+    }
+}
+
+impl From<CallFault> for RunFault {
+    ghost from_gives = { λ f e. e ≡ faults.Call f };
+
+    fn from(fault: CallFault) -> RunFault {
+        RunFault::Call(fault)
+    }
+}
+
+impl From<StartFault> for RunFault {
+    ghost from_gives = { λ f e. e ≡ faults.Start f };
+
+    fn from(fault: StartFault) -> RunFault {
+        RunFault::Start(fault)
+    }
+}
 
 /// Runs an exported function of a module with arguments, and the threads that are spawned meanwhile, each as a real
 /// thread over the memory. Each has the budget of the call.
@@ -22,9 +66,8 @@ use validate_module::ValidModule;
 /// last has the queue right.
 ///
 /// # Errors
-/// `UnknownExport` where no function of the module itself is exported under the name. `WrongArguments` where one is,
-/// and the arguments don't fit it. `NoMemory` where memory is refused, and `NoThread` where the system starts no
-/// further thread, both before the first turn of a thread.
+/// `Call` where the call can't be made. Otherwise `Start` where memory is refused, or the system starts no further
+/// thread. All come before the first turn of a thread.
 pub fn run<M, G, R>(
     rt: &R,
     alloc: Global,
@@ -47,12 +90,46 @@ where
         (over M.SharedMemory memory.now) end.threads.items end.seats.items) }
     ensures fault { IfErr result (λ fault. IsFaultOf «module».now.parts call.entry.name.now call.entry.args.now fault) }
 {
-    let first = first_thread(alloc, module, call)?;
+    let request = Request::new(module, call)?;
+    let end = run_request(rt, alloc, &request, memory, seats, gate)?;
+    Ok(end)
+}
+
+/// The same, of a call that can be made.
+///
+/// # Errors
+/// Where memory is refused, or the system starts no further thread, before the first turn of a thread.
+pub fn run_request<M, G, R>(
+    rt: &R,
+    alloc: Global,
+    request: &Request,
+    memory: &M,
+    seats: Vec<M::Seat>,
+    gate: &G,
+) -> Result<RunEnd<M::Seat>, StartFault>
+where
+    M: SharedMemory + Sync,
+    G: Gate + Sync,
+    R: Threads + Wait + Sync,
+    requires opening { M.opening ≡ opening_memory request.now.parts }
+    requires len { vec_len seats ≡ SEATS }
+    requires names { (k : ℕ) (d : M.Seat) → k < SEATS → M.name (slice_index_or seats.items k d) ≡ k }
+    requires new { (k : ℕ) (d : M.Seat) → k < SEATS → M.seen (slice_index_or seats.items k d) ≡ [] }
+    requires right { (d : M.Seat) → M.has_queue_right (slice_index_or seats.items DESK_NAME d) ≡ true }
+    ensures run { IfOk result (λ end. IsRunOfRequest request.now (over M.SharedMemory memory.now) end.threads.items
+        end.seats.items) }
+    ensures fault { IfErr result (IsStartFault request.now) }
+{
+    let Ok(first) = first_thread(alloc, request) else {
+        return Err(StartFault::NoMemory);
+    };
+    let module = request.module();
     if !module.starts_threads() {
         return run_alone(rt, alloc, first, memory, seats, gate);
     }
-    let Ok(spawned) = spawnable_threads(alloc, module, call.fuel) else {
-        return Err(RunFault::NoMemory);
+    let fuel = request.call().fuel;
+    let Ok(spawned) = spawnable_threads(alloc, module, fuel) else {
+        return Err(StartFault::NoMemory);
     };
     run_all(rt, alloc, first, spawned, memory, seats, gate)
 }

@@ -1,20 +1,16 @@
 //! The threads of a run before their first turn.
-ghost use Rattle.std.specs.Prelude.{◌≡◌, ◌<◌, ◌+◌, length, map, IfOk, IfErr};
+ghost use Rattle.std.specs.Prelude.{◌≡◌, ◌<◌, ◌+◌, length, map, IfOk};
 ghost use Rattle.types.specs.declared.parts.FuncType.{FuncType};
 ghost use Rattle.types.specs.declared.parts.Body.{Body};
 ghost use Rattle.types.specs.Values.{type_of};
 ghost use Rattle.validate_typing.specs.Context.{imported_functions};
 ghost use Rattle.interp.specs.Starts.{IsFunction};
 ghost use Rattle.spawn_host.specs.Entries.{StartsThreads, IsThreadStart};
-ghost use Rattle.spawn_host.specs.Faults.{IsFaultOf};
-ghost use Rattle.spawn_host.specs.Threads.{IsCall, IsFirst, AreSpawnable};
+ghost use Rattle.spawn_host.specs.Threads.{IsCall, BeginsRequest, AreSpawnable};
 ghost use Rattle.interp.specs.Threads.{meaning_in};
 
-use crate::call::Call;
-use crate::exports::own_function;
-use crate::fit::fit;
+use crate::request::Request;
 use interp::Thread;
-use spawn_host_workers::RunFault;
 use std::alloc::{AllocError, Global};
 use types::{MOST_FUNCTIONS, MOST_ITEMS, MOST_SPAWNED, Value};
 use validate_module::ValidModule;
@@ -50,26 +46,15 @@ fn calling<'m>(
     Thread::new(alloc, valid, index_of(valid, own), args, fuel)
 }
 
-/// Thread 0: it is about to call the exported function with the arguments.
-pub fn first_thread<'m>(
-    alloc: Global,
-    valid: &'m ValidModule,
-    call: Call,
-) -> Result<Thread<'m>, RunFault>
-    ensures first { IfOk result (λ thread. IsFirst meaning_in valid.now.parts call.entry.name.now call.entry.args.now
-        call.entry.fuel thread) }
-    ensures fault { IfErr result (λ fault. IsFaultOf valid.now.parts call.entry.name.now call.entry.args.now fault) }
+/// Thread 0 of a run by a request: it is about to make the call.
+///
+/// # Errors
+/// Where memory is refused.
+pub fn first_thread<'m>(alloc: Global, request: &Request<'m, '_>) -> Result<Thread<'m>, AllocError>
+    ensures { IfOk result (BeginsRequest meaning_in request.now) }
 {
-    let Some(function) = own_function(valid, call.name) else {
-        return Err(RunFault::UnknownExport);
-    };
-    if !fit(call.args, function.func_type.params.as_slice()) {
-        return Err(RunFault::WrongArguments);
-    }
-    let Ok(thread) = calling(alloc, valid, function.own, call.args, call.fuel) else {
-        return Err(RunFault::NoMemory);
-    };
-    Ok(thread)
+    let call = request.call();
+    calling(alloc, request.module(), request.number(), call.args, call.fuel)
 }
 
 /// The function of the module itself that spawned threads call.
