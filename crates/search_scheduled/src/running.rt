@@ -22,7 +22,7 @@ use validate_module::ValidModule;
 
 /// A run that was made: its record, and what it left.
 #[derive(Drop)]
-pub struct Made {
+pub struct MadeRun {
     pub record: Record,
     pub end: EndState,
 }
@@ -75,7 +75,7 @@ pub fn run_along<S: Strategy>(
     request: &Request,
     limit: u32,
     strategy: &mut S,
-) -> Result<Made, SearchFault>
+) -> Result<MadeRun, SearchFault>
     ensures header { IfOk result (λ made. IsOfRequest request.now limit made.record) }
     ensures run { IfOk result (λ made. IsRunOf request.now.parts made.record made.end) }
 {
@@ -111,7 +111,7 @@ pub fn run_with_spares<'m, S: Strategy>(
     limit: u32,
     strategy: &mut S,
     spares: &mut Spares<'m>,
-) -> Result<Made, SearchFault>
+) -> Result<MadeRun, SearchFault>
     requires spares { HoldsSpares request.now.parts request.now.fuel spares.old }
     ensures header { IfOk result (λ made. IsOfRequest request.now limit made.record) }
     ensures run { IfOk result (λ made. IsRunOf request.now.parts made.record made.end) }
@@ -125,7 +125,7 @@ pub fn run_with_spares<'m, S: Strategy>(
     let Concluded { parts, end, unused } = conclude(alloc, course, header)?;
     spares.take_back(module, unused)?;
     match Record::new(parts) {
-        Ok(record) => Ok(Made { record, end }),
+        Ok(record) => Ok(MadeRun { record, end }),
         Err(_) => Err(SearchFault::NoEnd),
     }
 }
