@@ -17,7 +17,8 @@ use Rattle.search_walkers.specs.Walkers.{StandsFor}
 use Rattle.search_walkers.specs.declared.walker.Standing.{Standing}
 use Rattle.search_walkers.specs.declared.walker.Standing.TheVariants.{Missing, Going, Ended, Leaving, Away}
 use Rattle.search_walkers.specs.contracts.walker.StandingPartialEq.TheImpl as standing_eq
-use Rattle.search_parts.specs.Values.{untrue, same_list, same_value, same_caller, same_progress, same_outcome}
+use Rattle.search_endings.specs.Outcomes.{untrue, same_list, same_value, same_outcome}
+use Rattle.search_parts.specs.Values.{same_caller, same_progress}
 
 -- the tests of what is kept, from each on
 module _ (x y : Kept) where
