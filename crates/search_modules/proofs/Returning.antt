@@ -25,7 +25,7 @@ use Rattle.replay.proofs.Same.{same_start}
 use Rattle.spawn_host.specs.RunEnds.{EndsRun}
 use Rattle.search_runs.specs.Called.{Called, Walker, with_fuel}
 use Rattle.search_runs.specs.Ends.{HasEndedSo}
-use Rattle.search_runs.specs.Theorems.{CanReach, IsEndingOf}
+use Rattle.search_runs.specs.Theorems.{CanReach, IsEndingAlong}
 use Rattle.search_runs.proofs.Ending.{every_run_ends_so}
 use Rattle.search_endings.specs.Endings.{Ending, reported_outcome, reported_ending}
 use Rattle.search_modules.specs.Returned.{IsCall, AllHadEnough, WhatRunsReturnIsReached}
@@ -80,7 +80,7 @@ module _ (m : Parts) (distinct : HasDistinctNames m.exports) (entry : List ℕ) 
   abbrev ends_so : Ending
   ends_so = reported_ending dump end.threads.items end.pages end.bytes.items
 
-  ending : IsEndingOf b dump history is_history.outcomes ends_so
+  ending : IsEndingAlong b dump history is_history.outcomes ends_so
   ending = record {
     count = length-map end.threads.items reported_outcome ∙ is_history.count;
     are = λ n o at. (let r = of_report end.threads.items n o at in sym r.is ∙ (is_history.reports n r.report r.at).outcome_is);

@@ -4,7 +4,7 @@ use crate::after::{begun_after, thread_after};
 use crate::beginning::first_flat;
 use crate::called::Searched;
 use search_endings::Ending;
-use search_parts::{Common, Made, SharedWalker, ending_at, make_event};
+use search_parts::{Common, Effect, SharedWalker, ending_at, make_event};
 use search_settled::{Flat, Moves};
 use std::alloc::{AllocError, Global};
 
@@ -23,7 +23,7 @@ impl Moves for Searched<'_> {
 
     type Thread = SharedWalker;
 
-    type Made = Made;
+    type Effect = Effect;
 
     type Ending = Ending;
 
@@ -67,7 +67,7 @@ impl Moves for Searched<'_> {
         shared: &Common,
         thread: &SharedWalker,
         n: usize,
-    ) -> Result<Option<(Common, Made)>, AllocError> {
+    ) -> Result<Option<(Common, Effect)>, AllocError> {
         make_event(
             alloc,
             self.valid,
@@ -81,7 +81,7 @@ impl Moves for Searched<'_> {
     fn after(
         &self,
         alloc: Global,
-        made: &Made,
+        made: &Effect,
         n: usize,
         thread: &SharedWalker,
         m: usize,
@@ -92,7 +92,7 @@ impl Moves for Searched<'_> {
     fn first_after(
         &self,
         alloc: Global,
-        made: &Made,
+        made: &Effect,
         n: usize,
         m: usize,
     ) -> Result<Option<SharedWalker>, AllocError> {
