@@ -16,16 +16,18 @@ use Rattle.search_threads.specs.Unlimited.{Unlimited.Going}
 use Rattle.search_reach.specs.Found.{Claims}
 use Rattle.search_walkers.specs.Rests.{RunsOn}
 use Rattle.search_runs.specs.Called.{Called, Walker as Thread}
-use Rattle.search_runs.specs.Ends.{Ending, HasEndedSo}
+use Rattle.search_endings.specs.Endings.{Ending, reported_ending}
+use Rattle.search_runs.specs.Ends.{HasEndedSo}
 use Rattle.search_runs.specs.Theorems.{CanReach, IsScheduled}
-use Rattle.search_modules.specs.Returned.{IsCall, AllHadEnough, ending_of}
+use Rattle.search_modules.specs.Returned.{IsCall, AllHadEnough}
 
 -- Every run of the module by this call, over a memory that loses tries or not, with a log or without one, and whatever
 -- its budget: where all its threads had units and room enough, its ending is there, with so many first bytes.
 abbrev pub HasEveryEnding : Parts → List ℕ → List Value → ℕ → List Ending → Type 0
 HasEveryEnding m entry args dump endings =
     (fuel : ℕ) (loses : Bool) (limit : Option ℕ) (history : List Entry) (end : EndState)
-    → EndsRun m entry args fuel loses limit history end → AllHadEnough end → Contains endings (ending_of dump end)
+    → EndsRun m entry args fuel loses limit history end → AllHadEnough end
+    → Contains endings (reported_ending dump end.threads.items end.pages end.bytes.items)
 
 -- Threads of the module without budgets can end so by this call, and the machine of a run comes there too, along some
 -- turns and with some budget.

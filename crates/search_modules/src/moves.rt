@@ -3,7 +3,8 @@
 use crate::after::{begun_after, thread_after};
 use crate::beginning::first_flat;
 use crate::called::Searched;
-use search_parts::{Common, Ending, Effect, SharedWalker, ending_of, make_event};
+use search_endings::Ending;
+use search_parts::{Common, Effect, SharedWalker, ending_at, make_event};
 use search_settled::{Flat, Moves};
 use std::alloc::{AllocError, Global};
 
@@ -103,6 +104,6 @@ impl Moves for Searched<'_> {
         alloc: Global,
         flat: &Flat<Common, SharedWalker>,
     ) -> Result<Option<Ending>, AllocError> {
-        ending_of(alloc, self.opening.as_slice(), flat, self.dump)
+        ending_at(alloc, self.opening.as_slice(), flat, self.dump)
     }
 }

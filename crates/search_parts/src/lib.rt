@@ -16,7 +16,7 @@ mod shared_walker;
 mod stepping;
 mod untouched;
 
-pub use ended::{Ending, ending_of, equal_endings_are_the_same};
+pub use ended::ending_at;
 pub use event::{Begun, Effect};
 pub use opening::{first_common, first_threads};
 pub use resting::rest_after;
