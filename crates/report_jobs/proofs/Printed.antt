@@ -13,9 +13,9 @@ use Rattle.replay.specs.Recorded.{RecordsRun}
 use Rattle.report_runs.specs.Called.{RecordsRequest}
 use Rattle.report_command.specs.declared.command_line.RunJob.{RunJob}
 use Rattle.report_jobs.specs.Asked.{IsAskedBy}
-use Rattle.report_jobs.specs.Prints.{Change, Prints, IsKept, IsRecorded, PrintsRun}
+use Rattle.report_jobs.specs.Prints.{WriterChange, Prints, KeepsRecord, IsRecorded, PrintsRun}
 
-module _ (r : Requested) (job : RunJob) (asked : IsAskedBy job.call r) (out save : Change) (status : ℕ) (end : EndState) where
+module _ (r : Requested) (job : RunJob) (asked : IsAskedBy job.call r) (out save : WriterChange) (status : ℕ) (end : EndState) where
   abbrev Over : Bool → Type 0
   Over b =
       MatchBool b (EndsRunOnWords r.parts job.call.invoke.now r.args job.call.fuel end) (IsRecorded r.parts job r.args save end)
@@ -37,7 +37,7 @@ module _ (r : Requested) (job : RunJob) (asked : IsAskedBy job.call r) (out save
   }
 
   pub printed_recorded : job.on_words ≡ false → (x : RecordParts) → RecordsRequest r job.limit x end → IsRunOf r.parts x end
-      → Prints end job.dump out status → IsKept (is_some job.save) save x → PrintsRun r.parts job out save status
+      → Prints end job.dump out status → KeepsRecord (is_some job.save) save x → PrintsRun r.parts job out save status
   printed_recorded on_words x records run prints kept = record {
     args = r.args;
     spelled = asked.spelled;

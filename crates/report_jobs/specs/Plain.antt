@@ -3,7 +3,7 @@ use Rattle.std.specs.Prelude.{ℕ, List}
 use Rattle.report_command.specs.declared.command_line.Job.{Job}
 use Rattle.report_command.specs.declared.command_line.Job.TheVariants.{Check, Run, Replay, Show}
 use Rattle.report_command.specs.declared.command_line.Job.TheVariants as jobs
-use Rattle.report_jobs.specs.Prints.{Change}
+use Rattle.report_jobs.specs.Prints.{WriterChange}
 use Rattle.report_jobs.specs.Jobs.{Checks, Runs, Replays}
 
 -- A job is one of these.
@@ -15,7 +15,7 @@ IsPlain (Show file record_path names look at) = ⊥
 IsPlain (jobs.Search s) = ⊥
 
 -- What the status of a plain job says.
-abbrev pub PerformsPlain : Job → List ℕ → List ℕ → Change → Change → ℕ → Type 0
+abbrev pub PerformsPlain : Job → List ℕ → List ℕ → WriterChange → WriterChange → ℕ → Type 0
 PerformsPlain (Check file) bytes saved out save status = Checks bytes out status
 PerformsPlain (Run job) bytes saved out save status = Runs bytes job out save status
 PerformsPlain (Replay file record_path dump) bytes saved out save status = Replays bytes saved dump out status

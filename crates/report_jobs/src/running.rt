@@ -4,7 +4,7 @@ ghost use Rattle.std.specs.Io.KnownBytes.{Appends};
 ghost use Rattle.types.specs.declared.limits.TheConstants.{MOST_FUEL};
 ghost use Rattle.validate_typing.specs.Validity.{HasDistinctNames};
 ghost use Rattle.report_jobs.specs.Asked.{IsAskedBy};
-ghost use Rattle.report_jobs.specs.Prints.{Change, changed, Prints, PrintsRun, PrintsAndKeeps, IsKept};
+ghost use Rattle.report_jobs.specs.Prints.{WriterChange, changed, Prints, PrintsRun, PrintsAndKeeps, KeepsRecord};
 ghost use Rattle.report_jobs.specs.Troubles.{IsTroubleOf, IsUnwritten, AreArgumentsOf, trouble_of};
 ghost use Rattle.report_jobs.specs.Troubles.{trouble_of_recording};
 ghost use Rattle.report_jobs.specs.declared.running.Trouble.TheVariants as troubles;
@@ -160,7 +160,7 @@ where
     W: Write,
     requires memory { job.now.on_words ≡ true }
     requires asked { IsAskedBy job.now.call request.now }
-    ensures made { IfOk result (λ status. (saved : Change) → PrintsRun request.now.parts job.now
+    ensures made { IfOk result (λ status. (saved : WriterChange) → PrintsRun request.now.parts job.now
         (changed W.contents out.old out.new) saved status) }
     ensures trouble { IfErr result (IsTroubleOf request.now.parts job.now.call) }
 {
@@ -225,7 +225,7 @@ pub fn print<W: Write>(out: &mut W, end: &EndState, dump: u32) -> Result<u8, Tro
 
 /// Writes a record to its file, where it is wanted.
 pub fn keep<S: Write>(record: &Record, is_wanted: bool, save: &mut S) -> Result<(), Trouble>
-    ensures kept { OnOk result (IsKept is_wanted (changed S.contents save.old save.new) «record».now) }
+    ensures kept { OnOk result (KeepsRecord is_wanted (changed S.contents save.old save.new) «record».now) }
     ensures save { IfErr result (λ trouble. trouble ≡ troubles.Save) }
 {
     if !is_wanted {

@@ -1,5 +1,5 @@
 use Rattle.std.proofs.lemmas.Result.{err_from_is_err_and, IfOk-weaker}
-use Rattle.report_jobs.specs.Prints.{Change, change, Prints, PrintsRun}
+use Rattle.report_jobs.specs.Prints.{WriterChange, change, Prints, PrintsRun}
 use Rattle.report_jobs.proofs.Calls.{of_words}
 use Rattle.report_jobs.proofs.Printed.{printed_on_words}
 use Rattle.report_jobs.proofs.running.print_on_words.Goals as goal
@@ -16,6 +16,6 @@ returns-clause-made g c =
     let job = c.args.job.now in
     let out = change (g.W.Write.contents c.args.out.now) (g.W.Write.contents c.print.new.out) in
     let end = c.in_ok-end.end in
-    IfOk-weaker c.print.result (Prints end job.dump out) (λ status. (saved : Change) → PrintsRun r.parts job out saved status)
+    IfOk-weaker c.print.result (Prints end job.dump out) (λ status. (saved : WriterChange) → PrintsRun r.parts job out saved status)
     (λ status prints saved. printed_on_words r job c.requires.asked out saved status end c.requires.memory c.in_ok-end.ensures.end prints)
     c.print.ensures.prints
