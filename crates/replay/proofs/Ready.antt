@@ -22,7 +22,7 @@ use Rattle.replay_text.specs.declared.parts.RecordParts.{RecordParts}
 use Rattle.replay_walk.specs.Walked.{Run, start}
 use Rattle.replay.specs.Runs.{BeginsBy, start_of_record}
 use Rattle.replay.specs.Walks.{IsReadyFor}
-use Rattle.replay.specs.Threads.{IsWorkerStart, IsSpare, AreSpares, AreThreadsFor, requested_by}
+use Rattle.replay.specs.Threads.{IsWorker, IsSpare, AreSpares, AreThreadsFor, requested_by}
 use Rattle.replay.proofs.Workers.{one_worker}
 
 module _ {T : Type 0} (meaning : T → Meaning) (m : Parts) (r : RecordParts) where
@@ -33,7 +33,7 @@ module _ {T : Type 0} (meaning : T → Meaning) (m : Parts) (r : RecordParts) wh
     pub ready : IsReadyFor meaning run r threads memory
     pub same : start run ≡ start_of_record m r beginning
     pub program : run.program ≡ program_of m
-    pub worker : StartsThreads m → IsWorkerStart m run.worker
+    pub worker : StartsThreads m → IsWorker m run.worker
 
   abbrev First : T → Type 0
   First first = IsFirst meaning m r.invoke r.args r.fuel first
@@ -65,7 +65,7 @@ module _ {T : Type 0} (meaning : T → Meaning) (m : Parts) (r : RecordParts) wh
   spare_at : (others : List T) → AreSpares meaning m r.fuel others → (k : ℕ) (x : T) → slice_get others k ≡ Some x → IsSpare meaning m r.fuel x
   spare_at others s k x h = subst (IsSpare meaning m r.fuel) (get_or_from_slice_get others k x x h) (s k x (slice_get_within others k x h))
 
-  begins_other : HasDistinctNames m.exports → (first : T) (others : List T) → AreSpares meaning m r.fuel others → (worker : List Value → Config) → IsWorkerStart m worker
+  begins_other : HasDistinctNames m.exports → (first : T) (others : List T) → AreSpares meaning m r.fuel others → (worker : List Value → Config) → IsWorker m worker
       → (k : ℕ) (x : T) → k ≢ 0 → slice_get (first ∷ others) k ≡ Some x → (meaning x).begins spawn_types worker
   begins_other distinct first others s worker w zero x other h = absurd (other refl)
   begins_other distinct first others s worker w (suc k) x other h =

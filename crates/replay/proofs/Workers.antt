@@ -10,10 +10,10 @@ use Rattle.interp_machine.specs.Config.{Config}
 use Rattle.interp_trait.specs.Turns.{Meaning}
 use Rattle.interp.specs.Starts.{start_of}
 use Rattle.spawn_host.specs.Threads.{AreSpawnable}
-use Rattle.replay.specs.Threads.{IsWorkerStart, AreSpares}
+use Rattle.replay.specs.Threads.{IsWorker, AreSpares}
 use Rattle.replay.proofs.Same.{same_function}
 
-pub one_worker : (m : Parts) → HasDistinctNames m.exports → (x y : List Value → Config) → IsWorkerStart m x → IsWorkerStart m y → x ≡ y
+pub one_worker : (m : Parts) → HasDistinctNames m.exports → (x y : List Value → Config) → IsWorker m x → IsWorker m y → x ≡ y
 one_worker m distinct x y v w =
     let same = same_function m distinct (codes "wasi_thread_start") v.own w.own v.func_type w.func_type v.body w.body v.is_start.exports w.is_start.exports in
     v.begins ∙ (ap (λ (t : FuncType). start_of m t v.body) same.0 ∙ ap (λ (b : Body). start_of m w.func_type b) same.1) ∙ sym w.begins

@@ -24,7 +24,7 @@ abbrev pub requested_by : Parts → RecordParts → Requested
 requested_by m r = record { parts = m; name = r.invoke; args = r.args; fuel = r.fuel }
 
 -- So a spawned thread of the module begins, by its arguments.
-pub record IsWorkerStart (m : Parts) (worker : List Value → Config) : Type 0 where
+pub record IsWorker (m : Parts) (worker : List Value → Config) : Type 0 where
   pub own : ℕ
   pub func_type : FuncType
   pub body : Body
@@ -41,7 +41,7 @@ module _ {T : Type 0} (meaning : T → Meaning) where
     pub program_is : (meaning thread).program ≡ program_of m
     pub fuel_is : (meaning thread).fuel ≡ budget
     pub worker : List Value → Config
-    pub is_worker : IsWorkerStart m worker
+    pub is_worker : IsWorker m worker
     pub begins_so : (meaning thread).begins spawn_types worker
 
   abbrev pub AreSpares : Parts → ℕ → List T → Type 0

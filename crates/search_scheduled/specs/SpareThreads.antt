@@ -12,7 +12,7 @@ use Rattle.spawn_host.specs.Requests.{Requested}
 use Rattle.replay_text.specs.declared.parts.RecordParts.{RecordParts}
 use Rattle.replay_walk.specs.Walked.{Run, start}
 use Rattle.replay.specs.Runs.{BeginsBy, start_of_record}
-use Rattle.replay.specs.Threads.{IsWorkerStart, AreSpares}
+use Rattle.replay.specs.Threads.{IsWorker, AreSpares}
 use Rattle.search_scheduled.specs.declared.course.Course.{Course}
 use Rattle.search_scheduled.specs.declared.threads.Spares.{Spares}
 use Rattle.search_scheduled.specs.Courses.{CameAlong}
@@ -35,7 +35,7 @@ module _ {T : Type 0} (meaning : T → Meaning) where
     pub budget : run.budget ≡ r.fuel
     pub limit : run.limit ≡ r.limit
     pub program : run.program ≡ program_of m
-    pub worker : StartsThreads m → IsWorkerStart m run.worker
+    pub worker : StartsThreads m → IsWorker m run.worker
 
   -- The same of each record with the header of what is requested.
   abbrev pub HasBegunFor : Requested → ℕ → Course T → Type 0
