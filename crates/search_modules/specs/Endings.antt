@@ -9,7 +9,7 @@ use Rattle.schedule.specs.System.{State}
 use Rattle.schedule_threads.specs.Shared.{Shared}
 use Rattle.spawn_host.specs.Entries.{StartsThreads, IsThreadStart}
 use Rattle.spawn_host.specs.declared.end.EndState.{EndState}
-use Rattle.spawn_host.specs.declared.call.Call.{Call}
+use Rattle.spawn_host.specs.Requests.{Requested}
 use Rattle.spawn_host.specs.RunEnds.{EndsRun}
 use Rattle.interp_trait.specs.Turns.{spawned_in}
 use Rattle.search_threads.specs.Unlimited.{Unlimited.Going}
@@ -62,9 +62,9 @@ pub record CanBeLost (m : Parts) (entry : List ℕ) (args : List Value) : Type 0
 
 -- What a search of this call claims: its list has the ending of every run, threads can end as each of the list says,
 -- and they can come to where nothing can be told of one of them.
-abbrev pub claims_of : Parts → Call → ℕ → Claims Ending
-claims_of m call dump = record {
-  complete = HasEveryEnding m call.name.now call.args.now dump;
-  sound = AllCanEndSo m call.name.now call.args.now dump;
-  lost = CanBeLost m call.name.now call.args.now;
+abbrev pub claims_of : Requested → ℕ → Claims Ending
+claims_of r dump = record {
+  complete = HasEveryEnding r.parts r.name r.args dump;
+  sound = AllCanEndSo r.parts r.name r.args dump;
+  lost = CanBeLost r.parts r.name r.args;
 }
