@@ -3,11 +3,11 @@ ghost use Rattle.std.specs.Prelude.{◌≡◌, true, [], IfOk, IsOkUnless, slice
 ghost use Rattle.types.specs.declared.limits.TheConstants.{DESK_NAME, SEATS};
 ghost use Rattle.interp_trait.specs.Turns.{MayRun};
 ghost use Rattle.interp_machine.specs.Program.{Program};
-ghost use Rattle.spawn_host_workers.specs.declared.report.RunFault.{RunFault};
+ghost use Rattle.spawn_host_workers.specs.declared.report.StartFault.{StartFault};
 ghost use Rattle.spawn_host_workers.specs.Seats.{AreInOrder, AreNew, GivesRun};
 
 use crate::host::level_all;
-use crate::report::{RunEnd, RunFault};
+use crate::report::{RunEnd, StartFault};
 use crate::seats::{Dealt, deal};
 use crate::{ThreadEnd, run_thread};
 use interp_trait::{Gate, TakesTurns};
@@ -20,7 +20,10 @@ use waiters_desk::Desk;
 /// Runs the first thread of a program that imports no function that starts threads, in the calling thread. No other is
 /// started.
 ///
-/// The 65 seats are those of a new memory, in order of their names. Memory is taken before the first turn alone.
+/// The 65 seats are those of a new memory, in order of their names.
+///
+/// # Errors
+/// `NoMemory` where memory is refused, before the first turn.
 pub fn run_alone<T, M, G, R>(
     rt: &R,
     alloc: Global,
@@ -28,7 +31,7 @@ pub fn run_alone<T, M, G, R>(
     memory: &M,
     seats: Vec<M::Seat>,
     gate: &G,
-) -> Result<RunEnd<M::Seat>, RunFault>
+) -> Result<RunEnd<M::Seat>, StartFault>
 where
     T: TakesTurns + Drop,
     M: SharedMemory,
@@ -40,11 +43,11 @@ where
     requires names { AreInOrder M.SharedMemory seats.items }
     requires new { AreNew M.SharedMemory seats.items }
     requires right { (d : M.Seat) → M.has_queue_right (slice_index_or seats.items DESK_NAME d) ≡ true }
-    ensures fault { IsOkUnless result RunFault.NoMemory }
+    ensures fault { IsOkUnless result StartFault.NoMemory }
     ensures composed { IfOk result (GivesRun M.SharedMemory memory.now T.meaning first []) }
 {
     let Ok(mut threads) = Vec::with_capacity(alloc, 1) else {
-        return Err(RunFault::NoMemory);
+        return Err(StartFault::NoMemory);
     };
     let Dealt {
         first: seat,

@@ -1,5 +1,5 @@
 //! The threads of a run, in one scope.
-ghost use Rattle.std.specs.Prelude.{◌≡◌, ◌≤◌, ◌+◌, [], All, IfOk, IfErr, MatchResult, vec_len, vec_capacity};
+ghost use Rattle.std.specs.Prelude.{◌≡◌, ◌≤◌, ◌+◌, [], All, IfOk, vec_len, vec_capacity};
 ghost use Rattle.shared_memory.specs.History.{entries_of, queue_after};
 ghost use Rattle.shared_memory.specs.WaitQueue.{IsFree};
 ghost use Rattle.interp_trait.specs.Turns.{MayRun, MayBeSpawned};
@@ -7,10 +7,9 @@ ghost use Rattle.spawn_host_workers.specs.OverMemory.{over};
 ghost use Rattle.spawn_host_workers.specs.Pairs.{AllThree};
 ghost use Rattle.spawn_host_workers.specs.Works.{EndsWork};
 ghost use Rattle.spawn_host_workers.specs.Crew.{EndsFirst, MayStart, IsCrew};
-ghost use Rattle.spawn_host_workers.specs.Faults.{IsOfSystem};
 ghost use Rattle.spawn_host_workers.specs.Duties.{IsDuty, IsDone, Joined};
 
-use crate::report::RunFault;
+use crate::report::StartFault;
 use crate::worker::{WorkerEnd, work};
 use crate::{ThreadEnd, run_thread};
 use interp_trait::{Gate, TakesTurns};
@@ -43,7 +42,7 @@ fn start_worker<'s, E, T, M, W, G, R>(
     seat: M::Seat,
     desk: &'s Desk<M, W>,
     gate: &'s G,
-) -> Result<PromisedHandle<WorkerEnd<M::Seat>, Duty<T, M>>, RunFault>
+) -> Result<PromisedHandle<WorkerEnd<M::Seat>, Duty<T, M>>, StartFault>
 where
     T: TakesTurns + Send + Drop + 's,
     M: SharedMemory + Sync,
@@ -53,7 +52,7 @@ where
     R: Wait + Sync,
     requires new { entries_of (M.name seat) (M.seen seat) ≡ [] }
     requires begins { MayBeSpawned (T.meaning thread) }
-    ensures { MatchResult result (λ handle. IsDuty memory.now thread seat handle) IsOfSystem }
+    ensures { IfOk result (λ handle. IsDuty memory.now thread seat handle) }
 {
     let duty = Duty {
         memory: Snapshot::of(memory),
@@ -68,7 +67,7 @@ where
             ensures { EndsWork (over M.SharedMemory memory.entry.now) T.meaning thread seat result }
         { work(rt, thread, memory, seat, desk, gate) },
     ) else {
-        return Err(RunFault::NoThread);
+        return Err(StartFault::NoThread);
     };
     Ok(handle)
 }
@@ -83,7 +82,7 @@ fn start_workers<'s, E, T, M, W, G, R>(
     seats: Vec<M::Seat>,
     desk: &'s Desk<M, W>,
     gate: &'s G,
-) -> Result<Vec<PromisedHandle<WorkerEnd<M::Seat>, Duty<T, M>>>, RunFault>
+) -> Result<Vec<PromisedHandle<WorkerEnd<M::Seat>, Duty<T, M>>>, StartFault>
 where
     T: TakesTurns + Send + Drop + 's,
     M: SharedMemory + Sync,
@@ -94,11 +93,11 @@ where
     requires len { vec_len threads ≡ vec_len seats }
     requires new { All (λ (s : M.Seat). entries_of (M.name s) (M.seen s) ≡ []) seats.items }
     requires begins { All (λ (t : T). MayBeSpawned (T.meaning t)) threads.items }
-    ensures { MatchResult result (λ handles. AllThree (IsDuty memory.now) threads.items seats.items handles.items
-        × (vec_len handles ≡ vec_len seats)) IsOfSystem }
+    ensures { IfOk result (λ handles. AllThree (IsDuty memory.now) threads.items seats.items handles.items
+        × (vec_len handles ≡ vec_len seats)) }
 {
     let Ok(mut handles) = Vec::with_capacity(alloc, seats.len()) else {
-        return Err(RunFault::NoMemory);
+        return Err(StartFault::NoMemory);
     };
     let mut threads = threads.into_iter();
     for seat in seats {
@@ -139,7 +138,7 @@ pub(crate) fn run_crew<'s, E, T, M, W, G, R>(
     seats: Vec<M::Seat>,
     desk: &'s Desk<M, W>,
     gate: &'s G,
-) -> Result<Vec<WorkerEnd<M::Seat>>, RunFault>
+) -> Result<Vec<WorkerEnd<M::Seat>>, StartFault>
 where
     T: TakesTurns + Send + Drop + 's,
     M: SharedMemory + Sync,
@@ -148,13 +147,12 @@ where
     G: Gate + Sync,
     R: Threads + Wait + Sync,
     requires start { MayStart M.name M.seen T.meaning first seat threads.items seats.items }
-    ensures { MatchResult result
-        (λ ends. IsCrew (over M.SharedMemory memory.now) T.meaning first seat threads.items seats.items ends.items)
-        IsOfSystem }
+    ensures { IfOk result
+        (λ ends. IsCrew (over M.SharedMemory memory.now) T.meaning first seat threads.items seats.items ends.items) }
 {
     let mut seat = seat;
     let Ok(mut ends) = Vec::with_capacity(alloc, MOST_THREADS) else {
-        return Err(RunFault::NoMemory);
+        return Err(StartFault::NoMemory);
     };
     let handles = match start_workers(scope, rt, alloc, threads, memory, seats, desk, gate) {
         Ok(handles) => handles,

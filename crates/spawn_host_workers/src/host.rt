@@ -1,16 +1,15 @@
 //! A run of real threads.
-ghost use Rattle.std.specs.Prelude.{◌≡◌, ◌≤◌, ◌<◌, ◌+◌, true, [], All, IfOk, IfErr, MatchResult, slice_index_or};
+ghost use Rattle.std.specs.Prelude.{◌≡◌, ◌≤◌, ◌<◌, ◌+◌, true, [], All, IfOk, slice_index_or};
 ghost use Rattle.std.specs.Prelude.{vec_len, vec_capacity};
 ghost use Rattle.types.specs.declared.limits.TheConstants.{MOST_SPAWNED, DESK_NAME, SEATS};
 ghost use Rattle.interp_trait.specs.Turns.{MayRun, MayBeSpawned};
 ghost use Rattle.spawn_host_workers.specs.OverMemory.{over};
 ghost use Rattle.spawn_host_workers.specs.Crew.{MayStart, IsCrew};
-ghost use Rattle.spawn_host_workers.specs.Faults.{IsOfSystem};
 ghost use Rattle.spawn_host_workers.specs.Composed.{reported, seats_of};
 ghost use Rattle.spawn_host_workers.specs.Seats.{AreInOrder, AreLevel, AreNew, ComeHome, GivesRun};
 
 use crate::crew::run_crew;
-use crate::report::{RunEnd, RunFault};
+use crate::report::{RunEnd, StartFault};
 use crate::rounds::level;
 use crate::seats::{Dealt, deal};
 use crate::worker::WorkerEnd;
@@ -53,24 +52,23 @@ fn run_threads<T, M, G, R>(
     seats: Vec<M::Seat>,
     desk: &Desk<M, &R>,
     gate: &G,
-) -> Result<Vec<WorkerEnd<M::Seat>>, RunFault>
+) -> Result<Vec<WorkerEnd<M::Seat>>, StartFault>
 where
     T: TakesTurns + Send + Drop,
     M: SharedMemory + Sync,
     G: Gate + Sync,
     R: Threads + Wait + Sync,
     requires start { MayStart M.name M.seen T.meaning first seat threads.items seats.items }
-    ensures { MatchResult result
-        (λ ends. IsCrew (over M.SharedMemory memory.now) T.meaning first seat threads.items seats.items ends.items)
-        IsOfSystem }
+    ensures { IfOk result
+        (λ ends. IsCrew (over M.SharedMemory memory.now) T.meaning first seat threads.items seats.items ends.items) }
 {
     thread::scope(
         thread::scope_env(),
         rt,
-        move |scope| -> Result<Vec<WorkerEnd<M::Seat>>, RunFault>
+        move |scope| -> Result<Vec<WorkerEnd<M::Seat>>, StartFault>
             requires start { MayStart M.name M.seen T.meaning first seat threads.items seats.items }
-            ensures { MatchResult result (λ ends. IsCrew (over M.SharedMemory memory.entry.now) T.meaning first seat
-                threads.items seats.items ends.items) IsOfSystem }
+            ensures { IfOk result (λ ends. IsCrew (over M.SharedMemory memory.entry.now) T.meaning first seat
+                threads.items seats.items ends.items) }
         {
             run_crew(
                 scope, rt, alloc, first, threads, memory, seat, seats, desk, gate,
@@ -112,7 +110,10 @@ fn bring_home<M: SharedMemory>(
 /// Runs the threads of a module as real threads, over one shared memory: the first in the calling thread, and each
 /// spawned one in a thread of its own, which waits until it is spawned.
 ///
-/// The 65 seats are those of a new memory, in order of their names. Memory is taken before the first turn alone.
+/// The 65 seats are those of a new memory, in order of their names.
+///
+/// # Errors
+/// Where memory is refused, or the system starts no further thread, before the first turn of a thread.
 pub fn run_all<T, M, G, R>(
     rt: &R,
     alloc: Global,
@@ -121,7 +122,7 @@ pub fn run_all<T, M, G, R>(
     memory: &M,
     seats: Vec<M::Seat>,
     gate: &G,
-) -> Result<RunEnd<M::Seat>, RunFault>
+) -> Result<RunEnd<M::Seat>, StartFault>
 where
     T: TakesTurns + Send + Drop,
     M: SharedMemory + Sync,
@@ -134,14 +135,13 @@ where
     requires names { AreInOrder M.SharedMemory seats.items }
     requires new { AreNew M.SharedMemory seats.items }
     requires right { (d : M.Seat) → M.has_queue_right (slice_index_or seats.items DESK_NAME d) ≡ true }
-    ensures fault { IfErr result (λ fault. IsOfSystem fault) }
-    ensures composed { IfOk result (GivesRun M.SharedMemory memory.now T.meaning first spawned.items) }
+    ensures { IfOk result (GivesRun M.SharedMemory memory.now T.meaning first spawned.items) }
 {
     let Ok(reports) = Vec::with_capacity(alloc, MOST_THREADS) else {
-        return Err(RunFault::NoMemory);
+        return Err(StartFault::NoMemory);
     };
     let Ok(home) = Vec::with_capacity(alloc, SEATS as usize) else {
-        return Err(RunFault::NoMemory);
+        return Err(StartFault::NoMemory);
     };
     let Dealt {
         first: seat,

@@ -18,5 +18,5 @@ mod worker;
 
 pub use alone::run_alone;
 pub use host::run_all;
-pub use report::{RunEnd, RunFault};
+pub use report::{RunEnd, StartFault};
 pub use running::{ThreadEnd, run_thread};

@@ -57,8 +57,8 @@ bring_home-requires-clause-room g c κs within =
       omega (arith, here, c.in-Ok-with_capacity.ensures.len, c.in-Ok-with_capacity.ensures.capacity),
     )
 
-pub returns-in-Ok-run_threads-clause-composed : goal.returns-in-Ok-run_threads-clause-composed
-returns-in-Ok-run_threads-clause-composed g c =
+pub returns-in-Ok-run_threads : goal.returns-in-Ok-run_threads
+returns-in-Ok-run_threads g c =
     let m = g.M.SharedMemory in
     let t = g.T.TakesTurns in
     let ends = c.in-Ok-run_threads.ends in
@@ -74,14 +74,11 @@ returns-in-Ok-run_threads-clause-composed g c =
 pub bring_home-requires-clause-right : goal.bring_home-requires-clause-right
 bring_home-requires-clause-right g c κs within = c.close-hub.ensures.right
 
-pub returns-in_default-clause-composed : goal.returns-in_default-clause-composed
-returns-in_default-clause-composed g c = tt
+pub returns-in_default : goal.returns-in_default
+returns-in_default g c = tt
 
-pub returns-in_default-with_capacity-clause-composed : goal.returns-in_default-with_capacity-clause-composed
-returns-in_default-with_capacity-clause-composed g c = tt
-
-pub returns-in-Ok-run_threads-clause-fault : goal.returns-in-Ok-run_threads-clause-fault
-returns-in-Ok-run_threads-clause-fault g c = tt
+pub returns-in_default-with_capacity : goal.returns-in_default-with_capacity
+returns-in_default-with_capacity g c = tt
 
 pub deal-seat-requires : goal.deal-seat-requires
 deal-seat-requires g c = c.requires.len
@@ -89,14 +86,5 @@ deal-seat-requires g c = c.requires.len
 pub bring_home-requires-clause-empty : goal.bring_home-requires-clause-empty
 bring_home-requires-clause-empty g c κs within = (c.in-Ok.ensures.items, c.in-Ok-with_capacity.ensures.items)
 
-pub returns-in_default-clause-fault : goal.returns-in_default-clause-fault
-returns-in_default-clause-fault g c = tt
-
-pub returns-in_default-with_capacity-clause-fault : goal.returns-in_default-with_capacity-clause-fault
-returns-in_default-with_capacity-clause-fault g c = tt
-
-pub returns-in-Err-clause-fault : goal.returns-in-Err-clause-fault
-returns-in-Err-clause-fault g c = c.in-Err.ensures
-
-pub returns-in-Err-clause-composed : goal.returns-in-Err-clause-composed
-returns-in-Err-clause-composed g c = tt
+pub returns-in-Err : goal.returns-in-Err
+returns-in-Err g c = tt
