@@ -18,7 +18,7 @@ use Rattle.spawn_host.specs.declared.running.RunFault.TheVariants as faults
 use Rattle.spawn_host.specs.Entries.{Takes, StartsThreads}
 use Rattle.spawn_host.specs.Requests.{Requested, IsRequestOf, IsNumberOf}
 use Rattle.spawn_host.specs.Faults.{IsFaultOf, IsStartFault}
-use Rattle.spawn_host.specs.Threads.{IsCall, BeginsRequest, AreSpawnable}
+use Rattle.spawn_host.specs.Threads.{IsCall, IsFirst, BeginsRequest, AreSpawnable}
 use Rattle.spawn_host.specs.Runs.{IsRun, IsRunOfRequest}
 
 -- what is called by a request of a module's
@@ -84,3 +84,11 @@ module _ (r : Requested) (m : Parts) (call : Call) (of_call : IsRequestOf m call
       (subst (λ (name : List ℕ). IsRun r.parts name call.args.now call.fuel mem threads seats) of_call.name_is
       (subst (λ (args : List Value). IsRun r.parts r.name args call.fuel mem threads seats) of_call.args_are
       (subst (λ (fuel : ℕ). IsRun r.parts r.name r.args fuel mem threads seats) of_call.fuel_is run)))
+
+  pub first_of_call : {T : Type 0} (meaning : T → Meaning) (first : T) → BeginsRequest meaning r first
+      → IsFirst meaning m call.name.now call.args.now call.fuel first
+  first_of_call meaning first begins =
+      subst (λ (p : Parts). IsFirst meaning p call.name.now call.args.now call.fuel first) of_call.parts_are
+      (subst (λ (name : List ℕ). IsFirst meaning r.parts name call.args.now call.fuel first) of_call.name_is
+      (subst (λ (args : List Value). IsFirst meaning r.parts r.name args call.fuel first) of_call.args_are
+      (subst (λ (fuel : ℕ). IsFirst meaning r.parts r.name r.args fuel first) of_call.fuel_is begins)))
