@@ -79,7 +79,11 @@ fn write_told<W: Write>(out: &mut W, made: u64, runs: u64) -> io::Result<()> {
 
 /// Whether some ending of a table has a trap or a stop.
 fn has_failed(table: &Table) -> bool {
-    table.met.iter().any(|met| met.ending.outcomes().iter().any(|outcome| !is_done(*outcome)))
+    table.met.iter().any(|met| met
+        .ending
+        .outcomes()
+        .iter()
+        .any(|outcome| !is_done(*outcome)))
 }
 
 /// What became of the size of a run.

@@ -92,14 +92,16 @@ static ASKED: [Asked; 2] = [
 /// Whether the job is the run.
 fn is_run(job: &Job, asked: &Asked) -> bool {
     match job {
-        Job::Run(RunJob {
-            file,
-            call,
-            on_words,
-            limit,
-            save: None,
-            dump,
-        }) => {
+        Job::Run(
+            RunJob {
+                file,
+                call,
+                on_words,
+                limit,
+                save: None,
+                dump,
+            },
+        ) => {
             (*file, call.invoke) == ("a.wasm", asked.invoke)
                 && *on_words == asked.on_words
                 && (call.fuel, *limit, *dump) == (asked.fuel, asked.limit, asked.dump)

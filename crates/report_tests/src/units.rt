@@ -46,11 +46,7 @@ static COUNTS: [Count; 3] = [
 ];
 
 /// A run over one memory; over the one that records it has a record.
-fn job_of(
-    alloc: Global,
-    count: &Count,
-    on_words: bool,
-) -> Result<RunJob<'static>, AllocError>
+fn job_of(alloc: Global, count: &Count, on_words: bool) -> Result<RunJob<'static>, AllocError>
     ensures { IfOk result (λ job. job.call.fuel ≤ MOST_FUEL) }
 {
     let save = if on_words { None } else { Some("a.record") };

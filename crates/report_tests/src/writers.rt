@@ -91,9 +91,7 @@ fn is_said<R: Threads + Wait + Sync>(
     let mut save = Narrow::new(alloc, rooms.1, at_once);
     let mut err = Vec::new(alloc);
     let job = adding(alloc);
-    let given = run(
-        rt, alloc, &job, ATOMIC_ADD, &mut lines, &mut err, &mut save,
-    );
+    let given = run(rt, alloc, &job, ATOMIC_ADD, &mut lines, &mut err, &mut save);
     let record = if rooms.0 < OUT.len() {
         b"".as_slice()
     } else {
