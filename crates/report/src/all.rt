@@ -3,7 +3,7 @@ ghost use Rattle.std.specs.Prelude.{◌≡◌, ◌≤◌, ◌↔◌, true, IfOk,
 ghost use Rattle.search_finds.specs.Finds.{IsLookedFor};
 ghost use Rattle.report_jobs.specs.Asked.{IsAskedBy};
 ghost use Rattle.report.specs.Searches.{Finds, FindsEvery, FindsNoOther, KeepsNoneOrFind, IsOfSystem};
-ghost use Rattle.report.specs.Searches.{EndWell, AreAllWell, threads_end_well, all_end_well};
+ghost use Rattle.report.specs.Searches.{IsWellAt, AreAllWell, threads_end_well, all_end_well};
 ghost use Rattle.report_jobs.specs.Prints.{changed};
 
 use crate::searching::{no_memory, tell_made, write_ending};
@@ -194,7 +194,7 @@ pub(crate) fn search_all_orders<F: Follows, W: Write, S: Write>(
 ) -> Result<u8, Trouble>
     requires { IsAskedBy search.now.call request.now }
     ensures finds { IfOk result (Finds request.now.parts search.now (changed S.contents save.old save.new)) }
-    ensures well { IfOk result (λ status. status ≡ 0 → EndWell request.now.parts search.now) }
+    ensures well { IfOk result (IsWellAt request.now.parts search.now) }
     ensures trouble { IfErr result IsOfSystem }
 {
     let all = all_of(alloc, request, most, search.sought.dump, follower)?;

@@ -1,5 +1,6 @@
 //! Searches by the program: what is printed, and the record of what was found.
 ghost use Rattle.std.specs.Prelude.{◌≡◌, ◌≤◌, ◌<◌, ◌+◌, ◌^◌, ℕ, List, map, IfOk, IfErr, true, is_some};
+ghost use Rattle.validate_typing.specs.Validity.{HasDistinctNames};
 ghost use Rattle.search_finds.specs.Endings.{HaveOneEnding};
 ghost use Rattle.search_finds.specs.Finds.{IsFind, EndsAsLookedFor};
 ghost use Rattle.report_command.specs.Searches.{IsSearchInRange};
@@ -131,6 +132,13 @@ fn search_drawn<R: Threads + Sync, F: Follows, W: Write, S: Write>(
     Ok(u8::from(has_failed(&table)))
 }
 
+// The exports of a valid module have distinct names (Core specification 1.0, section 3.4.10).
+fn show_distinct(module: &ValidModule)
+    ensures { HasDistinctNames «module».now.parts.exports }
+{
+    let _parts = module.parts();
+}
+
 /// Searches as is asked for: through drawn runs, or through every order of entries. Answers the status.
 pub fn search_module<R: Threads + Sync, F: Follows, W: Write, S: Write>(
     rt: &R,
@@ -152,6 +160,7 @@ pub fn search_module<R: Threads + Sync, F: Follows, W: Write, S: Write>(
         args: &args,
         fuel: search.call.fuel,
     };
+    show_distinct(module);
     let request = Request::new(module, call)?;
     match search.all {
         Some(most) => search_all_orders(alloc, &request, search, most, follower, out, save),

@@ -104,7 +104,8 @@ impl<'m, 'a> RunMaker<'m, 'a> {
 
     /// Whether a run that ended so is looked for.
     fn is_sought(&self, alloc: Global, end: &EndState) -> Result<bool, AllocError>
-        ensures { IfOk result (λ is. (is ≡ true) → EndsAsLookedFor self.now.sought.now self.now.sought.now.dump end.now) }
+        ensures { IfOk result (λ is. (is ≡ true)
+            → EndsAsLookedFor self.now.sought.now self.now.sought.now.dump end.now) }
     {
         let ending = ending_of(alloc, end, self.sought.dump)?;
         is_looked_for(alloc, self.sought, &ending)

@@ -3,7 +3,7 @@ use Rattle.search_modules.specs.Endings.{HasEveryEnding, AllCanEndSo}
 use Rattle.report.proofs.all.search_all_orders.Goals as goal
 
 pub returns-in_default-clause-well : goal.returns-in_default-clause-well
-returns-in_default-clause-well g c = λ zero.
+returns-in_default-clause-well g c = λ some zero.
     let well = c.status_of.ensures.well zero in
     let r = c.args.request.now in
     let dump = c.args.search.now.sought.dump in
