@@ -2,7 +2,7 @@
 //! them, and how they have ended. What is equal in a search is the same.
 //!
 //! Proved: `make_event` and `rest_after` give what an event makes of memory, queue and threads. What is equal is the
-//! same. `ending_of` gives how a state has ended, where all threads that were started have left.
+//! same. `ending_at` gives how a state has ended, where all threads that were started have left.
 #![tactic(auto)]
 
 mod digest;
