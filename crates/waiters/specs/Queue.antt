@@ -31,8 +31,8 @@ abbrev pub AreAsleep : List Sleeper → WaitQueue → Type 0
 AreAsleep sleepers q = (n : ℕ) → is_among n sleepers ≡ true → is_asleep q n ≡ true
 
 -- The answer that was due to a thread is taken, where there was one.
-abbrev pub TakesAnswer : Option Answer → ℕ → WaitQueue → WaitQueue → Type 0
-TakesAnswer answer n before after = MatchOption answer (after ≡ before) (λ _. after ≡ after_answer before n)
+abbrev pub TakesAnswerIfDue : Option Answer → ℕ → WaitQueue → WaitQueue → Type 0
+TakesAnswerIfDue answer n before after = MatchOption answer (after ≡ before) (λ _. after ≡ after_answer before n)
 
 -- The queue without those whom a notify wakes.
 abbrev pub notified : ℕ → ℕ → WaitQueue → WaitQueue

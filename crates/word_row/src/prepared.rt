@@ -5,7 +5,7 @@ ghost use Rattle.shared_memory_sequential.specs.Opening.{can_open, IsSized};
 ghost use Rattle.word_row.specs.Words.{words_of, IsStored};
 
 use crate::Board;
-use shared_memory_on_table::Place;
+use shared_memory_on_table::TableSeat;
 use shared_memory_sequential::{OneMemory, OpenFault};
 use std::alloc::{AllocError, Global};
 use std::marker::Model;
@@ -65,7 +65,7 @@ fn words(alloc: Global, memory: &mut OneMemory) -> Result<Vec<u64>, AllocError>
 #[derive(Drop)]
 pub struct Prepared {
     pub(crate) board: Board,
-    pub(crate) all: Place,
+    pub(crate) all: TableSeat,
     pub(crate) pages_max: u32,
 }
 
