@@ -3,7 +3,7 @@ ghost use Rattle.std.specs.Prelude.{◌≡◌, ◌≤◌, ◌%◌, false};
 ghost use Rattle.types.specs.declared.limits.TheConstants.{DESK_NAME};
 ghost use Rattle.shared_memory.specs.Events.{IsEvent, is_of_queue};
 
-use crate::plan::{Update, Rounds};
+use crate::plan::{Rounds, Update};
 use shared_memory::SharedMemory;
 use types::{Event, Reply, RmwOp};
 use word_row::{Naming, WordRow, WordSeat};

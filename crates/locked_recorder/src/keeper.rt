@@ -8,7 +8,7 @@ ghost use Rattle.locked_recorder.specs.Promises.{is_full, is_held, log_after, Be
 
 use crate::rule::Row;
 use crate::{LockedSeat, steps};
-use shared_memory_on_table::{Naming, TableSeat, StandingCaller};
+use shared_memory_on_table::{Naming, StandingCaller, TableSeat};
 use shared_memory_sequential::OneMemory;
 use std::marker::{Model, PhantomData};
 use types::{Entry, Event, PAGE_SIZE, Question, Reply};

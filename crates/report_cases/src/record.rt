@@ -79,7 +79,12 @@ fn is_run(rt: &HostRuntime, place: CaseName, case: &Case, gave: &Gave) -> Result
 }
 
 /// Whether this was to be written, all of it. Where it isn't known it is a record.
-fn is_whole(rt: &HostRuntime, place: CaseName, case: &Case, gave: &Gave) -> Result<bool, AllocError> {
+fn is_whole(
+    rt: &HostRuntime,
+    place: CaseName,
+    case: &Case,
+    gave: &Gave,
+) -> Result<bool, AllocError> {
     let whole = case.text(rt.alloc(), "record")?;
     let is_right = if whole.is_empty() && case.get("again").is_some() {
         is_written_again(rt.alloc(), &gave.streams.save)

@@ -36,7 +36,11 @@ pub struct SavePlace {
 }
 
 /// The place of a file at a path, if a file can be made beside it.
-fn of_file(rt: &HostRuntime, path: String, permissions: Option<Permissions>) -> io::Result<SavePlace> {
+fn of_file(
+    rt: &HostRuntime,
+    path: String,
+    permissions: Option<Permissions>,
+) -> io::Result<SavePlace> {
     let mut beside = Beside::new(rt.alloc(), &path)?;
     beside.create(rt)?;
     beside.remove(rt)?;

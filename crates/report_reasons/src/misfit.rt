@@ -63,7 +63,12 @@ fn instead_of(turn: Turn) -> Option<Instead> {
 }
 
 /// A place as it is printed.
-fn spot_of(alloc: Global, parts: &Parts, bytes: &[u8], place: CodePlace) -> Result<String, AllocError> {
+fn spot_of(
+    alloc: Global,
+    parts: &Parts,
+    bytes: &[u8],
+    place: CodePlace,
+) -> Result<String, AllocError> {
     let code = CodeMap::read(alloc, parts, bytes, bytes)?;
     let spot = code.spot(place);
     format!(in alloc; "{spot}")

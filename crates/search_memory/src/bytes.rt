@@ -41,7 +41,11 @@ fn lower(alloc: Global, changes: &[ChangedByte], at: usize) -> Result<Vec<Change
 }
 
 /// Puts the changes at higher addresses behind.
-fn put_higher(all: &mut Vec<ChangedByte>, changes: &[ChangedByte], at: usize) -> Result<(), AllocError>
+fn put_higher(
+    all: &mut Vec<ChangedByte>,
+    changes: &[ChangedByte],
+    at: usize,
+) -> Result<(), AllocError>
     ensures { IfOk result (λ u. all.new.items ≡ all.old.items ++ filter (is_above at) changes.now) }
 {
     for one in changes {

@@ -3,7 +3,7 @@
 use crate::after::{begun_after, thread_after};
 use crate::beginning::first_flat;
 use crate::called::Searched;
-use search_parts::{Common, Ending, Effect, SharedWalker, ending_of, make_event};
+use search_parts::{Common, Effect, Ending, SharedWalker, ending_of, make_event};
 use search_settled::{Flat, Moves};
 use std::alloc::{AllocError, Global};
 

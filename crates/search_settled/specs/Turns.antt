@@ -12,7 +12,13 @@ abbrev pub turn_steps : {X T E V A G H M O : Type 0} → ThreadSystem X T E V A 
     → (State X T → Type 0)
     → StepSystem (Flat G H) (State X T) O
 turn_steps k ends stuck =
-    record { stands = StandsForState k; begins = IsFirstOf k.first; steps = StepsBy k.system; ends = ends; stuck = stuck }
+    record {
+      stands = StandsForState k;
+      begins = IsFirstOf k.first;
+      steps = StepsBy k.system;
+      ends = ends;
+      stuck = stuck;
+    }
 
 -- It is what the members of the trait say.
 abbrev pub turns : {Self G H M O : Type 0} → (m : Ghosts Self G H M O) → Self → StepSystem (Flat G H) (State m.X m.T) O

@@ -100,7 +100,8 @@ pub trait Moves {
         requires somewhere { StartsSomewhere (threads self.now) made.now n m }
         requires few { m < (threads self.now).most }
         ensures rests { IfOk result (λ o. IfSome o (BeginsAfter (threads self.now) made.now n m)) }
-        ensures gives_up { IfOk result (λ o. o ≡ None → IsStuckByStart (threads self.now) (stuck self.now) made.now n m) };
+        ensures gives_up { IfOk result
+            (λ o. o ≡ None → IsStuckByStart (threads self.now) (stuck self.now) made.now n m) };
 
     /// How a settled state has ended, where it has.
     fn ending(

@@ -196,7 +196,11 @@ fn a_find_is_one_on_any_number_of_jobs(rt: HostRuntime) -> Result<(), Fail> {
 }
 
 /// The end of a run to which its record is replayed too.
-fn replayed(alloc: Global, valid: &ValidModule, made: &MadeRun) -> Result<Option<EndState>, Trouble> {
+fn replayed(
+    alloc: Global,
+    valid: &ValidModule,
+    made: &MadeRun,
+) -> Result<Option<EndState>, Trouble> {
     let end = replay(alloc, valid, &made.record)?;
     if end == made.end {
         Ok(Some(end))

@@ -79,7 +79,8 @@ module _ (w : WithTables) where
 
   -- A thread that stands so wants an event: what is so of each once it has taken this reply.
   abbrev pub WantsSomeEvent : RestingThread → Type 0
-  WantsSomeEvent s = (b : Called) × (v : Walker) × IsOf b w × StandsForThread w s v × (e : Event) × ((system_of b).wants v ≡ Calls e)
+  WantsSomeEvent s = (b : Called) × (v : Walker) × IsOf b w × StandsForThread w s v × (e : Event)
+      × ((system_of b).wants v ≡ Calls e)
 
   abbrev pub OfTaker : RestingThread → Reply → (Called → Walker → Type 0) → Type 0
   OfTaker before reply so = (b : Called) (v : Walker) (e : Event) → IsOf b w → StandsForThread w before v

@@ -50,7 +50,11 @@ pub struct CallerSeat<B: Naming> {
 }
 
 /// Two callers learn from each other, and exchange the queue right.
-pub fn meet<B: Naming, K, H: History<K>>(row: &Row<K, H>, a: &mut StandingCaller<B>, b: &mut StandingCaller<B>)
+pub fn meet<B: Naming, K, H: History<K>>(
+    row: &Row<K, H>,
+    a: &mut StandingCaller<B>,
+    b: &mut StandingCaller<B>,
+)
     requires row { (row.now.table_id ≡ B.table) × (0 < row.now.table_id.words) }
     ensures names { (a.new.name ≡ a.old.name) × (b.new.name ≡ b.old.name) }
     ensures rights { ExchangeRights a.old b.old a.new b.new }

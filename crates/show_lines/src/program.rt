@@ -58,7 +58,11 @@ impl Steps {
     }
 
     /// An instruction with a size in front, which may be of a kind that isn't known.
-    fn extended(self, place: &mut LineRegisters, instructions: &mut Cursor) -> Result<Emitted, Fault> {
+    fn extended(
+        self,
+        place: &mut LineRegisters,
+        instructions: &mut Cursor,
+    ) -> Result<Emitted, Fault> {
         let size = instructions.read_unsigned()?;
         let mut operands = Cursor::new(instructions.read_bytes(size)?);
         match operands.read_u8()? {

@@ -132,7 +132,11 @@ impl Scene<'_, '_, '_, '_, '_, '_, '_, '_, '_> {
     }
 
     /// The open functions of a thread, the one that runs first.
-    fn write_functions<W: Write>(&self, out: &mut W, standing: &ThreadSnapshot) -> Result<(), Unwritten> {
+    fn write_functions<W: Write>(
+        &self,
+        out: &mut W,
+        standing: &ThreadSnapshot,
+    ) -> Result<(), Unwritten> {
         for number in (0..standing.depth()).rev() {
             self.write_function(out, standing.open_function(number))?;
         }

@@ -3,7 +3,7 @@
 ghost use Rattle.std.specs.Prelude.{◌≡◌, IfOk};
 ghost use Rattle.show_moments.specs.Moments.{StandsAs};
 
-use interp::{Kept, CodePlace, Thread};
+use interp::{CodePlace, Kept, Thread};
 use interp_state::{Caller, Progress};
 use std::alloc::{AllocError, Global};
 

@@ -6,7 +6,9 @@ use std::process::Abort;
 use std::test::Fail;
 use types::{Instr, PlainInstr, Value};
 use validate_module_rules::offset;
-use validate_typing::{Fault, BodyPlace, Table, Target, ValidFault, expression_stands_for_one_nesting};
+use validate_typing::{
+    BodyPlace, Fault, Table, Target, ValidFault, expression_stands_for_one_nesting,
+};
 
 /// The kinds by their numbers.
 static NUMBERS: [(Fault, u8); 20] = [

@@ -77,7 +77,8 @@ impl Model for Prepared {
 
     ghost view = { λ p. record { table = p.board.shared.table_id; opening = p.board.shared.key; limit = 0 } };
 
-    ghost invariant = { λ p. IsPrepared p.board.shared.table_id p.board.shared.key p.all.table_id p.all.me p.pages_max };
+    ghost invariant = { λ p. IsPrepared p.board.shared.table_id p.board.shared.key p.all.table_id p.all.me
+        p.pages_max };
 }
 
 impl Prepared {

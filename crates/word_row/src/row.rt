@@ -16,7 +16,7 @@ use crate::prepared::Prepared;
 use crate::seat::{WordSeat, take_seats};
 use crate::{Arrive, Board, Row, tries};
 use shared_memory::SharedMemory;
-use shared_memory_on_table::{Naming, TableSeat, StandingCaller, hand, meet};
+use shared_memory_on_table::{Naming, StandingCaller, TableSeat, hand, meet};
 use shared_memory_sequential::{OpenFault, lane};
 use std::alloc::Global;
 use std::marker::PhantomData;
@@ -225,7 +225,13 @@ impl<B: Naming> WordRow<B> {
 
     // A change of the word that is there after the list seen.
     #[inline(always)]
-    fn exchange(&self, caller: &mut StandingCaller<B>, event: Event, old: u64, change: Change) -> Reply
+    fn exchange(
+        &self,
+        caller: &mut StandingCaller<B>,
+        event: Event,
+        old: u64,
+        change: Change,
+    ) -> Reply
         requires event { IsEvent event }
         requires within { EndsWithin B.opening event caller.old }
         requires change { IsChange B.opening.max event old change }

@@ -6,7 +6,7 @@ ghost use Rattle.shared_memory_on_table.specs.Rule.{opened};
 ghost use Rattle.word_row.specs.Rows.{HasPages};
 
 use crate::{MemoryWords, Row};
-use shared_memory_on_table::{Naming, TableSeat, StandingCaller};
+use shared_memory_on_table::{Naming, StandingCaller, TableSeat};
 use shared_memory_sequential::OneMemory;
 use std::alloc::{AllocError, Global};
 

@@ -23,7 +23,12 @@ pub fn note<B: Naming, M: Making>(row: &Row, place: &mut TableSeat, event: Event
 
 /// The word of an access within bounds is loaded: the caller's event is entered where the word settles its reply.
 #[inline(always)]
-pub fn read<B: Naming, M: Making>(row: &Row, place: &mut TableSeat, word: usize, event: Event) -> u64
+pub fn read<B: Naming, M: Making>(
+    row: &Row,
+    place: &mut TableSeat,
+    word: usize,
+    event: Event,
+) -> u64
     requires row { HasWord B.opening row.now.key row.now.table_id place.old.table_id word }
     requires one { IsOne place.old.me }
     requires making { M.event ≡ event }

@@ -80,7 +80,12 @@ pub fn store<B: Naming>(row: &Row, caller: &mut StandingCaller<B>, event: Event,
 
 /// Changes the word of an event by a single exchange, whatever it was, and answers the word found.
 #[inline(always)]
-pub fn fetch<B: Naming>(row: &Row, caller: &mut StandingCaller<B>, event: Event, single: Single) -> u64
+pub fn fetch<B: Naming>(
+    row: &Row,
+    caller: &mut StandingCaller<B>,
+    event: Event,
+    single: Single,
+) -> u64
     requires row { IsRow B.table B.opening row.now.table_id row.now.key }
     requires event { IsEvent event }
     requires right { is_of_queue event ≡ true → caller.old.has_queue_right ≡ true }
