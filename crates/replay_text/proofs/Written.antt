@@ -34,24 +34,28 @@ three words front word more = append_assoc front (32 ∷ []) (spaced words [] ++
     ∙ ap (λ (t : List ℕ). front ++ t) (ap (λ (t : List ℕ). 32 ∷ t) (spaced_front words (word ++ words_line more []))
     ∙ sym (words_line_spaced words word more []))
 
-joined_spaced : (word : List ℕ) (words : List (List ℕ)) (rest : List ℕ)
-    → join_with_byte 32 (word ∷ words) ++ 32 ∷ rest ≡ spaced (word ∷ words) rest
-joined_spaced word [] rest = refl
-joined_spaced word (next ∷ words) rest = append_assoc word (32 ∷ join_with_byte 32 (next ∷ words)) (32 ∷ rest)
-    ∙ ap (λ (t : List ℕ). word ++ 32 ∷ t) (joined_spaced next words rest)
+abbrev AnyWord : List (List ℕ) → Type 0
+AnyWord [] = ⊥
+AnyWord (word ∷ words) = Unit {0}
 
-event_spaced : (e : Event) (rest : List ℕ) → join_with_byte 32 (event_words e) ++ 32 ∷ rest ≡ spaced (event_words e) rest
-event_spaced Size rest = joined_spaced _ _ rest
-event_spaced (Grow more) rest = joined_spaced _ _ rest
-event_spaced (Load addr width reach) rest = joined_spaced _ _ rest
-event_spaced (Store addr width reach value) rest = joined_spaced _ _ rest
-event_spaced (Rmw op addr width value) rest = joined_spaced _ _ rest
-event_spaced (Cmpxchg addr width expected replacement) rest = joined_spaced _ _ rest
-event_spaced (Ask (Wait addr width expected timeout)) rest = joined_spaced _ _ rest
-event_spaced (Ask (Notify addr count)) rest = joined_spaced _ _ rest
-event_spaced (Ask (Spawn arg)) rest = joined_spaced _ _ rest
-event_spaced (Ask Leave) rest = joined_spaced _ _ rest
-event_spaced (Told answer) rest = joined_spaced _ _ rest
+joined_spaced : (words : List (List ℕ)) (rest : List ℕ) → AnyWord words → join_with_byte 32 words ++ 32 ∷ rest ≡ spaced words rest
+joined_spaced [] rest any = absurd any
+joined_spaced (word ∷ []) rest any = refl
+joined_spaced (word ∷ next ∷ words) rest any = append_assoc word (32 ∷ join_with_byte 32 (next ∷ words)) (32 ∷ rest)
+    ∙ ap (λ (t : List ℕ). word ++ 32 ∷ t) (joined_spaced (next ∷ words) rest tt)
+
+any_word : (e : Event) → AnyWord (event_words e)
+any_word Size = tt
+any_word (Grow more) = tt
+any_word (Load addr width reach) = tt
+any_word (Store addr width reach value) = tt
+any_word (Rmw op addr width value) = tt
+any_word (Cmpxchg addr width expected replacement) = tt
+any_word (Ask (Wait addr width expected timeout)) = tt
+any_word (Ask (Notify addr count)) = tt
+any_word (Ask (Spawn arg)) = tt
+any_word (Ask Leave) = tt
+any_word (Told answer) = tt
 
 -- a text with a space behind it, between two others
 between : (front words rest : List ℕ)
@@ -67,7 +71,7 @@ entry_appends e a b c p q =
     let reply = line (reply_words e.reply) [] in
     subst (λ (t : List ℕ). Appends a c t)
     (between (decimal e.thread) (join_with_byte 32 words) reply
-    ∙ ap (λ (t : List ℕ). decimal e.thread ++ t) (ap (λ (t : List ℕ). 32 ∷ t) (event_spaced e.event reply)
+    ∙ ap (λ (t : List ℕ). decimal e.thread ++ t) (ap (λ (t : List ℕ). 32 ∷ t) (joined_spaced words reply (any_word e.event))
     ∙ sym (words_line_spaced words (codes "=") (reply_word e.reply ∷ []) [])))
     (appends_then a b c _ _ p q)
 
