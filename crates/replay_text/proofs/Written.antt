@@ -3,6 +3,10 @@ use Rattle.std.proofs.Common.{◌≡◌, ℕ, ◌+◌, List, [], ◌∷◌, ◌+
 use Rattle.std.specs.Prelude.{codes, OnOk, Result, Ok, Err}
 use Rattle.std.specs.Fmt.{decimal}
 use Rattle.std.specs.Io.KnownBytes.{Appends}
+use Rattle.std.specs.List.{join_with_byte}
+use Rattle.types.specs.declared.event.Event.{Event}
+use Rattle.types.specs.declared.event.Event.TheVariants.{Size, Grow, Load, Store, Rmw, Cmpxchg, Ask, Told}
+use Rattle.types.specs.declared.event.Question.TheVariants.{Wait, Notify, Spawn, Leave}
 use Rattle.types.specs.declared.event.Entry.{Entry}
 use Rattle.types.specs.declared.outcome.ThreadReport.{ThreadReport}
 use Rattle.types.specs.declared.value.Value.{Value}
@@ -12,7 +16,7 @@ use Rattle.replay_forms.proofs.Lines.{words_line_spaced}
 use Rattle.replay_forms.proofs.Written.{appends_then, line_front}
 use Rattle.replay_text.specs.Text.{name_word, scale_lines, call_lines, header_lines, end_lines, record_text}
 use Rattle.replay_text.specs.declared.parts.RecordParts.{RecordParts}
-use Rattle.replay_text.specs.Words.{event_words, reply_word, entry_words, outcome_words, end_words}
+use Rattle.replay_text.specs.Words.{event_words, reply_word, reply_words, entry_words, outcome_words, end_words}
 
 -- what follows from the answer of the last call follows from the function's, which is the same
 pub on_ok : {E A B : Type 0} (r : Result (Unit {0}) E) → OnOk r A → (A → B) → OnOk r B
@@ -30,24 +34,46 @@ three words front word more = append_assoc front (32 ∷ []) (spaced words [] ++
     ∙ ap (λ (t : List ℕ). front ++ t) (ap (λ (t : List ℕ). 32 ∷ t) (spaced_front words (word ++ words_line more []))
     ∙ sym (words_line_spaced words word more []))
 
-number_pieces : (i : ℕ) (numbers : List ℕ) → pieces (λ place number. decimal number ++ 32 ∷ []) i numbers ≡ spaced (map decimal numbers) []
-number_pieces i [] = refl
-number_pieces i (n ∷ numbers) = append_assoc (decimal n) (32 ∷ []) (pieces (λ place number. decimal number ++ 32 ∷ []) (i + 1) numbers)
-    ∙ ap (λ (t : List ℕ). decimal n ++ 32 ∷ t) (number_pieces (i + 1) numbers)
+abbrev AnyWord : List (List ℕ) → Type 0
+AnyWord [] = ⊥
+AnyWord (word ∷ words) = Unit {0}
 
-pub numbers_append : (word numbers : List ℕ) (a b c : Option (List ℕ)) → Appends a b (word ++ 32 ∷ [])
-    → Appends b c (pieces (λ place number. decimal number ++ 32 ∷ []) 0 numbers) → Appends a c (spaced (word ∷ map decimal numbers) [])
-numbers_append word numbers a b c p q = subst (λ (t : List ℕ). Appends a c t)
-    (append_assoc word (32 ∷ []) (pieces (λ place number. decimal number ++ 32 ∷ []) 0 numbers)
-    ∙ ap (λ (t : List ℕ). word ++ 32 ∷ t) (number_pieces 0 numbers))
+joined_spaced : (words : List (List ℕ)) (rest : List ℕ) → AnyWord words → join_with_byte 32 words ++ 32 ∷ rest ≡ spaced words rest
+joined_spaced [] rest any = absurd any
+joined_spaced (word ∷ []) rest any = refl
+joined_spaced (word ∷ next ∷ words) rest any = append_assoc word (32 ∷ join_with_byte 32 (next ∷ words)) (32 ∷ rest)
+    ∙ ap (λ (t : List ℕ). word ++ 32 ∷ t) (joined_spaced (next ∷ words) rest tt)
+
+any_word : (e : Event) → AnyWord (event_words e)
+any_word Size = tt
+any_word (Grow more) = tt
+any_word (Load addr width reach) = tt
+any_word (Store addr width reach value) = tt
+any_word (Rmw op addr width value) = tt
+any_word (Cmpxchg addr width expected replacement) = tt
+any_word (Ask (Wait addr width expected timeout)) = tt
+any_word (Ask (Notify addr count)) = tt
+any_word (Ask (Spawn arg)) = tt
+any_word (Ask Leave) = tt
+any_word (Told answer) = tt
+
+-- a text with a space behind it, between two others
+between : (front words rest : List ℕ)
+    → (front ++ 32 ∷ (words ++ 32 ∷ [])) ++ rest ≡ front ++ 32 ∷ (words ++ 32 ∷ rest)
+between front words rest = append_assoc front (32 ∷ (words ++ 32 ∷ [])) rest
+    ∙ ap (λ (t : List ℕ). front ++ 32 ∷ t) (append_assoc words (32 ∷ []) rest)
+
+pub entry_appends : (e : Entry) (a b c : Option (List ℕ))
+    → Appends a b (decimal e.thread ++ 32 ∷ (join_with_byte 32 (event_words e.event) ++ 32 ∷ []))
+    → Appends b c (line (reply_words e.reply) []) → Appends a c (line (entry_words e) [])
+entry_appends e a b c p q =
+    let words = event_words e.event in
+    let reply = line (reply_words e.reply) [] in
+    subst (λ (t : List ℕ). Appends a c t)
+    (between (decimal e.thread) (join_with_byte 32 words) reply
+    ∙ ap (λ (t : List ℕ). decimal e.thread ++ t) (ap (λ (t : List ℕ). 32 ∷ t) (joined_spaced words reply (any_word e.event))
+    ∙ sym (words_line_spaced words (codes "=") (reply_word e.reply ∷ []) [])))
     (appends_then a b c _ _ p q)
-
-pub entry_appends : (e : Entry) (a b c d : Option (List ℕ)) → Appends a b (decimal e.thread ++ 32 ∷ [])
-    → Appends b c (spaced (event_words e.event) []) → Appends c d (line (codes "=" ∷ reply_word e.reply ∷ []) [])
-    → Appends a d (line (entry_words e) [])
-entry_appends e a b c d p q r = subst (λ (t : List ℕ). Appends a d t)
-    (three (event_words e.event) (decimal e.thread) (codes "=") (reply_word e.reply ∷ []))
-    (appends_then a b d _ _ p (appends_then b c d _ _ q r))
 
 pub end_appends : (thread : ℕ) (report : ThreadReport) (a b c d : Option (List ℕ))
     → Appends a b (codes "end " ++ (decimal thread ++ 32 ∷ []))

@@ -1,5 +1,5 @@
 -- The words of entries and of ends.
-use Rattle.std.specs.Prelude.{ℕ, List, [], ◌∷◌, ◌++◌, codes, map, Option, Some, None}
+use Rattle.std.specs.Prelude.{ℕ, List, [], ◌∷◌, ◌++◌, codes, Option, Some, None}
 use Rattle.std.specs.Fmt.{decimal, signed_decimal}
 use Rattle.types.specs.declared.event.RmwOp.{RmwOp}
 use Rattle.types.specs.declared.event.RmwOp.TheVariants as ops
@@ -17,12 +17,7 @@ use Rattle.types.specs.declared.outcome.Outcome.TheVariants as outcomes
 use Rattle.types.specs.declared.outcome.ThreadReport.{ThreadReport}
 use Rattle.types.specs.declared.value.Value.{Value}
 use Rattle.types.specs.Values.{value_text}
-use Rattle.replay_forms.specs.Texts.{spaced}
 use Rattle.types.specs.Outcomes.{trap_number, stop_number}
-
--- A word and numbers, a space behind each.
-abbrev pub numbers_text : List ℕ → List ℕ → List ℕ
-numbers_text word numbers = spaced (word ∷ map decimal numbers) []
 
 abbrev pub op_word : RmwOp → List ℕ
 op_word ops.Add = codes "add"

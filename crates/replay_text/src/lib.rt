@@ -18,6 +18,7 @@ mod read;
 mod record;
 mod value;
 mod version;
+mod words;
 mod write;
 
 pub use fault::{RecordFault, WriteFault};
@@ -25,4 +26,5 @@ pub use parts::RecordParts;
 pub use read::read_record;
 pub use record::{Record, one_text};
 pub use version::{FIRST_PAGES, FIRST_THREADS, Version};
+pub use words::EventWords;
 pub use write::write_record;

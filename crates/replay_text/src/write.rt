@@ -1,10 +1,9 @@
 //! Writing a record.
 
-ghost use Rattle.std.specs.Prelude.{◌≡◌, codes, [], ◌++◌};
+ghost use Rattle.std.specs.Prelude.{[]};
 ghost use Rattle.replay_forms.specs.Texts.{Wrote, line, spaced, lines_text};
 ghost use Rattle.replay_text.specs.Text.{record_text, name_word, version_lines, header_lines};
-ghost use Rattle.replay_text.specs.Words.{op_word, numbers_text, event_words, question_words, reply_words};
-ghost use Rattle.replay_text.specs.Words.{outcome_words};
+ghost use Rattle.replay_text.specs.Words.{reply_words, outcome_words};
 
 use crate::end::EndLine;
 use crate::entry::EntryLine;
@@ -13,100 +12,10 @@ use crate::parts::RecordParts;
 use crate::record::Record;
 use crate::value::Argument;
 use crate::version::Version;
+use crate::words::EventWords;
 use replay_forms::{HexByte, Printed, write_items};
 use std::io::{self, Write};
-use types::{Answer, Entry, Event, Outcome, Question, Reply, RmwOp, ThreadReport, Value};
-
-fn rmw_words(op: RmwOp) -> &'static str
-    ensures { result.now ≡ codes "rmw " ++ op_word op }
-{
-    match op {
-        RmwOp::Add => "rmw add",
-        RmwOp::Sub => "rmw sub",
-        RmwOp::And => "rmw and",
-        RmwOp::Or => "rmw or",
-        RmwOp::Xor => "rmw xor",
-        RmwOp::Xchg => "rmw xchg",
-    }
-}
-
-/// Numbers, a space behind each.
-struct SpacedNumber;
-
-impl Printed for SpacedNumber {
-    ghost use Rattle.std.specs.Prelude.{[], ◌∷◌, ◌++◌};
-    ghost use Rattle.std.specs.Fmt.{decimal};
-
-    type Value = u64;
-
-    ghost piece = { λ place number. decimal number ++ 32 ∷ [] };
-
-    fn write<W: Write>(writer: &mut W, _place: usize, number: u64) -> io::Result<()> {
-        write!(writer, "{number} ")
-    }
-}
-
-/// Writes a word and numbers, a space behind each.
-fn write_numbers<W: Write>(writer: &mut W, word: &str, numbers: &[u64]) -> io::Result<()>
-    ensures { Wrote W.contents writer.old writer.new result (numbers_text word.now numbers.now) }
-{
-    write!(writer, "{word} ")?;
-    write_items::<SpacedNumber, W>(writer, numbers)
-}
-
-fn write_question<W: Write>(writer: &mut W, question: Question) -> io::Result<()>
-    ensures { Wrote W.contents writer.old writer.new result (spaced (question_words question) []) }
-{
-    match question {
-        Question::Wait {
-            addr,
-            width,
-            expected,
-            timeout,
-        } => write!(writer, "wait {addr} {width} {expected} {timeout} "),
-        Question::Notify { addr, count } => write_numbers(writer, "notify", &[addr, count as u64]),
-        Question::Spawn { arg } => write_numbers(writer, "spawn", &[arg as u64]),
-        Question::Leave => write_numbers(writer, "leave", &[]),
-    }
-}
-
-/// Writes an event's words, and a space behind each.
-fn write_event<W: Write>(writer: &mut W, event: Event) -> io::Result<()>
-    ensures { Wrote W.contents writer.old writer.new result (spaced (event_words event) []) }
-{
-    match event {
-        Event::Size => write_numbers(writer, "size", &[]),
-        Event::Grow(more) => write_numbers(writer, "grow", &[more as u64]),
-        Event::Load { addr, width, reach } => {
-            write_numbers(writer, "load", &[addr, width as u64, reach])
-        }
-        Event::Store {
-            addr,
-            width,
-            reach,
-            value,
-        } => write_numbers(writer, "store", &[addr, width as u64, reach, value]),
-        Event::Rmw {
-            op,
-            addr,
-            width,
-            value,
-        } => write_numbers(writer, rmw_words(op), &[addr, width as u64, value]),
-        Event::Cmpxchg {
-            addr,
-            width,
-            expected,
-            replacement,
-        } => write_numbers(
-            writer,
-            "cmpxchg",
-            &[addr, width as u64, expected, replacement],
-        ),
-        Event::Ask(question) => write_question(writer, question),
-        Event::Told(Answer::Number(n)) => write_numbers(writer, "told", &[n as u64]),
-        Event::Told(Answer::ForGood) => write_numbers(writer, "told stop", &[]),
-    }
-}
+use types::{Entry, Outcome, Reply, ThreadReport, Value};
 
 fn write_reply<W: Write>(writer: &mut W, reply: Reply) -> io::Result<()>
     ensures { Wrote W.contents writer.old writer.new result (line (reply_words reply) []) }
@@ -124,10 +33,16 @@ fn write_outcome<W: Write>(writer: &mut W, outcome: Outcome) -> io::Result<()>
     ensures { Wrote W.contents writer.old writer.new result (spaced (outcome_words outcome) []) }
 {
     match outcome {
-        Outcome::Done(None) => write_numbers(writer, "ok -", &[]),
+        Outcome::Done(None) => writer.write_all(b"ok - "),
         Outcome::Done(Some(value)) => write!(writer, "ok {value} "),
-        Outcome::Trap(trap) => write_numbers(writer, "trap", &[trap.number() as u64]),
-        Outcome::Stop(stop) => write_numbers(writer, "stop", &[stop.number() as u64]),
+        Outcome::Trap(trap) => {
+            let number = trap.number();
+            write!(writer, "trap {number} ")
+        }
+        Outcome::Stop(stop) => {
+            let number = stop.number();
+            write!(writer, "stop {number} ")
+        }
     }
 }
 
@@ -142,8 +57,8 @@ impl Printed for EntryLine {
 
     fn write<W: Write>(writer: &mut W, _place: usize, entry: Entry) -> io::Result<()> {
         let thread = entry.thread;
-        write!(writer, "{thread} ")?;
-        write_event(writer, entry.event)?;
+        let event = EventWords(entry.event);
+        write!(writer, "{thread} {event} ")?;
         write_reply(writer, entry.reply)
     }
 }

@@ -8,7 +8,6 @@ mod bytes;
 mod calls;
 mod done;
 mod ends;
-mod event;
 mod misfit;
 mod opcodes;
 mod records;

@@ -1,8 +1,7 @@
 //! Records that are refused.
 
-use crate::event::EventWords;
 use crate::refused::{Instead, Misfit};
-use replay_text::RecordFault;
+use replay_text::{EventWords, RecordFault};
 use show_text::Plain;
 use std::alloc::AllocError;
 
