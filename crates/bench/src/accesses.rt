@@ -3,7 +3,7 @@ ghost use Rattle.std.specs.Prelude.{◌≡◌, ◌≤◌, ◌%◌, false};
 ghost use Rattle.types.specs.declared.limits.TheConstants.{DESK_NAME};
 ghost use Rattle.shared_memory.specs.Events.{IsEvent, is_of_queue};
 
-use crate::plan::{Change, Rounds};
+use crate::plan::{Rounds, Update};
 use shared_memory::SharedMemory;
 use types::{Event, Reply, RmwOp};
 use word_row::{Naming, WordRow, WordSeat};
@@ -14,7 +14,7 @@ const MOST_TRIES: u32 = 1_000_000;
 /// What one thread is to do.
 #[derive(Clone, Copy)]
 pub struct Task {
-    pub change: Change,
+    pub change: Update,
     pub rounds: Rounds,
     pub times: u32,
 }
@@ -168,20 +168,20 @@ impl Kind for Xors {
 }
 
 /// The change of the word at an address, by this number where it has a value.
-fn change_at(change: Change, addr: u64, number: u64) -> Event
+fn change_at(change: Update, addr: u64, number: u64) -> Event
     requires aligned { addr % 8 ≡ 0 }
     requires near { addr ≤ 4096 }
     ensures event { IsEvent result }
     ensures plain { is_of_queue result ≡ false }
 {
     match change {
-        Change::Add => Adds::event(addr, number),
-        Change::AddNarrow => NarrowAdds::event(addr, number),
-        Change::Store => Stores::event(addr, number),
-        Change::Swap => Swaps::event(addr, number),
-        Change::And => Ands::event(addr, number),
-        Change::Or => Ors::event(addr, number),
-        Change::Xor => Xors::event(addr, number),
+        Update::Add => Adds::event(addr, number),
+        Update::AddNarrow => NarrowAdds::event(addr, number),
+        Update::Store => Stores::event(addr, number),
+        Update::Swap => Swaps::event(addr, number),
+        Update::And => Ands::event(addr, number),
+        Update::Or => Ors::event(addr, number),
+        Update::Xor => Xors::event(addr, number),
     }
 }
 
@@ -294,12 +294,12 @@ pub fn perform_on_words<B: Naming>(
     task: Task,
 ) -> (WordSeat<B>, Tally) {
     match task.change {
-        Change::Add => make_all::<B, Adds>(row, seat, task),
-        Change::AddNarrow => make_all::<B, NarrowAdds>(row, seat, task),
-        Change::Store => make_all::<B, Stores>(row, seat, task),
-        Change::Swap => make_all::<B, Swaps>(row, seat, task),
-        Change::And => make_all::<B, Ands>(row, seat, task),
-        Change::Or => make_all::<B, Ors>(row, seat, task),
-        Change::Xor => make_all::<B, Xors>(row, seat, task),
+        Update::Add => make_all::<B, Adds>(row, seat, task),
+        Update::AddNarrow => make_all::<B, NarrowAdds>(row, seat, task),
+        Update::Store => make_all::<B, Stores>(row, seat, task),
+        Update::Swap => make_all::<B, Swaps>(row, seat, task),
+        Update::And => make_all::<B, Ands>(row, seat, task),
+        Update::Or => make_all::<B, Ors>(row, seat, task),
+        Update::Xor => make_all::<B, Xors>(row, seat, task),
     }
 }

@@ -20,7 +20,7 @@ pub enum Shared {
 
 /// What a thread does with a word of eight bytes, by the number of the round where it has a value.
 #[derive(Clone, Copy)]
-pub enum Change {
+pub enum Update {
     /// It adds 1.
     Add,
     /// It adds 1 to the lower four bytes.
@@ -52,7 +52,7 @@ pub enum Rounds {
 #[derive(Drop)]
 pub struct MemoryPlan {
     pub shared: Shared,
-    pub change: Change,
+    pub change: Update,
     pub rounds: Rounds,
     pub threads: u32,
     pub accesses: u32,
@@ -110,15 +110,15 @@ fn shared_of(word: &str) -> Option<Shared> {
 }
 
 /// The change of a word.
-fn change_of(word: &str) -> Option<Change> {
+fn change_of(word: &str) -> Option<Update> {
     match word {
-        "adds" => Some(Change::Add),
-        "narrow-adds" => Some(Change::AddNarrow),
-        "stores" => Some(Change::Store),
-        "swaps" => Some(Change::Swap),
-        "ands" => Some(Change::And),
-        "ors" => Some(Change::Or),
-        "xors" => Some(Change::Xor),
+        "adds" => Some(Update::Add),
+        "narrow-adds" => Some(Update::AddNarrow),
+        "stores" => Some(Update::Store),
+        "swaps" => Some(Update::Swap),
+        "ands" => Some(Update::And),
+        "ors" => Some(Update::Or),
+        "xors" => Some(Update::Xor),
         _ => None,
     }
 }

@@ -13,5 +13,5 @@ mod place;
 mod thread;
 
 pub use kept::Kept;
-pub use place::Place;
+pub use place::CodePlace;
 pub use thread::Thread;

@@ -5,7 +5,7 @@ use interp_state::Caller;
 
 /// A place in a module: a function of the module itself, from 0, and the number of an instruction in its flat code.
 #[derive(Clone, Copy, PartialEq, Eq)]
-pub struct Place {
+pub struct CodePlace {
     pub function: usize,
     pub instr: usize,
 }
@@ -15,10 +15,10 @@ impl Thread<'_> {
     ghost use Rattle.interp.specs.Places.{IsAtPlace, HasCallers};
 
     /// Where the instruction stands that comes next in it; the one at which it ended, if it has.
-    pub fn place(&self) -> Place
+    pub fn place(&self) -> CodePlace
         ensures { StandsWith self.now (IsAtPlace self.now.parts.now result.function result.instr) }
     {
-        Place {
+        CodePlace {
             function: self.state.function,
             instr: self.state.pc,
         }

@@ -7,19 +7,19 @@ ghost use Rattle.interp_state.specs.Steps.{Continues, Wanting, IsStep, IsReplied
 use crate::loaded::loaded;
 use crate::operands::{effective, replace_top};
 use crate::parts::{high_load, is_in_one_word, join, low_load};
-use interp_state::{Progress, State, Step, top_i32};
+use interp_state::{Progress, State, StepResult, top_i32};
 use types::{Instr, LoadOp, MemArg, PlainInstr};
 
 /// A load wants the number of its first word, and then that of the second one, where it touches two.
 #[inline(always)]
-pub fn load(state: &mut State, op: LoadOp, arg: MemArg) -> Step
+pub fn load(state: &mut State, op: LoadOp, arg: MemArg) -> StepResult
     requires { Continues state.old (Instr.Plain (PlainInstr.Load op arg)) }
     ensures { IsStep state.old result state.new }
 {
     let addr = effective(top_i32(&state.values), arg);
     match state.progress {
-        Progress::Fresh => Step::Wants(low_load(addr, op.bytes())),
-        Progress::Halfway(_) => Step::Wants(high_load(addr, op.bytes())),
+        Progress::Fresh => StepResult::Wants(low_load(addr, op.bytes())),
+        Progress::Halfway(_) => StepResult::Wants(high_load(addr, op.bytes())),
         Progress::Asked => unreachable!(),
     }
 }

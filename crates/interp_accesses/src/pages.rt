@@ -6,19 +6,19 @@ ghost use Rattle.interp_state.specs.Steps.{ComesNext, Wanting, IsStep, IsReplied
 
 use crate::operands::replace_top;
 use interp_numeric::i32_wrap_i64;
-use interp_state::{State, Step, push, top_i32};
+use interp_state::{State, StepResult, push, top_i32};
 use types::{Event, Instr, MOST_VALUES, PlainInstr, Trap};
 
 /// `memory.size` wants the number of pages, where there is room for it on the stack.
 #[inline]
-pub fn memory_size(state: &mut State) -> Step
+pub fn memory_size(state: &mut State) -> StepResult
     requires { ComesNext state.old (Instr.Plain PlainInstr.MemorySize) }
     ensures { IsStep state.old result state.new }
 {
     if state.values.len() == MOST_VALUES {
-        return Step::Trapped(Trap::StackExhausted);
+        return StepResult::Trapped(Trap::StackExhausted);
     }
-    Step::Wants(Event::Size)
+    StepResult::Wants(Event::Size)
 }
 
 /// The number of pages comes onto the stack.
@@ -33,11 +33,11 @@ pub fn memory_size_replied(state: &mut State, number: u64)
 
 /// `memory.grow` wants as many more pages as the number on top says.
 #[inline]
-pub fn memory_grow(state: &mut State) -> Step
+pub fn memory_grow(state: &mut State) -> StepResult
     requires { ComesNext state.old (Instr.Plain PlainInstr.MemoryGrow) }
     ensures { IsStep state.old result state.new }
 {
-    Step::Wants(Event::Grow(top_i32(&state.values)))
+    StepResult::Wants(Event::Grow(top_i32(&state.values)))
 }
 
 /// The number of pages before, or 2^32 - 1 where the memory didn't grow, replaces the number of those that were wanted.

@@ -11,7 +11,7 @@ ghost use Rattle.interp_accesses.specs.Requests.{Wants};
 
 use crate::replies::{await_answer, finish, give};
 use crate::requests::{cmpxchg, load, notify, rmw, store, wait};
-use interp_state::{State, Step};
+use interp_state::{State, StepResult};
 use types::{AtomicOp, Event, MemArg, Trap};
 
 /// The event that an atomic instruction wants, or its trap.
@@ -37,13 +37,13 @@ pub(crate) fn request(
 
 /// An atomic instruction wants its event, or traps. The operands stay until the reply.
 #[inline(always)]
-pub fn atomic(state: &mut State, op: AtomicOp, arg: MemArg) -> Step
+pub fn atomic(state: &mut State, op: AtomicOp, arg: MemArg) -> StepResult
     requires { ComesNext state.old (Instr.Plain (PlainInstr.Atomic op arg)) }
     ensures { IsStep state.old result state.new }
 {
     match request(state.values.as_slice(), state.program.shared, op, arg) {
-        Ok(event) => Step::Wants(event),
-        Err(trap) => Step::Trapped(trap),
+        Ok(event) => StepResult::Wants(event),
+        Err(trap) => StepResult::Trapped(trap),
     }
 }
 

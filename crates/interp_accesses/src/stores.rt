@@ -7,20 +7,20 @@ ghost use Rattle.interp_state.specs.Steps.{Continues, Wanting, IsStep, IsReplied
 
 use crate::operands::{drop_two, effective, top_two};
 use crate::parts::{high_store, is_in_one_word, low_store};
-use interp_state::{Progress, State, Step};
+use interp_state::{Progress, State, StepResult};
 use types::{AccessWidth, Instr, MemArg, PlainInstr};
 
 /// A store wants its part in the first word written, and then that in the second one, where it touches two.
 #[inline(always)]
-pub fn store(state: &mut State, width: AccessWidth, arg: MemArg) -> Step
+pub fn store(state: &mut State, width: AccessWidth, arg: MemArg) -> StepResult
     requires { Continues state.old (Instr.Plain (PlainInstr.Store width arg)) }
     ensures { IsStep state.old result state.new }
 {
     let (base, number) = top_two(&state.values);
     let addr = effective(base, arg);
     match state.progress {
-        Progress::Fresh => Step::Wants(low_store(addr, width.bytes(), number)),
-        Progress::Halfway(_) => Step::Wants(high_store(addr, width.bytes(), number)),
+        Progress::Fresh => StepResult::Wants(low_store(addr, width.bytes(), number)),
+        Progress::Halfway(_) => StepResult::Wants(high_store(addr, width.bytes(), number)),
         Progress::Asked => unreachable!(),
     }
 }

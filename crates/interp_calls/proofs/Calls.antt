@@ -24,12 +24,12 @@ use Rattle.validate_typing.specs.Context.{imported_functions, functions_of}
 use Rattle.validate_typing.specs.Tabled.{WithTables, IsValidated}
 use Rattle.interp_machine.specs.Config.{Config, Asks, values_in, values_of}
 use Rattle.interp_machine.specs.Program.{Program, Function, program_of, function_of_body}
-use Rattle.interp_machine.specs.Step.{next, runs, opens, calls, calls_own, waits}
+use Rattle.interp_machine.specs.StepResult.{next, runs, opens, calls, calls_own, waits}
 use Rattle.interp_state.specs.declared.state.Program.{Program as Prog}
 use Rattle.interp_state.specs.declared.state.State.{State}
 use Rattle.interp_state.specs.declared.state.Progress.TheVariants.{Fresh, Asked}
-use Rattle.interp_state.specs.declared.state.Step.{Step}
-use Rattle.interp_state.specs.declared.state.Step.TheVariants.{Wants}
+use Rattle.interp_state.specs.declared.state.StepResult.{StepResult}
+use Rattle.interp_state.specs.declared.state.StepResult.TheVariants.{Wants}
 use Rattle.interp_state.specs.Stands.{belows, values_on, FrameAt, Stands}
 use Rattle.interp_state.specs.Steps.{Steps, Replies, ComesNext, IsAt}
 use Rattle.interp_state.specs.Words.{word_of, Mean, HasWords}
@@ -95,7 +95,7 @@ own_is : (p : Program) (c : Config) (f : ℕ) (t : FuncType) (own : Function) (r
     slice_get p.bodies (f - p.imported) ≡ Some own → calls p c f t rest operands ≡ calls_own c t own rest operands
 own_is p c f t own rest operands h e = let g : nat_lt f p.imported ≡ false = search arith in rw (g, e) refl
 
-pub enters_own : (w : WithTables) (s old n : State) (c : Config) (st : Stands w s c) (step : Step) (rest : Code)
+pub enters_own : (w : WithTables) (s old n : State) (c : Config) (st : Stands w s c) (step : StepResult) (rest : Code)
     (operands : List Value) (f index : ℕ) (t : FuncType) (tail : List ValType) →
     IsValidated w → HasBodies s → s.progress ≡ Fresh → CallsOwn w s old c st rest operands f index t tail →
     ((below : List Value) → map type_of below ≡ tail → FrameAt st.body t.results (waiting_frame c.frame rest below) (s.pc + 1)) →
@@ -282,7 +282,7 @@ call_ready s f b bodies k =
     can_enter w s s c st x.at.rest c.frame.operands f x.index x.func_type x.tail b.sound.2 bodies
     (own_call w s c st f k x) st.room (slice_get_within _ _ _ b.here)
 
-pub call_enters : (w : WithTables) (s n : State) (c : Config) (step : Step) (f : ℕ) → IsValidated w → Stands w s c
+pub call_enters : (w : WithTables) (s n : State) (c : Config) (step : StepResult) (f : ℕ) → IsValidated w → Stands w s c
     → ComesNext s (Plain (plain.Call f)) → HasBodies s →
     s.program.imported ≤ f → IsEntered s (f - s.program.imported) step n → Steps w c (next (program_of w.parts) c) step n
 call_enters w s n c step f v st b bodies k e =

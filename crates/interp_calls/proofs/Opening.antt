@@ -23,13 +23,13 @@ use Rattle.validate_typing.specs.Tabled.{WithTables, IsValidated, flat_body}
 use Rattle.validate_typing.proofs.Nested.{nested_of_flat}
 use Rattle.interp_machine.specs.Config.{Frame, Config, Fresh as NotBegun, Goes, Traps, values_in, values_of}
 use Rattle.interp_machine.specs.Program.{Function, program_of, function_of_body, zero_of}
-use Rattle.interp_machine.specs.Step.{next, runs, opens}
+use Rattle.interp_machine.specs.StepResult.{next, runs, opens}
 use Rattle.interp_state.specs.declared.state.Caller.{Caller}
 use Rattle.interp_state.specs.declared.state.Program.{Program as Prog}
 use Rattle.interp_state.specs.declared.state.State.{State}
 use Rattle.interp_state.specs.declared.state.Progress.TheVariants.{Fresh}
-use Rattle.interp_state.specs.declared.state.Step.{Step}
-use Rattle.interp_state.specs.declared.state.Step.TheVariants.{Trapped}
+use Rattle.interp_state.specs.declared.state.StepResult.{StepResult}
+use Rattle.interp_state.specs.declared.state.StepResult.TheVariants.{Trapped}
 use Rattle.interp_state.specs.Stands.{values_on, FrameAt, IsOwn, IsProgram, AreCallers, Stands, reached}
 use Rattle.interp_state.specs.Steps.{Steps}
 use Rattle.interp_state.specs.Words.{word_of, AreInRange, Mean}
@@ -230,7 +230,7 @@ trapped : (w : WithTables) (s n : State) (c : Config) → Stands w s c → s.pro
     next (program_of w.parts) c ≡ Traps traps.StackExhausted → Steps w c (next (program_of w.parts) c) (Trapped traps.StackExhausted) n
 trapped w s n c st f h = rw h refl
 
-pub opening : (w : WithTables) (s old n : State) (c : Config) (st : Stands w s c) (step : Step) (rest : Code)
+pub opening : (w : WithTables) (s old n : State) (c : Config) (st : Stands w s c) (step : StepResult) (rest : Code)
     (args below : List Value) (own : ℕ) (b : Flat) (o : IsOwn w own b) →
     IsValidated w → Midway s old → s.progress ≡ Fresh → map type_of args ≡ reverse o.func_type.params →
     FrameAt st.body b.context.results (waiting_frame c.frame rest below) (s.pc + 1) →

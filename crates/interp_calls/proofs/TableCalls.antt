@@ -25,12 +25,12 @@ use Rattle.validate_typing.specs.Context.{imported_functions, functions_of}
 use Rattle.validate_typing.specs.Tabled.{WithTables, IsValidated}
 use Rattle.interp_machine.specs.Config.{Config, Traps}
 use Rattle.interp_machine.specs.Program.{Program, program_of, opening_table}
-use Rattle.interp_machine.specs.Step.{next, runs, limited, calls, calls_place, same_type}
+use Rattle.interp_machine.specs.StepResult.{next, runs, limited, calls, calls_place, same_type}
 use Rattle.interp_state.specs.declared.state.Program.{Program as Prog}
 use Rattle.interp_state.specs.declared.state.State.{State}
 use Rattle.interp_state.specs.declared.state.Progress.TheVariants.{Asked}
-use Rattle.interp_state.specs.declared.state.Step.{Step}
-use Rattle.interp_state.specs.declared.state.Step.TheVariants.{Trapped, Wants}
+use Rattle.interp_state.specs.declared.state.StepResult.{StepResult}
+use Rattle.interp_state.specs.declared.state.StepResult.TheVariants.{Trapped, Wants}
 use Rattle.interp_state.specs.Stands.{belows, values_on, IsProgram, Stands}
 use Rattle.interp_state.specs.Steps.{Steps, Replies, ComesNext, Wanting, IsAsking, IsAt}
 use Rattle.interp_state.specs.Words.{word_of, Mean, HasWords}
@@ -325,7 +325,7 @@ indirect_ready s old type_index place f v b bodies k m h found =
     (own_indirect w s old c st type_index place f v k m h x) room
     (slice_get_within _ _ _ b.here)
 
-pub indirect_enters : (w : WithTables) (s old n : State) (c : Config) (step : Step) (type_index place f v : ℕ) → IsValidated w → Stands w s c →
+pub indirect_enters : (w : WithTables) (s old n : State) (c : Config) (step : StepResult) (type_index place f v : ℕ) → IsValidated w → Stands w s c →
     ComesNext s (Plain (plain.CallIndirect type_index)) → HasBodies s → s.program.imported ≤ f → Midway s old
     → reverse s.values.items ≡ v ∷ reverse old.values.items →
     Found s type_index place f → IsEntered old (f - old.program.imported) step n → Steps w c (next (program_of w.parts) c) step n

@@ -9,12 +9,12 @@ ghost use Rattle.interp_calls.specs.Entering.{HasBodies};
 
 use crate::entering::enter;
 use crate::indices::top_i32;
-use interp_state::{Progress, State, Step, came_to, pop};
+use interp_state::{Progress, State, StepResult, came_to, pop};
 use types::{Event, Instr, PlainInstr, Question, Trap};
 
 /// `call`: the function is opened. An imported one starts a thread, and its argument stays till the question is asked.
 #[inline]
-pub fn call(state: &mut State, function: u32) -> Step
+pub fn call(state: &mut State, function: u32) -> StepResult
     requires begins { ComesNext state.old (Instr.Plain (PlainInstr.Call function)) }
     requires bodies { HasBodies state.old }
     ensures { IsStep state.old result state.new }
@@ -23,7 +23,7 @@ pub fn call(state: &mut State, function: u32) -> Step
     let imported = state.program.imported;
     if function < imported {
         let arg = top_i32(state.values.as_slice());
-        return Step::Wants(Event::Ask(Question::Spawn { arg }));
+        return StepResult::Wants(Event::Ask(Question::Spawn { arg }));
     }
     came_to(enter(state, function - imported))
 }

@@ -9,29 +9,29 @@ ghost use Rattle.interp_calls.specs.Entering.{HasBodies};
 
 use crate::entering::enter;
 use crate::indices::{element_at, is_of_type, top_i32};
-use interp_state::{Progress, State, Step, came_to, pop};
+use interp_state::{Progress, State, StepResult, came_to, pop};
 use types::{Event, Instr, PlainInstr, Question, Trap};
 
 /// `call_indirect`: the function at a place of the table, where it has the stated type.
 #[inline]
-pub fn call_indirect(state: &mut State, type_index: u32) -> Step
+pub fn call_indirect(state: &mut State, type_index: u32) -> StepResult
     requires begins { ComesNext state.old (Instr.Plain (PlainInstr.CallIndirect type_index)) }
     requires bodies { HasBodies state.old }
     ensures { IsStep state.old result state.new }
 {
     let place = top_i32(state.values.as_slice());
     let function = match element_at(state.program.elements.as_slice(), place as usize) {
-        None => return Step::Trapped(Trap::UndefinedElement),
-        Some(None) => return Step::Trapped(Trap::UninitializedElement),
+        None => return StepResult::Trapped(Trap::UndefinedElement),
+        Some(None) => return StepResult::Trapped(Trap::UninitializedElement),
         Some(Some(function)) => function as usize,
     };
     if !is_of_type(&state.program, function, type_index as usize) {
-        return Step::Trapped(Trap::SignatureMismatch);
+        return StepResult::Trapped(Trap::SignatureMismatch);
     }
     let imported = state.program.imported;
     if function < imported {
         let arg = top_i32(&state.values[..state.values.len() - 1]);
-        return Step::Wants(Event::Ask(Question::Spawn { arg }));
+        return StepResult::Wants(Event::Ask(Question::Spawn { arg }));
     }
     pop(&mut state.values);
     came_to(enter(state, function - imported))

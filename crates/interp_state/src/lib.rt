@@ -11,5 +11,5 @@ mod steps;
 
 pub use functions::{Code, code_of, type_of_function};
 pub use stack::{pop, pop_i32, push, push_zeros, replace_top, top, top_i32, value_of, word};
-pub use state::{Caller, Program, Progress, State, Step};
+pub use state::{Caller, Program, Progress, State, StepResult};
 pub use steps::came_to;

@@ -3,16 +3,16 @@
 ghost use Rattle.std.specs.Prelude.{◌≡◌};
 ghost use Rattle.interp_state.specs.Steps.{came_to};
 
-use crate::state::Step;
+use crate::state::StepResult;
 use types::Trap;
 
 /// What an instruction came to that moves on or traps.
 #[inline]
-pub fn came_to(trap: Option<Trap>) -> Step
+pub fn came_to(trap: Option<Trap>) -> StepResult
     ensures { result ≡ came_to trap }
 {
     match trap {
-        None => Step::Moved,
-        Some(trap) => Step::Trapped(trap),
+        None => StepResult::Moved,
+        Some(trap) => StepResult::Trapped(trap),
     }
 }

@@ -8,7 +8,7 @@ ghost use Rattle.locked_recorder.specs.Promises.{is_full, is_held, log_after, Be
 
 use crate::rule::Row;
 use crate::{LockedSeat, steps};
-use shared_memory_on_table::{Naming, Place, Standing};
+use shared_memory_on_table::{Naming, StandingCaller, TableSeat};
 use shared_memory_sequential::OneMemory;
 use std::marker::{Model, PhantomData};
 use types::{Entry, Event, PAGE_SIZE, Question, Reply};
@@ -16,7 +16,7 @@ use types::{Entry, Event, PAGE_SIZE, Question, Reply};
 /// The keeper's place on the table, the memory, and the log with its limit. Contracts see the log.
 #[derive(Drop)]
 pub struct Keeper<B: Naming> {
-    pub(crate) place: Place,
+    pub(crate) place: TableSeat,
     pub(crate) memory: OneMemory,
     pub(crate) limit: u32,
     pub(crate) log: Vec<Entry>,
@@ -45,7 +45,7 @@ fn is_always_taken(event: Event) -> bool
 
 impl<B: Naming> Keeper<B> {
     /// Enters an event for a caller, or answers `Full` where the log has reached its limit and the event is held back.
-    pub(crate) fn access(&mut self, row: &Row, seat: &mut Standing<B>, event: Event) -> Reply
+    pub(crate) fn access(&mut self, row: &Row, seat: &mut StandingCaller<B>, event: Event) -> Reply
         requires row { (row.now.table_id ≡ B.table) × (0 < row.now.table_id.words) }
         requires event { IsEvent event }
         requires right { is_of_queue event ≡ true → seat.old.has_queue_right ≡ true }
@@ -92,7 +92,7 @@ impl<B: Naming> Keeper<B> {
 }
 
 // Shows that the caller's list begins the log.
-fn check<B: Naming>(row: &Row, keeper: &mut Keeper<B>, mut seat: Standing<B>)
+fn check<B: Naming>(row: &Row, keeper: &mut Keeper<B>, mut seat: StandingCaller<B>)
     requires row { (row.now.table_id ≡ B.table) × (0 < row.now.table_id.words) }
     ensures begins { Begins seat keeper.old }
     ensures same { keeper.new ≡ keeper.old }

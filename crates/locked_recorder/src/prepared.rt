@@ -3,7 +3,7 @@ ghost use Rattle.std.specs.Prelude.{◌≡◌, ◌↔◌, true, false, IfOk, OnO
 ghost use Rattle.locked_recorder.specs.Promises.{IsOpenedFrom, can_record};
 
 use crate::rule::Board;
-use shared_memory_on_table::Place;
+use shared_memory_on_table::TableSeat;
 use shared_memory_sequential::{OneMemory, OpenFault};
 use std::alloc::Global;
 use std::marker::Model;
@@ -14,7 +14,7 @@ use types::{Entry, MOST_LIMIT, PAST_LIMIT};
 #[derive(Drop)]
 pub struct Prepared {
     pub(crate) board: Board,
-    pub(crate) keeper: Place,
+    pub(crate) keeper: TableSeat,
     pub(crate) memory: OneMemory,
     pub(crate) limit: u32,
     pub(crate) log: Vec<Entry>,

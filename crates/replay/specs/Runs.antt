@@ -27,8 +27,8 @@ HasLength m r = IsLengthOf r.version m r.module_len
 abbrev pub HasPages : Parts → RecordParts → Type 0
 HasPages m r = HasPagesWithin r.max_pages m
 
-abbrev pub HasScale : Parts → RecordParts → Type 0
-HasScale m r = HasLength m r × HasPages m r
+abbrev pub FitsModule : Parts → RecordParts → Type 0
+FitsModule m r = HasLength m r × HasPages m r
 
 -- The line that says how many pages there might be: in version 1 the version itself.
 abbrev pub pages_line : Version → ℕ

@@ -2,7 +2,7 @@
 ghost use Rattle.std.specs.Prelude.{◌≡◌, ◌↔◌, IsTrue, IfOk, OnOk, IfErr};
 ghost use Rattle.validate_typing.specs.Validity.{HasDistinctNames};
 ghost use Rattle.spawn_host.specs.Runs.{opening_within};
-ghost use Rattle.replay.specs.Runs.{HasLength, HasScale, OfScale, IsRunOf, IsReplayFault, ShowsNoRun, pages_line};
+ghost use Rattle.replay.specs.Runs.{HasLength, FitsModule, OfScale, IsRunOf, IsReplayFault, ShowsNoRun, pages_line};
 
 use crate::fault::ReplayFault;
 use crate::threads::threads_of;
@@ -76,7 +76,7 @@ fn has_distinct_names(module: &ValidModule)
 
 /// Whether the record is of a module of this length, whose memory has no more pages than there might be.
 fn check_scale(module: &ValidModule, parts: &RecordParts) -> Result<(), ReplayFault>
-    ensures fits { OnOk result (HasScale «module».now.parts parts.now) }
+    ensures fits { OnOk result (FitsModule «module».now.parts parts.now) }
     ensures fault { IfErr result (λ fault. OfScale «module».now.parts parts.now fault) }
 {
     if !has_length(module, parts) {

@@ -34,7 +34,8 @@ module _ (r : RecordParts) (z : systems.State Shared Running) (places : ℕ → 
   -- In a state, with these places, a thread has left, with this outcome and after so many units, and has heard the
   -- answer to its leave.
   abbrev pub HasLeft : ℕ → ThreadReport → Type 0
-  HasLeft m report = (left : ℕ) × (z.threads m ≡ Left report.outcome left) × (report.spent + left ≡ r.fuel) × (places m ≡ Free)
+  HasLeft m report = (left : ℕ) × (z.threads m ≡ Left report.outcome left) × (report.spent + left ≡ r.fuel)
+      × (places m ≡ Free)
 
   -- An end line agrees where its thread has left so. The pages line stands behind the end lines: it agrees where the
   -- memory has so many pages, and no thread was started that has no end line.

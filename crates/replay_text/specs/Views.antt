@@ -13,8 +13,8 @@ scale_of s = (s.version, (s.module_len, (s.threads, s.max_pages)))
 abbrev pub header_of : CodeHeader → Header
 header_of h = (scale_of h.scale, (h.invoke, (h.args, (h.fuel, h.limit))))
 
-abbrev pub ends_of : Ends → List ThreadReport × ℕ
-ends_of e = (e.ends, e.pages)
+abbrev pub ends_view : Ends → List ThreadReport × ℕ
+ends_view e = (e.ends, e.pages)
 
 abbrev pub body_of : RecordBody → Body
 body_of b = (b.log, (b.ends, b.pages))

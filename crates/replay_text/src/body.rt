@@ -3,7 +3,7 @@
 ghost use Rattle.std.specs.Prelude.{◌≤◌};
 ghost use Rattle.types.specs.declared.limits.TheConstants.{MOST_LIMIT, MOST_THREADS};
 ghost use Rattle.replay_text.specs.Faults.{GivesLines, GivesLinesAs, Refuses};
-ghost use Rattle.replay_text.specs.Views.{ends_of, body_of};
+ghost use Rattle.replay_text.specs.Views.{ends_view, body_of};
 ghost use Rattle.replay_text.specs.Reading.{last_lines_at, ends_at, body_at};
 
 use crate::end::EndLine;
@@ -65,7 +65,7 @@ fn ends_in(
 ) -> Result<(Ends, &[u8]), RecordFault>
     requires line { line ≤ 2000000 }
     requires threads { scale.threads ≤ MOST_THREADS }
-    ensures { GivesLinesAs ends_of (ends_at scale.threads scale.max_pages) bytes.now result }
+    ensures { GivesLinesAs ends_view (ends_at scale.threads scale.max_pages) bytes.now result }
 {
     let (ends, rest) = several(alloc, &EndLine, scale.threads as usize, bytes)?;
     if ends.is_empty() {

@@ -7,7 +7,7 @@ use Rattle.report_command.specs.declared.command_line.Job.TheVariants as jobs
 use Rattle.report_command.specs.declared.search.Search.{Search}
 use Rattle.report_command.specs.declared.show.View.{View}
 use Rattle.report_jobs.specs.Plain.{IsPlain, PerformsPlain}
-use Rattle.report_jobs.specs.Prints.{Change}
+use Rattle.report_jobs.specs.Prints.{WriterChange}
 use Rattle.report.specs.Jobs.{Performs}
 
 pub is_plain : (job : Job)
@@ -19,7 +19,7 @@ is_plain (Replay file record_path dump) no_show no_search = tt
 is_plain (Show file record_path names look at) no_show no_search = no_show file record_path names look at refl
 is_plain (jobs.Search s) no_show no_search = no_search s refl
 
-pub performs : (job : Job) (bytes saved : List ℕ) (out save : Change) (status : ℕ) → IsPlain job → PerformsPlain job bytes saved out save status
+pub performs : (job : Job) (bytes saved : List ℕ) (out save : WriterChange) (status : ℕ) → IsPlain job → PerformsPlain job bytes saved out save status
     → Performs job bytes saved out save status
 performs (Check file) bytes saved out save status plain done = done
 performs (Run file invoke on_words fuel limit path dump args) bytes saved out save status plain done = done

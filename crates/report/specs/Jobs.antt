@@ -4,7 +4,7 @@ use Rattle.report_command.specs.declared.command_line.Job.{Job}
 use Rattle.report_command.specs.declared.command_line.Job.TheVariants.{Show}
 use Rattle.report_command.specs.declared.command_line.Job.TheVariants as jobs
 use Rattle.report_command.specs.declared.search.Search.{Search}
-use Rattle.report_jobs.specs.Prints.{Change}
+use Rattle.report_jobs.specs.Prints.{WriterChange}
 use Rattle.report_jobs.specs.Jobs.{IsNoValidModule, IsNoRecordOf, IsRecordOf, HasNoSuchCall}
 use Rattle.report_jobs.specs.Plain.{PerformsPlain}
 use Rattle.report.specs.Searches.{HasSearched, request_of_search}
@@ -19,14 +19,14 @@ pub record Shows (bytes saved : List ℕ) (status : ℕ) : Type 0 where
 
 -- What that of a search says: 0 and 1 of runs that were made, 2 of a refused module, 3 of a call that can't be made. 5
 -- is that memory or a stream failed.
-pub record Searches (bytes : List ℕ) (s : Search) (save : Change) (status : ℕ) : Type 0 where
+pub record Searches (bytes : List ℕ) (s : Search) (save : WriterChange) (status : ℕ) : Type 0 where
   pub made : status ≤ 1 → HasSearched bytes s save status
   pub refused : status ≡ 2 → IsNoValidModule bytes
   pub cannot : status ≡ 3 → HasNoSuchCall bytes (request_of_search s)
   pub statuses : (status ≤ 3) ⊎ (status ≡ 5)
 
 -- What the status of a job says: of one that is no show and no search, what it says of a plain job.
-abbrev pub Performs : Job → List ℕ → List ℕ → Change → Change → ℕ → Type 0
+abbrev pub Performs : Job → List ℕ → List ℕ → WriterChange → WriterChange → ℕ → Type 0
 Performs (Show file record_path names look at) bytes saved out save status = Shows bytes saved status
 Performs (jobs.Search s) bytes saved out save status = Searches bytes s save status
 Performs job bytes saved out save status = PerformsPlain job bytes saved out save status

@@ -18,7 +18,7 @@ use Rattle.search_finds.specs.declared.sought.Sought.{Sought}
 use Rattle.search_finds.specs.Finds.{EndsAsLookedFor}
 use Rattle.report_command.specs.declared.search.Search.{Search}
 use Rattle.report_jobs.specs.Arguments.{AreSpelled, texts_in}
-use Rattle.report_jobs.specs.Prints.{Change, IsKept, Request, is_done, request}
+use Rattle.report_jobs.specs.Prints.{WriterChange, KeepsRecord, Request, is_done, request}
 use Rattle.report_jobs.specs.Troubles.{IsTrouble}
 use Rattle.report_jobs.specs.declared.running.Trouble.{Trouble}
 use Rattle.report_jobs.specs.declared.running.Trouble.TheVariants as troubles
@@ -38,7 +38,7 @@ sought_of s = record {
 
 -- A run of the module by the call that was asked for, which ends as is looked for; and its record was written, where
 -- one is wanted.
-pub record IsFindKept (m : Parts) (s : Search) (save : Change) : Type 0 where
+pub record IsFindKept (m : Parts) (s : Search) (save : WriterChange) : Type 0 where
   pub args : List Value
   pub spelled : AreSpelled (texts_in s.args.items) args
   pub record_is : RecordParts
@@ -46,14 +46,14 @@ pub record IsFindKept (m : Parts) (s : Search) (save : Change) : Type 0 where
   pub run : IsRunOf m record_is end
   pub of_call : IsOfCall m s.invoke.now args s.fuel s.limit record_is
   pub ends : EndsAsLookedFor (sought_of s) s.dump end
-  pub kept : IsKept (is_some s.save) save record_is
+  pub kept : KeepsRecord (is_some s.save) save record_is
 
 -- Nothing was written, or the record of a run that was found.
-abbrev pub KeepsNoneOrFind : Parts → Search → Change → Type 0
+abbrev pub KeepsNoneOrFind : Parts → Search → WriterChange → Type 0
 KeepsNoneOrFind m s save = (save.new ≡ save.old) ⊎ IsFindKept m s save
 
 -- Nothing was found and nothing written, or a run was found, and the status is 1.
-abbrev pub Finds : Parts → Search → Change → ℕ → Type 0
+abbrev pub Finds : Parts → Search → WriterChange → ℕ → Type 0
 Finds m s save status = ((status ≤ 1) × (save.new ≡ save.old)) ⊎ ((status ≡ 1) × IsFindKept m s save)
 
 -- All threads ended well; and in each of these endings they did.
@@ -93,7 +93,7 @@ abbrev pub IsWellAt : Parts → Search → ℕ → Type 0
 IsWellAt m s status = is_some s.all ≡ true → status ≡ 0 → EndWell m s
 
 -- The bytes are a valid module's text, and its runs were searched.
-pub record HasSearched (bytes : List ℕ) (s : Search) (save : Change) (status : ℕ) : Type 0 where
+pub record HasSearched (bytes : List ℕ) (s : Search) (save : WriterChange) (status : ℕ) : Type 0 where
   pub parts : Parts
   pub text : IsModuleText bytes parts
   pub valid : IsValid parts

@@ -16,10 +16,10 @@ use crate::all::search_all_orders;
 use report_command::Search;
 use report_jobs::{Trouble, Wanted, args_of, is_done, keep, print};
 use search_finds::{
-    Ending, Found, Halt, Met, Searched, Size, Sought, Table, first_found, shrunk, size_of,
+    Ending, Found, Halt, Met, SearchResult, Size, Sought, Table, first_found, shrunk, size_of,
 };
 use search_reach::Follows;
-use search_scheduled::{Made, SearchFault};
+use search_scheduled::{MadeRun, SearchFault};
 use spawn_host::Call;
 use std::alloc::Global;
 use std::io::{self, Write};
@@ -153,7 +153,7 @@ fn search_drawn<R: Threads + Sync, F: Follows, W: Write, S: Write>(
         Ok(searched) => searched,
         Err(fault) => return Err(no_memory(fault)),
     };
-    let Searched { table, halt } = searched;
+    let SearchResult { table, halt } = searched;
     follower.end();
     write_table(out, &table)?;
     match halt {
@@ -194,9 +194,9 @@ fn shrunk_if_asked<W: Write>(
     module: &ValidModule,
     call: Call,
     search: &Search,
-    found: Made,
+    found: MadeRun,
     out: &mut W,
-) -> Result<Made, Trouble>
+) -> Result<MadeRun, Trouble>
     requires { IsFind «module».now.parts call search.now.limit found }
     ensures run { IfOk result (IsFind «module».now.parts call.entry search.now.limit) }
     ensures ending { IfOk result (λ made. HaveOneEnding search.now.dump found.end made.end) }
@@ -220,7 +220,7 @@ pub(crate) fn tell_made<W: Write, S: Write>(
     module: &ValidModule,
     call: Call,
     search: &Search,
-    made: Made,
+    made: MadeRun,
     out: &mut W,
     save: &mut S,
 ) -> Result<(), Trouble>

@@ -3,7 +3,7 @@
 use crate::input::{module_of, names_of, saved_of};
 use crate::program::Input;
 use crate::rows::{try_cuts, try_edits, try_forged};
-use crate::telling::Place;
+use crate::telling::CaseName;
 use crate::trial::{Trial, try_line};
 use crate::wanted::{Texts, Wanted};
 use search_reach::Wish;
@@ -31,7 +31,7 @@ fn try_rows<R: Threads + Wait + Sync>(
 fn try_words<'a, R: Threads + Wait + Sync>(
     rt: &HostRuntime,
     threads: &R,
-    place: Place<'a>,
+    place: CaseName<'a>,
     case: &'a Case<'a>,
     input: Input<'a>,
     wanted: Wanted<'a>,
@@ -66,7 +66,7 @@ pub fn try_case<'a, R: Threads + Wait + Sync>(
     case: &'a Case<'a>,
     tally: &mut Tally,
 ) -> Result<(), Stop> {
-    let place = Place {
+    let place = CaseName {
         file,
         title: case.title,
     };

@@ -1,7 +1,7 @@
 //! What a command line is to write to its record, and whether it did.
 
 use crate::program::Gave;
-use crate::telling::{Place, tell};
+use crate::telling::{CaseName, tell};
 use replay_text::{read_record, write_record};
 use std::alloc::{AllocError, Global};
 use test_cases::Case;
@@ -59,7 +59,7 @@ pub(crate) enum Kept {
 }
 
 /// Whether the end of a record is the wanted one, where one is wanted, and it has the lines that it is to have.
-fn is_run(rt: &HostRuntime, place: Place, case: &Case, gave: &Gave) -> Result<bool, AllocError> {
+fn is_run(rt: &HostRuntime, place: CaseName, case: &Case, gave: &Gave) -> Result<bool, AllocError> {
     let end = case.text(rt.alloc(), "record-end")?;
     let lines = case.all(rt.alloc(), "record-has")?;
     let is_right = ends_with(gave, &end)
@@ -79,7 +79,12 @@ fn is_run(rt: &HostRuntime, place: Place, case: &Case, gave: &Gave) -> Result<bo
 }
 
 /// Whether this was to be written, all of it. Where it isn't known it is a record.
-fn is_whole(rt: &HostRuntime, place: Place, case: &Case, gave: &Gave) -> Result<bool, AllocError> {
+fn is_whole(
+    rt: &HostRuntime,
+    place: CaseName,
+    case: &Case,
+    gave: &Gave,
+) -> Result<bool, AllocError> {
     let whole = case.text(rt.alloc(), "record")?;
     let is_right = if whole.is_empty() && case.get("again").is_some() {
         is_written_again(rt.alloc(), &gave.streams.save)
@@ -95,7 +100,7 @@ fn is_whole(rt: &HostRuntime, place: Place, case: &Case, gave: &Gave) -> Result<
 /// Whether a command line wrote to its record what is wanted. Says what is otherwise.
 pub(crate) fn is_kept(
     rt: &HostRuntime,
-    place: Place,
+    place: CaseName,
     case: &Case,
     kept: Kept,
     gave: &Gave,

@@ -1,7 +1,7 @@
 //! Rows of a case that change its record.
 
 use crate::program::Input;
-use crate::telling::Place;
+use crate::telling::CaseName;
 use crate::trial::{Trial, try_line};
 use crate::wanted::Wanted;
 use std::sync::Wait;
@@ -9,7 +9,7 @@ use std::thread::Threads;
 use test_cases::{Edit, Stop, Tally, edited};
 
 /// Says of a row that it can't be read.
-fn tell_row(rt: &HostRuntime, place: Place, row: &str, tally: &mut Tally) {
+fn tell_row(rt: &HostRuntime, place: CaseName, row: &str, tally: &mut Tally) {
     let (file, title) = (place.file, place.title);
     let _ = println!(rt; "{file}: {title}: there is no such row: {row}");
     tally.is_wrong = true;

@@ -2,7 +2,7 @@
 
 /// A case of a file.
 #[derive(Clone, Copy)]
-pub(crate) struct Place<'a> {
+pub(crate) struct CaseName<'a> {
     pub(crate) file: &'a str,
     pub(crate) title: &'a str,
 }
@@ -10,7 +10,7 @@ pub(crate) struct Place<'a> {
 /// Says of which case something is other than wanted.
 pub(crate) fn tell(
     rt: &HostRuntime,
-    place: Place,
+    place: CaseName,
     words: &[&str],
     what: &str,
     wanted: &[u8],

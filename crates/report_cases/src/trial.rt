@@ -2,7 +2,7 @@
 
 use crate::program::{Gave, Input, program};
 use crate::record::{Kept, is_kept};
-use crate::telling::Place;
+use crate::telling::CaseName;
 use crate::wanted::{Wanted, number_of, wrote};
 use std::alloc::{AllocError, Global};
 use std::sync::Wait;
@@ -12,7 +12,7 @@ use test_cases::{Case, Stop, Tally};
 /// A command line: its words as they stand in the case, what it reads, and what is wanted of it.
 #[derive(Clone, Copy)]
 pub(crate) struct Trial<'a> {
-    pub(crate) place: Place<'a>,
+    pub(crate) place: CaseName<'a>,
     pub(crate) case: &'a Case<'a>,
     pub(crate) words: &'a str,
     pub(crate) input: Input<'a>,

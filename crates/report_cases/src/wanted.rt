@@ -1,7 +1,7 @@
 //! What a command line is to write, and whether it did.
 
 use crate::program::Gave;
-use crate::telling::{Place, tell};
+use crate::telling::{CaseName, tell};
 use std::alloc::{AllocError, Global};
 use test_cases::Case;
 
@@ -111,7 +111,7 @@ fn is_printed(wanted: Option<&[u8]>, given: &[u8]) -> bool {
 /// Whether a command line wrote on its streams what is wanted, with the status. Says what is otherwise.
 pub(crate) fn wrote(
     rt: &HostRuntime,
-    place: Place,
+    place: CaseName,
     words: &[&str],
     wanted: Wanted,
     gave: &Gave,

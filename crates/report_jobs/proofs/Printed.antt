@@ -12,9 +12,9 @@ use Rattle.replay.specs.Runs.{IsRunOf}
 use Rattle.replay.specs.Recorded.{RecordsRun}
 use Rattle.spawn_host.specs.RunEnds.{EndsRunOnWords}
 use Rattle.report_jobs.specs.Arguments.{AreSpelled}
-use Rattle.report_jobs.specs.Prints.{Change, Prints, Request, IsRecorded, PrintsRun}
+use Rattle.report_jobs.specs.Prints.{WriterChange, Prints, Request, IsRecorded, PrintsRun}
 
-module _ (m : Parts) (asked : Request) (out save : Change) (status : ℕ) (args : List Value) (end : EndState) where
+module _ (m : Parts) (asked : Request) (out save : WriterChange) (status : ℕ) (args : List Value) (end : EndState) where
   abbrev Over : Bool → Type 0
   Over b = MatchBool b (EndsRunOnWords m asked.name args asked.fuel end) (IsRecorded m asked args save end)
 

@@ -12,7 +12,7 @@ use Rattle.replay.specs.declared.fault.ReplayFault.{ReplayFault}
 use Rattle.replay.specs.Runs.{IsRunOf, ShowsNoRun}
 use Rattle.report_lines.specs.Lines.{functions_line, end_lines}
 use Rattle.report_jobs.specs.Arguments.{CannotCall}
-use Rattle.report_jobs.specs.Prints.{Change, Request, PrintsRun, status_of}
+use Rattle.report_jobs.specs.Prints.{WriterChange, Request, PrintsRun, status_of}
 use Rattle.report_jobs.specs.declared.replaying.Unfit.{Unfit}
 use Rattle.report_jobs.specs.declared.replaying.Unfit.TheVariants.{Unread, Misfit, NoMemory, Output}
 use Rattle.validate_typing.specs.declared.fault.ValidFault.TheVariants.{OutOfMemory as ValidityOutOfMemory, Outside}
@@ -89,7 +89,7 @@ abbrev pub IsStatusOfUnfit : Unfit → ℕ → Type 0
 IsStatusOfUnfit unfit status = (m : Parts) (saved : List ℕ) → IsUnfit m saved unfit → status ≡ 4 → IsOfNoRun m saved
 
 -- The same of a record, of the bytes that are its text.
-abbrev pub PrintsReplayOf : Parts → RecordParts → ℕ → Change → ℕ → Type 0
+abbrev pub PrintsReplayOf : Parts → RecordParts → ℕ → WriterChange → ℕ → Type 0
 PrintsReplayOf m r dump out status = (saved : List ℕ) → saved ≡ record_text r
     → PrintsReplay m saved dump out.old out.new status
 
@@ -111,7 +111,7 @@ pub record IsNoRecordOf (bytes saved : List ℕ) : Type 0 where
   pub none : IsOfNoRun parts saved
 
 -- The bytes are a valid module's text, and a run of it was made as asked.
-pub record HasRun (bytes : List ℕ) (asked : Request) (out save : Change) (status : ℕ) : Type 0 where
+pub record HasRun (bytes : List ℕ) (asked : Request) (out save : WriterChange) (status : ℕ) : Type 0 where
   pub parts : Parts
   pub text : IsModuleText bytes parts
   pub valid : IsValid parts
@@ -125,14 +125,14 @@ pub record HasNoSuchCall (bytes : List ℕ) (asked : Request) : Type 0 where
   pub cannot : CannotCall parts asked.name asked.texts
 
 -- What the status of a check says: 0 of an accepted module, 2 of a refused one. 5 is that memory or a stream failed.
-pub record Checks (bytes : List ℕ) (out : Change) (status : ℕ) : Type 0 where
+pub record Checks (bytes : List ℕ) (out : WriterChange) (status : ℕ) : Type 0 where
   pub accepted : status ≡ 0 → IsAccepted bytes out.old out.new
   pub refused : status ≡ 2 → IsNoValidModule bytes
   pub statuses : (status ≡ 0) ⊎ (status ≡ 2) ⊎ (status ≡ 5)
 
 -- What that of a run says: 0 and 1 of a run that was made, 2 of a refused module, 3 of a call that can't be made. 5 is
 -- that memory, a thread or a stream failed.
-pub record Runs (bytes : List ℕ) (asked : Request) (out save : Change) (status : ℕ) : Type 0 where
+pub record Runs (bytes : List ℕ) (asked : Request) (out save : WriterChange) (status : ℕ) : Type 0 where
   pub made : status ≤ 1 → HasRun bytes asked out save status
   pub refused : status ≡ 2 → IsNoValidModule bytes
   pub cannot : status ≡ 3 → HasNoSuchCall bytes asked
@@ -140,7 +140,7 @@ pub record Runs (bytes : List ℕ) (asked : Request) (out save : Change) (status
 
 -- What that of a replay says: 0 and 1 of a record of a run, 2 of a refused module, 4 of a record of no run. 5 is that
 -- memory or a stream failed.
-pub record Replays (bytes saved : List ℕ) (dump : ℕ) (out : Change) (status : ℕ) : Type 0 where
+pub record Replays (bytes saved : List ℕ) (dump : ℕ) (out : WriterChange) (status : ℕ) : Type 0 where
   pub replayed : status ≤ 1 → IsReplayed bytes saved dump out.old out.new status
   pub refused : status ≡ 2 → IsNoValidModule bytes
   pub none : status ≡ 4 → IsNoRecordOf bytes saved

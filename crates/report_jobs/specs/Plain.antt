@@ -4,7 +4,7 @@ use Rattle.report_command.specs.declared.command_line.Job.{Job}
 use Rattle.report_command.specs.declared.command_line.Job.TheVariants.{Check, Run, Replay, Show}
 use Rattle.report_command.specs.declared.command_line.Job.TheVariants as jobs
 use Rattle.report_jobs.specs.Arguments.{texts_in}
-use Rattle.report_jobs.specs.Prints.{Change, request}
+use Rattle.report_jobs.specs.Prints.{WriterChange, request}
 use Rattle.report_jobs.specs.Jobs.{Checks, Runs, Replays}
 
 -- A job is one of these.
@@ -16,7 +16,7 @@ IsPlain (Show file record_path names look at) = ⊥
 IsPlain (jobs.Search s) = ⊥
 
 -- What the status of a plain job says.
-abbrev pub PerformsPlain : Job → List ℕ → List ℕ → Change → Change → ℕ → Type 0
+abbrev pub PerformsPlain : Job → List ℕ → List ℕ → WriterChange → WriterChange → ℕ → Type 0
 PerformsPlain (Check file) bytes saved out save status = Checks bytes out status
 PerformsPlain (Run file invoke on_words fuel limit path dump args) bytes saved out save status =
     Runs bytes (request invoke.now (texts_in args.items) fuel limit on_words (is_some path) dump) out save status

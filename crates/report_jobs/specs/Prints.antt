@@ -29,18 +29,18 @@ abbrev pub status_of : List ThreadReport → ℕ
 status_of threads = if list_all (λ r. is_done r.outcome) threads then 0 else 1
 
 -- What a writer has before and after.
-pub record Change : Type 0 where
+pub record WriterChange : Type 0 where
   pub old : Option (List ℕ)
   pub new : Option (List ℕ)
 
-abbrev pub change : Option (List ℕ) → Option (List ℕ) → Change
+abbrev pub change : Option (List ℕ) → Option (List ℕ) → WriterChange
 change old new = record { old = old; new = new }
 
-abbrev pub changed : {W : Type 0} → (W → Option (List ℕ)) → W → W → Change
+abbrev pub changed : {W : Type 0} → (W → Option (List ℕ)) → W → W → WriterChange
 changed contents old new = change (contents old) (contents new)
 
 -- What was written are the lines of an end of a run, and the status is its.
-pub record Prints (end : EndState) (dump : ℕ) (out : Change) (status : ℕ) : Type 0 where
+pub record Prints (end : EndState) (dump : ℕ) (out : WriterChange) (status : ℕ) : Type 0 where
   pub lines : Appends out.old out.new (end_lines end.threads.items end.pages dump end.bytes.items)
   pub status_is : status ≡ status_of end.threads.items
 
@@ -69,27 +69,27 @@ request name texts fuel limit on_words is_kept dump =
     }
 
 -- What was written is the text of a record, where that is wanted.
-abbrev pub IsKept : Bool → Change → RecordParts → Type 0
-IsKept is_wanted save r = is_wanted ≡ true → Appends save.old save.new (record_text r)
+abbrev pub KeepsRecord : Bool → WriterChange → RecordParts → Type 0
+KeepsRecord is_wanted save r = is_wanted ≡ true → Appends save.old save.new (record_text r)
 
 -- The lines of an end of a run were printed, and its record kept.
-abbrev pub PrintsAndKeeps : Request → RecordParts → EndState → Change → Change → ℕ → Type 0
-PrintsAndKeeps asked r end out save status = Prints end asked.dump out status × IsKept asked.is_kept save r
+abbrev pub PrintsAndKeeps : Request → RecordParts → EndState → WriterChange → WriterChange → ℕ → Type 0
+PrintsAndKeeps asked r end out save status = Prints end asked.dump out status × KeepsRecord asked.is_kept save r
 
 -- A record of the run that ended so. Where it is wanted, what was written to its writer is its text.
-pub record IsRecorded (m : Parts) (asked : Request) (args : List Value) (save : Change) (end : EndState) : Type 0 where
+pub record IsRecorded (m : Parts) (asked : Request) (args : List Value) (save : WriterChange) (end : EndState) : Type 0 where
   pub record_is : RecordParts
   pub records : RecordsRun m asked.name args asked.fuel asked.limit record_is end
   pub run : IsRunOf m record_is end
-  pub kept : IsKept asked.is_kept save record_is
+  pub kept : KeepsRecord asked.is_kept save record_is
 
 -- The end is that of a run by these arguments over the memory that was asked for.
-abbrev pub EndsAsAsked : Parts → Request → List Value → Change → EndState → Type 0
+abbrev pub EndsAsAsked : Parts → Request → List Value → WriterChange → EndState → Type 0
 EndsAsAsked m asked args save end =
     MatchBool asked.on_words (EndsRunOnWords m asked.name args asked.fuel end) (IsRecorded m asked args save end)
 
 -- A run was made by values that the texts spell, its lines were printed, and its record kept.
-pub record PrintsRun (m : Parts) (asked : Request) (out save : Change) (status : ℕ) : Type 0 where
+pub record PrintsRun (m : Parts) (asked : Request) (out save : WriterChange) (status : ℕ) : Type 0 where
   pub args : List Value
   pub spelled : AreSpelled asked.texts args
   pub takes : Takes m asked.name args

@@ -8,7 +8,7 @@ ghost use Rattle.spawn_host.specs.Entries.{Takes};
 ghost use Rattle.replay_text.specs.Text.{record_text};
 ghost use Rattle.report_jobs.specs.Arguments.{AreSpelled, texts_in};
 ghost use Rattle.report_jobs.specs.Prints as specified;
-ghost use Rattle.report_jobs.specs.Prints.{Change, changed, Prints, PrintsRun, PrintsAndKeeps, IsKept};
+ghost use Rattle.report_jobs.specs.Prints.{WriterChange, changed, Prints, PrintsRun, PrintsAndKeeps, KeepsRecord};
 ghost use Rattle.report_jobs.specs.Troubles.{IsTroubleOf, IsUnwritten, AreArgumentsOf, request_of, trouble_of};
 ghost use Rattle.report_jobs.specs.Troubles.{trouble_of_recording};
 ghost use Rattle.report_jobs.specs.declared.running.Trouble.TheVariants as troubles;
@@ -168,7 +168,7 @@ where
     requires memory { wanted.now.on_words ≡ true }
     requires spelled { AreSpelled (texts_in wanted.now.args.now) args.now }
     requires takes { Takes «module».now.parts wanted.now.invoke.now args.now }
-    ensures made { IfOk result (λ status. (saved : Change) → PrintsRun «module».now.parts (request_of wanted.now)
+    ensures made { IfOk result (λ status. (saved : WriterChange) → PrintsRun «module».now.parts (request_of wanted.now)
         (changed W.contents out.old out.new) saved status) }
     ensures trouble { IfErr result (IsTroubleOf «module».now.parts wanted.now) }
 {
@@ -261,7 +261,7 @@ fn all_done(reports: &[ThreadReport]) -> bool
 
 /// Writes a record to its file, where it is wanted.
 pub fn keep<S: Write>(record: &Record, is_wanted: bool, save: &mut S) -> Result<(), Trouble>
-    ensures kept { OnOk result (IsKept is_wanted (changed S.contents save.old save.new) «record».now) }
+    ensures kept { OnOk result (KeepsRecord is_wanted (changed S.contents save.old save.new) «record».now) }
     ensures save { IfErr result (λ trouble. trouble ≡ troubles.Save) }
 {
     if !is_wanted {

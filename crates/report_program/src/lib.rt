@@ -21,7 +21,7 @@ pub use copied::Copied;
 pub use input::Input;
 pub use order::{order_of, words_of};
 pub use reading::{Unread, read_front, read_module, read_saved};
-pub use saving::{Place, SavedFile, is_one_file};
+pub use saving::{SavePlace, SavedFile, is_one_file};
 pub use streams::Noted;
 pub use task::{Task, open_task};
 pub use telling::{tell, tell_usage};

@@ -31,16 +31,20 @@ enum Target {
 
 /// Where a record goes, found before there is one: all memory that writing it takes is taken then.
 #[derive(Drop)]
-pub struct Place {
+pub struct SavePlace {
     target: Target,
 }
 
 /// The place of a file at a path, if a file can be made beside it.
-fn of_file(rt: &HostRuntime, path: String, permissions: Option<Permissions>) -> io::Result<Place> {
+fn of_file(
+    rt: &HostRuntime,
+    path: String,
+    permissions: Option<Permissions>,
+) -> io::Result<SavePlace> {
     let mut beside = Beside::new(rt.alloc(), &path)?;
     beside.create(rt)?;
     beside.remove(rt)?;
-    Ok(Place {
+    Ok(SavePlace {
         target: Target::File {
             path,
             beside,
@@ -54,13 +58,13 @@ fn is_free(rt: &HostRuntime, path: &str) -> bool {
     !path.is_empty() && !path.ends_with('/') && fs::symlink_metadata(rt, path).is_err()
 }
 
-impl Place {
+impl SavePlace {
     /// Where a record with this path goes: links are followed, and what is there stays as it is.
     ///
     /// # Errors
     /// Where that is a folder, or can't be written, or nothing can be made beside it. Of the kind `OutOfMemory` where
     /// the system had too little memory left.
-    pub fn new(rt: &HostRuntime, path: &str) -> io::Result<Place> {
+    pub fn new(rt: &HostRuntime, path: &str) -> io::Result<SavePlace> {
         let found = match fs::metadata(rt, path) {
             Ok(found) => found,
             Err(error) if error.kind() == ErrorKind::NotFound && is_free(rt, path) => {
@@ -73,7 +77,7 @@ impl Place {
         }
         if !found.is_file() {
             let path = String::from_str(rt.alloc(), path)?;
-            return Ok(Place {
+            return Ok(SavePlace {
                 target: Target::Stream { path },
             });
         }
@@ -93,7 +97,7 @@ pub struct SavedFile<'a> {
 
 impl<'a> SavedFile<'a> {
     /// A record of which nothing is written yet; without a place none can be.
-    pub fn new(rt: &'a HostRuntime, place: Option<Place>) -> SavedFile<'a> {
+    pub fn new(rt: &'a HostRuntime, place: Option<SavePlace>) -> SavedFile<'a> {
         SavedFile {
             rt,
             target: place.map(|place| place.target),

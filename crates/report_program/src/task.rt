@@ -4,7 +4,7 @@ use crate::copied::Copied;
 use crate::input::{Input, read};
 use crate::stop::Stop;
 use crate::telling::{tell, tell_file_fault};
-use crate::{Noted, Place, SavedFile, is_one_file};
+use crate::{Noted, SavePlace, SavedFile, is_one_file};
 use report_command::{Job, Misuse, Search, misused};
 use report_jobs::Streams;
 use std::io::{self, BufWriter, ErrorKind, Write};
@@ -37,11 +37,11 @@ fn record_of<'a>(job: &Job<'a>) -> Option<&'a str> {
 }
 
 /// Where a job's record goes, if it makes one.
-fn place_of<'a>(rt: &HostRuntime, job: &Job<'a>) -> Result<Option<Place>, Stop<'a>> {
+fn place_of<'a>(rt: &HostRuntime, job: &Job<'a>) -> Result<Option<SavePlace>, Stop<'a>> {
     let Some(path) = record_of(job) else {
         return Ok(None);
     };
-    match Place::new(rt, path) {
+    match SavePlace::new(rt, path) {
         Ok(place) => Ok(Some(place)),
         Err(error) if error.kind() == ErrorKind::OutOfMemory => Err(Stop::NoMemory),
         Err(_) => Err(Stop::File(path)),
@@ -102,7 +102,7 @@ fn begin<'a, W: Write + Drop>(
     stdout: W,
     input: Input,
     path: &str,
-    place: Option<Place>,
+    place: Option<SavePlace>,
     explain: bool,
 ) -> io::Result<Task<'a, W>> {
     let alloc = rt.alloc();

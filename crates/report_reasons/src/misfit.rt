@@ -2,7 +2,7 @@
 
 use crate::Instead;
 use binary::read;
-use interp::{Place, Thread};
+use interp::{CodePlace, Thread};
 use interp_trait::Turn;
 use replay::{ReplayFault, replay_watched};
 use replay_text::Record;
@@ -19,7 +19,7 @@ use validate::{ValidModule, validate};
 struct Next<'a> {
     log: &'a [Entry],
     thread: u32,
-    place: Option<Place>,
+    place: Option<CodePlace>,
     turn: Option<Turn>,
 }
 
@@ -63,7 +63,12 @@ fn instead_of(turn: Turn) -> Option<Instead> {
 }
 
 /// A place as it is printed.
-fn spot_of(alloc: Global, parts: &Parts, bytes: &[u8], place: Place) -> Result<String, AllocError> {
+fn spot_of(
+    alloc: Global,
+    parts: &Parts,
+    bytes: &[u8],
+    place: CodePlace,
+) -> Result<String, AllocError> {
     let code = CodeMap::read(alloc, parts, bytes, bytes)?;
     let spot = code.spot(place);
     format!(in alloc; "{spot}")

@@ -1,7 +1,7 @@
 //! What is at a record's path before, while and after it is written.
 
 use crate::room::{count_in, make_room, path_in};
-use report_program::{Place, SavedFile, is_one_file};
+use report_program::{SavePlace, SavedFile, is_one_file};
 use std::fs;
 use std::io::{self, Write};
 use std::os::unix::fs::symlink;
@@ -27,7 +27,7 @@ fn has(rt: &HostRuntime, path: &str, text: Option<&str>) -> bool {
 /// Writes a record at a path where this text is, if there is one. Answers whether that stayed while the record was
 /// written.
 fn save(rt: &HostRuntime, path: &str, before: Option<&str>, end: End) -> io::Result<bool> {
-    let mut file = SavedFile::new(rt, Some(Place::new(rt, path)?));
+    let mut file = SavedFile::new(rt, Some(SavePlace::new(rt, path)?));
     let untouched = has(rt, path, before);
     file.write_all(b"new")?;
     file.flush()?;
@@ -121,7 +121,7 @@ fn links_lead_to_one_file_and_stay(rt: HostRuntime) -> Result<(), Fail> {
 /// Whether a path in a room takes no record.
 fn is_refused(rt: &HostRuntime, room: &PathBuf, name: &str) -> Result<bool, Fail> {
     let path = path_in(rt, room, name)?;
-    Ok(Place::new(rt, &path).is_err())
+    Ok(SavePlace::new(rt, &path).is_err())
 }
 
 /// A room with a link to nothing takes no record at these places, and nothing is made there.
@@ -136,7 +136,7 @@ fn refuse_all(rt: &HostRuntime, room: &PathBuf) -> Result<(), Fail> {
         ),
         ("a name of a folder", is_refused(rt, room, "a.record/")?),
         ("a link to nothing", is_refused(rt, room, "link")?),
-        ("no path", Place::new(rt, "").is_err()),
+        ("no path", SavePlace::new(rt, "").is_err()),
         ("how many names", count_in(rt, room)? == 1),
     ])
 }

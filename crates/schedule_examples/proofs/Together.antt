@@ -12,7 +12,7 @@ use Rattle.shared_memory.specs.Legal.{IsMemoryLegal, IsQueueLegal}
 use Rattle.schedule.specs.System.{Act.Made, Act.Heard, Step.Own, Step.Acts}
 use Rattle.interp_machine.specs.State.{State}
 use Rattle.schedule_runs.specs.Runs.{begins_in, HasRun, AllHaveRun, AreOfThreads}
-use Rattle.schedule_examples.specs.TwoThreads.{main, spawned, start, spawning, history, outcomes_of, lefts_of, TwoThreadsRanTogether}
+use Rattle.schedule_examples.specs.TwoThreads.{main, spawned_example, start, spawning, history, outcomes_of, lefts_of, TwoThreadsRanTogether}
 
 queue_legal : IsQueueLegal history
 unfolding IsQueueLegal first_queue after_question after_answer
@@ -27,7 +27,7 @@ memory_legal = (refl, (refl, (refl, (refl, (refl, (refl, tt))))))
 begins_first : begins_in start [] 0 ≡ Some main
 begins_first = refl
 
-begins_other : begins_in start spawning 1 ≡ Some (spawned 1 7)
+begins_other : begins_in start spawning 1 ≡ Some (spawned_example 1 7)
 unfolding queue_after first_queue after_question after_answer
 begins_other = refl
 
@@ -106,7 +106,7 @@ first_run = record {
   apart = refl;
 }
 
-other_run : HasRun start false (Some 2) history 1 (spawned 1 7) (outcomes_of 1) 10
+other_run : HasRun start false (Some 2) history 1 (spawned_example 1 7) (outcomes_of 1) 10
 other_run = record {
   before = spawning;
   last = spawning ++ others;
@@ -139,7 +139,7 @@ other_run = record {
   apart = refl;
 }
 
-begins_last : begins_in start history 1 ≡ Some (spawned 1 7)
+begins_last : begins_in start history 1 ≡ Some (spawned_example 1 7)
 unfolding queue_after first_queue after_question after_answer
 begins_last = refl
 
@@ -150,7 +150,7 @@ nobody_else k = refl
 all_ran : AllHaveRun start false (Some 2) history outcomes_of lefts_of
 all_ran zero c is = let same : main ≡ c = cc is in subst (λ (d : State). HasRun start false (Some 2) history 0 d (outcomes_of 0) 7) same first_run
 all_ran (suc zero) c is =
-    let same : spawned 1 7 ≡ c = cc (is, begins_last) in subst (λ (d : State). HasRun start false (Some 2) history 1 d (outcomes_of 1) 10) same other_run
+    let same : spawned_example 1 7 ≡ c = cc (is, begins_last) in subst (λ (d : State). HasRun start false (Some 2) history 1 d (outcomes_of 1) 10) same other_run
 all_ran (suc (suc k)) c is = absurd (cc (is, nobody_else k))
 
 abbrev AreApart : ℕ → List entries.Entry → Type 0

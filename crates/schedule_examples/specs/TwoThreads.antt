@@ -44,14 +44,14 @@ main = At (record {
 })
 
 -- Spawned threads end at once, with their argument.
-abbrev pub spawned : ℕ → ℕ → State
-spawned n arg = Over (outcomes.Done (Some (values.I32 arg)))
+abbrev pub spawned_example : ℕ → ℕ → State
+spawned_example n arg = Over (outcomes.Done (Some (values.I32 arg)))
 
 abbrev pub start : Start
 start = record {
   program = program;
   main = main;
-  spawned = spawned;
+  spawned_example = spawned_example;
   fuel = 10;
   opening =
       record { bytes = []; max = 0 };

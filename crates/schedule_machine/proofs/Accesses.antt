@@ -14,21 +14,21 @@ use Rattle.shared_memory.specs.History.{queue_step}
 use Rattle.schedule_threads.specs.Shared.{Shared, starts_by}
 use Rattle.schedule_threads.specs.Threads.{machine_of}
 use Rattle.interp_trait.specs.Turns.{spawned_in}
-use Rattle.schedule_machine.specs.Threads.{Setting, IsMade}
+use Rattle.schedule_machine.specs.Threads.{Setting, IsMadeReply}
 
 -- the memory makes every event
-either_made : (b : Bool) (x y : Reply) → IsMade x → IsMade y → IsMade (if b then x else y)
+either_made : (b : Bool) (x y : Reply) → IsMadeReply x → IsMadeReply y → IsMadeReply (if b then x else y)
 either_made true x y h k = h
 either_made false x y h k = k
 
-asked_made : (m : Memory) (question : Question) → IsMade (reply_to_question m question)
+asked_made : (m : Memory) (question : Question) → IsMadeReply (reply_to_question m question)
 asked_made m (Wait addr width expected timeout) = either_made (nat_le (addr + width) (length m.bytes))
     (replies.Value (loaded m addr width)) replies.OutOfBounds tt tt
 asked_made m (Notify addr count) = either_made (nat_le (addr + 4) (length m.bytes)) replies.Done replies.OutOfBounds tt tt
 asked_made m (Spawn arg) = tt
 asked_made m Leave = tt
 
-pub memory_made : (m : Memory) (e : Event) → IsMade (reply_of m e)
+pub memory_made : (m : Memory) (e : Event) → IsMadeReply (reply_of m e)
 memory_made m events.Size = tt
 memory_made m (events.Grow more) = tt
 memory_made m (events.Load addr width reach) = either_made (nat_le reach (length m.bytes)) (replies.Value (loaded m addr width)) replies.OutOfBounds tt tt

@@ -17,7 +17,7 @@ use Rattle.schedule_threads.specs.Shared.{is_question}
 use Rattle.schedule_threads.specs.Threads.{machine_of, wishes}
 use Rattle.schedule_threads.proofs.Asking.{wishes_of_threads}
 use Rattle.interp_trait.specs.Turns.{Running, wants_of, IsHere}
-use Rattle.schedule_machine.specs.Threads.{IsMade}
+use Rattle.schedule_machine.specs.Threads.{IsMadeReply}
 use Rattle.schedule_machine.specs.Runs.{opening_value}
 
 pub value_opens : (question : Question) (reply : Reply) (v : ℕ) → opening_value reply ≡ Some v → is_question (events.Ask question) reply ≡ true
@@ -35,7 +35,7 @@ step_by_value q n question replies.OutOfBounds v is = absurd (cc is)
 step_by_value q n question replies.Again v is = absurd (cc is)
 step_by_value q n question replies.Full v is = absurd (cc is)
 
-pub refused : (reply : Reply) → IsMade reply → opening_value reply ≡ None → reply ≡ replies.OutOfBounds
+pub refused : (reply : Reply) → IsMadeReply reply → opening_value reply ≡ None → reply ≡ replies.OutOfBounds
 refused (replies.Value k) made is = absurd (cc is)
 refused replies.Done made is = absurd (cc is)
 refused replies.OutOfBounds made is = refl

@@ -32,9 +32,9 @@ end_in turns.Awaits = None
 end_in (turns.Ended outcome) = Some outcome
 
 -- The reply to an event that was made.
-abbrev pub IsMade : Reply → Type 0
-IsMade (replies.Value n) = Unit {0}
-IsMade replies.Done = Unit {0}
-IsMade replies.OutOfBounds = Unit {0}
-IsMade replies.Again = ⊥
-IsMade replies.Full = ⊥
+abbrev pub IsMadeReply : Reply → Type 0
+IsMadeReply (replies.Value n) = Unit {0}
+IsMadeReply replies.Done = Unit {0}
+IsMadeReply replies.OutOfBounds = Unit {0}
+IsMadeReply replies.Again = ⊥
+IsMadeReply replies.Full = ⊥

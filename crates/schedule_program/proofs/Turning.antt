@@ -20,7 +20,7 @@ use Rattle.interp_trait.specs.Turns.{Running, outcome_of, wants_of, own_turn_if,
 use Rattle.interp_trait.specs.Turns.{IsTurned, Meaning, IsHere, spawn_types}
 use Rattle.interp_trait.specs.declared.turn.Given.TheVariants as given
 use Rattle.interp_trait.specs.declared.turn.Turn.{Turn}
-use Rattle.schedule_machine.specs.Threads.{Setting, IsMade, called}
+use Rattle.schedule_machine.specs.Threads.{Setting, IsMadeReply, called}
 use Rattle.schedule_program.specs.Threads.{StandsBy}
 use Rattle.schedule_program.specs.declared.stepped.Stage.{Stage}
 use Rattle.schedule_program.specs.declared.stepped.Stage.TheVariants as stages
@@ -75,7 +75,7 @@ here_takes p (Over o left) v h none = absurd (cc none)
 here_takes p (Leaves o left) v h none = absurd h
 here_takes p (Left o left) v h none = absurd h
 
-pub made_reply : (p : Program) (t : Running) (v : Reply) → IsMade v → after_turn p t (given.Reply v) ≡ thread_takes (machine_of p) t v
+pub made_reply : (p : Program) (t : Running) (v : Reply) → IsMadeReply v → after_turn p t (given.Reply v) ≡ thread_takes (machine_of p) t v
 made_reply p t (replies.Value n) m = refl
 made_reply p t replies.Done m = refl
 made_reply p t replies.OutOfBounds m = refl

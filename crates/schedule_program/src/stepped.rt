@@ -6,7 +6,7 @@ ghost use Rattle.schedule.specs.Machine.{Thread.Absent, Thread.Runs};
 ghost use Rattle.interp_machine.specs.Config.{Config};
 ghost use Rattle.interp_machine.specs.State.{At};
 ghost use Rattle.interp_trait.specs.Turns.{Running, wants_of};
-ghost use Rattle.schedule_machine.specs.Threads.{Setting, IsMade, called};
+ghost use Rattle.schedule_machine.specs.Threads.{Setting, IsMadeReply, called};
 ghost use Rattle.schedule_program.specs.Threads.{IsThread, IsPrepared, ForEach, StandsForSome, Becomes, BecomesWhere};
 ghost use Rattle.schedule_program.specs.Threads.{report_of};
 ghost use Rattle.schedule_program.specs.Threads.{CallsNone, CallsSome, AwaitsAnswer, own_turn_of, with_reply};
@@ -103,7 +103,7 @@ impl<T: TakesTurns> Stepped<T> {
 
     /// Takes the reply to the event that it wants, which was made.
     pub(crate) fn take(&mut self, reply: Reply)
-        requires made { IsMade reply }
+        requires made { IsMadeReply reply }
         requires wants { StandsForSome T.meaning self.old CallsSome }
         ensures { BecomesWhere T.meaning self.old self.new CallsSome (with_reply reply) }
     {

@@ -1,6 +1,6 @@
 -- What threads share in the scheduled machine: the sequential memory, and the wait queue without the answers that are
 -- due. Those belong to the threads' places in a history.
-use Rattle.std.specs.Prelude.{ℕ, ◌==◌, ◌&&◌, Bool, true, false, cond, nat_lt, length, replicate, Option, Some, None}
+use Rattle.std.specs.Prelude.{ℕ, ◌==◌, ◌&&◌, Bool, true, false, cond, length, replicate, Option, Some, None}
 use Rattle.std.specs.Prelude.{List}
 use Rattle.types.specs.declared.event.Event.{Event}
 use Rattle.types.specs.declared.event.Event.TheVariants as events
@@ -11,7 +11,7 @@ use Rattle.types.specs.declared.event.Answer.{Answer}
 use Rattle.types.specs.declared.event.Entry as entries
 use Rattle.types.specs.declared.outcome.Outcome.{Outcome}
 use Rattle.shared_memory.specs.Memory.{Memory, reply_of, state_after, touched}
-use Rattle.shared_memory.specs.WaitQueue.{WaitQueue, answer_due, next_id}
+use Rattle.shared_memory.specs.WaitQueue.{WaitQueue, answer_due, has_slot, next_id}
 use Rattle.shared_memory.specs.History.{queue_step}
 use Rattle.shared_memory.specs.Events.{is_exempt}
 use Rattle.schedule.specs.System.{System, Act, Act.Made, Act.Heard}
@@ -40,7 +40,7 @@ is_question _ reply = false
 module _ {C : Type 0} (k : Machine C Event Reply Answer Outcome) (start : ℕ → ℕ → C) (fuel : ℕ) where
   -- A spawn that gives out a number starts the thread of that number, with its argument and the same budget.
   abbrev pub starts_by : Shared → Event → ℕ → Option (Thread C Outcome)
-  starts_by x (events.Ask (questions.Spawn arg)) m = cond (nat_lt m (length x.queue.due) && (m == next_id x.queue))
+  starts_by x (events.Ask (questions.Spawn arg)) m = cond (has_slot x.queue m && (m == next_id x.queue))
       (Some (Runs (start m arg) fuel)) None
   starts_by x _ m = None
 

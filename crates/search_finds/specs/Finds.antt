@@ -6,7 +6,7 @@ use Rattle.spawn_host.specs.declared.end.EndState.{EndState}
 use Rattle.replay.specs.Runs.{IsRunOf}
 use Rattle.spawn_host.specs.declared.call.Call.{Call}
 use Rattle.search_scheduled.specs.Headers.{IsOfCall}
-use Rattle.search_scheduled.specs.declared.running.Made.{Made}
+use Rattle.search_scheduled.specs.declared.running.MadeRun.{MadeRun}
 use Rattle.search_finds.specs.declared.ending.Ending.{Ending}
 use Rattle.search_finds.specs.declared.met.Table.{Table}
 use Rattle.search_finds.specs.Endings.{IsEndingOf, HaveOneEnding}
@@ -14,13 +14,13 @@ use Rattle.search_finds.specs.Words.{HasLineWith, LacksInThread0}
 use Rattle.search_finds.specs.declared.sought.Sought.{Sought}
 
 -- Its record is of a run of the module by this call, which left what it says.
-pub record IsFind (m : Parts) (call : Call) (limit : ℕ) (made : Made) : Type 0 where
+pub record IsFind (m : Parts) (call : Call) (limit : ℕ) (made : MadeRun) : Type 0 where
   pub run : IsRunOf m made.record made.end
   pub of_call : IsOfCall m call.name.now call.args.now call.fuel limit made.record
 
 -- It is the ending of such a run.
-pub record IsMet (m : Parts) (call : Call) (limit dump : ℕ) (e : Ending) : Type 0 where
-  pub made : Made
+pub record IsMetEnding (m : Parts) (call : Call) (limit dump : ℕ) (e : Ending) : Type 0 where
+  pub made : MadeRun
   pub find : IsFind m call limit made
   pub ending : IsEndingOf dump made.end e
 
@@ -41,13 +41,13 @@ abbrev pub EndsAsLookedFor : Sought → ℕ → EndState → Type 0
 EndsAsLookedFor s dump end = (e : Ending) × IsEndingOf dump end e × IsLookedFor s e
 
 -- A run of the module by this call that ends as is looked for.
-abbrev pub IsFound : Parts → Call → Sought → Made → Type 0
+abbrev pub IsFound : Parts → Call → Sought → MadeRun → Type 0
 IsFound m call s made = IsFind m call s.limit made × EndsAsLookedFor s s.dump made.end
 
 -- Each ending of the table is that of a run of the module by this call.
 abbrev pub AreMet : Parts → Call → Sought → Table → Type 0
-AreMet m call s table = All (λ met. IsMet m call s.limit s.dump met.ending) table.met.items
+AreMet m call s table = All (λ met. IsMetEnding m call s.limit s.dump met.ending) table.met.items
 
 -- A run of the module by this call that ends as another one.
-abbrev pub IsFindAlike : Parts → Call → ℕ → ℕ → Made → Made → Type 0
+abbrev pub IsFindAlike : Parts → Call → ℕ → ℕ → MadeRun → MadeRun → Type 0
 IsFindAlike m call limit dump other made = IsFind m call limit made × HaveOneEnding dump other.end made.end

@@ -4,12 +4,12 @@ ghost use Rattle.search_finds.specs.Finds.{IsFound, AreMet, EndsAsLookedFor};
 ghost use Rattle.search_finds.specs.Searching.{IsMadeIn, IsMetIn, IsFoundIn, AreSparesIn};
 ghost use Rattle.search_finds.specs.Halts.{IfFound};
 
-use crate::search::Search;
+use crate::search::RunMaker;
 use crate::sought::Sought;
 use crate::{Ending, Table, ending_of};
 use report_choice::{MOST_DEPTH, Way};
 use search_reach::{Follows, Wish};
-use search_scheduled::{Made, SearchFault, Spares, run_along, run_with_spares};
+use search_scheduled::{MadeRun, SearchFault, Spares, run_along, run_with_spares};
 use search_strategies::{Along, Pct, Random};
 use spawn_host::{Call, EndState};
 use std::alloc::{AllocError, Global};
@@ -23,7 +23,7 @@ const PIECE: usize = 128;
 #[derive(Drop)]
 pub struct Found {
     pub run: u64,
-    pub made: Made,
+    pub made: MadeRun,
 }
 
 /// Why no further run was made.
@@ -39,7 +39,7 @@ pub enum Halt {
 
 /// The endings that were met, and why no further run was made.
 #[derive(Drop)]
-pub struct Searched {
+pub struct SearchResult {
     pub table: Table,
     pub halt: Halt,
 }
@@ -64,9 +64,9 @@ fn plain_entries(
     }
 }
 
-impl<'a> Search<'a> {
+impl<'a> RunMaker<'a> {
     /// Makes a run of this number, with the threads that the runs before it didn't start.
-    fn run(&self, alloc: Global, run: u64, spares: &mut Spares<'a>) -> Result<Made, SearchFault>
+    fn run(&self, alloc: Global, run: u64, spares: &mut Spares<'a>) -> Result<MadeRun, SearchFault>
         requires { AreSparesIn self.now spares.old }
         ensures find { IfOk result (IsMadeIn self.now) }
         ensures spares { OnOk result (AreSparesIn self.now spares.new) }
@@ -115,7 +115,7 @@ impl<'a> Search<'a> {
     }
 
     /// Makes the run of this number, with threads of its own.
-    fn run_anew(&self, alloc: Global, run: u64) -> Result<Made, SearchFault>
+    fn run_anew(&self, alloc: Global, run: u64) -> Result<MadeRun, SearchFault>
         ensures { IfOk result (IsMadeIn self.now) }
     {
         let mut spares = Spares::new(alloc);
@@ -247,14 +247,14 @@ pub fn first_found<R: Threads + Sync, F: Follows>(
     sought: &Sought,
     jobs: usize,
     follower: &mut F,
-) -> Result<Searched, SearchFault>
+) -> Result<SearchResult, SearchFault>
     requires { sought.now.from + sought.now.runs < 2 ^ 64 }
     ensures met { IfOk result (λ s. AreMet «module».now.parts call.entry sought.now s.table) }
     ensures found { IfOk result (λ s. IfFound s.halt (λ f. IsFound «module».now.parts call.entry sought.now f.made)) }
     ensures all_made { IfOk result (λ s. s.halt ≡ Halt.AllMade → s.table.runs ≡ sought.now.runs) }
     ensures told { IfOk result (λ s. s.halt ≡ Halt.Told → F.wish follower.new ≡ Wish.End) }
 {
-    let search = Search {
+    let search = RunMaker {
         module,
         call,
         sought: *sought,
@@ -270,13 +270,13 @@ pub fn first_found<R: Threads + Sync, F: Follows>(
         let wish = follower.runs(table.runs, table.met.len());
         if is_sought && let Some(found) = search.found(alloc, run)? {
             let halt = Halt::Found(found);
-            return Ok(Searched { table, halt });
+            return Ok(SearchResult { table, halt });
         }
         if let Wish::End = wish {
             let halt = Halt::Told;
-            return Ok(Searched { table, halt });
+            return Ok(SearchResult { table, halt });
         }
     }
     let halt = Halt::AllMade;
-    Ok(Searched { table, halt })
+    Ok(SearchResult { table, halt })
 }

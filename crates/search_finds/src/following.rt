@@ -4,7 +4,7 @@ ghost use Rattle.search_finds.specs.Endings.{IsEndingOf};
 ghost use Rattle.search_finds.specs.Finds.{IsFind};
 
 use crate::{Ending, ending_of};
-use search_scheduled::{Made, SearchFault, run_along};
+use search_scheduled::{MadeRun, SearchFault, run_along};
 use search_strategies::Chosen;
 use spawn_host::Call;
 use std::alloc::Global;
@@ -23,7 +23,7 @@ pub fn run_to(
     dump: u32,
     choices: &[usize],
     ending: &Ending,
-) -> Result<Option<Made>, SearchFault>
+) -> Result<Option<MadeRun>, SearchFault>
     ensures find { IfOk result (λ o. IfSome o (IsFind «module».now.parts call.entry limit)) }
     ensures ending { IfOk result (λ o. IfSome o (λ made. IsEndingOf dump made.end ending.now)) }
 {

@@ -29,7 +29,7 @@ mod table;
 mod words;
 
 pub use ending::{Ending, ending_of, have_one_ending};
-pub use finding::{Found, Halt, Searched, first_found};
+pub use finding::{Found, Halt, SearchResult, first_found};
 pub use following::run_to;
 pub use met::{Met, Table};
 pub use shrinking::shrunk;

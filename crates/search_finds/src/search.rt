@@ -7,7 +7,7 @@ use validate_module::ValidModule;
 
 /// A module, the call of a function of it, and what is looked for among the runs by that call.
 #[derive(Clone, Copy)]
-pub(crate) struct Search<'a> {
+pub(crate) struct RunMaker<'a> {
     pub(crate) module: &'a ValidModule,
     pub(crate) call: Call<'a>,
     pub(crate) sought: Sought<'a>,

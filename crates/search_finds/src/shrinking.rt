@@ -5,7 +5,7 @@ ghost use Rattle.search_finds.specs.Finds.{IsFind, IsFindAlike};
 
 use crate::have_one_ending;
 use crate::size::{schedule_of, size_of};
-use search_scheduled::{Made, SearchFault, run_along};
+use search_scheduled::{MadeRun, SearchFault, run_along};
 use search_strategies::Along;
 use spawn_host::Call;
 use std::alloc::{AllocError, Global};
@@ -59,9 +59,9 @@ fn tried(
     call: Call,
     limit: u32,
     dump: u32,
-    best: &Made,
+    best: &MadeRun,
     cut: Cut,
-) -> Result<Option<Made>, SearchFault>
+) -> Result<Option<MadeRun>, SearchFault>
     ensures { IfOk result (λ o. IfSome o (IsFindAlike «module».now.parts call.entry limit dump best.now)) }
 {
     let schedule = schedule_of(alloc, &best.record)?;
@@ -83,9 +83,9 @@ fn better(
     call: Call,
     limit: u32,
     dump: u32,
-    best: Made,
+    best: MadeRun,
     cut: Cut,
-) -> Result<(Made, bool), SearchFault>
+) -> Result<(MadeRun, bool), SearchFault>
     requires { IsFind «module».now.parts call limit best }
     ensures run { IfOk result (λ r. IsFind «module».now.parts call.entry limit r.0) }
     ensures ending { IfOk result (λ r. HaveOneEnding dump best.end r.0.end) }
@@ -108,8 +108,8 @@ pub fn shrunk(
     call: Call,
     limit: u32,
     dump: u32,
-    made: Made,
-) -> Result<Made, SearchFault>
+    made: MadeRun,
+) -> Result<MadeRun, SearchFault>
     requires { IsFind «module».now.parts call limit made }
     ensures run { IfOk result (IsFind «module».now.parts call.entry limit) }
     ensures ending { IfOk result (λ small. HaveOneEnding dump made.end small.end) }

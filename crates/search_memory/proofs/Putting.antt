@@ -6,13 +6,13 @@ use Rattle.std.proofs.lemmas.List.{length-set, set_comm, set-set, set-get_or, ge
 use Rattle.std.proofs.lemmas.List.{length-take, length-replicate, get_or_append_left, get_or-append_right, get_or-take, get_or-replicate, get_or_past}
 use Rattle.types.specs.declared.limits.TheConstants.{PAGE_SIZE, MOST_PAGES}
 use Rattle.shared_memory_sequential.specs.Opening.{IsSized}
-use Rattle.search_memory.specs.declared.beside.Change.{Change}
+use Rattle.search_memory.specs.declared.beside.ChangedByte.{ChangedByte}
 use Rattle.search_memory.specs.declared.beside.Changes.{Changes}
 use Rattle.search_memory.specs.Memories.{with_change, padded, changed_bytes, memory_of, is_below, is_above}
 use Rattle.search_memory.proofs.Differing.{fold_more}
 
 -- changes at other addresses may come before or behind
-commute : (bytes : List ℕ) (at b : ℕ) (p : Change → Bool) → ((c : Change) → p c ≡ true → at ≢ c.at) → (cs : List Change)
+commute : (bytes : List ℕ) (at b : ℕ) (p : ChangedByte → Bool) → ((c : ChangedByte) → p c ≡ true → at ≢ c.at) → (cs : List ChangedByte)
     → fold with_change (set bytes at b) (filter p cs) ≡ set (fold with_change bytes (filter p cs)) at b
 commute bytes at b p apart [] = refl
 commute bytes at b p apart (c ∷ cs) =
@@ -20,19 +20,19 @@ commute bytes at b p apart (c ∷ cs) =
     (λ is. ap (λ bs. fold with_change bs (filter p cs)) (set_comm bytes at c.at b c.byte (apart c is))
     ∙ commute (with_change bytes c) at b p apart cs) (λ isnt. commute bytes at b p apart cs)
 
-below_apart : (at k : ℕ) → k ≤ at → (c : Change) → is_below k c ≡ true → at ≢ c.at
+below_apart : (at k : ℕ) → k ≤ at → (c : ChangedByte) → is_below k c ≡ true → at ≢ c.at
 below_apart at k le c is same = let lt : c.at < k = ltb-true c.at k is in absurd (omega (arith, lt, same, le))
 
 -- changes at lower addresses come first, and those at higher ones last
-abbrev Gathered : List ℕ → ℕ → ℕ → List Change → Type 0
+abbrev Gathered : List ℕ → ℕ → ℕ → List ChangedByte → Type 0
 Gathered bytes at b cs = set (fold with_change bytes cs) at b
     ≡ fold with_change (fold with_change (set bytes at b) (filter (is_below at) cs)) (filter (is_above at) cs)
 
-module _ (bytes : List ℕ) (at b : ℕ) (c : Change) (cs : List Change) (rest : Gathered (with_change bytes c) at b cs) where
-  abbrev low : List Change
+module _ (bytes : List ℕ) (at b : ℕ) (c : ChangedByte) (cs : List ChangedByte) (rest : Gathered (with_change bytes c) at b cs) where
+  abbrev low : List ChangedByte
   low = filter (is_below at) cs
 
-  abbrev high : List Change
+  abbrev high : List ChangedByte
   high = filter (is_above at) cs
 
   first_low : c.at < at → Gathered bytes at b (c ∷ cs)
@@ -62,7 +62,7 @@ module _ (bytes : List ℕ) (at b : ℕ) (c : Change) (cs : List Change) (rest :
       ∙ ap (λ w. fold with_change (fold with_change (set bytes at b) (filter (is_below at) (c ∷ cs))) w)
       (sym (cond-false (is_above at c) (c ∷ high) high (le-ltb at c.at (omega (arith, e)))))))
 
-gathered : (bytes : List ℕ) (at b : ℕ) (cs : List Change) → Gathered bytes at b cs
+gathered : (bytes : List ℕ) (at b : ℕ) (cs : List ChangedByte) → Gathered bytes at b cs
 gathered bytes at b [] = refl
 gathered bytes at b (c ∷ cs) =
     let rest = gathered (with_change bytes c) at b cs in
@@ -74,11 +74,11 @@ gathered bytes at b (c ∷ cs) =
       ]
     ]
 
-fold-append : (bytes : List ℕ) (xs ys : List Change) → fold with_change bytes (xs ++ ys) ≡ fold with_change (fold with_change bytes xs) ys
+fold-append : (bytes : List ℕ) (xs ys : List ChangedByte) → fold with_change bytes (xs ++ ys) ≡ fold with_change (fold with_change bytes xs) ys
 fold-append bytes [] ys = refl
 fold-append bytes (x ∷ xs) ys = fold-append (with_change bytes x) xs ys
 
-module _ (first : List ℕ) (at b : ℕ) (cs : List Change) where
+module _ (first : List ℕ) (at b : ℕ) (cs : List ChangedByte) where
   -- a byte as it was opened is no change
   pub unchanged : b ≡ get_or first at 0 → fold with_change first (filter (is_below at) cs ++ filter (is_above at) cs) ≡ set (fold with_change first cs) at b
   unchanged same =
@@ -99,7 +99,7 @@ module _ (first : List ℕ) (at b : ℕ) (cs : List Change) where
 
 -- ---- a byte of the memory
 
-pub length_changed : (bytes : List ℕ) (cs : List Change) → length (fold with_change bytes cs) ≡ length bytes
+pub length_changed : (bytes : List ℕ) (cs : List ChangedByte) → length (fold with_change bytes cs) ≡ length bytes
 length_changed bytes [] = refl
 length_changed bytes (c ∷ cs) = length_changed (with_change bytes c) cs ∙ length-set bytes c.at c.byte
 
@@ -118,28 +118,28 @@ module _ (opening : List ℕ) (len at : ℕ) (low : at < len) where
             ∙ get_or-replicate {A = ℕ} (len - length opening) (at - length opening) 0 0 (omega (arith, le, low)))
       ]
 
-  module _ (changes : List Change) (i : ℕ) (d : Change) (lt : i < length changes) where
+  module _ (changes : List ChangedByte) (i : ℕ) (d : ChangedByte) (lt : i < length changes) where
     one_more : changed_bytes opening len (take (i + 1) changes) ≡ with_change (changed_bytes opening len (take i changes)) (get_or changes i d)
     one_more = ap (fold with_change (padded opening len)) (take_more changes i d lt) ∙ fold_more with_change (padded opening len) (take i changes) (get_or changes i d)
 
-    pub byte_here : Change.at (get_or changes i d) ≡ at → Change.byte (get_or changes i d) ≡ get_or (changed_bytes opening len (take (i + 1) changes)) at 0
+    pub byte_here : ChangedByte.at (get_or changes i d) ≡ at → ChangedByte.byte (get_or changes i d) ≡ get_or (changed_bytes opening len (take (i + 1) changes)) at 0
     byte_here e =
         let bytes = changed_bytes opening len (take i changes) in
         let long : length bytes ≡ len = length_changed (padded opening len) (take i changes) ∙ length_padded opening len in
-        let byte = Change.byte (get_or changes i d) in
+        let byte = ChangedByte.byte (get_or changes i d) in
         sym (ap (λ bs. get_or bs at 0) one_more ∙ (ap (λ k. get_or (set bytes k byte) at 0) e ∙ get_or-set_same bytes at byte 0 (omega (arith, low, long))))
 
-    pub byte_elsewhere : Change.at (get_or changes i d) ≢ at
+    pub byte_elsewhere : ChangedByte.at (get_or changes i d) ≢ at
         → get_or (changed_bytes opening len (take i changes)) at 0 ≡ get_or (changed_bytes opening len (take (i + 1) changes)) at 0
     byte_elsewhere apart =
         let bytes = changed_bytes opening len (take i changes) in
         sym (ap (λ bs. get_or bs at 0) one_more
-        ∙ get_or-set_other bytes (Change.at (get_or changes i d)) at (Change.byte (get_or changes i d)) 0 (λ e. apart (sym e)))
+        ∙ get_or-set_other bytes (ChangedByte.at (get_or changes i d)) at (ChangedByte.byte (get_or changes i d)) 0 (λ e. apart (sym e)))
 
 pub length_memory : (opening : List ℕ) (c : Changes) → length (memory_of opening c).bytes ≡ c.len
 length_memory opening c = length_changed (padded opening c.len) c.changes.items ∙ length_padded opening c.len
 
-pub length_bytes : (opening : List ℕ) (len : ℕ) (cs : List Change) → length (changed_bytes opening len cs) ≡ len
+pub length_bytes : (opening : List ℕ) (len : ℕ) (cs : List ChangedByte) → length (changed_bytes opening len cs) ≡ len
 length_bytes opening len cs = length_changed (padded opening len) cs ∙ length_padded opening len
 
 -- memories of so many bytes and pages are sized alike

@@ -2,7 +2,7 @@
 use Rattle.std.specs.Prelude.{ℕ, ◌≡◌, ◌-◌, ◌++◌, Bool, nat_lt, List, length, take, replicate, fold, slice_set}
 use Rattle.types.specs.declared.event.Event.{Event}
 use Rattle.shared_memory.specs.Memory.{Memory, state_after, written}
-use Rattle.search_memory.specs.declared.beside.Change.{Change}
+use Rattle.search_memory.specs.declared.beside.ChangedByte.{ChangedByte}
 use Rattle.search_memory.specs.declared.beside.Changes.{Changes}
 use Rattle.search_memory.specs.declared.looking.Beside.{Beside}
 
@@ -10,11 +10,11 @@ use Rattle.search_memory.specs.declared.looking.Beside.{Beside}
 abbrev pub padded : List ℕ → ℕ → List ℕ
 padded opening len = take len opening ++ replicate (len - length opening) 0
 
-abbrev pub with_change : List ℕ → Change → List ℕ
+abbrev pub with_change : List ℕ → ChangedByte → List ℕ
 with_change bytes change = slice_set bytes change.at change.byte
 
 -- The opening memory's first bytes, with these changes.
-abbrev pub changed_bytes : List ℕ → ℕ → List Change → List ℕ
+abbrev pub changed_bytes : List ℕ → ℕ → List ChangedByte → List ℕ
 changed_bytes opening len changes = fold with_change (padded opening len) changes
 
 -- The memory with these changes.
@@ -26,10 +26,10 @@ abbrev pub AreAfter : List ℕ → Changes → Event → Changes → Type 0
 AreAfter opening before event after = memory_of opening after ≡ state_after (memory_of opening before) event
 
 -- The changes at lower addresses, and those at higher ones.
-abbrev pub is_below : ℕ → Change → Bool
+abbrev pub is_below : ℕ → ChangedByte → Bool
 is_below at change = nat_lt change.at at
 
-abbrev pub is_above : ℕ → Change → Bool
+abbrev pub is_above : ℕ → ChangedByte → Bool
 is_above at change = nat_lt at change.at
 
 -- The memory that is looked at.
@@ -41,6 +41,6 @@ abbrev pub AreWritten : Beside → ℕ → ℕ → ℕ → Changes → Type 0
 AreWritten b addr width value after = memory_of b.opening.now after ≡ written (memory_at b) addr width value
 
 -- One byte more is changed.
-abbrev pub WithByte : List ℕ → ℕ → List Change → ℕ → ℕ → List Change → Type 0
+abbrev pub WithByte : List ℕ → ℕ → List ChangedByte → ℕ → ℕ → List ChangedByte → Type 0
 WithByte opening len before at byte after =
     changed_bytes opening len after ≡ slice_set (changed_bytes opening len before) at byte

@@ -8,7 +8,7 @@ use std::alloc::{AllocError, Global};
 
 /// A byte of the memory that differs from the opening memory's.
 #[derive(Clone, Copy, PartialEq, Eq, Hash)]
-pub struct Change {
+pub struct ChangedByte {
     pub at: usize,
     pub byte: u8,
 }
@@ -21,11 +21,11 @@ pub struct Changes {
     /// How many pages it may have.
     pub max: u32,
     /// What differs, in order of the addresses. A byte that the opening memory doesn't have was opened as 0.
-    pub changes: Vec<Change>,
+    pub changes: Vec<ChangedByte>,
 }
 
 /// A copy.
-pub(crate) fn copied(alloc: Global, changes: &[Change]) -> Result<Vec<Change>, AllocError>
+pub(crate) fn copied(alloc: Global, changes: &[ChangedByte]) -> Result<Vec<ChangedByte>, AllocError>
     ensures { IfOk result (λ v. v.items ≡ changes.now) }
 {
     let mut all = Vec::with_capacity(alloc, changes.len())?;
@@ -59,14 +59,14 @@ pub(crate) fn padded(alloc: Global, opening: &[u8], len: usize) -> Result<Vec<u8
 }
 
 /// What differs from the bytes at first.
-fn differences(alloc: Global, first: &[u8], bytes: &[u8]) -> Result<Vec<Change>, AllocError>
+fn differences(alloc: Global, first: &[u8], bytes: &[u8]) -> Result<Vec<ChangedByte>, AllocError>
     requires { length first.now ≡ length bytes.now }
     ensures { IfOk result (λ changes. fold with_change first.now changes.items ≡ bytes.now) }
 {
     let mut changes = Vec::new(alloc);
     for at in 0..bytes.len() {
         if bytes[at] != first[at] {
-            changes.push(Change {
+            changes.push(ChangedByte {
                 at,
                 byte: bytes[at],
             })?;

@@ -3,7 +3,7 @@
 ghost use Rattle.std.specs.Prelude.{◌≡◌, ◌++◌, ◌<◌, filter, get_or, IfOk};
 ghost use Rattle.search_memory.specs.Memories.{padded, changed_bytes, is_below, is_above, WithByte};
 
-use crate::beside::Change;
+use crate::beside::ChangedByte;
 use std::alloc::{AllocError, Global};
 
 /// The byte that was opened at an address.
@@ -14,7 +14,7 @@ fn opened(opening: &[u8], at: usize) -> u8
 }
 
 /// The byte at an address.
-pub(crate) fn byte_at(opening: &[u8], len: usize, changes: &[Change], at: usize) -> u8
+pub(crate) fn byte_at(opening: &[u8], len: usize, changes: &[ChangedByte], at: usize) -> u8
     requires { at < len }
     ensures { result ≡ get_or (changed_bytes opening.now len changes.now) at 0 }
 {
@@ -28,7 +28,7 @@ pub(crate) fn byte_at(opening: &[u8], len: usize, changes: &[Change], at: usize)
 }
 
 /// The changes at lower addresses.
-fn lower(alloc: Global, changes: &[Change], at: usize) -> Result<Vec<Change>, AllocError>
+fn lower(alloc: Global, changes: &[ChangedByte], at: usize) -> Result<Vec<ChangedByte>, AllocError>
     ensures { IfOk result (λ v. v.items ≡ filter (is_below at) changes.now) }
 {
     let mut all = Vec::new(alloc);
@@ -41,7 +41,11 @@ fn lower(alloc: Global, changes: &[Change], at: usize) -> Result<Vec<Change>, Al
 }
 
 /// Puts the changes at higher addresses behind.
-fn put_higher(all: &mut Vec<Change>, changes: &[Change], at: usize) -> Result<(), AllocError>
+fn put_higher(
+    all: &mut Vec<ChangedByte>,
+    changes: &[ChangedByte],
+    at: usize,
+) -> Result<(), AllocError>
     ensures { IfOk result (λ u. all.new.items ≡ all.old.items ++ filter (is_above at) changes.now) }
 {
     for one in changes {
@@ -58,16 +62,16 @@ pub(crate) fn with_byte(
     alloc: Global,
     opening: &[u8],
     len: usize,
-    changes: &[Change],
+    changes: &[ChangedByte],
     at: usize,
     byte: u8,
-) -> Result<Vec<Change>, AllocError>
+) -> Result<Vec<ChangedByte>, AllocError>
     requires { at < len }
     ensures { IfOk result (λ v. WithByte opening.now len changes.now at byte v.items) }
 {
     let mut all = lower(alloc, changes, at)?;
     if byte != opened(opening, at) {
-        all.push(Change { at, byte })?;
+        all.push(ChangedByte { at, byte })?;
     }
     put_higher(&mut all, changes, at)?;
     Ok(all)

@@ -12,5 +12,5 @@ mod bytes;
 mod looking;
 mod stepping;
 
-pub use beside::{Change, Changes, changes_in};
+pub use beside::{ChangedByte, Changes, changes_in};
 pub use stepping::{memory, step};

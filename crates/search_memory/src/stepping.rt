@@ -6,14 +6,14 @@ ghost use Rattle.shared_memory.specs.Memory.{reply_of};
 ghost use Rattle.shared_memory_sequential.specs.Opening.{IsSized};
 ghost use Rattle.search_memory.specs.Memories.{memory_of, with_change, AreAfter};
 
-use crate::beside::{Change, Changes, changes_in, padded};
+use crate::beside::{ChangedByte, Changes, changes_in, padded};
 use crate::looking::Beside;
 use shared_memory_sequential::{OneMemory, OpenFault, combine};
 use std::alloc::{AllocError, Global};
 use types::{Event, Reply};
 
 /// Makes a change.
-fn change(bytes: &mut [u8], change: Change)
+fn change(bytes: &mut [u8], change: ChangedByte)
     ensures { bytes.new ≡ with_change bytes.old change }
 {
     if change.at < bytes.len() {
@@ -22,7 +22,7 @@ fn change(bytes: &mut [u8], change: Change)
 }
 
 /// Makes the changes.
-fn change_all(bytes: &mut [u8], changes: &[Change])
+fn change_all(bytes: &mut [u8], changes: &[ChangedByte])
     ensures { bytes.new ≡ fold with_change bytes.old changes.now }
 {
     for one in changes {

@@ -14,13 +14,13 @@ use Rattle.search_settled.specs.Next.{IsBeginning}
 use Rattle.search_runs.specs.Called.{Called, Walker as Thread, system_of, first_state, first_shared}
 use Rattle.search_settled.specs.declared.flat.Flat.{Flat}
 use Rattle.search_walkers.specs.Walkers.{RestsAt}
-use Rattle.search_walkers.specs.declared.walker.Standing.{Standing}
-use Rattle.search_walkers.specs.declared.walker.Standing.TheVariants as standings
+use Rattle.search_walkers.specs.declared.walker.RestingThread.{RestingThread}
+use Rattle.search_walkers.specs.declared.walker.RestingThread.TheVariants as standings
 use Rattle.search_parts.specs.Sharing.{Shares}
 use Rattle.search_parts.specs.Parts.{IsRested}
 use Rattle.search_parts.specs.Threads.{threads_of}
 use Rattle.search_parts.specs.declared.shared.Common.{Common}
-use Rattle.search_parts.specs.declared.shared.Walker.{Walker}
+use Rattle.search_parts.specs.declared.shared.HashedThread.{HashedThread}
 use Rattle.search_parts.proofs.AtRest.{rested_so}
 
 -- thread 0 begins in its call
@@ -30,7 +30,7 @@ first_at b = ap first_without (put-same {B = Option State} (λ (m : ℕ). None) 
 pub missing_rests : (w : WithTables) (b : Called) → IsRested w b standings.Missing Missing
 missing_rests w b = record { stands = refl; rests = λ turns. absurd (cc turns) }
 
-module _ (w : WithTables) (b : Called) (opening : List ℕ) (main : Standing) (at : RestsAt w b (Going (At b.main)) main) where
+module _ (w : WithTables) (b : Called) (opening : List ℕ) (main : RestingThread) (at : RestsAt w b (Going (At b.main)) main) where
   -- thread 0 alone is there
   abbrev threads : ℕ → Thread
   threads = put (λ (m : ℕ). Missing) 0 at.rested
@@ -56,8 +56,8 @@ module _ (w : WithTables) (b : Called) (opening : List ℕ) (main : Standing) (a
     }
   ]
 
-  pub begun : (c : Flat Common Walker) → Shares opening c.shared (first_shared b)
-      → (t : Walker) × (c.threads.items ≡ t ∷ []) × (t.standing ≡ main)
+  pub begun : (c : Flat Common HashedThread) → Shares opening c.shared (first_shared b)
+      → (t : HashedThread) × (c.threads.items ≡ t ∷ []) × (t.standing ≡ main)
       → IsBeginning (threads_of w b opening) c
   unfolding first_queue
   begun c shared first = record {
@@ -71,9 +71,9 @@ module _ (w : WithTables) (b : Called) (opening : List ℕ) (main : Standing) (a
     };
   }
     where
-      each : (m : ℕ) (t : Walker) → slice_get (first.0 ∷ []) m ≡ Some t → IsRested w b t.standing (threads m)
+      each : (m : ℕ) (t : HashedThread) → slice_get (first.0 ∷ []) m ≡ Some t → IsRested w b t.standing (threads m)
       each zero t h =
           let same : first.0 ≡ t = cc h in
-          subst (λ (s : Standing). IsRested w b s (threads 0)) (sym first.2 ∙ ap (λ (u : Walker). u.standing) same)
+          subst (λ (s : RestingThread). IsRested w b s (threads 0)) (sym first.2 ∙ ap (λ (u : HashedThread). u.standing) same)
           (subst (λ (v : Thread). IsRested w b main v) (sym first_is) (rested_so w b main (Going (At b.main)) at))
       each (suc m) t h = absurd (cc h)

@@ -17,7 +17,7 @@ use Rattle.types.specs.Values.{type_of}
 use Rattle.types.proofs.Equal.{Decides-type}
 use Rattle.shared_memory_sequential.specs.Opening.{can_open, IsSized}
 use Rattle.interp.specs.Starts.{IsFunction, start_of}
-use Rattle.search_parts.specs.Parts.{IsWorker, AreWorkers}
+use Rattle.search_parts.specs.Parts.{IsWorkerFunction, AreWorkers}
 use Rattle.search_modules.specs.Searching.{type_at, type_of_function, call_by, call_of, takes, can_call, can_spawn, worker_of, is_callable}
 
 same_types : (ts us : List ValType) → pointwise is_type ts us ≡ true → ts ≡ us
@@ -57,7 +57,7 @@ has_function m own params e = by_parts m own params (slice_get m.functions own) 
 abbrev two : List ValType
 two = types.I32 ∷ types.I32 ∷ []
 
-is_worker : (m : Parts) (own : ℕ) → can_call m own two ≡ true → IsWorker m (call_of m own) own
+is_worker : (m : Parts) (own : ℕ) → can_call m own two ≡ true → IsWorkerFunction m (call_of m own) own
 is_worker m own e =
     let f = has_function m own two e in
     record {

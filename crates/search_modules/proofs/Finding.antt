@@ -10,7 +10,7 @@ use Rattle.spawn_host.specs.Entries.{StartsThreads}
 use Rattle.search_reach.specs.Paths.{Reaches}
 use Rattle.search_reach.specs.Search.{StepSystem, HasAllEnds, AreEnds, CanGetStuck}
 use Rattle.search_settled.specs.Settled.{StepsBy}
-use Rattle.search_settled.specs.Turns.{turns_of}
+use Rattle.search_settled.specs.Turns.{turn_steps}
 use Rattle.search_settled.specs.declared.flat.Flat.{Flat}
 use Rattle.search_runs.specs.Called.{Called, Walker as Thread, system_of, first_state}
 use Rattle.search_runs.specs.Ends.{Ending, HasEndedSo}
@@ -21,7 +21,7 @@ use Rattle.search_parts.specs.Endings.{is_same_ending}
 use Rattle.search_parts.specs.Equal.{equal_ones}
 use Rattle.search_parts.specs.Parts.{IsLost}
 use Rattle.search_parts.specs.declared.shared.Common.{Common}
-use Rattle.search_parts.specs.declared.shared.Walker.{Walker as SharedWalker}
+use Rattle.search_parts.specs.declared.shared.HashedThread.{HashedThread as SharedWalker}
 use Rattle.search_walkers.specs.Rests.{RunsOn}
 use Rattle.search_modules.specs.declared.called.Searched.{Searched}
 use Rattle.search_modules.specs.Moved.{called, threads, IsStuck}
@@ -29,7 +29,7 @@ use Rattle.search_modules.specs.Endings.{HasEveryEnding, AllCanEndSo, IsWorkerOf
 
 -- what is gone through
 abbrev gone : Searched → StepSystem (Flat Common SharedWalker) (systems.State Shared Thread) Ending
-gone s = turns_of (threads s) (HasEndedSo s.dump) (IsStuck s)
+gone s = turn_steps (threads s) (HasEndedSo s.dump) (IsStuck s)
 
 module _ (m : Parts) (entry : List ℕ) (args : List Value) (s : Searched) (call : IsCall m entry args (called s)) (dump : ℕ)
     (looked : s.dump ≡ dump) (endings : List Ending) where

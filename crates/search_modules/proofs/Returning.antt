@@ -25,7 +25,7 @@ use Rattle.replay.proofs.Same.{same_start}
 use Rattle.spawn_host.specs.RunEnds.{EndsRun}
 use Rattle.search_runs.specs.Called.{Called, Walker, with_fuel}
 use Rattle.search_runs.specs.Ends.{HasEndedSo}
-use Rattle.search_runs.specs.Theorems.{CanReach, IsEndingOf}
+use Rattle.search_runs.specs.Theorems.{CanReach, IsEndingAlong}
 use Rattle.search_runs.proofs.Ending.{every_run_ends_so}
 use Rattle.search_modules.specs.Returned.{IsCall, AllHadEnough, outcome_in, ending_of, WhatRunsReturnIsReached}
 
@@ -76,7 +76,7 @@ module _ (m : Parts) (distinct : HasDistinctNames m.exports) (entry : List ℕ) 
   memory_is : memory_after (opening_memory m) history ≡ memory_after b.opening history
   memory_is = ap (λ o. memory_after o history) opening_is
 
-  ending : IsEndingOf b dump history is_history.outcomes (ending_of dump end)
+  ending : IsEndingAlong b dump history is_history.outcomes (ending_of dump end)
   ending = record {
     count = length-map end.threads.items outcome_in ∙ is_history.count;
     are = λ n o at. (let r = of_report end.threads.items n o at in sym r.is ∙ (is_history.reports n r.report r.at).outcome_is);

@@ -6,9 +6,9 @@ use Rattle.search_settled.specs.Next.{HasEnded, IsSomewhere}
 use Rattle.search_settled.specs.Flat.{IsEventAt}
 use Rattle.search_settled.specs.declared.flat.Flat.{Flat}
 use Rattle.search_parts.specs.Threads.{threads_of, IsEventIn, IsSettled, HasEndedIn}
-use Rattle.search_parts.specs.declared.event.Made.{Made}
+use Rattle.search_parts.specs.declared.event.Effect.{Effect}
 use Rattle.search_parts.specs.declared.shared.Common.{Common}
-use Rattle.search_parts.specs.declared.shared.Walker.{Walker}
+use Rattle.search_parts.specs.declared.shared.HashedThread.{HashedThread}
 use Rattle.search_modules.specs.Moved.{called, threads}
 use Rattle.search_modules.specs.declared.called.Searched.{Searched}
 
@@ -18,26 +18,26 @@ if_ok_so (Err e) P Q so h = tt
 
 module _ (s : Searched) where
   -- of an event
-  pub event_told : {E : Type 0} (opening : List ℕ) → opening ≡ s.opening.items → (shared : Common) (read thread : Walker) → read ≡ thread
-      → (n : ℕ) (r : Result (Option (Common × Made)) E) → IfOk r (IsEventIn s.valid.now opening shared read.standing n)
+  pub event_told : {E : Type 0} (opening : List ℕ) → opening ≡ s.opening.items → (shared : Common) (read thread : HashedThread) → read ≡ thread
+      → (n : ℕ) (r : Result (Option (Common × Effect)) E) → IfOk r (IsEventIn s.valid.now opening shared read.standing n)
       → IfOk r (IsEventAt (threads s) shared thread n)
   event_told opening same shared read thread is n r h =
       if_ok_so r (IsEventIn s.valid.now s.opening.items shared thread.standing n) (IsEventAt (threads s) shared thread n)
       (λ o by z of. by (called s) z (record { of = refl; reached = of.0; shares = of.1; rested = of.2 }))
-      (subst (λ (t : Walker). IfOk r (IsEventIn s.valid.now s.opening.items shared t.standing n)) is
+      (subst (λ (t : HashedThread). IfOk r (IsEventIn s.valid.now s.opening.items shared t.standing n)) is
       (subst (λ l. IfOk r (IsEventIn s.valid.now l shared read.standing n)) same h))
 
   -- of an ending
-  abbrev EndTold : Flat Common Walker → Option Ending → Type 0
+  abbrev EndTold : Flat Common HashedThread → Option Ending → Type 0
   EndTold flat o = HasEnded (threads s) (HasEndedSo s.dump) flat o
 
-  pub end_told : {E : Type 0} (opening : List ℕ) → opening ≡ s.opening.items → (flat : Flat Common Walker) (r : Result (Option Ending) E)
+  pub end_told : {E : Type 0} (opening : List ℕ) → opening ≡ s.opening.items → (flat : Flat Common HashedThread) (r : Result (Option Ending) E)
       → IfOk r (HasEndedIn opening s.dump flat) → IfOk r (EndTold flat)
   end_told opening same flat r h =
       if_ok_so r (HasEndedIn s.opening.items s.dump flat) (EndTold flat) (λ o by. by s.valid.now (called s))
       (subst (λ l. IfOk r (HasEndedIn l s.dump flat)) same h)
 
-  pub end_asked : (opening : List ℕ) → opening ≡ s.opening.items → (flat : Flat Common Walker) → IsSomewhere (threads s) flat
+  pub end_asked : (opening : List ℕ) → opening ≡ s.opening.items → (flat : Flat Common HashedThread) → IsSomewhere (threads s) flat
       → IsSettled opening flat
   end_asked opening same flat at = (
     s.valid.now,

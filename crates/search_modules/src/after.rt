@@ -2,13 +2,13 @@
 
 ghost use Rattle.std.specs.Prelude.{◌≡◌, ◌<◌, None, IfOk, IfSome};
 ghost use Rattle.types.specs.declared.limits.TheConstants.{MOST_THREADS};
-ghost use Rattle.search_settled.specs.Flat.{StandsSomewhere, ComesAfter, IsStuckBy, StartsSomewhere, BeginsAfter};
+ghost use Rattle.search_settled.specs.Flat.{IsBeforeSome, ComesAfter, IsStuckBy, StartsSomewhere, BeginsAfter};
 ghost use Rattle.search_settled.specs.Flat.{IsStuckByStart};
-ghost use Rattle.search_modules.specs.Moved.{threads, IsSomewhereAfter, RestsThen, IsStuckThen, IsStuck};
+ghost use Rattle.search_modules.specs.Moved.{threads, IsAfterSome, ThreadRestsThen, IsStuckThen, IsStuck};
 
 use crate::called::Searched;
-use search_parts::{Made, SharedWalker, is_untouched, rest_after};
-use search_walkers::Standing;
+use search_parts::{Effect, SharedWalker, is_untouched, rest_after};
+use search_walkers::RestingThread;
 use std::alloc::{AllocError, Global};
 
 /// Where thread m comes to rest that stood so before an event of thread n, or nothing where that can't be told.
@@ -18,14 +18,14 @@ use std::alloc::{AllocError, Global};
 fn rested(
     alloc: Global,
     searched: &Searched,
-    made: &Made,
+    made: &Effect,
     n: usize,
-    standing: &Standing,
+    standing: &RestingThread,
     m: usize,
 ) -> Result<Option<SharedWalker>, AllocError>
-    requires after { IsSomewhereAfter searched.now made.now n standing.now m }
+    requires after { IsAfterSome searched.now made.now n standing.now m }
     requires few { m < MOST_THREADS }
-    ensures rests { IfOk result (λ o. IfSome o (RestsThen searched.now made.now n standing.now m)) }
+    ensures rests { IfOk result (λ o. IfSome o (ThreadRestsThen searched.now made.now n standing.now m)) }
     ensures gives_up { IfOk result (λ o. o ≡ None → IsStuckThen searched.now made.now n standing.now m) }
 {
     let Some(rest) = rest_after(alloc, searched.valid, searched.worker, made, n, standing, m)?
@@ -43,12 +43,12 @@ fn rested(
 pub(crate) fn thread_after(
     alloc: Global,
     searched: &Searched,
-    made: &Made,
+    made: &Effect,
     n: usize,
     thread: &SharedWalker,
     m: usize,
 ) -> Result<Option<SharedWalker>, AllocError>
-    requires somewhere { StandsSomewhere (threads searched.now) made.now n thread.now m }
+    requires somewhere { IsBeforeSome (threads searched.now) made.now n thread.now m }
     requires few { m < MOST_THREADS }
     ensures rests { IfOk result (λ o. IfSome o (ComesAfter (threads searched.now) made.now n thread.now m)) }
     ensures gives_up { IfOk result (λ o. o ≡ None
@@ -72,7 +72,7 @@ pub(crate) fn thread_after(
 pub(crate) fn begun_after(
     alloc: Global,
     searched: &Searched,
-    made: &Made,
+    made: &Effect,
     n: usize,
     m: usize,
 ) -> Result<Option<SharedWalker>, AllocError>
@@ -82,7 +82,7 @@ pub(crate) fn begun_after(
     ensures gives_up { IfOk result (λ o. o ≡ None
         → IsStuckByStart (threads searched.now) (IsStuck searched.now) made.now n m) }
 {
-    let Some(new) = rested(alloc, searched, made, n, &Standing::Missing, m)? else {
+    let Some(new) = rested(alloc, searched, made, n, &RestingThread::Missing, m)? else {
         return Ok(None);
     };
     Ok(Some(new))

@@ -3,7 +3,7 @@
 use crate::after::{begun_after, thread_after};
 use crate::beginning::first_flat;
 use crate::called::Searched;
-use search_parts::{Common, Ending, Made, SharedWalker, ending_of, make_event};
+use search_parts::{Common, Effect, Ending, SharedWalker, ending_of, make_event};
 use search_settled::{Flat, Moves};
 use std::alloc::{AllocError, Global};
 
@@ -22,7 +22,7 @@ impl Moves for Searched<'_> {
 
     type Thread = SharedWalker;
 
-    type Made = Made;
+    type Effect = Effect;
 
     type Ending = Ending;
 
@@ -66,7 +66,7 @@ impl Moves for Searched<'_> {
         shared: &Common,
         thread: &SharedWalker,
         n: usize,
-    ) -> Result<Option<(Common, Made)>, AllocError> {
+    ) -> Result<Option<(Common, Effect)>, AllocError> {
         make_event(
             alloc,
             self.valid,
@@ -80,7 +80,7 @@ impl Moves for Searched<'_> {
     fn after(
         &self,
         alloc: Global,
-        made: &Made,
+        made: &Effect,
         n: usize,
         thread: &SharedWalker,
         m: usize,
@@ -91,7 +91,7 @@ impl Moves for Searched<'_> {
     fn first_after(
         &self,
         alloc: Global,
-        made: &Made,
+        made: &Effect,
         n: usize,
         m: usize,
     ) -> Result<Option<SharedWalker>, AllocError> {

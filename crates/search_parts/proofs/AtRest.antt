@@ -8,17 +8,17 @@ use Rattle.schedule.specs.Scheduled.{hears_any}
 use Rattle.search_settled.specs.Settled.{ComesTo, Settles, MakesTurns}
 use Rattle.search_runs.specs.Called.{Called, Walker, system_of}
 use Rattle.search_walkers.specs.Walkers.{RestsAt, patience}
-use Rattle.search_walkers.specs.declared.walker.Standing.{Standing}
+use Rattle.search_walkers.specs.declared.walker.RestingThread.{RestingThread}
 use Rattle.search_parts.specs.Parts.{IsRested}
 
-pub at_rest : (w : WithTables) (b : Called) (s : Standing) (v : Walker) → IsRested w b s v → RestsAt w b v s
+pub at_rest : (w : WithTables) (b : Called) (s : RestingThread) (v : Walker) → IsRested w b s v → RestsAt w b v s
 at_rest w b s v is = record {
   rested = v;
   settles = record { turns = 0; comes = refl; rests = is.rests };
   stands = is.stands;
 }
 
-pub rested_so : (w : WithTables) (b : Called) (s : Standing) (v : Walker) (at : RestsAt w b v s) → IsRested w b s at.rested
+pub rested_so : (w : WithTables) (b : Called) (s : RestingThread) (v : Walker) (at : RestsAt w b v s) → IsRested w b s at.rested
 rested_so w b s v at = record { stands = at.stands; rests = at.settles.rests }
 
 stays_by : (b : Called) (count : ℕ) (v u : Walker) → ComesTo (system_of b) count v u → (system_of b).wants v ≡ Awaits → v ≡ u
@@ -34,7 +34,7 @@ same_by b zero v u comes rests = comes
 same_by b (suc count) v u comes rests = absurd (rests comes.0)
 
 -- who came to rest, and comes to rest with the answer that it is given, comes to rest there from the first
-pub joined : (w : WithTables) (b : Called) (v : Walker) (own s : Standing) (at : RestsAt w b v own) (o : Option Answer)
+pub joined : (w : WithTables) (b : Called) (v : Walker) (own s : RestingThread) (at : RestsAt w b v own) (o : Option Answer)
     → ((a : Answer) → o ≡ Some a → (system_of b).wants v ≡ Awaits) → RestsAt w b (hears_any (system_of b) at.rested o) s
     → RestsAt w b (hears_any (system_of b) v o) s
 joined w b v own s at None awaits then = record {
@@ -63,7 +63,7 @@ never_told b v (Some a) awaits makes =
     let waits = awaits a refl in absurd (cc (turns, waits))
 
 -- who came to rest, and makes so many turns with the answer that it is given, makes them from the first
-pub joined_turns : (w : WithTables) (b : Called) (v : Walker) (own : Standing) (at : RestsAt w b v own) (o : Option Answer)
+pub joined_turns : (w : WithTables) (b : Called) (v : Walker) (own : RestingThread) (at : RestsAt w b v own) (o : Option Answer)
     → ((a : Answer) → o ≡ Some a → (system_of b).wants v ≡ Awaits) → MakesTurns (system_of b) patience (hears_any (system_of b) at.rested o)
     → MakesTurns (system_of b) patience (hears_any (system_of b) v o)
 joined_turns w b v own at None awaits makes = absurd (at.settles.rests (turns_at_once b patience at.rested some_patience makes))

@@ -34,12 +34,12 @@ use Rattle.search_parts.proofs.SharedParts.{same_memory, same_queue}
 use Rattle.search_parts.specs.Parts.{IsRested}
 use Rattle.search_parts.specs.Sharing.{Shares, started_in}
 use Rattle.search_parts.specs.declared.shared.Common.{Common}
-use Rattle.search_parts.specs.declared.shared.Walker as walkers
+use Rattle.search_parts.specs.declared.shared.HashedThread as walkers
 use Rattle.search_parts.specs.contracts.shared.CommonPartialEq.TheImpl as common_eq
 use Rattle.search_parts.specs.contracts.shared.WalkerPartialEq.TheImpl as walker_eq
 use Rattle.shared_memory_sequential.specs.Opening.{IsSized}
 
-pub same_thread : (w : WithTables) (b : Called) (x y : walkers.Walker) → walker_eq.eq-value.it x y ≡ true → (v : Walker)
+pub same_thread : (w : WithTables) (b : Called) (x y : walkers.HashedThread) → walker_eq.eq-value.it x y ≡ true → (v : Walker)
     → IsRested w b x.standing v → IsRested w b y.standing v
 same_thread w b x y e v is = record {
   stands = same_standing w x.standing y.standing v (second_so (nat_eq x.digest y.digest) (standings.eq-value.it x.standing y.standing) e) is.stands;

@@ -21,7 +21,7 @@ use Rattle.schedule_threads.specs.Threads.{machine_of}
 use Rattle.schedule_threads.proofs.Asking.{machine_laws, wants_no_answer}
 use Rattle.interp_machine.specs.State.{State}
 use Rattle.interp_trait.specs.Turns.{Running, spawned_in}
-use Rattle.schedule_machine.specs.Threads.{IsMade, called}
+use Rattle.schedule_machine.specs.Threads.{IsMadeReply, called}
 use Rattle.schedule_machine.proofs.Orderly.{free_asker, nothing_due}
 use Rattle.schedule_machine.proofs.Accesses.{memory_made}
 use Rattle.search_runs.specs.Called.{Called, Walker, system_of, begun_at, begun_by, reply_by, shared_by, answer_by}
@@ -120,7 +120,7 @@ no_other b z (events.Ask questions.Leave) m h = refl
 no_other b z (events.Told answer) m h = refl
 
 -- an answer is due only after a question
-asks : (q : WaitQueue) (n : ℕ) (question : Question) (v : Reply) → IsMade v → (m : ℕ) → answer_due q m ≡ None → (a : Answer)
+asks : (q : WaitQueue) (n : ℕ) (question : Question) (v : Reply) → IsMadeReply v → (m : ℕ) → answer_due q m ≡ None → (a : Answer)
     → answer_due (queue_step q n (events.Ask question) v) m ≡ Some a → is_question (events.Ask question) v ≡ true
 asks q n question (replies.Value k) made m none a due = refl
 asks q n question replies.Done made m none a due = refl
@@ -128,7 +128,7 @@ asks q n question replies.OutOfBounds made m none a due = absurd (cc (none, due)
 asks q n question replies.Again made m none a due = absurd made
 asks q n question replies.Full made m none a due = absurd made
 
-opens : (q : WaitQueue) (n : ℕ) (e : Event) (v : Reply) → IsMade v → ((answer : Answer) → e ≡ events.Told answer → ⊥) → (m : ℕ) → answer_due q m ≡ None
+opens : (q : WaitQueue) (n : ℕ) (e : Event) (v : Reply) → IsMadeReply v → ((answer : Answer) → e ≡ events.Told answer → ⊥) → (m : ℕ) → answer_due q m ≡ None
     → (a : Answer) → answer_due (queue_step q n e v) m ≡ Some a → is_question e v ≡ true
 opens q n events.Size v made untold m none a due = absurd (cc (none, due))
 opens q n (events.Grow more) v made untold m none a due = absurd (cc (none, due))

@@ -15,11 +15,11 @@ use Rattle.search_settled.specs.declared.flat.Flat.{Flat}
 use Rattle.search_runs.specs.Called.{Called, Walker as Thread}
 use Rattle.search_runs.specs.Ends.{Ending, HasEndedSo}
 use Rattle.search_runs.proofs.Tame.{missing}
-use Rattle.search_walkers.specs.Walkers.{StandsFor}
-use Rattle.search_walkers.specs.declared.walker.Standing.{Standing}
-use Rattle.search_walkers.specs.declared.walker.Standing.TheVariants.{Missing, Going, Ended, Leaving, Away}
+use Rattle.search_walkers.specs.Walkers.{StandsForThread}
+use Rattle.search_walkers.specs.declared.walker.RestingThread.{RestingThread}
+use Rattle.search_walkers.specs.declared.walker.RestingThread.TheVariants.{Missing, Going, Ended, Leaving, Away}
 use Rattle.search_parts.specs.declared.shared.Common.{Common}
-use Rattle.search_parts.specs.declared.shared.Walker.{Walker}
+use Rattle.search_parts.specs.declared.shared.HashedThread.{HashedThread}
 use Rattle.search_parts.specs.Endings.{outcome_away, outcome_at, HaveLeft, IsOneHere}
 use Rattle.search_parts.specs.Threads.{threads_of}
 
@@ -45,14 +45,14 @@ some_same x y h = cc h
 
 -- a thread
 
-away : (w : WithTables) (s : Standing) (v : Thread) → StandsFor w s v → (o : Outcome) → outcome_away s ≡ Some o → v ≡ Left o
+away : (w : WithTables) (s : RestingThread) (v : Thread) → StandsForThread w s v → (o : Outcome) → outcome_away s ≡ Some o → v ≡ Left o
 away w Missing v st o h = absurd (cc h)
 away w (Going k) v st o h = absurd (cc h)
 away w (Ended x) v st o h = absurd (cc h)
 away w (Leaving x) v st o h = absurd (cc h)
 away w (Away x) v st o h = let same : x ≡ o = cc h in st ∙ ap (λ y. Left y) same
 
-here : (w : WithTables) (s : Standing) (v : Thread) → StandsFor w s v → outcome_away s ≡ None → (o : Outcome) → v ≡ Left o → ⊥
+here : (w : WithTables) (s : RestingThread) (v : Thread) → StandsForThread w s v → outcome_away s ≡ None → (o : Outcome) → v ≡ Left o → ⊥
 here w Missing v st h o left = absurd (cc (sym st ∙ left))
 here w (Going k) v st h o left = let is = st.1 in absurd (cc (sym is ∙ left))
 here w (Ended x) v st h o left = absurd (cc (sym st ∙ left))
@@ -61,15 +61,15 @@ here w (Away x) v st h o left = absurd (cc h)
 
 -- threads that have left
 
-left_at : (threads : List Walker) (outcomes : List Outcome) → HaveLeft threads outcomes → (m : ℕ) (o : Outcome) → slice_get outcomes m ≡ Some o
-    → (t : Walker) × (slice_get threads m ≡ Some t) × (outcome_at t ≡ Some o)
+left_at : (threads : List HashedThread) (outcomes : List Outcome) → HaveLeft threads outcomes → (m : ℕ) (o : Outcome) → slice_get outcomes m ≡ Some o
+    → (t : HashedThread) × (slice_get threads m ≡ Some t) × (outcome_at t ≡ Some o)
 left_at [] [] have m o at = absurd (cc at)
 left_at [] (x ∷ outcomes) have m o at = absurd (cc have)
 left_at (t ∷ threads) [] have m o at = absurd (cc have)
 left_at (t ∷ threads) (x ∷ outcomes) have zero o at = (t, refl, cc (have, at))
 left_at (t ∷ threads) (x ∷ outcomes) have (suc m) o at = left_at threads outcomes (cc have) m o at
 
-left_count : (threads : List Walker) (outcomes : List Outcome) → HaveLeft threads outcomes → length outcomes ≡ length threads
+left_count : (threads : List HashedThread) (outcomes : List Outcome) → HaveLeft threads outcomes → length outcomes ≡ length threads
 left_count threads outcomes have =
     sym (length-map outcomes (λ (o : Outcome). Some o)) ∙ (ap length (sym have) ∙ length-map threads outcome_at)
 
@@ -86,12 +86,12 @@ one_ending dump z x y one other =
     let bytes_so = one.bytes_are ∙ sym other.bytes_are in
     λ i. record { outcomes = outcomes i; pages = pages_so i; bytes = bytes_so i }
 
-module _ (w : WithTables) (b : Called) (opening : List ℕ) (flat : Flat Common Walker) (z : systems.State Shared Thread)
+module _ (w : WithTables) (b : Called) (opening : List ℕ) (flat : Flat Common HashedThread) (z : systems.State Shared Thread)
     (at : IsAt (threads_of w b opening) flat z) where
-  abbrev threads : List Walker
+  abbrev threads : List HashedThread
   threads = flat.threads.items
 
-  stood : (m : ℕ) (t : Walker) → slice_get flat.threads.items m ≡ Some t → StandsFor w t.standing (z.threads m)
+  stood : (m : ℕ) (t : HashedThread) → slice_get flat.threads.items m ≡ Some t → StandsForThread w t.standing (z.threads m)
   stood m t is = (at.settled_is.each m t is).stands
 
   pub ended : (dump : ℕ) (e : Ending) (m : Memory) → HaveLeft threads e.outcomes → m ≡ memory_of opening flat.shared.memory → e.pages ≡ pages m

@@ -6,7 +6,7 @@ use Rattle.types.specs.declared.event.Answer.{Answer}
 use Rattle.shared_memory.specs.Memory.{Memory}
 use Rattle.shared_memory.specs.WaitQueue.{first_queue}
 use Rattle.waiters.specs.Kept.{without_answers}
-use Rattle.search_memory.specs.declared.beside.Change.{Change}
+use Rattle.search_memory.specs.declared.beside.ChangedByte.{ChangedByte}
 use Rattle.search_memory.specs.Memories.{padded, with_change}
 
 as_opened : (opening : List ℕ) → padded opening (length opening) ≡ opening
@@ -18,7 +18,7 @@ as_opened opening =
 abbrev pub with_bytes : List ℕ → ℕ → Memory
 with_bytes bytes max = record { bytes = bytes; max = max }
 
-pub unchanged : (opening : List ℕ) (max : ℕ) (changes : List Change) → changes ≡ []
+pub unchanged : (opening : List ℕ) (max : ℕ) (changes : List ChangedByte) → changes ≡ []
     → with_bytes (fold with_change (padded opening (length opening)) changes) max ≡ with_bytes opening max
 unchanged opening max changes none =
     let bytes : fold with_change (padded opening (length opening)) changes ≡ opening = ap (fold with_change (padded opening (length opening))) none ∙ as_opened opening in

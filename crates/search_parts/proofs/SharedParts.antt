@@ -7,7 +7,7 @@ use Rattle.shared_memory.specs.contracts.sleeper.SleeperPartialEq.TheImpl as sle
 use Rattle.waiters.specs.declared.kept.KeptQueue.{KeptQueue}
 use Rattle.waiters.specs.contracts.kept.KeptQueuePartialEq.TheImpl as queue_eq
 use Rattle.waiters.specs.Kept.{queue_of}
-use Rattle.search_memory.specs.declared.beside.Change.{Change}
+use Rattle.search_memory.specs.declared.beside.ChangedByte.{ChangedByte}
 use Rattle.search_memory.specs.declared.beside.Changes.{Changes}
 use Rattle.search_memory.specs.contracts.beside.ChangePartialEq.TheImpl as change_eq
 use Rattle.search_memory.specs.contracts.beside.ChangesPartialEq.TheImpl as changes_eq
@@ -17,7 +17,7 @@ use Rattle.search_parts.specs.Values.{same_list, same_sleeper}
 same_number : (a b : ℕ) → nat_eq a b ≡ true → a ≡ b
 same_number a b e = eqb-true a b e
 
-same_change : (x y : Change) → change_eq.eq-value.it x y ≡ true → x ≡ y
+same_change : (x y : ChangedByte) → change_eq.eq-value.it x y ≡ true → x ≡ y
 same_change x y e =
     let at = eqb-true x.at y.at (first_so (nat_eq x.at y.at) (nat_eq x.byte y.byte) e) in
     let byte = eqb-true x.byte y.byte (second_so (nat_eq x.at y.at) (nat_eq x.byte y.byte) e) in

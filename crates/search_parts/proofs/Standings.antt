@@ -13,9 +13,9 @@ use Rattle.interp.specs.Kept.{IsOf}
 use Rattle.interp.specs.declared.kept.Kept.{Kept}
 use Rattle.interp.specs.contracts.kept.KeptPartialEq.TheImpl as kept_eq
 use Rattle.search_runs.specs.Called.{Walker}
-use Rattle.search_walkers.specs.Walkers.{StandsFor}
-use Rattle.search_walkers.specs.declared.walker.Standing.{Standing}
-use Rattle.search_walkers.specs.declared.walker.Standing.TheVariants.{Missing, Going, Ended, Leaving, Away}
+use Rattle.search_walkers.specs.Walkers.{StandsForThread}
+use Rattle.search_walkers.specs.declared.walker.RestingThread.{RestingThread}
+use Rattle.search_walkers.specs.declared.walker.RestingThread.TheVariants.{Missing, Going, Ended, Leaving, Away}
 use Rattle.search_walkers.specs.contracts.walker.StandingPartialEq.TheImpl as standing_eq
 use Rattle.search_parts.specs.Values.{untrue, same_list, same_value, same_caller, same_progress, same_outcome}
 
@@ -67,7 +67,7 @@ module _ (x y : Kept) where
         progress = sym (same_progress x.progress y.progress (second_so callers_so progress_so callers)) ∙ is.progress;
       }
 
-pub same_standing : (w : WithTables) (x y : Standing) (v : Walker) → standing_eq.eq-value.it x y ≡ true → StandsFor w x v → StandsFor w y v
+pub same_standing : (w : WithTables) (x y : RestingThread) (v : Walker) → standing_eq.eq-value.it x y ≡ true → StandsForThread w x v → StandsForThread w y v
 same_standing w Missing Missing v e st = st
 same_standing w Missing (Going b) v e st = untrue e
 same_standing w Missing (Ended b) v e st = untrue e
@@ -81,16 +81,16 @@ same_standing w (Going a) (Leaving b) v e st = untrue e
 same_standing w (Going a) (Away b) v e st = untrue e
 same_standing w (Ended a) Missing v e st = untrue e
 same_standing w (Ended a) (Going b) v e st = untrue e
-same_standing w (Ended a) (Ended b) v e st = subst (λ o. StandsFor w (Ended o) v) (same_outcome a b e) st
+same_standing w (Ended a) (Ended b) v e st = subst (λ o. StandsForThread w (Ended o) v) (same_outcome a b e) st
 same_standing w (Ended a) (Leaving b) v e st = untrue e
 same_standing w (Ended a) (Away b) v e st = untrue e
 same_standing w (Leaving a) Missing v e st = untrue e
 same_standing w (Leaving a) (Going b) v e st = untrue e
 same_standing w (Leaving a) (Ended b) v e st = untrue e
-same_standing w (Leaving a) (Leaving b) v e st = subst (λ o. StandsFor w (Leaving o) v) (same_outcome a b e) st
+same_standing w (Leaving a) (Leaving b) v e st = subst (λ o. StandsForThread w (Leaving o) v) (same_outcome a b e) st
 same_standing w (Leaving a) (Away b) v e st = untrue e
 same_standing w (Away a) Missing v e st = untrue e
 same_standing w (Away a) (Going b) v e st = untrue e
 same_standing w (Away a) (Ended b) v e st = untrue e
 same_standing w (Away a) (Leaving b) v e st = untrue e
-same_standing w (Away a) (Away b) v e st = subst (λ o. StandsFor w (Away o) v) (same_outcome a b e) st
+same_standing w (Away a) (Away b) v e st = subst (λ o. StandsForThread w (Away o) v) (same_outcome a b e) st

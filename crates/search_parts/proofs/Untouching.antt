@@ -12,10 +12,10 @@ use Rattle.schedule_threads.specs.Shared.{Shared, queue_by}
 use Rattle.search_threads.specs.Budgets.{started_without}
 use Rattle.search_runs.specs.Called.{Called, Walker, system_of, reply_by, answer_by, begun_at}
 use Rattle.search_walkers.specs.Walkers.{RestsAt}
-use Rattle.search_walkers.specs.declared.walker.Standing.{Standing}
+use Rattle.search_walkers.specs.declared.walker.RestingThread.{RestingThread}
 use Rattle.search_parts.specs.Parts.{IsAfter}
 use Rattle.search_parts.specs.declared.event.Begun.{Begun}
-use Rattle.search_parts.specs.declared.event.Made.{Made}
+use Rattle.search_parts.specs.declared.event.Effect.{Effect}
 use Rattle.search_parts.proofs.AtRest.{at_rest}
 use Rattle.search_parts.proofs.Events.{no_other}
 
@@ -24,8 +24,8 @@ pub not_some : {A : Type 0} (o : Option A) → is_some o ≡ false → o ≡ Non
 not_some None h = refl
 not_some (Some x) h = absurd (cc h)
 
-pub untouched : (made : Made) (n m : ℕ) → n ≢ m → answer_due made.queue m ≡ None → ((g : Begun) → made.begun ≡ Some g → g.id ≢ m)
-    → (w : WithTables) (worker : Option ℕ) (s : Standing) (b : Called) (z : State Shared Walker) (e : Event) → IsAfter w worker made n s m b z e
+pub untouched : (made : Effect) (n m : ℕ) → n ≢ m → answer_due made.queue m ≡ None → ((g : Begun) → made.begun ≡ Some g → g.id ≢ m)
+    → (w : WithTables) (worker : Option ℕ) (s : RestingThread) (b : Called) (z : State Shared Walker) (e : Event) → IsAfter w worker made n s m b z e
     → RestsAt w b ((after_event (system_of b) z n e).threads m) s
 untouched made n m apart due others w worker s b z e after =
     let taken : Walker = (system_of b).takes (z.threads n) (reply_by z.shared n e) in

@@ -17,20 +17,20 @@ use Rattle.interp_trait.specs.Turns.{spawned_in}
 use Rattle.search_threads.specs.Unlimited.{Unlimited.Going}
 use Rattle.search_runs.specs.Called.{Called, Walker as Thread, system_of}
 use Rattle.search_runs.specs.Theorems.{CanReach}
-use Rattle.search_walkers.specs.Walkers.{IsOf, StandsFor}
+use Rattle.search_walkers.specs.Walkers.{IsOf, StandsForThread}
 use Rattle.search_walkers.specs.Rests.{RunsOn}
-use Rattle.search_walkers.specs.declared.walker.Standing.{Standing}
+use Rattle.search_walkers.specs.declared.walker.RestingThread.{RestingThread}
 use Rattle.search_parts.specs.Sharing.{Shares, Makes}
 use Rattle.search_parts.specs.declared.shared.Common.{Common}
-use Rattle.search_parts.specs.declared.event.Made.{Made}
+use Rattle.search_parts.specs.declared.event.Effect.{Effect}
 
 -- A thread that makes no turn of its own, and stands so.
-pub record IsRested (w : WithTables) (b : Called) (s : Standing) (v : Thread) : Type 0 where
-  pub stands : StandsFor w s v
+pub record IsRested (w : WithTables) (b : Called) (s : RestingThread) (v : Thread) : Type 0 where
+  pub stands : StandsForThread w s v
   pub rests : (system_of b).wants v ≡ Turns → ⊥
 
 -- Thread n of a state that a call of the module can reach.
-pub record IsThreadIn (w : WithTables) (opening : List ℕ) (c : Common) (s : Standing) (n : ℕ) (b : Called)
+pub record IsThreadIn (w : WithTables) (opening : List ℕ) (c : Common) (s : RestingThread) (n : ℕ) (b : Called)
     (z : systems.State Shared Thread) : Type 0 where
   pub of : IsOf b w
   pub reached : CanReach b z
@@ -38,7 +38,7 @@ pub record IsThreadIn (w : WithTables) (opening : List ℕ) (c : Common) (s : St
   pub rested : IsRested w b s (z.threads n)
 
 -- A spawned thread calls this function of the module with its number and the argument of its spawn.
-pub record IsWorker (m : Parts) (worker : List Value → Config) (own : ℕ) : Type 0 where
+pub record IsWorkerFunction (m : Parts) (worker : List Value → Config) (own : ℕ) : Type 0 where
   pub func_type : FuncType
   pub body : Body
   pub function : IsFunction m own func_type body
@@ -49,10 +49,10 @@ pub record IsWorker (m : Parts) (worker : List Value → Config) (own : ℕ) : T
 -- Where no function is known for that, nothing is said of spawned threads.
 abbrev pub AreWorkers : Parts → (List Value → Config) → Option ℕ → Type 0
 AreWorkers m worker None = Unit {0}
-AreWorkers m worker (Some own) = IsWorker m worker own
+AreWorkers m worker (Some own) = IsWorkerFunction m worker own
 
 -- Thread n of such a state made an event, and thread m stands so.
-pub record IsAfter (w : WithTables) (worker : Option ℕ) (made : Made) (n : ℕ) (s : Standing) (m : ℕ) (b : Called)
+pub record IsAfter (w : WithTables) (worker : Option ℕ) (made : Effect) (n : ℕ) (s : RestingThread) (m : ℕ) (b : Called)
     (z : systems.State Shared Thread) (e : Event) : Type 0 where
   pub of : IsOf b w
   pub workers : AreWorkers w.parts b.worker worker

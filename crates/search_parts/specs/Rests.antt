@@ -13,10 +13,10 @@ use Rattle.search_threads.specs.Unlimited.{Unlimited.Going}
 use Rattle.search_runs.specs.Called.{Called, Walker as Thread, system_of, reply_by}
 use Rattle.search_walkers.specs.Walkers.{IsOf, RestsAt}
 use Rattle.search_walkers.specs.Rests.{RunsOn}
-use Rattle.search_walkers.specs.declared.walker.Standing.{Standing}
+use Rattle.search_walkers.specs.declared.walker.RestingThread.{RestingThread}
 use Rattle.search_parts.specs.Parts.{AreWorkers, IsRested, IsAfter, IsLost}
 use Rattle.search_parts.specs.declared.event.Begun.{Begun}
-use Rattle.search_parts.specs.declared.event.Made.{Made}
+use Rattle.search_parts.specs.declared.event.Effect.{Effect}
 
 module _ (w : WithTables) where
   -- What is so of each thread that a spawn starts.
@@ -27,7 +27,7 @@ module _ (w : WithTables) where
   OfStarted worker begun so = (b : Called) → IsOf b w → AreWorkers w.parts b.worker worker
       → so b (Going (spawned_in b.worker begun.id begun.arg))
 
-  abbrev pub StartsAndRests : Option ℕ → Begun → Standing → Type 0
+  abbrev pub StartsAndRests : Option ℕ → Begun → RestingThread → Type 0
   StartsAndRests worker begun s = OfStarted worker begun (λ b v. RestsAt w b v s)
 
   abbrev pub StartsAndRunsOn : Option ℕ → Begun → Type 0
@@ -37,22 +37,22 @@ module _ (w : WithTables) where
   abbrev pub AwaitsAny : Called → Thread → Option Answer → Type 0
   AwaitsAny b v answer = (a : Answer) → answer ≡ Some a → (system_of b).wants v ≡ Awaits
 
-  abbrev pub CanBeTold : Standing → Option Answer → Type 0
+  abbrev pub CanBeTold : RestingThread → Option Answer → Type 0
   CanBeTold s answer = (b : Called) × (v : Thread) × IsOf b w × IsRested w b s v × AwaitsAny b v answer
 
-  abbrev pub OfTold : Standing → Option Answer → (Called → Thread → Type 0) → Type 0
+  abbrev pub OfTold : RestingThread → Option Answer → (Called → Thread → Type 0) → Type 0
   OfTold before answer so = (b : Called) (v : Thread) → IsOf b w → IsRested w b before v → AwaitsAny b v answer
       → so b (hears_any (system_of b) v answer)
 
-  abbrev pub IsToldAndRests : Standing → Option Answer → Standing → Type 0
+  abbrev pub IsToldAndRests : RestingThread → Option Answer → RestingThread → Type 0
   IsToldAndRests before answer s = OfTold before answer (λ b v. RestsAt w b v s)
 
-  abbrev pub IsToldAndRunsOn : Standing → Option Answer → Type 0
+  abbrev pub IsToldAndRunsOn : RestingThread → Option Answer → Type 0
   IsToldAndRunsOn before answer = OfTold before answer RunsOn
 
   -- Thread m stands so before an event of thread n: what is so of each once thread n has its reply, and of the state
   -- after the event.
-  module _ (worker : Option ℕ) (made : Made) (n : ℕ) (before : Standing) (m : ℕ) where
+  module _ (worker : Option ℕ) (made : Effect) (n : ℕ) (before : RestingThread) (m : ℕ) where
     abbrev pub IsSomewhereAfter : Type 0
     IsSomewhereAfter = (b : Called) × (z : State Shared Thread) × (e : Event) × IsAfter w worker made n before m b z e
 
@@ -60,7 +60,7 @@ module _ (w : WithTables) where
     OfReplied so = (b : Called) (z : State Shared Thread) (e : Event) → IsAfter w worker made n before m b z e
         → so b (put z.threads n ((system_of b).takes (z.threads n) (reply_by z.shared n e)) m)
 
-    abbrev pub IsRepliedAndRests : Standing → Type 0
+    abbrev pub IsRepliedAndRests : RestingThread → Type 0
     IsRepliedAndRests s = OfReplied (λ b v. RestsAt w b v s)
 
     abbrev pub IsRepliedAndRunsOn : Type 0
@@ -70,7 +70,7 @@ module _ (w : WithTables) where
     OfAfter so = (b : Called) (z : State Shared Thread) (e : Event) → IsAfter w worker made n before m b z e
         → so b (after_event (system_of b) z n e)
 
-    abbrev pub RestsThen : Standing → Type 0
+    abbrev pub RestsThen : RestingThread → Type 0
     RestsThen s = OfAfter (λ b z. RestsAt w b (z.threads m) s)
 
     abbrev pub IsLostThen : Type 0

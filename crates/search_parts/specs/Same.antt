@@ -8,8 +8,8 @@ use Rattle.search_memory.specs.Memories.{memory_of}
 use Rattle.search_memory.specs.declared.beside.Changes.{Changes}
 use Rattle.search_memory.specs.contracts.beside.ChangesPartialEq.TheImpl as memories
 use Rattle.search_runs.specs.Called.{Walker}
-use Rattle.search_walkers.specs.Walkers.{StandsFor}
-use Rattle.search_walkers.specs.declared.walker.Standing.{Standing}
+use Rattle.search_walkers.specs.Walkers.{StandsForThread}
+use Rattle.search_walkers.specs.declared.walker.RestingThread.{RestingThread}
 use Rattle.search_walkers.specs.contracts.walker.StandingPartialEq.TheImpl as standings
 
 abbrev pub EqualMemoriesAreTheSame : Type 0
@@ -21,4 +21,4 @@ EqualQueuesAreTheSame = (x y : KeptQueue) → queues.eq-value.it x y ≡ true �
 
 abbrev pub EqualStandingsAreTheSame : Type 0
 EqualStandingsAreTheSame =
-    (w : WithTables) (x y : Standing) (v : Walker) → standings.eq-value.it x y ≡ true → StandsFor w x v → StandsFor w y v
+    (w : WithTables) (x y : RestingThread) (v : Walker) → standings.eq-value.it x y ≡ true → StandsForThread w x v → StandsForThread w y v

@@ -12,7 +12,7 @@ use Rattle.waiters.specs.Kept.{queue_of}
 use Rattle.search_memory.specs.Memories.{memory_of}
 use Rattle.search_parts.specs.declared.shared.Common.{Common}
 use Rattle.search_parts.specs.declared.event.Begun.{Begun}
-use Rattle.search_parts.specs.declared.event.Made.{Made}
+use Rattle.search_parts.specs.declared.event.Effect.{Effect}
 
 -- It is this memory and this queue.
 pub record Shares (opening : List ℕ) (c : Common) (x : Shared) : Type 0 where
@@ -36,7 +36,7 @@ begun_in q (events.Ask (questions.Spawn arg)) =
 begun_in q _ = None
 
 -- What an event makes: its reply, the queue with the answers that are due then, and the thread that it starts.
-pub record Makes (made : Made) (x : Shared) (n : ℕ) (e : Event) : Type 0 where
+pub record Makes (made : Effect) (x : Shared) (n : ℕ) (e : Event) : Type 0 where
   pub reply : made.reply ≡ reply_of x.memory e
   pub queue : made.queue ≡ queue_by x n e
   pub begun : made.begun ≡ begun_in x.queue e

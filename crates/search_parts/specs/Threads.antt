@@ -13,14 +13,14 @@ use Rattle.search_settled.specs.declared.flat.Flat.{Flat}
 use Rattle.search_settled.specs.Threads.{ThreadSystem}
 use Rattle.search_settled.specs.Next.{IsSomewhere, HasEnded}
 use Rattle.search_settled.specs.Flat.{IsEventOf}
-use Rattle.search_walkers.specs.declared.walker.Standing.{Standing}
+use Rattle.search_walkers.specs.declared.walker.RestingThread.{RestingThread}
 use Rattle.search_parts.specs.Sharing.{Shares, Makes, started_in}
 use Rattle.search_parts.specs.Parts.{IsRested, IsThreadIn}
-use Rattle.search_parts.specs.declared.event.Made.{Made}
+use Rattle.search_parts.specs.declared.event.Effect.{Effect}
 use Rattle.search_parts.specs.declared.shared.Common.{Common}
-use Rattle.search_parts.specs.declared.shared.Walker.{Walker}
+use Rattle.search_parts.specs.declared.shared.HashedThread.{HashedThread}
 
-abbrev pub threads_of : WithTables → Called → List ℕ → ThreadSystem Shared Thread Event Reply Answer Common Walker Made
+abbrev pub threads_of : WithTables → Called → List ℕ → ThreadSystem Shared Thread Event Reply Answer Common HashedThread Effect
 threads_of w b opening = record {
   system = system_of b;
   first = first_state b;
@@ -32,17 +32,17 @@ threads_of w b opening = record {
 }
 
 -- Thread n stands so in a state of a call, and this is the event that it wants.
-abbrev pub IsInCall : WithTables → List ℕ → Common → Standing → ℕ → Type 0
+abbrev pub IsInCall : WithTables → List ℕ → Common → RestingThread → ℕ → Type 0
 IsInCall w opening c s n = (b : Called) × (z : State Shared Thread) × IsThreadIn w opening c s n b z
 
-abbrev pub IsEventIn : WithTables → List ℕ → Common → Standing → ℕ → Option (Common × Made) → Type 0
+abbrev pub IsEventIn : WithTables → List ℕ → Common → RestingThread → ℕ → Option (Common × Effect) → Type 0
 IsEventIn w opening c s n o = (b : Called) (z : State Shared Thread) → IsThreadIn w opening c s n b z
     → IsEventOf (threads_of w b opening) z n o
 
 -- A settled state of a call, and how it has ended.
-abbrev pub IsSettled : List ℕ → Flat Common Walker → Type 0
+abbrev pub IsSettled : List ℕ → Flat Common HashedThread → Type 0
 IsSettled opening flat = (w : WithTables) × (b : Called) × IsSomewhere (threads_of w b opening) flat
 
-abbrev pub HasEndedIn : List ℕ → ℕ → Flat Common Walker → Option Ending → Type 0
+abbrev pub HasEndedIn : List ℕ → ℕ → Flat Common HashedThread → Option Ending → Type 0
 HasEndedIn opening dump flat o = (w : WithTables) (b : Called)
     → HasEnded (threads_of w b opening) (HasEndedSo dump) flat o

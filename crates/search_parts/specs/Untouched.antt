@@ -8,17 +8,17 @@ use Rattle.schedule.specs.Scheduled.{after_event}
 use Rattle.schedule_threads.specs.Shared.{Shared}
 use Rattle.search_runs.specs.Called.{Called, Walker as Thread, system_of}
 use Rattle.search_walkers.specs.Walkers.{RestsAt}
-use Rattle.search_walkers.specs.declared.walker.Standing.{Standing}
+use Rattle.search_walkers.specs.declared.walker.RestingThread.{RestingThread}
 use Rattle.search_parts.specs.Parts.{IsAfter}
 use Rattle.search_parts.specs.declared.event.Begun.{Begun}
-use Rattle.search_parts.specs.declared.event.Made.{Made}
+use Rattle.search_parts.specs.declared.event.Effect.{Effect}
 
 -- Thread m stands after an event of thread n as it did before.
-abbrev pub StandsAsBefore : Made → ℕ → ℕ → Type 0
+abbrev pub StandsAsBefore : Effect → ℕ → ℕ → Type 0
 StandsAsBefore made n m =
-    (w : WithTables) (worker : Option ℕ) (s : Standing) (b : Called) (z : State Shared Thread) (e : Event)
+    (w : WithTables) (worker : Option ℕ) (s : RestingThread) (b : Called) (z : State Shared Thread) (e : Event)
     → IsAfter w worker made n s m b z e → RestsAt w b ((after_event (system_of b) z n e).threads m) s
 
 -- Thread m made the event of thread n, or an answer is due to it then, or the event starts it.
-abbrev pub IsTouched : Made → ℕ → ℕ → Type 0
+abbrev pub IsTouched : Effect → ℕ → ℕ → Type 0
 IsTouched made n m = (n ≡ m) ⊎ ((answer_due made.queue m ≢ None) ⊎ ((g : Begun) × (made.begun ≡ Some g) × (g.id ≡ m)))

@@ -3,7 +3,7 @@
 use interp::Kept;
 use interp_state::{Progress, word};
 use search_memory::Changes;
-use search_walkers::Standing;
+use search_walkers::RestingThread;
 use types::{Outcome, Stop, Value};
 use waiters::KeptQueue;
 
@@ -62,13 +62,13 @@ fn of_outcome(kind: u64, outcome: Outcome) -> u64 {
 }
 
 /// Of a thread at rest.
-pub(crate) fn of_standing(standing: &Standing) -> u64 {
+pub(crate) fn of_standing(standing: &RestingThread) -> u64 {
     match standing {
-        Standing::Missing => 0,
-        Standing::Going(kept) => of_kept(kept),
-        Standing::Ended(outcome) => of_outcome(2, *outcome),
-        Standing::Leaving(outcome) => of_outcome(3, *outcome),
-        Standing::Away(outcome) => of_outcome(4, *outcome),
+        RestingThread::Missing => 0,
+        RestingThread::Going(kept) => of_kept(kept),
+        RestingThread::Ended(outcome) => of_outcome(2, *outcome),
+        RestingThread::Leaving(outcome) => of_outcome(3, *outcome),
+        RestingThread::Away(outcome) => of_outcome(4, *outcome),
     }
 }
 

@@ -8,7 +8,7 @@ use crate::shared::Common;
 use crate::shared_walker::SharedWalker;
 use search_memory::memory;
 use search_settled::Flat;
-use search_walkers::Standing;
+use search_walkers::RestingThread;
 use std::alloc::{AllocError, Global};
 use std::hash::{Hash, Hasher};
 use std::marker::Model;
@@ -96,10 +96,10 @@ pub fn equal_endings_are_the_same()
 {}
 
 /// The outcome of a thread that has left.
-fn outcome_away(standing: &Standing) -> Option<Outcome>
+fn outcome_away(standing: &RestingThread) -> Option<Outcome>
     ensures { result ≡ outcome_away standing.now }
 {
-    if let Standing::Away(outcome) = standing {
+    if let RestingThread::Away(outcome) = standing {
         Some(*outcome)
     } else {
         None

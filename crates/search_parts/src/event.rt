@@ -23,7 +23,7 @@ pub struct Begun {
 /// What an event makes of threads: the reply, the queue with the answers that are due then, and the thread that it
 /// starts.
 #[derive(Drop)]
-pub struct Made {
+pub struct Effect {
     pub reply: Reply,
     pub queue: Queue,
     pub begun: Option<Begun>,

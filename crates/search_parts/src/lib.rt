@@ -17,13 +17,13 @@ mod stepping;
 mod untouched;
 
 pub use ended::{Ending, ending_of, equal_endings_are_the_same};
-pub use event::{Begun, Made};
+pub use event::{Begun, Effect};
 pub use opening::{first_common, first_threads};
 pub use resting::rest_after;
 pub use same::{
     equal_memories_are_the_same, equal_queues_are_the_same, equal_standings_are_the_same,
 };
-pub use shared::{Common, Walker};
+pub use shared::{Common, HashedThread};
 pub use shared_walker::SharedWalker;
 pub use stepping::make_event;
 pub use untouched::is_untouched;

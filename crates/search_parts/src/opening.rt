@@ -3,12 +3,12 @@
 ghost use Rattle.std.specs.Prelude.{◌≡◌, [], ◌∷◌, IfOk};
 ghost use Rattle.shared_memory_sequential.specs.Opening.{IsSized};
 ghost use Rattle.search_parts.specs.Sharing.{SharesFirst};
-ghost use Rattle.search_parts.specs.declared.shared.Walker.{Walker};
+ghost use Rattle.search_parts.specs.declared.shared.HashedThread.{HashedThread};
 
 use crate::shared::Common;
 use crate::shared_walker::SharedWalker;
 use search_memory::Changes;
-use search_walkers::Standing;
+use search_walkers::RestingThread;
 use std::alloc::{AllocError, Global};
 use types::MOST_THREADS;
 use waiters::Queue;
@@ -17,8 +17,8 @@ use waiters::Queue;
 ///
 /// # Errors
 /// Where memory is refused.
-pub fn first_threads(alloc: Global, main: Standing) -> Result<Vec<SharedWalker>, AllocError>
-    ensures { IfOk result (λ v. (t : Walker) × (v.items ≡ t ∷ []) × (t.standing ≡ main)) }
+pub fn first_threads(alloc: Global, main: RestingThread) -> Result<Vec<SharedWalker>, AllocError>
+    ensures { IfOk result (λ v. (t : HashedThread) × (v.items ≡ t ∷ []) × (t.standing ≡ main)) }
 {
     let mut threads = Vec::with_capacity(alloc, 1)?;
     threads.push(SharedWalker::new(alloc, main)?)?;

@@ -16,8 +16,8 @@ ghost use Rattle.search_parts.specs.Rests.{
   IsLostThen,
 };
 
-use crate::event::{Begun, Made};
-use search_walkers::{Standing, begin, hear, take};
+use crate::event::{Begun, Effect};
+use search_walkers::{RestingThread, begin, hear, take};
 use std::alloc::{AllocError, Global};
 use types::{Answer, Value};
 use validate_module::ValidModule;
@@ -29,7 +29,7 @@ fn started(
     valid: &ValidModule,
     worker: Option<usize>,
     begun: Begun,
-) -> Result<Option<Standing>, AllocError>
+) -> Result<Option<RestingThread>, AllocError>
     requires { CanStart valid.now worker }
     ensures rests { IfOk result (λ o. IfSome o (StartsAndRests valid.now worker begun)) }
     ensures gives_up { IfOk result (λ o. o ≡ None → StartsAndRunsOn valid.now worker begun) }
@@ -49,9 +49,9 @@ fn started(
 fn told(
     alloc: Global,
     valid: &ValidModule,
-    standing: Standing,
+    standing: RestingThread,
     answer: Option<Answer>,
-) -> Result<Option<Standing>, AllocError>
+) -> Result<Option<RestingThread>, AllocError>
     requires { CanBeTold valid.now standing answer }
     ensures rests { IfOk result (λ o. IfSome o (IsToldAndRests valid.now standing answer)) }
     ensures gives_up { IfOk result (λ o. o ≡ None → IsToldAndRunsOn valid.now standing answer) }
@@ -71,11 +71,11 @@ fn replied(
     alloc: Global,
     valid: &ValidModule,
     worker: Option<usize>,
-    made: &Made,
+    made: &Effect,
     n: usize,
-    standing: &Standing,
+    standing: &RestingThread,
     m: usize,
-) -> Result<Option<Standing>, AllocError>
+) -> Result<Option<RestingThread>, AllocError>
     requires { IsSomewhereAfter valid.now worker made.now n standing.now m }
     ensures rests { IfOk result (λ o. IfSome o (IsRepliedAndRests valid.now worker made.now n standing.now m)) }
     ensures gives_up { IfOk result (λ o. o ≡ None → IsRepliedAndRunsOn valid.now worker made.now n standing.now m) }
@@ -98,11 +98,11 @@ pub fn rest_after(
     alloc: Global,
     valid: &ValidModule,
     worker: Option<usize>,
-    made: &Made,
+    made: &Effect,
     n: usize,
-    standing: &Standing,
+    standing: &RestingThread,
     m: usize,
-) -> Result<Option<Standing>, AllocError>
+) -> Result<Option<RestingThread>, AllocError>
     requires after { IsSomewhereAfter valid.now worker made.now n standing.now m }
     requires few { m < MOST_THREADS }
     ensures rests { IfOk result (λ o. IfSome o (RestsThen valid.now worker made.now n standing.now m)) }

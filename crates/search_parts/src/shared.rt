@@ -6,7 +6,7 @@ ghost use Rattle.std.proofs.Common.{rules};
 
 use crate::digest::{of_shared, of_standing};
 use search_memory::Changes;
-use search_walkers::Standing;
+use search_walkers::RestingThread;
 use std::hash::{Hash, Hasher};
 use waiters::KeptQueue;
 
@@ -54,25 +54,25 @@ impl Hash for Common {
 
 /// A thread at rest. The digest alone is hashed; all is compared.
 #[derive(PartialEq, Eq, Drop)]
-pub struct Walker {
+pub struct HashedThread {
     pub digest: u64,
-    pub standing: Standing,
+    pub standing: RestingThread,
 }
 
-impl Walker {
+impl HashedThread {
     ghost use Rattle.std.specs.Prelude.{◌≡◌};
 
-    pub fn new(standing: Standing) -> Walker
+    pub fn new(standing: RestingThread) -> HashedThread
         ensures { result.standing ≡ standing }
     {
-        Walker {
+        HashedThread {
             digest: of_standing(&standing),
             standing,
         }
     }
 }
 
-impl Hash for Walker {
+impl Hash for HashedThread {
     ghost hash_input = { λ a. fed.u64 a.digest };
 
     ghost respects_eq = { Prim.search (hashing, rules) };

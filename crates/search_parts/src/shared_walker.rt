@@ -2,8 +2,8 @@
 
 ghost use Rattle.std.specs.Prelude.{◌≡◌, IfOk};
 
-use crate::shared::Walker;
-use search_walkers::Standing;
+use crate::shared::HashedThread;
+use search_walkers::RestingThread;
 use std::alloc::{AllocError, Global};
 use std::hash::{Hash, Hasher};
 use std::marker::Model;
@@ -12,13 +12,13 @@ use std::rc::Rc;
 /// A thread at rest, kept once for all states to which nothing happened to it from one to the next.
 #[derive(Drop)]
 pub struct SharedWalker {
-    walker: Rc<Walker, Global>,
+    walker: Rc<HashedThread, Global>,
 }
 
 impl Model for SharedWalker {
-    ghost use Rattle.search_parts.specs.declared.shared.Walker as walkers;
+    ghost use Rattle.search_parts.specs.declared.shared.HashedThread as walkers;
 
-    ghost Value = { walkers.Walker };
+    ghost Value = { walkers.HashedThread };
 
     ghost view = { λ s. s.walker.value };
 }
@@ -28,10 +28,10 @@ impl SharedWalker {
     ///
     /// # Errors
     /// Where memory is refused.
-    pub fn new(alloc: Global, standing: Standing) -> Result<SharedWalker, AllocError>
+    pub fn new(alloc: Global, standing: RestingThread) -> Result<SharedWalker, AllocError>
         ensures { IfOk result (λ t. t.standing ≡ standing) }
     {
-        let walker = Rc::new(alloc, Walker::new(standing))?;
+        let walker = Rc::new(alloc, HashedThread::new(standing))?;
         Ok(SharedWalker { walker })
     }
 
@@ -47,7 +47,7 @@ impl SharedWalker {
     }
 
     /// The thread itself.
-    pub fn walker(&self) -> &Walker
+    pub fn walker(&self) -> &HashedThread
         ensures { result.now ≡ self.now }
     {
         self.walker.as_ref()

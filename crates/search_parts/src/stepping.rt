@@ -3,8 +3,8 @@
 ghost use Rattle.std.specs.Prelude.{IfOk};
 ghost use Rattle.search_parts.specs.Threads.{IsInCall, IsEventIn};
 
-use crate::event::{Made, enter, thread_begun};
-use crate::shared::{Common, Walker};
+use crate::event::{Effect, enter, thread_begun};
+use crate::shared::{Common, HashedThread};
 use search_memory::step;
 use search_walkers::wanted;
 use std::alloc::{AllocError, Global};
@@ -20,9 +20,9 @@ pub fn make_event(
     valid: &ValidModule,
     opening: &[u8],
     shared: &Common,
-    thread: &Walker,
+    thread: &HashedThread,
     n: usize,
-) -> Result<Option<(Common, Made)>, AllocError>
+) -> Result<Option<(Common, Effect)>, AllocError>
     requires { IsInCall valid.now opening.now shared.now thread.now.standing n }
     ensures { IfOk result (IsEventIn valid.now opening.now shared.now thread.now.standing n) }
 {
@@ -36,7 +36,7 @@ pub fn make_event(
     let after = Common::new(memory, queue.keep(alloc)?);
     Ok(Some((
         after,
-        Made {
+        Effect {
             reply,
             queue,
             begun,

@@ -1,11 +1,11 @@
 //! Ways from the first state, by what was noted of each.
 ghost use Rattle.std.specs.Prelude.{◌≡◌, IfOk, length, vec_len};
 
-use crate::Step;
+use crate::WayIn;
 use std::alloc::{AllocError, Global};
 
 /// The choices by which the state of this index was met, the first one first.
-fn path_to(alloc: Global, from: &[Step], state: usize) -> Result<Vec<usize>, AllocError> {
+fn path_to(alloc: Global, from: &[WayIn], state: usize) -> Result<Vec<usize>, AllocError> {
     let mut path = Vec::new(alloc);
     let mut at = state;
     while let Some(step) = from.get(at) {
@@ -22,7 +22,7 @@ fn path_to(alloc: Global, from: &[Step], state: usize) -> Result<Vec<usize>, All
 /// The same of some states.
 pub(crate) fn paths_to(
     alloc: Global,
-    from: &[Step],
+    from: &[WayIn],
     states: &[usize],
 ) -> Result<Vec<Vec<usize>>, AllocError>
     ensures { IfOk result (λ paths. vec_len paths ≡ length states.now) }

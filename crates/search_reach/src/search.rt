@@ -24,7 +24,7 @@ pub enum Verdict {
 
 /// How a state was met first: from the state of which index, and which of its next ones it was.
 #[derive(Clone, Copy, PartialEq, Eq)]
-pub struct Step {
+pub struct WayIn {
     pub state: usize,
     pub choice: usize,
 }
@@ -36,7 +36,7 @@ pub struct Found<S: Eq + Hash> {
     pub met: IndexSet<S>,
     /// For each how it was met first; for the first one two zeros. No clause says so: it is a hint at a path, to be
     /// judged by whoever follows it.
-    pub from: Vec<Step>,
+    pub from: Vec<WayIn>,
     /// Whether these are all.
     pub verdict: Verdict,
 }
@@ -44,7 +44,7 @@ pub struct Found<S: Eq + Hash> {
 /// Adds the next states of the one of this index, and notes of each that is new how it was met.
 fn add_all<S: Eq + Hash + Drop>(
     met: &mut IndexSet<S>,
-    from: &mut Vec<Step>,
+    from: &mut Vec<WayIn>,
     at: usize,
     after: Vec<S>,
 ) -> Result<(), AllocError>
@@ -56,7 +56,7 @@ fn add_all<S: Eq + Hash + Drop>(
     for state in after {
         let is_new = met.insert(state)?;
         if is_new {
-            from.push(Step { state: at, choice })?;
+            from.push(WayIn { state: at, choice })?;
         }
         choice = choice.saturating_add(1);
     }
@@ -71,7 +71,7 @@ fn explore<T: Explores, F: Follows>(
     most: usize,
     follower: &mut F,
     met: &mut IndexSet<T::State>,
-    from: &mut Vec<Step>,
+    from: &mut Vec<WayIn>,
 ) -> Result<Verdict, AllocError>
     requires explored { Explored (T.system system.now) met.old.keys 0 }
     requires from { vec_len from.old ≡ index_set_len met.old }
@@ -102,7 +102,7 @@ fn explore_from_first<T: Explores, F: Follows>(
     most: usize,
     follower: &mut F,
     met: &mut IndexSet<T::State>,
-    from: &mut Vec<Step>,
+    from: &mut Vec<WayIn>,
 ) -> Result<Verdict, AllocError>
     requires met { met.old.keys ≡ [] }
     requires from { vec_len from.old ≡ 0 }
@@ -113,7 +113,7 @@ fn explore_from_first<T: Explores, F: Follows>(
         return Ok(Verdict::CannotTell);
     };
     met.insert(first)?;
-    from.push(Step {
+    from.push(WayIn {
         state: 0,
         choice: 0,
     })?;

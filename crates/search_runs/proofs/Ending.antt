@@ -38,7 +38,7 @@ use Rattle.search_threads.proofs.Unmetering.{places_same}
 use Rattle.search_runs.specs.Called.{Called, Walker, with_fuel, system_of, first_state, first_shared, first_threads}
 use Rattle.search_runs.specs.Called.{reply_by, shared_by, answer_by, begun_by}
 use Rattle.search_runs.specs.Ends.{Ending, HasEndedSo}
-use Rattle.search_runs.specs.Theorems.{EveryRunEndsSo, IsEndingOf, CanReach}
+use Rattle.search_runs.specs.Theorems.{EveryRunEndsSo, IsEndingAlong, CanReach}
 use Rattle.search_runs.proofs.Same.{budgeted, budgeted_first, system_same, first_state_same}
 use Rattle.search_runs.proofs.Tame.{reached_by, missing}
 
@@ -58,7 +58,7 @@ module _ (b : Called) (fuel : ℕ) where
   shared_same (h ∷ H) x = shared_step x h.thread h.act H (λ y. shared_same H y)
 
   module _ (loses : Bool) (limit : Option ℕ) (H : List entries.Entry) (outcomes_of : ℕ → Outcome) (lefts : ℕ → ℕ)
-      (together : RanTogether start loses limit H outcomes_of lefts) (dump : ℕ) (e : Ending) (ending : IsEndingOf b dump H outcomes_of e) where
+      (together : RanTogether start loses limit H outcomes_of lefts) (dump : ℕ) (e : Ending) (ending : IsEndingAlong b dump H outcomes_of e) where
     legal : IsStarted b.opening H
     legal = record {
       memory = together.memory;

@@ -29,7 +29,7 @@ CanReach b w = IsReached (system_of b) (first_state b) w
 
 -- The outcomes are those of thread 0 and of the threads that were spawned in the history, and none is a stop for want
 -- of units or for a full log; pages and first bytes are those of the memory after it.
-pub record IsEndingOf (b : Called) (dump : ℕ) (H : List entries.Entry) (outcomes_of : ℕ
+pub record IsEndingAlong (b : Called) (dump : ℕ) (H : List entries.Entry) (outcomes_of : ℕ
     → Outcome) (e : Ending) : Type 0 where
   pub count : length e.outcomes ≡ length (WaitQueue.args (queue_after H)) + 1
   pub are : (m : ℕ) (o : Outcome) → slice_get e.outcomes m ≡ Some o → o ≡ outcomes_of m
@@ -45,7 +45,7 @@ EveryRunEndsSo =
     (b : Called) (fuel : ℕ) (loses : Bool) (limit : Option ℕ) (H : List entries.Entry) (outcomes_of : ℕ
     → Outcome) (lefts : ℕ → ℕ)
     → RanTogether (with_fuel b fuel) loses limit H outcomes_of lefts
-    → (dump : ℕ) (e : Ending) → IsEndingOf b dump H outcomes_of e
+    → (dump : ℕ) (e : Ending) → IsEndingAlong b dump H outcomes_of e
     → (w : systems.State Shared Walker) × CanReach b w × HasEndedSo dump w e
 
 -- What threads without budgets come to, the scheduled machine comes to along some turns, with some budget.

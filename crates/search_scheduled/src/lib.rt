@@ -26,5 +26,5 @@ mod threads;
 
 pub use course::{Course, CourseFault};
 pub use fault::SearchFault;
-pub use running::{Made, run_along, run_with_spares};
+pub use running::{MadeRun, run_along, run_with_spares};
 pub use threads::Spares;

@@ -23,7 +23,7 @@ use validate_module::ValidModule;
 
 /// A run that was made: its record, and what it left.
 #[derive(Drop)]
-pub struct Made {
+pub struct MadeRun {
     pub record: Record,
     pub end: EndState,
 }
@@ -82,7 +82,7 @@ pub fn run_along<S: Strategy>(
     call: Call,
     limit: u32,
     strategy: &mut S,
-) -> Result<Made, SearchFault>
+) -> Result<MadeRun, SearchFault>
     ensures call { IfOk result (λ made. RecordsCall «module».now.parts call.entry limit made.record) }
     ensures run { IfOk result (λ made. IsRunOf «module».now.parts made.record made.end) }
     ensures fault { IfErr result (IsFaultOfCall «module».now.parts call.entry) }
@@ -129,7 +129,7 @@ pub fn run_with_spares<'m, S: Strategy>(
     limit: u32,
     strategy: &mut S,
     spares: &mut Spares<'m>,
-) -> Result<Made, SearchFault>
+) -> Result<MadeRun, SearchFault>
     requires spares { HoldsSpares «module».now.parts call.fuel spares.old }
     ensures call { IfOk result (λ made. RecordsCall «module».now.parts call.entry limit made.record) }
     ensures run { IfOk result (λ made. IsRunOf «module».now.parts made.record made.end) }
@@ -143,7 +143,7 @@ pub fn run_with_spares<'m, S: Strategy>(
     let Concluded { parts, end, unused } = conclude(alloc, course, header)?;
     spares.take_back(module, unused)?;
     match Record::new(parts) {
-        Ok(record) => Ok(Made { record, end }),
+        Ok(record) => Ok(MadeRun { record, end }),
         Err(_) => Err(SearchFault::NoEnd),
     }
 }

@@ -9,8 +9,8 @@ use Rattle.search_reach.proofs.Paths.{stays, one_step, onward}
 use Rattle.search_settled.specs.Settled.{ComesToRest, StepsBy, IsReached, AreTame}
 use Rattle.search_settled.specs.declared.flat.Flat.{Flat}
 use Rattle.search_settled.specs.Threads.{ThreadSystem}
-use Rattle.search_settled.specs.Next.{StandsFor, IsBeginning, IsAt, IsSomewhere, IsStuckAfter, HasNext, HasEnded, NobodyTurns}
-use Rattle.search_settled.specs.Turns.{turns_of}
+use Rattle.search_settled.specs.Next.{StandsForState, IsBeginning, IsAt, IsSomewhere, IsStuckAfter, HasNext, HasEnded, NobodyTurns}
+use Rattle.search_settled.specs.Turns.{turn_steps}
 use Rattle.search_settled.proofs.Resting.{resting_same}
 use Rattle.search_settled.proofs.Reaching.{to_rest, by_event}
 use Rattle.search_settled.proofs.Stepping.{LeadsOn, by_turn}
@@ -26,10 +26,10 @@ where-none P Q f r h = IfOk-weaker r (λ o. o ≡ None → P) (λ o. o ≡ None 
 
 module _ {X T E V A G H M O : Type 0} (k : ThreadSystem X T E V A G H M) (ends : State X T → O → Type 0) (stuck : State X T → Type 0) where
   abbrev Turns : StepSystem (Flat G H) (State X T) O
-  Turns = turns_of k ends stuck
+  Turns = turn_steps k ends stuck
 
   abbrev Stands : Flat G H → State X T → Type 0
-  Stands = StandsFor k
+  Stands = StandsForState k
 
   pub first-is : (c : Flat G H) → IsBeginning k c → IsFirst Turns c
   first-is c b = record {
@@ -119,6 +119,6 @@ module _ {X T E V A G H M O : Type 0} (k : ThreadSystem X T E V A G H M) (ends :
 -- The same of what a call answers.
 module _ {X T E V A G H M O F : Type 0} (k : ThreadSystem X T E V A G H M) (ends : State X T → O → Type 0) (stuck : State X T → Type 0) where
   pub first-answer : (r : Result (Option (Flat G H)) F) → IfOk r (λ o. IfSome o (IsBeginning k))
-      → IfOk r (λ o. IfSome o (IsFirst (turns_of k ends stuck)))
-  first-answer r h = IfOk-weaker r (λ o. IfSome o (IsBeginning k)) (λ o. IfSome o (IsFirst (turns_of k ends stuck)))
-      (if-some (IsBeginning k) (IsFirst (turns_of k ends stuck)) (first-is k ends stuck)) h
+      → IfOk r (λ o. IfSome o (IsFirst (turn_steps k ends stuck)))
+  first-answer r h = IfOk-weaker r (λ o. IfSome o (IsBeginning k)) (λ o. IfSome o (IsFirst (turn_steps k ends stuck)))
+      (if-some (IsBeginning k) (IsFirst (turn_steps k ends stuck)) (first-is k ends stuck)) h

@@ -50,8 +50,8 @@ module _ {X T E V A G H M : Type 0} (k : ThreadSystem X T E V A G H M) where
       (z : State X T) (e : E) → IsMadeBy made z n e → k.is_thread before (z.threads m) → RestsAfter z n e m after
 
   -- There is such an event.
-  abbrev pub StandsSomewhere : M → ℕ → H → ℕ → Type 0
-  StandsSomewhere made n before m = (z : State X T) × (e : E) × IsMadeBy made z n e × k.is_thread before (z.threads m)
+  abbrev pub IsBeforeSome : M → ℕ → H → ℕ → Type 0
+  IsBeforeSome made n before m = (z : State X T) × (e : E) × IsMadeBy made z n e × k.is_thread before (z.threads m)
 
   -- Nothing can be told after it.
   abbrev pub IsStuckBy : (State X T → Type 0) → M → ℕ → H → ℕ → Type 0

@@ -8,7 +8,7 @@ use Rattle.search_settled.specs.Threads.{ThreadSystem, IsFlat}
 
 module _ {X T E V A G H M : Type 0} (k : ThreadSystem X T E V A G H M) where
   -- It stands for each state that can be reached and comes to rest in one that it is.
-  pub record StandsFor (c : Flat G H) (w : State X T) : Type 0 where
+  pub record StandsForState (c : Flat G H) (w : State X T) : Type 0 where
     pub reached : IsReached k.system k.first w
     pub settled : State X T
     pub rest : ComesToRest k.system w settled

@@ -7,7 +7,7 @@ use Rattle.std.specs.List.{slice_get}
 use Rattle.schedule.specs.System.{State}
 use Rattle.search_settled.specs.declared.flat.Flat.{Flat}
 use Rattle.search_settled.specs.Threads.{ThreadSystem, IsFlat}
-use Rattle.search_settled.specs.Next.{StandsFor}
+use Rattle.search_settled.specs.Next.{StandsForState}
 
 module _ {H : Type 0} (eq : H → H → Bool) where
   same_length : (xs ys : List H) → pointwise eq xs ys ≡ true → length xs ≡ length ys
@@ -46,6 +46,6 @@ flat_alike eq_shared eq_thread k same_shared same_thread x y e z is =
 
 -- What is the same settled state stands for the same.
 pub stands_alike : {X T E V A G H M : Type 0} (k : ThreadSystem X T E V A G H M) (x y : Flat G H)
-    → ((z : State X T) → IsFlat k x z → IsFlat k y z) → (w : State X T) → StandsFor k x w → StandsFor k y w
+    → ((z : State X T) → IsFlat k x z → IsFlat k y z) → (w : State X T) → StandsForState k x w → StandsForState k y w
 stands_alike k x y same w st =
     record { reached = st.reached; settled = st.settled; rest = st.rest; settled_is = same st.settled st.settled_is }

@@ -3,17 +3,23 @@ use Rattle.schedule.specs.System.{State}
 use Rattle.search_reach.specs.Search.{StepSystem}
 use Rattle.search_settled.specs.Settled.{StepsBy}
 use Rattle.search_settled.specs.Threads.{ThreadSystem}
-use Rattle.search_settled.specs.Next.{StandsFor, IsFirstOf}
+use Rattle.search_settled.specs.Next.{StandsForState, IsFirstOf}
 use Rattle.search_settled.specs.declared.flat.Flat.{Flat}
 use Rattle.search_settled.specs.declared.moves.Moves.{Ghosts}
 
 -- A settled state stands for the states that come to rest in it; a step is a turn of one thread.
-abbrev pub turns_of : {X T E V A G H M O : Type 0} → ThreadSystem X T E V A G H M → (State X T → O → Type 0)
+abbrev pub turn_steps : {X T E V A G H M O : Type 0} → ThreadSystem X T E V A G H M → (State X T → O → Type 0)
     → (State X T → Type 0)
     → StepSystem (Flat G H) (State X T) O
-turns_of k ends stuck =
-    record { stands = StandsFor k; begins = IsFirstOf k.first; steps = StepsBy k.system; ends = ends; stuck = stuck }
+turn_steps k ends stuck =
+    record {
+      stands = StandsForState k;
+      begins = IsFirstOf k.first;
+      steps = StepsBy k.system;
+      ends = ends;
+      stuck = stuck;
+    }
 
 -- It is what the members of the trait say.
 abbrev pub turns : {Self G H M O : Type 0} → (m : Ghosts Self G H M O) → Self → StepSystem (Flat G H) (State m.X m.T) O
-turns m system = turns_of (m.threads system) (m.ends system) (m.stuck system)
+turns m system = turn_steps (m.threads system) (m.ends system) (m.stuck system)

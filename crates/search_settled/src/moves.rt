@@ -8,7 +8,7 @@ ghost use Rattle.search_settled.specs.Flat.{
   AreBounded,
   IsThreadOf,
   IsEventAt,
-  StandsSomewhere,
+  IsBeforeSome,
   ComesAfter,
   IsStuckBy,
   StartsSomewhere,
@@ -29,7 +29,7 @@ pub trait Moves {
     type Thread: Eq + Hash + Drop;
 
     /// What an event makes of the threads.
-    type Made: Drop;
+    type Effect: Drop;
 
     /// How threads have ended.
     type Ending: Eq + Hash + Drop;
@@ -46,7 +46,7 @@ pub trait Moves {
     ghost A: { Type 0 };
 
     /// The system, and what stands for its states.
-    ghost threads: { Self → ThreadSystem X T E V A Self.Shared Self.Thread Self.Made };
+    ghost threads: { Self → ThreadSystem X T E V A Self.Shared Self.Thread Self.Effect };
 
     /// How a state has ended.
     ghost ends: { Self → State X T → Self.Ending → Type 0 };
@@ -70,7 +70,7 @@ pub trait Moves {
         shared: &Self::Shared,
         thread: &Self::Thread,
         n: usize,
-    ) -> Result<Option<(Self::Shared, Self::Made)>, AllocError>
+    ) -> Result<Option<(Self::Shared, Self::Effect)>, AllocError>
         requires { (z : State X T) × IsThreadOf (threads self.now) shared.now thread.now n z }
         ensures { IfOk result (IsEventAt (threads self.now) shared.now thread.now n) };
 
@@ -78,12 +78,12 @@ pub trait Moves {
     fn after(
         &self,
         alloc: Global,
-        made: &Self::Made,
+        made: &Self::Effect,
         n: usize,
         thread: &Self::Thread,
         m: usize,
     ) -> Result<Option<Self::Thread>, AllocError>
-        requires somewhere { StandsSomewhere (threads self.now) made.now n thread.now m }
+        requires somewhere { IsBeforeSome (threads self.now) made.now n thread.now m }
         requires few { m < (threads self.now).most }
         ensures rests { IfOk result (λ o. IfSome o (ComesAfter (threads self.now) made.now n thread.now m)) }
         ensures gives_up { IfOk result (λ o. o ≡ None
@@ -93,14 +93,15 @@ pub trait Moves {
     fn first_after(
         &self,
         alloc: Global,
-        made: &Self::Made,
+        made: &Self::Effect,
         n: usize,
         m: usize,
     ) -> Result<Option<Self::Thread>, AllocError>
         requires somewhere { StartsSomewhere (threads self.now) made.now n m }
         requires few { m < (threads self.now).most }
         ensures rests { IfOk result (λ o. IfSome o (BeginsAfter (threads self.now) made.now n m)) }
-        ensures gives_up { IfOk result (λ o. o ≡ None → IsStuckByStart (threads self.now) (stuck self.now) made.now n m) };
+        ensures gives_up { IfOk result
+            (λ o. o ≡ None → IsStuckByStart (threads self.now) (stuck self.now) made.now n m) };
 
     /// How a settled state has ended, where it has.
     fn ending(

@@ -19,7 +19,7 @@ use std::alloc::{AllocError, Global};
 fn thread_after<M: Moves>(
     alloc: Global,
     system: &M,
-    made: &M::Made,
+    made: &M::Effect,
     n: usize,
     threads: &[M::Thread],
     m: usize,
@@ -41,7 +41,7 @@ fn threads_after<M: Moves>(
     alloc: Global,
     system: &M,
     shared: &M::Shared,
-    made: &M::Made,
+    made: &M::Effect,
     n: usize,
     threads: &[M::Thread],
 ) -> Result<Option<Vec<M::Thread>>, AllocError>

@@ -8,9 +8,9 @@ use crate::runs::{FUEL, LIMIT, Trouble, load};
 use replay::replay;
 use report_choice::Way;
 use search_finds::{
-    Halt, Met, Searched, Size, Sought, Table, first_found, have_one_ending, shrunk, size_of,
+    Halt, Met, SearchResult, Size, Sought, Table, first_found, have_one_ending, shrunk, size_of,
 };
-use search_scheduled::Made;
+use search_scheduled::MadeRun;
 use spawn_host::{Call, EndState};
 use std::alloc::Global;
 use std::process::Abort;
@@ -116,7 +116,7 @@ fn searched_by<R: Threads + Sync>(
     valid: &ValidModule,
     sought: &Sought,
     jobs: usize,
-) -> Result<Searched, Trouble> {
+) -> Result<SearchResult, Trouble> {
     if sought.from > 1000 || sought.runs > 1000 {
         return Err(Trouble::Refused);
     }
@@ -128,7 +128,7 @@ fn searched<R: Threads + Sync>(
     alloc: Global,
     wish: &Wish,
     jobs: usize,
-) -> Result<Searched, Trouble> {
+) -> Result<SearchResult, Trouble> {
     let valid = load(alloc, wish.module)?;
     searched_by(rt, alloc, &valid, &sought_by(wish), jobs)
 }
@@ -196,7 +196,11 @@ fn a_find_is_one_on_any_number_of_jobs(rt: HostRuntime) -> Result<(), Fail> {
 }
 
 /// The end of a run to which its record is replayed too.
-fn replayed(alloc: Global, valid: &ValidModule, made: &Made) -> Result<Option<EndState>, Trouble> {
+fn replayed(
+    alloc: Global,
+    valid: &ValidModule,
+    made: &MadeRun,
+) -> Result<Option<EndState>, Trouble> {
     let end = replay(alloc, valid, &made.record)?;
     if end == made.end {
         Ok(Some(end))
@@ -209,7 +213,7 @@ fn replayed(alloc: Global, valid: &ValidModule, made: &Made) -> Result<Option<En
 fn is_small(
     alloc: Global,
     valid: &ValidModule,
-    made: &Made,
+    made: &MadeRun,
     before: &EndState,
     size: Size,
 ) -> Result<bool, Trouble> {
@@ -226,13 +230,13 @@ fn found_by<R: Threads + Sync>(
     valid: &ValidModule,
     call: Call,
     sought: &Sought,
-) -> Result<Option<Made>, Trouble>
+) -> Result<Option<MadeRun>, Trouble>
     ensures { IfOk result (λ o. IfSome o (IsFind valid.now.parts call.entry sought.now.limit)) }
 {
     if sought.from > 1000 || sought.runs > 1000 {
         return Err(Trouble::Refused);
     }
-    let Searched { halt, .. } = first_found(rt, alloc, valid, call, sought, 2, &mut ())?;
+    let SearchResult { halt, .. } = first_found(rt, alloc, valid, call, sought, 2, &mut ())?;
     let Halt::Found(found) = halt else {
         return Ok(None);
     };
@@ -246,7 +250,7 @@ fn shrinks_well(
     valid: &ValidModule,
     call: Call,
     limit: u32,
-    made: Made,
+    made: MadeRun,
 ) -> Result<bool, Trouble>
     requires { IsFind valid.now.parts call limit made }
 {

@@ -4,7 +4,7 @@ use crate::modules::{LOOKING, LOST_UPDATE};
 use crate::runs::{Trouble, WAYS, load, run, run_drawn};
 use replay_text::Record;
 use report_choice::Way;
-use search_scheduled::Made;
+use search_scheduled::MadeRun;
 use search_strategies::Along;
 use std::alloc::{AllocError, Global};
 use std::process::Abort;
@@ -45,7 +45,7 @@ fn schedule_of(alloc: Global, record: &Record) -> Result<Vec<u32>, AllocError> {
 }
 
 /// Whether two runs are one.
-fn are_one(one: &Made, other: &Made) -> bool {
+fn are_one(one: &MadeRun, other: &MadeRun) -> bool {
     one.record.parts() == other.record.parts() && one.end == other.end
 }
 

@@ -4,7 +4,7 @@ use binary::read;
 use replay::{ReplayFault, replay};
 use report_choice::{MOST_DEPTH, Way};
 use search_finds::{Ending, ending_of};
-use search_scheduled::{Made, SearchFault, run_along};
+use search_scheduled::{MadeRun, SearchFault, run_along};
 use search_strategies::{Pct, Random, Strategy};
 use spawn_host::Call;
 use std::alloc::{AllocError, Global};
@@ -70,7 +70,7 @@ pub(crate) fn run<S: Strategy>(
     valid: &ValidModule,
     args: &[Value],
     strategy: &mut S,
-) -> Result<Made, Trouble> {
+) -> Result<MadeRun, Trouble> {
     let call = Call {
         name: "f",
         args,
@@ -93,7 +93,7 @@ pub(crate) fn run_drawn(
     way: Way,
     seed: u64,
     number: u64,
-) -> Result<Made, Trouble> {
+) -> Result<MadeRun, Trouble> {
     match way {
         Way::Random => run(alloc, valid, args, &mut Random::new(seed, number)),
         Way::Priorities(depth) => {

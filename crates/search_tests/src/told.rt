@@ -3,7 +3,7 @@
 use crate::modules::LOST_UPDATE;
 use crate::runs::{FUEL, LIMIT, Trouble, load};
 use report_choice::Way;
-use search_finds::{Halt, Searched, Sought, first_found};
+use search_finds::{Halt, SearchResult, Sought, first_found};
 use search_reach::{Follows, Wish};
 use spawn_host::Call;
 use std::alloc::Global;
@@ -39,7 +39,7 @@ fn told<R: Threads + Sync>(
     rt: &R,
     alloc: Global,
     find: Option<&'static str>,
-) -> Result<Searched, Trouble> {
+) -> Result<SearchResult, Trouble> {
     let valid = load(alloc, LOST_UPDATE)?;
     let call = Call {
         name: "f",
@@ -65,7 +65,7 @@ fn told<R: Threads + Sync>(
 
 #[test]
 fn a_search_ends_behind_the_third_run(rt: HostRuntime) -> Result<(), Fail> {
-    let Searched { table, halt } = told(&rt, rt.alloc(), Some("trap"))?;
+    let SearchResult { table, halt } = told(&rt, rt.alloc(), Some("trap"))?;
     assert!(rt; matches!(&halt, Halt::Told));
     assert_eq!(rt; table.runs, 3);
     Ok(())
@@ -73,7 +73,7 @@ fn a_search_ends_behind_the_third_run(rt: HostRuntime) -> Result<(), Fail> {
 
 #[test]
 fn what_is_found_comes_first(rt: HostRuntime) -> Result<(), Fail> {
-    let Searched { table, halt } = told(&rt, rt.alloc(), Some("thread 0: ok"))?;
+    let SearchResult { table, halt } = told(&rt, rt.alloc(), Some("thread 0: ok"))?;
     assert!(rt; matches!(&halt, Halt::Found(_)));
     assert_eq!(rt; table.runs, 1);
     Ok(())

@@ -20,15 +20,15 @@ use Rattle.interp_trait.specs.declared.turn.Turn.{Turn}
 use Rattle.interp_trait.specs.declared.turn.Turn.TheVariants as turns
 use Rattle.interp_trait.specs.Turns.{Running, after_turn, after_reply, IsGiven, IsTurned, outcome_of, outcome_in}
 use Rattle.schedule_machine.proofs.Turning.{ended_says}
-use Rattle.schedule_machine.specs.Threads.{IsMade, end_in}
+use Rattle.schedule_machine.specs.Threads.{IsMadeReply, end_in}
 use Rattle.search_threads.specs.Unlimited.{Unlimited.Going, reply_by}
 use Rattle.search_settled.specs.Settled.{Settles}
 use Rattle.search_runs.specs.Called.{Called, Walker, system_of}
-use Rattle.search_walkers.specs.Walkers.{IsSomething, StandsFor, given_to}
-use Rattle.search_walkers.specs.declared.walker.Standing.{Standing}
-use Rattle.search_walkers.specs.declared.walker.Standing.TheVariants as standings
+use Rattle.search_walkers.specs.Walkers.{IsSomething, StandsForThread, given_to}
+use Rattle.search_walkers.specs.declared.walker.RestingThread.{RestingThread}
+use Rattle.search_walkers.specs.declared.walker.RestingThread.TheVariants as standings
 
-made_reply : (p : Program) (t : Running) (v : Reply) → IsMade v → after_reply p t v ≡ thread_takes (machine_of p) t v
+made_reply : (p : Program) (t : Running) (v : Reply) → IsMadeReply v → after_reply p t v ≡ thread_takes (machine_of p) t v
 made_reply p t (replies.Value n) made = refl
 made_reply p t replies.Done made = refl
 made_reply p t replies.OutOfBounds made = refl
@@ -101,7 +101,7 @@ gave b p same c r g some may turn Stands turned =
     }
 
 -- who is missing, leaves or is away wants no event, and who has ended, is missing or away awaits no answer
-pub no_taker : (w : WithTables) (b : Called) (s : Standing) (v : Walker) (e : Event) → StandsFor w s v → (system_of b).wants v ≡ Calls e
+pub no_taker : (w : WithTables) (b : Called) (s : RestingThread) (v : Walker) (e : Event) → StandsForThread w s v → (system_of b).wants v ≡ Calls e
     → ((k : Kept) → s ≡ standings.Going k → ⊥) → ((o : Outcome) → s ≡ standings.Ended o → ⊥) → ⊥
 no_taker w b standings.Missing v e stands wants going ended = let none = ap (λ u. (system_of b).wants u) stands in cc (none, wants)
 no_taker w b (standings.Going k) v e stands wants going ended = going k refl
@@ -109,7 +109,7 @@ no_taker w b (standings.Ended o) v e stands wants going ended = ended o refl
 no_taker w b (standings.Leaving o) v e stands wants going ended = let waits = ap (λ u. (system_of b).wants u) stands in cc (waits, wants)
 no_taker w b (standings.Away o) v e stands wants going ended = let none = ap (λ u. (system_of b).wants u) stands in cc (none, wants)
 
-pub no_hearer : (w : WithTables) (b : Called) (s : Standing) (v : Walker) → StandsFor w s v → (system_of b).wants v ≡ Awaits
+pub no_hearer : (w : WithTables) (b : Called) (s : RestingThread) (v : Walker) → StandsForThread w s v → (system_of b).wants v ≡ Awaits
     → ((k : Kept) → s ≡ standings.Going k → ⊥) → ((o : Outcome) → s ≡ standings.Leaving o → ⊥) → ⊥
 no_hearer w b standings.Missing v stands wants going leaving = let none = ap (λ u. (system_of b).wants u) stands in cc (none, wants)
 no_hearer w b (standings.Going k) v stands wants going leaving = going k refl

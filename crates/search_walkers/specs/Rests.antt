@@ -22,8 +22,8 @@ use Rattle.interp_trait.specs.declared.turn.Given.{Given}
 use Rattle.search_threads.specs.Unlimited.{Unlimited.Going}
 use Rattle.search_settled.specs.Settled.{MakesTurns}
 use Rattle.search_runs.specs.Called.{Called, Walker, system_of}
-use Rattle.search_walkers.specs.Walkers.{IsOf, RestsAt, StandsFor, MayBeGiven, given_to, patience}
-use Rattle.search_walkers.specs.declared.walker.Standing.{Standing}
+use Rattle.search_walkers.specs.Walkers.{IsOf, RestsAt, StandsForThread, MayBeGiven, given_to, patience}
+use Rattle.search_walkers.specs.declared.walker.RestingThread.{RestingThread}
 
 -- A thread makes more turns of its own than there is patience for.
 abbrev pub RunsOn : Called → Walker → Type 0
@@ -32,9 +32,9 @@ RunsOn b v = MakesTurns (system_of b) patience v
 -- It is so of each thread with this state and so many units.
 abbrev pub OfRunning : Thread → (WithTables → Called → State → ℕ → Type 0) → Type 0
 OfRunning t so = (w : WithTables) (b : Called) (x : State) (left : ℕ) → IsOf b w → RunsBy w t
-    → threads.StandsFor t (Runs x left) → so w b x left
+    → threads.StandsForThread t (Runs x left) → so w b x left
 
-abbrev pub ComesToRestAt : Thread → Standing → Type 0
+abbrev pub ComesToRestAt : Thread → RestingThread → Type 0
 ComesToRestAt t s = OfRunning t (λ w b x left. RestsAt w b (Going x) s)
 
 abbrev pub SpendsAll : Thread → Type 0
@@ -44,12 +44,12 @@ SpendsAll t = OfRunning t (λ w b x left. MakesTurns (system_of b) left (Going x
 abbrev pub IsWantedAt : WithTables → Kept → Option Event → Type 0
 IsWantedAt w k o = (b : Called) (c : Config) → IsOf b w → IsKept w k c → o ≡ called ((system_of b).wants (Going (At c)))
 
-abbrev pub IsWantedOf : WithTables → Standing → Option Event → Type 0
-IsWantedOf w s o = (b : Called) (v : Walker) → IsOf b w → StandsFor w s v → o ≡ called ((system_of b).wants v)
+abbrev pub IsWantedOf : WithTables → RestingThread → Option Event → Type 0
+IsWantedOf w s o = (b : Called) (v : Walker) → IsOf b w → StandsForThread w s v → o ≡ called ((system_of b).wants v)
 
 -- Whatever the one stands for, the other stands for.
-abbrev pub StandsForAll : Standing → Standing → Type 0
-StandsForAll x y = (w : WithTables) (v : Walker) → StandsFor w x v → StandsFor w y v
+abbrev pub StandsForAll : RestingThread → RestingThread → Type 0
+StandsForAll x y = (w : WithTables) (v : Walker) → StandsForThread w x v → StandsForThread w y v
 
 module _ (w : WithTables) where
   -- A function of the module is called with arguments that fit it: what is so of each thread that begins in it.
@@ -60,7 +60,7 @@ module _ (w : WithTables) where
   OfBegun own args so = (b : Called) (t : FuncType) (body : Body) → IsOf b w → IsFunction w.parts own t body
       → so b (Going (At (start_of w.parts t body args)))
 
-  abbrev pub BeginsAndRests : ℕ → List Value → Standing → Type 0
+  abbrev pub BeginsAndRests : ℕ → List Value → RestingThread → Type 0
   BeginsAndRests own args s = OfBegun own args (λ b v. RestsAt w b v s)
 
   abbrev pub BeginsAndRunsOn : ℕ → List Value → Type 0
@@ -71,38 +71,39 @@ module _ (w : WithTables) where
   OfGiven k fuel given so = (b : Called) (c : Config) → IsOf b w → MayBeGiven w k fuel given c
       → so b (given_to b (Going (At c)) given)
 
-  abbrev pub IsGivenAndRests : Kept → ℕ → Given → Standing → Type 0
+  abbrev pub IsGivenAndRests : Kept → ℕ → Given → RestingThread → Type 0
   IsGivenAndRests k fuel given s = OfGiven k fuel given (λ b v. RestsAt w b v s)
 
   abbrev pub IsGivenAndRunsOn : Kept → ℕ → Given → Type 0
   IsGivenAndRunsOn k fuel given = OfGiven k fuel given RunsOn
 
   -- A thread that stands so wants an event: what is so of each once it has taken this reply.
-  abbrev pub CanTake : Standing → Type 0
-  CanTake s = (b : Called) × (v : Walker) × IsOf b w × StandsFor w s v × (e : Event) × ((system_of b).wants v ≡ Calls e)
+  abbrev pub WantsSomeEvent : RestingThread → Type 0
+  WantsSomeEvent s = (b : Called) × (v : Walker) × IsOf b w × StandsForThread w s v × (e : Event)
+      × ((system_of b).wants v ≡ Calls e)
 
-  abbrev pub OfTaker : Standing → Reply → (Called → Walker → Type 0) → Type 0
-  OfTaker before reply so = (b : Called) (v : Walker) (e : Event) → IsOf b w → StandsFor w before v
+  abbrev pub OfTaker : RestingThread → Reply → (Called → Walker → Type 0) → Type 0
+  OfTaker before reply so = (b : Called) (v : Walker) (e : Event) → IsOf b w → StandsForThread w before v
       → (system_of b).wants v ≡ Calls e
       → so b ((system_of b).takes v reply)
 
-  abbrev pub TakesAndRests : Standing → Reply → Standing → Type 0
+  abbrev pub TakesAndRests : RestingThread → Reply → RestingThread → Type 0
   TakesAndRests before reply s = OfTaker before reply (λ b v. RestsAt w b v s)
 
-  abbrev pub TakesAndRunsOn : Standing → Reply → Type 0
+  abbrev pub TakesAndRunsOn : RestingThread → Reply → Type 0
   TakesAndRunsOn before reply = OfTaker before reply RunsOn
 
   -- A thread that stands so awaits an answer: what is so of each once it has heard this one.
-  abbrev pub CanHear : Standing → Type 0
-  CanHear s = (b : Called) × (v : Walker) × IsOf b w × StandsFor w s v × ((system_of b).wants v ≡ Awaits)
+  abbrev pub CanHear : RestingThread → Type 0
+  CanHear s = (b : Called) × (v : Walker) × IsOf b w × StandsForThread w s v × ((system_of b).wants v ≡ Awaits)
 
-  abbrev pub OfHearer : Standing → Answer → (Called → Walker → Type 0) → Type 0
-  OfHearer before answer so = (b : Called) (v : Walker) → IsOf b w → StandsFor w before v
+  abbrev pub OfHearer : RestingThread → Answer → (Called → Walker → Type 0) → Type 0
+  OfHearer before answer so = (b : Called) (v : Walker) → IsOf b w → StandsForThread w before v
       → (system_of b).wants v ≡ Awaits
       → so b ((system_of b).hears v answer)
 
-  abbrev pub HearsAndRests : Standing → Answer → Standing → Type 0
+  abbrev pub HearsAndRests : RestingThread → Answer → RestingThread → Type 0
   HearsAndRests before answer s = OfHearer before answer (λ b v. RestsAt w b v s)
 
-  abbrev pub HearsAndRunsOn : Standing → Answer → Type 0
+  abbrev pub HearsAndRunsOn : RestingThread → Answer → Type 0
   HearsAndRunsOn before answer = OfHearer before answer RunsOn

@@ -8,37 +8,37 @@ use Rattle.interp_machine.specs.State.{At, Over}
 use Rattle.interp_trait.specs.declared.turn.Given.{Given}
 use Rattle.interp_trait.specs.declared.turn.Given.TheVariants as given
 use Rattle.interp_trait.specs.Turns.{IsGiven}
-use Rattle.schedule_machine.specs.Threads.{IsMade}
+use Rattle.schedule_machine.specs.Threads.{IsMadeReply}
 use Rattle.interp.specs.declared.kept.Kept.{Kept}
 use Rattle.interp.specs.Kept.{IsKept}
 use Rattle.search_threads.specs.Unlimited.{Unlimited.Missing as NoThread, Unlimited.Going as Goes}
 use Rattle.search_threads.specs.Unlimited.{Unlimited.Leaving as Leaves, Unlimited.Away as Left}
 use Rattle.search_settled.specs.Settled.{Settles}
 use Rattle.search_runs.specs.Called.{Called, Walker as Thread, system_of}
-use Rattle.search_walkers.specs.declared.walker.Standing.{Standing}
-use Rattle.search_walkers.specs.declared.walker.Standing.TheVariants.{Missing, Going, Ended, Leaving, Away}
+use Rattle.search_walkers.specs.declared.walker.RestingThread.{RestingThread}
+use Rattle.search_walkers.specs.declared.walker.RestingThread.TheVariants.{Missing, Going, Ended, Leaving, Away}
 
 -- How many turns of its own a thread makes from one event to the next before it is given up.
 unfoldable pub patience : ℕ
 patience = 1000000
 
 -- It stands for a thread of a module with its tables.
-abbrev pub StandsFor : WithTables → Standing → Thread → Type 0
-StandsFor w Missing v = v ≡ NoThread
-StandsFor w (Going k) v = (c : Config) × (v ≡ Goes (At c)) × IsKept w k c
-StandsFor w (Ended o) v = v ≡ Goes (Over o)
-StandsFor w (Leaving o) v = v ≡ Leaves o
-StandsFor w (Away o) v = v ≡ Left o
+abbrev pub StandsForThread : WithTables → RestingThread → Thread → Type 0
+StandsForThread w Missing v = v ≡ NoThread
+StandsForThread w (Going k) v = (c : Config) × (v ≡ Goes (At c)) × IsKept w k c
+StandsForThread w (Ended o) v = v ≡ Goes (Over o)
+StandsForThread w (Leaving o) v = v ≡ Leaves o
+StandsForThread w (Away o) v = v ≡ Left o
 
 -- What is called is of this module.
 abbrev pub IsOf : Called → WithTables → Type 0
 IsOf b w = b.program ≡ program_of w.parts
 
 -- A thread comes to rest, by turns of its own, where this stands.
-pub record RestsAt (w : WithTables) (b : Called) (v : Thread) (s : Standing) : Type 0 where
+pub record RestsAt (w : WithTables) (b : Called) (v : Thread) (s : RestingThread) : Type 0 where
   pub rested : Thread
   pub settles : Settles (system_of b) v rested
-  pub stands : StandsFor w s rested
+  pub stands : StandsForThread w s rested
 
 -- What a thread without a budget makes of what it is given: the reply to an event that was made, or an answer.
 abbrev pub given_to : Called → Thread → Given → Thread
@@ -48,7 +48,7 @@ given_to b v (given.Told answer) = (system_of b).hears v answer
 
 abbrev pub IsSomething : Given → Type 0
 IsSomething given.Nothing = ⊥
-IsSomething (given.Reply reply) = IsMade reply
+IsSomething (given.Reply reply) = IsMadeReply reply
 IsSomething (given.Told answer) = Unit {0}
 
 -- It is given to a thread that wants an event, or awaits an answer.

@@ -4,7 +4,7 @@ ghost use Rattle.std.specs.Prelude.{◌≡◌, None, IfOk, IfSome};
 ghost use Rattle.search_walkers.specs.Rests.{CanBegin, BeginsAndRests, BeginsAndRunsOn};
 
 use crate::rest::{FUEL, rest};
-use crate::walker::Standing;
+use crate::walker::RestingThread;
 use interp::Thread;
 use std::alloc::{AllocError, Global};
 use types::Value;
@@ -20,7 +20,7 @@ pub fn begin(
     valid: &ValidModule,
     own: usize,
     args: &[Value],
-) -> Result<Option<Standing>, AllocError>
+) -> Result<Option<RestingThread>, AllocError>
     requires { CanBegin valid.now own args.now }
     ensures rests { IfOk result (λ o. IfSome o (BeginsAndRests valid.now own args.now)) }
     ensures gives_up { IfOk result (λ o. o ≡ None → BeginsAndRunsOn valid.now own args.now) }

@@ -15,5 +15,5 @@ mod wants;
 
 pub use beginning::begin;
 pub use taking::{hear, take};
-pub use walker::Standing;
+pub use walker::RestingThread;
 pub use wants::wanted;

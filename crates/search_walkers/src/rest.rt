@@ -6,7 +6,7 @@ ghost use Rattle.interp_machine.specs.State.{State};
 ghost use Rattle.interp.specs.Threads.{StandsFor, meaning_in};
 ghost use Rattle.search_walkers.specs.Rests.{ComesToRestAt, SpendsAll};
 
-use crate::walker::Standing;
+use crate::walker::RestingThread;
 use interp::Thread;
 use interp_trait::{OpenGate, TakesTurns, Turn};
 use std::alloc::{AllocError, Global};
@@ -17,7 +17,7 @@ pub(crate) const FUEL: u64 = 1_000_001;
 
 /// Where a thread comes to rest by turns of its own, or nothing where it has spent all its units: then it makes as many
 /// turns of its own as it had units left.
-pub(crate) fn rest(alloc: Global, thread: Thread) -> Result<Option<Standing>, AllocError>
+pub(crate) fn rest(alloc: Global, thread: Thread) -> Result<Option<RestingThread>, AllocError>
     requires fuel { thread.fuel ≡ FUEL }
     requires stands { (x : State) × (left : ℕ) × StandsFor thread (Runs x left) }
     ensures rests { IfOk result (λ o. IfSome o (ComesToRestAt thread.entry)) }
@@ -29,7 +29,7 @@ pub(crate) fn rest(alloc: Global, thread: Thread) -> Result<Option<Standing>, Al
         return Ok(None);
     }
     if let Turn::Ended(outcome) = turn {
-        return Ok(Some(Standing::Ended(outcome)));
+        return Ok(Some(RestingThread::Ended(outcome)));
     }
-    Ok(Some(Standing::Going(thread.keep(alloc)?)))
+    Ok(Some(RestingThread::Going(thread.keep(alloc)?)))
 }

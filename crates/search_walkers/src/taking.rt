@@ -2,12 +2,12 @@
 
 ghost use Rattle.std.specs.Prelude.{◌≡◌, None, IfOk, IfSome};
 ghost use Rattle.interp_machine.specs.Config.{Config};
-ghost use Rattle.schedule_machine.specs.Threads.{IsMade};
+ghost use Rattle.schedule_machine.specs.Threads.{IsMadeReply};
 ghost use Rattle.search_walkers.specs.Walkers.{MayBeGiven};
 ghost use Rattle.search_walkers.specs.Rests.{
   IsGivenAndRests,
   IsGivenAndRunsOn,
-  CanTake,
+  WantsSomeEvent,
   TakesAndRests,
   TakesAndRunsOn,
   CanHear,
@@ -16,7 +16,7 @@ ghost use Rattle.search_walkers.specs.Rests.{
 };
 
 use crate::rest::{FUEL, rest};
-use crate::walker::Standing;
+use crate::walker::RestingThread;
 use interp::{Kept, Thread};
 use interp_trait::{Given, TakesTurns, Turn};
 use std::alloc::{AllocError, Global};
@@ -30,14 +30,14 @@ fn after_given(
     valid: &ValidModule,
     kept: &Kept,
     given: Given,
-) -> Result<Option<Standing>, AllocError>
+) -> Result<Option<RestingThread>, AllocError>
     requires { (c : Config) × MayBeGiven valid.now kept.now FUEL given c }
     ensures rests { IfOk result (λ o. IfSome o (IsGivenAndRests valid.now kept.now FUEL given)) }
     ensures gives_up { IfOk result (λ o. o ≡ None → IsGivenAndRunsOn valid.now kept.now FUEL given) }
 {
     let mut thread = Thread::resume(alloc, valid, kept, FUEL)?;
     if let Turn::Ended(outcome) = thread.turn(given) {
-        return Ok(Some(Standing::Ended(outcome)));
+        return Ok(Some(RestingThread::Ended(outcome)));
     }
     let Some(standing) = rest(alloc, thread)? else {
         return Ok(None);
@@ -53,22 +53,22 @@ fn after_given(
 pub fn take(
     alloc: Global,
     valid: &ValidModule,
-    standing: &Standing,
+    standing: &RestingThread,
     reply: Reply,
-) -> Result<Option<Standing>, AllocError>
-    requires made { IsMade reply }
-    requires wants { CanTake valid.now standing.now }
+) -> Result<Option<RestingThread>, AllocError>
+    requires made { IsMadeReply reply }
+    requires wants { WantsSomeEvent valid.now standing.now }
     ensures rests { IfOk result (λ o. IfSome o (TakesAndRests valid.now standing.now reply)) }
     ensures gives_up { IfOk result (λ o. o ≡ None → TakesAndRunsOn valid.now standing.now reply) }
 {
     match standing {
-        Standing::Going(kept) => {
+        RestingThread::Going(kept) => {
             let Some(after) = after_given(alloc, valid, kept, Given::Reply(reply))? else {
                 return Ok(None);
             };
             Ok(Some(after))
         }
-        Standing::Ended(outcome) => Ok(Some(Standing::Leaving(*outcome))),
+        RestingThread::Ended(outcome) => Ok(Some(RestingThread::Leaving(*outcome))),
         _ => Ok(None),
     }
 }
@@ -81,21 +81,21 @@ pub fn take(
 pub fn hear(
     alloc: Global,
     valid: &ValidModule,
-    standing: &Standing,
+    standing: &RestingThread,
     answer: Answer,
-) -> Result<Option<Standing>, AllocError>
+) -> Result<Option<RestingThread>, AllocError>
     requires { CanHear valid.now standing.now }
     ensures rests { IfOk result (λ o. IfSome o (HearsAndRests valid.now standing.now answer)) }
     ensures gives_up { IfOk result (λ o. o ≡ None → HearsAndRunsOn valid.now standing.now answer) }
 {
     match standing {
-        Standing::Going(kept) => {
+        RestingThread::Going(kept) => {
             let Some(after) = after_given(alloc, valid, kept, Given::Told(answer))? else {
                 return Ok(None);
             };
             Ok(Some(after))
         }
-        Standing::Leaving(outcome) => Ok(Some(Standing::Away(*outcome))),
+        RestingThread::Leaving(outcome) => Ok(Some(RestingThread::Away(*outcome))),
         _ => Ok(None),
     }
 }

@@ -6,7 +6,7 @@ use types::Outcome;
 
 /// How far a thread is that makes no turn of its own.
 #[derive(PartialEq, Eq, Drop)]
-pub enum Standing {
+pub enum RestingThread {
     /// It wasn't started.
     Missing,
     /// It wants an event, or awaits an answer.
@@ -19,7 +19,7 @@ pub enum Standing {
     Away(Outcome),
 }
 
-impl Standing {
+impl RestingThread {
     ghost use Rattle.std.specs.Prelude.{IfOk};
     ghost use Rattle.search_walkers.specs.Rests.{StandsForAll};
 
@@ -27,15 +27,15 @@ impl Standing {
     ///
     /// # Errors
     /// Where memory is refused.
-    pub fn copy(&self, alloc: Global) -> Result<Standing, AllocError>
+    pub fn copy(&self, alloc: Global) -> Result<RestingThread, AllocError>
         ensures { IfOk result (StandsForAll self.now) }
     {
         match self {
-            Standing::Missing => Ok(Standing::Missing),
-            Standing::Going(kept) => Ok(Standing::Going(kept.copy(alloc)?)),
-            Standing::Ended(outcome) => Ok(Standing::Ended(*outcome)),
-            Standing::Leaving(outcome) => Ok(Standing::Leaving(*outcome)),
-            Standing::Away(outcome) => Ok(Standing::Away(*outcome)),
+            RestingThread::Missing => Ok(RestingThread::Missing),
+            RestingThread::Going(kept) => Ok(RestingThread::Going(kept.copy(alloc)?)),
+            RestingThread::Ended(outcome) => Ok(RestingThread::Ended(*outcome)),
+            RestingThread::Leaving(outcome) => Ok(RestingThread::Leaving(*outcome)),
+            RestingThread::Away(outcome) => Ok(RestingThread::Away(*outcome)),
         }
     }
 }

@@ -5,11 +5,11 @@ ghost use Rattle.shared_memory.specs.Events.{IsEvent};
 ghost use Rattle.interp_machine.specs.Config.{Config};
 ghost use Rattle.interp.specs.Kept.{IsKept};
 ghost use Rattle.search_runs.specs.Called.{Walker};
-ghost use Rattle.search_walkers.specs.Walkers.{StandsFor};
+ghost use Rattle.search_walkers.specs.Walkers.{StandsForThread};
 ghost use Rattle.search_walkers.specs.Rests.{IsWantedAt, IsWantedOf};
 
 use crate::rest::FUEL;
-use crate::walker::Standing;
+use crate::walker::RestingThread;
 use interp::{Kept, Thread};
 use interp_trait::{Given, TakesTurns, Turn};
 use std::alloc::{AllocError, Global};
@@ -36,15 +36,15 @@ fn wanted_by(alloc: Global, valid: &ValidModule, kept: &Kept) -> Result<Option<E
 pub fn wanted(
     alloc: Global,
     valid: &ValidModule,
-    standing: &Standing,
+    standing: &RestingThread,
 ) -> Result<Option<Event>, AllocError>
-    requires { (v : Walker) × StandsFor valid.now standing.now v }
+    requires { (v : Walker) × StandsForThread valid.now standing.now v }
     ensures wanted { IfOk result (IsWantedOf valid.now standing.now) }
     ensures event { IfOk result (λ o. IfSome o IsEvent) }
 {
     match standing {
-        Standing::Going(kept) => wanted_by(alloc, valid, kept),
-        Standing::Ended(_) => Ok(Some(Event::Ask(Question::Leave))),
+        RestingThread::Going(kept) => wanted_by(alloc, valid, kept),
+        RestingThread::Ended(_) => Ok(Some(Event::Ask(Question::Leave))),
         _ => Ok(None),
     }
 }

@@ -40,6 +40,10 @@ answer_due q n = slice_index_or q.due n None
 abbrev pub next_id : WaitQueue → ℕ
 next_id q = length q.args + 1
 
+-- A thread can have this number. The next spawn starts a thread if one can have the next number.
+abbrev pub has_slot : WaitQueue → ℕ → Bool
+has_slot q n = nat_lt n (length q.due)
+
 -- A thread is given an answer, which is due until it takes it.
 abbrev pub tells : ℕ → Answer → WaitQueue → WaitQueue
 tells n answer q = record q { due = slice_set q.due n (Some answer) }
@@ -122,8 +126,7 @@ asked q n (Wait addr width expected timeout) loaded =
 asked q n (Notify addr count) loaded =
     let woken = woken_at addr count q.sleepers in tells n (Number (length woken)) (wakes woken (Number 0) q)
 asked q n (Spawn arg) loaded =
-    if nat_lt (next_id q) (length q.due) then tells n (Number (next_id q)) (starts arg q) else tells n
-    (Number 4294967295) q
+    if has_slot q (next_id q) then tells n (Number (next_id q)) (starts arg q) else tells n (Number 4294967295) q
 asked q n Leave loaded = tells n (Number 0) (leaves n q)
 
 -- The step at a question.

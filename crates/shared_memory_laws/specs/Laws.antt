@@ -113,7 +113,8 @@ AnswersTakenLeaveItSettled = (history : List Entry) (n : ℕ) → IsQueueLegal h
 
 -- Of two histories that begin the same list, one begins the other.
 abbrev pub OneHistoryPerLongestList : Type 0
-OneHistoryPerLongestList = (longest xs ys : List Entry) → IsPrefix xs longest → IsPrefix ys longest → IsPrefix xs ys ⊎ IsPrefix ys xs
+OneHistoryPerLongestList = (longest xs ys : List Entry) → IsPrefix xs longest → IsPrefix ys longest
+    → IsPrefix xs ys ⊎ IsPrefix ys xs
 
 -- What begins a legal history is legal.
 abbrev pub PrefixesAreLegal : Type 0

@@ -8,8 +8,8 @@ use Rattle.shared_memory_on_table.specs.declared.view.View.{View}
 use Rattle.shared_memory_on_table.specs.Callers.{GoesOn, head_of, seeing}
 
 -- A seat of the table becomes what it is after a move: it stays of that table, and knows this.
-abbrev pub Becomes : Seat ℕ View → Seat ℕ View → Me ℕ View → Type 0
-Becomes before after me = (after.table_id ≡ before.table_id) × (after.me ≡ me)
+abbrev pub SeatBecomes : Seat ℕ View → Seat ℕ View → Me ℕ View → Type 0
+SeatBecomes before after me = (after.table_id ≡ before.table_id) × (after.me ≡ me)
 
 -- A spent seat's view, a caller's, and the keeper's.
 abbrev pub nobody : View

@@ -7,8 +7,8 @@ ghost use Rattle.shared_memory_on_table.specs.Rule.{IsGathered, opened};
 
 use crate::naming::Naming;
 use crate::rule::{History, Row};
-use crate::seat::{CallerSeat, Standing};
-use crate::view::{FirstOff, Place};
+use crate::seat::{CallerSeat, StandingCaller};
+use crate::view::{FirstOff, TableSeat};
 use std::alloc::{AllocError, Global};
 use std::marker::PhantomData;
 use types::SEATS;
@@ -16,7 +16,7 @@ use types::SEATS;
 // The next caller gets a seat of its own.
 fn take_seat<B: Naming, K, H: History<K>>(
     row: &Row<K, H>,
-    all: &mut Place,
+    all: &mut TableSeat,
     name: u32,
 ) -> CallerSeat<B>
     requires row { (row.now.table_id ≡ B.table) × (0 < row.now.table_id.words) }
@@ -29,7 +29,7 @@ fn take_seat<B: Naming, K, H: History<K>>(
 {
     let place = row.split_seat::<FirstOff>(all);
     CallerSeat {
-        caller: Standing {
+        caller: StandingCaller {
             name,
             place,
             of: PhantomData,
@@ -45,7 +45,7 @@ fn take_seat<B: Naming, K, H: History<K>>(
 pub fn take_seats<B: Naming, K, H: History<K>>(
     alloc: Global,
     row: &Row<K, H>,
-    all: &mut Place,
+    all: &mut TableSeat,
 ) -> Result<Vec<CallerSeat<B>>, AllocError>
     requires row { (row.now.table_id ≡ B.table) × (0 < row.now.table_id.words) }
     requires all { (all.old.table_id ≡ B.table) × (all.old.me ≡ (opened H.has_keeper, [])) }

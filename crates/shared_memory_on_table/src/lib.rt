@@ -17,6 +17,6 @@ mod view;
 pub use dealing::take_seats;
 pub use naming::Naming;
 pub use rule::{History, OneHistory, Row};
-pub use seat::{CallerSeat, Standing, meet};
+pub use seat::{CallerSeat, StandingCaller, meet};
 pub use steps::hand;
-pub use view::{Caller, FirstOff, Meeting, Place, Together, View};
+pub use view::{Caller, FirstOff, Meeting, TableSeat, Together, View};

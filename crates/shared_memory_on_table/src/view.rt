@@ -28,7 +28,7 @@ pub struct View {
 }
 
 /// A seat of a table with no slots.
-pub type Place = Seat<u8, View>;
+pub type TableSeat = Seat<u8, View>;
 
 /// The first caller goes to a seat of its own, and the others stay.
 pub struct FirstOff;

@@ -18,7 +18,7 @@ pub struct Steps {
 
 /// The place that the program has come to.
 #[derive(Clone, Copy, Debug, PartialEq, Eq)]
-pub struct Place {
+pub struct LineRegisters {
     pub address: u64,
     pub file: u64,
     pub line: u64,
@@ -26,7 +26,7 @@ pub struct Place {
 
 /// What an instruction of the program makes.
 #[derive(Clone, Copy, PartialEq, Eq)]
-pub enum Made {
+pub enum Emitted {
     Nothing,
     /// A row of the table: from this address on this line.
     Row,
@@ -34,9 +34,9 @@ pub enum Made {
     End,
 }
 
-impl Place {
+impl LineRegisters {
     /// Where a sequence begins.
-    pub const START: Place = Place {
+    pub const START: LineRegisters = LineRegisters {
         address: 0,
         file: 1,
         line: 1,
@@ -44,46 +44,50 @@ impl Place {
 }
 
 impl Steps {
-    fn advance(self, place: &mut Place, by: u64) {
+    fn advance(self, place: &mut LineRegisters, by: u64) {
         place.address = place
             .address
             .wrapping_add(by.wrapping_mul(u64::from(self.instruction)));
     }
 
     /// A special opcode, which is no less than the base.
-    fn special(self, place: &mut Place, by: u8) {
+    fn special(self, place: &mut LineRegisters, by: u8) {
         self.advance(place, u64::from(by / self.line_range));
         let lines = u64::from(by % self.line_range);
         place.line = place.line.wrapping_add(self.line_base).wrapping_add(lines);
     }
 
     /// An instruction with a size in front, which may be of a kind that isn't known.
-    fn extended(self, place: &mut Place, instructions: &mut Cursor) -> Result<Made, Fault> {
+    fn extended(
+        self,
+        place: &mut LineRegisters,
+        instructions: &mut Cursor,
+    ) -> Result<Emitted, Fault> {
         let size = instructions.read_unsigned()?;
         let mut operands = Cursor::new(instructions.read_bytes(size)?);
         match operands.read_u8()? {
-            1 => return Ok(Made::End),
+            1 => return Ok(Emitted::End),
             2 => place.address = operands.read_number(operands.len() as u64)?,
             _ => {}
         }
-        Ok(Made::Nothing)
+        Ok(Emitted::Nothing)
     }
 
     /// One instruction.
     pub fn step(
         self,
-        place: &mut Place,
+        place: &mut LineRegisters,
         lengths: &[u8],
         instructions: &mut Cursor,
-    ) -> Result<Made, Fault> {
+    ) -> Result<Emitted, Fault> {
         let opcode = instructions.read_u8()?;
         if opcode >= self.opcode_base {
             self.special(place, opcode - self.opcode_base);
-            return Ok(Made::Row);
+            return Ok(Emitted::Row);
         }
         match opcode {
             0 => return self.extended(place, instructions),
-            1 => return Ok(Made::Row),
+            1 => return Ok(Emitted::Row),
             2 => self.advance(place, instructions.read_unsigned()?),
             3 => place.line = place.line.wrapping_add(instructions.read_signed()?),
             4 => place.file = instructions.read_unsigned()?,
@@ -95,6 +99,6 @@ impl Steps {
                 }
             }
         }
-        Ok(Made::Nothing)
+        Ok(Emitted::Nothing)
     }
 }

@@ -3,13 +3,13 @@
 use crate::cursor::Cursor;
 use crate::fault::Fault;
 use crate::header::{Header, read_header};
-use crate::program::{Made, Place};
+use crate::program::{Emitted, LineRegisters};
 use crate::table::{DebugSections, Range};
 use std::alloc::Global;
 
 impl<'a> Header<'a> {
     /// The code from a row up to an address, where the row has a line.
-    fn range(&self, row: Place, end: u64) -> Option<Range<'a>> {
+    fn range(&self, row: LineRegisters, end: u64) -> Option<Range<'a>> {
         let number = usize::try_from(row.file.checked_sub(self.first_file)?).ok()?;
         let source = self.files.get(number)?;
         if row.line == 0 || row.address >= end {
@@ -27,8 +27,8 @@ impl<'a> Header<'a> {
     /// Runs the program. What it made before a fault stays.
     fn run(&self, program: &'a [u8], ranges: &mut Vec<Range<'a>>) -> Result<(), Fault> {
         let mut instructions = Cursor::new(program);
-        let mut place = Place::START;
-        let mut row: Option<Place> = None;
+        let mut place = LineRegisters::START;
+        let mut row: Option<LineRegisters> = None;
         // Each instruction takes a byte at least.
         for _ in 0..program.len() {
             if instructions.is_empty() {
@@ -37,17 +37,17 @@ impl<'a> Header<'a> {
             let made = self
                 .steps
                 .step(&mut place, self.lengths, &mut instructions)?;
-            if made == Made::Nothing {
+            if made == Emitted::Nothing {
                 continue;
             }
             if let Some(range) = row.and_then(|row| self.range(row, place.address)) {
                 ranges.push(range)?;
             }
-            if made == Made::Row {
+            if made == Emitted::Row {
                 row = Some(place);
             } else {
                 row = None;
-                place = Place::START;
+                place = LineRegisters::START;
             }
         }
         Ok(())

@@ -7,12 +7,12 @@ use Rattle.interp_machine.specs.State.{At}
 use Rattle.interp.specs.declared.thread.Thread.{Thread}
 use Rattle.interp.specs.Threads.{StandsFor}
 use Rattle.interp.specs.Places.{IsAtPlace, HasCallers}
-use Rattle.show_moments.specs.declared.standing.Standing.{Standing}
+use Rattle.show_moments.specs.declared.standing.ThreadSnapshot.{ThreadSnapshot}
 use Rattle.show_moments.specs.declared.moment.Moment.{Moment}
 
 -- The next instruction of each configuration that the thread stands for stands at the place, and these functions called
 -- the one that runs.
-pub record StandsAs (thread : Thread) (s : Standing) : Type 0 where
+pub record StandsAs (thread : Thread) (s : ThreadSnapshot) : Type 0 where
   pub place : (c : Config) (left : ℕ) → StandsFor thread (Runs (At c) left)
       → IsAtPlace thread.parts.now s.place.function s.place.instr c
   pub callers : (c : Config) (left : ℕ) → StandsFor thread (Runs (At c) left)
@@ -24,6 +24,6 @@ IsOpen m n = slice_get m.next.items n ≡ Some None
 
 -- It is seen where the thread stands.
 pub record IsSeen (m : Moment) (n : ℕ) (thread : Thread) : Type 0 where
-  pub standing : Standing
+  pub standing : ThreadSnapshot
   pub at : slice_get m.next.items n ≡ Some (Some standing)
   pub stands : StandsAs thread standing

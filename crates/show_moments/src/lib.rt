@@ -10,4 +10,4 @@ mod standing;
 
 pub use moment::{Bytes, Moment};
 pub use scene::write_moment;
-pub use standing::{OpenFunction, Standing};
+pub use standing::{OpenFunction, ThreadSnapshot};

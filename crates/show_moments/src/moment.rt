@@ -3,7 +3,7 @@
 ghost use Rattle.std.specs.Prelude.{◌≡◌, ◌≤◌, false};
 ghost use Rattle.show_moments.specs.Moments.{IsOpen, IsSeen};
 
-use crate::standing::{Standing, standing_of};
+use crate::standing::{ThreadSnapshot, standing_of};
 use interp::Thread;
 use interp_trait::Turn;
 use replay_walk::{Walk, Watch};
@@ -30,9 +30,9 @@ pub struct Moment<'a> {
     /// How many entries the walk has come along.
     pub came: usize,
     /// Where each thread stands as it comes to its first entry from here on.
-    pub next: Vec<Option<Standing>>,
+    pub next: Vec<Option<ThreadSnapshot>>,
     /// Where each thread stood here behind its last entry, without the turns of its own that follow.
-    pub here: Vec<Option<Standing>>,
+    pub here: Vec<Option<ThreadSnapshot>>,
     pub queue: Option<KeptQueue>,
     /// Those of the bytes that lie in memory.
     pub bytes: Vec<u8>,
@@ -41,7 +41,7 @@ pub struct Moment<'a> {
 }
 
 /// So many seats, all of them empty.
-fn empty_seats(alloc: Global) -> Result<Vec<Option<Standing>>, AllocError> {
+fn empty_seats(alloc: Global) -> Result<Vec<Option<ThreadSnapshot>>, AllocError> {
     let mut seats = Vec::with_capacity(alloc, MOST_THREADS)?;
     for _ in 0..MOST_THREADS {
         seats.push(None)?;
@@ -116,7 +116,7 @@ impl Moment<'_> {
 
     /// Where the thread stands whose first entry from here on this is: where it comes to it, or, as long as an answer
     /// is to come, where it is.
-    pub fn standing(&self, first: &Entry) -> Option<&Standing> {
+    pub fn standing(&self, first: &Entry) -> Option<&ThreadSnapshot> {
         let seats = match first.event {
             Event::Told(_) => &self.here,
             _ => &self.next,

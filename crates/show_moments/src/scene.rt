@@ -1,8 +1,8 @@
 //! A moment as text.
 
 use crate::moment::Moment;
-use crate::standing::{OpenFunction, Standing};
-use interp::Place;
+use crate::standing::{OpenFunction, ThreadSnapshot};
+use interp::CodePlace;
 use show_rows::{Shown, Story};
 use show_text::{Context, Unwritten};
 use std::alloc::Global;
@@ -132,7 +132,11 @@ impl Scene<'_, '_, '_, '_, '_, '_, '_, '_, '_> {
     }
 
     /// The open functions of a thread, the one that runs first.
-    fn write_functions<W: Write>(&self, out: &mut W, standing: &Standing) -> Result<(), Unwritten> {
+    fn write_functions<W: Write>(
+        &self,
+        out: &mut W,
+        standing: &ThreadSnapshot,
+    ) -> Result<(), Unwritten> {
         for number in (0..standing.depth()).rev() {
             self.write_function(out, standing.open_function(number))?;
         }
@@ -142,7 +146,7 @@ impl Scene<'_, '_, '_, '_, '_, '_, '_, '_, '_> {
     /// An open function. What it called has taken operands from the top, so that there may be fewer than before the
     /// call.
     fn write_function<W: Write>(&self, out: &mut W, open: OpenFunction) -> Result<(), Unwritten> {
-        let Place { function, instr } = open.place;
+        let CodePlace { function, instr } = open.place;
         let locals = self.valid.local_types(self.alloc, function)?;
         let operands = operand_types(self.alloc, self.valid, function, instr)?;
         let spot = self.shown.code.spot(open.place);

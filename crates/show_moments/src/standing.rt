@@ -3,15 +3,15 @@
 ghost use Rattle.std.specs.Prelude.{◌≡◌, IfOk};
 ghost use Rattle.show_moments.specs.Moments.{StandsAs};
 
-use interp::{Kept, Place, Thread};
+use interp::{CodePlace, Kept, Thread};
 use interp_state::{Caller, Progress};
 use std::alloc::{AllocError, Global};
 
 /// Where a thread stands: the place of the instruction that comes next, the functions that called the one that runs,
 /// the outermost first, and what they have.
 #[derive(PartialEq, Eq, Drop)]
-pub struct Standing {
-    pub place: Place,
+pub struct ThreadSnapshot {
+    pub place: CodePlace,
     pub callers: Vec<Caller>,
     pub kept: Kept,
 }
@@ -21,7 +21,7 @@ pub struct Standing {
 #[derive(Clone, Copy, PartialEq, Eq)]
 pub struct OpenFunction<'a> {
     /// The instruction that comes next, or a call or question that hasn't come back.
-    pub place: Place,
+    pub place: CodePlace,
     pub locals: &'a [u64],
     pub operands: &'a [u64],
 }
@@ -39,12 +39,12 @@ fn copied<T: Copy>(alloc: Global, items: &[T]) -> Result<Vec<T>, AllocError>
 ///
 /// # Errors
 /// Where memory is refused.
-pub(crate) fn standing_of(alloc: Global, thread: &Thread) -> Result<Standing, AllocError>
+pub(crate) fn standing_of(alloc: Global, thread: &Thread) -> Result<ThreadSnapshot, AllocError>
     ensures { IfOk result (StandsAs thread.now) }
 {
     let open = thread.callers();
     let callers = copied(alloc, open)?;
-    Ok(Standing {
+    Ok(ThreadSnapshot {
         place: thread.place(),
         callers,
         kept: thread.keep(alloc)?,
@@ -52,14 +52,14 @@ pub(crate) fn standing_of(alloc: Global, thread: &Thread) -> Result<Standing, Al
 }
 
 /// The instruction before a place.
-fn before(place: Place) -> Place {
-    Place {
+fn before(place: CodePlace) -> CodePlace {
+    CodePlace {
         function: place.function,
         instr: place.instr.saturating_sub(1),
     }
 }
 
-impl Standing {
+impl ThreadSnapshot {
     /// How many functions are open.
     pub fn depth(&self) -> usize {
         self.callers.len().saturating_add(1)
@@ -87,7 +87,7 @@ impl Standing {
         let end = self.end_of(number);
         match self.callers.get(number) {
             Some(caller) => OpenFunction {
-                place: before(Place {
+                place: before(CodePlace {
                     function: caller.function,
                     instr: caller.pc,
                 }),
@@ -103,7 +103,7 @@ impl Standing {
     }
 
     /// Where the function is that runs: at its question, as long as no answer came.
-    fn running_place(&self) -> Place {
+    fn running_place(&self) -> CodePlace {
         match self.kept.progress {
             Progress::Asked => before(self.place),
             _ => self.place,

@@ -11,9 +11,9 @@ use std::alloc::Global;
 use types::Instr;
 
 /// The offset of an instruction.
-struct Place;
+struct OffsetOnly;
 
-impl Keep for Place {
+impl Keep for OffsetOnly {
     type Kept = usize;
 
     ghost kept = { λ offset instr. offset };
@@ -29,7 +29,7 @@ pub fn read_places(reader: &mut Reader, alloc: Global) -> Result<Vec<usize>, Rea
     ensures gives { GivesNextInMemoryAs (λ places. places.items) places_in reader.old reader.new result }
     ensures keeps { reader.new.bounds ≡ reader.old.bounds }
 {
-    read_each::<Place>(reader, alloc)
+    read_each::<OffsetOnly>(reader, alloc)
 }
 
 /// An expression that is read has one place for each of its instructions.

@@ -3,7 +3,7 @@
 
 use crate::spot::Spot;
 use binary_wire::ReadFault;
-use interp::Place;
+use interp::CodePlace;
 use show_lines::{DebugSections, LineTable, read_lines};
 use show_places::{BodyPlaces, Named, code_places, function_name, read_names, section_of};
 use std::alloc::{AllocError, Global};
@@ -46,7 +46,7 @@ fn count_functions(imports: &[Import]) -> u32 {
 }
 
 /// The offset of the instruction at a place, from the start of the code section's contents.
-fn offset_of(bodies: &[BodyPlaces], place: Place) -> Option<usize> {
+fn offset_of(bodies: &[BodyPlaces], place: CodePlace) -> Option<usize> {
     let body = bodies.get(place.function)?;
     body.instrs.as_slice().get(place.instr).copied()
 }
@@ -71,7 +71,7 @@ impl<'m, 'n> CodeMap<'m, 'n> {
     }
 
     /// The place as it is printed.
-    pub fn spot(&self, place: Place) -> Spot<'_> {
+    pub fn spot(&self, place: CodePlace) -> Spot<'_> {
         let own = u32::try_from(place.function).unwrap_or(u32::MAX);
         let index = own.saturating_add(self.imported);
         Spot {
@@ -82,14 +82,14 @@ impl<'m, 'n> CodeMap<'m, 'n> {
     }
 
     /// How far behind the start of its body the instruction is.
-    fn offset_in_body(&self, place: Place) -> Option<usize> {
+    fn offset_in_body(&self, place: CodePlace) -> Option<usize> {
         let body = self.bodies.as_slice().get(place.function)?;
         let offset = offset_of(self.bodies.as_slice(), place)?;
         Some(offset.saturating_sub(body.start))
     }
 
     /// The file and line of source, where both files have as many instructions in the function.
-    fn source_of(&self, place: Place) -> Option<(&str, u64)> {
+    fn source_of(&self, place: CodePlace) -> Option<(&str, u64)> {
         let own = self.bodies.as_slice().get(place.function)?;
         let named = self.named_bodies.as_slice().get(place.function)?;
         if own.instrs.len() != named.instrs.len() {
@@ -101,7 +101,7 @@ impl<'m, 'n> CodeMap<'m, 'n> {
     }
 
     /// Whether the instruction at a place is an atomic one.
-    pub fn is_atomic(&self, place: Place) -> bool {
+    pub fn is_atomic(&self, place: CodePlace) -> bool {
         let Some(body) = self.parts.bodies.as_slice().get(place.function) else {
             return false;
         };

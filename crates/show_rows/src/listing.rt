@@ -2,7 +2,7 @@
 
 use crate::Row;
 use crate::code::CodeMap;
-use interp::Place;
+use interp::CodePlace;
 use replay_text::RecordParts;
 use report_choice::{Color, Look};
 use show_text::{Context, Sheet, Unwritten, Wake, Words, all_wakes, contexts};
@@ -75,7 +75,7 @@ impl Shown<'_, '_, '_, '_, '_> {
     }
 
     /// Where the entry at a place was made: an answer where its question was asked.
-    pub fn place_at(&self, story: &Story, at: usize) -> Option<Place> {
+    pub fn place_at(&self, story: &Story, at: usize) -> Option<CodePlace> {
         let made = match story.contexts.get(at) {
             Some(Context::Asked(_, asked)) => *asked,
             _ => at,

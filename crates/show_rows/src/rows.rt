@@ -5,7 +5,7 @@ ghost use Rattle.std.specs.List.{slice_get};
 ghost use Rattle.show_rows.specs.declared.rows.Row.{Row};
 ghost use Rattle.show_rows.specs.Rows.{StandsThere};
 
-use interp::{Place, Thread};
+use interp::{CodePlace, Thread};
 use interp_trait::Turn;
 use replay_walk::{Walk, Watch};
 use shared_memory_sequential::OneMemory;
@@ -16,7 +16,7 @@ use types::{Entry, Event, Question};
 #[derive(Clone, Copy, PartialEq, Eq)]
 pub struct Row {
     /// The function of the module itself, and the number of the instruction in its flat code.
-    pub place: Place,
+    pub place: CodePlace,
     /// The number in the bytes of an access before it, where it lies within the memory.
     pub before: Option<u64>,
 }

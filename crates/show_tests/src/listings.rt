@@ -3,7 +3,7 @@
 use crate::asserts::is_text;
 use crate::data::{KINDS, LATE, NAMES, RECORD, SMALL, TOLD, TOLD_2};
 use crate::made::{module_of, record_of, rows_of};
-use interp::Place;
+use interp::CodePlace;
 use replay_text::Record;
 use report_choice::{Choice, Color, Look, Span};
 use show_rows::{CodeMap, Row, Shown, write_rows};
@@ -111,21 +111,21 @@ static LISTINGS: [Listing; 5] = [
 /// Each kind of entry, with these rows before some.
 static KIND_ROWS: [Option<Row>; 3] = [
     Some(Row {
-        place: Place {
+        place: CodePlace {
             function: 0,
             instr: 2,
         },
         before: Some(3),
     }),
     Some(Row {
-        place: Place {
+        place: CodePlace {
             function: 0,
             instr: 1,
         },
         before: Some(3),
     }),
     Some(Row {
-        place: Place {
+        place: CodePlace {
             function: 7,
             instr: 0,
         },

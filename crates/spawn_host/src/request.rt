@@ -40,10 +40,10 @@ impl<'m, 'a> Model for Request<'m, 'a> {
     ghost Value = { Requested };
 
     ghost view = { λ r. record {
-        parts = r.module.now.parts;
-        name = r.call.name.now;
-        args = r.call.args.now;
-        fuel = r.call.fuel
+      parts = r.module.now.parts;
+      name = r.call.name.now;
+      args = r.call.args.now;
+      fuel = r.call.fuel;
     } };
 
     ghost invariant = { λ r. (takes : Takes r.module.now.parts r.call.name.now r.call.args.now) × (takes.own ≡ r.own) };

@@ -54,7 +54,13 @@ pub fn first_thread<'m>(alloc: Global, request: &Request<'m, '_>) -> Result<Thre
     ensures { IfOk result (BeginsRequest meaning_in request.now) }
 {
     let call = request.call();
-    calling(alloc, request.module(), request.number(), call.args, call.fuel)
+    calling(
+        alloc,
+        request.module(),
+        request.number(),
+        call.args,
+        call.fuel,
+    )
 }
 
 /// The function of the module itself that spawned threads call.

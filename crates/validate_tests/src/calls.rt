@@ -6,7 +6,9 @@ use std::process::Abort;
 use std::test::Fail;
 use types::{Instr, PlainInstr, Value};
 use validate_module_rules::offset;
-use validate_typing::{Fault, Place, Table, Target, ValidFault, expression_stands_for_one_nesting};
+use validate_typing::{
+    BodyPlace, Fault, Table, Target, ValidFault, expression_stands_for_one_nesting,
+};
 
 /// The kinds by their numbers.
 static NUMBERS: [(Fault, u8); 20] = [
@@ -50,19 +52,19 @@ const IN_BODY: ValidFault = ValidFault::InBody {
     instruction: 9,
 };
 
-const PLACE: Place = Place {
+const PLACE: BodyPlace = BodyPlace {
     function: 3,
     instruction: 9,
 };
 
 /// Faults with their kinds and places.
-static PLACES: [(ValidFault, Fault, Option<Place>); 3] = [
+static PLACES: [(ValidFault, Fault, Option<BodyPlace>); 3] = [
     (ValidFault::OutOfMemory, Fault::OutOfMemory, None),
     (ValidFault::Outside(Fault::Limits), Fault::Limits, None),
     (IN_BODY, Fault::Alignment, Some(PLACE)),
 ];
 
-fn check_places<R: Abort>(rt: &R, cases: &[(ValidFault, Fault, Option<Place>)]) {
+fn check_places<R: Abort>(rt: &R, cases: &[(ValidFault, Fault, Option<BodyPlace>)]) {
     for (fault, kind, place) in cases {
         let found = (fault.kind(), fault.place());
         equal(rt, kind.number(), &found, &(*kind, *place));

@@ -2,7 +2,7 @@
 use Rattle.std.specs.Prelude.{ℕ, Option, Some, None}
 use Rattle.validate_typing.specs.declared.fault.Fault.{Fault}
 use Rattle.validate_typing.specs.declared.fault.Fault.TheVariants as kinds
-use Rattle.validate_typing.specs.declared.fault.Place.{Place}
+use Rattle.validate_typing.specs.declared.fault.BodyPlace.{BodyPlace}
 use Rattle.validate_typing.specs.declared.fault.ValidFault.{ValidFault}
 use Rattle.validate_typing.specs.declared.fault.ValidFault.TheVariants.{OutOfMemory, Outside, InBody}
 
@@ -34,7 +34,7 @@ fault_kind OutOfMemory = kinds.OutOfMemory
 fault_kind (Outside kind) = kind
 fault_kind (InBody kind function instruction) = kind
 
-abbrev pub fault_place : ValidFault → Option Place
+abbrev pub fault_place : ValidFault → Option BodyPlace
 fault_place OutOfMemory = None
 fault_place (Outside kind) = None
 fault_place (InBody kind function instruction) = Some (record { function = function; instruction = instruction })

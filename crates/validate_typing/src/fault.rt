@@ -107,7 +107,7 @@ impl fmt::Display for Fault {
 
 /// A place in a function's body.
 #[derive(Clone, Copy, Debug, PartialEq, Eq)]
-pub struct Place {
+pub struct BodyPlace {
     /// The function's index, imported functions counted.
     pub function: usize,
     /// The number of the instruction in the flat body, from 0.
@@ -145,7 +145,7 @@ impl ValidFault {
     }
 
     /// The function and the instruction, where the fault is in a body.
-    pub fn place(self) -> Option<Place>
+    pub fn place(self) -> Option<BodyPlace>
         ensures { result ≡ fault_place self }
     {
         match self {
@@ -154,7 +154,7 @@ impl ValidFault {
                 function,
                 instruction,
                 ..
-            } => Some(Place {
+            } => Some(BodyPlace {
                 function,
                 instruction,
             }),

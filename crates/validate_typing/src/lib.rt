@@ -17,7 +17,7 @@ mod making;
 mod table;
 mod target;
 
-pub use fault::{Fault, Place, ValidFault};
+pub use fault::{BodyPlace, Fault, ValidFault};
 pub use instr::{Flat, Jump};
 pub use laws::expression_stands_for_one_nesting;
 pub use making::{flatten, flatten_all};

@@ -1,5 +1,5 @@
 -- Which argument a spawned thread has, which question sleeps, and of whom a queue is told.
-use Rattle.std.specs.Prelude.{ℕ, ◌≡◌, ◌<◌, ◌==◌, ◌&&◌, Bool, true, false, not, nat_lt, if◌then◌else◌, List, length}
+use Rattle.std.specs.Prelude.{ℕ, ◌≡◌, ◌<◌, ◌==◌, ◌&&◌, Bool, true, false, not, if◌then◌else◌, List}
 use Rattle.std.specs.Prelude.{Option, None, MatchOption, slice_get, zero, suc}
 use Rattle.std.specs.List.{All}
 use Rattle.types.specs.declared.event.Answer.{Answer}
@@ -8,7 +8,7 @@ use Rattle.types.specs.declared.event.Question.{Question}
 use Rattle.types.specs.declared.event.Question.TheVariants.{Wait, Notify, Spawn, Leave}
 use Rattle.shared_memory.specs.declared.sleeper.Sleeper.{Sleeper}
 use Rattle.shared_memory.specs.WaitQueue.{WaitQueue, is_among, is_asleep, ends_at_once, next_id, starts, wakes}
-use Rattle.shared_memory.specs.WaitQueue.{woken_at, after_answer}
+use Rattle.shared_memory.specs.WaitQueue.{has_slot, woken_at, after_answer}
 
 -- The argument of a spawned thread. Thread 0 has none, nor has one that wasn't spawned.
 abbrev pub arg_of : WaitQueue → ℕ → Option ℕ
@@ -31,8 +31,8 @@ abbrev pub AreAsleep : List Sleeper → WaitQueue → Type 0
 AreAsleep sleepers q = (n : ℕ) → is_among n sleepers ≡ true → is_asleep q n ≡ true
 
 -- The answer that was due to a thread is taken, where there was one.
-abbrev pub TakesAnswer : Option Answer → ℕ → WaitQueue → WaitQueue → Type 0
-TakesAnswer answer n before after = MatchOption answer (after ≡ before) (λ _. after ≡ after_answer before n)
+abbrev pub TakesAnswerIfDue : Option Answer → ℕ → WaitQueue → WaitQueue → Type 0
+TakesAnswerIfDue answer n before after = MatchOption answer (after ≡ before) (λ _. after ≡ after_answer before n)
 
 -- The queue without those whom a notify wakes.
 abbrev pub notified : ℕ → ℕ → WaitQueue → WaitQueue
@@ -41,7 +41,7 @@ notified addr count q = wakes (woken_at addr count q.sleepers) (Number 0) q
 -- The queue with a further thread, and the number of that; where each number has a thread, it stays, and the number is
 -- this one.
 abbrev pub spawned : ℕ → WaitQueue → WaitQueue
-spawned arg q = if nat_lt (next_id q) (length q.due) then starts arg q else q
+spawned arg q = if has_slot q (next_id q) then starts arg q else q
 
 abbrev pub id_of_spawned : WaitQueue → ℕ → ℕ
-id_of_spawned q none = if nat_lt (next_id q) (length q.due) then next_id q else none
+id_of_spawned q none = if has_slot q (next_id q) then next_id q else none

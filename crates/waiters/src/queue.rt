@@ -7,7 +7,8 @@ ghost use Rattle.shared_memory.specs.WaitQueue.{IsFree, after_answer, after_ques
 ghost use Rattle.shared_memory.specs.WaitQueue.{has_open_question};
 ghost use Rattle.shared_memory.specs.WaitQueue.{is_alive, is_asleep, is_among, is_stuck, leaves, next_id, settled};
 ghost use Rattle.shared_memory.specs.WaitQueue.{sleeps, starts, tells, wakes, woken_at};
-ghost use Rattle.waiters.specs.Queue.{AreAsleep, TakesAnswer, arg_of, falls_asleep, id_of_spawned, notified, spawned};
+ghost use Rattle.waiters.specs.Queue.{AreAsleep, TakesAnswerIfDue, arg_of, falls_asleep, id_of_spawned, notified};
+ghost use Rattle.waiters.specs.Queue.{spawned};
 
 use crate::waking::{ends_at_once, first_to_end, is_among, tell_each, woken_at};
 use arrayvec::ArrayVec;
@@ -93,7 +94,7 @@ impl Queue {
     #[tactic(auto, unfolding(shared_memory::specs::WaitQueue::after_answer))]
     pub fn told(&mut self, thread: u32) -> Option<Answer>
         ensures answer { result ≡ answer_due self.old thread }
-        ensures after { TakesAnswer result thread self.old self.new }
+        ensures after { TakesAnswerIfDue result thread self.old self.new }
     {
         let place = thread as usize;
         let Some(&answer) = self.due.get(place) else {

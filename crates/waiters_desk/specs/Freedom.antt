@@ -32,7 +32,8 @@ pub record StandsAsBefore (n : ℕ) (before after : List Entry) : Type 0 where
 -- It is so where the list goes on with entries of others alone, as at a lost try, at a full log and before an answer;
 abbrev pub OthersLeaveAThreadAsItStands : Type 0
 OthersLeaveAThreadAsItStands =
-    (n : ℕ) (right : Bool) (before others after : List Entry) → Gains n right before others after → StandsAsBefore n before after
+    (n : ℕ) (right : Bool) (before others after : List Entry) → Gains n right before others after
+    → StandsAsBefore n before after
 
 -- and where two meet, of both.
 abbrev pub AMeetingLeavesBothAsTheyStand : Type 0

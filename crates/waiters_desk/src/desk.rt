@@ -106,7 +106,8 @@ impl<M: SharedMemory, W: Wait + Drop> Desk<M, W> {
         requires question { IsQuestion (Wait addr width expected timeout) }
         requires free { IsFree (queue_after (M.seen seat.old)) (M.name seat.old) }
         ensures stays { SeatStays M.SharedMemory seat.old seat.new }
-        ensures asked { IfOk result (SeatWaits M.SharedMemory memory.now seat.old seat.new addr width expected timeout) }
+        ensures asked { IfOk result
+            (SeatWaits M.SharedMemory memory.now seat.old seat.new addr width expected timeout) }
         ensures full { OnErr result (SeatRefused M.SharedMemory memory.now seat.old seat.new) }
         ensures reads { IfOk result (SeatReads M.SharedMemory seat.old seat.new addr width expected timeout) }
         ensures others { WaitsReadWhatNotifiersSaw M.opening (M.seen seat.new) }

@@ -5,7 +5,7 @@ use types::{Answer, MOST_THREADS, Question};
 use waiters::Queue;
 
 /// A step of a script, with what it has to answer.
-enum Step {
+enum ScriptStep {
     /// Thread 0 spawns so many threads, the first of a run, with the arguments 101, 102 and so on.
     Spawns(u32),
     /// A thread waits at an address, for a value of 4 bytes that is there, with a timeout.
@@ -29,7 +29,7 @@ enum Step {
 }
 
 use Answer::{ForGood, Number};
-use Step::{Asks, HasArg, IsAlive, IsAsleep, IsOver, Notifies, Sleeps, Spawns, Takes, Waits};
+use ScriptStep::{Asks, HasArg, IsAlive, IsAsleep, IsOver, Notifies, Sleeps, Spawns, Takes, Waits};
 
 /// Puts a question, and answers whether the thread may ask.
 fn ask(queue: &mut Queue, thread: u32, question: &Question) -> bool {
@@ -63,7 +63,7 @@ fn sleep(queue: &mut Queue, thread: u32, addr: u64, timeout: i64) -> bool {
 }
 
 /// Makes a step, and answers whether that goes as it has to.
-fn take_step(queue: &mut Queue, step: &Step) -> bool {
+fn take_step(queue: &mut Queue, step: &ScriptStep) -> bool {
     match *step {
         Spawns(count) => spawn_all(queue, count),
         Sleeps(thread, addr, timeout) => sleep(queue, thread, addr, timeout),
@@ -79,7 +79,7 @@ fn take_step(queue: &mut Queue, step: &Step) -> bool {
 }
 
 /// Plays a script on a new queue, and fails with the first step that doesn't go as it has to.
-fn play(steps: &[Step]) -> Result<(), Fail> {
+fn play(steps: &[ScriptStep]) -> Result<(), Fail> {
     let mut queue = Queue::new(MOST_THREADS as u32);
     for (at, step) in steps.iter().enumerate() {
         if !take_step(&mut queue, step) {
@@ -90,7 +90,7 @@ fn play(steps: &[Step]) -> Result<(), Fail> {
 }
 
 /// Three sleep, and two of them at one address.
-static LONGEST: [Step; 16] = [
+static LONGEST: [ScriptStep; 16] = [
     Spawns(3),
     Sleeps(2, 8, -1),
     Sleeps(1, 8, -1),
@@ -115,7 +115,7 @@ fn notify_wakes_who_slept_longest() -> Result<(), Fail> {
 }
 
 /// Four sleep, two of them at the word of 8 bytes and at another address.
-static WITHOUT_SIGN: [Step; 14] = [
+static WITHOUT_SIGN: [ScriptStep; 14] = [
     Spawns(4),
     Sleeps(1, 8, -1),
     Asks(
@@ -146,7 +146,7 @@ fn notify_counts_without_sign() -> Result<(), Fail> {
 }
 
 /// Another value, and a timeout of 0.
-static AT_ONCE: [Step; 12] = [
+static AT_ONCE: [ScriptStep; 12] = [
     Asks(
         0,
         Question::Wait {
@@ -175,7 +175,7 @@ fn some_waits_are_answered_at_once() -> Result<(), Fail> {
 }
 
 /// Three sleep with timeouts, so that one ends.
-static LEAST_TIMEOUT: [Step; 17] = [
+static LEAST_TIMEOUT: [ScriptStep; 17] = [
     Spawns(2),
     Sleeps(1, 8, 50),
     Sleeps(2, 16, 30),
@@ -201,7 +201,7 @@ fn the_least_timeout_ends() -> Result<(), Fail> {
 }
 
 /// Two sleep with the same timeout.
-static TIES: [Step; 16] = [
+static TIES: [ScriptStep; 16] = [
     Spawns(2),
     Sleeps(2, 8, 5),
     Sleeps(1, 8, 5),
@@ -226,7 +226,7 @@ fn ties_end_at_the_lowest_thread() -> Result<(), Fail> {
 }
 
 /// Timeouts below 0 never end.
-static FOR_GOOD: [Step; 14] = [
+static FOR_GOOD: [ScriptStep; 14] = [
     Spawns(2),
     Sleeps(2, 8, -1),
     Sleeps(1, 8, i64::MIN),
@@ -249,7 +249,7 @@ fn all_sleep_for_good_where_no_timeout_ends() -> Result<(), Fail> {
 }
 
 /// A thread that was woken has not taken its answer yet.
-static WOKEN: [Step; 14] = [
+static WOKEN: [ScriptStep; 14] = [
     Spawns(2),
     Sleeps(1, 8, 5),
     Sleeps(2, 16, -1),
@@ -272,7 +272,7 @@ fn who_was_woken_is_awake() -> Result<(), Fail> {
 }
 
 /// All 63 threads are spawned, and one more.
-static NUMBERS: [Step; 17] = [
+static NUMBERS: [ScriptStep; 17] = [
     Spawns(62),
     Asks(62, Question::Leave),
     Takes(62, Number(0)),
@@ -298,7 +298,7 @@ fn numbers_are_not_used_again() -> Result<(), Fail> {
 }
 
 /// Each of three threads ends.
-static LEAVING: [Step; 16] = [
+static LEAVING: [ScriptStep; 16] = [
     Spawns(2),
     Sleeps(1, 8, 5),
     Sleeps(2, 8, -1),

@@ -5,7 +5,7 @@ ghost use Rattle.shared_memory_sequential.specs.Opening.{can_open, IsSized};
 ghost use Rattle.word_row.specs.Words.{words_of, IsStored};
 
 use crate::Board;
-use shared_memory_on_table::Place;
+use shared_memory_on_table::TableSeat;
 use shared_memory_sequential::{OneMemory, OpenFault};
 use std::alloc::{AllocError, Global};
 use std::marker::Model;
@@ -65,7 +65,7 @@ fn words(alloc: Global, memory: &mut OneMemory) -> Result<Vec<u64>, AllocError>
 #[derive(Drop)]
 pub struct Prepared {
     pub(crate) board: Board,
-    pub(crate) all: Place,
+    pub(crate) all: TableSeat,
     pub(crate) pages_max: u32,
 }
 
@@ -77,7 +77,8 @@ impl Model for Prepared {
 
     ghost view = { λ p. record { table = p.board.shared.table_id; opening = p.board.shared.key; limit = 0 } };
 
-    ghost invariant = { λ p. IsPrepared p.board.shared.table_id p.board.shared.key p.all.table_id p.all.me p.pages_max };
+    ghost invariant = { λ p. IsPrepared p.board.shared.table_id p.board.shared.key p.all.table_id p.all.me
+        p.pages_max };
 }
 
 impl Prepared {

@@ -16,19 +16,19 @@ use crate::prepared::Prepared;
 use crate::seat::{WordSeat, take_seats};
 use crate::{Arrive, Board, Row, tries};
 use shared_memory::SharedMemory;
-use shared_memory_on_table::{Naming, Place, Standing, hand, meet};
+use shared_memory_on_table::{Naming, StandingCaller, TableSeat, hand, meet};
 use shared_memory_sequential::{OpenFault, lane};
 use std::alloc::Global;
 use std::marker::PhantomData;
 use types::{Event, Reply};
 
 // The caller of a seat goes to another, for good.
-fn give_up<B: Naming>(row: &Row, host: &mut Place, seat: Standing<B>)
+fn give_up<B: Naming>(row: &Row, host: &mut TableSeat, seat: StandingCaller<B>)
     requires row { (row.now.table_id ≡ B.table) × (0 < row.now.table_id.words) }
     requires host { host.old.table_id ≡ B.table }
     ensures host { TakesIn B.table seat host.old host.new }
 {
-    let Standing {
+    let StandingCaller {
         name: _,
         mut place,
         of: _,
@@ -37,7 +37,7 @@ fn give_up<B: Naming>(row: &Row, host: &mut Place, seat: Standing<B>)
 }
 
 // All callers come to one seat: a history that goes on from what is seen there goes on from the list of each.
-fn gather<B: Naming>(row: &Row, host: &mut Place, seats: Vec<WordSeat<B>>)
+fn gather<B: Naming>(row: &Row, host: &mut TableSeat, seats: Vec<WordSeat<B>>)
     requires row { (row.now.table_id ≡ B.table) × (0 < row.now.table_id.words) }
     requires host { host.old.table_id ≡ B.table }
     ensures host { host.new.table_id ≡ B.table }
@@ -153,7 +153,7 @@ impl<B: Naming> WordRow<B> {
 
     // One try of an event that loads the page count first, which it answers with the reply.
     #[inline(always)]
-    fn note(&self, caller: &mut Standing<B>, event: Event) -> (u64, Reply)
+    fn note(&self, caller: &mut StandingCaller<B>, event: Event) -> (u64, Reply)
         requires event { IsEvent event }
         requires right { is_of_queue event ≡ true → caller.old.has_queue_right ≡ true }
         ensures tried { MakesTry true B.opening None event result.1 caller.old caller.new }
@@ -178,7 +178,7 @@ impl<B: Naming> WordRow<B> {
     // An access that lies within the memory seen: by a single step on its word where that makes the event, whatever
     // the word is.
     #[inline(always)]
-    fn touch(&self, caller: &mut Standing<B>, event: Event) -> Reply
+    fn touch(&self, caller: &mut StandingCaller<B>, event: Event) -> Reply
         requires event { IsEvent event }
         requires right { is_of_queue event ≡ true → caller.old.has_queue_right ≡ true }
         requires access { is_access event ≡ true }
@@ -209,7 +209,7 @@ impl<B: Naming> WordRow<B> {
 
     // An access that lies within the memory seen, by a load of its word and, where it changes that, an exchange.
     #[inline(always)]
-    fn replace(&self, caller: &mut Standing<B>, event: Event) -> Reply
+    fn replace(&self, caller: &mut StandingCaller<B>, event: Event) -> Reply
         requires event { IsEvent event }
         requires right { is_of_queue event ≡ true → caller.old.has_queue_right ≡ true }
         requires access { is_access event ≡ true }
@@ -225,7 +225,13 @@ impl<B: Naming> WordRow<B> {
 
     // A change of the word that is there after the list seen.
     #[inline(always)]
-    fn exchange(&self, caller: &mut Standing<B>, event: Event, old: u64, change: Change) -> Reply
+    fn exchange(
+        &self,
+        caller: &mut StandingCaller<B>,
+        event: Event,
+        old: u64,
+        change: Change,
+    ) -> Reply
         requires event { IsEvent event }
         requires within { EndsWithin B.opening event caller.old }
         requires change { IsChange B.opening.max event old change }

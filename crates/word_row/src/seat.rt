@@ -6,7 +6,7 @@ ghost use Rattle.shared_memory_on_table.specs.Rule.{opened};
 ghost use Rattle.word_row.specs.Rows.{HasPages};
 
 use crate::{MemoryWords, Row};
-use shared_memory_on_table::{Naming, Place, Standing};
+use shared_memory_on_table::{Naming, StandingCaller, TableSeat};
 use shared_memory_sequential::OneMemory;
 use std::alloc::{AllocError, Global};
 
@@ -14,7 +14,7 @@ use std::alloc::{AllocError, Global};
 #[derive(Drop)]
 pub struct WordSeat<B: Naming> {
     /// Who stands there, and what it has seen.
-    pub caller: Standing<B>,
+    pub caller: StandingCaller<B>,
     /// The greatest page count that the caller has loaded; 0 before it has loaded one. An access that lies within so
     /// many pages needs no load of the page count: the count never falls, so the access lies within the memory at
     /// every later point, also where its word is reached. Nothing but such an access goes by it.
@@ -31,7 +31,7 @@ pub struct WordSeat<B: Naming> {
 pub(crate) fn take_seats<B: Naming>(
     alloc: Global,
     row: &Row,
-    all: &mut Place,
+    all: &mut TableSeat,
 ) -> Result<Vec<WordSeat<B>>, AllocError>
     requires row { (row.now.table_id ≡ B.table) × (0 < row.now.table_id.words) }
     requires all { (all.old.table_id ≡ B.table) × (all.old.me ≡ (opened false, [])) }

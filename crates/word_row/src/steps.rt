@@ -5,12 +5,12 @@ ghost use Rattle.word_row.specs.Answers.{is_access, place_of, Makes, after_singl
 ghost use Rattle.word_row.specs.Rule.{EndsWithin, HasWord, MayTry, NotesAs, ReadsAs, ExchangesAs, FetchesAs, StoresAs};
 
 use crate::{Exchange, Fetch, Making, Note, Read, Row, Single, Store};
-use shared_memory_on_table::{Naming, Place};
+use shared_memory_on_table::{Naming, TableSeat};
 use types::Event;
 
 /// The size word is loaded: the caller's event is entered where the page count settles its reply.
 #[inline(always)]
-pub fn note<B: Naming, M: Making>(row: &Row, place: &mut Place, event: Event) -> u64
+pub fn note<B: Naming, M: Making>(row: &Row, place: &mut TableSeat, event: Event) -> u64
     requires row { HasWord B.opening row.now.key row.now.table_id place.old.table_id 0 }
     requires one { IsOne place.old.me }
     requires making { M.event ≡ event }
@@ -23,7 +23,12 @@ pub fn note<B: Naming, M: Making>(row: &Row, place: &mut Place, event: Event) ->
 
 /// The word of an access within bounds is loaded: the caller's event is entered where the word settles its reply.
 #[inline(always)]
-pub fn read<B: Naming, M: Making>(row: &Row, place: &mut Place, word: usize, event: Event) -> u64
+pub fn read<B: Naming, M: Making>(
+    row: &Row,
+    place: &mut TableSeat,
+    word: usize,
+    event: Event,
+) -> u64
     requires row { HasWord B.opening row.now.key row.now.table_id place.old.table_id word }
     requires one { IsOne place.old.me }
     requires making { M.event ≡ event }
@@ -41,7 +46,7 @@ pub fn read<B: Naming, M: Making>(row: &Row, place: &mut Place, word: usize, eve
 #[inline(always)]
 pub fn exchange<B: Naming, M: Making>(
     row: &Row,
-    place: &mut Place,
+    place: &mut TableSeat,
     word: usize,
     old: u64,
     new: u64,
@@ -64,7 +69,7 @@ pub fn exchange<B: Naming, M: Making>(
 #[inline(always)]
 pub fn store<B: Naming, M: Making>(
     row: &Row,
-    place: &mut Place,
+    place: &mut TableSeat,
     word: usize,
     new: u64,
     event: Event,
@@ -86,7 +91,7 @@ pub fn store<B: Naming, M: Making>(
 #[inline(always)]
 pub fn fetch<B: Naming, M: Making>(
     row: &Row,
-    place: &mut Place,
+    place: &mut TableSeat,
     word: usize,
     single: Single,
     event: Event,

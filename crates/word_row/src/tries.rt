@@ -5,13 +5,13 @@ ghost use Rattle.word_row.specs.Answers.{is_access, Makes, after_single, IsMadeB
 ghost use Rattle.word_row.specs.Rule.{EndsWithin, ExchangesWord, FetchesWord, IsRow, NotesPages, ReadsWord};
 
 use crate::{Row, Single, changes, steps};
-use shared_memory_on_table::{Naming, Standing};
+use shared_memory_on_table::{Naming, StandingCaller};
 use std::marker::Brand;
 use types::Event;
 
 /// Loads the page count.
 #[inline(always)]
-pub fn note<B: Naming>(row: &Row, caller: &mut Standing<B>, event: Event) -> u64
+pub fn note<B: Naming>(row: &Row, caller: &mut StandingCaller<B>, event: Event) -> u64
     requires row { IsRow B.table B.opening row.now.table_id row.now.key }
     requires event { IsEvent event }
     requires right { is_of_queue event ≡ true → caller.old.has_queue_right ≡ true }
@@ -22,7 +22,7 @@ pub fn note<B: Naming>(row: &Row, caller: &mut Standing<B>, event: Event) -> u64
 
 /// Loads the word of an access that lies within the memory seen.
 #[inline(always)]
-pub fn read<B: Naming>(row: &Row, caller: &mut Standing<B>, event: Event) -> u64
+pub fn read<B: Naming>(row: &Row, caller: &mut StandingCaller<B>, event: Event) -> u64
     requires row { IsRow B.table B.opening row.now.table_id row.now.key }
     requires event { IsEvent event }
     requires right { is_of_queue event ≡ true → caller.old.has_queue_right ≡ true }
@@ -37,7 +37,7 @@ pub fn read<B: Naming>(row: &Row, caller: &mut Standing<B>, event: Event) -> u64
 #[inline(always)]
 pub fn exchange<B: Naming>(
     row: &Row,
-    caller: &mut Standing<B>,
+    caller: &mut StandingCaller<B>,
     event: Event,
     old: u64,
     new: u64,
@@ -61,7 +61,7 @@ pub fn exchange<B: Naming>(
 
 /// Stores the word of an event, whatever it was.
 #[inline(always)]
-pub fn store<B: Naming>(row: &Row, caller: &mut Standing<B>, event: Event, new: u64)
+pub fn store<B: Naming>(row: &Row, caller: &mut StandingCaller<B>, event: Event, new: u64)
     requires row { IsRow B.table B.opening row.now.table_id row.now.key }
     requires event { IsEvent event }
     requires right { is_of_queue event ≡ true → caller.old.has_queue_right ≡ true }
@@ -80,7 +80,12 @@ pub fn store<B: Naming>(row: &Row, caller: &mut Standing<B>, event: Event, new: 
 
 /// Changes the word of an event by a single exchange, whatever it was, and answers the word found.
 #[inline(always)]
-pub fn fetch<B: Naming>(row: &Row, caller: &mut Standing<B>, event: Event, single: Single) -> u64
+pub fn fetch<B: Naming>(
+    row: &Row,
+    caller: &mut StandingCaller<B>,
+    event: Event,
+    single: Single,
+) -> u64
     requires row { IsRow B.table B.opening row.now.table_id row.now.key }
     requires event { IsEvent event }
     requires right { is_of_queue event ≡ true → caller.old.has_queue_right ≡ true }

@@ -1,5 +1,5 @@
 use Rattle.std.proofs.lemmas.Result.{err_from_is_err_and, IfOk-weaker}
-use Rattle.report_jobs.specs.Prints.{Change, change, Prints, PrintsRun}
+use Rattle.report_jobs.specs.Prints.{WriterChange, change, Prints, PrintsRun}
 use Rattle.report_jobs.specs.Troubles.{request_of}
 use Rattle.report_jobs.proofs.Calls.{of_words}
 use Rattle.report_jobs.proofs.Printed.{printed_on_words}
@@ -17,6 +17,6 @@ returns-clause-made g c =
     let m = c.args.module.now.parts in
     let asked = request_of c.args.wanted.now in
     let out = change (g.W.Write.contents c.args.out.now) (g.W.Write.contents c.print.new.out) in
-    IfOk-weaker c.print.result (Prints c.in_ok-end.end asked.dump out) (λ status. (saved : Change) → PrintsRun m asked out saved status)
+    IfOk-weaker c.print.result (Prints c.in_ok-end.end asked.dump out) (λ status. (saved : WriterChange) → PrintsRun m asked out saved status)
     (λ status prints saved. printed_on_words m asked out saved status c.args.args.now c.in_ok-end.end c.requires.spelled c.requires.takes
     prints c.requires.memory c.in_ok-end.ensures.end) c.print.ensures.prints

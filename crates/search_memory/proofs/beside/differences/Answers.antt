@@ -1,5 +1,5 @@
 use Rattle.std.proofs.Common.{fold, List, ◌∙◌, ap, get_or}
-use Rattle.search_memory.specs.declared.beside.Change.{Change}
+use Rattle.search_memory.specs.declared.beside.ChangedByte.{ChangedByte}
 use Rattle.search_memory.specs.Memories.{with_change}
 use Rattle.search_memory.proofs.Differing.{changed_one, left_one, fold_more}
 use Rattle.search_memory.proofs.beside.differences.Goals.{then-bytes-at+in_ok-push, else-bytes-at}
@@ -13,7 +13,7 @@ loop-at-preserved c =
     elim c.if-bytes-at.branch [
       | then-bytes-at+in_ok-push w ↦
           ap (λ v. fold with_change first v.items) w.changes-is
-          ∙ (ap (λ (xs : List Change). fold with_change first xs) w.in_ok-push.ensures.items
+          ∙ (ap (λ (xs : List ChangedByte). fold with_change first xs) w.in_ok-push.ensures.items
           ∙ (fold_more with_change first c.loop-at.changes.items _
           ∙ (ap (λ bs. with_change bs (record { at = at; byte = get_or bytes at 0 })) c.loop-at.invariant ∙ changed_one bytes first at 0 c.loop-at-test.true c.requires)))
       | else-bytes-at w ↦

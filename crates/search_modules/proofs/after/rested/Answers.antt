@@ -2,7 +2,7 @@ use Rattle.std.proofs.Common.{sym, subst}
 use Rattle.schedule.specs.Scheduled.{after_event}
 use Rattle.search_runs.specs.Called.{system_of}
 use Rattle.search_walkers.specs.Walkers.{RestsAt}
-use Rattle.search_walkers.specs.declared.walker.Standing.{Standing}
+use Rattle.search_walkers.specs.declared.walker.RestingThread.{RestingThread}
 use Rattle.search_modules.specs.Moved.{called}
 use Rattle.search_modules.proofs.after.rested.Goals as goal
 
@@ -16,7 +16,7 @@ pub returns-clause-rests : goal.returns-clause-rests
 returns-clause-rests c =
     let s = c.args.searched.now in
     let rests = rw c.in-Some.is at c.in_ok-rest.ensures.rests in
-    λ z e after. subst (λ (x : Standing). RestsAt s.valid.now (called s) ((after_event (system_of (called s)) z c.args.n e).threads c.args.m) x)
+    λ z e after. subst (λ (x : RestingThread). RestsAt s.valid.now (called s) ((after_event (system_of (called s)) z c.args.n e).threads c.args.m) x)
     (sym c.in_ok-walker.ensures) (rests (called s) z e after)
 
 pub returns-in_default-clause-gives_up : goal.returns-in_default-clause-gives_up

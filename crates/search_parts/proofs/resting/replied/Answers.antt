@@ -2,7 +2,7 @@ use Rattle.std.proofs.Common.{sym, subst}
 use Rattle.schedule.specs.System.{put}
 use Rattle.schedule.proofs.Basics.{put-same, put-other}
 use Rattle.search_settled.specs.Settled.{MakesTurns}
-use Rattle.search_walkers.specs.Walkers.{RestsAt, StandsFor, patience}
+use Rattle.search_walkers.specs.Walkers.{RestsAt, StandsForThread, patience}
 use Rattle.search_runs.specs.Called.{system_of, reply_by}
 use Rattle.search_parts.specs.Parts.{IsRested}
 use Rattle.search_parts.proofs.AtRest.{at_rest}
@@ -14,7 +14,7 @@ returns-then-n-m-clause-rests c = λ b z e after.
     let n = c.args.n in
     let taken = (system_of b).takes (z.threads n) (reply_by z.shared n e) in
     let rested = rw c.in-Some.is at c.in_ok-taken.ensures.rests in
-    let stands = subst (λ k. StandsFor w c.args.standing.now (z.threads k)) (sym c.if-n-m.true) after.rested.stands in
+    let stands = subst (λ k. StandsForThread w c.args.standing.now (z.threads k)) (sym c.if-n-m.true) after.rested.stands in
     let here = rested b (z.threads n) e after.of stands after.calls in
     let same = subst (λ r. RestsAt w b ((system_of b).takes (z.threads n) r) c.in-Some.taken) after.makes.reply here in
     subst (λ k. RestsAt w b (put z.threads n taken k) c.in-Some.taken) c.if-n-m.true
@@ -34,7 +34,7 @@ returns-in_default-clause-gives_up c _ = λ b z e after.
     let w = c.args.valid.now in
     let n = c.args.n in
     let taken = (system_of b).takes (z.threads n) (reply_by z.shared n e) in
-    let stands = subst (λ k. StandsFor w c.args.standing.now (z.threads k)) (sym c.if-n-m.true) after.rested.stands in
+    let stands = subst (λ k. StandsForThread w c.args.standing.now (z.threads k)) (sym c.if-n-m.true) after.rested.stands in
     let here = c.in_ok-taken.ensures.gives_up c.in_default.is b (z.threads n) e after.of stands after.calls in
     let same = subst (λ r. MakesTurns (system_of b) patience ((system_of b).takes (z.threads n) r)) after.makes.reply here in
     subst (λ k. MakesTurns (system_of b) patience (put z.threads n taken k)) c.if-n-m.true

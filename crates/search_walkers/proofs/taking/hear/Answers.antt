@@ -6,7 +6,7 @@ use Rattle.interp_trait.specs.declared.turn.Given.TheVariants as given
 use Rattle.interp_trait.specs.Turns.{wants_of}
 use Rattle.search_settled.specs.Settled.{MakesTurns}
 use Rattle.search_runs.specs.Called.{system_of}
-use Rattle.search_walkers.specs.Walkers.{StandsFor, MayBeGiven, patience}
+use Rattle.search_walkers.specs.Walkers.{StandsForThread, MayBeGiven, patience}
 use Rattle.search_walkers.proofs.Walking.{same_wants}
 use Rattle.search_walkers.proofs.Giving.{no_hearer}
 use Rattle.search_walkers.proofs.taking.hear.Goals as goal
@@ -14,7 +14,7 @@ use Rattle.search_walkers.proofs.taking.hear.Goals as goal
 pub returns-in_default-2-clause-gives_up : goal.returns-in_default-2-clause-gives_up
 returns-in_default-2-clause-gives_up c _ = λ b v of stands wants.
     let w = c.args.valid.now in
-    let is = subst (λ s. StandsFor w s v) c.in-Going.is stands in
+    let is = subst (λ s. StandsForThread w s v) c.in-Going.is stands in
     let wanted = same_wants b (At is.0) 1000000 ∙ (ap (λ u. (system_of b).wants u) (sym is.1) ∙ wants) in
     let may : MayBeGiven w c.in-Going.kept 1000001 (given.Told c.args.answer) is.0 = record {
       kept = is.2;

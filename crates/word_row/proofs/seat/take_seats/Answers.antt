@@ -3,19 +3,19 @@ use Rattle.std.specs.Vec.Iter.{into_iter_len}
 use Rattle.std.proofs.lemmas.List.{map-id, map-append}
 use Rattle.std.proofs.lemmas.Iterator.Adapters.{YieldsList-from_vec}
 use Rattle.std.proofs.lemmas.Iterator.Consumers.{YieldsList-end}
-use Rattle.shared_memory_on_table.specs.declared.seat.Standing.{Standing}
+use Rattle.shared_memory_on_table.specs.declared.seat.StandingCaller.{StandingCaller}
 use Rattle.shared_memory_on_table.specs.declared.seat.CallerSeat.{CallerSeat}
 use Rattle.word_row.specs.declared.seat.WordSeat.{WordSeat}
 use Rattle.word_row.proofs.seat.take_seats.Goals as goal
 
 pub loop-seat-preserved : goal.loop-seat-preserved
 loop-seat-preserved g c =
-    let given : CallerSeat g.row.B.Denot g.B.Naming → Standing g.row.B.Denot = λ s. s.caller in
-    let kept : WordSeat g.row.B.Denot g.B.Naming → Standing g.row.B.Denot = λ s. s.caller in
+    let given : CallerSeat g.row.B.Denot g.B.Naming → StandingCaller g.row.B.Denot = λ s. s.caller in
+    let kept : WordSeat g.row.B.Denot g.B.Naming → StandingCaller g.row.B.Denot = λ s. s.caller in
     record {
       same = ap (map kept) c.in_ok-push.ensures.items
           ∙ map-append kept c.loop-seat.seats.items _
-          ∙ ap (λ (l : List (Standing g.row.B.Denot)). l ++ c.in-Some.seat.caller ∷ []) c.loop-seat.invariant.same
+          ∙ ap (λ (l : List (StandingCaller g.row.B.Denot)). l ++ c.in-Some.seat.caller ∷ []) c.loop-seat.invariant.same
           ∙ sym (map-append given c.loop-seat.yielded (c.in-Some.seat ∷ []));
     }
 

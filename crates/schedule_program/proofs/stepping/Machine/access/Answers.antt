@@ -2,7 +2,7 @@ use Rattle.std.proofs.Common.{refl, sym, ◌∙◌, ap, subst}
 use Rattle.shared_memory.specs.Memory.{reply_of}
 use Rattle.schedule.specs.Machine.{thread_takes}
 use Rattle.schedule_threads.specs.Threads.{machine_of}
-use Rattle.schedule_machine.specs.Threads.{IsMade}
+use Rattle.schedule_machine.specs.Threads.{IsMadeReply}
 use Rattle.schedule_program.specs.Threads.{IsThread}
 use Rattle.schedule_program.proofs.Slots.{thread_in}
 use Rattle.schedule_machine.proofs.Accesses.{memory_made, queue_stays, none_starts}
@@ -10,7 +10,7 @@ use Rattle.schedule_program.proofs.Accesses.{at_access}
 use Rattle.schedule_program.proofs.stepping.Machine.access.Goals as goal
 
 pub take-requires-clause-made : goal.take-requires-clause-made
-take-requires-clause-made g c = subst IsMade (sym c.step-reply.ensures.reply) (memory_made c.args.self.now.memory c.args.event)
+take-requires-clause-made g c = subst IsMadeReply (sym c.step-reply.ensures.reply) (memory_made c.args.self.now.memory c.args.event)
 
 pub returns-clause-state : goal.returns-clause-state
 returns-clause-state g c s w at calls =

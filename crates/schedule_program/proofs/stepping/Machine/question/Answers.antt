@@ -5,7 +5,7 @@ use Rattle.shared_memory.specs.Memory.{reply_of}
 use Rattle.shared_memory.specs.History.{queue_step}
 use Rattle.schedule.specs.Machine.{thread_takes}
 use Rattle.schedule_threads.specs.Threads.{machine_of}
-use Rattle.schedule_machine.specs.Threads.{IsMade}
+use Rattle.schedule_machine.specs.Threads.{IsMadeReply}
 use Rattle.schedule_program.specs.Threads.{IsThread}
 use Rattle.schedule_machine.specs.Runs.{opening_value}
 use Rattle.schedule_program.proofs.Slots.{none_of, thread_in}
@@ -16,7 +16,7 @@ use Rattle.schedule_program.proofs.Asking as asking
 use Rattle.schedule_program.proofs.stepping.Machine.question.Goals as goal
 
 pub take-requires-clause-made : goal.take-requires-clause-made
-take-requires-clause-made g c = subst IsMade (sym c.step-reply.ensures.reply) (memory_made c.args.self.now.memory (Ask c.args.question))
+take-requires-clause-made g c = subst IsMadeReply (sym c.step-reply.ensures.reply) (memory_made c.args.self.now.memory (Ask c.args.question))
 
 pub ask-requires-clause-due : goal.ask-requires-clause-due
 ask-requires-clause-due g c =

@@ -1,5 +1,5 @@
 use Rattle.std.proofs.lemmas.Result.{IfOk-weaker}
-use Rattle.search_finds.proofs.search.Search.is_sought.Goals as goal
+use Rattle.search_finds.proofs.search.RunMaker.is_sought.Goals as goal
 
 pub returns : goal.returns
 returns c =

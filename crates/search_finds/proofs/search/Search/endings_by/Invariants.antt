@@ -1,8 +1,0 @@
-use Rattle.std.proofs.Common.{All, IfOk}
-use Rattle.search_finds.specs.Finds.{IsMet}
-use Rattle.search_finds.proofs.search.Search.endings_by.Given as goal
-
-abbrev pub invariant-loop : goal.invariant-loop
-invariant-loop g l = All (λ piece. IfOk piece (λ endings. All (IsMet l.self.module.now.parts l.self.call l.self.sought.limit
-    l.self.sought.dump) endings.items)) l.pieces.items
-    × All (IsMet l.self.module.now.parts l.self.call l.self.sought.limit l.self.sought.dump) l.endings.items
