@@ -24,7 +24,7 @@ use Rattle.validate_typing.specs.Context.{imported_functions, functions_of}
 use Rattle.validate_typing.specs.Tabled.{WithTables, IsValidated}
 use Rattle.interp_machine.specs.Config.{Config, Asks, values_in, values_of}
 use Rattle.interp_machine.specs.Program.{Program, Function, program_of, function_of_body}
-use Rattle.interp_machine.specs.StepResult.{next, runs, opens, calls, calls_own, waits}
+use Rattle.interp_machine.specs.Step.{next, runs, opens, calls, calls_own, waits}
 use Rattle.interp_state.specs.declared.state.Program.{Program as Prog}
 use Rattle.interp_state.specs.declared.state.State.{State}
 use Rattle.interp_state.specs.declared.state.Progress.TheVariants.{Fresh, Asked}

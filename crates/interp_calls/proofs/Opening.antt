@@ -23,7 +23,7 @@ use Rattle.validate_typing.specs.Tabled.{WithTables, IsValidated, flat_body}
 use Rattle.validate_typing.proofs.Nested.{nested_of_flat}
 use Rattle.interp_machine.specs.Config.{Frame, Config, Fresh as NotBegun, Goes, Traps, values_in, values_of}
 use Rattle.interp_machine.specs.Program.{Function, program_of, function_of_body, zero_of}
-use Rattle.interp_machine.specs.StepResult.{next, runs, opens}
+use Rattle.interp_machine.specs.Step.{next, runs, opens}
 use Rattle.interp_state.specs.declared.state.Caller.{Caller}
 use Rattle.interp_state.specs.declared.state.Program.{Program as Prog}
 use Rattle.interp_state.specs.declared.state.State.{State}

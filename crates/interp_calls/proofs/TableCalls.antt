@@ -25,7 +25,7 @@ use Rattle.validate_typing.specs.Context.{imported_functions, functions_of}
 use Rattle.validate_typing.specs.Tabled.{WithTables, IsValidated}
 use Rattle.interp_machine.specs.Config.{Config, Traps}
 use Rattle.interp_machine.specs.Program.{Program, program_of, opening_table}
-use Rattle.interp_machine.specs.StepResult.{next, runs, limited, calls, calls_place, same_type}
+use Rattle.interp_machine.specs.Step.{next, runs, limited, calls, calls_place, same_type}
 use Rattle.interp_state.specs.declared.state.Program.{Program as Prog}
 use Rattle.interp_state.specs.declared.state.State.{State}
 use Rattle.interp_state.specs.declared.state.Progress.TheVariants.{Asked}
