@@ -6,13 +6,15 @@ use Rattle.types.specs.declared.limits.TheConstants.{MOST_PAGES}
 use Rattle.validate_module.specs.Pages.{HasPagesWithin}
 use Rattle.shared_memory.specs.Memory.{Memory}
 use Rattle.schedule_runs.specs.Runs.{Start}
+use Rattle.spawn_host.specs.Requests.{Requested}
 use Rattle.spawn_host.specs.Runs.{Beginning, start_by, opening_memory, opening_within}
 use Rattle.replay_text.specs.declared.version.Version.{Version}
 use Rattle.replay_text.specs.declared.parts.RecordParts.{RecordParts}
 use Rattle.replay_rules.specs.Recorded.{IsRecordedRun}
 use Rattle.spawn_host.specs.declared.end.EndState.{EndState}
 use Rattle.replay.specs.Runs.{BeginsBy, start_of_record, IsLengthOf, HasLength, HasPages, IsRunOf}
-use Rattle.search_scheduled.specs.Headers.{HasHeaderOf, IsOfCall, Concludes}
+use Rattle.replay.specs.Threads.{requested_by}
+use Rattle.search_scheduled.specs.Headers.{HasHeaderOf, IsOfCall, IsOfRequest, Concludes}
 
 -- a call's header is of its module
 pub has_length : (m : Parts) (name : List ℕ) (values : List Value) (units most : ℕ) (r : RecordParts) → IsOfCall m name values units most r
@@ -22,6 +24,13 @@ has_length m name values units most r h = subst (λ (v : Version). IsLengthOf v 
 pub has_pages : (m : Parts) (name : List ℕ) (values : List Value) (units most : ℕ) (r : RecordParts) → IsOfCall m name values units most r
     → HasPagesWithin MOST_PAGES m → HasPages m r
 has_pages m name values units most r h within = subst (λ (q : ℕ). HasPagesWithin q m) (sym h.max_pages) within
+
+-- what a record with its header calls
+pub requested_is : (q : Requested) (most : ℕ) (r : RecordParts) → IsOfRequest q most r → requested_by q.parts r ≡ q
+requested_is q most r h =
+    let made : List ℕ → List Value → ℕ → Requested = λ name args fuel. record { parts = q.parts; name = name; args = args; fuel = fuel } in
+    ap (λ (name : List ℕ). made name r.args r.fuel) h.invoke
+    ∙ (ap (λ (args : List Value). made q.name args r.fuel) h.args ∙ ap (λ (fuel : ℕ). made q.name q.args fuel) h.fuel)
 
 -- its memory opens as every run's
 pub opens_by : (m : Parts) (name : List ℕ) (values : List Value) (units most : ℕ) (r : RecordParts) → IsOfCall m name values units most r

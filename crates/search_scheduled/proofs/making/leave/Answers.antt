@@ -3,7 +3,7 @@ use Rattle.shared_memory.proofs.Soundness.{alive_below}
 use Rattle.types.specs.declared.event.Event.TheVariants as events
 use Rattle.types.specs.declared.event.Question.TheVariants.{Leave}
 use Rattle.types.specs.declared.event.Reply.TheVariants.{Done}
-use Rattle.replay_walk.proofs.MadeRun.{is_free}
+use Rattle.replay_walk.proofs.Made.{is_free}
 use Rattle.replay_walk.proofs.Taken.{took_as}
 use Rattle.search_scheduled.proofs.making.leave.Goals as goal
 

@@ -8,7 +8,7 @@ use Rattle.shared_memory.specs.WaitQueue.{WaitQueue, next_id}
 use Rattle.shared_memory.specs.History.{queue_step}
 use Rattle.replay_walk.specs.Standing.{IsAnswered, IsStanding, made_by}
 use Rattle.replay_walk.proofs.Ending.{goes_on}
-use Rattle.replay_walk.proofs.MadeRun.{is_free, right, has_taken, spawn_ready, made_plain, nobody, queue_stays}
+use Rattle.replay_walk.proofs.Made.{is_free, right, has_taken, spawn_ready, made_plain, nobody, queue_stays}
 use Rattle.replay_walk.proofs.Asked.{made_question}
 use Rattle.search_scheduled.proofs.Answering.{is_answered}
 use Rattle.search_scheduled.proofs.making.make_in.Goals as goal

@@ -1,19 +1,27 @@
-use Rattle.std.proofs.Common.{ℕ, sym, ◌∙◌, ap}
+use Rattle.std.proofs.Common.{List, sym, ◌∙◌, ap, subst}
+use Rattle.types.specs.declared.export.Export.{Export}
 use Rattle.interp.specs.Threads.{meaning_in}
-use Rattle.spawn_host.specs.Runs.{opening_within}
-use Rattle.search_scheduled.proofs.Beginnings.{can_begin}
+use Rattle.spawn_host.specs.Requests.{Requested}
+use Rattle.spawn_host.specs.Runs.{opening_memory}
+use Rattle.replay.specs.Threads.{AreThreadsFor}
+use Rattle.replay.proofs.Ready.{can_begin}
+use Rattle.search_scheduled.proofs.Rebased.{requested_is, opens_by}
 use Rattle.search_scheduled.proofs.running.course_of.Goals as goal
 
 pub returns-clause-begun : goal.returns-clause-begun
-returns-clause-begun c =
-    let m = c.args.module.now.parts in
-    let opened = c.in_ok-memory.ensures.memory ∙ ap (λ (q : ℕ). opening_within q m) (sym c.requires.pages) in
-    let b = can_begin meaning_in m c.args.header.now c.show_distinct_names.ensures c.in_ok-threads.threads.items c.in_ok-memory.memory
-    c.in_ok-threads.ensures.threads opened in record {
+returns-clause-begun c = λ r h.
+    let q = c.args.request.now in
+    let m = q.parts in
+    let of_module = c.module-module.ensures in
+    let distinct = rw of_module at c.show_distinct_names.ensures in
+    let opened = opens_by m q.name q.args q.fuel c.args.limit r h c.in_ok-memory.memory (c.in_ok-memory.ensures ∙ ap opening_memory of_module) in
+    let threads = subst (λ (x : Requested). AreThreadsFor meaning_in x c.in_ok-threads.threads.items) (sym (requested_is q c.args.limit r h))
+    c.in_ok-threads.ensures.threads in
+    let b = can_begin meaning_in m r distinct c.in_ok-threads.threads.items c.in_ok-memory.memory threads opened in record {
       beginning = b.beginning;
       run = b.run;
       same = b.same;
-      came = c.new.ensures b.run b.ready.ready (b.ready.most ∙ c.requires.threads) b.ready.budget b.ready.limit;
+      came = c.new.ensures b.run b.ready.ready (b.ready.most ∙ h.threads) (b.ready.budget ∙ (h.fuel ∙ c.call.ensures.call.fuel_is)) (b.ready.limit ∙ h.limit);
       most = b.ready.most;
       budget = b.ready.budget;
       limit = b.ready.limit;
