@@ -76,8 +76,8 @@ abbrev pub EndsAlone : {S T : Type 0} → OverMemory S → (T → Meaning) → C
 EndsAlone mem meaning crew ends = IsAlone mem meaning crew.first crew.seat crew.seats.items ends
 
 -- The ends of a crew, or of a first thread beside which there's none.
-abbrev pub EndsRun : {S T : Type 0} → OverMemory S → (T → Meaning) → Crew T S → List (WorkerEnd S) → Type 0
-EndsRun mem meaning crew ends =
+abbrev pub EndsAll : {S T : Type 0} → OverMemory S → (T → Meaning) → Crew T S → List (WorkerEnd S) → Type 0
+EndsAll mem meaning crew ends =
     EndsCrew mem meaning crew ends ⊎ ((crew.threads.items ≡ []) × EndsAlone mem meaning crew ends)
 
 -- So many threads can be spawned: all that a run can have, or none, where the program imports no function.

@@ -24,7 +24,7 @@ use waiters_desk::Desk;
 
 /// What the threads of a run have in common.
 #[derive(Drop)]
-pub(crate) struct Common<'s, M: SharedMemory, W: Wait + Drop, G, R> {
+pub(crate) struct Workplace<'s, M: SharedMemory, W: Wait + Drop, G, R> {
     pub(crate) rt: &'s R,
     pub(crate) memory: &'s M,
     pub(crate) desk: &'s Desk<M, W>,
@@ -58,7 +58,7 @@ impl<T: TakesTurns, M: SharedMemory> Promise<WorkerEnd<M::Seat>> for Duty<T, M> 
 /// Starts a worker for a thread, with its seat.
 fn start_worker<'s, E, T, M, W, G, R>(
     scope: &Scope<'s, E>,
-    common: &'s Common<'s, M, W, G, R>,
+    place: &'s Workplace<'s, M, W, G, R>,
     thread: T,
     seat: M::Seat,
 ) -> Result<PromisedHandle<WorkerEnd<M::Seat>, Duty<T, M>>, StartFault>
@@ -71,10 +71,10 @@ where
     R: Wait + Sync,
     requires new { entries_of (M.name seat) (M.seen seat) ≡ [] }
     requires begins { MayBeSpawned (T.meaning thread) }
-    ensures { IfOk result (λ handle. IsDuty common.now.memory.now thread seat handle) }
+    ensures { IfOk result (λ handle. IsDuty place.now.memory.now thread seat handle) }
 {
     let duty = Duty {
-        memory: Snapshot::of(common.memory),
+        memory: Snapshot::of(place.memory),
         seat: Snapshot::of(&seat),
         thread: Snapshot::of(&thread),
     };
@@ -83,8 +83,8 @@ where
         move || -> WorkerEnd<M::Seat>
             requires new { entries_of (M.name seat) (M.seen seat) ≡ [] }
             requires begins { MayBeSpawned (T.meaning thread) }
-            ensures { EndsWork (over M.SharedMemory common.entry.now.memory.now) T.meaning thread seat result }
-        { work(common, thread, seat) },
+            ensures { EndsWork (over M.SharedMemory place.entry.now.memory.now) T.meaning thread seat result }
+        { work(place, thread, seat) },
     ) else {
         return Err(StartFault::NoThread);
     };
@@ -95,7 +95,7 @@ where
 fn start_workers<'s, E, T, M, W, G, R>(
     scope: &Scope<'s, E>,
     alloc: Global,
-    common: &'s Common<'s, M, W, G, R>,
+    place: &'s Workplace<'s, M, W, G, R>,
     threads: Vec<T>,
     seats: Vec<M::Seat>,
 ) -> Result<Vec<PromisedHandle<WorkerEnd<M::Seat>, Duty<T, M>>>, StartFault>
@@ -109,7 +109,7 @@ where
     requires len { vec_len threads ≡ vec_len seats }
     requires new { All (λ (s : M.Seat). entries_of (M.name s) (M.seen s) ≡ []) seats.items }
     requires begins { All (λ (t : T). MayBeSpawned (T.meaning t)) threads.items }
-    ensures { IfOk result (λ handles. AllThree (IsDuty common.now.memory.now) threads.items seats.items handles.items
+    ensures { IfOk result (λ handles. AllThree (IsDuty place.now.memory.now) threads.items seats.items handles.items
         × (vec_len handles ≡ vec_len seats)) }
 {
     let Ok(mut handles) = Vec::with_capacity(alloc, seats.len()) else {
@@ -120,7 +120,7 @@ where
         let Some(thread) = threads.next() else {
             unreachable!()
         };
-        match start_worker(scope, common, thread, seat) {
+        match start_worker(scope, place, thread, seat) {
             Ok(handle) => handles.push_reserved(handle),
             Err(fault) => return Err(fault),
         }
@@ -146,7 +146,7 @@ fn join_all<T: TakesTurns, M: SharedMemory, R: Threads>(
 pub(crate) fn lead_crew<'s, E, T, M, W, G, R>(
     scope: &Scope<'s, E>,
     alloc: Global,
-    common: &'s Common<'s, M, W, G, R>,
+    place: &'s Workplace<'s, M, W, G, R>,
     crew: Crew<T, M::Seat>,
     mut ends: Vec<WorkerEnd<M::Seat>>,
 ) -> Result<Vec<WorkerEnd<M::Seat>>, StartFault>
@@ -161,7 +161,7 @@ where
     requires len { vec_len crew.threads ≡ vec_len crew.seats }
     requires empty { ends.items ≡ [] }
     requires room { MOST_THREADS ≤ vec_capacity ends }
-    ensures { IfOk result (λ all. EndsCrew (over M.SharedMemory common.now.memory.now) T.meaning crew all.items) }
+    ensures { IfOk result (λ all. EndsCrew (over M.SharedMemory place.now.memory.now) T.meaning crew all.items) }
 {
     let Crew {
         first,
@@ -169,15 +169,15 @@ where
         threads,
         seats,
     } = crew;
-    let handles = match start_workers(scope, alloc, common, threads, seats) {
+    let handles = match start_workers(scope, alloc, place, threads, seats) {
         Ok(handles) => handles,
         Err(fault) => {
-            common.desk.end(common.memory, &mut seat);
+            place.desk.end(place.memory, &mut seat);
             return Err(fault);
         }
     };
-    ends.push_reserved(lead(common, first, seat));
-    join_all(common.rt, handles, &mut ends);
+    ends.push_reserved(lead(place, first, seat));
+    join_all(place.rt, handles, &mut ends);
     Ok(ends)
 }
 
@@ -193,7 +193,7 @@ fn leave_idle<S: Drop>(seats: Vec<S>, ends: &mut Vec<WorkerEnd<S>>)
 
 /// Runs the first thread in the calling one, of a crew in which no other can be spawned.
 pub(crate) fn lead_alone<T, M, W, G, R>(
-    common: &Common<M, W, G, R>,
+    place: &Workplace<M, W, G, R>,
     crew: Crew<T, M::Seat>,
     mut ends: Vec<WorkerEnd<M::Seat>>,
 ) -> Vec<WorkerEnd<M::Seat>>
@@ -206,7 +206,7 @@ where
     requires start { MayStart M.name M.seen T.meaning crew }
     requires empty { ends.items ≡ [] }
     requires room { MOST_THREADS ≤ vec_capacity ends }
-    ensures { EndsAlone (over M.SharedMemory common.now.memory.now) T.meaning crew result.items }
+    ensures { EndsAlone (over M.SharedMemory place.now.memory.now) T.meaning crew result.items }
 {
     let Crew {
         first,
@@ -214,26 +214,26 @@ where
         threads: _,
         seats,
     } = crew;
-    ends.push_reserved(lead(common, first, seat));
+    ends.push_reserved(lead(place, first, seat));
     leave_idle(seats, &mut ends);
     ends
 }
 
 /// Runs the first thread.
 fn lead<T: TakesTurns + Drop, M: SharedMemory, W: Wait + Drop, G: Gate, R: Wait>(
-    common: &Common<M, W, G, R>,
+    place: &Workplace<M, W, G, R>,
     first: T,
     seat: M::Seat,
 ) -> WorkerEnd<M::Seat>
     requires here { MayRun (T.meaning first) }
     requires free { IsFree (queue_after (M.seen seat)) (M.name seat) }
-    ensures { EndsFirst (over M.SharedMemory common.now.memory.now) T.meaning first seat result }
+    ensures { EndsFirst (over M.SharedMemory place.now.memory.now) T.meaning first seat result }
 {
     let ThreadEnd {
         outcome,
         seat,
         spent,
-    } = run_thread(common.rt, first, common.memory, seat, common.desk, common.gate);
+    } = run_thread(place.rt, first, place.memory, seat, place.desk, place.gate);
     let report = Some(ThreadReport { outcome, spent });
     WorkerEnd { report, seat }
 }

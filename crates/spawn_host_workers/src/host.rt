@@ -4,12 +4,12 @@ ghost use Rattle.std.specs.Prelude.{vec_len, vec_capacity};
 ghost use Rattle.types.specs.declared.limits.TheConstants.{DESK_NAME, MOST_THREADS, SEATS};
 ghost use Rattle.interp_trait.specs.Turns.{MayRun, MayBeSpawned};
 ghost use Rattle.spawn_host_workers.specs.OverMemory.{over};
-ghost use Rattle.spawn_host_workers.specs.Crew.{CountsSpawnable, EndsCrew, EndsRun, MayStart};
+ghost use Rattle.spawn_host_workers.specs.Crew.{CountsSpawnable, EndsCrew, EndsAll, MayStart};
 ghost use Rattle.spawn_host_workers.specs.Composed.{reported, seats_of};
 ghost use Rattle.spawn_host_workers.specs.declared.report.StartFault.{StartFault};
 ghost use Rattle.spawn_host_workers.specs.Seats.{AreInOrder, AreLevel, AreNew, ComeHome, GivesRun};
 
-use crate::crew::{Common, Crew, lead_alone, lead_crew};
+use crate::crew::{Crew, Workplace, lead_alone, lead_crew};
 use crate::report::{RunEnd, StartFault};
 use crate::rounds::level;
 use crate::seats::{Dealt, deal};
@@ -45,7 +45,7 @@ fn split<S: Drop>(ends: Vec<WorkerEnd<S>>, threads: &mut Vec<ThreadReport>, seat
 /// Runs the threads of a crew, each worker as a thread of a scope.
 fn in_scope<T, M, G, R>(
     alloc: Global,
-    common: &Common<M, &R, G, R>,
+    place: &Workplace<M, &R, G, R>,
     crew: Crew<T, M::Seat>,
     ends: Vec<WorkerEnd<M::Seat>>,
 ) -> Result<Vec<WorkerEnd<M::Seat>>, StartFault>
@@ -58,26 +58,26 @@ where
     requires len { vec_len crew.threads ≡ vec_len crew.seats }
     requires empty { ends.items ≡ [] }
     requires room { MOST_THREADS ≤ vec_capacity ends }
-    ensures { IfOk result (λ all. EndsCrew (over M.SharedMemory common.now.memory.now) T.meaning crew all.items) }
+    ensures { IfOk result (λ all. EndsCrew (over M.SharedMemory place.now.memory.now) T.meaning crew all.items) }
 {
     thread::scope(
         thread::scope_env(),
-        common.rt,
+        place.rt,
         move |scope| -> Result<Vec<WorkerEnd<M::Seat>>, StartFault>
             requires start { MayStart M.name M.seen T.meaning crew }
             requires len { vec_len crew.threads ≡ vec_len crew.seats }
             requires empty { ends.items ≡ [] }
             requires room { MOST_THREADS ≤ vec_capacity ends }
-            ensures { IfOk result (λ all. EndsCrew (over M.SharedMemory common.entry.now.memory.now) T.meaning crew
+            ensures { IfOk result (λ all. EndsCrew (over M.SharedMemory place.entry.now.memory.now) T.meaning crew
                 all.items) }
-        { lead_crew(scope, alloc, common, crew, ends) },
+        { lead_crew(scope, alloc, place, crew, ends) },
     )
 }
 
 /// Runs the threads of a crew. Where no other can be spawned, the first runs alone, and no thread is started.
 fn run_crew<T, M, G, R>(
     alloc: Global,
-    common: &Common<M, &R, G, R>,
+    place: &Workplace<M, &R, G, R>,
     crew: Crew<T, M::Seat>,
 ) -> Result<Vec<WorkerEnd<M::Seat>>, StartFault>
 where
@@ -88,15 +88,15 @@ where
     requires start { MayStart M.name M.seen T.meaning crew }
     requires len { vec_len crew.threads ≢ 0 → vec_len crew.threads ≡ vec_len crew.seats }
     ensures fault { vec_len crew.threads ≡ 0 → IsOkUnless result StartFault.NoMemory }
-    ensures ends { IfOk result (λ all. EndsRun (over M.SharedMemory common.now.memory.now) T.meaning crew all.items) }
+    ensures ends { IfOk result (λ all. EndsAll (over M.SharedMemory place.now.memory.now) T.meaning crew all.items) }
 {
     let Ok(ends) = Vec::with_capacity(alloc, MOST_THREADS) else {
         return Err(StartFault::NoMemory);
     };
     if crew.threads.is_empty() {
-        return Ok(lead_alone(common, crew, ends));
+        return Ok(lead_alone(place, crew, ends));
     }
-    in_scope(alloc, common, crew, ends)
+    in_scope(alloc, place, crew, ends)
 }
 
 /// All seats meet the hub, and so have seen one list.
@@ -174,7 +174,7 @@ where
         desk,
     } = deal(seats);
     let desk = Desk::open(rt, memory, desk);
-    let common = Common {
+    let place = Workplace {
         rt,
         memory,
         desk: &desk,
@@ -186,7 +186,7 @@ where
         threads: spawned,
         seats: workers,
     };
-    match run_crew(alloc, &common, crew) {
+    match run_crew(alloc, &place, crew) {
         Ok(ends) => {
             let hub = desk.close();
             Ok(bring_home(memory, ends, hub, reports, home))

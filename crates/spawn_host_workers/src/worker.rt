@@ -5,7 +5,7 @@ ghost use Rattle.spawn_host_workers.specs.OverMemory.{over};
 ghost use Rattle.spawn_host_workers.specs.Works.{EndsWork};
 ghost use Rattle.interp_trait.specs.Turns.{MayBeSpawned};
 
-use crate::crew::Common;
+use crate::crew::Workplace;
 use crate::{ThreadEnd, run_thread};
 use interp_trait::{Gate, TakesTurns};
 use shared_memory::SharedMemory;
@@ -21,17 +21,17 @@ pub(crate) struct WorkerEnd<S> {
 
 /// Waits until the thread of the seat's name is spawned, and runs it to its end.
 pub(crate) fn work<T: TakesTurns + Drop, M: SharedMemory, W: Wait + Drop, G: Gate, R: Wait>(
-    common: &Common<M, W, G, R>,
+    place: &Workplace<M, W, G, R>,
     mut thread: T,
     mut seat: M::Seat,
 ) -> WorkerEnd<M::Seat>
     requires new { entries_of (M.name seat) (M.seen seat) ≡ [] }
     requires begins { MayBeSpawned (T.meaning thread) }
-    ensures { EndsWork (over M.SharedMemory common.now.memory.now) T.meaning thread seat result }
+    ensures { EndsWork (over M.SharedMemory place.now.memory.now) T.meaning thread seat result }
 {
-    let memory = common.memory;
+    let memory = place.memory;
     let name = memory.name(&seat);
-    let Some(arg) = common.desk.begin(memory, &mut seat) else {
+    let Some(arg) = place.desk.begin(memory, &mut seat) else {
         return WorkerEnd { report: None, seat };
     };
     thread.set_args(&[Value::I32(name), Value::I32(arg)]);
@@ -39,7 +39,7 @@ pub(crate) fn work<T: TakesTurns + Drop, M: SharedMemory, W: Wait + Drop, G: Gat
         outcome,
         seat,
         spent,
-    } = run_thread(common.rt, thread, memory, seat, common.desk, common.gate);
+    } = run_thread(place.rt, thread, memory, seat, place.desk, place.gate);
     let report = Some(ThreadReport { outcome, spent });
     WorkerEnd { report, seat }
 }
