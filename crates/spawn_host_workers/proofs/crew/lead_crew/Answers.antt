@@ -1,5 +1,5 @@
-use Rattle.std.proofs.Common.{sym, ◌∙◌, ap, [], ◌∷◌, ◌++◌}
 use Rattle.spawn_host_workers.proofs.Duties.{crew_of}
+use Rattle.spawn_host_workers.proofs.Pairing.{first_there}
 use Rattle.spawn_host_workers.proofs.crew.lead_crew.Goals as goal
 
 pub returns : goal.returns
@@ -8,8 +8,8 @@ returns g c =
     let t = g.T.TakesTurns in
     let crew = c.args.crew in
     crew_of m t.meaning c.args.place.now.memory.now crew.first crew.seat crew.threads.items crew.seats.items
-    c.in-Ok.handles.items c.lead.result _ _ c.lead.ensures (c.push_reserved.ensures.items
-    ∙ ap (λ w. w ++ c.lead.result ∷ []) c.requires.empty)
+    c.in-Ok.handles.items c.lead.result _ _ c.lead.ensures
+    (first_there _ _ c.lead.result c.push_reserved.ensures.items c.requires.empty)
     c.in-Ok.ensures.0 c.join_all.ensures
 
 pub start_workers-requires-clause-new : goal.start_workers-requires-clause-new

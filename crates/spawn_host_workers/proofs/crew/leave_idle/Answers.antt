@@ -1,5 +1,4 @@
 use Rattle.std.proofs.Common.{◌≡◌, List, [], ◌∷◌, ◌++◌, ◌∙◌, ap, sym, vec_items, append_assoc, append-nil, rules}
-use Rattle.std.specs.Vec.Iter.{into_iter_items}
 use Rattle.spawn_host_workers.specs.Crew.{idle_ends}
 use Rattle.spawn_host_workers.proofs.Pairing.{none_of}
 use Rattle.spawn_host_workers.proofs.crew.leave_idle.Goals as goal

@@ -4,7 +4,7 @@ use Rattle.types.specs.declared.limits.TheConstants.{MOST_THREADS, DESK_NAME}
 use Rattle.spawn_host_workers.specs.OverMemory.{over}
 use Rattle.spawn_host_workers.proofs.OneList.{Unpacked, IsDeskSeat, lead_may_ask, workers_new, desk_new}
 use Rattle.spawn_host_workers.specs.Crew.{CountsSpawnable}
-use Rattle.spawn_host_workers.proofs.Running.{ends_length, composed_any}
+use Rattle.spawn_host_workers.proofs.Ending.{ends_length, composed_any}
 use Rattle.spawn_host_workers.proofs.host.run_all.Given as given
 use Rattle.spawn_host_workers.proofs.host.run_all.Goals as goal
 use Rattle.spawn_host_workers.proofs.host.run_all.Goals.{After-deal-seat}
