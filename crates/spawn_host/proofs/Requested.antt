@@ -68,7 +68,7 @@ pub beside : {T E : Type 0} (meaning : T → Meaning) (r : Requested) (m : Parts
     → IfOk result (λ (threads : Vec T). BeginBeside meaning r threads.items)
 beside meaning r m call args of_module of_call starts (Err e) w = tt
 beside meaning r m call args of_module of_call starts (Ok threads) w =
-    inl (subst (λ (p : Parts). StartsThreads p) of_module starts, args, spawnable meaning r m call args threads.items of_module of_call w)
+    inl (subst (λ (p : Parts). StartsThreads p) of_module starts, (args, spawnable meaning r m call args threads.items of_module of_call w))
 
 -- faults at the start of its threads
 

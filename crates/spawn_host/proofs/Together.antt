@@ -282,6 +282,6 @@ pub any_result : {S T F : Type 0} (mem : OverMemory S) (meaning : T → Meaning)
     → IfOk result (λ (end : RunEnd S). IsRunOfRequest r mem end.threads.items end.seats.items)
 any_result mem meaning first others r is f (inl some) result composed =
     threaded_result mem meaning first others r.parts r.name r.args some.1.0 r.fuel is some.0 f some.1.1 result composed
-any_result {F = F} {S = S} mem meaning first others r is f (inr none) result composed =
+any_result {S = S} mem meaning first others r is f (inr none) result composed =
     lone_result mem meaning first r.parts r.name r.args r.fuel is none.0 f result
     (subst (λ l. IfOk result (λ (end : RunEnd S). IsComposed mem meaning first l end.threads.items end.seats.items)) none.1 composed)
