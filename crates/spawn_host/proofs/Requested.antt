@@ -1,5 +1,7 @@
 -- Calls that can be made, and runs of them.
-use Rattle.std.proofs.Common.{◌≡◌, ℕ, ◌<◌, List, length, map, Some, sym, subst, ap, ◌∙◌}
+use Rattle.std.proofs.Common.{◌≡◌, ℕ, zero, suc, ◌<◌, All, List, length, map, Some, refl, sym, subst, ap, ◌∙◌}
+use Rattle.std.proofs.Common.{◌⊎◌, inl, inr, arith, get_or}
+use Rattle.std.specs.Global.{Vec}
 use Rattle.std.specs.Prelude.{Result, Ok, Err, IfOk, IfErr, IsOkUnless}
 use Rattle.std.proofs.lemmas.Option.{slice_get_within}
 use Rattle.types.specs.declared.value.Value.{Value}
@@ -8,8 +10,12 @@ use Rattle.types.specs.declared.parts.Body.{Body}
 use Rattle.types.specs.declared.parts.Parts.{Parts}
 use Rattle.types.specs.declared.outcome.ThreadReport.{ThreadReport}
 use Rattle.types.specs.Values.{type_of}
-use Rattle.interp_trait.specs.Turns.{Meaning}
-use Rattle.interp.specs.Starts.{IsFunction}
+use Rattle.types.specs.declared.value.ValType.{ValType}
+use Rattle.validate_typing.specs.Context.{imported_functions}
+use Rattle.interp_machine.specs.Program.{Program}
+use Rattle.interp_trait.specs.Turns.{Meaning, MayBeSpawned}
+use Rattle.interp.specs.Starts.{IsFunction, start_of}
+use Rattle.spawn_host_workers.specs.Crew.{CountsSpawnable}
 use Rattle.spawn_host_workers.specs.OverMemory.{OverMemory}
 use Rattle.spawn_host_workers.specs.declared.report.StartFault.{StartFault}
 use Rattle.spawn_host_workers.specs.declared.report.StartFault.TheVariants.{NoMemory, NoThread}
@@ -18,7 +24,7 @@ use Rattle.spawn_host.specs.declared.running.RunFault.TheVariants as faults
 use Rattle.spawn_host.specs.Entries.{Takes, StartsThreads}
 use Rattle.spawn_host.specs.Requests.{Requested, IsRequestOf, IsNumberOf}
 use Rattle.spawn_host.specs.Faults.{IsFaultOf, IsStartFault}
-use Rattle.spawn_host.specs.Threads.{IsCall, IsFirst, BeginsRequest, AreSpawnable}
+use Rattle.spawn_host.specs.Threads.{IsCall, IsFirst, BeginsRequest, BeginBeside, AreSpawnable}
 use Rattle.spawn_host.specs.Runs.{IsRun, IsRunOfRequest}
 
 -- what is called by a request of a module's
@@ -49,26 +55,58 @@ module _ (r : Requested) (m : Parts) (call : Call) (own : ℕ) (of_module : m �
       }
 
 -- threads that can be spawned in a run of it
-pub spawnable : {T : Type 0} (meaning : T → Meaning) (r : Requested) (m : Parts) (call : Call) (args : List Value)
+spawnable : {T : Type 0} (meaning : T → Meaning) (r : Requested) (m : Parts) (call : Call) (args : List Value)
     (threads : List T) → m ≡ r.parts → IsRequestOf r.parts call r → AreSpawnable meaning m args call.fuel threads
     → AreSpawnable meaning r.parts args r.fuel threads
 spawnable meaning r m call args threads of_module of_call w =
     subst (λ (p : Parts). AreSpawnable meaning p args r.fuel threads) of_module
     (subst (λ (fuel : ℕ). AreSpawnable meaning m args fuel threads) (sym of_call.fuel_is) w)
 
+pub beside : {T E : Type 0} (meaning : T → Meaning) (r : Requested) (m : Parts) (call : Call) (args : List Value)
+    → m ≡ r.parts → IsRequestOf r.parts call r → StartsThreads m → (result : Result (Vec T) E)
+    → IfOk result (λ (threads : Vec T). AreSpawnable meaning m args call.fuel threads.items)
+    → IfOk result (λ (threads : Vec T). BeginBeside meaning r threads.items)
+beside meaning r m call args of_module of_call starts (Err e) w = tt
+beside meaning r m call args of_module of_call starts (Ok threads) w =
+    inl (subst (λ (p : Parts). StartsThreads p) of_module starts, (args, spawnable meaning r m call args threads.items of_module of_call w))
+
 -- faults at the start of its threads
 
-pub lone_fault : {A : Type 0} (r : Requested) (result : Result A StartFault) → IsOkUnless result NoMemory
+lone_fault : {A : Type 0} (r : Requested) (result : Result A StartFault) → IsOkUnless result NoMemory
     → IfErr result (IsStartFault r)
 lone_fault r (Ok x) is = tt
 lone_fault r (Err NoMemory) is = tt
 lone_fault r (Err NoThread) is = absurd (cc is)
 
-pub threads_fault : {A : Type 0} (r : Requested) (result : Result A StartFault) → StartsThreads r.parts
+threads_fault : {A : Type 0} (r : Requested) (result : Result A StartFault) → StartsThreads r.parts
     → IfErr result (IsStartFault r)
 threads_fault r (Ok x) starts = tt
 threads_fault r (Err NoMemory) starts = tt
 threads_fault r (Err NoThread) starts = starts
+
+-- the threads beside the first
+module _ {T : Type 0} (meaning : T → Meaning) (r : Requested) (threads : List T) where
+  pub start_fault : {A : Type 0} (result : Result A StartFault) → BeginBeside meaning r threads
+      → (length threads ≡ 0 → IsOkUnless result NoMemory) → IfErr result (IsStartFault r)
+  start_fault result (inl some) fault = threads_fault r result some.0
+  start_fault result (inr none) fault = lone_fault r result (fault (ap length none.1))
+
+  pub counted : (first : T) → BeginsRequest meaning r first → BeginBeside meaning r threads
+      → CountsSpawnable (meaning first) (length threads)
+  counted first f (inl some) = inl some.1.1.count
+  counted first f (inr none) =
+      inr (ap length none.1, ap (λ (p : Program). p.imported) f.call.program_is ∙ none_of_some (length (imported_functions r.parts)) none.0)
+    where
+      none_of_some : (n : ℕ) → (0 < n → ⊥) → n ≡ 0
+      none_of_some zero h = refl
+      none_of_some (suc n) h = absurd (h (omega arith))
+
+  pub spawned_begin : BeginBeside meaning r threads → All (λ (t : T). MayBeSpawned (meaning t)) threads
+  spawned_begin (inl some) = λ k d lt.
+      let w = some.1.1 in
+      let start = start_of r.parts w.func_type w.body in
+      (start, subst (λ (types : List ValType). (meaning (get_or threads k d)).begins types start) w.is_start.params (w.calls k d lt).begins_so)
+  spawned_begin (inr none) = λ k d lt. let is = ap length none.1 in absurd (omega (arith, lt, is))
 
 -- The request is for this call of the module.
 module _ (r : Requested) (m : Parts) (call : Call) (of_call : IsRequestOf m call r) where

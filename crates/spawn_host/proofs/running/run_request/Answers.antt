@@ -1,21 +1,13 @@
-use Rattle.std.proofs.Common.{List, get_or, refl, subst, sym}
-use Rattle.types.specs.declared.value.ValType.{ValType}
-use Rattle.types.specs.declared.parts.Parts.{Parts}
+use Rattle.std.proofs.Common.{ℕ, subst, sym, ◌∙◌}
 use Rattle.schedule.specs.Machine.{Thread.Runs}
 use Rattle.interp_machine.specs.State.{At}
 use Rattle.interp.specs.Starts.{start_of}
 use Rattle.interp.specs.Threads.{meaning_in}
 use Rattle.spawn_host_workers.specs.OverMemory.{over}
-use Rattle.spawn_host.specs.Entries.{StartsThreads}
-use Rattle.spawn_host.proofs.Together.{threaded_result, lone_result}
-use Rattle.spawn_host.proofs.Requested.{spawnable, lone_fault, threads_fault}
+use Rattle.spawn_host_workers.specs.Crew.{CountsSpawnable}
+use Rattle.spawn_host.proofs.Together.{any_result}
+use Rattle.spawn_host.proofs.Requested.{start_fault, counted, spawned_begin}
 use Rattle.spawn_host.proofs.running.run_request.Goals as goal
-
-pub run_alone-requires-clause-here : goal.run_alone-requires-clause-here
-run_alone-requires-clause-here g c κs within =
-    let r = c.args.request.now in
-    let f = c.in-Ok.ensures in
-    (Runs (At (start_of r.parts f.takes.func_type f.takes.body r.args)) r.fuel, f.call.stands_so, tt)
 
 pub run_all-requires-clause-here : goal.run_all-requires-clause-here
 run_all-requires-clause-here g c κs within =
@@ -23,32 +15,23 @@ run_all-requires-clause-here g c κs within =
     let f = c.in-Ok.ensures in
     (Runs (At (start_of r.parts f.takes.func_type f.takes.body r.args)) r.fuel, f.call.stands_so, tt)
 
+pub run_all-requires-clause-count : goal.run_all-requires-clause-count
+run_all-requires-clause-count g c κs within =
+    let others = c.in-Ok-other_threads.others in
+    subst (λ (n : ℕ). CountsSpawnable (meaning_in c.in-Ok.first) n) (sym others.ok.0)
+    (counted meaning_in c.args.request.now others.items c.in-Ok.first c.in-Ok.ensures c.in-Ok-other_threads.ensures)
+
 pub run_all-requires-clause-begins : goal.run_all-requires-clause-begins
-run_all-requires-clause-begins g c κs within = λ k d lt.
-    let w = c.in-Ok-spawnable_threads.ensures in
-    let start = start_of c.module.result.now.parts w.func_type w.body in
-    (start, subst (λ (types : List ValType). (meaning_in (get_or c.in-Ok-spawnable_threads.spawned.items k d)).begins types start) w.is_start.params (w.calls k d lt).begins_so)
-
-pub returns-then-not-starts_threads-clause-run : goal.returns-then-not-starts_threads-clause-run
-returns-then-not-starts_threads-clause-run g c =
-    let r = c.args.request.now in
-    lone_result (over g.M.SharedMemory c.args.memory.now) meaning_in c.in-Ok.first r.parts r.name r.args r.fuel c.requires.opening
-    (λ starts. absurd (cc (c.if-not-starts_threads.ensures.1 (subst (λ (p : Parts). StartsThreads p) (sym c.module.ensures) starts))))
-    c.in-Ok.ensures c.run_alone.result c.run_alone.ensures.composed
-
-pub returns-then-not-starts_threads-clause-fault : goal.returns-then-not-starts_threads-clause-fault
-returns-then-not-starts_threads-clause-fault g c = lone_fault c.args.request.now c.run_alone.result c.run_alone.ensures.fault
+run_all-requires-clause-begins g c κs within =
+    spawned_begin meaning_in c.args.request.now c.in-Ok-other_threads.others.items c.in-Ok-other_threads.ensures
 
 pub returns-clause-run : goal.returns-clause-run
 returns-clause-run g c =
-    let r = c.args.request.now in
-    threaded_result (over g.M.SharedMemory c.args.memory.now) meaning_in c.in-Ok.first c.in-Ok-spawnable_threads.spawned.items
-    r.parts r.name r.args _ r.fuel c.requires.opening
-    (subst (λ (p : Parts). StartsThreads p) c.module.ensures (c.if-not-starts_threads.ensures.0 refl)) c.in-Ok.ensures
-    (spawnable meaning_in r c.module.result.now.parts c.call.result _ c.in-Ok-spawnable_threads.spawned.items c.module.ensures
-    c.call.ensures.call c.in-Ok-spawnable_threads.ensures) c.run_all.result c.run_all.ensures
+    any_result (over g.M.SharedMemory c.args.memory.now) meaning_in c.in-Ok.first c.in-Ok-other_threads.others.items
+    c.args.request.now c.requires.opening c.in-Ok.ensures c.in-Ok-other_threads.ensures c.run_all.result c.run_all.ensures.composed
 
 pub returns-clause-fault : goal.returns-clause-fault
 returns-clause-fault g c =
-    threads_fault c.args.request.now c.run_all.result
-    (subst (λ (p : Parts). StartsThreads p) c.module.ensures (c.if-not-starts_threads.ensures.0 refl))
+    let others = c.in-Ok-other_threads.others in
+    start_fault meaning_in c.args.request.now others.items c.run_all.result c.in-Ok-other_threads.ensures
+    (λ none. c.run_all.ensures.fault (others.ok.0 ∙ none))
