@@ -21,8 +21,8 @@ use Rattle.spawn_host.proofs.Calling.{is_there}
 use Rattle.replay_text.specs.declared.parts.RecordParts.{RecordParts}
 use Rattle.replay_walk.specs.Walked.{Run, start}
 use Rattle.replay.specs.Runs.{BeginsBy, start_of_record}
-use Rattle.replay.specs.Walks.{IsReadyFor}
 use Rattle.replay.specs.Threads.{IsWorker, IsSpare, AreSpares, AreThreadsFor, requested_by}
+use Rattle.replay.specs.Walks.{IsReadyFor}
 use Rattle.replay.proofs.Workers.{one_worker}
 
 module _ {T : Type 0} (meaning : T → Meaning) (m : Parts) (r : RecordParts) where
