@@ -21,11 +21,14 @@ returns c = λ w b.
     let have = subst (λ (ts : List HashedThread). HaveLeft ts c.in-Some.outcomes.items) c.as_slice.ensures.value left in
     let m = c.in_ok-memory.memory in
     let e = c.in_ok-ending.ending in
-    let same : e ≡ ending_with c.args.dump c.in-Some.outcomes.items c.pages.result m.bytes =
+    let so : Ending = ending_with c.args.dump c.in-Some.outcomes.items c.pages.result m.bytes in
+    let same : e ≡ so =
     c.in_ok-ending.ensures ∙ ap (ending_with c.args.dump c.in-Some.outcomes.items c.pages.result) c.bytes.ensures.value in
-    let so = λ z at. subst (λ (x : Ending). HasEndedSo c.args.dump z x) (sym same)
-    (ended w b c.args.opening.now c.args.flat.now z at c.args.dump _ m have c.in_ok-memory.ensures c.pages.ensures refl) in
     record {
-      all = λ z o at end. ap (λ (x : Ending). Some x) (one_ending c.args.dump z e o (so z at) end);
-      sound = λ z o at h. subst (HasEndedSo c.args.dump z) (some_same e o h) (so z at);
+      all = λ z o at end. ap (λ (x : Ending). Some x) (one_ending c.args.dump z e o
+          (subst (λ (x : Ending). HasEndedSo c.args.dump z x) (sym same)
+          (ended w b c.args.opening.now c.args.flat.now z at c.args.dump so m have c.in_ok-memory.ensures c.pages.ensures refl)) end);
+      sound = λ z o at h. subst (HasEndedSo c.args.dump z) (some_same e o h)
+          (subst (λ (x : Ending). HasEndedSo c.args.dump z x) (sym same)
+          (ended w b c.args.opening.now c.args.flat.now z at c.args.dump so m have c.in_ok-memory.ensures c.pages.ensures refl));
     }
