@@ -26,14 +26,14 @@ run_all-requires-clause-here g c κs within =
 pub run_all-requires-clause-begins : goal.run_all-requires-clause-begins
 run_all-requires-clause-begins g c κs within = λ k d lt.
     let w = c.in-Ok-spawnable_threads.ensures in
-    let start = start_of c.module.result.now.parts w.func_type w.body in
+    let start = start_of c.module-module.result.now.parts w.func_type w.body in
     (start, subst (λ (types : List ValType). (meaning_in (get_or c.in-Ok-spawnable_threads.spawned.items k d)).begins types start) w.is_start.params (w.calls k d lt).begins_so)
 
 pub returns-then-not-starts_threads-clause-run : goal.returns-then-not-starts_threads-clause-run
 returns-then-not-starts_threads-clause-run g c =
     let r = c.args.request.now in
     lone_result (over g.M.SharedMemory c.args.memory.now) meaning_in c.in-Ok.first r.parts r.name r.args r.fuel c.requires.opening
-    (λ starts. absurd (cc (c.if-not-starts_threads.ensures.1 (subst (λ (p : Parts). StartsThreads p) (sym c.module.ensures) starts))))
+    (λ starts. absurd (cc (c.if-not-starts_threads.ensures.1 (subst (λ (p : Parts). StartsThreads p) (sym c.module-module.ensures) starts))))
     c.in-Ok.ensures c.run_alone.result c.run_alone.ensures.composed
 
 pub returns-then-not-starts_threads-clause-fault : goal.returns-then-not-starts_threads-clause-fault
@@ -44,11 +44,11 @@ returns-clause-run g c =
     let r = c.args.request.now in
     threaded_result (over g.M.SharedMemory c.args.memory.now) meaning_in c.in-Ok.first c.in-Ok-spawnable_threads.spawned.items
     r.parts r.name r.args _ r.fuel c.requires.opening
-    (subst (λ (p : Parts). StartsThreads p) c.module.ensures (c.if-not-starts_threads.ensures.0 refl)) c.in-Ok.ensures
-    (spawnable meaning_in r c.module.result.now.parts c.call.result _ c.in-Ok-spawnable_threads.spawned.items c.module.ensures
-    c.call.ensures.call c.in-Ok-spawnable_threads.ensures) c.run_all.result c.run_all.ensures
+    (subst (λ (p : Parts). StartsThreads p) c.module-module.ensures (c.if-not-starts_threads.ensures.0 refl)) c.in-Ok.ensures
+    (spawnable meaning_in r c.module-module.result.now.parts c.call-fuel.result _ c.in-Ok-spawnable_threads.spawned.items c.module-module.ensures
+    c.call-fuel.ensures.call c.in-Ok-spawnable_threads.ensures) c.run_all.result c.run_all.ensures
 
 pub returns-clause-fault : goal.returns-clause-fault
 returns-clause-fault g c =
     threads_fault c.args.request.now c.run_all.result
-    (subst (λ (p : Parts). StartsThreads p) c.module.ensures (c.if-not-starts_threads.ensures.0 refl))
+    (subst (λ (p : Parts). StartsThreads p) c.module-module.ensures (c.if-not-starts_threads.ensures.0 refl))

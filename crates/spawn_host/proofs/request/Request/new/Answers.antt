@@ -15,7 +15,7 @@ invariant_of-result c =
     (takes, refl)
 
 pub returns-clause-takes : goal.returns-clause-takes
-returns-clause-takes c = λ ok.
+returns-clause-takes c =
     let found = c.in-Some.ensures in record {
       own = c.in-Some.function.own;
       func_type = c.in-Some.function.func_type.now;
