@@ -20,10 +20,10 @@ asked m call words r is name fuel arguments =
     record {
       name_is = named;
       fuel_is = is.fuel_is ∙ fuel;
-      spelled = subst (λ (values : List Value). AreSpelled (texts_in words.args.items) values) (sym is.args_is) arguments.0;
+      spelled = subst (λ (values : List Value). AreSpelled (texts_in words.args.items) values) (sym is.args_are) arguments.0;
       takes = subst (λ (n : Parts). Takes n r.name r.args) (sym is.parts_are)
           (subst (λ (name : List ℕ). Takes m name r.args) (sym named)
-          (subst (λ (values : List Value). Takes m words.invoke.now values) (sym is.args_is) arguments.1));
+          (subst (λ (values : List Value). Takes m words.invoke.now values) (sym is.args_are) arguments.1));
     }
 
 pub of_system : (m : Parts) (name : List ℕ) (texts : List (List ℕ)) (trouble : Trouble) → IsOfSystem trouble → IsTrouble m name texts trouble

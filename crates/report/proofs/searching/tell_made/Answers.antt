@@ -18,6 +18,6 @@ returns-clause-kept g c =
       run = run.run;
       of_call = subst (λ (name : List ℕ). IsOfCall r.parts name r.args s.call.fuel s.sought.limit kept.«record») asked.name_is
           (subst (λ (fuel : ℕ). IsOfCall r.parts r.name r.args fuel s.sought.limit kept.«record») asked.fuel_is run.of_call);
-      ends = ends_alike s.sought s.sought.dump _ _ c.in_ok-kept.ensures.ending c.requires.ends;
+      ends = ends_alike s.sought s.sought.dump c.args.made.end kept.end c.in_ok-kept.ensures.ending c.requires.ends;
       kept = λ wanted. c.in_ok-keep.ensures.kept (c.is_some.ensures ∙ wanted);
     }
