@@ -1,3 +1,4 @@
 pub mod Imported
 pub mod Calling
+pub mod Requested
 pub mod Together

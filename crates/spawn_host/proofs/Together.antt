@@ -31,8 +31,9 @@ use Rattle.spawn_host_workers.specs.Composed.{IsReport, IsComposed}
 use Rattle.schedule_runs.specs.Runs.{Start, if_spawned, begins_in, HasRun, AreOfThreads, RanTogether}
 use Rattle.schedule_runs.proofs.Running.{threads_make_one_run}
 use Rattle.spawn_host.specs.Entries.{StartsThreads, CallsThreadStart}
-use Rattle.spawn_host.specs.Threads.{IsCall, IsFirst, AreSpawnable}
-use Rattle.spawn_host.specs.Runs.{opening_memory, start_with, Tells, IsRun}
+use Rattle.spawn_host.specs.Requests.{Requested}
+use Rattle.spawn_host.specs.Threads.{IsCall, IsFirst, BeginsRequest, BeginBeside, AreSpawnable}
+use Rattle.spawn_host.specs.Runs.{opening_memory, start_with, Tells, IsRun, IsRunOfRequest}
 
 -- Nobody enters under a name past 64.
 silent_past : (H : List Entry) (n : ℕ) → DESK_NAME < n → AllByRecursion IsEntry H → entries_of n H ≡ []
@@ -230,7 +231,7 @@ module _
   }
 
 -- The run of a module that can start threads.
-pub threaded_run : {S T : Type 0} (mem : OverMemory S) (meaning : T → Meaning) (first : T) (spawned : List T)
+threaded_run : {S T : Type 0} (mem : OverMemory S) (meaning : T → Meaning) (first : T) (spawned : List T)
     (threads : List ThreadReport) (seats : List S) (m : Parts) (entry : List ℕ) (args others : List Value) (budget : ℕ)
     → mem.opening ≡ opening_memory m → StartsThreads m
     → IsFirst meaning m entry args budget first → AreSpawnable meaning m others budget spawned
@@ -243,7 +244,7 @@ threaded_run mem meaning first spawned threads seats m entry args others budget 
     (λ s. record { own = w.own; func_type = w.func_type; body = w.body; is_start = w.is_start; begins = λ n arg. refl }) (λ none. absurd (none starts))
 
 -- The run of a module that can start none: nobody is spawned.
-pub lone_run : {S T : Type 0} (mem : OverMemory S) (meaning : T → Meaning) (first : T)
+lone_run : {S T : Type 0} (mem : OverMemory S) (meaning : T → Meaning) (first : T)
     (threads : List ThreadReport) (seats : List S) (m : Parts) (entry : List ℕ) (args : List Value) (budget : ℕ)
     → mem.opening ≡ opening_memory m → (StartsThreads m → ⊥)
     → IsFirst meaning m entry args budget first
@@ -256,7 +257,7 @@ lone_run mem meaning first threads seats m entry args budget is none f r =
 
 -- what the calls give
 
-pub threaded_result : {S T F : Type 0} (mem : OverMemory S) (meaning : T → Meaning) (first : T) (spawned : List T)
+threaded_result : {S T F : Type 0} (mem : OverMemory S) (meaning : T → Meaning) (first : T) (spawned : List T)
     (m : Parts) (entry : List ℕ) (args others : List Value) (budget : ℕ) → mem.opening ≡ opening_memory m → StartsThreads m
     → IsFirst meaning m entry args budget first → AreSpawnable meaning m others budget spawned → (result : Result (RunEnd S) F)
     → IfOk result (λ (end : RunEnd S). IsComposed mem meaning first spawned end.threads.items end.seats.items)
@@ -265,7 +266,7 @@ threaded_result mem meaning first spawned m entry args others budget is starts f
     threaded_run mem meaning first spawned end.threads.items end.seats.items m entry args others budget is starts f w r
 threaded_result mem meaning first spawned m entry args others budget is starts f w (Err fault) r = tt
 
-pub lone_result : {S T F : Type 0} (mem : OverMemory S) (meaning : T → Meaning) (first : T)
+lone_result : {S T F : Type 0} (mem : OverMemory S) (meaning : T → Meaning) (first : T)
     (m : Parts) (entry : List ℕ) (args : List Value) (budget : ℕ) → mem.opening ≡ opening_memory m → (StartsThreads m → ⊥)
     → IsFirst meaning m entry args budget first → (result : Result (RunEnd S) F)
     → IfOk result (λ (end : RunEnd S). IsComposed mem meaning first [] end.threads.items end.seats.items)
@@ -273,3 +274,14 @@ pub lone_result : {S T F : Type 0} (mem : OverMemory S) (meaning : T → Meaning
 lone_result mem meaning first m entry args budget is none f (Ok end) r =
     lone_run mem meaning first end.threads.items end.seats.items m entry args budget is none f r
 lone_result mem meaning first m entry args budget is none f (Err fault) r = tt
+
+pub any_result : {S T F : Type 0} (mem : OverMemory S) (meaning : T → Meaning) (first : T) (others : List T) (r : Requested)
+    → mem.opening ≡ opening_memory r.parts → BeginsRequest meaning r first → BeginBeside meaning r others
+    → (result : Result (RunEnd S) F)
+    → IfOk result (λ (end : RunEnd S). IsComposed mem meaning first others end.threads.items end.seats.items)
+    → IfOk result (λ (end : RunEnd S). IsRunOfRequest r mem end.threads.items end.seats.items)
+any_result mem meaning first others r is f (inl some) result composed =
+    threaded_result mem meaning first others r.parts r.name r.args some.1.0 r.fuel is some.0 f some.1.1 result composed
+any_result {S = S} mem meaning first others r is f (inr none) result composed =
+    lone_result mem meaning first r.parts r.name r.args r.fuel is none.0 f result
+    (subst (λ l. IfOk result (λ (end : RunEnd S). IsComposed mem meaning first l end.threads.items end.seats.items)) none.1 composed)

@@ -1,5 +1,5 @@
 -- The threads of a run before their first turn.
-use Rattle.std.specs.Prelude.{ℕ, ◌≡◌, List, length}
+use Rattle.std.specs.Prelude.{ℕ, ◌≡◌, ◌⊎◌, List, [], length}
 use Rattle.std.specs.List.{All}
 use Rattle.types.specs.declared.value.Value.{Value}
 use Rattle.types.specs.declared.parts.FuncType.{FuncType}
@@ -11,7 +11,7 @@ use Rattle.interp_machine.specs.Program.{program_of}
 use Rattle.interp_machine.specs.State.{At}
 use Rattle.interp_trait.specs.Turns.{Meaning}
 use Rattle.interp.specs.Starts.{start_of}
-use Rattle.spawn_host.specs.Entries.{Takes, IsThreadStart}
+use Rattle.spawn_host.specs.Entries.{Takes, StartsThreads, IsThreadStart}
 use Rattle.spawn_host.specs.Requests.{Requested}
 
 module _ {T : Type 0} (meaning : T → Meaning) where
@@ -40,3 +40,9 @@ module _ {T : Type 0} (meaning : T → Meaning) where
     pub body : Body
     pub is_start : IsThreadStart m own func_type body
     pub calls : All (IsCall m func_type body args budget) threads
+
+  -- The threads beside thread 0: those that can be spawned, or none, where the module can start none.
+  abbrev pub BeginBeside : Requested → List T → Type 0
+  BeginBeside r threads =
+      (StartsThreads r.parts × ((args : List Value) × AreSpawnable r.parts args r.fuel threads))
+      ⊎ ((StartsThreads r.parts → ⊥) × (threads ≡ []))

@@ -24,6 +24,7 @@ pub enum CallFault {
 
 /// A call that can be made: the module exports a function of its own under the name, and the arguments are of the types
 /// of its parameters. It is looked up and tested where it is made, and nowhere else.
+#[derive(Drop)]
 pub struct Request<'m, 'a> {
     module: &'m ValidModule,
     call: Call<'a>,
@@ -55,9 +56,9 @@ impl<'m, 'a> Request<'m, 'a> {
     /// `UnknownExport` exactly where no function of the module itself is exported under the name; `WrongArguments`
     /// exactly where one is, and the arguments don't fit it.
     pub fn new(module: &'m ValidModule, call: Call<'a>) -> Result<Request<'m, 'a>, CallFault>
-        ensures request { IfOk result (λ r. IsRequestOf module.now.parts call r) }
-        ensures takes { OnOk result (Takes module.now.parts call.name.now call.args.now) }
-        ensures fault { IfErr result (IsCallFault module.now.parts call.name.now call.args.now) }
+        ensures request { IfOk result (IsRequestOf «module».now.parts call.entry) }
+        ensures takes { OnOk result (Takes «module».now.parts call.entry.name.now call.entry.args.now) }
+        ensures fault { IfErr result (IsCallFault «module».now.parts call.entry.name.now call.entry.args.now) }
     {
         let Some(function) = own_function(module, call.name) else {
             return Err(CallFault::UnknownExport);

@@ -8,10 +8,10 @@ ghost use Rattle.spawn_host.specs.declared.running.RunFault.TheVariants as fault
 
 use crate::call::Call;
 use crate::request::{CallFault, Request};
-use crate::threads::{first_thread, spawnable_threads};
+use crate::threads::{first_thread, other_threads};
 use interp_trait::Gate;
 use shared_memory::SharedMemory;
-use spawn_host_workers::{RunEnd, StartFault, run_all, run_alone};
+use spawn_host_workers::{RunEnd, StartFault, run_all};
 use std::alloc::Global;
 use std::sync::Wait;
 use std::thread::Threads;
@@ -123,13 +123,8 @@ where
     let Ok(first) = first_thread(alloc, request) else {
         return Err(StartFault::NoMemory);
     };
-    let module = request.module();
-    if !module.starts_threads() {
-        return run_alone(rt, alloc, first, memory, seats, gate);
-    }
-    let fuel = request.call().fuel;
-    let Ok(spawned) = spawnable_threads(alloc, module, fuel) else {
+    let Ok(others) = other_threads(alloc, request) else {
         return Err(StartFault::NoMemory);
     };
-    run_all(rt, alloc, first, spawned, memory, seats, gate)
+    run_all(rt, alloc, first, others, memory, seats, gate)
 }

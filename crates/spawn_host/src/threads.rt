@@ -6,7 +6,7 @@ ghost use Rattle.types.specs.Values.{type_of};
 ghost use Rattle.validate_typing.specs.Context.{imported_functions};
 ghost use Rattle.interp.specs.Starts.{IsFunction};
 ghost use Rattle.spawn_host.specs.Entries.{StartsThreads, IsThreadStart};
-ghost use Rattle.spawn_host.specs.Threads.{IsCall, BeginsRequest, AreSpawnable};
+ghost use Rattle.spawn_host.specs.Threads.{IsCall, BeginsRequest, BeginBeside, AreSpawnable};
 ghost use Rattle.interp.specs.Threads.{meaning_in};
 
 use crate::request::Request;
@@ -95,4 +95,22 @@ pub fn spawnable_threads<'m>(
         }
     }
     Ok(threads)
+}
+
+/// The threads beside thread 0 in a run by a request: those that can be spawned, or none, where the module can start
+/// none.
+///
+/// # Errors
+/// Where memory is refused.
+pub(crate) fn other_threads<'m>(
+    alloc: Global,
+    request: &Request<'m, '_>,
+) -> Result<Vec<Thread<'m>>, AllocError>
+    ensures { IfOk result (λ threads. BeginBeside meaning_in request.now threads.items) }
+{
+    let module = request.module();
+    if !module.starts_threads() {
+        return Ok(Vec::new(alloc));
+    }
+    spawnable_threads(alloc, module, request.call().fuel)
 }

@@ -5,7 +5,7 @@ use crate::runs::{BOTH, FUEL, Memory, Trouble, run_valid};
 use report_jobs::load;
 use report_runs::{Call, RecordRunFault};
 use shared_memory_sequential::OpenFault;
-use spawn_host_workers::RunFault;
+use spawn_host::{CallFault, RunFault};
 use std::alloc::Global;
 use std::process::Abort;
 use std::sync::Wait;
@@ -30,28 +30,28 @@ static FAULTY: [Faulty; 7] = [
         name: "g",
         args: &[],
         memories: &BOTH,
-        fault: RecordRunFault::Run(RunFault::UnknownExport),
+        fault: RecordRunFault::Run(RunFault::Call(CallFault::UnknownExport)),
     },
     Faulty {
         module: Module::Bytes(FOUR),
         name: "",
         args: &[],
         memories: &BOTH,
-        fault: RecordRunFault::Run(RunFault::UnknownExport),
+        fault: RecordRunFault::Run(RunFault::Call(CallFault::UnknownExport)),
     },
     Faulty {
         module: Module::Small(ADDING),
         name: "f",
         args: &[Value::I32(0)],
         memories: &BOTH,
-        fault: RecordRunFault::Run(RunFault::WrongArguments),
+        fault: RecordRunFault::Run(RunFault::Call(CallFault::WrongArguments)),
     },
     Faulty {
         module: Module::Bytes(FOUR),
         name: "wasi_thread_start",
         args: &[Value::I32(1), Value::I64(1)],
         memories: &BOTH,
-        fault: RecordRunFault::Run(RunFault::WrongArguments),
+        fault: RecordRunFault::Run(RunFault::Call(CallFault::WrongArguments)),
     },
     Faulty {
         module: Module::Bytes(FOUR),

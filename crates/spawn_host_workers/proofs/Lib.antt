@@ -6,6 +6,7 @@ pub mod Arguments
 pub mod Home
 pub mod OneList
 pub mod Unspawned
+pub mod Ending
 pub mod Entered
 pub mod Coming
 pub mod Turning

@@ -44,6 +44,10 @@ pub none_of : {A : Type 0} (xs : List A) → length xs ≡ 0 → xs ≡ []
 none_of [] e = refl
 none_of (x ∷ xs) e = absurd (omega (arith, e))
 
+-- a first one
+pub first_there : {A : Type 0} (xs now : List A) (x : A) → now ≡ xs ++ x ∷ [] → xs ≡ [] → now ≡ x ∷ []
+first_there xs now x is none = is ∙ ap (λ w. w ++ x ∷ []) none
+
 -- of all of a list
 pub all_first : {A : Type 0} (P : A → Type 0) (xs xs1 : List A) (x : A) → All P xs → xs ≡ x ∷ xs1 → P x
 all_first P xs xs1 x h is = (subst (λ w. All P w) is h) 0 x (omega arith)

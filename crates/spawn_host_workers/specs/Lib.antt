@@ -5,7 +5,6 @@ pub mod Pairs
 pub mod Crew
 pub mod Duties
 pub mod Composed
-pub mod Faults
 pub mod Ends
 pub mod Serving
 pub mod Seats

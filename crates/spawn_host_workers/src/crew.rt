@@ -1,16 +1,16 @@
-//! The threads of a run, in one scope.
-ghost use Rattle.std.specs.Prelude.{◌≡◌, ◌≤◌, ◌+◌, [], All, IfOk, IfErr, MatchResult, vec_len, vec_capacity};
+//! The threads of a run.
+ghost use Rattle.std.specs.Prelude.{◌≡◌, ◌≤◌, ◌+◌, ◌++◌, [], All, IfOk, vec_len, vec_capacity};
+ghost use Rattle.types.specs.declared.limits.TheConstants.{MOST_THREADS};
 ghost use Rattle.shared_memory.specs.History.{entries_of, queue_after};
 ghost use Rattle.shared_memory.specs.WaitQueue.{IsFree};
 ghost use Rattle.interp_trait.specs.Turns.{MayRun, MayBeSpawned};
 ghost use Rattle.spawn_host_workers.specs.OverMemory.{over};
 ghost use Rattle.spawn_host_workers.specs.Pairs.{AllThree};
 ghost use Rattle.spawn_host_workers.specs.Works.{EndsWork};
-ghost use Rattle.spawn_host_workers.specs.Crew.{EndsFirst, MayStart, IsCrew};
-ghost use Rattle.spawn_host_workers.specs.Faults.{IsOfSystem};
+ghost use Rattle.spawn_host_workers.specs.Crew.{EndsFirst, MayStart, EndsCrew, EndsAlone, idle_ends};
 ghost use Rattle.spawn_host_workers.specs.Duties.{IsDuty, IsDone, Joined};
 
-use crate::report::RunFault;
+use crate::report::StartFault;
 use crate::worker::{WorkerEnd, work};
 use crate::{ThreadEnd, run_thread};
 use interp_trait::{Gate, TakesTurns};
@@ -19,8 +19,29 @@ use std::alloc::Global;
 use std::snapshot::Snapshot;
 use std::sync::Wait;
 use std::thread::{Promise, PromisedHandle, Scope, Threads};
-use types::{MOST_THREADS, ThreadReport};
+use types::ThreadReport;
 use waiters_desk::Desk;
+
+/// What the threads of a run have in common.
+#[derive(Drop)]
+pub(crate) struct Workplace<'s, M: SharedMemory, W: Wait + Drop, G, R> {
+    pub(crate) rt: &'s R,
+    pub(crate) memory: &'s M,
+    pub(crate) desk: &'s Desk<M, W>,
+    pub(crate) gate: &'s G,
+}
+
+/// What a crew begins with: a first thread and others, with their seats.
+#[derive(Drop)]
+pub(crate) struct Crew<T, S> {
+    pub(crate) first: T,
+    /// The first thread's.
+    pub(crate) seat: S,
+    /// Those that can be spawned, in order of their numbers.
+    pub(crate) threads: Vec<T>,
+    /// Theirs, also where none can be spawned.
+    pub(crate) seats: Vec<S>,
+}
 
 /// What a worker promises.
 #[derive(Drop)]
@@ -37,13 +58,10 @@ impl<T: TakesTurns, M: SharedMemory> Promise<WorkerEnd<M::Seat>> for Duty<T, M> 
 /// Starts a worker for a thread, with its seat.
 fn start_worker<'s, E, T, M, W, G, R>(
     scope: &Scope<'s, E>,
-    rt: &'s R,
+    place: &'s Workplace<'s, M, W, G, R>,
     thread: T,
-    memory: &'s M,
     seat: M::Seat,
-    desk: &'s Desk<M, W>,
-    gate: &'s G,
-) -> Result<PromisedHandle<WorkerEnd<M::Seat>, Duty<T, M>>, RunFault>
+) -> Result<PromisedHandle<WorkerEnd<M::Seat>, Duty<T, M>>, StartFault>
 where
     T: TakesTurns + Send + Drop + 's,
     M: SharedMemory + Sync,
@@ -53,10 +71,10 @@ where
     R: Wait + Sync,
     requires new { entries_of (M.name seat) (M.seen seat) ≡ [] }
     requires begins { MayBeSpawned (T.meaning thread) }
-    ensures { MatchResult result (λ handle. IsDuty memory.now thread seat handle) IsOfSystem }
+    ensures { IfOk result (λ handle. IsDuty place.now.memory.now thread seat handle) }
 {
     let duty = Duty {
-        memory: Snapshot::of(memory),
+        memory: Snapshot::of(place.memory),
         seat: Snapshot::of(&seat),
         thread: Snapshot::of(&thread),
     };
@@ -65,10 +83,10 @@ where
         move || -> WorkerEnd<M::Seat>
             requires new { entries_of (M.name seat) (M.seen seat) ≡ [] }
             requires begins { MayBeSpawned (T.meaning thread) }
-            ensures { EndsWork (over M.SharedMemory memory.entry.now) T.meaning thread seat result }
-        { work(rt, thread, memory, seat, desk, gate) },
+            ensures { EndsWork (over M.SharedMemory place.entry.now.memory.now) T.meaning thread seat result }
+        { work(place, thread, seat) },
     ) else {
-        return Err(RunFault::NoThread);
+        return Err(StartFault::NoThread);
     };
     Ok(handle)
 }
@@ -76,14 +94,11 @@ where
 /// Starts a worker for each thread, with the seat at its place.
 fn start_workers<'s, E, T, M, W, G, R>(
     scope: &Scope<'s, E>,
-    rt: &'s R,
     alloc: Global,
+    place: &'s Workplace<'s, M, W, G, R>,
     threads: Vec<T>,
-    memory: &'s M,
     seats: Vec<M::Seat>,
-    desk: &'s Desk<M, W>,
-    gate: &'s G,
-) -> Result<Vec<PromisedHandle<WorkerEnd<M::Seat>, Duty<T, M>>>, RunFault>
+) -> Result<Vec<PromisedHandle<WorkerEnd<M::Seat>, Duty<T, M>>>, StartFault>
 where
     T: TakesTurns + Send + Drop + 's,
     M: SharedMemory + Sync,
@@ -94,18 +109,18 @@ where
     requires len { vec_len threads ≡ vec_len seats }
     requires new { All (λ (s : M.Seat). entries_of (M.name s) (M.seen s) ≡ []) seats.items }
     requires begins { All (λ (t : T). MayBeSpawned (T.meaning t)) threads.items }
-    ensures { MatchResult result (λ handles. AllThree (IsDuty memory.now) threads.items seats.items handles.items
-        × (vec_len handles ≡ vec_len seats)) IsOfSystem }
+    ensures { IfOk result (λ handles. AllThree (IsDuty place.now.memory.now) threads.items seats.items handles.items
+        × (vec_len handles ≡ vec_len seats)) }
 {
     let Ok(mut handles) = Vec::with_capacity(alloc, seats.len()) else {
-        return Err(RunFault::NoMemory);
+        return Err(StartFault::NoMemory);
     };
     let mut threads = threads.into_iter();
     for seat in seats {
         let Some(thread) = threads.next() else {
             unreachable!()
         };
-        match start_worker(scope, rt, thread, memory, seat, desk, gate) {
+        match start_worker(scope, place, thread, seat) {
             Ok(handle) => handles.push_reserved(handle),
             Err(fault) => return Err(fault),
         }
@@ -128,18 +143,13 @@ fn join_all<T: TakesTurns, M: SharedMemory, R: Threads>(
 }
 
 /// Runs the first thread in the calling one, and a worker for each other.
-pub(crate) fn run_crew<'s, E, T, M, W, G, R>(
+pub(crate) fn lead_crew<'s, E, T, M, W, G, R>(
     scope: &Scope<'s, E>,
-    rt: &'s R,
     alloc: Global,
-    first: T,
-    threads: Vec<T>,
-    memory: &'s M,
-    seat: M::Seat,
-    seats: Vec<M::Seat>,
-    desk: &'s Desk<M, W>,
-    gate: &'s G,
-) -> Result<Vec<WorkerEnd<M::Seat>>, RunFault>
+    place: &'s Workplace<'s, M, W, G, R>,
+    crew: Crew<T, M::Seat>,
+    mut ends: Vec<WorkerEnd<M::Seat>>,
+) -> Result<Vec<WorkerEnd<M::Seat>>, StartFault>
 where
     T: TakesTurns + Send + Drop + 's,
     M: SharedMemory + Sync,
@@ -147,45 +157,83 @@ where
     W: Wait + Drop + Sync,
     G: Gate + Sync,
     R: Threads + Wait + Sync,
-    requires start { MayStart M.name M.seen T.meaning first seat threads.items seats.items }
-    ensures { MatchResult result
-        (λ ends. IsCrew (over M.SharedMemory memory.now) T.meaning first seat threads.items seats.items ends.items)
-        IsOfSystem }
+    requires start { MayStart M.name M.seen T.meaning crew }
+    requires len { vec_len crew.threads ≡ vec_len crew.seats }
+    requires empty { ends.items ≡ [] }
+    requires room { MOST_THREADS ≤ vec_capacity ends }
+    ensures { IfOk result (λ all. EndsCrew (over M.SharedMemory place.now.memory.now) T.meaning crew all.items) }
 {
-    let mut seat = seat;
-    let Ok(mut ends) = Vec::with_capacity(alloc, MOST_THREADS) else {
-        return Err(RunFault::NoMemory);
-    };
-    let handles = match start_workers(scope, rt, alloc, threads, memory, seats, desk, gate) {
+    let Crew {
+        first,
+        mut seat,
+        threads,
+        seats,
+    } = crew;
+    let handles = match start_workers(scope, alloc, place, threads, seats) {
         Ok(handles) => handles,
         Err(fault) => {
-            desk.end(memory, &mut seat);
+            place.desk.end(place.memory, &mut seat);
             return Err(fault);
         }
     };
-    ends.push_reserved(lead(rt, first, memory, seat, desk, gate));
-    join_all(rt, handles, &mut ends);
+    ends.push_reserved(lead(place, first, seat));
+    join_all(place.rt, handles, &mut ends);
     Ok(ends)
+}
+
+/// Puts seats behind the ends, of workers whose threads can't be spawned.
+fn leave_idle<S: Drop>(seats: Vec<S>, ends: &mut Vec<WorkerEnd<S>>)
+    requires room { vec_len ends.old + vec_len seats ≤ vec_capacity ends.old }
+    ensures { ends.new.items ≡ ends.old.items ++ idle_ends seats.items }
+{
+    for seat in seats {
+        ends.push_reserved(WorkerEnd { report: None, seat });
+    }
+}
+
+/// Runs the first thread in the calling one, of a crew in which no other can be spawned.
+pub(crate) fn lead_alone<T, M, W, G, R>(
+    place: &Workplace<M, W, G, R>,
+    crew: Crew<T, M::Seat>,
+    mut ends: Vec<WorkerEnd<M::Seat>>,
+) -> Vec<WorkerEnd<M::Seat>>
+where
+    T: TakesTurns + Drop,
+    M: SharedMemory,
+    W: Wait + Drop,
+    G: Gate,
+    R: Wait,
+    requires start { MayStart M.name M.seen T.meaning crew }
+    requires empty { ends.items ≡ [] }
+    requires room { MOST_THREADS ≤ vec_capacity ends }
+    ensures { EndsAlone (over M.SharedMemory place.now.memory.now) T.meaning crew result.items }
+{
+    let Crew {
+        first,
+        seat,
+        threads: _,
+        seats,
+    } = crew;
+    ends.push_reserved(lead(place, first, seat));
+    leave_idle(seats, &mut ends);
+    ends
 }
 
 /// Runs the first thread.
 fn lead<T: TakesTurns + Drop, M: SharedMemory, W: Wait + Drop, G: Gate, R: Wait>(
-    rt: &R,
+    place: &Workplace<M, W, G, R>,
     first: T,
-    memory: &M,
     seat: M::Seat,
-    desk: &Desk<M, W>,
-    gate: &G,
 ) -> WorkerEnd<M::Seat>
     requires here { MayRun (T.meaning first) }
     requires free { IsFree (queue_after (M.seen seat)) (M.name seat) }
-    ensures { EndsFirst (over M.SharedMemory memory.now) T.meaning first seat result }
+    ensures { EndsFirst (over M.SharedMemory place.now.memory.now) T.meaning first seat result }
 {
     let ThreadEnd {
         outcome,
         seat,
         spent,
-    } = run_thread(rt, first, memory, seat, desk, gate);
+    } = run_thread(place.rt, first, place.memory, seat, place.desk, place.gate);
     let report = Some(ThreadReport { outcome, spent });
     WorkerEnd { report, seat }
 }

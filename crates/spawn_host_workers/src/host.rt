@@ -1,16 +1,16 @@
 //! A run of real threads.
-ghost use Rattle.std.specs.Prelude.{◌≡◌, ◌≤◌, ◌<◌, ◌+◌, true, [], All, IfOk, IfErr, MatchResult, slice_index_or};
+ghost use Rattle.std.specs.Prelude.{◌≡◌, ◌≢◌, ◌≤◌, ◌<◌, ◌+◌, true, [], All, IfOk, IsOkUnless, slice_index_or};
 ghost use Rattle.std.specs.Prelude.{vec_len, vec_capacity};
-ghost use Rattle.types.specs.declared.limits.TheConstants.{MOST_SPAWNED, DESK_NAME, SEATS};
+ghost use Rattle.types.specs.declared.limits.TheConstants.{DESK_NAME, MOST_THREADS, SEATS};
 ghost use Rattle.interp_trait.specs.Turns.{MayRun, MayBeSpawned};
 ghost use Rattle.spawn_host_workers.specs.OverMemory.{over};
-ghost use Rattle.spawn_host_workers.specs.Crew.{MayStart, IsCrew};
-ghost use Rattle.spawn_host_workers.specs.Faults.{IsOfSystem};
+ghost use Rattle.spawn_host_workers.specs.Crew.{CountsSpawnable, EndsCrew, EndsAll, MayStart};
 ghost use Rattle.spawn_host_workers.specs.Composed.{reported, seats_of};
+ghost use Rattle.spawn_host_workers.specs.declared.report.StartFault.{StartFault};
 ghost use Rattle.spawn_host_workers.specs.Seats.{AreInOrder, AreLevel, AreNew, ComeHome, GivesRun};
 
-use crate::crew::run_crew;
-use crate::report::{RunEnd, RunFault};
+use crate::crew::{Crew, Workplace, lead_alone, lead_crew};
+use crate::report::{RunEnd, StartFault};
 use crate::rounds::level;
 use crate::seats::{Dealt, deal};
 use crate::worker::WorkerEnd;
@@ -42,44 +42,65 @@ fn split<S: Drop>(ends: Vec<WorkerEnd<S>>, threads: &mut Vec<ThreadReport>, seat
     }
 }
 
-/// Runs all threads in a scope of their own.
-fn run_threads<T, M, G, R>(
-    rt: &R,
+/// Runs the threads of a crew, each worker as a thread of a scope.
+fn in_scope<T, M, G, R>(
     alloc: Global,
-    first: T,
-    threads: Vec<T>,
-    memory: &M,
-    seat: M::Seat,
-    seats: Vec<M::Seat>,
-    desk: &Desk<M, &R>,
-    gate: &G,
-) -> Result<Vec<WorkerEnd<M::Seat>>, RunFault>
+    place: &Workplace<M, &R, G, R>,
+    crew: Crew<T, M::Seat>,
+    ends: Vec<WorkerEnd<M::Seat>>,
+) -> Result<Vec<WorkerEnd<M::Seat>>, StartFault>
 where
     T: TakesTurns + Send + Drop,
     M: SharedMemory + Sync,
     G: Gate + Sync,
     R: Threads + Wait + Sync,
-    requires start { MayStart M.name M.seen T.meaning first seat threads.items seats.items }
-    ensures { MatchResult result
-        (λ ends. IsCrew (over M.SharedMemory memory.now) T.meaning first seat threads.items seats.items ends.items)
-        IsOfSystem }
+    requires start { MayStart M.name M.seen T.meaning crew }
+    requires len { vec_len crew.threads ≡ vec_len crew.seats }
+    requires empty { ends.items ≡ [] }
+    requires room { MOST_THREADS ≤ vec_capacity ends }
+    ensures { IfOk result (λ all. EndsCrew (over M.SharedMemory place.now.memory.now) T.meaning crew all.items) }
 {
     thread::scope(
         thread::scope_env(),
-        rt,
-        move |scope| -> Result<Vec<WorkerEnd<M::Seat>>, RunFault>
-            requires start { MayStart M.name M.seen T.meaning first seat threads.items seats.items }
-            ensures { MatchResult result (λ ends. IsCrew (over M.SharedMemory memory.entry.now) T.meaning first seat
-                threads.items seats.items ends.items) IsOfSystem }
-        {
-            run_crew(
-                scope, rt, alloc, first, threads, memory, seat, seats, desk, gate,
-            )
-        },
+        place.rt,
+        move |scope| -> Result<Vec<WorkerEnd<M::Seat>>, StartFault>
+            requires start { MayStart M.name M.seen T.meaning crew }
+            requires len { vec_len crew.threads ≡ vec_len crew.seats }
+            requires empty { ends.items ≡ [] }
+            requires room { MOST_THREADS ≤ vec_capacity ends }
+            ensures { IfOk result (λ all. EndsCrew (over M.SharedMemory place.entry.now.memory.now) T.meaning crew
+                all.items) }
+        { lead_crew(scope, alloc, place, crew, ends) },
     )
 }
 
-pub(crate) fn level_all<M: SharedMemory>(memory: &M, hub: &mut M::Seat, seats: &mut Vec<M::Seat>)
+/// Runs the threads of a crew. Where no other can be spawned, the first runs alone, and no thread is started.
+fn run_crew<T, M, G, R>(
+    alloc: Global,
+    place: &Workplace<M, &R, G, R>,
+    crew: Crew<T, M::Seat>,
+) -> Result<Vec<WorkerEnd<M::Seat>>, StartFault>
+where
+    T: TakesTurns + Send + Drop,
+    M: SharedMemory + Sync,
+    G: Gate + Sync,
+    R: Threads + Wait + Sync,
+    requires start { MayStart M.name M.seen T.meaning crew }
+    requires len { vec_len crew.threads ≢ 0 → vec_len crew.threads ≡ vec_len crew.seats }
+    ensures fault { vec_len crew.threads ≡ 0 → IsOkUnless result StartFault.NoMemory }
+    ensures ends { IfOk result (λ all. EndsAll (over M.SharedMemory place.now.memory.now) T.meaning crew all.items) }
+{
+    let Ok(ends) = Vec::with_capacity(alloc, MOST_THREADS) else {
+        return Err(StartFault::NoMemory);
+    };
+    if crew.threads.is_empty() {
+        return Ok(lead_alone(place, crew, ends));
+    }
+    in_scope(alloc, place, crew, ends)
+}
+
+/// All seats meet the hub, and so have seen one list.
+fn level_all<M: SharedMemory>(memory: &M, hub: &mut M::Seat, seats: &mut Vec<M::Seat>)
     requires { M.has_queue_right hub.old ≡ true }
     ensures level { AreLevel M.SharedMemory hub.old hub.new seats.old.items seats.new.items }
     ensures len { vec_len seats.new ≡ vec_len seats.old }
@@ -110,9 +131,13 @@ fn bring_home<M: SharedMemory>(
 }
 
 /// Runs the threads of a module as real threads, over one shared memory: the first in the calling thread, and each
-/// spawned one in a thread of its own, which waits until it is spawned.
+/// spawned one in a thread of its own, which waits until it is spawned. Of a program that imports no function there are
+/// none of these, and no thread is started.
 ///
-/// The 65 seats are those of a new memory, in order of their names. Memory is taken before the first turn alone.
+/// The 65 seats are those of a new memory, in order of their names.
+///
+/// # Errors
+/// Where memory is refused, or the system starts no further thread, before the first turn of a thread.
 pub fn run_all<T, M, G, R>(
     rt: &R,
     alloc: Global,
@@ -121,27 +146,27 @@ pub fn run_all<T, M, G, R>(
     memory: &M,
     seats: Vec<M::Seat>,
     gate: &G,
-) -> Result<RunEnd<M::Seat>, RunFault>
+) -> Result<RunEnd<M::Seat>, StartFault>
 where
     T: TakesTurns + Send + Drop,
     M: SharedMemory + Sync,
     G: Gate + Sync,
     R: Threads + Wait + Sync,
     requires here { MayRun (T.meaning first) }
-    requires count { vec_len spawned ≡ MOST_SPAWNED }
+    requires count { CountsSpawnable (T.meaning first) (vec_len spawned) }
     requires begins { All (λ (t : T). MayBeSpawned (T.meaning t)) spawned.items }
     requires len { vec_len seats ≡ SEATS }
     requires names { AreInOrder M.SharedMemory seats.items }
     requires new { AreNew M.SharedMemory seats.items }
     requires right { (d : M.Seat) → M.has_queue_right (slice_index_or seats.items DESK_NAME d) ≡ true }
-    ensures fault { IfErr result (λ fault. IsOfSystem fault) }
+    ensures fault { vec_len spawned ≡ 0 → IsOkUnless result StartFault.NoMemory }
     ensures composed { IfOk result (GivesRun M.SharedMemory memory.now T.meaning first spawned.items) }
 {
     let Ok(reports) = Vec::with_capacity(alloc, MOST_THREADS) else {
-        return Err(RunFault::NoMemory);
+        return Err(StartFault::NoMemory);
     };
     let Ok(home) = Vec::with_capacity(alloc, SEATS as usize) else {
-        return Err(RunFault::NoMemory);
+        return Err(StartFault::NoMemory);
     };
     let Dealt {
         first: seat,
@@ -149,9 +174,19 @@ where
         desk,
     } = deal(seats);
     let desk = Desk::open(rt, memory, desk);
-    match run_threads(
-        rt, alloc, first, spawned, memory, seat, workers, &desk, gate,
-    ) {
+    let place = Workplace {
+        rt,
+        memory,
+        desk: &desk,
+        gate,
+    };
+    let crew = Crew {
+        first,
+        seat,
+        threads: spawned,
+        seats: workers,
+    };
+    match run_crew(alloc, &place, crew) {
         Ok(ends) => {
             let hub = desk.close();
             Ok(bring_home(memory, ends, hub, reports, home))

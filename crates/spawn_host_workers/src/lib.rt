@@ -6,7 +6,6 @@
 //! tries as its seat lost.
 #![tactic(auto)]
 
-mod alone;
 mod crew;
 mod host;
 mod report;
@@ -16,7 +15,6 @@ mod seats;
 mod serving;
 mod worker;
 
-pub use alone::run_alone;
 pub use host::run_all;
-pub use report::{RunEnd, RunFault};
+pub use report::{RunEnd, StartFault};
 pub use running::{ThreadEnd, run_thread};

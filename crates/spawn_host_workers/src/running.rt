@@ -84,7 +84,7 @@ fn step<T: TakesTurns, M: SharedMemory, W: Wait + Drop, G: Gate>(
 }
 
 /// Makes steps until the thread has ended.
-fn run_steps<T: TakesTurns, M: SharedMemory, W: Wait + Drop, G: Gate, R: Wait>(
+fn steps_to_end<T: TakesTurns, M: SharedMemory, W: Wait + Drop, G: Gate, R: Wait>(
     rt: &R,
     thread: &mut T,
     memory: &M,
@@ -125,7 +125,7 @@ pub fn run_thread<T: TakesTurns + Drop, M: SharedMemory, W: Wait + Drop, G: Gate
     ensures ran { SeatRunsOut M.SharedMemory memory.now T.meaning thread seat result }
     ensures last { IsLast M.opening (M.name seat) (M.seen result.seat) }
 {
-    let outcome = run_steps(rt, &mut thread, memory, &mut seat, desk, gate);
+    let outcome = steps_to_end(rt, &mut thread, memory, &mut seat, desk, gate);
     desk.end(memory, &mut seat);
     let spent = thread.spent();
     ThreadEnd {

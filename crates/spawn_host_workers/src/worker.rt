@@ -5,12 +5,12 @@ ghost use Rattle.spawn_host_workers.specs.OverMemory.{over};
 ghost use Rattle.spawn_host_workers.specs.Works.{EndsWork};
 ghost use Rattle.interp_trait.specs.Turns.{MayBeSpawned};
 
+use crate::crew::Workplace;
 use crate::{ThreadEnd, run_thread};
 use interp_trait::{Gate, TakesTurns};
 use shared_memory::SharedMemory;
 use std::sync::Wait;
 use types::{ThreadReport, Value};
-use waiters_desk::Desk;
 
 /// A seat that comes back, with the report of its thread, if that one was spawned.
 #[derive(Drop)]
@@ -21,19 +21,17 @@ pub(crate) struct WorkerEnd<S> {
 
 /// Waits until the thread of the seat's name is spawned, and runs it to its end.
 pub(crate) fn work<T: TakesTurns + Drop, M: SharedMemory, W: Wait + Drop, G: Gate, R: Wait>(
-    rt: &R,
+    place: &Workplace<M, W, G, R>,
     mut thread: T,
-    memory: &M,
     mut seat: M::Seat,
-    desk: &Desk<M, W>,
-    gate: &G,
 ) -> WorkerEnd<M::Seat>
     requires new { entries_of (M.name seat) (M.seen seat) ≡ [] }
     requires begins { MayBeSpawned (T.meaning thread) }
-    ensures { EndsWork (over M.SharedMemory memory.now) T.meaning thread seat result }
+    ensures { EndsWork (over M.SharedMemory place.now.memory.now) T.meaning thread seat result }
 {
+    let memory = place.memory;
     let name = memory.name(&seat);
-    let Some(arg) = desk.begin(memory, &mut seat) else {
+    let Some(arg) = place.desk.begin(memory, &mut seat) else {
         return WorkerEnd { report: None, seat };
     };
     thread.set_args(&[Value::I32(name), Value::I32(arg)]);
@@ -41,7 +39,7 @@ pub(crate) fn work<T: TakesTurns + Drop, M: SharedMemory, W: Wait + Drop, G: Gat
         outcome,
         seat,
         spent,
-    } = run_thread(rt, thread, memory, seat, desk, gate);
+    } = run_thread(place.rt, thread, memory, seat, place.desk, place.gate);
     let report = Some(ThreadReport { outcome, spent });
     WorkerEnd { report, seat }
 }

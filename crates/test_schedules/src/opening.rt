@@ -9,8 +9,7 @@ use interp::Thread;
 use interp_trait::TakesTurns;
 use schedule_program::{Machine, Stepped};
 use shared_memory_sequential::{OneMemory, OpenFault};
-use spawn_host::{Call, first_thread, spawnable_threads};
-use spawn_host_workers::RunFault;
+use spawn_host::{Call, CallFault, Request, first_thread, spawnable_threads};
 use std::alloc::{AllocError, Global};
 use thiserror::Error;
 use types::MOST_THREADS;
@@ -21,7 +20,7 @@ use validate_module::ValidModule;
 pub enum MachineFault {
     /// A run of the function with the arguments couldn't begin either.
     #[error("run: {0}")]
-    Run(RunFault),
+    Run(CallFault),
     /// The memory couldn't be opened.
     #[error("open: {0}")]
     Open(OpenFault),
@@ -30,8 +29,8 @@ pub enum MachineFault {
     NoMemory,
 }
 
-impl From<RunFault> for MachineFault {
-    fn from(fault: RunFault) -> MachineFault {
+impl From<CallFault> for MachineFault {
+    fn from(fault: CallFault) -> MachineFault {
         MachineFault::Run(fault)
     }
 }
@@ -73,7 +72,8 @@ pub fn machine_of<'m>(
 ) -> Result<Machine<Thread<'m>>, MachineFault>
     ensures { IfOk result (IsMachineOfCall meaning_in «module».now.parts call.entry) }
 {
-    let first = first_thread(alloc, module, call)?;
+    let request = Request::new(module, call)?;
+    let first = first_thread(alloc, &request)?;
     let image = module.image(alloc)?;
     let memory = OneMemory::open(alloc, &image, module.pages_max())?;
     let mut threads = Vec::with_capacity(alloc, MOST_THREADS)?;

@@ -1,15 +1,16 @@
-use Rattle.std.proofs.Common.{rules}
+use Rattle.interp.specs.Threads.{meaning_in}
+use Rattle.spawn_host.proofs.Requested.{within, taken, begun}
 use Rattle.spawn_host.proofs.threads.first_thread.Goals as goal
 
-pub returns-clause-first : goal.returns-clause-first
-returns-clause-first c =
-    let found = c.in-Some.ensures in record {
-      takes = record {
-        own = c.in-Some.function.own;
-        func_type = c.in-Some.function.func_type.now;
-        body = found.0;
-        exports = found.1;
-        fit = search rules;
-      };
-      call = c.in-Ok.ensures c.in-Some.function.func_type.now found.0 found.1.function;
-    }
+pub calling-requires-clause-within : goal.calling-requires-clause-within
+calling-requires-clause-within c =
+    within c.args.request.now c.«module».result.now.parts c.call-call.result c.number.result c.«module».ensures c.call-call.ensures.call c.number.ensures
+
+pub calling-requires-clause-call : goal.calling-requires-clause-call
+calling-requires-clause-call c =
+    taken c.args.request.now c.«module».result.now.parts c.call-call.result c.number.result c.«module».ensures c.call-call.ensures.call c.number.ensures
+
+pub returns : goal.returns
+returns c =
+    begun c.args.request.now c.«module».result.now.parts c.call-call.result c.number.result c.«module».ensures c.call-call.ensures.call
+    c.number.ensures meaning_in c.calling.result c.calling.ensures

@@ -9,7 +9,7 @@ returns g c =
       name_is = end.ensures.same.name_is;
       works = record {
         ran = λ t stands here. (end.ensures.ran t stands here).out;
-        grows = sees_grows m.LOSES m.opening (m.limit c.args.memory.now)
+        grows = sees_grows m.LOSES m.opening (m.limit c.args.place.now.memory.now)
             (m.name c.args.seat) some.run.steps (m.seen c.args.seat) (m.seen end.result.seat) some.run.sees;
         last = end.ensures.last;
       };

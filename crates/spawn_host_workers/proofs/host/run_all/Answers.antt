@@ -1,9 +1,10 @@
-use Rattle.std.proofs.Common.{arith, ap, refl, sym, ◌∙◌, ◌≡◌, vec_len}
+use Rattle.std.proofs.Common.{arith, ap, ℕ, ◌≡◌, inl, inr, refl, subst, vec_len}
 use Rattle.shared_memory.specs.History.{entries_of, of_queue}
 use Rattle.types.specs.declared.limits.TheConstants.{MOST_THREADS, DESK_NAME}
 use Rattle.spawn_host_workers.specs.OverMemory.{over}
-use Rattle.spawn_host_workers.specs.Composed.{seats_of}
-use Rattle.spawn_host_workers.proofs.OneList.{Unpacked, IsDeskSeat, lead_may_ask, workers_new, desk_new, crew_length, composed}
+use Rattle.spawn_host_workers.proofs.OneList.{Unpacked, IsDeskSeat, lead_may_ask, workers_new, desk_new}
+use Rattle.spawn_host_workers.specs.Crew.{CountsSpawnable}
+use Rattle.spawn_host_workers.proofs.Ending.{ends_length, composed_any}
 use Rattle.spawn_host_workers.proofs.host.run_all.Given as given
 use Rattle.spawn_host_workers.proofs.host.run_all.Goals as goal
 use Rattle.spawn_host_workers.proofs.host.run_all.Goals.{After-deal-seat}
@@ -31,45 +32,50 @@ open-desk-requires-clause-quiet g c κs within = ap of_queue (desk g (goal.at.op
 pub open-desk-requires-clause-silent : goal.open-desk-requires-clause-silent
 open-desk-requires-clause-silent g c κs within = ap (entries_of DESK_NAME) (desk g (goal.at.open-desk-requires-clause-silent g c).After-deal-seat).fresh
 
-pub run_threads-requires-clause-start : goal.run_threads-requires-clause-start
-run_threads-requires-clause-start g c κs within =
+pub run_crew-requires-clause-start : goal.run_crew-requires-clause-start
+run_crew-requires-clause-start g c κs within =
     let m = g.M.SharedMemory in
     let dealt = c.deal-seat.result in
-    let u = dealt_of g (goal.at.run_threads-requires-clause-start g c).After-deal-seat in
+    let u = dealt_of g (goal.at.run_crew-requires-clause-start g c).After-deal-seat in
     record {
       here = c.requires.here;
       free = lead_may_ask m.name m.seen c.args.seats.items dealt.first dealt.workers.items dealt.desk u c.requires.names c.requires.new;
-      len = sym c.args.spawned.ok.0 ∙ (c.requires.count ∙ sym c.deal-seat.ensures.len);
       few = omega (arith, c.deal-seat.ensures.len);
       new = workers_new m.name m.seen c.args.seats.items dealt.first dealt.workers.items dealt.desk u c.requires.names c.requires.new;
       begins = c.requires.begins;
     }
 
+pub run_crew-requires-clause-len : goal.run_crew-requires-clause-len
+run_crew-requires-clause-len g c κs within =
+    λ some. elim c.requires.count [
+      | inl most ↦ omega (arith, most, c.deal-seat.ensures.len, c.deal-seat.result.workers.ok.0)
+      | inr none ↦ absurd (some none.0)
+    ]
+
 pub bring_home-requires-clause-room : goal.bring_home-requires-clause-room
 bring_home-requires-clause-room g c κs within =
     let m = g.M.SharedMemory in
     let t = g.T.TakesTurns in
-    let ends = c.in-Ok-run_threads.ends in
-    let count = crew_length (over m c.args.memory.now) t.meaning c.args.first c.deal-seat.result.first c.args.spawned.items
-    c.deal-seat.result.workers.items ends.items c.in-Ok-run_threads.ensures in
+    let ends = c.in-Ok-run_crew.ends in
+    let count = ends_length (over m c.args.memory.now) t.meaning c.args.first c.deal-seat.result.first c.args.spawned.items
+    c.deal-seat.result.workers.items ends.items c.in-Ok-run_crew.ensures.ends in
     let here : vec_len ends ≡ MOST_THREADS = omega (arith, count, ends.ok.0, c.deal-seat.ensures.len) in (
       omega (arith, here, c.in-Ok.ensures.len, c.in-Ok.ensures.capacity),
       omega (arith, here, c.in-Ok-with_capacity.ensures.len, c.in-Ok-with_capacity.ensures.capacity),
     )
 
-pub returns-in-Ok-run_threads-clause-composed : goal.returns-in-Ok-run_threads-clause-composed
-returns-in-Ok-run_threads-clause-composed g c =
+pub returns-in-Ok-run_crew-clause-composed : goal.returns-in-Ok-run_crew-clause-composed
+returns-in-Ok-run_crew-clause-composed g c =
     let m = g.M.SharedMemory in
     let t = g.T.TakesTurns in
-    let ends = c.in-Ok-run_threads.ends in
     let end = c.bring_home.result in
     let level = c.bring_home.ensures.seats in
-    composed (over m c.args.memory.now) m.has_queue_right t.meaning c.args.first c.args.spawned.items
+    composed_any (over m c.args.memory.now) m.has_queue_right t.meaning c.args.first c.args.spawned.items c.requires.here
     c.args.seats.items c.deal-seat.result.first c.deal-seat.result.desk c.deal-seat.result.workers.items c.close-hub.result
-    ends.items end.threads.items end.seats.items
-    c.deal-seat.ensures.parts c.deal-seat.ensures.len c.requires.names c.requires.new c.in-Ok-run_threads.ensures c.bring_home.ensures.threads level.0
-    (seats_of ends.items) level.1 refl
-    level.2 level.3 c.close-hub.ensures.legal c.close-hub.ensures.name c.close-hub.ensures.silent
+    c.in-Ok-run_crew.ends.items end.threads.items end.seats.items
+    c.deal-seat.ensures.parts c.deal-seat.ensures.len c.requires.names c.requires.new c.bring_home.ensures.threads level.0
+    level.1 level.2 level.3 c.close-hub.ensures.legal c.close-hub.ensures.name c.close-hub.ensures.silent
+    (subst (λ (n : ℕ). CountsSpawnable (t.meaning c.args.first) n) c.args.spawned.ok.0 c.requires.count) c.in-Ok-run_crew.ensures.ends
 
 pub bring_home-requires-clause-right : goal.bring_home-requires-clause-right
 bring_home-requires-clause-right g c κs within = c.close-hub.ensures.right
@@ -80,8 +86,8 @@ returns-in_default-clause-composed g c = tt
 pub returns-in_default-with_capacity-clause-composed : goal.returns-in_default-with_capacity-clause-composed
 returns-in_default-with_capacity-clause-composed g c = tt
 
-pub returns-in-Ok-run_threads-clause-fault : goal.returns-in-Ok-run_threads-clause-fault
-returns-in-Ok-run_threads-clause-fault g c = tt
+pub returns-in-Ok-run_crew-clause-fault : goal.returns-in-Ok-run_crew-clause-fault
+returns-in-Ok-run_crew-clause-fault g c = λ none. tt
 
 pub deal-seat-requires : goal.deal-seat-requires
 deal-seat-requires g c = c.requires.len
@@ -90,13 +96,13 @@ pub bring_home-requires-clause-empty : goal.bring_home-requires-clause-empty
 bring_home-requires-clause-empty g c κs within = (c.in-Ok.ensures.items, c.in-Ok-with_capacity.ensures.items)
 
 pub returns-in_default-clause-fault : goal.returns-in_default-clause-fault
-returns-in_default-clause-fault g c = tt
+returns-in_default-clause-fault g c = λ none. refl
 
 pub returns-in_default-with_capacity-clause-fault : goal.returns-in_default-with_capacity-clause-fault
-returns-in_default-with_capacity-clause-fault g c = tt
+returns-in_default-with_capacity-clause-fault g c = λ none. refl
 
 pub returns-in-Err-clause-fault : goal.returns-in-Err-clause-fault
-returns-in-Err-clause-fault g c = c.in-Err.ensures
+returns-in-Err-clause-fault g c = c.in-Err.ensures.fault
 
 pub returns-in-Err-clause-composed : goal.returns-in-Err-clause-composed
 returns-in-Err-clause-composed g c = tt

@@ -9,7 +9,7 @@ pub returns : goal.returns
 returns g c =
     let m = g.M.SharedMemory in
     let n = m.name c.args.seat in
-    let limit = m.limit c.args.memory.now in
+    let limit = m.limit c.args.place.now.memory.now in
     let end = c.run_thread-outcome in
     let ran = rw (c.set_args.ensures.stays.program, c.set_args.ensures.stays.fuel, c.begin.ensures.stays.same.name_is) at end.ensures.ran in
     let last = rw (c.begin.ensures.stays.same.name_is) at end.ensures.last in

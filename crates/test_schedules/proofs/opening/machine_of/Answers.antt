@@ -3,6 +3,7 @@ use Rattle.schedule.specs.Machine.{Thread.Runs}
 use Rattle.interp_machine.specs.State.{At}
 use Rattle.interp.specs.Starts.{start_of}
 use Rattle.interp.specs.Threads.{meaning_in}
+use Rattle.spawn_host.proofs.Requested.{first_of_call}
 use Rattle.test_schedules.specs.Machines.{setting_of}
 use Rattle.test_schedules.proofs.Filling.{are_alone, count_alone, absent_past}
 use Rattle.test_schedules.proofs.Machines.{worker_in, prepared, calls_start, opened_is, at_start}
@@ -10,7 +11,8 @@ use Rattle.test_schedules.proofs.opening.machine_of.Goals as goal
 
 pub running-requires : goal.running-requires
 running-requires c =
-    let f = c.in_ok-first.ensures.first in
+    let f = first_of_call c.in_ok-request.request c.args.module.now.parts c.args.call c.in_ok-request.ensures.request meaning_in
+    c.in_ok-first.first c.in_ok-first.ensures in
     let main = start_of c.args.module.now.parts f.takes.func_type f.takes.body c.args.call.args.now in
     (main, subst (λ k. (meaning_in c.in_ok-first.first).stands (Runs (At main) k)) (sym f.call.fuel_is) f.call.stands_so)
 
@@ -25,7 +27,8 @@ add_absent-requires-clause-prepared c =
 pub returns-then-not-starts_threads : goal.returns-then-not-starts_threads
 returns-then-not-starts_threads c =
     let m = c.args.module.now.parts in
-    let f = c.in_ok-first.ensures.first in
+    let f = first_of_call c.in_ok-request.request m c.args.call c.in_ok-request.ensures.request meaning_in c.in_ok-first.first
+    c.in_ok-first.ensures in
     let main = start_of m f.takes.func_type f.takes.body c.args.call.args.now in
     let worker = start_of m f.takes.func_type f.takes.body in
     let s = setting_of m worker c.args.call.fuel in
@@ -44,7 +47,8 @@ returns-then-not-starts_threads c =
 pub returns : goal.returns
 returns c =
     let m = c.args.module.now.parts in
-    let f = c.in_ok-first.ensures.first in
+    let f = first_of_call c.in_ok-request.request m c.args.call c.in_ok-request.ensures.request meaning_in c.in_ok-first.first
+    c.in_ok-first.ensures in
     let main = start_of m f.takes.func_type f.takes.body c.args.call.args.now in
     let spawned = c.in_ok-spawned.ensures in
     let worker = worker_in meaning_in m c.args.call.fuel _ c.in_ok-spawned.spawned.items spawned in

@@ -3,7 +3,7 @@ use Rattle.spawn_host_workers.specs.Ends.{watched}
 use Rattle.spawn_host_workers.specs.Seats.{StaysFree}
 use Rattle.interp_trait.specs.declared.turn.Turn.TheVariants.{Moved}
 use Rattle.spawn_host_workers.specs.Serving.{Attends}
-use Rattle.spawn_host_workers.proofs.running.run_steps.Given as goal
+use Rattle.spawn_host_workers.proofs.running.steps_to_end.Given as goal
 
 abbrev pub invariant-loop : goal.invariant-loop
 invariant-loop g l =

@@ -1,18 +1,16 @@
-use Rattle.std.proofs.Common.{sym, ◌∙◌, ap, [], ◌∷◌, ◌++◌}
 use Rattle.spawn_host_workers.proofs.Duties.{crew_of}
-use Rattle.spawn_host_workers.proofs.crew.run_crew.Goals as goal
+use Rattle.spawn_host_workers.proofs.Pairing.{first_there}
+use Rattle.spawn_host_workers.proofs.crew.lead_crew.Goals as goal
 
 pub returns : goal.returns
 returns g c =
     let m = g.M.SharedMemory in
     let t = g.T.TakesTurns in
-    crew_of m t.meaning c.args.memory.now c.args.first c.args.seat c.args.threads.items c.args.seats.items
-    c.in-Ok-start_workers.handles.items c.lead.result _ _ c.lead.ensures (c.push_reserved.ensures.items
-    ∙ ap (λ w. w ++ c.lead.result ∷ []) c.in-Ok.ensures.items)
-    c.in-Ok-start_workers.ensures.0 c.join_all.ensures
-
-pub start_workers-requires-clause-len : goal.start_workers-requires-clause-len
-start_workers-requires-clause-len g c κs within = c.args.threads.ok.0 ∙ (c.requires.start.len ∙ sym c.args.seats.ok.0)
+    let crew = c.args.crew in
+    crew_of m t.meaning c.args.place.now.memory.now crew.first crew.seat crew.threads.items crew.seats.items
+    c.in-Ok.handles.items c.lead.result _ _ c.lead.ensures
+    (first_there _ _ c.lead.result c.push_reserved.ensures.items c.requires.empty)
+    c.in-Ok.ensures.0 c.join_all.ensures
 
 pub start_workers-requires-clause-new : goal.start_workers-requires-clause-new
 start_workers-requires-clause-new g c κs within = c.requires.start.new
@@ -28,9 +26,3 @@ lead-requires-clause-here g c κs within = c.requires.start.here
 
 pub lead-requires-clause-free : goal.lead-requires-clause-free
 lead-requires-clause-free g c κs within = c.requires.start.free
-
-pub returns-in_default : goal.returns-in_default
-returns-in_default g c = tt
-
-pub returns-in-Err : goal.returns-in-Err
-returns-in-Err g c = c.in-Err.ensures

@@ -2,7 +2,7 @@ use Rattle.spawn_host_workers.specs.Ends.{watched}
 use Rattle.interp_trait.specs.declared.turn.Turn.TheVariants.{Moved, Ended}
 use Rattle.spawn_host_workers.proofs.Attending.{attends_then, attends_moved}
 use Rattle.spawn_host_workers.proofs.Staying.{stays_free_on}
-use Rattle.spawn_host_workers.proofs.running.run_steps.Goals as goal
+use Rattle.spawn_host_workers.proofs.running.steps_to_end.Goals as goal
 
 pub returns-in-Ended-clause-ended : goal.returns-in-Ended-clause-ended
 returns-in-Ended-clause-ended g c t stands here =

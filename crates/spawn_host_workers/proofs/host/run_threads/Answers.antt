@@ -1,4 +1,0 @@
-use Rattle.spawn_host_workers.proofs.host.run_threads.Goals as goal
-
-pub returns : goal.returns
-returns g c = c.scoped.ensures.1
