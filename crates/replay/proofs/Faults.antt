@@ -13,7 +13,7 @@ use Rattle.spawn_host.specs.declared.end.EndState.{EndState}
 use Rattle.replay.specs.declared.fault.ReplayFault.{ReplayFault}
 use Rattle.replay.specs.declared.fault.ReplayFault.TheVariants.{Line, EndLine, NoMemory}
 use Rattle.replay.specs.Runs.{BeginsBy, start_of_record, HasLength, HasPages, OfScale, IsRunOf, IsReplayFault, IsOfNoRun, ShowsNoRun}
-use Rattle.replay.specs.Threads.{IsCallFault}
+use Rattle.replay.specs.Threads.{OfCall}
 use Rattle.replay.specs.Walks.{IsWalkFault}
 use Rattle.replay.proofs.Same.{same_function, same_start}
 
@@ -30,7 +30,7 @@ module _ (m : Parts) (r : RecordParts) where
   of_scale NoMemory h = absurd h
 
   module _ (len : HasLength m r) (within : HasPages m r) where
-    pub of_call : (fault : ReplayFault) → IsCallFault m r fault → IsReplayFault m r fault
+    pub of_call : (fault : ReplayFault) → OfCall m r fault → IsReplayFault m r fault
     of_call (Line line) (inl h) = inl (inr (inl (h.0, len, within, h.1)))
     of_call (Line line) (inr h) = inl (inr (inr (h.0, len, within, h.1)))
     of_call (EndLine line) h = absurd h

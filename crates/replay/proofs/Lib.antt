@@ -1,4 +1,5 @@
 pub mod Same
+pub mod Workers
 pub mod Ready
 pub mod Deciding
 pub mod Faults

@@ -1,14 +1,13 @@
 //! The threads of a run by a record, before their first turn.
 ghost use Rattle.std.specs.Prelude.{◌≡◌, ◌∷◌, IfOk, IfErr, IsOkAnd};
 ghost use Rattle.replay.specs.Runs.{invoke_line};
-ghost use Rattle.replay.specs.Threads.{AreThreads, AreOthers, IsCallFault, MakesCallOf};
+ghost use Rattle.replay.specs.Threads.{AreThreadsOf, AreOthers, MakesCallOf, OfCall};
 ghost use Rattle.interp.specs.Threads.{meaning_in};
 
 use crate::fault::ReplayFault;
 use interp::Thread;
 use replay_text::{RecordParts, Version};
-use spawn_host::{Call, first_thread, spawnable_threads};
-use spawn_host_workers::RunFault;
+use spawn_host::{Call, CallFault, Request, first_thread, spawnable_threads};
 use std::alloc::{AllocError, Global};
 use validate_module::ValidModule;
 
@@ -18,8 +17,8 @@ pub(crate) fn threads_of<'m>(
     module: &'m ValidModule,
     parts: &RecordParts,
 ) -> Result<Vec<Thread<'m>>, ReplayFault>
-    ensures threads { IfOk result (λ threads. AreThreads meaning_in «module».now.parts parts.now threads.items) }
-    ensures fault { IfErr result (λ fault. IsCallFault «module».now.parts parts.now fault) }
+    ensures threads { IfOk result (AreThreadsOf meaning_in «module».now.parts parts.now) }
+    ensures fault { IfErr result (OfCall «module».now.parts parts.now) }
 {
     let first = first_of(alloc, module, parts)?;
     led_by(first, others_of(alloc, module, parts.fuel))
@@ -67,17 +66,16 @@ fn first_of<'m>(
     parts: &RecordParts,
 ) -> Result<Thread<'m>, ReplayFault>
     ensures first { IfOk result (MakesCallOf meaning_in «module».now.parts parts.now) }
-    ensures fault { IfErr result (λ fault. IsCallFault «module».now.parts parts.now fault) }
+    ensures fault { IfErr result (OfCall «module».now.parts parts.now) }
 {
     let call = Call {
         name: parts.invoke.as_str(),
         args: parts.args.as_slice(),
         fuel: parts.fuel,
     };
-    match first_thread(alloc, module, call) {
-        Ok(thread) => Ok(thread),
-        Err(RunFault::UnknownExport) => Err(ReplayFault::Line(invoke_line(parts.version))),
-        Err(RunFault::WrongArguments) => Err(ReplayFault::Line(invoke_line(parts.version) + 1)),
-        Err(RunFault::NoMemory | RunFault::NoThread) => Err(ReplayFault::NoMemory),
+    match Request::new(module, call) {
+        Ok(request) => Ok(first_thread(alloc, &request)?),
+        Err(CallFault::UnknownExport) => Err(ReplayFault::Line(invoke_line(parts.version))),
+        Err(CallFault::WrongArguments) => Err(ReplayFault::Line(invoke_line(parts.version) + 1)),
     }
 }

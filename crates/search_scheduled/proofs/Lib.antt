@@ -1,6 +1,5 @@
 pub mod Rebased
 pub mod SpareLaws
-pub mod Beginnings
 pub mod Unused
 pub mod Settling
 pub mod Answering

@@ -8,7 +8,7 @@ use Rattle.schedule_runs.specs.Runs.{Start}
 use Rattle.replay_text.specs.declared.version.Version.TheVariants as versions
 use Rattle.replay_text.specs.declared.parts.RecordParts.{RecordParts}
 use Rattle.replay_rules.specs.Recorded.{IsRecordedRun}
-use Rattle.spawn_host.specs.declared.call.Call.{Call}
+use Rattle.spawn_host.specs.Requests.{Requested}
 use Rattle.spawn_host.specs.declared.end.EndState.{EndState}
 
 -- One record has the other's header: its version, the module's length, how many threads and pages there may be, its
@@ -35,8 +35,9 @@ pub record IsOfCall (m : Parts) (name : List ℕ) (values : List Value) (units m
   pub fuel : r.fuel ≡ units
   pub limit : r.limit ≡ most
 
-abbrev pub RecordsCall : Parts → Call → ℕ → RecordParts → Type 0
-RecordsCall m call most r = IsOfCall m call.name.now call.args.now call.fuel most r
+-- The same of what is requested.
+abbrev pub IsOfRequest : Requested → ℕ → RecordParts → Type 0
+IsOfRequest q most r = IsOfCall q.parts q.name q.args q.fuel most r
 
 -- The record is of a run with this beginning, which ends so.
 pub record Concludes (b : Start) (r : RecordParts) (end : EndState) : Type 0 where

@@ -1,7 +1,6 @@
 //! What a course has come to.
-ghost use Rattle.std.specs.Prelude.{◌≡◌, drop, IfOk, IfErr};
+ghost use Rattle.std.specs.Prelude.{◌≡◌, drop, IfOk};
 ghost use Rattle.search_scheduled.specs.Courses.{ConcludesRuns};
-ghost use Rattle.search_scheduled.specs.Faults.{IsLater};
 ghost use Rattle.search_scheduled.specs.Headers.{HasHeaderOf};
 ghost use Rattle.search_scheduled.specs.SpareThreads.{LeavesUnused};
 
@@ -24,9 +23,7 @@ pub(crate) struct Concluded<T> {
 }
 
 /// How the threads of a walk have ended that were started, in order.
-fn ends_of<T: TakesTurns>(alloc: Global, walk: &Walk<T>) -> Result<Vec<ThreadReport>, SearchFault>
-    ensures { IfErr result IsLater }
-{
+fn ends_of<T: TakesTurns>(alloc: Global, walk: &Walk<T>) -> Result<Vec<ThreadReport>, SearchFault> {
     let mut ends = Vec::new(alloc);
     for n in 0..walk.stage.started as usize {
         let (Some(Some(outcome)), Some(thread)) = (walk.stage.ends.get(n), walk.threads.get(n))
@@ -65,7 +62,6 @@ pub(crate) fn conclude<T: TakesTurns + Drop>(
     ensures header { IfOk result (λ c. HasHeaderOf header c.parts) }
     ensures concludes { IfOk result (λ c. ConcludesRuns T.meaning course header c.parts c.end) }
     ensures unused { IfOk result (λ c. LeavesUnused T.meaning course c.unused.items) }
-    ensures fault { IfErr result IsLater }
 {
     let ends = ends_of(alloc, &course.walk)?;
     let threads = Vec::from_slice(alloc, &ends)?;

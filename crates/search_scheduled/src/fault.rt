@@ -1,7 +1,6 @@
 //! Why there is no run.
 ghost use Rattle.std.specs.Prelude.{◌≡◌};
 ghost use Rattle.search_scheduled.specs.declared.fault.SearchFault.TheVariants.{NoMemory};
-ghost use Rattle.search_scheduled.specs.Faults.{IsLater};
 
 use crate::CourseFault;
 use std::alloc::{AllocError, AllocFailed};
@@ -10,12 +9,6 @@ use thiserror::Error;
 /// Why a run along a strategy has no record.
 #[derive(Clone, Copy, PartialEq, Eq, Debug, Error)]
 pub enum SearchFault {
-    /// No function of the module itself is exported under the name.
-    #[error("unknown export")]
-    UnknownExport,
-    /// The arguments don't fit the function.
-    #[error("wrong arguments")]
-    WrongArguments,
     /// The system had too little memory left.
     #[error("no memory")]
     NoMemory,
@@ -41,8 +34,6 @@ impl<T: Drop> From<AllocFailed<T>> for SearchFault {
 }
 
 impl From<CourseFault> for SearchFault {
-    ghost from_gives = { λ _ e. IsLater e };
-
     fn from(fault: CourseFault) -> SearchFault {
         match fault {
             CourseFault::NoMemory => SearchFault::NoMemory,

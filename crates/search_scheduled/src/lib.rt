@@ -1,7 +1,7 @@
 //! One run of a module by one thread, along a strategy: its record, and what it left.
 //!
-//! Proved: `run_along` answers a record only with the end of a run that it is of, whatever the strategy. A fault of
-//! the call comes only where it can't be made. A thread that sleeps, or that an answer is due to, makes no turn.
+//! Proved: `run_along` answers a record only with the end of a run that it is of, whatever the strategy. A thread that
+//! sleeps, or that an answer is due to, makes no turn.
 //!
 //! - `threads_of` and `opening` make what a run begins with, as a replay does.
 //! - `Course` is a walk, and the log that it has made (`CameAlong`, specs/Courses.antt): each entry is what the thread

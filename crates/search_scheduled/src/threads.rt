@@ -1,20 +1,17 @@
 //! What a run begins with: its threads before their first turn, and the memory.
-ghost use Rattle.std.specs.Prelude.{◌≡◌, ℕ, [], length, IfOk, IfErr, OnOk};
+ghost use Rattle.std.specs.Prelude.{◌≡◌, ℕ, [], length, IfOk, OnOk};
 ghost use Rattle.types.specs.declared.parts.Parts.{Parts};
 ghost use Rattle.types.specs.declared.limits.TheConstants.{MOST_SPAWNED};
 ghost use Rattle.interp.specs.Threads.{meaning_in};
 ghost use Rattle.spawn_host.specs.Entries.{StartsThreads};
 ghost use Rattle.spawn_host.specs.Runs.{opening_memory};
-ghost use Rattle.replay.specs.Threads.{MakesCallOf};
-ghost use Rattle.search_scheduled.specs.Faults.{IsFaultOf, IsLater};
-ghost use Rattle.search_scheduled.specs.SpareThreads.{AreSpares, AreOthers, AreThreadsOf, HoldsSpares, TakesBack};
+ghost use Rattle.replay.specs.Threads.{AreSpares, AreOthers, AreThreadsFor};
+ghost use Rattle.search_scheduled.specs.SpareThreads.{HoldsSpares, TakesBack};
 
 use crate::fault::SearchFault;
 use interp::Thread;
-use replay_text::RecordParts;
 use shared_memory_sequential::OneMemory;
-use spawn_host::{Call, first_thread, spawnable_threads};
-use spawn_host_workers::RunFault;
+use spawn_host::{Request, first_thread, spawnable_threads};
 use std::alloc::{AllocError, Global};
 use types::MOST_SPAWNED;
 use validate_module::ValidModule;
@@ -75,28 +72,6 @@ impl<'m> Spares<'m> {
     }
 }
 
-/// Thread 0: it is about to call the exported function with the record's arguments.
-fn first_of<'m>(
-    alloc: Global,
-    module: &'m ValidModule,
-    parts: &RecordParts,
-) -> Result<Thread<'m>, SearchFault>
-    ensures first { IfOk result (MakesCallOf meaning_in «module».now.parts parts.now) }
-    ensures fault { IfErr result (IsFaultOf «module».now.parts parts.now.invoke parts.now.args) }
-{
-    let call = Call {
-        name: parts.invoke.as_str(),
-        args: parts.args.as_slice(),
-        fuel: parts.fuel,
-    };
-    match first_thread(alloc, module, call) {
-        Ok(thread) => Ok(thread),
-        Err(RunFault::UnknownExport) => Err(SearchFault::UnknownExport),
-        Err(RunFault::WrongArguments) => Err(SearchFault::WrongArguments),
-        Err(RunFault::NoMemory | RunFault::NoThread) => Err(SearchFault::NoMemory),
-    }
-}
-
 /// The threads that can be spawned, where the module can start threads, and else none.
 fn others_of<'m>(
     alloc: Global,
@@ -114,28 +89,25 @@ fn others_of<'m>(
     Ok(Vec::new(alloc))
 }
 
-/// Thread 0, and behind it those that can be spawned. The record's header says which call it is.
+/// Thread 0, which is about to make the call, and behind it those that can be spawned.
 pub(crate) fn threads_of<'m>(
     alloc: Global,
-    module: &'m ValidModule,
-    parts: &RecordParts,
+    request: &Request<'m, '_>,
     spares: &mut Spares<'m>,
-) -> Result<Vec<Thread<'m>>, SearchFault>
-    requires { HoldsSpares «module».now.parts parts.now.fuel spares.old }
-    ensures threads { IfOk result (AreThreadsOf meaning_in «module».now.parts parts.now) }
-    ensures spares { OnOk result (HoldsSpares «module».now.parts parts.now.fuel spares.new) }
-    ensures fault { IfErr result (IsFaultOf «module».now.parts parts.now.invoke parts.now.args) }
+) -> Result<Vec<Thread<'m>>, AllocError>
+    requires { HoldsSpares request.now.parts request.now.fuel spares.old }
+    ensures threads { IfOk result (λ threads. AreThreadsFor meaning_in request.now threads.items) }
+    ensures spares { OnOk result (HoldsSpares request.now.parts request.now.fuel spares.new) }
 {
-    let first = first_of(alloc, module, parts)?;
-    let mut threads = others_of(alloc, module, parts.fuel, spares)?;
+    let first = first_thread(alloc, request)?;
+    let mut threads = others_of(alloc, request.module(), request.call().fuel, spares)?;
     threads.insert(0, first)?;
     Ok(threads)
 }
 
 /// The memory of a module before the first instruction.
 pub(crate) fn opening(alloc: Global, module: &ValidModule) -> Result<OneMemory, SearchFault>
-    ensures memory { IfOk result (λ memory. memory ≡ opening_memory «module».now.parts) }
-    ensures fault { IfErr result IsLater }
+    ensures { IfOk result (λ memory. memory ≡ opening_memory «module».now.parts) }
 {
     let image = module.image(alloc)?;
     match OneMemory::open(alloc, &image, module.pages_max()) {

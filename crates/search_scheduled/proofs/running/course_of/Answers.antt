@@ -1,5 +1,6 @@
-use Rattle.std.proofs.Common.{List, sym, ◌∙◌, ap, subst}
-use Rattle.types.specs.declared.export.Export.{Export}
+use Rattle.std.proofs.Common.{sym, ◌∙◌, ap, subst}
+use Rattle.types.specs.declared.parts.Parts.{Parts}
+use Rattle.validate_typing.specs.Validity.{HasDistinctNames}
 use Rattle.interp.specs.Threads.{meaning_in}
 use Rattle.spawn_host.specs.Requests.{Requested}
 use Rattle.spawn_host.specs.Runs.{opening_memory}
@@ -13,7 +14,7 @@ returns-clause-begun c = λ r h.
     let q = c.args.request.now in
     let m = q.parts in
     let of_module = c.module-module.ensures in
-    let distinct = rw of_module at c.show_distinct_names.ensures in
+    let distinct = subst (λ (p : Parts). HasDistinctNames p.exports) of_module c.show_distinct_names.ensures in
     let opened = opens_by m q.name q.args q.fuel c.args.limit r h c.in_ok-memory.memory (c.in_ok-memory.ensures ∙ ap opening_memory of_module) in
     let threads = subst (λ (x : Requested). AreThreadsFor meaning_in x c.in_ok-threads.threads.items) (sym (requested_is q c.args.limit r h))
     c.in_ok-threads.ensures.threads in

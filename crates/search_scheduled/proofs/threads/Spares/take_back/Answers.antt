@@ -2,7 +2,7 @@ use Rattle.std.proofs.Common.{List, sym, subst}
 use Rattle.std.proofs.lemmas.List.Elements.{All-append}
 use Rattle.interp.specs.Threads.{meaning_in}
 use Rattle.interp.specs.declared.thread.Thread.{Thread}
-use Rattle.search_scheduled.specs.SpareThreads.{IsSpare, AreSpares}
+use Rattle.replay.specs.Threads.{IsSpare, AreSpares}
 use Rattle.search_scheduled.proofs.threads.Spares.take_back.Goals as goal
 
 pub returns : goal.returns
