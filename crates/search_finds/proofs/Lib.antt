@@ -1,4 +1,3 @@
 mod Alike
 mod Popped
-mod Differing
 pub mod Noting

@@ -1,7 +1,7 @@
 -- What holds of each ending of a table, and of one that is noted, holds of each then.
 use Rattle.std.proofs.Common.{ℕ, List, All, Bool, true, false, subst, sym}
 use Rattle.std.proofs.lemmas.List.Elements.{All-push, All-set}
-use Rattle.search_finds.specs.declared.ending.Ending.{Ending}
+use Rattle.search_endings.specs.Endings.{Ending}
 use Rattle.search_finds.specs.declared.met.Met.{Met}
 use Rattle.search_finds.specs.declared.met.Table.{Table}
 use Rattle.search_finds.specs.Tables.{IsNoted}

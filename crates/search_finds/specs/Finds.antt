@@ -7,9 +7,9 @@ use Rattle.replay.specs.Runs.{IsRunOf}
 use Rattle.spawn_host.specs.declared.call.Call.{Call}
 use Rattle.search_scheduled.specs.Headers.{IsOfCall}
 use Rattle.search_scheduled.specs.declared.running.MadeRun.{MadeRun}
-use Rattle.search_finds.specs.declared.ending.Ending.{Ending}
+use Rattle.search_endings.specs.Endings.{Ending}
 use Rattle.search_finds.specs.declared.met.Table.{Table}
-use Rattle.search_finds.specs.Endings.{IsEndingOf, HaveOneEnding}
+use Rattle.search_finds.specs.Endings.{ending_left, HaveOneEnding}
 use Rattle.search_finds.specs.Words.{HasLineWith, LacksInThread0}
 use Rattle.search_finds.specs.declared.sought.Sought.{Sought}
 
@@ -22,15 +22,15 @@ pub record IsFind (m : Parts) (call : Call) (limit : ℕ) (made : MadeRun) : Typ
 pub record IsMetEnding (m : Parts) (call : Call) (limit dump : ℕ) (e : Ending) : Type 0 where
   pub made : MadeRun
   pub find : IsFind m call limit made
-  pub ending : IsEndingOf dump made.end e
+  pub ending : e ≡ ending_left dump made.end
 
 -- There are words, and a thread's line has them.
 abbrev pub HasWantedWords : Option (Bor (List ℕ)) → Ending → Type 0
-HasWantedWords words e = (w : _) × (words ≡ Some w) × HasLineWith w.now e.outcomes.items
+HasWantedWords words e = (w : _) × (words ≡ Some w) × HasLineWith w.now e.outcomes
 
 -- There are words, and that of thread 0 hasn't them.
 abbrev pub LacksWantedWords : Option (Bor (List ℕ)) → Ending → Type 0
-LacksWantedWords words e = (w : _) × (words ≡ Some w) × LacksInThread0 w.now e.outcomes.items
+LacksWantedWords words e = (w : _) × (words ≡ Some w) × LacksInThread0 w.now e.outcomes
 
 -- A thread's line has the words that are looked for, or that of thread 0 hasn't those that are expected.
 abbrev pub IsLookedFor : Sought → Ending → Type 0
@@ -38,7 +38,7 @@ IsLookedFor s e = HasWantedWords s.find e ⊎ LacksWantedWords s.expect e
 
 -- So a run ended.
 abbrev pub EndsAsLookedFor : Sought → ℕ → EndState → Type 0
-EndsAsLookedFor s dump end = (e : Ending) × IsEndingOf dump end e × IsLookedFor s e
+EndsAsLookedFor s dump end = IsLookedFor s (ending_left dump end)
 
 -- A run of the module by this call that ends as is looked for.
 abbrev pub IsFound : Parts → Call → Sought → MadeRun → Type 0

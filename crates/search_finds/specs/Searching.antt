@@ -3,7 +3,7 @@ use Rattle.interp.specs.Threads.{meaning_in}
 use Rattle.search_scheduled.specs.SpareThreads.{AreSpares}
 use Rattle.search_scheduled.specs.declared.running.MadeRun.{MadeRun}
 use Rattle.search_scheduled.specs.declared.threads.Spares.{Spares}
-use Rattle.search_finds.specs.declared.ending.Ending.{Ending}
+use Rattle.search_endings.specs.Endings.{Ending}
 use Rattle.search_finds.specs.declared.search.RunMaker.{RunMaker}
 use Rattle.search_finds.specs.Finds.{IsFind, IsFound, IsMetEnding}
 

@@ -1,20 +1,19 @@
 -- What it is to note an ending in a table.
-use Rattle.std.specs.Prelude.{ℕ, ◌≡◌, ◌+◌, ◌<◌, ◌++◌, List, [], ◌∷◌, All, Bool, length, slice_index_or, slice_set}
+use Rattle.std.specs.Prelude.{ℕ, ◌≡◌, ◌≢◌, ◌+◌, ◌<◌, ◌++◌, List, [], ◌∷◌, All, Bool, length, slice_index_or, slice_set}
 use Rattle.std.specs.Bool.{MatchBool}
-use Rattle.search_finds.specs.declared.ending.Ending.{Ending}
+use Rattle.search_endings.specs.Endings.{Ending}
 use Rattle.search_finds.specs.declared.met.Met.{Met}
 use Rattle.search_finds.specs.declared.met.Table.{Table}
-use Rattle.search_finds.specs.Endings.{AreOneEnding}
 
 -- No row of a table has this ending.
 abbrev pub IsNewTo : Table → Ending → Type 0
-IsNewTo table e = All (λ m. AreOneEnding m.ending e → ⊥) table.met.items
+IsNewTo table e = All (λ m. m.ending ≢ e) table.met.items
 
 -- The row at a place has it.
 abbrev pub HasRowAt : Table → Ending → ℕ → Type 0
 HasRowAt table e place =
     (place < length table.met.items) × (m : Met) × (slice_index_or table.met.items place m ≡ m)
-    × AreOneEnding m.ending e
+    × (m.ending ≡ e)
 
 -- The ending was met in one run more than before: its count is one more, its first run is the same, and all others are
 -- as they were.
@@ -23,12 +22,12 @@ pub record IsMetAgain (e : Ending) (old new : List Met) : Type 0 where
   pub within : place < length old
   pub was : Met
   pub was_there : slice_index_or old place was ≡ was
-  pub same : AreOneEnding was.ending e
+  pub same : was.ending ≡ e
   pub list : new ≡ slice_set old place (record was { times = was.times + 1 })
 
 -- The ending wasn't met before: it stands last, met in this run alone.
 pub record IsMetFirst (run : ℕ) (e : Ending) (old new : List Met) : Type 0 where
-  pub new_one : All (λ m. AreOneEnding m.ending e → ⊥) old
+  pub new_one : All (λ m. m.ending ≢ e) old
   pub list : new ≡ old ++ record { ending = e; times = 1; first = run } ∷ []
 
 -- A table has one run more, with this ending.

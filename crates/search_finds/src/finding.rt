@@ -6,8 +6,9 @@ ghost use Rattle.search_finds.specs.Halts.{IfFound};
 
 use crate::search::RunMaker;
 use crate::sought::Sought;
-use crate::{Ending, Table, ending_of};
+use crate::{Table, ending_of};
 use report_choice::{MOST_DEPTH, Way};
+use search_endings::Ending;
 use search_reach::{Follows, Wish};
 use search_scheduled::{MadeRun, SearchFault, Spares, run_along, run_with_spares};
 use search_strategies::{Along, Pct, Random};

@@ -1,9 +1,10 @@
 //! The run to an ending.
-ghost use Rattle.std.specs.Prelude.{IfOk, IfSome};
-ghost use Rattle.search_finds.specs.Endings.{IsEndingOf};
+ghost use Rattle.std.specs.Prelude.{◌≡◌, IfOk, IfSome};
+ghost use Rattle.search_finds.specs.Endings.{ending_left};
 ghost use Rattle.search_finds.specs.Finds.{IsFind};
 
-use crate::{Ending, ending_of};
+use crate::ending_of;
+use search_endings::Ending;
 use search_scheduled::{MadeRun, SearchFault, run_along};
 use search_strategies::Chosen;
 use spawn_host::Call;
@@ -14,7 +15,6 @@ use validate_module::ValidModule;
 ///
 /// # Errors
 /// As of `run_along`.
-#[tactic(auto, using(crate::proofs::Alike::ends_as))]
 pub fn run_to(
     alloc: Global,
     module: &ValidModule,
@@ -25,11 +25,11 @@ pub fn run_to(
     ending: &Ending,
 ) -> Result<Option<MadeRun>, SearchFault>
     ensures find { IfOk result (λ o. IfSome o (IsFind «module».now.parts call.entry limit)) }
-    ensures ending { IfOk result (λ o. IfSome o (λ made. IsEndingOf dump made.end ending.now)) }
+    ensures ending { IfOk result (λ o. IfSome o (λ made. ending.now ≡ ending_left dump made.end)) }
 {
     let made = run_along(alloc, module, call, limit, &mut Chosen::new(choices))?;
     let end = ending_of(alloc, &made.end, dump)?;
-    if end.is_same(ending) {
+    if end == *ending {
         Ok(Some(made))
     } else {
         Ok(None)

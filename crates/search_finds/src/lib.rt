@@ -6,7 +6,7 @@
 //! `shrunk` answers a run by the same call that ends alike.
 //!
 //! - `Sought` says which runs are made, and what is looked for.
-//! - `Ending` is how a run ended, and `Table` counts the endings that were met.
+//! - `Table` counts the endings that were met (`search_endings::Ending`).
 //! - `first_found` makes them one by one and notes their endings, up to the first that is looked for, or until it is
 //!   told to end; `Halt` says which.
 //! - `shrunk` tries parts of that run's schedule; a run that ends alike with fewer switches, or with as many and fewer
@@ -28,7 +28,7 @@ mod sought;
 mod table;
 mod words;
 
-pub use ending::{Ending, ending_of, have_one_ending};
+pub use ending::{ending_of, have_one_ending};
 pub use finding::{Found, Halt, SearchResult, first_found};
 pub use following::run_to;
 pub use met::{Met, Table};

@@ -1,7 +1,7 @@
 //! The endings that were met, and how often.
 ghost use Rattle.std.specs.Prelude.{◌≤◌, All};
 
-use crate::ending::Ending;
+use search_endings::Ending;
 
 /// An ending that was met.
 #[derive(Debug, Drop)]

@@ -68,7 +68,7 @@ fn tried(
     let rest = without(alloc, &schedule, cut)?;
     let made = run_along(alloc, module, call, limit, &mut Along::new(&rest))?;
     if size_of(&made.record) < size_of(&best.record)
-        && have_one_ending(&best.end, &made.end, dump)
+        && have_one_ending(alloc, &best.end, &made.end, dump)?
     {
         return Ok(Some(made));
     }

@@ -2,8 +2,9 @@
 ghost use Rattle.std.specs.Prelude.{◌≡◌, ◌↔◌, true, IfOk};
 ghost use Rattle.search_finds.specs.Finds.{IsLookedFor, HasWantedWords, LacksWantedWords};
 
-use crate::{Ending, has_line_with, lacks_in_thread_0};
+use crate::{has_line_with, lacks_in_thread_0};
 use report_choice::Way;
+use search_endings::Ending;
 use std::alloc::{AllocError, Global};
 
 /// Which runs are made, and what is looked for.

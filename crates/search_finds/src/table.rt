@@ -2,8 +2,8 @@
 ghost use Rattle.std.specs.Prelude.{◌≡◌, ◌<◌, ◌^◌, ◌-◌, IfOk, IfErr, MatchOption, length};
 ghost use Rattle.search_finds.specs.Tables.{IsNewTo, HasRowAt, IsNoted, IsMetAgain};
 
-use crate::ending::Ending;
 use crate::met::{Met, Table};
+use search_endings::Ending;
 use std::alloc::{AllocError, Global};
 
 impl Table {
@@ -22,7 +22,7 @@ impl Table {
         ensures { MatchOption result (IsNewTo self.now ending.now) (HasRowAt self.now ending.now) }
     {
         for (place, met) in self.met.iter().enumerate() {
-            if met.ending.is_same(ending) {
+            if met.ending == *ending {
                 return Some(place);
             }
         }

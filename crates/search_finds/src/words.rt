@@ -3,7 +3,7 @@ ghost use Rattle.std.specs.Prelude.{◌↔◌, IfOk, IsTrue};
 ghost use Rattle.std.specs.Str.Iter.{HasSubslice};
 ghost use Rattle.search_finds.specs.Words.{line_of, HasLineWith, LacksInThread0};
 
-use crate::ending::Ending;
+use search_endings::Ending;
 use std::alloc::{AllocError, Global};
 use types::Outcome;
 
@@ -22,9 +22,9 @@ fn has_words(
 
 /// Whether some thread's line has the words.
 pub fn has_line_with(alloc: Global, ending: &Ending, words: &str) -> Result<bool, AllocError>
-    ensures { IfOk result (λ has. IsTrue has ↔ HasLineWith words.now ending.now.outcomes.items) }
+    ensures { IfOk result (λ has. IsTrue has ↔ HasLineWith words.now ending.now.outcomes) }
 {
-    for (thread, outcome) in ending.outcomes.iter().enumerate() {
+    for (thread, outcome) in ending.outcomes().iter().enumerate() {
         if has_words(alloc, thread, *outcome, words)? {
             return Ok(true);
         }
@@ -34,9 +34,9 @@ pub fn has_line_with(alloc: Global, ending: &Ending, words: &str) -> Result<bool
 
 /// Whether the line of thread 0 doesn't have the words.
 pub fn lacks_in_thread_0(alloc: Global, ending: &Ending, words: &str) -> Result<bool, AllocError>
-    ensures { IfOk result (λ lacks. IsTrue lacks ↔ LacksInThread0 words.now ending.now.outcomes.items) }
+    ensures { IfOk result (λ lacks. IsTrue lacks ↔ LacksInThread0 words.now ending.now.outcomes) }
 {
-    match ending.outcomes.first() {
+    match ending.outcomes().first() {
         Some(outcome) => Ok(!has_words(alloc, 0, *outcome, words)?),
         None => Ok(true),
     }

@@ -13,12 +13,12 @@ use Rattle.search_settled.specs.Settled.{StepsBy}
 use Rattle.search_settled.specs.Turns.{turn_steps}
 use Rattle.search_settled.specs.declared.flat.Flat.{Flat}
 use Rattle.search_runs.specs.Called.{Called, Walker as Thread, system_of, first_state}
-use Rattle.search_runs.specs.Ends.{Ending, HasEndedSo}
+use Rattle.search_endings.specs.Endings.{Ending, reported_ending, is_same_ending}
+use Rattle.search_endings.specs.Equal.{equal_ones}
+use Rattle.search_runs.specs.Ends.{HasEndedSo}
 use Rattle.search_runs.proofs.Tame.{scheduled}
-use Rattle.search_modules.specs.Returned.{IsCall, ending_of}
+use Rattle.search_modules.specs.Returned.{IsCall}
 use Rattle.search_modules.proofs.Returning.{what_runs_return_is_reached}
-use Rattle.search_parts.specs.Endings.{is_same_ending}
-use Rattle.search_parts.specs.Equal.{equal_ones}
 use Rattle.search_parts.specs.Parts.{IsLost}
 use Rattle.search_parts.specs.declared.shared.Common.{Common}
 use Rattle.search_parts.specs.declared.shared.HashedThread.{HashedThread as SharedWalker}
@@ -39,8 +39,9 @@ module _ (m : Parts) (entry : List ℕ) (args : List Value) (s : Searched) (call
   every : HasDistinctNames m.exports → HasAllEnds (gone s) is_same_ending endings → HasEveryEnding m entry args s.dump endings
   every distinct all fuel loses limit history end ends enough =
       let reached = what_runs_return_is_reached m distinct entry args b call fuel loses limit history end ends enough s.dump in
-      let found = all (first_state b) reached.0 (ending_of s.dump end) refl reached.1 reached.2 in
-      subst (Contains endings) (sym (equal_ones (ending_of s.dump end) found.key found.is)) found.among
+      let told = reported_ending s.dump end.threads.items end.pages end.bytes.items in
+      let found = all (first_state b) reached.0 told refl reached.1 reached.2 in
+      subst (Contains endings) (sym (equal_ones told found.key found.is)) found.among
 
   pub every_by : HasDistinctNames m.exports → HasAllEnds (gone s) is_same_ending endings → HasEveryEnding m entry args dump endings
   every_by distinct all = subst (λ (d : ℕ). HasEveryEnding m entry args d endings) looked (every distinct all)

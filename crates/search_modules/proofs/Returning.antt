@@ -27,7 +27,8 @@ use Rattle.search_runs.specs.Called.{Called, Walker, with_fuel}
 use Rattle.search_runs.specs.Ends.{HasEndedSo}
 use Rattle.search_runs.specs.Theorems.{CanReach, IsEndingAlong}
 use Rattle.search_runs.proofs.Ending.{every_run_ends_so}
-use Rattle.search_modules.specs.Returned.{IsCall, AllHadEnough, outcome_in, ending_of, WhatRunsReturnIsReached}
+use Rattle.search_endings.specs.Endings.{Ending, reported_outcome, reported_ending}
+use Rattle.search_modules.specs.Returned.{IsCall, AllHadEnough, WhatRunsReturnIsReached}
 
 -- an outcome that is told is one of a report
 record IsOf (reports : List ThreadReport) (n : ℕ) (o : Outcome) : Type 0 where
@@ -36,12 +37,12 @@ record IsOf (reports : List ThreadReport) (n : ℕ) (o : Outcome) : Type 0 where
   is : report.outcome ≡ o
 
 mapped : (reports : List ThreadReport) (n : ℕ) (o : Outcome) (r : Option ThreadReport) → slice_get reports n ≡ r
-    → option_map outcome_in r ≡ Some o → IsOf reports n o
+    → option_map reported_outcome r ≡ Some o → IsOf reports n o
 mapped reports n o None at is = absurd (cc is)
 mapped reports n o (Some report) at is = record { report = report; at = at; is = cc is }
 
-of_report : (reports : List ThreadReport) (n : ℕ) (o : Outcome) → slice_get (map outcome_in reports) n ≡ Some o → IsOf reports n o
-of_report reports n o at = mapped reports n o (slice_get reports n) refl (sym (slice_get-map outcome_in reports n) ∙ at)
+of_report : (reports : List ThreadReport) (n : ℕ) (o : Outcome) → slice_get (map reported_outcome reports) n ≡ Some o → IsOf reports n o
+of_report reports n o at = mapped reports n o (slice_get reports n) refl (sym (slice_get-map reported_outcome reports n) ∙ at)
 
 module _ (m : Parts) (distinct : HasDistinctNames m.exports) (entry : List ℕ) (args : List Value) (b : Called) (call : IsCall m entry args b)
     (fuel : ℕ) (loses : Bool) (limit : Option ℕ) (history : List Entry) (end : EndState) (ends : EndsRun m entry args fuel loses limit history end)
@@ -76,9 +77,12 @@ module _ (m : Parts) (distinct : HasDistinctNames m.exports) (entry : List ℕ) 
   memory_is : memory_after (opening_memory m) history ≡ memory_after b.opening history
   memory_is = ap (λ o. memory_after o history) opening_is
 
-  ending : IsEndingAlong b dump history is_history.outcomes (ending_of dump end)
+  abbrev ends_so : Ending
+  ends_so = reported_ending dump end.threads.items end.pages end.bytes.items
+
+  ending : IsEndingAlong b dump history is_history.outcomes ends_so
   ending = record {
-    count = length-map end.threads.items outcome_in ∙ is_history.count;
+    count = length-map end.threads.items reported_outcome ∙ is_history.count;
     are = λ n o at. (let r = of_report end.threads.items n o at in sym r.is ∙ (is_history.reports n r.report r.at).outcome_is);
     has_units = λ n o at stop. (let r = of_report end.threads.items n o at in (out n r.report r.at).has_units (r.is ∙ stop));
     has_room = λ n o at stop. (let r = of_report end.threads.items n o at in (out n r.report r.at).has_room (r.is ∙ stop));
@@ -86,8 +90,8 @@ module _ (m : Parts) (distinct : HasDistinctNames m.exports) (entry : List ℕ) 
     bytes_are = ap (take dump) (ends.bytes_after ∙ ap (λ (x : Memory). Memory.bytes x) memory_is);
   }
 
-  reached : (w : systems.State Shared Walker) × CanReach b w × HasEndedSo dump w (ending_of dump end)
-  reached = every_run_ends_so b fuel loses limit history is_history.outcomes is_history.lefts together dump (ending_of dump end) ending
+  reached : (w : systems.State Shared Walker) × CanReach b w × HasEndedSo dump w ends_so
+  reached = every_run_ends_so b fuel loses limit history is_history.outcomes is_history.lefts together dump ends_so ending
 
 pub what_runs_return_is_reached : WhatRunsReturnIsReached
 what_runs_return_is_reached m distinct entry args b call fuel loses limit history end ends out dump =

@@ -1,7 +1,8 @@
 -- What the parts of a state tell, read as of the states of one search.
 use Rattle.std.specs.Prelude.{ℕ, ◌≡◌, List, Option, Result, Ok, Err, IfOk}
 use Rattle.std.proofs.Common.{refl, sym, subst}
-use Rattle.search_runs.specs.Ends.{Ending, HasEndedSo}
+use Rattle.search_endings.specs.Endings.{Ending}
+use Rattle.search_runs.specs.Ends.{HasEndedSo}
 use Rattle.search_settled.specs.Next.{HasEnded, IsSomewhere}
 use Rattle.search_settled.specs.Flat.{IsEventAt}
 use Rattle.search_settled.specs.declared.flat.Flat.{Flat}

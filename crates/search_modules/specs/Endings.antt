@@ -9,23 +9,25 @@ use Rattle.schedule.specs.System.{State}
 use Rattle.schedule_threads.specs.Shared.{Shared}
 use Rattle.spawn_host.specs.Entries.{StartsThreads, IsThreadStart}
 use Rattle.spawn_host.specs.declared.end.EndState.{EndState}
-use Rattle.spawn_host.specs.declared.call.Call.{Call}
+use Rattle.spawn_host.specs.Requests.{Requested}
 use Rattle.spawn_host.specs.RunEnds.{EndsRun}
 use Rattle.interp_trait.specs.Turns.{spawned_in}
 use Rattle.search_threads.specs.Unlimited.{Unlimited.Going}
 use Rattle.search_reach.specs.Found.{Claims}
 use Rattle.search_walkers.specs.Rests.{RunsOn}
 use Rattle.search_runs.specs.Called.{Called, Walker as Thread}
-use Rattle.search_runs.specs.Ends.{Ending, HasEndedSo}
+use Rattle.search_endings.specs.Endings.{Ending, reported_ending}
+use Rattle.search_runs.specs.Ends.{HasEndedSo}
 use Rattle.search_runs.specs.Theorems.{CanReach, IsScheduled}
-use Rattle.search_modules.specs.Returned.{IsCall, AllHadEnough, ending_of}
+use Rattle.search_modules.specs.Returned.{IsCall, AllHadEnough}
 
 -- Every run of the module by this call, over a memory that loses tries or not, with a log or without one, and whatever
 -- its budget: where all its threads had units and room enough, its ending is there, with so many first bytes.
 abbrev pub HasEveryEnding : Parts → List ℕ → List Value → ℕ → List Ending → Type 0
 HasEveryEnding m entry args dump endings =
     (fuel : ℕ) (loses : Bool) (limit : Option ℕ) (history : List Entry) (end : EndState)
-    → EndsRun m entry args fuel loses limit history end → AllHadEnough end → Contains endings (ending_of dump end)
+    → EndsRun m entry args fuel loses limit history end → AllHadEnough end
+    → Contains endings (reported_ending dump end.threads.items end.pages end.bytes.items)
 
 -- Threads of the module without budgets can end so by this call, and the machine of a run comes there too, along some
 -- turns and with some budget.
@@ -60,9 +62,9 @@ pub record CanBeLost (m : Parts) (entry : List ℕ) (args : List Value) : Type 0
 
 -- What a search of this call claims: its list has the ending of every run, threads can end as each of the list says,
 -- and they can come to where nothing can be told of one of them.
-abbrev pub claims_of : Parts → Call → ℕ → Claims Ending
-claims_of m call dump = record {
-  complete = HasEveryEnding m call.name.now call.args.now dump;
-  sound = AllCanEndSo m call.name.now call.args.now dump;
-  lost = CanBeLost m call.name.now call.args.now;
+abbrev pub claims_of : Requested → ℕ → Claims Ending
+claims_of r dump = record {
+  complete = HasEveryEnding r.parts r.name r.args dump;
+  sound = AllCanEndSo r.parts r.name r.args dump;
+  lost = CanBeLost r.parts r.name r.args;
 }

@@ -1,10 +1,9 @@
 -- What runs of a module return, beside what a search through its threads finds.
-use Rattle.std.specs.Prelude.{ℕ, ◌≡◌, ◌≢◌, Bool, List, map, take, Option, Some}
+use Rattle.std.specs.Prelude.{ℕ, ◌≡◌, ◌≢◌, Bool, List, Option, Some}
 use Rattle.std.specs.List.{slice_get}
 use Rattle.types.specs.declared.value.Value.{Value}
 use Rattle.types.specs.declared.event.Entry.{Entry}
 use Rattle.types.specs.declared.parts.Parts.{Parts}
-use Rattle.types.specs.declared.outcome.Outcome.{Outcome}
 use Rattle.types.specs.declared.outcome.Outcome.TheVariants as outcomes
 use Rattle.types.specs.declared.outcome.Stop.TheVariants as stops
 use Rattle.types.specs.declared.outcome.ThreadReport.{ThreadReport}
@@ -15,7 +14,8 @@ use Rattle.spawn_host.specs.Runs.{Beginning, start_by}
 use Rattle.spawn_host.specs.declared.end.EndState.{EndState}
 use Rattle.spawn_host.specs.RunEnds.{EndsRun}
 use Rattle.search_runs.specs.Called.{Called, Walker, with_fuel}
-use Rattle.search_runs.specs.Ends.{Ending, HasEndedSo}
+use Rattle.search_endings.specs.Endings.{reported_ending}
+use Rattle.search_runs.specs.Ends.{HasEndedSo}
 use Rattle.search_runs.specs.Theorems.{CanReach}
 
 -- This is what a run of the module calls that calls a function by its name, with these arguments.
@@ -31,13 +31,6 @@ pub record HadEnough (report : ThreadReport) : Type 0 where
 abbrev pub AllHadEnough : EndState → Type 0
 AllHadEnough end = (n : ℕ) (report : ThreadReport) → slice_get end.threads.items n ≡ Some report → HadEnough report
 
--- What is returned, as an ending: the outcomes, the page count and so many first bytes.
-abbrev pub outcome_in : ThreadReport → Outcome
-outcome_in report = report.outcome
-
-abbrev pub ending_of : ℕ → EndState → Ending
-ending_of dump end = record { outcomes = map outcome_in end.threads.items; pages = end.pages; bytes = take dump end.bytes.items }
-
 -- Whatever a run of a module whose exports have distinct names (as those of a valid one have) returns, over a memory
 -- that loses tries or not, with a log or without one, and whatever its budget: where all its threads had units and room
 -- enough, threads without budgets come to an end that is the same.
@@ -46,4 +39,5 @@ WhatRunsReturnIsReached =
     (m : Parts) → HasDistinctNames m.exports → (entry : List ℕ) (args : List Value) (b : Called) → IsCall m entry args b
     → (fuel : ℕ) (loses : Bool) (limit : Option ℕ) (history : List Entry) (end : EndState)
     → EndsRun m entry args fuel loses limit history end → AllHadEnough end
-    → (dump : ℕ) → (w : systems.State Shared Walker) × CanReach b w × HasEndedSo dump w (ending_of dump end)
+    → (dump : ℕ) → (w : systems.State Shared Walker) × CanReach b w
+    × HasEndedSo dump w (reported_ending dump end.threads.items end.pages end.bytes.items)

@@ -1,19 +1,16 @@
 //! All endings of a call.
 
-ghost use Rattle.std.specs.Prelude.{◌≡◌, IfOk, IfErr, vec_len};
+ghost use Rattle.std.specs.Prelude.{◌≡◌, IfOk, vec_len};
 ghost use Rattle.indexmap.specs.IndexSet.{index_set_len};
-ghost use Rattle.spawn_host.specs.Faults.{IsFaultOf};
 ghost use Rattle.search_reach.specs.Found.{AreListed};
 ghost use Rattle.search_modules.specs.Endings.{claims_of};
 
 use crate::calling::searched;
-use search_parts::Ending;
+use search_endings::Ending;
 use search_reach::{Ended, Follows};
 use search_settled::search_all;
-use spawn_host::Call;
-use spawn_host_workers::RunFault;
-use std::alloc::Global;
-use validate_module::ValidModule;
+use spawn_host::Request;
+use std::alloc::{AllocError, Global};
 
 /// All endings of a call of an exported function, each with so many first bytes of the memory: its threads are gone
 /// through in every order of their events, until there are no more states, more than `most_states` were met, or the
@@ -29,24 +26,17 @@ use validate_module::ValidModule;
 /// `Verdict::Told` only where the follower's last wish is that it ends.
 ///
 /// # Errors
-/// `UnknownExport` where no function of the module itself is exported under the name. `WrongArguments` where one is,
-/// and the arguments don't fit it. `NoMemory` where memory is refused.
+/// Where memory is refused.
 pub fn all_endings<F: Follows>(
     alloc: Global,
-    valid: &ValidModule,
-    call: Call,
+    request: &Request,
     most_states: usize,
     dump: usize,
     follower: &mut F,
-) -> Result<Ended<Ending>, RunFault>
-    ensures found { IfOk result (AreListed (claims_of valid.now.parts call.entry dump) most_states
-        (F.wish follower.new)) }
+) -> Result<Ended<Ending>, AllocError>
+    ensures found { IfOk result (AreListed (claims_of request.now dump) most_states (F.wish follower.new)) }
     ensures paths { IfOk result (λ r. vec_len r.paths ≡ index_set_len r.endings) }
-    ensures fault { IfErr result (IsFaultOf valid.now.parts call.entry.name.now call.entry.args.now) }
 {
-    let searched = searched(alloc, valid, call, dump)?;
-    match search_all(alloc, &searched, most_states, follower) {
-        Ok(ended) => Ok(ended),
-        Err(_) => Err(RunFault::NoMemory),
-    }
+    let searched = searched(alloc, request, dump)?;
+    search_all(alloc, &searched, most_states, follower)
 }

@@ -20,5 +20,4 @@ mod returned;
 
 pub use all::all_endings;
 pub use returned::what_runs_return_is_reached;
-pub use search_parts::Ending;
 pub use search_reach::{Ended, Verdict};

@@ -3,11 +3,12 @@
 use crate::after::{begun_after, thread_after};
 use crate::beginning::first_flat;
 use crate::called::Searched;
-use search_parts::{Common, Effect, Ending, SharedWalker, ending_of, make_event};
+use search_endings::Ending;
+use search_parts::{Common, Effect, SharedWalker, ending_at, make_event};
 use search_settled::{Flat, Moves};
 use std::alloc::{AllocError, Global};
 
-impl Moves for Searched<'_> {
+impl Moves for Searched<'_, '_> {
     ghost use Rattle.types.specs.declared.event.Event.{Event};
     ghost use Rattle.types.specs.declared.event.Reply.{Reply};
     ghost use Rattle.types.specs.declared.event.Answer.{Answer};
@@ -103,6 +104,6 @@ impl Moves for Searched<'_> {
         alloc: Global,
         flat: &Flat<Common, SharedWalker>,
     ) -> Result<Option<Ending>, AllocError> {
-        ending_of(alloc, self.opening.as_slice(), flat, self.dump)
+        ending_at(alloc, self.opening.as_slice(), flat, self.dump)
     }
 }

@@ -28,7 +28,7 @@ use Rattle.search_runs.specs.Ends.{HasEndedSo}
 use Rattle.validate_typing.specs.Tabled.{WithTables}
 use Rattle.search_memory.specs.contracts.beside.ChangesPartialEq.TheImpl as memories
 use Rattle.waiters.specs.contracts.kept.KeptQueuePartialEq.TheImpl as queues
-use Rattle.search_walkers.specs.contracts.walker.StandingPartialEq.TheImpl as standings
+use Rattle.search_walkers.specs.contracts.walker.RestingThreadPartialEq.TheImpl as standings
 use Rattle.search_parts.proofs.Standings.{same_standing}
 use Rattle.search_parts.proofs.SharedParts.{same_memory, same_queue}
 use Rattle.search_parts.specs.Parts.{IsRested}
@@ -36,7 +36,7 @@ use Rattle.search_parts.specs.Sharing.{Shares, started_in}
 use Rattle.search_parts.specs.declared.shared.Common.{Common}
 use Rattle.search_parts.specs.declared.shared.HashedThread as walkers
 use Rattle.search_parts.specs.contracts.shared.CommonPartialEq.TheImpl as common_eq
-use Rattle.search_parts.specs.contracts.shared.WalkerPartialEq.TheImpl as walker_eq
+use Rattle.search_parts.specs.contracts.shared.HashedThreadPartialEq.TheImpl as walker_eq
 use Rattle.shared_memory_sequential.specs.Opening.{IsSized}
 
 pub same_thread : (w : WithTables) (b : Called) (x y : walkers.HashedThread) → walker_eq.eq-value.it x y ≡ true → (v : Walker)

@@ -13,7 +13,8 @@ use Rattle.search_threads.specs.Unlimited.{Unlimited.Away as Left}
 use Rattle.search_settled.specs.Next.{IsAt}
 use Rattle.search_settled.specs.declared.flat.Flat.{Flat}
 use Rattle.search_runs.specs.Called.{Called, Walker as Thread}
-use Rattle.search_runs.specs.Ends.{Ending, HasEndedSo}
+use Rattle.search_endings.specs.Endings.{Ending}
+use Rattle.search_runs.specs.Ends.{HasEndedSo}
 use Rattle.search_runs.proofs.Tame.{missing}
 use Rattle.search_walkers.specs.Walkers.{StandsForThread}
 use Rattle.search_walkers.specs.declared.walker.RestingThread.{RestingThread}

@@ -9,10 +9,11 @@ use Rattle.waiters.specs.contracts.kept.KeptQueuePartialEq.TheImpl as queue_eq
 use Rattle.waiters.specs.Kept.{queue_of}
 use Rattle.search_memory.specs.declared.beside.ChangedByte.{ChangedByte}
 use Rattle.search_memory.specs.declared.beside.Changes.{Changes}
-use Rattle.search_memory.specs.contracts.beside.ChangePartialEq.TheImpl as change_eq
+use Rattle.search_memory.specs.contracts.beside.ChangedBytePartialEq.TheImpl as change_eq
 use Rattle.search_memory.specs.contracts.beside.ChangesPartialEq.TheImpl as changes_eq
 use Rattle.search_memory.specs.Memories.{memory_of, padded, with_change}
-use Rattle.search_parts.specs.Values.{same_list, same_sleeper}
+use Rattle.search_endings.specs.Outcomes.{same_list}
+use Rattle.search_parts.specs.Values.{same_sleeper}
 
 same_number : (a b : ℕ) → nat_eq a b ≡ true → a ≡ b
 same_number a b e = eqb-true a b e

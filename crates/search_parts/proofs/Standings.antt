@@ -16,8 +16,9 @@ use Rattle.search_runs.specs.Called.{Walker}
 use Rattle.search_walkers.specs.Walkers.{StandsForThread}
 use Rattle.search_walkers.specs.declared.walker.RestingThread.{RestingThread}
 use Rattle.search_walkers.specs.declared.walker.RestingThread.TheVariants.{Missing, Going, Ended, Leaving, Away}
-use Rattle.search_walkers.specs.contracts.walker.StandingPartialEq.TheImpl as standing_eq
-use Rattle.search_parts.specs.Values.{untrue, same_list, same_value, same_caller, same_progress, same_outcome}
+use Rattle.search_walkers.specs.contracts.walker.RestingThreadPartialEq.TheImpl as standing_eq
+use Rattle.search_endings.specs.Outcomes.{untrue, same_list, same_value, same_outcome}
+use Rattle.search_parts.specs.Values.{same_caller, same_progress}
 
 -- the tests of what is kept, from each on
 module _ (x y : Kept) where

@@ -10,7 +10,7 @@ use Rattle.search_memory.specs.contracts.beside.ChangesPartialEq.TheImpl as memo
 use Rattle.search_runs.specs.Called.{Walker}
 use Rattle.search_walkers.specs.Walkers.{StandsForThread}
 use Rattle.search_walkers.specs.declared.walker.RestingThread.{RestingThread}
-use Rattle.search_walkers.specs.contracts.walker.StandingPartialEq.TheImpl as standings
+use Rattle.search_walkers.specs.contracts.walker.RestingThreadPartialEq.TheImpl as standings
 
 abbrev pub EqualMemoriesAreTheSame : Type 0
 EqualMemoriesAreTheSame =

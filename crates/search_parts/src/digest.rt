@@ -4,86 +4,88 @@ use interp::Kept;
 use interp_state::{Progress, word};
 use search_memory::Changes;
 use search_walkers::RestingThread;
-use types::{Outcome, Stop, Value};
+use std::hash::{FoldHasher, Hash, Hasher};
+use types::{Outcome, Value};
 use waiters::KeptQueue;
 
-/// A number beside another.
-fn mixed(digest: u64, number: u64) -> u64 {
-    (digest.rotate_left(5) ^ number).wrapping_mul(0x9e37_79b9_7f4a_7c15)
-}
-
-fn of_words(digest: u64, words: &[u64]) -> u64 {
-    let mut digest = mixed(digest, words.len() as u64);
-    for word in words {
-        digest = mixed(digest, *word);
+fn hash_kept(kept: &Kept, state: &mut FoldHasher) {
+    kept.function.hash(state);
+    kept.pc.hash(state);
+    kept.values.as_slice().hash(state);
+    for global in kept.globals.as_slice() {
+        hash_value(*global, state);
     }
-    digest
-}
-
-fn of_values(digest: u64, values: &[Value]) -> u64 {
-    let mut digest = mixed(digest, values.len() as u64);
-    for value in values {
-        digest = mixed(digest, word(*value));
-    }
-    digest
-}
-
-fn of_numbers(digest: u64, numbers: &[u32]) -> u64 {
-    let mut digest = mixed(digest, numbers.len() as u64);
-    for number in numbers {
-        digest = mixed(digest, *number as u64);
-    }
-    digest
-}
-
-fn of_kept(kept: &Kept) -> u64 {
-    let mut digest = mixed(mixed(1, kept.function as u64), kept.pc as u64);
-    digest = of_values(
-        of_words(digest, kept.values.as_slice()),
-        kept.globals.as_slice(),
-    );
     for caller in kept.callers.as_slice() {
-        digest = mixed(mixed(digest, caller.function as u64), caller.pc as u64);
+        caller.function.hash(state);
+        caller.pc.hash(state);
     }
     match kept.progress {
-        Progress::Fresh => mixed(digest, 1),
-        Progress::Halfway(number) => mixed(mixed(digest, 2), number),
-        Progress::Asked => mixed(digest, 3),
+        Progress::Fresh => state.write_u8(1),
+        Progress::Halfway(number) => {
+            state.write_u8(2);
+            state.write_u64(number);
+        }
+        Progress::Asked => state.write_u8(3),
     }
 }
 
-fn of_outcome(kind: u64, outcome: Outcome) -> u64 {
+fn hash_value(value: Value, state: &mut FoldHasher) {
+    state.write_u64(word(value));
+}
+
+fn hash_outcome(outcome: Outcome, state: &mut FoldHasher) {
     match outcome {
-        Outcome::Done(None) => mixed(kind, 1),
-        Outcome::Done(Some(value)) => of_values(kind, &[value]),
-        Outcome::Trap(trap) => mixed(mixed(kind, 2), trap.number() as u64),
-        Outcome::Stop(stop) => mixed(mixed(kind, 3), stop.number() as u64),
+        Outcome::Done(None) => state.write_u8(1),
+        Outcome::Done(Some(value)) => {
+            state.write_u8(2);
+            hash_value(value, state);
+        }
+        Outcome::Trap(trap) => {
+            state.write_u8(3);
+            state.write_u8(trap.number());
+        }
+        Outcome::Stop(stop) => {
+            state.write_u8(4);
+            state.write_u8(stop.number());
+        }
     }
 }
 
 /// Of a thread at rest.
 pub(crate) fn of_standing(standing: &RestingThread) -> u64 {
+    let mut state = FoldHasher::default();
     match standing {
-        RestingThread::Missing => 0,
-        RestingThread::Going(kept) => of_kept(kept),
-        RestingThread::Ended(outcome) => of_outcome(2, *outcome),
-        RestingThread::Leaving(outcome) => of_outcome(3, *outcome),
-        RestingThread::Away(outcome) => of_outcome(4, *outcome),
+        RestingThread::Missing => state.write_u8(1),
+        RestingThread::Going(kept) => hash_kept(kept, &mut state),
+        RestingThread::Ended(outcome) => {
+            state.write_u8(2);
+            hash_outcome(*outcome, &mut state);
+        }
+        RestingThread::Leaving(outcome) => {
+            state.write_u8(3);
+            hash_outcome(*outcome, &mut state);
+        }
+        RestingThread::Away(outcome) => {
+            state.write_u8(4);
+            hash_outcome(*outcome, &mut state);
+        }
     }
+    state.finish()
 }
 
 /// Of what threads share.
 pub(crate) fn of_shared(memory: &Changes, queue: &KeptQueue) -> u64 {
-    let mut digest = mixed(1, memory.len as u64);
+    let mut state = FoldHasher::default();
+    memory.len.hash(&mut state);
     for change in memory.changes.as_slice() {
-        digest = mixed(mixed(digest, change.at as u64), change.byte as u64);
+        change.at.hash(&mut state);
+        change.byte.hash(&mut state);
     }
-    digest = of_numbers(
-        of_numbers(digest, queue.alive.as_slice()),
-        queue.args.as_slice(),
-    );
+    queue.alive.as_slice().hash(&mut state);
+    queue.args.as_slice().hash(&mut state);
     for sleeper in queue.sleepers.as_slice() {
-        digest = mixed(mixed(digest, sleeper.thread as u64), sleeper.addr);
+        sleeper.thread.hash(&mut state);
+        sleeper.addr.hash(&mut state);
     }
-    digest
+    state.finish()
 }

@@ -2,7 +2,7 @@
 //! them, and how they have ended. What is equal in a search is the same.
 //!
 //! Proved: `make_event` and `rest_after` give what an event makes of memory, queue and threads. What is equal is the
-//! same. `ending_of` gives how a state has ended, where all threads that were started have left.
+//! same. `ending_at` gives how a state has ended, where all threads that were started have left.
 #![tactic(auto)]
 
 mod digest;
@@ -16,7 +16,7 @@ mod shared_walker;
 mod stepping;
 mod untouched;
 
-pub use ended::{Ending, ending_of, equal_endings_are_the_same};
+pub use ended::ending_at;
 pub use event::{Begun, Effect};
 pub use opening::{first_common, first_threads};
 pub use resting::rest_after;

@@ -56,8 +56,8 @@ impl SharedWalker {
 
 impl PartialEq for SharedWalker {
     ghost use Rattle.std.specs.Cmp.{partial_equiv_from_equiv};
-    ghost use Rattle.search_parts.specs.contracts.shared.WalkerPartialEq.TheImpl as walkers;
-    ghost use Rattle.search_parts.specs.contracts.shared.WalkerEq.TheImpl.Laws.{laws-law};
+    ghost use Rattle.search_parts.specs.contracts.shared.HashedThreadPartialEq.TheImpl as walkers;
+    ghost use Rattle.search_parts.specs.contracts.shared.HashedThreadEq.TheImpl.Laws.{laws-law};
 
     ghost eq = { walkers.eq-value.it };
 
@@ -69,7 +69,7 @@ impl PartialEq for SharedWalker {
 }
 
 impl Eq for SharedWalker {
-    ghost use Rattle.search_parts.specs.contracts.shared.WalkerEq.TheImpl.Laws.{laws-law};
+    ghost use Rattle.search_parts.specs.contracts.shared.HashedThreadEq.TheImpl.Laws.{laws-law};
 
     ghost laws = { laws-law };
 }
@@ -80,7 +80,7 @@ impl Hash for SharedWalker {
     ghost use Rattle.std.specs.Hash as fed;
     ghost use Rattle.std.proofs.Common.{ap};
     ghost use Rattle.std.proofs.lemmas.Bool.{eqb-true};
-    ghost use Rattle.search_walkers.specs.contracts.walker.StandingPartialEq.TheImpl as standings;
+    ghost use Rattle.search_walkers.specs.contracts.walker.RestingThreadPartialEq.TheImpl as standings;
 
     ghost hash_input = { λ t. fed.u64 t.digest };
 

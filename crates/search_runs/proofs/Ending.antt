@@ -37,7 +37,8 @@ use Rattle.search_threads.proofs.Laws as budgets
 use Rattle.search_threads.proofs.Unmetering.{places_same}
 use Rattle.search_runs.specs.Called.{Called, Walker, with_fuel, system_of, first_state, first_shared, first_threads}
 use Rattle.search_runs.specs.Called.{reply_by, shared_by, answer_by, begun_by}
-use Rattle.search_runs.specs.Ends.{Ending, HasEndedSo}
+use Rattle.search_endings.specs.Endings.{Ending}
+use Rattle.search_runs.specs.Ends.{HasEndedSo}
 use Rattle.search_runs.specs.Theorems.{EveryRunEndsSo, IsEndingAlong, CanReach}
 use Rattle.search_runs.proofs.Same.{budgeted, budgeted_first, system_same, first_state_same}
 use Rattle.search_runs.proofs.Tame.{reached_by, missing}

@@ -1,5 +1,5 @@
 -- How the threads of a module have ended.
-use Rattle.std.specs.Prelude.{ℕ, ◌≡◌, ◌≤◌, List, length, take, Some}
+use Rattle.std.specs.Prelude.{ℕ, ◌≡◌, ◌≤◌, length, take, Some}
 use Rattle.std.specs.List.{slice_get}
 use Rattle.types.specs.declared.outcome.Outcome.{Outcome}
 use Rattle.shared_memory.specs.Memory.{Memory, pages}
@@ -7,13 +7,8 @@ use Rattle.shared_memory.specs.WaitQueue.{next_id}
 use Rattle.schedule.specs.System as systems
 use Rattle.schedule_threads.specs.Shared.{Shared}
 use Rattle.search_threads.specs.Unlimited.{Unlimited.Missing, Unlimited.Away}
+use Rattle.search_endings.specs.Endings.{Ending}
 use Rattle.search_runs.specs.Called.{Walker}
-
--- An ending: the outcomes of the threads, in order of their numbers, the page count, and so many first bytes.
-pub record Ending : Type 0 where
-  pub outcomes : List Outcome
-  pub pages : ℕ
-  pub bytes : List ℕ
 
 -- In a state all threads that were started have left, with these outcomes, and the memory is so.
 pub record HasEndedSo (dump : ℕ) (w : systems.State Shared Walker) (e : Ending) : Type 0 where

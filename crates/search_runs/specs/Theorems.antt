@@ -17,7 +17,8 @@ use Rattle.schedule_runs.specs.Runs as runs
 use Rattle.search_threads.specs.Budgets.{IsSame, turns_of}
 use Rattle.search_settled.specs.Settled.{AreTame, IsReached}
 use Rattle.search_runs.specs.Called.{Called, Walker, with_fuel, system_of, first_state}
-use Rattle.search_runs.specs.Ends.{Ending, HasEndedSo}
+use Rattle.search_endings.specs.Endings.{Ending}
+use Rattle.search_runs.specs.Ends.{HasEndedSo}
 
 -- Answers go to who awaits them, and at most 64 threads make turns.
 abbrev pub ThreadsAreTame : Type 0

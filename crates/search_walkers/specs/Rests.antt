@@ -32,7 +32,7 @@ RunsOn b v = MakesTurns (system_of b) patience v
 -- It is so of each thread with this state and so many units.
 abbrev pub OfRunning : Thread → (WithTables → Called → State → ℕ → Type 0) → Type 0
 OfRunning t so = (w : WithTables) (b : Called) (x : State) (left : ℕ) → IsOf b w → RunsBy w t
-    → threads.StandsForThread t (Runs x left) → so w b x left
+    → threads.StandsFor t (Runs x left) → so w b x left
 
 abbrev pub ComesToRestAt : Thread → RestingThread → Type 0
 ComesToRestAt t s = OfRunning t (λ w b x left. RestsAt w b (Going x) s)

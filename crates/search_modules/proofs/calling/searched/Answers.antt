@@ -1,32 +1,50 @@
-use Rattle.std.proofs.Common.{◌≡◌}
-use Rattle.search_modules.proofs.Entries.{same_number, callable_so, call_so}
+use Rattle.std.proofs.Common.{◌≡◌, ◌∙◌, ap, subst, sym, true}
+use Rattle.types.specs.declared.limits.TheConstants.{MOST_PAGES}
+use Rattle.types.specs.declared.parts.Parts.{Parts}
+use Rattle.types.specs.Modules.{IsModule}
+use Rattle.validate_typing.specs.Image.{opening_image, pages_max_of}
+use Rattle.validate_typing.specs.Validity.{IsValid}
+use Rattle.search_modules.specs.Endings.{IsWorkerOf}
+use Rattle.search_modules.specs.Returned.{IsCall}
+use Rattle.search_modules.specs.Searching.{called_of, is_callable}
+use Rattle.search_modules.proofs.Entries.{callable_so, call_so}
 use Rattle.search_modules.proofs.calling.searched.Goals as goal
-
-pub unreachable-requires : goal.unreachable-requires
-unreachable-requires c =
-    let takes = c.in_ok-first_thread.ensures.first.takes in
-    c.in_default.not-Some takes.own ((c.exported.ensures takes.own).1 takes.exports.exported)
 
 pub invariant_of-result : goal.invariant_of-result
 invariant_of-result c =
-    let m = c.args.valid.now.parts in
-    let takes = c.in_ok-first_thread.ensures.first.takes in
-    let own : c.in-Some.main ≡ takes.own =
-    same_number c.exported.result c.in-Some.main takes.own c.in-Some.is ((c.exported.ensures takes.own).1 takes.exports.exported) in
+    let r = c.args.request.now in
+    let m = c.module.result.now.parts in
+    let same : m ≡ r.parts = c.module.ensures in
     let parts = c.parts-parts.ensures in
+    let takes = c.number.ensures in
+    let worker = subst (λ (x : Parts). IsWorkerOf x c.thread_start.result) same c.thread_start.ensures in
+    let opening = c.in_ok-opening.ensures ∙ ap opening_image same in
+    let max = c.pages_max.ensures ∙ ap (pages_max_of MOST_PAGES) same in
+    let args = c.call.ensures.call.args_are in
     record {
-      callable = callable_so m c.args.call.name.now c.args.call.args.now takes c.thread_start.result c.thread_start.ensures c.in-Ok.opening.items
-          c.pages_max.result c.in-Some.main c.in-Ok.ensures c.pages_max.ensures own parts.tested parts.validated.valid;
+      callable = subst (λ (x : Parts). is_callable x c.in_ok-opening.opening.items c.pages_max.result c.number.result c.call.result.args.now
+          c.thread_start.result ≡ true) (sym same)
+          (subst (λ a. is_callable r.parts c.in_ok-opening.opening.items c.pages_max.result c.number.result a c.thread_start.result ≡ true) args
+              (callable_so r.parts r.name r.args takes.0 c.thread_start.result worker c.in_ok-opening.opening.items c.pages_max.result c.number.result
+                  opening max (sym takes.1) (subst (λ (x : Parts). IsModule x) same parts.tested)
+                  (subst (λ (x : Parts). IsValid x) same parts.validated.valid)));
     }
 
 pub returns-clause-call : goal.returns-clause-call
 returns-clause-call c =
-    let m = c.args.valid.now.parts in
-    let takes = c.in_ok-first_thread.ensures.first.takes in
-    let own : c.in-Some.main ≡ takes.own =
-    same_number c.exported.result c.in-Some.main takes.own c.in-Some.is ((c.exported.ensures takes.own).1 takes.exports.exported) in
-    call_so m c.args.call.name.now c.args.call.args.now takes c.thread_start.result c.thread_start.ensures c.in-Ok.opening.items c.pages_max.result
-    c.in-Some.main c.in-Ok.ensures c.pages_max.ensures own
+    let r = c.args.request.now in
+    let m = c.module.result.now.parts in
+    let same : m ≡ r.parts = c.module.ensures in
+    let takes = c.number.ensures in
+    let worker = subst (λ (x : Parts). IsWorkerOf x c.thread_start.result) same c.thread_start.ensures in
+    let opening = c.in_ok-opening.ensures ∙ ap opening_image same in
+    let max = c.pages_max.ensures ∙ ap (pages_max_of MOST_PAGES) same in
+    let args = c.call.ensures.call.args_are in
+    let b = λ (x : Parts) a. called_of x c.in_ok-opening.opening.items c.pages_max.result c.number.result a c.thread_start.result in
+    subst (λ (x : Parts). IsCall r.parts r.name r.args (b x c.call.result.args.now)) (sym same)
+    (subst (λ a. IsCall r.parts r.name r.args (b r.parts a)) args
+    (call_so r.parts r.name r.args takes.0 c.thread_start.result worker c.in_ok-opening.opening.items c.pages_max.result c.number.result
+    opening max (sym takes.1)))
 
 pub returns-clause-worker : goal.returns-clause-worker
-returns-clause-worker c = c.thread_start.ensures
+returns-clause-worker c = subst (λ (x : Parts). IsWorkerOf x c.thread_start.result) c.module.ensures c.thread_start.ensures

@@ -1,7 +1,6 @@
-use Rattle.std.proofs.Common.{refl, sym, ◌∙◌, subst}
+use Rattle.std.proofs.Common.{◌≡◌, refl, sym, ◌∙◌, subst}
 use Rattle.std.proofs.lemmas.List.{get_or_default}
 use Rattle.search_finds.specs.declared.met.Met.{Met}
-use Rattle.search_finds.specs.Endings.{AreOneEnding}
 use Rattle.search_finds.proofs.met.Table.note.Goals as goal
 
 pub returns-in-Some-clause-noted : goal.returns-in-Some-clause-noted
@@ -16,7 +15,7 @@ returns-in-Some-clause-noted c =
         within = p.0;
         was = was;
         was_there = sym c.index_mut.ensures.value;
-        same = subst (λ (m : Met). AreOneEnding m.ending c.args.ending)
+        same = subst (λ (m : Met). m.ending ≡ c.args.ending)
             (sym (c.index_mut.ensures.value ∙ get_or_default items c.in-Some.place was p.1 p.0 ∙ p.2)) p.3;
         list = refl;
       };

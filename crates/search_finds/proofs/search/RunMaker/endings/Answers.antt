@@ -1,6 +1,6 @@
 use Rattle.std.proofs.Common.{List, All, subst, sym}
 use Rattle.std.proofs.lemmas.List.Elements.{All-push}
-use Rattle.search_finds.specs.declared.ending.Ending.{Ending}
+use Rattle.search_endings.specs.Endings.{Ending}
 use Rattle.search_finds.specs.Finds.{IsMetEnding}
 use Rattle.search_finds.proofs.search.RunMaker.endings.Goals as goal
 

@@ -1,8 +1,8 @@
 use Rattle.search_modules.proofs.Told.{end_told, end_asked}
 use Rattle.search_modules.proofs.moves.SearchedMoves.ending.Goals as goal
 
-pub ending_of-requires : goal.ending_of-requires
-ending_of-requires c = end_asked c.args.self.now c.as_slice.result.now c.as_slice.ensures.value c.args.flat.now c.requires
+pub ending_at-requires : goal.ending_at-requires
+ending_at-requires c = end_asked c.args.self.now c.as_slice.result.now c.as_slice.ensures.value c.args.flat.now c.requires
 
 pub returns : goal.returns
-returns c = end_told c.args.self.now c.as_slice.result.now c.as_slice.ensures.value c.args.flat.now c.ending_of.result c.ending_of.ensures
+returns c = end_told c.args.self.now c.as_slice.result.now c.as_slice.ensures.value c.args.flat.now c.ending_at.result c.ending_at.ensures
