@@ -1,6 +1,7 @@
 -- The jobs of the command line.
 use Rattle.std.specs.Prelude.{◌≤◌, ◌≢◌, IfSome, false, ◌≡◌}
 use Rattle.types.specs.declared.limits.TheConstants.{MOST_LIMIT, MOST_FUEL}
+use Rattle.report_command.specs.declared.limits.TheConstants.{MOST_DUMP, NARROWEST, WIDEST}
 use Rattle.report_command.specs.declared.command_line.Job.{Job}
 use Rattle.report_command.specs.declared.command_line.Job.TheVariants.{Check, Run, Replay, Show, Search}
 use Rattle.report_command.specs.Searches.{IsSearchInRange, SearchKeepsItsModule}
@@ -9,18 +10,16 @@ use Rattle.report_command.specs.Views.{IsViewInRange, path_of}
 -- The numbers of a job are in their ranges.
 abbrev pub IsInRange : Job → Type 0
 IsInRange (Check file) = Unit {0}
-IsInRange (Run file invoke on_words fuel limit save dump args) = (fuel ≤ MOST_FUEL) × (1 ≤ limit) × (limit ≤ MOST_LIMIT)
-    × (dump ≤ 4096)
-IsInRange (Replay file saved dump) = dump ≤ 4096
-IsInRange (Show file saved names look view) = (40 ≤ look.width) × (look.width ≤ 1000) × IsViewInRange view
+IsInRange (Run job) = (job.call.fuel ≤ MOST_FUEL) × (1 ≤ job.limit) × (job.limit ≤ MOST_LIMIT) × (job.dump ≤ MOST_DUMP)
+IsInRange (Replay file saved dump) = dump ≤ MOST_DUMP
+IsInRange (Show file saved names look view) = (NARROWEST ≤ look.width) × (look.width ≤ WIDEST) × IsViewInRange view
 IsInRange (Search s) = IsSearchInRange s
 
 -- A job keeps no record at the path of its module, and none of a memory of words; and makes no file at the path of one
 -- that it reads.
 abbrev pub KeepsItsModule : Job → Type 0
 KeepsItsModule (Check file) = Unit {0}
-KeepsItsModule (Run file invoke on_words fuel limit save dump args) = IfSome save (λ path. (path.now ≢ file.now)
-    × (on_words ≡ false))
+KeepsItsModule (Run job) = IfSome job.save (λ path. (path.now ≢ job.file.now) × (job.on_words ≡ false))
 KeepsItsModule (Replay file saved dump) = Unit {0}
 KeepsItsModule (Show file saved names look view) = IfSome (path_of view) (λ path. (path.now ≢ file.now)
     × (path.now ≢ saved.now))

@@ -1,12 +1,13 @@
 -- What is made of a record.
 use Rattle.std.specs.Prelude.{◌≤◌, ◌≢◌, List, ℕ, Option, Some, None, IfSome}
 use Rattle.std.specs.Borrow.{Bor}
+use Rattle.report_command.specs.declared.limits.TheConstants.{MOST_DUMP}
 use Rattle.report_command.specs.declared.show.View.{View}
 use Rattle.report_command.specs.declared.show.View.TheVariants.{Rows, Moment, Page, Trace}
 
--- A moment shows 4,096 bytes at most.
+-- A moment shows no more bytes than any dump.
 abbrev pub IsViewInRange : View → Type 0
-IsViewInRange (Moment at) = at.count ≤ 4096
+IsViewInRange (Moment at) = at.count ≤ MOST_DUMP
 IsViewInRange Rows = Unit {0}
 IsViewInRange (Page path) = Unit {0}
 IsViewInRange (Trace path) = Unit {0}

@@ -1,10 +1,13 @@
 //! The command line.
 ghost use Rattle.std.specs.Prelude.{◌≡◌, ◌≤◌, IfOk, IfSome, IsNone};
-ghost use Rattle.types.specs.declared.limits.TheConstants.{MOST_LIMIT, MOST_FUEL};
+ghost use Rattle.types.specs.declared.limits.TheConstants.{MOST_LIMIT};
+ghost use Rattle.report_command.specs.declared.limits.TheConstants.{MOST_DUMP};
 ghost use Rattle.report_command.specs.Jobs.{IsInRange, KeepsItsModule};
 ghost use Rattle.report_command.specs.FaultNumbers.{usage_number, IsWrong};
 
 use crate::arguments::{Argument, CommandRow, FLAG, Form, OPTION, command_of};
+use crate::call::{ARGS, CallWords, FUEL, INVOKE, call_of};
+use crate::limits::{DEFAULT_DUMP, DEFAULT_LIMIT, MOST_DUMP};
 use crate::search::{SEARCH, Search, search_job};
 use crate::show::{SHOW, View, misread, show_job};
 use clap::builder::ValueParser;
@@ -12,10 +15,23 @@ use clap::error::ErrorKind;
 use clap::{ArgMatches, Command, Error};
 use report_choice::Look;
 use std::alloc::{AllocError, Global};
-use types::{MOST_FUEL, MOST_LIMIT};
+use types::MOST_LIMIT;
 
-/// The most bytes that a dump shows.
-pub const DUMP_MOST: u32 = 4096;
+/// A run of a function of a module.
+#[derive(Drop)]
+pub struct RunJob<'a> {
+    /// The path of the module.
+    pub file: &'a str,
+    pub call: CallWords<'a>,
+    /// Whether the memory is the row of words, and not the one that records.
+    pub on_words: bool,
+    /// How many entries the log takes, 1 to 1,000,000.
+    pub limit: u32,
+    /// The path of the record to be written, if one is wanted.
+    pub save: Option<&'a str>,
+    /// How many bytes of the memory are printed, 0 to 4096.
+    pub dump: u32,
+}
 
 /// What the command line asks for.
 #[derive(Drop)]
@@ -26,24 +42,7 @@ pub enum Job<'a> {
         file: &'a str,
     },
     /// Run a function of a module, and print how its threads ended.
-    Run {
-        /// The path of the module.
-        file: &'a str,
-        /// The name under which the function is exported.
-        invoke: &'a str,
-        /// Whether the memory is the row of words, and not the one that records.
-        on_words: bool,
-        /// How many units each thread may spend, 0 to 1,000,000,000,000.
-        fuel: u64,
-        /// How many entries the log takes, 1 to 1,000,000.
-        limit: u32,
-        /// The path of the record to be written, if one is wanted.
-        save: Option<&'a str>,
-        /// How many bytes of the memory are printed, 0 to 4096.
-        dump: u32,
-        /// The arguments as they were written.
-        args: Vec<&'a str>,
-    },
+    Run(RunJob<'a>),
     /// Run a record again by one thread, and print what the run printed.
     Replay {
         /// The path of the module.
@@ -140,36 +139,8 @@ pub(crate) const DUMP: Argument = Argument {
     name: "dump",
     value: "N",
     help: "Print the first N bytes of the memory, 0 to 4096",
-    parser: ValueParser::Signed(0, 4096),
-    defaults: &["0"],
-    ..OPTION
-};
-
-/// The function that is called.
-pub(crate) const INVOKE: Argument = Argument {
-    name: "invoke",
-    value: "NAME",
-    help: "The exported function that thread 0 runs",
-    form: Form::Required,
-    ..OPTION
-};
-
-/// Its arguments.
-pub(crate) const ARGS: Argument = Argument {
-    name: "args",
-    value: "ARG",
-    help: "The function's arguments, unsigned decimals",
-    form: Form::Rest,
-    ..OPTION
-};
-
-/// How much a thread may spend.
-pub(crate) const FUEL: Argument = Argument {
-    name: "fuel",
-    value: "N",
-    help: "How many units each thread may spend, 0 to 1000000000000",
-    parser: ValueParser::Unsigned(0, 1_000_000_000_000),
-    defaults: &["1000000000"],
+    parser: ValueParser::Signed(0, MOST_DUMP as i64),
+    defaults: &[DEFAULT_DUMP],
     ..OPTION
 };
 
@@ -178,8 +149,8 @@ pub(crate) const LIMIT: Argument = Argument {
     name: "limit",
     value: "N",
     help: "How many entries the log takes, 1 to 1000000",
-    parser: ValueParser::Signed(1, 1_000_000),
-    defaults: &["100000"],
+    parser: ValueParser::Signed(1, MOST_LIMIT as i64),
+    defaults: &[DEFAULT_LIMIT],
     ..OPTION
 };
 
@@ -280,34 +251,20 @@ fn commands<'a>(alloc: Global) -> Result<Command<'a>, AllocError> {
         .subcommands(subcommands)
 }
 
-/// The numbers of a run, where they are there and in range, as the parser sees to.
-pub(crate) fn bounds_of(matches: &ArgMatches) -> Option<(u64, u32, u32)>
-    ensures { IfSome result (λ n. (n.0 ≤ MOST_FUEL) × (1 ≤ n.1) × (n.1 ≤ MOST_LIMIT) × (n.2 ≤ 4096)) }
+/// The limit of the log and the length of the dump, where they are there and in range, as the parser sees to.
+pub(crate) fn limit_and_dump_of(matches: &ArgMatches) -> Option<(u32, u32)>
+    ensures { IfSome result (λ n. (1 ≤ n.0) × (n.0 ≤ MOST_LIMIT) × (n.1 ≤ MOST_DUMP)) }
 {
-    let Some(fuel) = matches.get_one::<u64>("fuel") else {
+    let (Some(limit), Some(dump)) = (
+        matches.get_one::<u32>("limit"),
+        matches.get_one::<u32>("dump"),
+    ) else {
         return None;
     };
-    let Some(limit) = matches.get_one::<u32>("limit") else {
-        return None;
-    };
-    let Some(dump) = matches.get_one::<u32>("dump") else {
-        return None;
-    };
-    if fuel <= MOST_FUEL && limit >= 1 && limit <= MOST_LIMIT && dump <= DUMP_MOST {
-        Some((fuel, limit, dump))
+    if limit >= 1 && limit <= MOST_LIMIT && dump <= MOST_DUMP {
+        Some((limit, dump))
     } else {
         None
-    }
-}
-
-/// The arguments as they were written.
-pub(crate) fn args_of<'a>(
-    alloc: Global,
-    matches: &ArgMatches<'a>,
-) -> Result<Vec<&'a str>, AllocError> {
-    match matches.get_strs("args") {
-        Some(texts) => Vec::from_slice(alloc, texts),
-        None => Ok(Vec::new(alloc)),
     }
 }
 
@@ -325,26 +282,21 @@ fn check_job<'a>(matches: &ArgMatches<'a>) -> Option<Job<'a>>
 fn run_job<'a>(alloc: Global, matches: &ArgMatches<'a>) -> Result<Option<Job<'a>>, AllocError>
     ensures { IfOk result (λ job. IfSome job IsInRange) }
 {
-    let (Some(file), Some(invoke), Some((fuel, limit, dump))) = (
-        matches.get_str("file"),
-        matches.get_str("invoke"),
-        bounds_of(matches),
-    ) else {
+    let (Some(file), Some((limit, dump))) = (matches.get_str("file"), limit_and_dump_of(matches))
+    else {
         return Ok(None);
     };
-    let on_words = matches.get_str("memory") == Some("words");
-    let save = matches.get_str("record");
-    let args = args_of(alloc, matches)?;
-    Ok(Some(Job::Run {
+    let Some(call) = call_of(alloc, matches)? else {
+        return Ok(None);
+    };
+    Ok(Some(Job::Run(RunJob {
         file,
-        invoke,
-        on_words,
-        fuel,
+        call,
+        on_words: matches.get_str("memory") == Some("words"),
         limit,
-        save,
+        save: matches.get_str("record"),
         dump,
-        args,
-    }))
+    })))
 }
 
 /// The job of `replay`, where its number is there and in range, as the parser sees to.
@@ -358,7 +310,7 @@ fn replay_job<'a>(matches: &ArgMatches<'a>) -> Option<Job<'a>>
     ) else {
         return None;
     };
-    if dump <= DUMP_MOST {
+    if dump <= MOST_DUMP {
         Some(Job::Replay { file, saved, dump })
     } else {
         None
@@ -504,12 +456,14 @@ fn misuse_of(job: &Job) -> Option<Misuse>
     ensures { IsNone result → KeepsItsModule job.now }
 {
     match job {
-        Job::Run {
-            file,
-            on_words,
-            save: Some(path),
-            ..
-        } => {
+        Job::Run(
+            RunJob {
+                file,
+                on_words,
+                save: Some(path),
+                ..
+            },
+        ) => {
             if *on_words {
                 Some(Misuse::RecordsWords)
             } else if *path == *file {

@@ -5,11 +5,14 @@
 #![tactic(auto)]
 
 mod arguments;
+mod call;
 mod command_line;
+mod limits;
 mod search;
 mod show;
 
-pub use command_line::{Job, Misuse, Order, Usage, asked, command, misused};
-pub use report_choice::{Color, Look, Way};
+pub use call::CallWords;
+pub use command_line::{Job, Misuse, Order, RunJob, Usage, asked, command, misused};
+pub use report_choice::{Color, Look, Sought, Way};
 pub use search::Search;
 pub use show::{At, View};

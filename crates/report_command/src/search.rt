@@ -1,13 +1,19 @@
 //! The command line of a search.
 ghost use Rattle.std.specs.Prelude.{◌≤◌, IfOk, IfSome};
+ghost use Rattle.report_command.specs.declared.limits.TheConstants.{MOST_STATES};
 ghost use Rattle.report_command.specs.Jobs.{IsInRange};
-ghost use Rattle.report_command.specs.Searches.{most_runs, most_states};
+ghost use Rattle.report_command.specs.Searches.{IsSoughtInRange};
 
 use crate::arguments::{Argument, CommandRow, FLAG, OPTION};
-use crate::command_line::{ARGS, DUMP, FILE, FUEL, INVOKE, Job, LIMIT, args_of, bounds_of};
+use crate::call::{ARGS, CallWords, FUEL, INVOKE, call_of};
+use crate::command_line::{DUMP, FILE, Job, LIMIT, limit_and_dump_of};
+use crate::limits::{
+    DEFAULT_FROM, DEFAULT_RUNS, DEFAULT_SEED, DEFAULT_STATES, MOST_JOBS, MOST_RUNS, MOST_SEED,
+    MOST_STATES,
+};
 use clap::ArgMatches;
 use clap::builder::ValueParser;
-use report_choice::{MOST_DEPTH, Way};
+use report_choice::{MOST_DEPTH, Sought, Way};
 use std::alloc::{AllocError, Global};
 
 /// A search through runs of a function of a module.
@@ -15,20 +21,10 @@ use std::alloc::{AllocError, Global};
 pub struct Search<'a> {
     /// The path of the module.
     pub file: &'a str,
-    /// The name under which the function is exported.
-    pub invoke: &'a str,
-    /// Who goes on.
-    pub way: Way,
-    /// How many runs are made at most, 1 to 1,000,000,000,000.
-    pub runs: u64,
-    /// The number of the first run, 1 to 1,000,000,000,000.
-    pub from: u64,
-    /// The seed: it and its number say which run it is.
-    pub seed: u64,
-    /// The words of a thread's line by which a run is found.
-    pub find: Option<&'a str>,
-    /// The words without which thread 0's line is found.
-    pub expect: Option<&'a str>,
+    pub call: CallWords<'a>,
+    /// Which runs are made, and what is looked for: their limit is 1 to 1,000,000 entries, their number and that of the
+    /// first 1 to 1,000,000,000,000; 0 to 4096 bytes of the memory are printed, and told apart.
+    pub sought: Sought<'a>,
     /// Whether of what is found a run with few switches of threads is looked for.
     pub shrink: bool,
     /// How many threads make runs; without a number as many as there are processors.
@@ -38,32 +34,17 @@ pub struct Search<'a> {
     pub all: Option<u32>,
     /// The path of the file at which the search ends, if there is one.
     pub until: Option<&'a str>,
-    /// How many units each thread may spend, 0 to 1,000,000,000,000.
-    pub fuel: u64,
-    /// How many entries the log takes, 1 to 1,000,000.
-    pub limit: u32,
     /// The path of the record of what is found, if one is wanted.
     pub save: Option<&'a str>,
-    /// How many bytes of the memory are printed, and told apart, 0 to 4096.
-    pub dump: u32,
-    /// The arguments as they were written.
-    pub args: Vec<&'a str>,
 }
 
 impl Search<'_> {
     /// Whether a record or a smaller run is wanted, and nothing is looked for.
     pub(crate) fn keeps_nothing(&self) -> bool {
-        (self.save.is_some() || self.shrink) && self.find.is_none() && self.expect.is_none()
+        let looks = self.sought.find.is_some() || self.sought.expect.is_some();
+        (self.save.is_some() || self.shrink) && !looks
     }
 }
-
-/// The most runs that a search makes, and the highest number of a first run.
-const MOST_RUNS: u64 = 1_000_000_000_000;
-
-/// The most states that a search through every order of entries may meet, and how many it meets where nobody says so.
-const MOST_STATES: u32 = 1_000_000_000;
-
-const STATES: u32 = 1_000_000;
 
 /// What the option is for that ends a search.
 const UNTIL_HELP: &str =
@@ -74,8 +55,8 @@ const RUNS: Argument = Argument {
     name: "runs",
     value: "N",
     help: "How many runs are made at most",
-    parser: ValueParser::Unsigned(1, 1_000_000_000_000),
-    defaults: &["1000"],
+    parser: ValueParser::Unsigned(1, MOST_RUNS),
+    defaults: &[DEFAULT_RUNS],
     ..OPTION
 };
 
@@ -84,8 +65,8 @@ const FROM: Argument = Argument {
     name: "from",
     value: "I",
     help: "The number of the first run",
-    parser: ValueParser::Unsigned(1, 1_000_000_000_000),
-    defaults: &["1"],
+    parser: ValueParser::Unsigned(1, MOST_RUNS),
+    defaults: &[DEFAULT_FROM],
     ..OPTION
 };
 
@@ -94,8 +75,8 @@ const SEED: Argument = Argument {
     name: "seed",
     value: "S",
     help: "The seed: run I of a seed is the same on every machine",
-    parser: ValueParser::Unsigned(0, 1_000_000_000_000_000_000),
-    defaults: &["1"],
+    parser: ValueParser::Unsigned(0, MOST_SEED),
+    defaults: &[DEFAULT_SEED],
     ..OPTION
 };
 
@@ -113,7 +94,7 @@ const JOBS: Argument = Argument {
     name: "jobs",
     value: "N",
     help: "How many threads make runs, 1 to 256; without it as many as there are processors",
-    parser: ValueParser::Signed(1, 256),
+    parser: ValueParser::Signed(1, MOST_JOBS as i64),
     ..OPTION
 };
 
@@ -135,7 +116,7 @@ const MET: Argument = Argument {
     name: "states",
     value: "N",
     help: "With --all: how many states are met at most, 1 to 1000000000; without it 1000000",
-    parser: ValueParser::Signed(1, 1_000_000_000),
+    parser: ValueParser::Signed(1, MOST_STATES as i64),
     needs: &["all"],
     ..OPTION
 };
@@ -210,54 +191,47 @@ fn way_of(word: &str) -> Option<Way> {
     }
 }
 
-/// Which runs are drawn: by which strategy, how many, which is the first, and from which seed.
-#[derive(Clone, Copy)]
-struct Draws {
-    way: Way,
-    runs: u64,
-    from: u64,
-    seed: u64,
-}
-
-/// The runs that are drawn, where the numbers are there and in range, as the parser sees to, and the strategy is one.
-fn draws_of(matches: &ArgMatches) -> Option<Draws>
-    ensures { IfSome result (λ draws. (draws.runs ≤ most_runs) × (draws.from ≤ most_runs)) }
+/// Which runs are drawn, where the numbers are there and in range, as the parser sees to, and the strategy is one; and
+/// what is looked for.
+fn sought_of<'a>(matches: &ArgMatches<'a>) -> Option<Sought<'a>>
+    ensures { IfSome result IsSoughtInRange }
 {
     let Some(word) = matches.get_str("strategy") else {
         return None;
     };
-    let Some(way) = way_of(word) else {
+    let (Some(way), Some((limit, dump))) = (way_of(word), limit_and_dump_of(matches)) else {
         return None;
     };
-    let Some(runs) = matches.get_one::<u64>("runs") else {
+    let (Some(runs), Some(from), Some(seed)) = (
+        matches.get_one::<u64>("runs"),
+        matches.get_one::<u64>("from"),
+        matches.get_one::<u64>("seed"),
+    ) else {
         return None;
     };
-    let Some(from) = matches.get_one::<u64>("from") else {
+    if runs > MOST_RUNS || from > MOST_RUNS {
         return None;
-    };
-    let Some(seed) = matches.get_one::<u64>("seed") else {
-        return None;
-    };
-    if runs <= MOST_RUNS && from <= MOST_RUNS {
-        Some(Draws {
-            way,
-            runs,
-            from,
-            seed,
-        })
-    } else {
-        None
     }
+    Some(Sought {
+        way,
+        seed,
+        from,
+        runs,
+        limit,
+        dump,
+        find: matches.get_str("find"),
+        expect: matches.get_str("expect"),
+    })
 }
 
 /// How many states are met at most, where every order is gone through.
 fn all_of(matches: &ArgMatches) -> Option<u32>
-    ensures { IfSome result (λ states. (1 ≤ states) × (states ≤ most_states)) }
+    ensures { IfSome result (λ states. (1 ≤ states) × (states ≤ MOST_STATES)) }
 {
     if !matches.get_flag("all") {
         return None;
     }
-    let states = matches.get_one::<u32>("states").unwrap_or(STATES);
+    let states = matches.get_one::<u32>("states").unwrap_or(DEFAULT_STATES);
     Some(states.clamp(1, MOST_STATES))
 }
 
@@ -268,31 +242,20 @@ pub(crate) fn search_job<'a>(
 ) -> Result<Option<Job<'a>>, AllocError>
     ensures { IfOk result (λ job. IfSome job IsInRange) }
 {
-    let (Some(file), Some(invoke), Some((fuel, limit, dump)), Some(draws)) = (
-        matches.get_str("file"),
-        matches.get_str("invoke"),
-        bounds_of(matches),
-        draws_of(matches),
-    ) else {
+    let (Some(file), Some(sought)) = (matches.get_str("file"), sought_of(matches)) else {
+        return Ok(None);
+    };
+    let Some(call) = call_of(alloc, matches)? else {
         return Ok(None);
     };
     Ok(Some(Job::Search(Search {
         file,
-        invoke,
-        way: draws.way,
-        runs: draws.runs,
-        from: draws.from,
-        seed: draws.seed,
-        find: matches.get_str("find"),
-        expect: matches.get_str("expect"),
+        call,
+        sought,
         shrink: matches.get_flag("shrink"),
         jobs: matches.get_one::<u32>("jobs"),
         all: all_of(matches),
         until: matches.get_str("until"),
-        fuel,
-        limit,
         save: matches.get_str("record"),
-        dump,
-        args: args_of(alloc, matches)?,
     })))
 }

@@ -1,21 +1,18 @@
 //! The command `show`, and its job.
 
 ghost use Rattle.std.specs.Prelude.{◌≡◌, ◌≤◌, IfOk, IfSome};
+ghost use Rattle.report_command.specs.declared.limits.TheConstants.{MOST_DUMP};
 ghost use Rattle.report_command.specs.Jobs.{IsInRange};
 ghost use Rattle.report_command.specs.Views.{IsViewInRange, path_of};
 
 use crate::arguments::{Argument, CommandRow, Form, OPTION};
-use crate::command_line::{DUMP_MOST, FILE, Job, Misuse, RECORD};
+use crate::command_line::{FILE, Job, Misuse, RECORD};
+use crate::limits::{DEFAULT_WIDTH, MOST_DUMP, MOST_LINE, NARROWEST, WIDEST};
 use clap::ArgMatches;
 use clap::builder::ValueParser;
 use report_choice::{Choice, Color, Look, Span};
 use std::alloc::{AllocError, Global};
 use types::MOST_THREADS;
-
-/// How many characters a row has room for, at least and at most.
-pub const NARROWEST: u32 = 40;
-
-pub const WIDEST: u32 = 1000;
 
 /// A line of a record, before which threads and memory are shown.
 #[derive(Clone, Copy)]
@@ -53,7 +50,7 @@ impl<'a> View<'a> {
 
 /// An address and a number of bytes, of a text `A:N`.
 fn bytes_of(text: &str) -> Option<(u64, u32)>
-    ensures { IfSome result (λ bytes. bytes.1 ≤ 4096) }
+    ensures { IfSome result (λ bytes. bytes.1 ≤ MOST_DUMP) }
 {
     let Some((addr, count)) = text.split_once(':') else {
         return None;
@@ -61,7 +58,7 @@ fn bytes_of(text: &str) -> Option<(u64, u32)>
     let (Ok(addr), Ok(count)) = (addr.parse::<u64>(), count.parse::<u32>()) else {
         return None;
     };
-    if count <= DUMP_MOST {
+    if count <= MOST_DUMP {
         Some((addr, count))
     } else {
         None
@@ -73,7 +70,7 @@ const AT: Argument = Argument {
     name: "at",
     value: "LINE",
     help: "In place of rows, what threads and memory are like before this line of the record",
-    parser: ValueParser::Unsigned(1, 2_000_000),
+    parser: ValueParser::Unsigned(1, MOST_LINE),
     ..OPTION
 };
 
@@ -143,8 +140,8 @@ const WIDTH: Argument = Argument {
     name: "width",
     value: "N",
     help: "How many characters a row has room for, 40 to 1000",
-    parser: ValueParser::Signed(40, 1000),
-    defaults: &["120"],
+    parser: ValueParser::Signed(NARROWEST as i64, WIDEST as i64),
+    defaults: &[DEFAULT_WIDTH],
     ..OPTION
 };
 
@@ -220,7 +217,7 @@ fn choice_of(alloc: Global, matches: &ArgMatches) -> Result<Choice, AllocError> 
 
 /// The moment that is asked for, if one is.
 fn moment_of(matches: &ArgMatches) -> Option<At>
-    ensures { IfSome result (λ at. at.count ≤ 4096) }
+    ensures { IfSome result (λ at. at.count ≤ MOST_DUMP) }
 {
     let Some(line) = matches.get_one::<u64>("at") else {
         return None;

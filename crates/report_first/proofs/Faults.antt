@@ -1,12 +1,14 @@
 -- The call of a module of one atomic add can be made.
-use Rattle.std.proofs.Common.{◌≡◌, ◌⊎◌, inl, inr, ℕ, [], refl, ap, arith}
+use Rattle.std.proofs.Common.{◌≡◌, ℕ, [], refl, ap, arith}
 use Rattle.std.specs.Prelude.{codes}
 use Rattle.types.specs.declared.parts.FuncType.{FuncType}
 use Rattle.validate_module_rules.specs.Exported.{IsExported}
 use Rattle.spawn_host.specs.Entries.{IsUnknown, Refuses, StartsThreads}
 use Rattle.spawn_host.specs.Faults.{IsFaultOf}
-use Rattle.spawn_host_workers.specs.declared.report.RunFault.{RunFault}
-use Rattle.spawn_host_workers.specs.declared.report.RunFault.TheVariants.{NoMemory, UnknownExport, WrongArguments, NoThread}
+use Rattle.spawn_host_workers.specs.declared.report.StartFault.TheVariants.{NoMemory, NoThread}
+use Rattle.spawn_host.specs.declared.request.CallFault.TheVariants.{UnknownExport, WrongArguments}
+use Rattle.spawn_host.specs.declared.running.RunFault.{RunFault}
+use Rattle.spawn_host.specs.declared.running.RunFault.TheVariants.{Call, Start}
 use Rattle.report_first.specs.First.{first_parts}
 use Rattle.report_first.proofs.Ends.{type_is}
 
@@ -23,9 +25,9 @@ module _ (a v : ℕ) where
   pub starts_none : StartsThreads (first_parts a v) → ⊥
   starts_none some = omega (arith, some)
 
-  pub no_fault : (fault : RunFault) → IsFaultOf (first_parts a v) (codes "f") [] fault
-      → (fault ≡ UnknownExport) ⊎ ((fault ≡ WrongArguments) ⊎ (fault ≡ NoThread)) → ⊥
-  no_fault NoMemory h is = elim is [ inl e ↦ cc e | inr other ↦ elim other [ inl e ↦ cc e | inr e ↦ cc e ] ]
-  no_fault UnknownExport h is = not_unknown h
-  no_fault WrongArguments h is = not_unfit h
-  no_fault NoThread h is = starts_none h.1
+  -- what is left is want of memory
+  pub of_memory : (fault : RunFault) → IsFaultOf (first_parts a v) (codes "f") [] fault → fault ≡ Start NoMemory
+  of_memory (Call UnknownExport) h = absurd (not_unknown h)
+  of_memory (Call WrongArguments) h = absurd (not_unfit h)
+  of_memory (Start NoMemory) h = refl
+  of_memory (Start NoThread) h = absurd (starts_none h.1)

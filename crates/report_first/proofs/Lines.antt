@@ -1,6 +1,6 @@
 -- From the end of a run of a module of one atomic add to what is printed of it.
 use Rattle.std.proofs.Common.{◌≡◌, ℕ, ◌<◌, ◌++◌, Bool, true, false, cond, List, [], ◌∷◌, map, Option, Some, Result, Ok, Err, ◌↔◌, refl, ◌∙◌, ap, subst, arith, append-nil}
-use Rattle.std.specs.Prelude.{codes, IfOk, OnOk, IfErr, IsErrOf}
+use Rattle.std.specs.Prelude.{codes, IsErrOf}
 use Rattle.std.specs.Io.KnownBytes.{Appends}
 use Rattle.types.specs.declared.value.Value.TheVariants as values
 use Rattle.types.specs.declared.outcome.Trap.TheVariants as traps
@@ -14,7 +14,8 @@ use Rattle.report_lines.specs.Lines.{thread_line, pages_line, bytes_line, end_li
 use Rattle.spawn_host.specs.RunEnds.{EndsRun}
 use Rattle.report_first.specs.First.{IsFirstModule, IsNoFirstModule, is_aligned, first_outcome, first_parts, page_after}
 use Rattle.report_first.specs.Laws.{IsFirstEnd}
-use Rattle.report_first.specs.Printed.{first_lines, first_status, IsFirstRun, status_of}
+use Rattle.report_lines.specs.Ends.{status_of}
+use Rattle.report_first.specs.Printed.{first_lines, first_status, IsFirstRun}
 use Rattle.report_first.specs.declared.bytes_to_lines.FirstFault.{FirstFault}
 use Rattle.report_first.specs.declared.bytes_to_lines.FirstFault.TheVariants as faults
 use Rattle.report_first.proofs.Ends.{first_modules_end_so}
@@ -54,26 +55,18 @@ module _ (a v dump : ℕ) (end : EndState) (ends : IsFirstEnd a v end) where
       ∙ (ap (λ bytes. end_lines (report_of (first_outcome a) ∷ []) 1 dump bytes) ends.bytes
       ∙ ap (λ line. (line ++ pages_line 1) ++ bytes_line dump (page_after a v)) (append-nil (thread_line 0 (first_outcome a))))))
 
-  pub runs_by : (bytes : List ℕ) (old new : Option (List ℕ)) (r : Result ℕ FirstFault) → IsFirstModule bytes a v
-      → OnOk r (Appends old new (end_lines end.threads.items end.pages dump end.bytes.items))
-      → IfOk r (λ status. status ≡ status_of end.threads.items) → IfOk r (λ status. IsFirstRun bytes dump status old new)
-  runs_by bytes old new (Ok s) is wrote status = record {
+  pub runs_by : (bytes : List ℕ) (old new : Option (List ℕ)) (status : ℕ) (threads : List ThreadReport) (written : List ℕ)
+      → IsFirstModule bytes a v → threads ≡ end.threads.items → written ≡ end.bytes.items
+      → Appends old new (end_lines threads end.pages dump written) → status ≡ status_of threads
+      → IsFirstRun bytes dump status old new
+  runs_by bytes old new status threads written is same all wrote ended = record {
     address = a;
     addend = v;
     module_is = is;
-    status_is = status ∙ status_is;
-    lines = subst (Appends old new) lines_are wrote;
+    status_is = ended ∙ ap status_of same ∙ status_is;
+    lines = subst (Appends old new) (ap (λ ts. end_lines ts end.pages dump written) same
+        ∙ ap (λ bytes. end_lines end.threads.items end.pages dump bytes) all ∙ lines_are) wrote;
   }
-  runs_by bytes old new (Err e) is wrote status = tt
-
--- the writer's fault is none of the others
-pub is_here : (r : Result ℕ FirstFault) → IfErr r (λ fault. fault ≡ faults.Writer) → IsErrOf r faults.NotHere → ⊥
-is_here (Ok s) writer h = cc h
-is_here (Err e) writer h = cc (writer, h)
-
-pub has_memory : (r : Result ℕ FirstFault) → IfErr r (λ fault. fault ≡ faults.Writer) → IsErrOf r faults.Memory → ⊥
-has_memory (Ok s) writer h = cc h
-has_memory (Err e) writer h = cc (writer, h)
 
 pub here : (r : Result ℕ FirstFault) (bytes : List ℕ) (a v : ℕ) → IsFirstModule bytes a v → (IsErrOf r faults.NotHere → ⊥)
     → IsErrOf r faults.NotHere ↔ IsNoFirstModule bytes

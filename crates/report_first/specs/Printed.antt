@@ -1,10 +1,6 @@
 -- What is printed of a run of a module of one atomic add.
-use Rattle.std.specs.Prelude.{ℕ, ◌≡◌, ◌++◌, List, if◌then◌else◌, Bool, true, false, Option}
+use Rattle.std.specs.Prelude.{ℕ, ◌≡◌, ◌++◌, List, if◌then◌else◌, Option}
 use Rattle.std.specs.Io.KnownBytes.{Appends}
-use Rattle.std.specs.List.{list_all}
-use Rattle.types.specs.declared.outcome.Outcome.{Outcome}
-use Rattle.types.specs.declared.outcome.Outcome.TheVariants as outcomes
-use Rattle.types.specs.declared.outcome.ThreadReport.{ThreadReport}
 use Rattle.report_lines.specs.Lines.{thread_line, pages_line, bytes_line}
 use Rattle.report_first.specs.First.{IsFirstModule, is_aligned, first_outcome, page_after}
 use Rattle.report_first.specs.declared.bytes_to_lines.FirstFault.{FirstFault}
@@ -32,13 +28,3 @@ abbrev pub first_fault_number : FirstFault → ℕ
 first_fault_number faults.NotHere = 1
 first_fault_number faults.Memory = 2
 first_fault_number faults.Writer = 3
-
--- A thread ended well: its function returned.
-abbrev pub ends_well : Outcome → Bool
-ends_well (outcomes.Done result) = true
-ends_well (outcomes.Trap t) = false
-ends_well (outcomes.Stop s) = false
-
--- The status of a run: 0 where all threads ended well, and otherwise 1.
-abbrev pub status_of : List ThreadReport → ℕ
-status_of threads = if list_all (λ r. ends_well r.outcome) threads then 0 else 1

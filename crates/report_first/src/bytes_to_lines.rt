@@ -1,29 +1,27 @@
 //! The run of a module of one atomic add, from its bytes to printed lines.
-ghost use Rattle.std.specs.Prelude.{◌≡◌, ◌<◌, ◌↔◌, [], IfOk, OnOk, IfErr, IsErrOf, codes};
+ghost use Rattle.std.specs.Prelude.{◌≡◌, ◌<◌, ◌↔◌, [], IfOk, IsErrOf, codes};
 ghost use Rattle.std.specs.Option.{MatchOption};
-ghost use Rattle.std.specs.List.{list_all};
-ghost use Rattle.std.specs.Io.KnownBytes.{Appends};
 ghost use Rattle.binary_wire.specs.Reading.{Refuses};
 ghost use Rattle.spawn_host.specs.Faults.{IsFaultOf};
-ghost use Rattle.report_lines.specs.Lines.{end_lines};
 ghost use Rattle.report_runs.specs.RunFaults.{IsRecordingFault};
 ghost use Rattle.report_first.specs.First.{first_parts, IsFirstModule, IsNoFirstModule};
 ghost use Rattle.report_first.specs.Laws.{IsFirstEnd};
-ghost use Rattle.report_first.specs.Printed.{IsFirstRun, ends_well, status_of, first_fault_number};
+ghost use Rattle.report_first.specs.Printed.{IsFirstRun, first_fault_number};
 
 use binary::read;
 use binary_wire::ReadFault;
 use interp_trait::OpenGate;
-use report_lines::write_end;
+use report_lines::write_run;
 use report_runs::{Call, EndState, RecordRunFault, record_run};
 use shared_memory_sequential::OpenFault;
-use spawn_host_workers::RunFault;
+use spawn_host::RunFault;
+use spawn_host_workers::StartFault;
 use std::alloc::{AllocError, Global};
 use std::io::Write;
 use std::sync::Wait;
 use std::thread::Threads;
 use thiserror::Error;
-use types::{Module, Outcome, ThreadReport};
+use types::Module;
 use validate::{ValidModule, validate};
 use validate_typing::ValidFault;
 
@@ -157,8 +155,8 @@ fn not_begun(fault: RunFault, address: u8, addend: u8) -> AllocError
     requires { IsFaultOf (first_parts address addend) (codes "f") [] fault }
 {
     match fault {
-        RunFault::NoMemory => AllocError,
-        RunFault::UnknownExport | RunFault::WrongArguments | RunFault::NoThread => unreachable!(),
+        RunFault::Start(StartFault::NoMemory) => AllocError,
+        RunFault::Call(_) | RunFault::Start(StartFault::NoThread) => unreachable!(),
     }
 }
 
@@ -216,34 +214,6 @@ where
     run_valid(rt, alloc, &valid, address, addend)
 }
 
-/// Whether a thread ended well.
-fn is_done(outcome: Outcome) -> bool
-    ensures { result ≡ ends_well outcome }
-{
-    matches!(outcome, Outcome::Done(_))
-}
-
-/// Whether all threads ended well.
-fn all_done(reports: &[ThreadReport]) -> bool
-    ensures { result ≡ list_all (λ r. ends_well r.outcome) reports.now }
-{
-    reports.iter().all(|report| is_done(report.outcome))
-}
-
-/// Prints how the threads ended and what the memory is, and answers the status: 0 where all ended well, and otherwise
-/// 1.
-fn print<W: Write>(out: &mut W, end: &EndState, dump: u32) -> Result<u8, FirstFault>
-    ensures lines { OnOk result (Appends (W.contents out.old) (W.contents out.new)
-        (end_lines end.now.threads.items end.now.pages dump end.now.bytes.items)) }
-    ensures status { IfOk result (λ status. status ≡ status_of end.now.threads.items) }
-    ensures fault { IfErr result (λ fault. fault ≡ FirstFault.Writer) }
-{
-    match write_end(out, &end.threads, end.pages, dump, &end.bytes) {
-        Ok(()) => Ok(u8::from(!all_done(&end.threads))),
-        Err(_) => Err(FirstFault::Writer),
-    }
-}
-
 /// Runs a module of one atomic add, and writes the lines of its thread, of the page count, and of the first `dump`
 /// bytes (of all, if there are fewer; no line where `dump` is 0). Answers the program's status: 0, or 1 for a trap.
 ///
@@ -275,5 +245,8 @@ where
     let Ok(end) = run_first(rt, alloc, bytes, address, addend) else {
         return Err(FirstFault::Memory);
     };
-    print(out, &end, dump)
+    match write_run(out, &end.threads, end.pages, dump, &end.bytes) {
+        Ok(status) => Ok(status),
+        Err(_) => Err(FirstFault::Writer),
+    }
 }

@@ -1,41 +1,54 @@
 -- What was printed of a run, from its parts.
 use Rattle.std.proofs.Common.{◌≡◌, ℕ, Bool, true, false, List, sym, subst}
+use Rattle.std.specs.Prelude.{is_some}
 use Rattle.std.specs.Bool.{MatchBool}
-use Rattle.std.specs.Io.KnownBytes.{Appends}
-use Rattle.types.specs.declared.value.Value.{Value}
 use Rattle.types.specs.declared.parts.Parts.{Parts}
 use Rattle.spawn_host.specs.Entries.{Takes}
-use Rattle.replay_text.specs.declared.parts.RecordParts.{RecordParts}
-use Rattle.replay_text.specs.Text.{record_text}
+use Rattle.spawn_host.specs.Requests.{Requested}
 use Rattle.spawn_host.specs.declared.end.EndState.{EndState}
+use Rattle.spawn_host.specs.RunEnds.{EndsRunOnWords, EndsRequestOnWords}
+use Rattle.replay_text.specs.declared.parts.RecordParts.{RecordParts}
 use Rattle.replay.specs.Runs.{IsRunOf}
 use Rattle.replay.specs.Recorded.{RecordsRun}
-use Rattle.spawn_host.specs.RunEnds.{EndsRunOnWords}
-use Rattle.report_jobs.specs.Arguments.{AreSpelled}
-use Rattle.report_jobs.specs.Prints.{WriterChange, Prints, Request, IsRecorded, PrintsRun}
+use Rattle.report_runs.specs.Called.{RecordsRequest}
+use Rattle.report_command.specs.declared.command_line.RunJob.{RunJob}
+use Rattle.report_jobs.specs.Asked.{IsAskedBy}
+use Rattle.report_jobs.specs.Prints.{WriterChange, Prints, KeepsRecord, IsRecorded, PrintsRun}
 
-module _ (m : Parts) (asked : Request) (out save : WriterChange) (status : ℕ) (args : List Value) (end : EndState) where
+module _ (r : Requested) (job : RunJob) (asked : IsAskedBy job.call r) (out save : WriterChange) (status : ℕ) (end : EndState) where
   abbrev Over : Bool → Type 0
-  Over b = MatchBool b (EndsRunOnWords m asked.name args asked.fuel end) (IsRecorded m asked args save end)
+  Over b =
+      MatchBool b (EndsRunOnWords r.parts job.call.invoke.now r.args job.call.fuel end) (IsRecorded r.parts job r.args save end)
 
-  module _ (spelled : AreSpelled asked.texts args) (takes : Takes m asked.name args) (prints : Prints end asked.dump out status) where
-    pub printed_on_words : asked.on_words ≡ true → EndsRunOnWords m asked.name args asked.fuel end → PrintsRun m asked out save status
-    printed_on_words on_words run = record {
-      args = args;
-      spelled = spelled;
-      takes = takes;
-      end = end;
-      run = subst Over (sym on_words) run;
-      prints = prints;
-    }
+  takes_by : Takes r.parts job.call.invoke.now r.args
+  takes_by = subst (λ (name : List ℕ). Takes r.parts name r.args) asked.name_is asked.takes
 
-    pub printed_recorded : asked.on_words ≡ false → (r : RecordParts) → RecordsRun m asked.name args asked.fuel asked.limit r end → IsRunOf m r end
-        → (asked.is_kept ≡ true → Appends save.old save.new (record_text r)) → PrintsRun m asked out save status
-    printed_recorded on_words r records run kept = record {
-      args = args;
-      spelled = spelled;
-      takes = takes;
-      end = end;
-      run = subst Over (sym on_words) (record { record_is = r; records = records; run = run; kept = kept });
-      prints = prints;
-    }
+  pub printed_on_words : job.on_words ≡ true → EndsRequestOnWords r end → Prints end job.dump out status
+      → PrintsRun r.parts job out save status
+  printed_on_words on_words run prints = record {
+    args = r.args;
+    spelled = asked.spelled;
+    takes = takes_by;
+    end = end;
+    run = subst Over (sym on_words)
+        (subst (λ (name : List ℕ). EndsRunOnWords r.parts name r.args job.call.fuel end) asked.name_is
+        (subst (λ (fuel : ℕ). EndsRunOnWords r.parts r.name r.args fuel end) asked.fuel_is run));
+    prints = prints;
+  }
+
+  pub printed_recorded : job.on_words ≡ false → (x : RecordParts) → RecordsRequest r job.limit x end → IsRunOf r.parts x end
+      → Prints end job.dump out status → KeepsRecord (is_some job.save) save x → PrintsRun r.parts job out save status
+  printed_recorded on_words x records run prints kept = record {
+    args = r.args;
+    spelled = asked.spelled;
+    takes = takes_by;
+    end = end;
+    run = subst Over (sym on_words) (record {
+        record_is = x;
+        records = subst (λ (name : List ℕ). RecordsRun r.parts name r.args job.call.fuel job.limit x end) asked.name_is
+            (subst (λ (fuel : ℕ). RecordsRun r.parts r.name r.args fuel job.limit x end) asked.fuel_is records);
+        run = run;
+        kept = kept;
+      });
+    prints = prints;
+  }

@@ -11,8 +11,11 @@ use Rattle.spawn_host.specs.declared.end.EndState.{EndState}
 use Rattle.replay.specs.declared.fault.ReplayFault.{ReplayFault}
 use Rattle.replay.specs.Runs.{IsRunOf, ShowsNoRun}
 use Rattle.report_lines.specs.Lines.{functions_line, end_lines}
-use Rattle.report_jobs.specs.Arguments.{CannotCall}
-use Rattle.report_jobs.specs.Prints.{WriterChange, Request, PrintsRun, status_of}
+use Rattle.report_lines.specs.Ends.{status_of}
+use Rattle.report_command.specs.declared.call.CallWords.{CallWords}
+use Rattle.report_command.specs.declared.command_line.RunJob.{RunJob}
+use Rattle.report_jobs.specs.Arguments.{CannotCall, texts_in}
+use Rattle.report_jobs.specs.Prints.{WriterChange, PrintsRun}
 use Rattle.report_jobs.specs.declared.replaying.Unfit.{Unfit}
 use Rattle.report_jobs.specs.declared.replaying.Unfit.TheVariants.{Unread, Misfit, NoMemory, Output}
 use Rattle.validate_typing.specs.declared.fault.ValidFault.TheVariants.{OutOfMemory as ValidityOutOfMemory, Outside}
@@ -111,18 +114,18 @@ pub record IsNoRecordOf (bytes saved : List ℕ) : Type 0 where
   pub none : IsOfNoRun parts saved
 
 -- The bytes are a valid module's text, and a run of it was made as asked.
-pub record HasRun (bytes : List ℕ) (asked : Request) (out save : WriterChange) (status : ℕ) : Type 0 where
+pub record HasRun (bytes : List ℕ) (job : RunJob) (out save : WriterChange) (status : ℕ) : Type 0 where
   pub parts : Parts
   pub text : IsModuleText bytes parts
   pub valid : IsValid parts
-  pub prints : PrintsRun parts asked out save status
+  pub prints : PrintsRun parts job out save status
 
--- They are, and no function of it can be called as asked.
-pub record HasNoSuchCall (bytes : List ℕ) (asked : Request) : Type 0 where
+-- They are, and no function of it can be called so.
+pub record HasNoSuchCall (bytes : List ℕ) (call : CallWords) : Type 0 where
   pub parts : Parts
   pub text : IsModuleText bytes parts
   pub valid : IsValid parts
-  pub cannot : CannotCall parts asked.name asked.texts
+  pub cannot : CannotCall parts call.invoke.now (texts_in call.args.items)
 
 -- What the status of a check says: 0 of an accepted module, 2 of a refused one. 5 is that memory or a stream failed.
 pub record Checks (bytes : List ℕ) (out : WriterChange) (status : ℕ) : Type 0 where
@@ -132,10 +135,10 @@ pub record Checks (bytes : List ℕ) (out : WriterChange) (status : ℕ) : Type 
 
 -- What that of a run says: 0 and 1 of a run that was made, 2 of a refused module, 3 of a call that can't be made. 5 is
 -- that memory, a thread or a stream failed.
-pub record Runs (bytes : List ℕ) (asked : Request) (out save : WriterChange) (status : ℕ) : Type 0 where
-  pub made : status ≤ 1 → HasRun bytes asked out save status
+pub record Runs (bytes : List ℕ) (job : RunJob) (out save : WriterChange) (status : ℕ) : Type 0 where
+  pub made : status ≤ 1 → HasRun bytes job out save status
   pub refused : status ≡ 2 → IsNoValidModule bytes
-  pub cannot : status ≡ 3 → HasNoSuchCall bytes asked
+  pub cannot : status ≡ 3 → HasNoSuchCall bytes job.call
   pub statuses : (status ≤ 3) ⊎ (status ≡ 5)
 
 -- What that of a replay says: 0 and 1 of a record of a run, 2 of a refused module, 4 of a record of no run. 5 is that

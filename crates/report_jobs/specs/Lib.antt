@@ -1,5 +1,6 @@
 pub mod Jobs
 pub mod Arguments
+pub mod Asked
 pub mod Prints
 pub mod Troubles
 pub mod Plain

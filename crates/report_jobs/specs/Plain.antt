@@ -1,16 +1,15 @@
 -- The plain jobs of the command line: a check, a run and a replay.
-use Rattle.std.specs.Prelude.{ℕ, List, is_some}
+use Rattle.std.specs.Prelude.{ℕ, List}
 use Rattle.report_command.specs.declared.command_line.Job.{Job}
 use Rattle.report_command.specs.declared.command_line.Job.TheVariants.{Check, Run, Replay, Show}
 use Rattle.report_command.specs.declared.command_line.Job.TheVariants as jobs
-use Rattle.report_jobs.specs.Arguments.{texts_in}
-use Rattle.report_jobs.specs.Prints.{WriterChange, request}
+use Rattle.report_jobs.specs.Prints.{WriterChange}
 use Rattle.report_jobs.specs.Jobs.{Checks, Runs, Replays}
 
 -- A job is one of these.
 abbrev pub IsPlain : Job → Type 0
 IsPlain (Check file) = Unit {0}
-IsPlain (Run file invoke on_words fuel limit path dump args) = Unit {0}
+IsPlain (Run job) = Unit {0}
 IsPlain (Replay file record_path dump) = Unit {0}
 IsPlain (Show file record_path names look at) = ⊥
 IsPlain (jobs.Search s) = ⊥
@@ -18,8 +17,7 @@ IsPlain (jobs.Search s) = ⊥
 -- What the status of a plain job says.
 abbrev pub PerformsPlain : Job → List ℕ → List ℕ → WriterChange → WriterChange → ℕ → Type 0
 PerformsPlain (Check file) bytes saved out save status = Checks bytes out status
-PerformsPlain (Run file invoke on_words fuel limit path dump args) bytes saved out save status =
-    Runs bytes (request invoke.now (texts_in args.items) fuel limit on_words (is_some path) dump) out save status
+PerformsPlain (Run job) bytes saved out save status = Runs bytes job out save status
 PerformsPlain (Replay file record_path dump) bytes saved out save status = Replays bytes saved dump out status
 PerformsPlain (Show file record_path names look at) bytes saved out save status = Unit {0}
 PerformsPlain (jobs.Search s) bytes saved out save status = Unit {0}

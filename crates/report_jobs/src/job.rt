@@ -8,12 +8,13 @@ ghost use Rattle.report_jobs.specs.Jobs.{IsRefused};
 ghost use Rattle.report_jobs.specs.Jobs.{IsNoValidModule, IsStatusOfRefusal, IsStatusOfUnfit};
 ghost use Rattle.report_jobs.specs.Prints.{changed};
 ghost use Rattle.report_jobs.specs.declared.loading.Refusal.{Refusal};
-ghost use Rattle.report_jobs.specs.Troubles.{IsStatusOfTrouble, request_of};
+ghost use Rattle.report_jobs.specs.Troubles.{IsStatusOfTrouble};
 
 use crate::loading::{Refusal, load, load_checked};
 use crate::replaying::{Unfit, replay_record};
-use crate::running::{Trouble, Wanted, run_module};
+use crate::running::{Trouble, print_run};
 use binary_wire::ReadFault;
+use report_command::RunJob;
 use std::alloc::Global;
 use std::io::{self, Write};
 use std::sync::Wait;
@@ -148,7 +149,7 @@ fn write_functions<W: Write>(out: &mut W, count: usize) -> io::Result<()>
     out.flush()
 }
 
-/// Runs a function of a module as is wanted, prints how its threads ended, the pages and the first bytes of the memory,
+/// Runs a function of a module as is asked for, prints how its threads ended, the pages and the first bytes of the memory,
 /// and writes its record where one is wanted.
 ///
 /// Answers 0 where all threads ended well and 1 for a trap or stop, both only of a run that was made and printed so; 2
@@ -156,7 +157,7 @@ fn write_functions<W: Write>(out: &mut W, count: usize) -> io::Result<()>
 pub fn run<R, W, E, S>(
     rt: &R,
     alloc: Global,
-    wanted: &Wanted,
+    job: &RunJob,
     module: &[u8],
     out: &mut W,
     err: &mut E,
@@ -167,20 +168,20 @@ where
     W: Write,
     E: Write,
     S: Write,
-    requires { wanted.now.fuel ≤ MOST_FUEL }
-    ensures made { result ≤ 1 → HasRun «module».now (request_of wanted.now) (changed W.contents out.old out.new)
+    requires { job.now.call.fuel ≤ MOST_FUEL }
+    ensures made { result ≤ 1 → HasRun «module».now job.now (changed W.contents out.old out.new)
         (changed S.contents save.old save.new) result }
     ensures refused { result ≡ 2 → IsNoValidModule «module».now }
-    ensures cannot { result ≡ 3 → HasNoSuchCall «module».now (request_of wanted.now) }
+    ensures cannot { result ≡ 3 → HasNoSuchCall «module».now job.now.call }
     ensures status { (result ≤ 3) ⊎ (result ≡ 5) }
 {
     let valid = match load(alloc, module) {
         Ok(valid) => valid,
         Err(refusal) => return refuse(err, refusal),
     };
-    match run_module(rt, alloc, &valid, wanted, out, save) {
+    match print_run(rt, alloc, &valid, job, out, save) {
         Ok(status) => status,
-        Err(trouble) => complain(err, trouble, wanted.save),
+        Err(trouble) => complain(err, trouble, job.save),
     }
 }
 
@@ -244,12 +245,8 @@ pub fn complain<E: Write>(err: &mut E, trouble: Trouble, path: Option<&str>) -> 
     ensures refused { IsStatusOfTrouble trouble result }
 {
     match trouble {
-        Trouble::UnknownExport => {
-            say(err, "run refused: unknown export");
-            RUN_REFUSED
-        }
-        Trouble::WrongArguments => {
-            say(err, "run refused: wrong arguments");
+        Trouble::Call(fault) => {
+            let _ = write!(err, "run refused: {fault}\n");
             RUN_REFUSED
         }
         Trouble::NoThread => {

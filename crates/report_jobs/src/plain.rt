@@ -4,7 +4,6 @@ ghost use Rattle.report_jobs.specs.Plain.{IsPlain, PerformsPlain};
 ghost use Rattle.report_jobs.specs.Prints.{changed};
 
 use crate::job::{check, replay_saved, run};
-use crate::running::Wanted;
 use crate::streams::Streams;
 use report_command::Job;
 use std::alloc::Global;
@@ -42,27 +41,7 @@ where
     let Streams { out, err, save } = streams;
     match job {
         Job::Check { .. } => check(alloc, module, out, err),
-        Job::Run {
-            file: _,
-            invoke,
-            on_words,
-            fuel,
-            limit,
-            save: path,
-            dump,
-            args,
-        } => {
-            let wanted = Wanted {
-                invoke: *invoke,
-                on_words: *on_words,
-                fuel: *fuel,
-                limit: *limit,
-                save: *path,
-                dump: *dump,
-                args: args.as_slice(),
-            };
-            run(rt, alloc, &wanted, module, out, err, save)
-        }
+        Job::Run(asked) => run(rt, alloc, asked, module, out, err, save),
         Job::Replay { dump, .. } => replay_saved(alloc, module, saved, *dump, out, err),
         Job::Show { .. } | Job::Search(_) => unreachable!(),
     }

@@ -1,58 +1,35 @@
 //! Runs of modules by the program: over which memory, and what is printed.
 ghost use Rattle.std.specs.Prelude.{◌≡◌, ◌≤◌, ◌⊎◌, true, false, map, is_some, IfOk, IfErr, OnOk};
 ghost use Rattle.std.specs.Io.KnownBytes.{Appends};
-ghost use Rattle.std.specs.List.{list_all};
 ghost use Rattle.types.specs.declared.limits.TheConstants.{MOST_FUEL};
 ghost use Rattle.validate_typing.specs.Validity.{HasDistinctNames};
-ghost use Rattle.spawn_host.specs.Entries.{Takes};
-ghost use Rattle.replay_text.specs.Text.{record_text};
-ghost use Rattle.report_jobs.specs.Arguments.{AreSpelled, texts_in};
-ghost use Rattle.report_jobs.specs.Prints as specified;
+ghost use Rattle.report_jobs.specs.Asked.{IsAskedBy};
 ghost use Rattle.report_jobs.specs.Prints.{WriterChange, changed, Prints, PrintsRun, PrintsAndKeeps, KeepsRecord};
-ghost use Rattle.report_jobs.specs.Troubles.{IsTroubleOf, IsUnwritten, AreArgumentsOf, request_of, trouble_of};
+ghost use Rattle.report_jobs.specs.Troubles.{IsTroubleOf, IsUnwritten, AreArgumentsOf, trouble_of};
 ghost use Rattle.report_jobs.specs.Troubles.{trouble_of_recording};
 ghost use Rattle.report_jobs.specs.declared.running.Trouble.TheVariants as troubles;
 
 use crate::args::read_args;
 use interp_trait::OpenGate;
 use replay_text::{Record, write_record};
-use report_lines::write_end;
-use report_runs::{Call, EndState, RecordRunFault, record_run, run_on_words};
-use spawn_host::own_function;
-use spawn_host_workers::RunFault;
+use report_command::{CallWords, RunJob};
+use report_lines::write_run;
+use report_runs::{Call, EndState, RecordRunFault, record_request, run_request_on_words};
+use spawn_host::{CallFault, Request, RunFault, own_function};
+use spawn_host_workers::StartFault;
 use std::alloc::{AllocError, Global};
 use std::io::{self, Write};
 use std::sync::Wait;
 use std::thread::Threads;
-use types::{Outcome, ThreadReport, Value};
+use types::Value;
 use validate::ValidModule;
-
-/// How a run is asked for.
-#[derive(Drop)]
-pub struct Wanted<'a> {
-    /// The name under which the function is exported.
-    pub invoke: &'a str,
-    /// Whether the memory is the row of words, and not the one that records.
-    pub on_words: bool,
-    /// How many units each thread may spend, 0 to 1,000,000,000,000.
-    pub fuel: u64,
-    /// How many entries the log takes, 1 to 1,000,000.
-    pub limit: u32,
-    /// The path of the record to be written, if one is wanted.
-    pub save: Option<&'a str>,
-    /// How many bytes of the memory are printed, 0 to 4096.
-    pub dump: u32,
-    /// The arguments as they are written.
-    pub args: &'a [&'a str],
-}
 
 /// Why a run wasn't made, or what came of it couldn't be written.
 #[derive(Clone, Copy, PartialEq, Eq)]
 pub enum Trouble {
-    /// No function of the module itself is exported by the name.
-    UnknownExport,
-    /// Its parameters take no values that the arguments spell.
-    WrongArguments,
+    /// No function of the module itself is exported by the name, or its parameters take no values that the arguments
+    /// spell.
+    Call(CallFault),
     /// The system refused a thread.
     NoThread,
     /// The system had too little memory left.
@@ -71,15 +48,22 @@ impl From<AllocError> for Trouble {
     }
 }
 
+impl From<CallFault> for Trouble {
+    ghost from_gives = { λ f e. e ≡ troubles.Call f };
+
+    fn from(fault: CallFault) -> Trouble {
+        Trouble::Call(fault)
+    }
+}
+
 impl From<RunFault> for Trouble {
     ghost from_gives = { λ f e. e ≡ trouble_of f };
 
     fn from(fault: RunFault) -> Trouble {
         match fault {
-            RunFault::NoMemory => Trouble::NoMemory,
-            RunFault::UnknownExport => Trouble::UnknownExport,
-            RunFault::WrongArguments => Trouble::WrongArguments,
-            RunFault::NoThread => Trouble::NoThread,
+            RunFault::Call(fault) => Trouble::Call(fault),
+            RunFault::Start(StartFault::NoMemory) => Trouble::NoMemory,
+            RunFault::Start(StartFault::NoThread) => Trouble::NoThread,
         }
     }
 }
@@ -112,27 +96,30 @@ fn show_distinct(module: &ValidModule)
 }
 
 /// The values of the arguments of an exported function.
-pub fn args_of(alloc: Global, module: &ValidModule, wanted: &Wanted) -> Result<Vec<Value>, Trouble>
-    ensures takes { IfOk result (λ args. AreArgumentsOf «module».now.parts wanted.now args.items) }
-    ensures trouble { IfErr result (IsTroubleOf «module».now.parts wanted.now) }
+///
+/// # Errors
+/// `Call` only where no function can be called so, and `NoMemory`.
+pub fn args_of(alloc: Global, module: &ValidModule, call: &CallWords) -> Result<Vec<Value>, Trouble>
+    ensures takes { IfOk result (λ args. AreArgumentsOf «module».now.parts call.now args.items) }
+    ensures trouble { IfErr result (IsTroubleOf «module».now.parts call.now) }
 {
-    let Some(function) = own_function(module, wanted.invoke) else {
-        return Err(Trouble::UnknownExport);
+    let Some(function) = own_function(module, call.invoke) else {
+        return Err(Trouble::Call(CallFault::UnknownExport));
     };
     show_distinct(module);
-    match read_args(alloc, function.func_type.params.as_slice(), wanted.args)? {
+    match read_args(alloc, function.func_type.params.as_slice(), &call.args)? {
         Some(args) => Ok(args),
-        None => Err(Trouble::WrongArguments),
+        None => Err(Trouble::Call(CallFault::WrongArguments)),
     }
 }
 
 /// Runs the function, prints the lines, and writes the record where one is wanted. Answers the status: 0 where all
 /// threads ended well, 1 for a trap or stop.
-pub(crate) fn run_module<R, W, S>(
+pub(crate) fn print_run<R, W, S>(
     rt: &R,
     alloc: Global,
     module: &ValidModule,
-    wanted: &Wanted,
+    job: &RunJob,
     out: &mut W,
     save: &mut S,
 ) -> Result<u8, Trouble>
@@ -140,55 +127,53 @@ where
     R: Threads + Wait + Sync,
     W: Write,
     S: Write,
-    requires fuel { wanted.now.fuel ≤ MOST_FUEL }
-    ensures made { IfOk result (PrintsRun «module».now.parts (request_of wanted.now)
-        (changed W.contents out.old out.new) (changed S.contents save.old save.new)) }
-    ensures trouble { IfErr result (IsTroubleOf «module».now.parts wanted.now) }
+    requires fuel { job.now.call.fuel ≤ MOST_FUEL }
+    ensures made { IfOk result (PrintsRun «module».now.parts job.now (changed W.contents out.old out.new)
+        (changed S.contents save.old save.new)) }
+    ensures trouble { IfErr result (IsTroubleOf «module».now.parts job.now.call) }
 {
-    let args = args_of(alloc, module, wanted)?;
-    if wanted.on_words {
-        run_unrecorded(rt, alloc, module, wanted, &args, out)
+    let args = args_of(alloc, module, &job.call)?;
+    let call = Call {
+        name: job.call.invoke,
+        args: &args,
+        fuel: job.call.fuel,
+    };
+    show_distinct(module);
+    let request = Request::new(module, call)?;
+    if job.on_words {
+        print_on_words(rt, alloc, &request, job, out)
     } else {
-        run_recorded(rt, alloc, module, wanted, &args, out, save)
+        print_recorded(rt, alloc, &request, job, out, save)
     }
 }
 
-/// The same by these arguments, over the row of words.
-fn run_unrecorded<R, W>(
+/// The same over the row of words.
+fn print_on_words<R, W>(
     rt: &R,
     alloc: Global,
-    module: &ValidModule,
-    wanted: &Wanted,
-    args: &[Value],
+    request: &Request,
+    job: &RunJob,
     out: &mut W,
 ) -> Result<u8, Trouble>
 where
     R: Threads + Wait + Sync,
     W: Write,
-    requires memory { wanted.now.on_words ≡ true }
-    requires spelled { AreSpelled (texts_in wanted.now.args.now) args.now }
-    requires takes { Takes «module».now.parts wanted.now.invoke.now args.now }
-    ensures made { IfOk result (λ status. (saved : WriterChange) → PrintsRun «module».now.parts (request_of wanted.now)
+    requires memory { job.now.on_words ≡ true }
+    requires asked { IsAskedBy job.now.call request.now }
+    ensures made { IfOk result (λ status. (saved : WriterChange) → PrintsRun request.now.parts job.now
         (changed W.contents out.old out.new) saved status) }
-    ensures trouble { IfErr result (IsTroubleOf «module».now.parts wanted.now) }
+    ensures trouble { IfErr result (IsTroubleOf request.now.parts job.now.call) }
 {
-    let call = Call {
-        name: wanted.invoke,
-        args,
-        fuel: wanted.fuel,
-    };
-    show_distinct(module);
-    let end = run_on_words(rt, alloc, module, call, &OpenGate)?;
-    print(out, &end, wanted.dump)
+    let end = run_request_on_words(rt, alloc, request, &OpenGate)?;
+    print(out, &end, job.dump)
 }
 
-/// The same by these arguments, over the memory that records.
-fn run_recorded<R, W, S>(
+/// The same over the memory that records.
+fn print_recorded<R, W, S>(
     rt: &R,
     alloc: Global,
-    module: &ValidModule,
-    wanted: &Wanted,
-    args: &[Value],
+    request: &Request,
+    job: &RunJob,
     out: &mut W,
     save: &mut S,
 ) -> Result<u8, Trouble>
@@ -196,22 +181,15 @@ where
     R: Threads + Wait + Sync,
     W: Write,
     S: Write,
-    requires fuel { wanted.now.fuel ≤ MOST_FUEL }
-    requires memory { wanted.now.on_words ≡ false }
-    requires spelled { AreSpelled (texts_in wanted.now.args.now) args.now }
-    requires takes { Takes «module».now.parts wanted.now.invoke.now args.now }
-    ensures made { IfOk result (PrintsRun «module».now.parts (request_of wanted.now)
-        (changed W.contents out.old out.new) (changed S.contents save.old save.new)) }
-    ensures trouble { IfErr result (IsTroubleOf «module».now.parts wanted.now) }
+    requires fuel { job.now.call.fuel ≤ MOST_FUEL }
+    requires memory { job.now.on_words ≡ false }
+    requires asked { IsAskedBy job.now.call request.now }
+    ensures made { IfOk result (PrintsRun request.now.parts job.now (changed W.contents out.old out.new)
+        (changed S.contents save.old save.new)) }
+    ensures trouble { IfErr result (IsTroubleOf request.now.parts job.now.call) }
 {
-    let call = Call {
-        name: wanted.invoke,
-        args,
-        fuel: wanted.fuel,
-    };
-    show_distinct(module);
-    let (record, end) = record_run(rt, alloc, module, call, wanted.limit, &OpenGate)?;
-    let status = print_and_keep(&record, &end, wanted, out, save);
+    let (record, end) = record_request(rt, alloc, request, job.limit, &OpenGate)?;
+    let status = print_and_keep(&record, &end, job, out, save);
     drop(record);
     drop(end);
     status
@@ -221,16 +199,16 @@ where
 fn print_and_keep<W: Write, S: Write>(
     recorded: &Record,
     end: &EndState,
-    wanted: &Wanted,
+    job: &RunJob,
     out: &mut W,
     save: &mut S,
 ) -> Result<u8, Trouble>
-    ensures made { IfOk result (PrintsAndKeeps (request_of wanted.now) recorded.now end.now
+    ensures made { IfOk result (PrintsAndKeeps job.now recorded.now end.now
         (changed W.contents out.old out.new) (changed S.contents save.old save.new)) }
     ensures trouble { IfErr result IsUnwritten }
 {
-    let status = print(out, end, wanted.dump)?;
-    keep(recorded, wanted.save.is_some(), save)?;
+    let status = print(out, end, job.dump)?;
+    keep(recorded, job.save.is_some(), save)?;
     Ok(status)
 }
 
@@ -239,24 +217,10 @@ pub fn print<W: Write>(out: &mut W, end: &EndState, dump: u32) -> Result<u8, Tro
     ensures prints { IfOk result (Prints end.now dump (changed W.contents out.old out.new)) }
     ensures output { IfErr result (λ trouble. trouble ≡ troubles.Output) }
 {
-    match write_end(out, &end.threads, end.pages, dump, &end.bytes) {
-        Ok(()) => Ok(u8::from(!all_done(&end.threads))),
+    match write_run(out, &end.threads, end.pages, dump, &end.bytes) {
+        Ok(status) => Ok(status),
         Err(_) => Err(Trouble::Output),
     }
-}
-
-/// Whether a thread ended well.
-pub fn is_done(outcome: Outcome) -> bool
-    ensures { result ≡ specified.is_done outcome }
-{
-    matches!(outcome, Outcome::Done(_))
-}
-
-/// Whether all threads ended well.
-fn all_done(reports: &[ThreadReport]) -> bool
-    ensures { result ≡ list_all (λ r. specified.is_done r.outcome) reports.now }
-{
-    reports.iter().all(|report| is_done(report.outcome))
 }
 
 /// Writes a record to its file, where it is wanted.

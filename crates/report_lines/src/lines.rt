@@ -1,13 +1,52 @@
 //! The lines on standard output.
+ghost use Rattle.std.specs.Prelude.{◌≡◌, IfOk};
+ghost use Rattle.std.specs.List.{list_all};
 ghost use Rattle.replay_forms.specs.Texts.{Wrote};
 ghost use Rattle.report_lines.specs.Lines.{thread_line, thread_lines, pages_line, bytes_line, hex_bytes, end_lines};
+ghost use Rattle.report_lines.specs.Ends as specified;
+ghost use Rattle.report_lines.specs.Ends.{status_of};
 
 use replay_forms::hex_digit;
 use std::io::{self, Write};
 use types::{Outcome, ThreadReport};
 
-/// The lines of a run: one a thread, the page count, and the first bytes where a dump is wanted.
-pub fn write_end<W: Write>(
+/// Whether a thread ended well: its function returned.
+pub fn is_done(outcome: Outcome) -> bool
+    ensures { result ≡ specified.is_done outcome }
+{
+    matches!(outcome, Outcome::Done(_))
+}
+
+/// Whether all threads ended well.
+fn all_done(reports: &[ThreadReport]) -> bool
+    ensures { result ≡ list_all (λ r. specified.is_done r.outcome) reports.now }
+{
+    reports.iter().all(|report| is_done(report.outcome))
+}
+
+/// Writes the lines of a run: one a thread, the page count, and the first `dump` bytes (all, if there are fewer; no line
+/// where `dump` is 0). Answers the run's status: 0 where all threads ended well, and otherwise 1.
+///
+/// # Errors
+/// That of the writer, and then what was written isn't said.
+pub fn write_run<W: Write>(
+    out: &mut W,
+    threads: &[ThreadReport],
+    pages: u32,
+    dump: u32,
+    bytes: &[u8],
+) -> io::Result<u8>
+    ensures lines { Wrote W.contents out.old out.new result (end_lines threads.now pages dump bytes.now) }
+    ensures status { IfOk result (λ status. status ≡ status_of threads.now) }
+{
+    match write_end(out, threads, pages, dump, bytes) {
+        Ok(()) => Ok(u8::from(!all_done(threads))),
+        Err(error) => Err(error),
+    }
+}
+
+/// The lines of its end.
+fn write_end<W: Write>(
     out: &mut W,
     threads: &[ThreadReport],
     pages: u32,

@@ -2,7 +2,7 @@
 
 use crate::stop::Stop;
 use crate::{Unread, read_module, read_saved};
-use report_command::{Job, Search};
+use report_command::{Job, RunJob, Search};
 
 /// What a job reads: a module, a record where one is replayed or shown, and the file that has the names, where it is
 /// another one.
@@ -27,13 +27,13 @@ fn bytes_of(path: &str, read: Result<Vec<u8>, Unread>) -> Result<Vec<u8>, Stop<'
 /// Reads what a job wants.
 pub(crate) fn read<'a>(rt: &HostRuntime, job: &Job<'a>) -> Result<Input, Stop<'a>> {
     let (Job::Check { file }
-    | Job::Run { file, .. }
+    | Job::Run(RunJob { file, .. })
     | Job::Replay { file, .. }
     | Job::Show { file, .. }
     | Job::Search(Search { file, .. })) = job;
     let module = bytes_of(file, read_module(rt, file))?;
     let saved = match job {
-        Job::Check { .. } | Job::Run { .. } | Job::Search(_) => Vec::new(rt.alloc()),
+        Job::Check { .. } | Job::Run(_) | Job::Search(_) => Vec::new(rt.alloc()),
         Job::Replay { saved, .. } | Job::Show { saved, .. } => {
             bytes_of(saved, read_saved(rt, saved))?
         }

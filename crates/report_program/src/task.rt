@@ -5,7 +5,7 @@ use crate::input::{Input, read};
 use crate::stop::Stop;
 use crate::telling::{tell, tell_file_fault};
 use crate::{Noted, SavePlace, SavedFile, is_one_file};
-use report_command::{Job, Misuse, Search, misused};
+use report_command::{Job, Misuse, RunJob, Search, misused};
 use report_jobs::Streams;
 use std::io::{self, BufWriter, ErrorKind, Write};
 
@@ -32,7 +32,7 @@ fn record_of<'a>(job: &Job<'a>) -> Option<&'a str> {
     match job {
         Job::Check { .. } | Job::Replay { .. } => None,
         Job::Show { view, .. } => view.path(),
-        Job::Run { save, .. } | Job::Search(Search { save, .. }) => *save,
+        Job::Run(RunJob { save, .. }) | Job::Search(Search { save, .. }) => *save,
     }
 }
 
@@ -51,11 +51,13 @@ fn place_of<'a>(rt: &HostRuntime, job: &Job<'a>) -> Result<Option<SavePlace>, St
 /// Refuses a file that would take the place of one that is read.
 fn keep_module<'a>(rt: &HostRuntime, job: &Job<'a>) -> Result<(), Stop<'a>> {
     match job {
-        Job::Run {
-            file,
-            save: Some(path),
-            ..
-        } if is_one_file(rt, file, path) => {
+        Job::Run(
+            RunJob {
+                file,
+                save: Some(path),
+                ..
+            },
+        ) if is_one_file(rt, file, path) => {
             Err(Stop::Usage(misused(rt.alloc(), Misuse::ReplacesModule)))
         }
         Job::Search(

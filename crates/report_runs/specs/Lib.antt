@@ -1,4 +1,5 @@
 pub mod FaultNumbers
 pub mod Called
+pub mod Headers
 pub mod Logs
 pub mod RunFaults

@@ -3,13 +3,13 @@ ghost use Rattle.std.specs.Prelude.{◌≡◌, ◌≤◌, ◌+◌, ◌++◌, [],
 ghost use Rattle.types.specs.declared.limits.TheConstants.{MOST_THREADS, MOST_LIMIT, MOST_FUEL};
 ghost use Rattle.spawn_host.specs.Runs.{opening_memory};
 ghost use Rattle.replay.specs.Runs.{IsRunOf};
-ghost use Rattle.replay.specs.Recorded.{RecordsRun};
 ghost use Rattle.report_runs.specs.FaultNumbers.{record_run_fault_number};
-ghost use Rattle.report_runs.specs.Called.{RecordsCall};
-ghost use Rattle.report_runs.specs.RunFaults.{IsFaultOfCall, IsRecordingFault, IsRecordingFaultOf};
-ghost use Rattle.report_runs.specs.RunFaults.{IsRecordingFaultOfAll};
+ghost use Rattle.report_runs.specs.Called.{RecordsCall, RecordsRequest};
+ghost use Rattle.report_runs.specs.RunFaults.{IsLogLimit, IsRecordingFaultOf, IsRecordingFaultOfRequest};
+ghost use Rattle.report_runs.specs.RunFaults.{IsPastLimit};
+ghost use Rattle.report_runs.specs.Headers.{IsHeaderOf};
 ghost use Rattle.report_runs.specs.declared.recording.RecordRunFault.TheVariants as faults;
-ghost use Rattle.spawn_host.specs.Entries.{Takes};
+ghost use Rattle.spawn_host.specs.declared.running.RunFault.TheVariants as run_faults;
 ghost use Rattle.replay_text.specs.Text.{IsRecord};
 ghost use Rattle.replay_rules.specs.Ranges.{AreTyped};
 
@@ -18,8 +18,8 @@ use interp_trait::Gate;
 use locked_recorder::{LockedRecorder, Naming, Prepared};
 use replay_text::{Record, RecordParts, Version};
 use shared_memory_sequential::OpenFault;
-use spawn_host::{Call, EndState, first_thread, run};
-use spawn_host_workers::RunFault;
+use spawn_host::{Call, CallFault, EndState, Request, RunFault, run_request};
+use spawn_host_workers::StartFault;
 use std::alloc::{AllocError, Global};
 use std::marker::Brand;
 use std::sync::Wait;
@@ -71,11 +71,19 @@ impl From<OpenFault> for RecordRunFault {
     }
 }
 
-impl From<RunFault> for RecordRunFault {
-    ghost from_gives = { λ f e. e ≡ faults.Run f };
+impl From<CallFault> for RecordRunFault {
+    ghost from_gives = { λ f e. e ≡ faults.Run (run_faults.Call f) };
 
-    fn from(fault: RunFault) -> RecordRunFault {
-        RecordRunFault::Run(fault)
+    fn from(fault: CallFault) -> RecordRunFault {
+        RecordRunFault::Run(RunFault::Call(fault))
+    }
+}
+
+impl From<StartFault> for RecordRunFault {
+    ghost from_gives = { λ f e. e ≡ faults.Run (run_faults.Start f) };
+
+    fn from(fault: StartFault) -> RecordRunFault {
+        RecordRunFault::Run(RunFault::Start(fault))
     }
 }
 
@@ -116,28 +124,49 @@ where
     ensures run { IfOk result (λ r. IsRunOf «module».now.parts r.0 r.1) }
     ensures fault { IfErr result (IsRecordingFaultOf «module».now.parts call.entry limit) }
 {
-    if limit == 0 || limit > MOST_LIMIT {
-        return Err(RecordRunFault::Open(OpenFault::PastLimit));
-    }
-    show_module_fits(module);
-    if let Err(fault) = check_call(alloc, module, call) {
-        return Err(RecordRunFault::Run(fault));
-    }
-    match run_recorded(rt, alloc, module, call, limit, gate) {
+    check_limit(limit)?;
+    let request = Request::new(module, call)?;
+    record_request(rt, alloc, &request, limit, gate)
+}
+
+/// The same of a call that can be made.
+///
+/// # Errors
+/// `Open` with `PastLimit` exactly where the limit is out of its range. Otherwise `NoMemory`, `Open` or `Run` where
+/// memory is refused, and `Run` with `NoThread` where the system starts no further thread. All come before the first
+/// turn.
+pub fn record_request<G, R>(
+    rt: &R,
+    alloc: Global,
+    request: &Request,
+    limit: u32,
+    gate: &G,
+) -> Result<(Record, EndState), RecordRunFault>
+where
+    G: Gate + Sync,
+    R: Threads + Wait + Sync,
+    requires fuel { request.now.fuel ≤ MOST_FUEL }
+    ensures record { IfOk result (λ r. RecordsRequest request.now limit r.0 r.1) }
+    ensures run { IfOk result (λ r. IsRunOf request.now.parts r.0 r.1) }
+    ensures fault { IfErr result (IsRecordingFaultOfRequest request.now limit) }
+{
+    check_limit(limit)?;
+    show_module_fits(request.module());
+    match over_new_memory(rt, alloc, request, limit, gate) {
         Ok((parts, end)) => Ok((record_of(parts), end)),
         Err(fault) => Err(fault),
     }
 }
 
-/// Looks whether the call can be made, before a memory takes room, so that one that can't be is told as such.
-pub(crate) fn check_call(alloc: Global, module: &ValidModule, call: Call) -> Result<(), RunFault>
-    ensures takes { OnOk result (Takes «module».now.parts call.entry.name.now call.entry.args.now) }
-    ensures fault { IfErr result (IsFaultOfCall «module».now.parts call.entry) }
+/// Whether a log may take so many entries.
+fn check_limit(limit: u32) -> Result<(), RecordRunFault>
+    ensures within { OnOk result (IsLogLimit limit) }
+    ensures past { IfErr result (λ fault. IsPastLimit limit fault) }
 {
-    match first_thread(alloc, module, call) {
-        Ok(_) => Ok(()),
-        Err(fault) => Err(fault),
+    if limit == 0 || limit > MOST_LIMIT {
+        return Err(RecordRunFault::Open(OpenFault::PastLimit));
     }
+    Ok(())
 }
 
 /// The record of a run's parts, which are in range.
@@ -155,44 +184,41 @@ fn record_of(parts: RecordParts) -> Record
     }
 }
 
-/// The same, up to the record's parts.
-fn run_recorded<G, R>(
+/// The parts of the record, once there is a memory, and room for them.
+fn over_new_memory<G, R>(
     rt: &R,
     alloc: Global,
-    module: &ValidModule,
-    call: Call,
+    request: &Request,
     limit: u32,
     gate: &G,
 ) -> Result<(RecordParts, EndState), RecordRunFault>
 where
     G: Gate + Sync,
     R: Threads + Wait + Sync,
-    requires range { (1 ≤ limit) × (limit ≤ MOST_LIMIT) }
-    requires takes { Takes «module».now.parts call.name.now call.args.now }
-    ensures made { IfOk result (λ r. RecordsCall «module».now.parts call.entry limit r.0 r.1) }
-    ensures fault { IfErr result (IsRecordingFaultOf «module».now.parts call.entry limit) }
+    requires range { IsLogLimit limit }
+    ensures made { IfOk result (λ r. RecordsRequest request.now limit r.0 r.1) }
+    ensures fault { IfErr result (IsRecordingFaultOfRequest request.now limit) }
 {
-    let Ok(header) = header_of(alloc, call) else {
+    let Ok(header) = header_of(alloc, request) else {
         return Err(RecordRunFault::NoMemory);
     };
-    let prepared = match prepare(alloc, module, limit) {
+    let prepared = match prepare(alloc, request, limit) {
         Ok(prepared) => prepared,
         Err(fault) => {
             drop(header);
             return Err(fault);
         }
     };
-    record_named::<Brand, _, _>(rt, alloc, module, prepared, header, limit, gate)
+    over_recorder::<Brand, _, _>(rt, alloc, request, prepared, header, limit, gate)
 }
 
 /// What a record says of the call, and room for its ends.
-fn header_of(alloc: Global, call: Call) -> Result<Header, AllocError>
-    ensures invoke { IfOk result (λ h. h.invoke ≡ call.entry.name.now) }
-    ensures args { IfOk result (λ h. h.args ≡ call.entry.args.now) }
-    ensures fuel { IfOk result (λ h. h.fuel ≡ call.entry.fuel) }
+fn header_of(alloc: Global, request: &Request) -> Result<Header, AllocError>
+    ensures of_request { IfOk result (λ h. IsHeaderOf request.now h) }
     ensures ends { IfOk result (λ h. h.ends.items ≡ []) }
     ensures room { IfOk result (λ h. MOST_THREADS ≤ vec_capacity h.ends) }
 {
+    let call = request.call();
     let invoke = String::from_str(alloc, call.name)?;
     let args = Vec::from_slice(alloc, call.args)?;
     let ends = Vec::with_capacity(alloc, MOST_THREADS)?;
@@ -205,12 +231,13 @@ fn header_of(alloc: Global, call: Call) -> Result<Header, AllocError>
 }
 
 /// What a memory that records is made of, where it is the module's.
-fn prepare(alloc: Global, module: &ValidModule, limit: u32) -> Result<Prepared, RecordRunFault>
-    requires range { (1 ≤ limit) × (limit ≤ MOST_LIMIT) }
-    ensures opening { IfOk result (λ p. p.opening ≡ opening_memory «module».now.parts) }
+fn prepare(alloc: Global, request: &Request, limit: u32) -> Result<Prepared, RecordRunFault>
+    requires range { IsLogLimit limit }
+    ensures opening { IfOk result (λ p. p.opening ≡ opening_memory request.now.parts) }
     ensures limit { IfOk result (λ p. p.limit ≡ limit) }
-    ensures fault { IfErr result (IsRecordingFaultOfAll «module».now.parts limit) }
+    ensures fault { IfErr result (IsRecordingFaultOfRequest request.now limit) }
 {
+    let module = request.module();
     show_memory_opens(module);
     let Ok(image) = module.image(alloc) else {
         return Err(RecordRunFault::NoMemory);
@@ -221,11 +248,11 @@ fn prepare(alloc: Global, module: &ValidModule, limit: u32) -> Result<Prepared, 
     }
 }
 
-/// The same, over a recorder whose type has been named.
-fn record_named<B, G, R>(
+/// The parts of the record, over a recorder whose type has been named.
+fn over_recorder<B, G, R>(
     rt: &R,
     alloc: Global,
-    module: &ValidModule,
+    request: &Request,
     prepared: Prepared,
     header: Header,
     limit: u32,
@@ -238,30 +265,25 @@ where
     requires table { prepared.table ≡ B.table }
     requires opening { prepared.opening ≡ B.opening }
     requires limit { prepared.limit ≡ B.limit }
-    requires image { B.opening ≡ opening_memory «module».now.parts }
+    requires image { B.opening ≡ opening_memory request.now.parts }
     requires bound { B.limit ≡ limit }
-    requires range { (1 ≤ limit) × (limit ≤ MOST_LIMIT) }
+    requires range { IsLogLimit limit }
+    requires of_request { IsHeaderOf request.now header }
     requires ends { header.ends.items ≡ [] }
     requires room { MOST_THREADS ≤ vec_capacity header.ends }
-    requires takes { Takes «module».now.parts header.invoke header.args }
-    ensures made { IfOk result (λ r. RecordsRun «module».now.parts header.invoke header.args header.fuel limit r.0 r.1) }
-    ensures fault { IfErr result (IsRecordingFault «module».now.parts header.invoke header.args limit) }
+    ensures made { IfOk result (λ r. RecordsRequest request.now limit r.0 r.1) }
+    ensures fault { IfErr result (IsRecordingFaultOfRequest request.now limit) }
 {
     let Ok((memory, seats)) = LockedRecorder::<B, &R>::open(alloc, rt, prepared) else {
         drop(header);
         return Err(RecordRunFault::Open(OpenFault::NoMemory));
     };
-    let call = Call {
-        name: header.invoke.as_str(),
-        args: header.args.as_slice(),
-        fuel: header.fuel,
-    };
-    let end = match run(rt, alloc, module, call, &memory, seats, gate) {
+    let end = match run_request(rt, alloc, request, &memory, seats, gate) {
         Ok(end) => end,
         Err(fault) => {
             drop(memory);
             drop(header);
-            return Err(RecordRunFault::Run(fault));
+            return Err(RecordRunFault::Run(RunFault::Start(fault)));
         }
     };
     let finished = memory.finish(end.seats);
@@ -274,7 +296,7 @@ where
     copy_reports(&end.threads, &mut ends);
     let parts = RecordParts {
         version: Version::Two,
-        module_len: module.parts().length,
+        module_len: request.module().parts().length,
         threads: MOST_THREADS as u32,
         max_pages: MOST_PAGES,
         invoke,

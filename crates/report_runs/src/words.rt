@@ -1,16 +1,16 @@
 //! A run over the row of words.
 ghost use Rattle.std.specs.Prelude.{◌≡◌, ◌≤◌, ◌*◌, [], length, vec_capacity, IfOk, IfErr};
 ghost use Rattle.types.specs.declared.limits.TheConstants.{PAGE_SIZE};
-ghost use Rattle.spawn_host.specs.Entries.{Takes};
 ghost use Rattle.spawn_host.specs.Runs.{opening_memory};
+ghost use Rattle.spawn_host.specs.RunEnds.{EndsRequestOnWords};
 ghost use Rattle.report_runs.specs.Called.{EndsCallOnWords};
-ghost use Rattle.report_runs.specs.RunFaults.{IsWordsFaultOf, IsWordsFaultOfAll};
+ghost use Rattle.report_runs.specs.RunFaults.{IsWordsFaultOf, IsWordsFaultOfRequest};
 
 use crate::fitting::show_memory_opens;
-use crate::recording::{RecordRunFault, check_call};
+use crate::recording::RecordRunFault;
 use interp_trait::Gate;
 use shared_memory_sequential::OpenFault;
-use spawn_host::{Call, EndState, run};
+use spawn_host::{Call, EndState, Request, RunFault, run_request};
 use std::alloc::Global;
 use std::marker::Brand;
 use std::sync::Wait;
@@ -43,14 +43,33 @@ where
     ensures end { IfOk result (EndsCallOnWords «module».now.parts call.entry) }
     ensures fault { IfErr result (IsWordsFaultOf «module».now.parts call.entry) }
 {
-    if let Err(fault) = check_call(alloc, module, call) {
-        return Err(RecordRunFault::Run(fault));
-    }
-    let Ok(bytes) = Vec::with_capacity(alloc, PAGE_SIZE * module.pages_max() as usize) else {
+    let request = Request::new(module, call)?;
+    run_request_on_words(rt, alloc, &request, gate)
+}
+
+/// The same of a call that can be made.
+///
+/// # Errors
+/// `NoMemory`, `Open` or `Run` where memory is refused, and `Run` with `NoThread` where the system starts no further
+/// thread. All come before the first turn: room for the final bytes is taken before it, and nothing afterwards.
+pub fn run_request_on_words<G, R>(
+    rt: &R,
+    alloc: Global,
+    request: &Request,
+    gate: &G,
+) -> Result<EndState, RecordRunFault>
+where
+    G: Gate + Sync,
+    R: Threads + Wait + Sync,
+    ensures end { IfOk result (EndsRequestOnWords request.now) }
+    ensures fault { IfErr result (IsWordsFaultOfRequest request.now) }
+{
+    let most = request.module().pages_max();
+    let Ok(bytes) = Vec::with_capacity(alloc, PAGE_SIZE * most as usize) else {
         return Err(RecordRunFault::NoMemory);
     };
-    match prepare(alloc, module) {
-        Ok(prepared) => { run_named::<Brand, _, _>(rt, alloc, module, prepared, bytes, call, gate) }
+    match prepare(alloc, request) {
+        Ok(prepared) => over_row::<Brand, _, _>(rt, alloc, request, prepared, bytes, gate),
         Err(fault) => {
             drop(bytes);
             Err(fault)
@@ -58,14 +77,13 @@ where
     }
 }
 
-/// The same, over a row whose type has been named.
-fn run_named<B, G, R>(
+/// The end, over a row whose type has been named.
+fn over_row<B, G, R>(
     rt: &R,
     alloc: Global,
-    module: &ValidModule,
+    request: &Request,
     prepared: Prepared,
     mut bytes: Vec<u8>,
-    call: Call,
     gate: &G,
 ) -> Result<EndState, RecordRunFault>
 where
@@ -74,19 +92,18 @@ where
     R: Threads + Wait + Sync,
     requires table { prepared.table ≡ B.table }
     requires opening { prepared.opening ≡ B.opening }
-    requires image { B.opening ≡ opening_memory «module».now.parts }
-    requires takes { Takes «module».now.parts call.name.now call.args.now }
+    requires image { B.opening ≡ opening_memory request.now.parts }
     requires none { bytes.items ≡ [] }
-    requires room { PAGE_SIZE * (opening_memory «module».now.parts).max ≤ vec_capacity bytes }
-    ensures end { IfOk result (EndsCallOnWords «module».now.parts call.entry) }
-    ensures fault { IfErr result (IsWordsFaultOf «module».now.parts call.entry) }
+    requires room { PAGE_SIZE * (opening_memory request.now.parts).max ≤ vec_capacity bytes }
+    ensures end { IfOk result (EndsRequestOnWords request.now) }
+    ensures fault { IfErr result (IsWordsFaultOfRequest request.now) }
 {
     let Ok((memory, seats)) = WordRow::<B>::open(alloc, prepared) else {
         return Err(RecordRunFault::Open(OpenFault::NoMemory));
     };
-    let end = match run(rt, alloc, module, call, &memory, seats, gate) {
+    let end = match run_request(rt, alloc, request, &memory, seats, gate) {
         Ok(end) => end,
-        Err(fault) => return Err(RecordRunFault::Run(fault)),
+        Err(fault) => return Err(RecordRunFault::Run(RunFault::Start(fault))),
     };
     let closed = memory.close(end.seats);
     let pages = closed.pages();
@@ -99,10 +116,11 @@ where
 }
 
 /// What a row of words is made of, where it is the module's.
-fn prepare(alloc: Global, module: &ValidModule) -> Result<Prepared, RecordRunFault>
-    ensures opening { IfOk result (λ p. p.opening ≡ opening_memory «module».now.parts) }
-    ensures fault { IfErr result (IsWordsFaultOfAll «module».now.parts) }
+fn prepare(alloc: Global, request: &Request) -> Result<Prepared, RecordRunFault>
+    ensures opening { IfOk result (λ p. p.opening ≡ opening_memory request.now.parts) }
+    ensures fault { IfErr result (IsWordsFaultOfRequest request.now) }
 {
+    let module = request.module();
     show_memory_opens(module);
     let Ok(image) = module.image(alloc) else {
         return Err(RecordRunFault::NoMemory);

@@ -1,4 +1,3 @@
-use Rattle.report_jobs.specs.Troubles.{request_of}
 use Rattle.report_jobs.proofs.job.run.Goals as goal
 
 pub returns-in-Err-clause-refused : goal.returns-in-Err-clause-refused
@@ -6,10 +5,9 @@ returns-in-Err-clause-refused g c = λ two. c.refuse.ensures.refused c.args.modu
 
 pub returns-clause-cannot : goal.returns-clause-cannot
 returns-clause-cannot g c =
-    let asked = request_of c.args.wanted.now in
     λ three. record {
       parts = c.in-Ok.valid.parts;
       text = c.in-Ok.ensures.ok.0;
       valid = c.in-Ok.ensures.ok.1.valid;
-      cannot = c.complain.ensures.refused c.in-Ok.valid.parts asked.name asked.texts c.in-Err-run_module.ensures.trouble three;
+      cannot = c.complain.ensures.refused c.in-Ok.valid.parts _ _ c.in-Err-print_run.ensures.trouble three;
     }
