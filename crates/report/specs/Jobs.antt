@@ -7,7 +7,7 @@ use Rattle.report_command.specs.declared.search.Search.{Search}
 use Rattle.report_jobs.specs.Prints.{WriterChange}
 use Rattle.report_jobs.specs.Jobs.{IsNoValidModule, IsNoRecordOf, IsRecordOf, HasNoSuchCall}
 use Rattle.report_jobs.specs.Plain.{PerformsPlain}
-use Rattle.report.specs.Searches.{HasSearched, request_of_search}
+use Rattle.report.specs.Searches.{HasSearched}
 
 -- What the status of a show says: 0 of a record of a run, 2 of a refused module, 4 of a record of no run. 5 is that
 -- memory or a stream failed.
@@ -22,7 +22,7 @@ pub record Shows (bytes saved : List ℕ) (status : ℕ) : Type 0 where
 pub record Searches (bytes : List ℕ) (s : Search) (save : WriterChange) (status : ℕ) : Type 0 where
   pub made : status ≤ 1 → HasSearched bytes s save status
   pub refused : status ≡ 2 → IsNoValidModule bytes
-  pub cannot : status ≡ 3 → HasNoSuchCall bytes (request_of_search s)
+  pub cannot : status ≡ 3 → HasNoSuchCall bytes s.call
   pub statuses : (status ≤ 3) ⊎ (status ≡ 5)
 
 -- What the status of a job says: of one that is no show and no search, what it says of a plain job.

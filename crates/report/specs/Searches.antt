@@ -1,5 +1,5 @@
 -- What is kept of a search.
-use Rattle.std.specs.Prelude.{ℕ, ◌≡◌, ◌≢◌, ◌≤◌, ◌⊎◌, Bool, List, [], true, false, is_some}
+use Rattle.std.specs.Prelude.{ℕ, ◌≡◌, ◌≢◌, ◌≤◌, ◌⊎◌, Bool, List, [], true, is_some}
 use Rattle.std.specs.List.{list_all}
 use Rattle.types.specs.declared.value.Value.{Value}
 use Rattle.types.specs.declared.parts.Parts.{Parts}
@@ -8,44 +8,30 @@ use Rattle.binary.specs.Grammar.{IsModuleText}
 use Rattle.replay_text.specs.declared.parts.RecordParts.{RecordParts}
 use Rattle.spawn_host.specs.declared.end.EndState.{EndState}
 use Rattle.replay.specs.Runs.{IsRunOf}
+use Rattle.spawn_host.specs.Requests.{Requested}
 use Rattle.search_scheduled.specs.Headers.{IsOfCall}
 use Rattle.search_reach.specs.declared.ending.Ended.{Ended}
 use Rattle.search_reach.specs.declared.search.Verdict.TheVariants as verdicts
-use Rattle.search_runs.specs.Ends.{Ending}
-use Rattle.spawn_host.specs.declared.call.Call.{Call}
+use Rattle.search_endings.specs.Endings.{Ending}
 use Rattle.search_modules.specs.Endings.{HasEveryEnding, AllCanEndSo}
-use Rattle.search_finds.specs.declared.sought.Sought.{Sought}
 use Rattle.search_finds.specs.Finds.{EndsAsLookedFor}
 use Rattle.report_command.specs.declared.search.Search.{Search}
 use Rattle.report_jobs.specs.Arguments.{AreSpelled, texts_in}
-use Rattle.report_jobs.specs.Prints.{WriterChange, KeepsRecord, Request, is_done, request}
-use Rattle.report_jobs.specs.Troubles.{IsTrouble}
+use Rattle.report_jobs.specs.Prints.{WriterChange, KeepsRecord}
+use Rattle.report_lines.specs.Ends.{is_done}
 use Rattle.report_jobs.specs.declared.running.Trouble.{Trouble}
 use Rattle.report_jobs.specs.declared.running.Trouble.TheVariants as troubles
-
--- Which runs a search of the command line makes, and what it looks for.
-abbrev pub sought_of : Search → Sought
-sought_of s = record {
-  way = s.way;
-  seed = s.seed;
-  from = s.from;
-  runs = s.runs;
-  limit = s.limit;
-  dump = s.dump;
-  find = s.find;
-  expect = s.expect;
-}
 
 -- A run of the module by the call that was asked for, which ends as is looked for; and its record was written, where
 -- one is wanted.
 pub record IsFindKept (m : Parts) (s : Search) (save : WriterChange) : Type 0 where
   pub args : List Value
-  pub spelled : AreSpelled (texts_in s.args.items) args
+  pub spelled : AreSpelled (texts_in s.call.args.items) args
   pub record_is : RecordParts
   pub end : EndState
   pub run : IsRunOf m record_is end
-  pub of_call : IsOfCall m s.invoke.now args s.fuel s.limit record_is
-  pub ends : EndsAsLookedFor (sought_of s) s.dump end
+  pub of_call : IsOfCall m s.call.invoke.now args s.call.fuel s.sought.limit record_is
+  pub ends : EndsAsLookedFor s.sought s.sought.dump end
   pub kept : KeepsRecord (is_some s.save) save record_is
 
 -- Nothing was written, or the record of a run that was found.
@@ -73,20 +59,19 @@ pub record AreAllWell (all : Ended Ending) : Type 0 where
 -- enough, ends well: all threads' functions returned.
 pub record EndWell (m : Parts) (s : Search) : Type 0 where
   pub args : List Value
-  pub spelled : AreSpelled (texts_in s.args.items) args
+  pub spelled : AreSpelled (texts_in s.call.args.items) args
   pub endings : List Ending
-  pub every : HasEveryEnding m s.invoke.now args s.dump endings
-  pub can : AllCanEndSo m s.invoke.now args s.dump endings
+  pub every : HasEveryEnding m s.call.invoke.now args s.sought.dump endings
+  pub can : AllCanEndSo m s.call.invoke.now args s.sought.dump endings
   pub some : endings ≢ []
   pub well : all_end_well endings ≡ true
 
 -- They are all endings of a call, where that is said; and each is one.
-abbrev pub FindsEvery : Parts → Call → ℕ → Ended Ending → Type 0
-FindsEvery m call dump all = all.verdict ≡ verdicts.All
-    → HasEveryEnding m call.name.now call.args.now dump all.endings.keys
+abbrev pub FindsEvery : Requested → ℕ → Ended Ending → Type 0
+FindsEvery q dump all = all.verdict ≡ verdicts.All → HasEveryEnding q.parts q.name q.args dump all.endings.keys
 
-abbrev pub FindsNoOther : Parts → Call → ℕ → Ended Ending → Type 0
-FindsNoOther m call dump all = AllCanEndSo m call.name.now call.args.now dump all.endings.keys
+abbrev pub FindsNoOther : Requested → ℕ → Ended Ending → Type 0
+FindsNoOther q dump all = AllCanEndSo q.parts q.name q.args dump all.endings.keys
 
 -- What status 0 says of a search through every order of entries.
 abbrev pub IsWellAt : Parts → Search → ℕ → Type 0
@@ -100,18 +85,9 @@ pub record HasSearched (bytes : List ℕ) (s : Search) (save : WriterChange) (st
   pub finds : Finds parts s save status
   pub well : IsWellAt parts s status
 
--- The call of a search, as that of a run.
-abbrev pub request_of_search : Search → Request
-request_of_search s = request s.invoke.now (texts_in s.args.items) s.fuel s.limit false (is_some s.save) s.dump
-
--- That of a search.
-abbrev pub IsTroubleIn : Parts → Search → Trouble → Type 0
-IsTroubleIn m s = IsTrouble m s.invoke.now (texts_in s.args.items)
-
 -- A trouble that is the system's.
 abbrev pub IsOfSystem : Trouble → Type 0
-IsOfSystem troubles.UnknownExport = ⊥
-IsOfSystem troubles.WrongArguments = ⊥
+IsOfSystem (troubles.Call fault) = ⊥
 IsOfSystem troubles.NoThread = Unit {0}
 IsOfSystem troubles.NoMemory = Unit {0}
 IsOfSystem troubles.Output = Unit {0}

@@ -1,61 +1,47 @@
 //! Every order of the entries of a call: what is printed, and the record of what was found.
 ghost use Rattle.std.specs.Prelude.{◌≡◌, ◌≤◌, ◌↔◌, true, IfOk, IfErr, IfSome};
 ghost use Rattle.search_finds.specs.Finds.{IsLookedFor};
-ghost use Rattle.report_command.specs.Searches.{IsSearchInRange};
-ghost use Rattle.report_jobs.specs.Arguments.{AreSpelled, texts_in};
-ghost use Rattle.report.specs.Searches.{Finds, FindsEvery, FindsNoOther, KeepsNoneOrFind, IsOfSystem, IsTroubleIn};
-ghost use Rattle.report.specs.Searches.{sought_of};
-ghost use Rattle.report.specs.Searches.{EndWell, AreAllWell, threads_end_well, all_end_well};
+ghost use Rattle.report_jobs.specs.Asked.{IsAskedBy};
+ghost use Rattle.report.specs.Searches.{Finds, FindsEvery, FindsNoOther, KeepsNoneOrFind, IsOfSystem};
+ghost use Rattle.report.specs.Searches.{IsWellAt, AreAllWell, threads_end_well, all_end_well};
 ghost use Rattle.report_jobs.specs.Prints.{changed};
 
-use crate::searching::{no_memory, sought_by, tell_made, wanted_by, write_ending};
-use report_command::Search;
-use report_jobs::{Trouble, args_of, is_done};
-use search_finds::{Ending, Sought, run_to};
-use search_modules::{Ending as Ended, all_endings};
-use search_reach::{Ended as AllEnded, Follows, Verdict};
-use spawn_host::Call;
+use crate::searching::{no_memory, tell_made, write_ending};
+use report_command::{Search, Sought};
+use report_jobs::Trouble;
+use report_lines::is_done;
+use search_endings::Ending;
+use search_finds::{is_looked_for, run_to};
+use search_modules::all_endings;
+use search_reach::{Ended, Follows, Verdict};
+use spawn_host::Request;
 use std::alloc::{AllocError, Global};
 use std::io::{self, Write};
-use validate_module::ValidModule;
 
 /// The endings of a call, each with a path to it, and whether they are all.
-type All = AllEnded<Ended>;
+type All = Ended<Ending>;
 
 /// An ending of the list that is looked for: its number from 1 on, and the choices by which it was met.
-#[derive(Drop)]
-struct Wanted<'a> {
+#[derive(Clone, Copy)]
+struct SoughtEnding<'a> {
     number: usize,
-    ending: Ending,
+    ending: &'a Ending,
     choices: &'a [usize],
-}
-
-/// The ending, as that of a run is.
-fn as_of_run(alloc: Global, ended: &Ended) -> Result<Ending, AllocError> {
-    Ok(Ending {
-        outcomes: Vec::from_slice(alloc, ended.outcomes())?,
-        pages: ended.pages(),
-        bytes: Vec::from_slice(alloc, ended.bytes())?,
-    })
 }
 
 /// Goes through every order of the entries of a call.
 fn all_of<F: Follows>(
     alloc: Global,
-    module: &ValidModule,
-    call: Call,
+    request: &Request,
     most: u32,
     dump: u32,
     follower: &mut F,
 ) -> Result<All, Trouble>
-    ensures every { IfOk result (FindsEvery «module».now.parts call.entry dump) }
-    ensures can { IfOk result (FindsNoOther «module».now.parts call.entry dump) }
+    ensures every { IfOk result (FindsEvery request.now dump) }
+    ensures can { IfOk result (FindsNoOther request.now dump) }
     ensures trouble { IfErr result IsOfSystem }
 {
-    match all_endings(alloc, module, call, most as usize, dump as usize, follower) {
-        Ok(all) => Ok(all),
-        Err(_) => Err(Trouble::NoMemory),
-    }
+    Ok(all_endings(alloc, request, most as usize, dump as usize, follower)?)
 }
 
 /// The word for so many.
@@ -90,12 +76,11 @@ fn write_verdict<W: Write>(out: &mut W, all: &All, most: u32) -> io::Result<()> 
 }
 
 /// A line for each ending, and whether these are all.
-fn write_all<W: Write>(alloc: Global, out: &mut W, all: &All, most: u32) -> Result<(), Trouble>
+fn write_all<W: Write>(out: &mut W, all: &All, most: u32) -> Result<(), Trouble>
     ensures { IfErr result IsOfSystem }
 {
-    for ended in all.endings.as_slice() {
-        let ending = as_of_run(alloc, ended)?;
-        write_ending(out, &ending)?;
+    for ending in all.endings.as_slice() {
+        write_ending(out, ending)?;
     }
     write_verdict(out, all, most)?;
     out.flush()?;
@@ -103,17 +88,17 @@ fn write_all<W: Write>(alloc: Global, out: &mut W, all: &All, most: u32) -> Resu
 }
 
 /// Whether all threads ended well.
-fn has_ended_well(ended: &Ended) -> bool
-    ensures { result ≡ threads_end_well ended.now }
+fn has_ended_well(ending: &Ending) -> bool
+    ensures { result ≡ threads_end_well ending.now }
 {
-    ended.outcomes().iter().all(|outcome| is_done(*outcome))
+    ending.outcomes().iter().all(|outcome| is_done(*outcome))
 }
 
 /// Whether in each of the endings all threads ended well.
-fn all_ended_well(endings: &[Ended]) -> bool
+fn all_ended_well(endings: &[Ending]) -> bool
     ensures { result ≡ all_end_well endings.now }
 {
-    endings.iter().all(|ended| has_ended_well(ended))
+    endings.iter().all(|ending| has_ended_well(ending))
 }
 
 /// Whether the endings are all, there is one, and in each all threads ended well. Where no run ends there is none.
@@ -137,19 +122,18 @@ fn status_of(all: &All) -> u8
 }
 
 /// The first ending that is looked for.
-fn first_wanted<'a>(
+fn first_sought<'a>(
     alloc: Global,
     all: &'a All,
     sought: &Sought,
-) -> Result<Option<Wanted<'a>>, AllocError>
-    ensures { IfOk result (λ o. IfSome o (λ wanted. IsLookedFor sought.now wanted.ending)) }
+) -> Result<Option<SoughtEnding<'a>>, AllocError>
+    ensures { IfOk result (λ o. IfSome o (λ first. IsLookedFor sought.now first.ending.now)) }
 {
-    for (place, ended) in all.endings.as_slice().iter().enumerate() {
-        let ending = as_of_run(alloc, ended)?;
-        if sought.is_ending(alloc, &ending)?
+    for (place, ending) in all.endings.as_slice().iter().enumerate() {
+        if is_looked_for(alloc, sought, ending)?
             && let Some(choices) = all.paths.get(place)
         {
-            return Ok(Some(Wanted {
+            return Ok(Some(SoughtEnding {
                 number: place + 1,
                 ending,
                 choices: choices.as_slice(),
@@ -160,39 +144,34 @@ fn first_wanted<'a>(
 }
 
 /// Makes the run to an ending that is looked for and tells of it, or says that none was made.
-fn tell_wanted<W: Write, S: Write>(
+fn tell_sought<W: Write, S: Write>(
     alloc: Global,
-    module: &ValidModule,
-    call: Call,
+    request: &Request,
     search: &Search,
-    wanted: &Wanted,
+    first: SoughtEnding,
     out: &mut W,
     save: &mut S,
 ) -> Result<(), Trouble>
-    requires call { (call.name.now ≡ search.now.invoke.now) × (call.fuel ≡ search.now.fuel) }
-    requires spelled { AreSpelled (texts_in search.now.args.items) call.args.now }
-    requires wanted { IsLookedFor (sought_of search.now) wanted.now.ending }
+    requires asked { IsAskedBy search.now.call request.now }
+    requires sought { IsLookedFor search.now.sought first.ending.now }
     ensures told { IfOk result
-        (λ _. KeepsNoneOrFind «module».now.parts search.now (changed S.contents save.old save.new)) }
+        (λ _. KeepsNoneOrFind request.now.parts search.now (changed S.contents save.old save.new)) }
     ensures trouble { IfErr result IsOfSystem }
 {
-    let number = wanted.number;
-    let made = match run_to(
-        alloc,
-        module,
-        call,
-        search.limit,
-        search.dump,
-        wanted.choices,
-        &wanted.ending,
-    ) {
+    let SoughtEnding {
+        number,
+        ending,
+        choices,
+    } = first;
+    let Sought { limit, dump, .. } = search.sought;
+    let made = match run_to(alloc, request, limit, dump, choices, ending) {
         Ok(made) => made,
         Err(fault) => return Err(no_memory(fault)),
     };
     match made {
         Some(made) => {
             write!(out, "found as ending {number}\n")?;
-            tell_made(alloc, module, call, search, made, out, save)
+            tell_made(alloc, request, search, made, out, save)
         }
         None => {
             write!(out, "found as ending {number}; no run was made for it\n")?;
@@ -206,31 +185,24 @@ fn tell_wanted<W: Write, S: Write>(
 /// found, one has a trap or a stop, there is none, or they are not all, and else 0.
 pub(crate) fn search_all_orders<F: Follows, W: Write, S: Write>(
     alloc: Global,
-    module: &ValidModule,
+    request: &Request,
     search: &Search,
     most: u32,
     follower: &mut F,
     out: &mut W,
     save: &mut S,
 ) -> Result<u8, Trouble>
-    requires { IsSearchInRange search.now }
-    ensures finds { IfOk result (Finds «module».now.parts search.now (changed S.contents save.old save.new)) }
-    ensures well { IfOk result (λ status. status ≡ 0 → EndWell «module».now.parts search.now) }
-    ensures trouble { IfErr result (IsTroubleIn «module».now.parts search.now) }
+    requires { IsAskedBy search.now.call request.now }
+    ensures finds { IfOk result (Finds request.now.parts search.now (changed S.contents save.old save.new)) }
+    ensures well { IfOk result (IsWellAt request.now.parts search.now) }
+    ensures trouble { IfErr result IsOfSystem }
 {
-    let args = args_of(alloc, module, &wanted_by(&*search))?;
-    let call = Call {
-        name: search.invoke,
-        args: &args,
-        fuel: search.fuel,
-    };
-    let all = all_of(alloc, module, call, most, search.dump, follower)?;
+    let all = all_of(alloc, request, most, search.sought.dump, follower)?;
     follower.end();
-    write_all(alloc, out, &all, most)?;
-    let sought = sought_by(search);
-    let Some(wanted) = first_wanted(alloc, &all, &sought)? else {
+    write_all(out, &all, most)?;
+    let Some(first) = first_sought(alloc, &all, &search.sought)? else {
         return Ok(status_of(&all));
     };
-    tell_wanted(alloc, module, call, search, &wanted, out, save)?;
+    tell_sought(alloc, request, search, first, out, save)?;
     Ok(1)
 }

@@ -4,7 +4,7 @@ ghost use Rattle.report_command.specs.Jobs.{IsInRange};
 ghost use Rattle.report_command.specs.Searches.{IsSearchInRange};
 ghost use Rattle.report_jobs.specs.Jobs.{HasNoSuchCall, IsNoValidModule};
 ghost use Rattle.report_jobs.specs.Prints.{changed};
-ghost use Rattle.report.specs.Searches.{HasSearched, request_of_search};
+ghost use Rattle.report.specs.Searches.{HasSearched};
 ghost use Rattle.report.specs.Jobs.{Performs};
 
 use crate::{search_module, show_saved};
@@ -75,7 +75,7 @@ where
     ensures made { result ≤ 1
         → HasSearched «module».now asked.now (changed S.contents streams.old.save streams.new.save) result }
     ensures refused { result ≡ 2 → IsNoValidModule «module».now }
-    ensures cannot { result ≡ 3 → HasNoSuchCall «module».now (request_of_search asked.now) }
+    ensures cannot { result ≡ 3 → HasNoSuchCall «module».now asked.now.call }
     ensures status { (result ≤ 3) ⊎ (result ≡ 5) }
 {
     let Streams { out, err, save } = streams;

@@ -4,7 +4,7 @@ ghost use Rattle.report_command.specs.Jobs.{IsInRange};
 ghost use Rattle.report_jobs.specs.Plain.{IsPlain};
 
 use crate::answers::is_answer;
-use report_command::Job;
+use report_command::{CallWords, Job, RunJob};
 use report_jobs::{Streams, perform_plain};
 use std::alloc::{AllocError, Global};
 use std::sync::Wait;
@@ -91,16 +91,19 @@ pub(crate) fn run<R: Threads + Wait + Sync>(
         Over::Recorder => (false, Some("a.record")),
         Over::Words => (true, None),
     };
-    let job = Job::Run {
-        file: "a.wasm",
+    let call = CallWords {
         invoke: called.name,
-        on_words,
+        args,
         fuel: FUEL,
+    };
+    let job = Job::Run(RunJob {
+        file: "a.wasm",
+        call,
+        on_words,
         limit: LIMIT,
         save,
         dump: 0,
-        args,
-    };
+    });
     Ok(give(rt, alloc, &job, module, b""))
 }
 

@@ -9,7 +9,7 @@ use crate::{Misfit, Refused, explain};
 use binary::read;
 use binary_wire::ReadFault;
 use replay_text::{Record, RecordFault, read_record};
-use report_command::Job;
+use report_command::{Job, RunJob};
 use std::alloc::{AllocError, Global};
 use std::str::from_utf8;
 use types::Module;
@@ -95,7 +95,9 @@ fn explain_call(alloc: Global, job: &Job, bytes: &[u8], out: &mut String) -> Res
     ensures kept { IfErr result (λ _. string_bytes out.new ≡ string_bytes out.old) }
 {
     match job {
-        Job::Run { invoke, args, .. } => explain_invoke(alloc, invoke, args.len(), bytes, out),
+        Job::Run(RunJob { call, .. }) => {
+            explain_invoke(alloc, call.invoke, call.args.len(), bytes, out)
+        }
         _ => Ok(()),
     }
 }

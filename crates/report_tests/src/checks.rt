@@ -1,5 +1,5 @@
 //! Each front of a module under `check`, and command lines as jobs.
-use report_command::{Job, command};
+use report_command::{Job, RunJob, command};
 use report_jobs::check;
 use std::alloc::{AllocError, Global};
 use std::test::Fail;
@@ -92,20 +92,20 @@ static ASKED: [Asked; 2] = [
 /// Whether the job is the run.
 fn is_run(job: &Job, asked: &Asked) -> bool {
     match job {
-        Job::Run {
-            file,
-            invoke,
-            on_words,
-            fuel,
-            limit,
-            save: None,
-            dump,
-            args,
-        } => {
-            (*file, *invoke) == ("a.wasm", asked.invoke)
+        Job::Run(
+            RunJob {
+                file,
+                call,
+                on_words,
+                limit,
+                save: None,
+                dump,
+            },
+        ) => {
+            (*file, call.invoke) == ("a.wasm", asked.invoke)
                 && *on_words == asked.on_words
-                && (*fuel, *limit, *dump) == (asked.fuel, asked.limit, asked.dump)
-                && args.as_slice() == asked.args
+                && (call.fuel, *limit, *dump) == (asked.fuel, asked.limit, asked.dump)
+                && call.args.as_slice() == asked.args
         }
         _ => false,
     }

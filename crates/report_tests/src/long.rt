@@ -1,6 +1,10 @@
 //! A record of 1,000,000 entries and more.
 
-use report_jobs::{Wanted, replay_saved, run};
+ghost use Rattle.std.specs.Prelude.{◌≤◌};
+ghost use Rattle.types.specs.declared.limits.TheConstants.{MOST_FUEL};
+
+use report_command::{CallWords, RunJob};
+use report_jobs::{replay_saved, run};
 use std::alloc::Global;
 use std::io::{self, Write};
 use std::test::Fail;
@@ -31,15 +35,23 @@ fn replays_a_million_entries(rt: HostRuntime) -> Result<(), Fail> {
     Ok(())
 }
 
-static FILLING: Wanted<'static> = Wanted {
-    invoke: "f",
-    on_words: false,
-    fuel: 1_000_000_000,
-    limit: 1_000_000,
-    save: Some("a.record"),
-    dump: 4,
-    args: &[],
-};
+/// Fills a record.
+fn filling(alloc: Global) -> RunJob<'static>
+    ensures { result.call.fuel ≤ MOST_FUEL }
+{
+    RunJob {
+        file: "a.wasm",
+        call: CallWords {
+            invoke: "f",
+            args: Vec::new(alloc),
+            fuel: 1_000_000_000,
+        },
+        on_words: false,
+        limit: 1_000_000,
+        save: Some("a.record"),
+        dump: 4,
+    }
+}
 
 #[test]
 fn records_a_million_entries(rt: HostRuntime) -> Result<(), Fail> {
@@ -57,7 +69,7 @@ fn records_a_million_entries(rt: HostRuntime) -> Result<(), Fail> {
     let status = run(
         &rt,
         rt.alloc(),
-        &FILLING,
+        &filling(rt.alloc()),
         &module,
         &mut out,
         &mut err,

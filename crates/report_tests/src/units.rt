@@ -1,10 +1,11 @@
 //! A hundred million units, counted by hand: over both memories, and replayed.
 
-ghost use Rattle.std.specs.Prelude.{◌≤◌};
+ghost use Rattle.std.specs.Prelude.{◌≤◌, IfOk};
 ghost use Rattle.types.specs.declared.limits.TheConstants.{MOST_FUEL};
 
-use report_jobs::{Wanted, replay_saved, run};
-use std::alloc::Global;
+use report_command::{CallWords, RunJob};
+use report_jobs::{replay_saved, run};
+use std::alloc::{AllocError, Global};
 use std::sync::Wait;
 use std::test::Fail;
 use std::thread::Threads;
@@ -44,20 +45,24 @@ static COUNTS: [Count; 3] = [
     },
 ];
 
-/// What is asked of a run over one memory; over the one that records it has a record at the path.
-fn wanted_of<'a>(count: &Count, on_words: bool, path: &'a str, args: &'a [&'a str]) -> Wanted<'a>
-    ensures { result.fuel ≤ MOST_FUEL }
+/// A run over one memory; over the one that records it has a record.
+fn job_of(alloc: Global, count: &Count, on_words: bool) -> Result<RunJob<'static>, AllocError>
+    ensures { IfOk result (λ job. job.call.fuel ≤ MOST_FUEL) }
 {
-    let save = if on_words { None } else { Some(path) };
-    Wanted {
+    let save = if on_words { None } else { Some("a.record") };
+    let call = CallWords {
         invoke: "f",
-        on_words,
+        args: Vec::from_slice(alloc, &[count.from])?,
         fuel: 100_000_000u64.saturating_sub(count.lacks).min(100_000_000),
+    };
+    Ok(RunJob {
+        file: "a.wasm",
+        call,
+        on_words,
         limit: 100_000,
         save,
         dump: 0,
-        args,
-    }
+    })
 }
 
 /// Counts down over one memory. Answers what was written to the record, where the printed lines are those that are
@@ -69,9 +74,8 @@ fn counted<R: Threads + Wait + Sync>(
     on_words: bool,
 ) -> Option<Vec<u8>> {
     let (mut out, mut err, mut save) = (Vec::new(alloc), Vec::new(alloc), Vec::new(alloc));
-    let args = [count.from];
-    let wanted = wanted_of(count, on_words, "a.record", &args);
-    let status = run(rt, alloc, &wanted, COUNTDOWN, &mut out, &mut err, &mut save);
+    let job = job_of(alloc, count, on_words).ok()?;
+    let status = run(rt, alloc, &job, COUNTDOWN, &mut out, &mut err, &mut save);
     if out.as_slice() == count.out && err.is_empty() && status == count.status {
         Some(save)
     } else {

@@ -1,6 +1,10 @@
 //! Runs whose lines or whose record can't be written to their end.
 
-use report_jobs::{Wanted, run};
+ghost use Rattle.std.specs.Prelude.{◌≤◌};
+ghost use Rattle.types.specs.declared.limits.TheConstants.{MOST_FUEL};
+
+use report_command::{CallWords, RunJob};
+use report_jobs::run;
 use std::alloc::Global;
 use std::io::{self, Write};
 use std::sync::Wait;
@@ -15,15 +19,23 @@ wathread-record 2\nmodule 46\nthreads 64\nmax-pages 256\ninvoke 66\nargs\nfuel 1
 0 rmw add 0 4 5 = 0\n0 leave = done\n0 told 0 = done\n\
 end 0 ok i32:0 4\npages 1\nfinish\n";
 
-static ADDING: Wanted<'static> = Wanted {
-    invoke: "f",
-    on_words: false,
-    fuel: 1_000_000_000,
-    limit: 100_000,
-    save: Some("a.record"),
-    dump: 8,
-    args: &[],
-};
+/// Makes the atomic add.
+fn adding(alloc: Global) -> RunJob<'static>
+    ensures { result.call.fuel ≤ MOST_FUEL }
+{
+    RunJob {
+        file: "a.wasm",
+        call: CallWords {
+            invoke: "f",
+            args: Vec::new(alloc),
+            fuel: 1_000_000_000,
+        },
+        on_words: false,
+        limit: 100_000,
+        save: Some("a.record"),
+        dump: 8,
+    }
+}
 
 /// A writer that takes so many bytes, at most so many of them at once, and then answers an error.
 #[derive(Drop)]
@@ -78,9 +90,8 @@ fn is_said<R: Threads + Wait + Sync>(
     let mut lines = Narrow::new(alloc, rooms.0, at_once);
     let mut save = Narrow::new(alloc, rooms.1, at_once);
     let mut err = Vec::new(alloc);
-    let given = run(
-        rt, alloc, &ADDING, ATOMIC_ADD, &mut lines, &mut err, &mut save,
-    );
+    let job = adding(alloc);
+    let given = run(rt, alloc, &job, ATOMIC_ADD, &mut lines, &mut err, &mut save);
     let record = if rooms.0 < OUT.len() {
         b"".as_slice()
     } else {

@@ -1,27 +1,26 @@
 -- What is found.
 use Rattle.std.specs.Prelude.{ℕ, ◌≡◌, ◌⊎◌, Option, Some, All, List}
 use Rattle.std.specs.Borrow.{Bor}
-use Rattle.types.specs.declared.parts.Parts.{Parts}
 use Rattle.spawn_host.specs.declared.end.EndState.{EndState}
 use Rattle.replay.specs.Runs.{IsRunOf}
-use Rattle.spawn_host.specs.declared.call.Call.{Call}
-use Rattle.search_scheduled.specs.Headers.{IsOfCall}
+use Rattle.spawn_host.specs.Requests.{Requested}
+use Rattle.search_scheduled.specs.Headers.{IsOfRequest}
 use Rattle.search_scheduled.specs.declared.running.MadeRun.{MadeRun}
 use Rattle.search_endings.specs.Endings.{Ending}
 use Rattle.search_finds.specs.declared.met.Table.{Table}
 use Rattle.search_finds.specs.Endings.{ending_left, HaveOneEnding}
 use Rattle.search_finds.specs.Words.{HasLineWith, LacksInThread0}
-use Rattle.search_finds.specs.declared.sought.Sought.{Sought}
+use Rattle.report_choice.specs.declared.sought.Sought.{Sought}
 
--- Its record is of a run of the module by this call, which left what it says.
-pub record IsFind (m : Parts) (call : Call) (limit : ℕ) (made : MadeRun) : Type 0 where
-  pub run : IsRunOf m made.record made.end
-  pub of_call : IsOfCall m call.name.now call.args.now call.fuel limit made.record
+-- Its record is of a run of the module by the call that is requested, which left what it says.
+pub record IsFind (q : Requested) (limit : ℕ) (made : MadeRun) : Type 0 where
+  pub run : IsRunOf q.parts made.record made.end
+  pub of_call : IsOfRequest q limit made.record
 
 -- It is the ending of such a run.
-pub record IsMetEnding (m : Parts) (call : Call) (limit dump : ℕ) (e : Ending) : Type 0 where
+pub record IsMetEnding (q : Requested) (limit dump : ℕ) (e : Ending) : Type 0 where
   pub made : MadeRun
-  pub find : IsFind m call limit made
+  pub find : IsFind q limit made
   pub ending : e ≡ ending_left dump made.end
 
 -- There are words, and a thread's line has them.
@@ -40,14 +39,14 @@ IsLookedFor s e = HasWantedWords s.find e ⊎ LacksWantedWords s.expect e
 abbrev pub EndsAsLookedFor : Sought → ℕ → EndState → Type 0
 EndsAsLookedFor s dump end = IsLookedFor s (ending_left dump end)
 
--- A run of the module by this call that ends as is looked for.
-abbrev pub IsFound : Parts → Call → Sought → MadeRun → Type 0
-IsFound m call s made = IsFind m call s.limit made × EndsAsLookedFor s s.dump made.end
+-- A run by the call that ends as is looked for.
+abbrev pub IsFound : Requested → Sought → MadeRun → Type 0
+IsFound q s made = IsFind q s.limit made × EndsAsLookedFor s s.dump made.end
 
--- Each ending of the table is that of a run of the module by this call.
-abbrev pub AreMet : Parts → Call → Sought → Table → Type 0
-AreMet m call s table = All (λ met. IsMetEnding m call s.limit s.dump met.ending) table.met.items
+-- Each ending of the table is that of a run by the call.
+abbrev pub AreMet : Requested → Sought → Table → Type 0
+AreMet q s table = All (λ met. IsMetEnding q s.limit s.dump met.ending) table.met.items
 
--- A run of the module by this call that ends as another one.
-abbrev pub IsFindAlike : Parts → Call → ℕ → ℕ → MadeRun → MadeRun → Type 0
-IsFindAlike m call limit dump other made = IsFind m call limit made × HaveOneEnding dump other.end made.end
+-- A run by the call that ends as another one.
+abbrev pub IsFindAlike : Requested → ℕ → ℕ → MadeRun → MadeRun → Type 0
+IsFindAlike q limit dump other made = IsFind q limit made × HaveOneEnding dump other.end made.end

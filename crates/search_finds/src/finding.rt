@@ -5,17 +5,15 @@ ghost use Rattle.search_finds.specs.Searching.{IsMadeIn, IsMetIn, IsFoundIn, Are
 ghost use Rattle.search_finds.specs.Halts.{IfFound};
 
 use crate::search::RunMaker;
-use crate::sought::Sought;
-use crate::{Table, ending_of};
-use report_choice::{MOST_DEPTH, Way};
+use crate::{Table, ending_of, is_looked_for};
+use report_choice::{MOST_DEPTH, Sought, Way};
 use search_endings::Ending;
 use search_reach::{Follows, Wish};
 use search_scheduled::{MadeRun, SearchFault, Spares, run_along, run_with_spares};
 use search_strategies::{Along, Pct, Random};
-use spawn_host::{Call, EndState};
+use spawn_host::{EndState, Request};
 use std::alloc::{AllocError, Global};
 use std::thread::{Threads, map_indices};
-use validate_module::ValidModule;
 
 /// How many runs a job makes before the endings are looked at.
 const PIECE: usize = 128;
@@ -47,55 +45,36 @@ pub struct SearchResult {
 
 /// How many entries the run has in which a thread goes on as long as it can: among so many lie the points at which
 /// priorities change.
-fn plain_entries(
-    alloc: Global,
-    module: &ValidModule,
-    call: Call,
-    sought: &Sought,
-) -> Result<u32, SearchFault>
+fn plain_entries(alloc: Global, request: &Request, sought: &Sought) -> Result<u32, SearchFault>
     ensures { IfOk result (λ entries. 0 < entries) }
 {
     match sought.way {
         Way::Random => Ok(1),
         Way::Priorities(_) => {
-            let plain = run_along(alloc, module, call, sought.limit, &mut Along::new(&[]))?;
+            let plain = run_along(alloc, request, sought.limit, &mut Along::new(&[]))?;
             let entries = plain.record.parts().log.as_slice().len();
             Ok((entries.min(1_000_000) as u32).max(1))
         }
     }
 }
 
-impl<'a> RunMaker<'a> {
+impl<'m, 'a> RunMaker<'m, 'a> {
     /// Makes a run of this number, with the threads that the runs before it didn't start.
-    fn run(&self, alloc: Global, run: u64, spares: &mut Spares<'a>) -> Result<MadeRun, SearchFault>
+    fn run(&self, alloc: Global, run: u64, spares: &mut Spares<'m>) -> Result<MadeRun, SearchFault>
         requires { AreSparesIn self.now spares.old }
         ensures find { IfOk result (IsMadeIn self.now) }
         ensures spares { OnOk result (AreSparesIn self.now spares.new) }
     {
-        let sought = &self.sought;
+        let sought = self.sought;
         match sought.way {
             Way::Random => {
                 let mut random = Random::new(sought.seed, run);
-                run_with_spares(
-                    alloc,
-                    self.module,
-                    self.call,
-                    sought.limit,
-                    &mut random,
-                    spares,
-                )
+                run_with_spares(alloc, self.request, sought.limit, &mut random, spares)
             }
             Way::Priorities(depth) => {
                 let depth = depth.min(MOST_DEPTH);
                 let mut pct = Pct::new(sought.seed, run, depth, self.entries);
-                run_with_spares(
-                    alloc,
-                    self.module,
-                    self.call,
-                    sought.limit,
-                    &mut pct,
-                    spares,
-                )
+                run_with_spares(alloc, self.request, sought.limit, &mut pct, spares)
             }
         }
     }
@@ -105,7 +84,7 @@ impl<'a> RunMaker<'a> {
         &self,
         alloc: Global,
         run: u64,
-        spares: &mut Spares<'a>,
+        spares: &mut Spares<'m>,
     ) -> Result<Ending, SearchFault>
         requires { AreSparesIn self.now spares.old }
         ensures met { IfOk result (IsMetIn self.now) }
@@ -125,10 +104,11 @@ impl<'a> RunMaker<'a> {
 
     /// Whether a run that ended so is looked for.
     fn is_sought(&self, alloc: Global, end: &EndState) -> Result<bool, AllocError>
-        ensures { IfOk result (λ is. (is ≡ true) → EndsAsLookedFor self.now.sought self.now.sought.dump end.now) }
+        ensures { IfOk result (λ is. (is ≡ true)
+            → EndsAsLookedFor self.now.sought.now self.now.sought.now.dump end.now) }
     {
         let ending = ending_of(alloc, end, self.sought.dump)?;
-        self.sought.is_ending(alloc, &ending)
+        is_looked_for(alloc, self.sought, &ending)
     }
 
     /// Makes the run of this number, which is given where it ends as is looked for.
@@ -230,7 +210,7 @@ impl<'a> RunMaker<'a> {
     }
 }
 
-/// Makes runs of an exported function of a module in the order of their numbers, by so many threads, and notes the
+/// Makes the runs of a call that is requested in the order of their numbers, by so many threads, and notes the
 /// ending of each, up to the first that is looked for, or behind which the follower tells it to end. Run number I of a
 /// seed is the same run, whoever makes it, and so is what is found. The follower hears of each how many were made, with
 /// how many endings.
@@ -243,30 +223,28 @@ impl<'a> RunMaker<'a> {
 pub fn first_found<R: Threads + Sync, F: Follows>(
     rt: &R,
     alloc: Global,
-    module: &ValidModule,
-    call: Call,
+    request: &Request,
     sought: &Sought,
     jobs: usize,
     follower: &mut F,
 ) -> Result<SearchResult, SearchFault>
     requires { sought.now.from + sought.now.runs < 2 ^ 64 }
-    ensures met { IfOk result (λ s. AreMet «module».now.parts call.entry sought.now s.table) }
-    ensures found { IfOk result (λ s. IfFound s.halt (λ f. IsFound «module».now.parts call.entry sought.now f.made)) }
+    ensures met { IfOk result (λ s. AreMet request.now sought.now s.table) }
+    ensures found { IfOk result (λ s. IfFound s.halt (λ f. IsFound request.now sought.now f.made)) }
     ensures all_made { IfOk result (λ s. s.halt ≡ Halt.AllMade → s.table.runs ≡ sought.now.runs) }
     ensures told { IfOk result (λ s. s.halt ≡ Halt.Told → F.wish follower.new ≡ Wish.End) }
 {
     let search = RunMaker {
-        module,
-        call,
-        sought: *sought,
-        entries: plain_entries(alloc, module, call, sought)?,
+        request,
+        sought,
+        entries: plain_entries(alloc, request, sought)?,
     };
     let mut table = Table::new(alloc);
     let mut ahead = Vec::new(alloc);
     let end = sought.from + sought.runs;
     for run in sought.from..end {
         let ending = search.next_ending(rt, alloc, jobs, run, end - run, &mut ahead)?;
-        let is_sought = sought.is_ending(alloc, &ending)?;
+        let is_sought = is_looked_for(alloc, sought, &ending)?;
         table.note(run, ending)?;
         let wish = follower.runs(table.runs, table.met.len());
         if is_sought && let Some(found) = search.found(alloc, run)? {

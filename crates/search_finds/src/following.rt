@@ -7,9 +7,8 @@ use crate::ending_of;
 use search_endings::Ending;
 use search_scheduled::{MadeRun, SearchFault, run_along};
 use search_strategies::Chosen;
-use spawn_host::Call;
+use spawn_host::Request;
 use std::alloc::Global;
-use validate_module::ValidModule;
 
 /// The run in which the threads that can go on are chosen so, where it ends as is said, by so many bytes of the memory.
 ///
@@ -17,17 +16,16 @@ use validate_module::ValidModule;
 /// As of `run_along`.
 pub fn run_to(
     alloc: Global,
-    module: &ValidModule,
-    call: Call,
+    request: &Request,
     limit: u32,
     dump: u32,
     choices: &[usize],
     ending: &Ending,
 ) -> Result<Option<MadeRun>, SearchFault>
-    ensures find { IfOk result (λ o. IfSome o (IsFind «module».now.parts call.entry limit)) }
+    ensures find { IfOk result (λ o. IfSome o (IsFind request.now limit)) }
     ensures ending { IfOk result (λ o. IfSome o (λ made. ending.now ≡ ending_left dump made.end)) }
 {
-    let made = run_along(alloc, module, call, limit, &mut Chosen::new(choices))?;
+    let made = run_along(alloc, request, limit, &mut Chosen::new(choices))?;
     let end = ending_of(alloc, &made.end, dump)?;
     if end == *ending {
         Ok(Some(made))

@@ -5,7 +5,7 @@
 //! a run. Where none is found, all runs that were asked for were made, or the follower's last wish was to end.
 //! `shrunk` answers a run by the same call that ends alike.
 //!
-//! - `Sought` says which runs are made, and what is looked for.
+//! - `report_choice::Sought` says which runs are made, and what is looked for; `is_looked_for` whether an ending is.
 //! - `Table` counts the endings that were met (`search_endings::Ending`).
 //! - `first_found` makes them one by one and notes their endings, up to the first that is looked for, or until it is
 //!   told to end; `Halt` says which.
@@ -34,5 +34,5 @@ pub use following::run_to;
 pub use met::{Met, Table};
 pub use shrinking::shrunk;
 pub use size::{Size, size_of};
-pub use sought::Sought;
+pub use sought::is_looked_for;
 pub use words::{has_line_with, lacks_in_thread_0};

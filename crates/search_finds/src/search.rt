@@ -1,16 +1,14 @@
 //! What is searched.
 ghost use Rattle.std.specs.Prelude.{◌<◌};
 
-use crate::sought::Sought;
-use spawn_host::Call;
-use validate_module::ValidModule;
+use report_choice::Sought;
+use spawn_host::Request;
 
-/// A module, the call of a function of it, and what is looked for among the runs by that call.
+/// The call of a module's function, and what is looked for among the runs by that call.
 #[derive(Clone, Copy)]
-pub(crate) struct RunMaker<'a> {
-    pub(crate) module: &'a ValidModule,
-    pub(crate) call: Call<'a>,
-    pub(crate) sought: Sought<'a>,
+pub(crate) struct RunMaker<'m, 'a> {
+    pub(crate) request: &'a Request<'m, 'a>,
+    pub(crate) sought: &'a Sought<'a>,
     /// Among how many entries the points lie at which priorities change.
     pub(crate) entries: u32,
     ghost some: { 0 < entries },

@@ -7,9 +7,8 @@ use crate::have_one_ending;
 use crate::size::{schedule_of, size_of};
 use search_scheduled::{MadeRun, SearchFault, run_along};
 use search_strategies::Along;
-use spawn_host::Call;
+use spawn_host::Request;
 use std::alloc::{AllocError, Global};
-use validate_module::ValidModule;
 
 /// How many runs are made at most.
 const TRIES: u32 = 10_000;
@@ -55,18 +54,17 @@ fn without(alloc: Global, schedule: &[u32], cut: Cut) -> Result<Vec<u32>, AllocE
 /// other.
 fn tried(
     alloc: Global,
-    module: &ValidModule,
-    call: Call,
+    request: &Request,
     limit: u32,
     dump: u32,
     best: &MadeRun,
     cut: Cut,
 ) -> Result<Option<MadeRun>, SearchFault>
-    ensures { IfOk result (λ o. IfSome o (IsFindAlike «module».now.parts call.entry limit dump best.now)) }
+    ensures { IfOk result (λ o. IfSome o (IsFindAlike request.now limit dump best.now)) }
 {
     let schedule = schedule_of(alloc, &best.record)?;
     let rest = without(alloc, &schedule, cut)?;
-    let made = run_along(alloc, module, call, limit, &mut Along::new(&rest))?;
+    let made = run_along(alloc, request, limit, &mut Along::new(&rest))?;
     if size_of(&made.record) < size_of(&best.record)
         && have_one_ending(alloc, &best.end, &made.end, dump)?
     {
@@ -79,18 +77,17 @@ fn tried(
 #[tactic(auto, using(crate::proofs::Alike::alike_itself))]
 fn better(
     alloc: Global,
-    module: &ValidModule,
-    call: Call,
+    request: &Request,
     limit: u32,
     dump: u32,
     best: MadeRun,
     cut: Cut,
 ) -> Result<(MadeRun, bool), SearchFault>
-    requires { IsFind «module».now.parts call limit best }
-    ensures run { IfOk result (λ r. IsFind «module».now.parts call.entry limit r.0) }
+    requires { IsFind request.now limit best }
+    ensures run { IfOk result (λ r. IsFind request.now limit r.0) }
     ensures ending { IfOk result (λ r. HaveOneEnding dump best.end r.0.end) }
 {
-    match tried(alloc, module, call, limit, dump, &best, cut)? {
+    match tried(alloc, request, limit, dump, &best, cut)? {
         Some(smaller) => Ok((smaller, true)),
         None => Ok((best, false)),
     }
@@ -104,14 +101,13 @@ fn better(
 #[tactic(auto, using(crate::proofs::Alike::alike_itself, crate::proofs::Alike::alike_on))]
 pub fn shrunk(
     alloc: Global,
-    module: &ValidModule,
-    call: Call,
+    request: &Request,
     limit: u32,
     dump: u32,
     made: MadeRun,
 ) -> Result<MadeRun, SearchFault>
-    requires { IsFind «module».now.parts call limit made }
-    ensures run { IfOk result (IsFind «module».now.parts call.entry limit) }
+    requires { IsFind request.now limit made }
+    ensures run { IfOk result (IsFind request.now limit) }
     ensures ending { IfOk result (λ small. HaveOneEnding dump made.end small.end) }
 {
     let mut best = made;
@@ -122,7 +118,7 @@ pub fn shrunk(
     };
     let mut is_better = false;
     for _ in 0..TRIES {
-        let (next, is_smaller) = better(alloc, module, call, limit, dump, best, cut)?;
+        let (next, is_smaller) = better(alloc, request, limit, dump, best, cut)?;
         best = next;
         if is_smaller {
             is_better = true;

@@ -5,7 +5,8 @@ use crate::runs::{FUEL, LIMIT, Trouble, WAYS, ending_drawn, load, run};
 use interp_trait::OpenGate;
 use report_choice::Way;
 use report_runs::record_run;
-use search_finds::{Ending, Table, ending_of, has_line_with, lacks_in_thread_0};
+use search_endings::Ending;
+use search_finds::{Table, ending_of, has_line_with, lacks_in_thread_0};
 use search_strategies::Along;
 use spawn_host::Call;
 use std::alloc::Global;
@@ -39,7 +40,7 @@ fn endings_of(
 fn times_of(table: &Table, outcomes: &[Outcome], byte: u8) -> u64 {
     let mut times = 0u64;
     for met in table.met.iter() {
-        if met.ending.outcomes.as_slice() == outcomes && met.ending.bytes.first() == Some(&byte) {
+        if met.ending.outcomes() == outcomes && met.ending.bytes().first() == Some(&byte) {
             times = times.saturating_add(met.times);
         }
     }
@@ -97,7 +98,7 @@ fn is_met<R: Threads + Wait + Sync>(
         return Ok(false);
     };
     let ending = ending_of(alloc, &end, 4)?;
-    Ok(table.met.iter().any(|met| met.ending.is_same(&ending)))
+    Ok(table.met.iter().any(|met| met.ending == ending))
 }
 
 fn check_real<R: Abort + Threads + Wait + Sync>(rt: &R, alloc: Global) -> Result<(), Trouble> {

@@ -6,12 +6,12 @@ ghost use Rattle.search_finds.specs.Finds.{IsFind};
 use crate::modules::LOST_UPDATE;
 use crate::runs::{FUEL, LIMIT, Trouble, load};
 use replay::replay;
-use report_choice::Way;
+use report_choice::{Sought, Way};
 use search_finds::{
-    Halt, Met, SearchResult, Size, Sought, Table, first_found, have_one_ending, shrunk, size_of,
+    Halt, Met, SearchResult, Size, Table, first_found, have_one_ending, shrunk, size_of,
 };
 use search_scheduled::MadeRun;
-use spawn_host::{Call, EndState};
+use spawn_host::{Call, EndState, Request};
 use std::alloc::Global;
 use std::process::Abort;
 use std::test::Fail;
@@ -113,14 +113,14 @@ fn sought_by(wish: &Wish) -> Sought<'static> {
 fn searched_by<R: Threads + Sync>(
     rt: &R,
     alloc: Global,
-    valid: &ValidModule,
+    request: &Request,
     sought: &Sought,
     jobs: usize,
 ) -> Result<SearchResult, Trouble> {
     if sought.from > 1000 || sought.runs > 1000 {
         return Err(Trouble::Refused);
     }
-    Ok(first_found(rt, alloc, valid, CALL, sought, jobs, &mut ())?)
+    Ok(first_found(rt, alloc, request, sought, jobs, &mut ())?)
 }
 
 fn searched<R: Threads + Sync>(
@@ -130,11 +130,12 @@ fn searched<R: Threads + Sync>(
     jobs: usize,
 ) -> Result<SearchResult, Trouble> {
     let valid = load(alloc, wish.module)?;
-    searched_by(rt, alloc, &valid, &sought_by(wish), jobs)
+    let request = Request::new(&valid, CALL)?;
+    searched_by(rt, alloc, &request, &sought_by(wish), jobs)
 }
 
 fn are_one_row(one: &Met, other: &Met) -> bool {
-    one.times == other.times && one.first == other.first && one.ending.is_same(&other.ending)
+    one.times == other.times && one.first == other.first && one.ending == other.ending
 }
 
 fn are_one_table(one: &Table, other: &Table) -> bool {
@@ -220,23 +221,22 @@ fn is_small(
     let Some(after) = replayed(alloc, valid, made)? else {
         return Ok(false);
     };
-    Ok(have_one_ending(before, &after, 4) && size_of(&made.record) <= size)
+    Ok(have_one_ending(alloc, before, &after, 4)? && size_of(&made.record) <= size)
 }
 
 /// The run that is found by two jobs, if one is.
 fn found_by<R: Threads + Sync>(
     rt: &R,
     alloc: Global,
-    valid: &ValidModule,
-    call: Call,
+    request: &Request,
     sought: &Sought,
 ) -> Result<Option<MadeRun>, Trouble>
-    ensures { IfOk result (λ o. IfSome o (IsFind valid.now.parts call.entry sought.now.limit)) }
+    ensures { IfOk result (λ o. IfSome o (IsFind request.now sought.now.limit)) }
 {
     if sought.from > 1000 || sought.runs > 1000 {
         return Err(Trouble::Refused);
     }
-    let SearchResult { halt, .. } = first_found(rt, alloc, valid, call, sought, 2, &mut ())?;
+    let SearchResult { halt, .. } = first_found(rt, alloc, request, sought, 2, &mut ())?;
     let Halt::Found(found) = halt else {
         return Ok(None);
     };
@@ -247,27 +247,28 @@ fn found_by<R: Threads + Sync>(
 /// second is no larger.
 fn shrinks_well(
     alloc: Global,
-    valid: &ValidModule,
-    call: Call,
+    request: &Request,
     limit: u32,
     made: MadeRun,
 ) -> Result<bool, Trouble>
-    requires { IsFind valid.now.parts call limit made }
+    requires { IsFind request.now limit made }
 {
+    let valid = request.module();
     let Some(before) = replayed(alloc, valid, &made)? else {
         return Ok(false);
     };
     let size = size_of(&made.record);
-    let small = shrunk(alloc, valid, call, limit, 4, made)?;
+    let small = shrunk(alloc, request, limit, 4, made)?;
     is_small(alloc, valid, &small, &before, size)
 }
 
 /// Whether what is found is shrunk well.
 fn shrinks<R: Threads + Sync>(rt: &R, alloc: Global, wish: &Wish) -> Result<bool, Trouble> {
     let valid = load(alloc, wish.module)?;
+    let request = Request::new(&valid, CALL)?;
     let sought = sought_by(wish);
-    match found_by(rt, alloc, &valid, CALL, &sought)? {
-        Some(made) => shrinks_well(alloc, &valid, CALL, sought.limit, made),
+    match found_by(rt, alloc, &request, &sought)? {
+        Some(made) => shrinks_well(alloc, &request, sought.limit, made),
         None => Ok(!wish.is_found),
     }
 }

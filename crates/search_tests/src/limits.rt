@@ -1,11 +1,11 @@
 //! Runs that come to a limit, and calls that can't begin.
 
 use crate::modules::LOOKING;
-use crate::runs::{FUEL, LIMIT, Trouble, load};
+use crate::runs::{FUEL, LIMIT, Trouble, load, run_call};
 use replay::replay;
-use search_scheduled::{SearchFault, run_along};
+use search_scheduled::SearchFault;
 use search_strategies::Along;
-use spawn_host::Call;
+use spawn_host::{Call, CallFault};
 use std::alloc::Global;
 use std::process::Abort;
 use std::test::Fail;
@@ -32,7 +32,7 @@ fn first_end(
         args: &[],
         fuel,
     };
-    let made = run_along(alloc, valid, call, limit, &mut Along::new(&[]))?;
+    let made = run_call(alloc, valid, call, limit, &mut Along::new(&[]))?;
     let end = replay(alloc, valid, &made.record)?;
     if end != made.end {
         return Err(Trouble::AnotherEnd);
@@ -57,19 +57,19 @@ fn runs_come_to_their_limits(rt: HostRuntime) -> Result<(), Fail> {
 
 /// Calls that can't begin, or numbers out of range: the name, the arguments, the units, the limit, and the fault.
 #[rattlefmt::skip]
-static FAULTY: [(&str, &[Value], u64, u32, SearchFault); 5] = [
-    ("g", &[], FUEL, LIMIT, SearchFault::UnknownExport),
-    ("f", &[Value::I32(0)], FUEL, LIMIT, SearchFault::WrongArguments),
-    ("f", &[], FUEL, 0, SearchFault::NoEnd),
-    ("f", &[], FUEL, MOST_LIMIT + 1, SearchFault::NoEnd),
-    ("f", &[], u64::MAX, LIMIT, SearchFault::NoEnd),
+static FAULTY: [(&str, &[Value], u64, u32, Trouble); 5] = [
+    ("g", &[], FUEL, LIMIT, Trouble::Call(CallFault::UnknownExport)),
+    ("f", &[Value::I32(0)], FUEL, LIMIT, Trouble::Call(CallFault::WrongArguments)),
+    ("f", &[], FUEL, 0, Trouble::Search(SearchFault::NoEnd)),
+    ("f", &[], FUEL, MOST_LIMIT + 1, Trouble::Search(SearchFault::NoEnd)),
+    ("f", &[], u64::MAX, LIMIT, Trouble::Search(SearchFault::NoEnd)),
 ];
 
 fn check_faults<R: Abort>(rt: &R, alloc: Global) -> Result<(), Trouble> {
     let valid = load(alloc, LOOKING)?;
     for (name, args, fuel, limit, fault) in FAULTY {
         let call = Call { name, args, fuel };
-        let said = match run_along(alloc, &valid, call, limit, &mut Along::new(&[])) {
+        let said = match run_call(alloc, &valid, call, limit, &mut Along::new(&[])) {
             Ok(_) => None,
             Err(said) => Some(said),
         };

@@ -3,10 +3,11 @@
 use binary::read;
 use replay::{ReplayFault, replay};
 use report_choice::{MOST_DEPTH, Way};
-use search_finds::{Ending, ending_of};
+use search_endings::Ending;
+use search_finds::ending_of;
 use search_scheduled::{MadeRun, SearchFault, run_along};
 use search_strategies::{Pct, Random, Strategy};
-use spawn_host::Call;
+use spawn_host::{Call, CallFault, Request};
 use std::alloc::{AllocError, Global};
 use types::Value;
 use validate::{ValidModule, validate};
@@ -28,6 +29,7 @@ pub(crate) const WAYS: [Way; 2] = [Way::Random, Way::Priorities(2)];
 pub(crate) enum Trouble {
     /// The module wasn't read, or isn't valid.
     Refused,
+    Call(CallFault),
     Search(SearchFault),
     Replay(ReplayFault),
     /// The replay came to another end than the run.
@@ -38,6 +40,12 @@ pub(crate) enum Trouble {
 impl From<AllocError> for Trouble {
     fn from(_: AllocError) -> Trouble {
         Trouble::NoMemory
+    }
+}
+
+impl From<CallFault> for Trouble {
+    fn from(fault: CallFault) -> Trouble {
+        Trouble::Call(fault)
     }
 }
 
@@ -64,6 +72,18 @@ pub(crate) fn load(alloc: Global, bytes: &[u8]) -> Result<ValidModule, Trouble> 
     }
 }
 
+/// Makes a call along a strategy, with a log of so many entries.
+pub(crate) fn run_call<S: Strategy>(
+    alloc: Global,
+    valid: &ValidModule,
+    call: Call,
+    limit: u32,
+    strategy: &mut S,
+) -> Result<MadeRun, Trouble> {
+    let request = Request::new(valid, call)?;
+    Ok(run_along(alloc, &request, limit, strategy)?)
+}
+
 /// Runs the function `f` along a strategy. The record is replayed, and has to come to the same end.
 pub(crate) fn run<S: Strategy>(
     alloc: Global,
@@ -76,7 +96,7 @@ pub(crate) fn run<S: Strategy>(
         args,
         fuel: FUEL,
     };
-    let made = run_along(alloc, valid, call, LIMIT, strategy)?;
+    let made = run_call(alloc, valid, call, LIMIT, strategy)?;
     let end = replay(alloc, valid, &made.record)?;
     if end == made.end {
         Ok(made)

@@ -2,10 +2,10 @@
 
 use crate::modules::LOST_UPDATE;
 use crate::runs::{FUEL, LIMIT, Trouble, load};
-use report_choice::Way;
-use search_finds::{Halt, SearchResult, Sought, first_found};
+use report_choice::{Sought, Way};
+use search_finds::{Halt, SearchResult, first_found};
 use search_reach::{Follows, Wish};
-use spawn_host::Call;
+use spawn_host::{Call, Request};
 use std::alloc::Global;
 use std::test::Fail;
 use std::thread::Threads;
@@ -46,6 +46,7 @@ fn told<R: Threads + Sync>(
         args: &[],
         fuel: FUEL,
     };
+    let request = Request::new(&valid, call)?;
     let sought = Sought {
         way: Way::Random,
         seed: 1,
@@ -60,7 +61,7 @@ fn told<R: Threads + Sync>(
         most: 3,
         wish: Wish::GoOn,
     };
-    Ok(first_found(rt, alloc, &valid, call, &sought, 2, &mut few)?)
+    Ok(first_found(rt, alloc, &request, &sought, 2, &mut few)?)
 }
 
 #[test]

@@ -4,7 +4,7 @@ ghost use Rattle.std.specs.Prelude.{OnSome};
 ghost use Rattle.waiters_tests.specs.Standing.{StandsFree, StandsNew, StandsWaiting};
 
 use crate::calls::{begins, collects, notifies, sleeps, spawns};
-use crate::script::spawn_two;
+use crate::script::{ThreadSeats, spawn_two};
 use shared_memory::SharedMemory;
 use std::sync::Wait;
 use std::thread;
@@ -316,21 +316,24 @@ pub fn begin_beside<M, W, R>(
     rt: &R,
     desk: &Desk<M, W>,
     memory: &M,
-    zero: &mut M::Seat,
-    one: &mut M::Seat,
-    two: &mut M::Seat,
-    three: &mut M::Seat,
+    seats: &mut ThreadSeats<M::Seat>,
     spawns_three: bool,
 ) -> [Option<u32>; 3]
 where
     M: SharedMemory + Sync,
     W: Wait + Drop + Sync,
     R: Threads + Clock + Sync,
-    requires zero { StandsFree (M.name zero.old) (M.seen zero.old) }
-    requires one { StandsNew (M.name one.old) (M.seen one.old) }
-    requires two { StandsNew (M.name two.old) (M.seen two.old) }
-    requires three { StandsNew (M.name three.old) (M.seen three.old) }
+    requires zero { StandsFree (M.name seats.old.zero) (M.seen seats.old.zero) }
+    requires one { StandsNew (M.name seats.old.one) (M.seen seats.old.one) }
+    requires two { StandsNew (M.name seats.old.two) (M.seen seats.old.two) }
+    requires three { StandsNew (M.name seats.old.three) (M.seen seats.old.three) }
 {
+    let ThreadSeats {
+        zero,
+        one,
+        two,
+        three,
+    } = seats;
     let ((first, second), third) = thread::join(
         rt,
         move || -> (Option<u32>, Option<u32>)

@@ -9,6 +9,15 @@ use std::sync::Wait;
 use types::{Answer, MOST_THREADS, PAGE_SIZE};
 use waiters_desk::{Asked, Desk, Full, Notified};
 
+/// The seats of threads 0 to 3.
+#[derive(Drop)]
+pub struct ThreadSeats<S> {
+    pub zero: S,
+    pub one: S,
+    pub two: S,
+    pub three: S,
+}
+
 /// Thread 0 spawns two threads, which begin: both ids, and both arguments.
 pub fn spawn_two<M: SharedMemory, W: Wait + Drop>(
     desk: &Desk<M, W>,

@@ -4,7 +4,7 @@ ghost use Rattle.waiters_tests.specs.Standing.{StandsFree, StandsNew};
 
 use crate::blocked::{Told, begin_beside, sleep_beside, wake_in_turn};
 use crate::dealt::{Dealt, deal};
-use crate::script::{Script, play, play_short, spawn_all, wait_alone};
+use crate::script::{Script, ThreadSeats, play, play_short, spawn_all, wait_alone};
 use crate::together::{Together, notify_beside};
 use locked_recorder::{Finished, LockedRecorder, Naming, Prepared};
 use shared_memory::SharedMemory;
@@ -54,20 +54,23 @@ fn make<M, W, R>(
     trial: Trial,
     desk: &Desk<M, W>,
     memory: &M,
-    zero: &mut M::Seat,
-    one: &mut M::Seat,
-    two: &mut M::Seat,
-    three: &mut M::Seat,
+    seats: &mut ThreadSeats<M::Seat>,
 ) -> Heard
 where
     M: SharedMemory + Sync,
     W: Wait + Drop + Sync,
     R: Threads + Clock + Sync,
-    requires zero { StandsFree (M.name zero.old) (M.seen zero.old) }
-    requires one { StandsNew (M.name one.old) (M.seen one.old) }
-    requires two { StandsNew (M.name two.old) (M.seen two.old) }
-    requires three { StandsNew (M.name three.old) (M.seen three.old) }
+    requires zero { StandsFree (M.name seats.old.zero) (M.seen seats.old.zero) }
+    requires one { StandsNew (M.name seats.old.one) (M.seen seats.old.one) }
+    requires two { StandsNew (M.name seats.old.two) (M.seen seats.old.two) }
+    requires three { StandsNew (M.name seats.old.three) (M.seen seats.old.three) }
 {
+    let ThreadSeats {
+        zero,
+        one,
+        two,
+        three,
+    } = seats;
     match trial {
         Trial::Script => Heard::Script(play(desk, memory, zero, one, two, three)),
         Trial::ShortLog => Heard::ShortLog(play_short(desk, memory, zero, one, two)),
@@ -76,10 +79,8 @@ where
         Trial::Together => Heard::Together(notify_beside(rt, desk, memory, zero, one)),
         Trial::InTurn => Heard::InTurn(wake_in_turn(rt, desk, memory, zero, one, two, three)),
         Trial::Asleep => Heard::Asleep(sleep_beside(rt, desk, memory, zero, one)),
-        Trial::Spawned => {
-            Heard::Begun(begin_beside(rt, desk, memory, zero, one, two, three, true))
-        }
-        Trial::Over => Heard::Begun(begin_beside(rt, desk, memory, zero, one, two, three, false)),
+        Trial::Spawned => Heard::Begun(begin_beside(rt, desk, memory, seats, true)),
+        Trial::Over => Heard::Begun(begin_beside(rt, desk, memory, seats, false)),
     }
 }
 
@@ -100,15 +101,25 @@ fn make_at_recorder<B: Naming + Send + Sync, R: Threads + Wait + Clock + Sync>(
     };
     let Dealt {
         desk,
-        mut zero,
-        mut one,
-        mut two,
-        mut three,
+        zero,
+        one,
+        two,
+        three,
     } = dealt;
     let desk = Desk::open(rt, &memory, desk);
-    let heard = make(
-        rt, trial, &desk, &memory, &mut zero, &mut one, &mut two, &mut three,
-    );
+    let mut seats = ThreadSeats {
+        zero,
+        one,
+        two,
+        three,
+    };
+    let heard = make(rt, trial, &desk, &memory, &mut seats);
+    let ThreadSeats {
+        zero,
+        one,
+        two,
+        three,
+    } = seats;
     let seats = Vec::from_array(alloc, [desk.close(), zero, one, two, three])?;
     Ok((heard, memory.finish(seats)))
 }

@@ -1,8 +1,8 @@
 //! The endings of small modules beside another enumeration, and over how many states.
 
-use crate::all_runs::rows::{Gone, MODULES, MOST, as_of_run, gone_through};
+use crate::all_runs::rows::{Gone, MODULES, MOST, gone_through};
 use crate::runs::load;
-use search_finds::Ending;
+use search_endings::Ending;
 use search_reach::Verdict;
 use std::alloc::{AllocError, Global};
 use std::process::Abort;
@@ -12,17 +12,17 @@ use validate::ValidModule;
 /// An ending as the other enumeration writes it.
 fn text_of(alloc: Global, ending: &Ending) -> Result<String, AllocError> {
     let mut text = String::new(alloc);
-    for outcome in ending.outcomes.iter() {
+    for outcome in ending.outcomes() {
         if !text.is_empty() {
             text.push_str(", ")?;
         }
         let word = format!(in alloc; "{outcome}")?;
         text.push_str(word.as_str())?;
     }
-    let pages = ending.pages;
+    let pages = ending.pages();
     let more = format!(in alloc; "; pages {pages}; ")?;
     text.push_str(more.as_str())?;
-    for byte in ending.bytes.iter() {
+    for byte in ending.bytes() {
         let digits = format!(in alloc; "{byte:02x}")?;
         text.push_str(digits.as_str())?;
     }
@@ -39,9 +39,8 @@ fn check_endings<R: Abort>(
     assert_eq!(rt; all.verdict, Verdict::All);
     assert_eq!(rt; all.states, gone.states);
     assert_eq!(rt; all.endings.len(), gone.endings.len());
-    for ended in all.endings.as_slice() {
-        let ending = as_of_run(alloc, ended)?;
-        let text = text_of(alloc, &ending)?;
+    for ending in all.endings.as_slice() {
+        let text = text_of(alloc, ending)?;
         assert!(rt; gone.endings.iter().any(|other| *other == text.as_str()));
     }
     Ok(())

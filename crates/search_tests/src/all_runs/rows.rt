@@ -5,12 +5,11 @@ ghost use Rattle.types.specs.declared.limits.TheConstants.{MOST_FUEL};
 
 use crate::all_runs::examples::{BROKEN, MUTEX, PETERSON, SEQLOCK, TICKETS, WAKEUP};
 use crate::runs::FUEL;
-use search_finds::Ending;
+use search_endings::Ending;
 use search_modules::all_endings;
-use search_parts::Ending as Ended;
-use search_reach::Ended as AllEnded;
-use spawn_host::Call;
-use std::alloc::{AllocError, Global};
+use search_reach::Ended;
+use spawn_host::{Call, Request};
+use std::alloc::Global;
 use std::test::Fail;
 use types::Value;
 use validate::ValidModule;
@@ -120,15 +119,7 @@ pub(crate) fn gone_through(
     valid: &ValidModule,
     gone: &Gone,
     most: usize,
-) -> Result<AllEnded<Ended>, Fail> {
-    Ok(all_endings(alloc, valid, call_of(gone), most, DUMP as usize, &mut ())?)
-}
-
-/// The ending, as that of a run is.
-pub(crate) fn as_of_run(alloc: Global, ended: &Ended) -> Result<Ending, AllocError> {
-    Ok(Ending {
-        outcomes: Vec::from_slice(alloc, ended.outcomes())?,
-        pages: ended.pages(),
-        bytes: Vec::from_slice(alloc, ended.bytes())?,
-    })
+) -> Result<Ended<Ending>, Fail> {
+    let request = Request::new(valid, call_of(gone))?;
+    Ok(all_endings(alloc, &request, most, DUMP as usize, &mut ())?)
 }

@@ -1,15 +1,16 @@
 //! Runs of small modules beside the list of all endings.
 
-use crate::all_runs::rows::{DUMP, Gone, MODULES, MOST, as_of_run, call_of, gone_through};
+use crate::all_runs::rows::{DUMP, Gone, MODULES, MOST, call_of, gone_through};
 use crate::runs::{LIMIT, load};
 use interp_trait::OpenGate;
 use report_runs::{record_run, run_on_words};
-use search_finds::{Ending, ending_of, run_to};
-use search_parts::Ending as Ended;
-use search_reach::Ended as AllEnded;
+use search_endings::Ending;
+use search_finds::{ending_of, run_to};
+use search_reach::Ended;
 use search_scheduled::run_along;
 use search_strategies::Random;
-use std::alloc::{AllocError, Global};
+use spawn_host::Request;
+use std::alloc::Global;
 use std::process::Abort;
 use std::sync::Wait;
 use std::test::Fail;
@@ -17,25 +18,18 @@ use std::thread::Threads;
 use validate::ValidModule;
 
 /// Whether an ending is in the list.
-fn is_listed(alloc: Global, all: &AllEnded<Ended>, ending: &Ending) -> Result<bool, AllocError> {
-    for ended in all.endings.as_slice() {
-        let listed = as_of_run(alloc, ended)?;
-        if listed.is_same(ending) {
-            return Ok(true);
-        }
-    }
-    Ok(false)
+fn is_listed(all: &Ended<Ending>, ending: &Ending) -> bool {
+    all.endings.as_slice().iter().any(|listed| listed == ending)
 }
 
 /// Whether the run along these choices ends so.
 fn leads_to(
     alloc: Global,
-    valid: &ValidModule,
-    gone: &Gone,
+    request: &Request,
     path: &[usize],
     ending: &Ending,
 ) -> Result<bool, Fail> {
-    let made = run_to(alloc, valid, call_of(gone), LIMIT, DUMP, path, ending)?;
+    let made = run_to(alloc, request, LIMIT, DUMP, path, ending)?;
     Ok(made.is_some())
 }
 
@@ -47,10 +41,10 @@ fn check_paths<R: Abort>(
 ) -> Result<(), Fail> {
     let all = gone_through(alloc, valid, gone, MOST)?;
     assert_eq!(rt; all.paths.len(), all.endings.len());
-    for (place, ended) in all.endings.as_slice().iter().enumerate() {
-        let ending = as_of_run(alloc, ended)?;
+    let request = Request::new(valid, call_of(gone))?;
+    for (place, ending) in all.endings.as_slice().iter().enumerate() {
         for (other, path) in all.paths.iter().enumerate() {
-            let leads = leads_to(alloc, valid, gone, path.as_slice(), &ending)?;
+            let leads = leads_to(alloc, &request, path.as_slice(), ending)?;
             assert_eq!(rt; leads, place == other);
         }
     }
@@ -70,7 +64,8 @@ fn each_ending_has_a_path(rt: HostRuntime) -> Result<(), Fail> {
 /// How the drawn run of a number ends.
 fn drawn(alloc: Global, valid: &ValidModule, gone: &Gone, number: u64) -> Result<Ending, Fail> {
     let mut strategy = Random::new(1, number);
-    let made = run_along(alloc, valid, call_of(gone), LIMIT, &mut strategy)?;
+    let request = Request::new(valid, call_of(gone))?;
+    let made = run_along(alloc, &request, LIMIT, &mut strategy)?;
     Ok(ending_of(alloc, &made.end, DUMP)?)
 }
 
@@ -83,7 +78,7 @@ fn check_drawn<R: Abort>(
     let all = gone_through(alloc, valid, gone, MOST)?;
     for number in 0..200 {
         let ending = drawn(alloc, valid, gone, number)?;
-        assert!(rt; is_listed(alloc, &all, &ending)?);
+        assert!(rt; is_listed(&all, &ending));
     }
     Ok(())
 }
@@ -129,9 +124,9 @@ fn check_real<R: Abort + Threads + Wait + Sync>(
     let all = gone_through(alloc, valid, gone, MOST)?;
     for _ in 0..100 {
         let ending = locked(rt, alloc, valid, gone)?;
-        assert!(rt; is_listed(alloc, &all, &ending)?);
+        assert!(rt; is_listed(&all, &ending));
         let ending = on_words(rt, alloc, valid, gone)?;
-        assert!(rt; is_listed(alloc, &all, &ending)?);
+        assert!(rt; is_listed(&all, &ending));
     }
     Ok(())
 }

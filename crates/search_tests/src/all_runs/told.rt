@@ -4,6 +4,7 @@ use crate::all_runs::rows::{DUMP, Gone, MODULES, MOST, call_of};
 use crate::runs::load;
 use search_modules::all_endings;
 use search_reach::{Follows, Verdict, Wish};
+use spawn_host::Request;
 use std::alloc::Global;
 use std::process::Abort;
 use std::test::Fail;
@@ -39,7 +40,8 @@ fn check_told<R: Abort>(rt: &R, alloc: Global, gone: &Gone) -> Result<(), Fail> 
         most: 10,
         wish: Wish::GoOn,
     };
-    let all = all_endings(alloc, &valid, call_of(gone), MOST, DUMP as usize, &mut few)?;
+    let request = Request::new(&valid, call_of(gone))?;
+    let all = all_endings(alloc, &request, MOST, DUMP as usize, &mut few)?;
     assert_eq!(rt; all.verdict, Verdict::Told);
     assert!(rt; 10 <= all.states && all.states < gone.states);
     Ok(())

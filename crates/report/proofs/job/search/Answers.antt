@@ -1,4 +1,4 @@
-use Rattle.report.specs.Searches.{request_of_search}
+use Rattle.report_jobs.specs.Arguments.{texts_in}
 use Rattle.report.proofs.job.search.Goals as goal
 
 pub returns-in-Err-clause-refused : goal.returns-in-Err-clause-refused
@@ -6,10 +6,10 @@ returns-in-Err-clause-refused g c = λ two. c.refuse.ensures.refused c.args.modu
 
 pub returns-clause-cannot : goal.returns-clause-cannot
 returns-clause-cannot g c =
-    let asked = request_of_search c.args.asked.now in
+    let call = c.args.asked.now.call in
     λ three. record {
       parts = c.in-Ok.valid.parts;
       text = c.in-Ok.ensures.ok.0;
       valid = c.in-Ok.ensures.ok.1.valid;
-      cannot = c.complain.ensures.refused c.in-Ok.valid.parts asked.name asked.texts c.in-Err-search_module.ensures.trouble three;
+      cannot = c.complain.ensures.refused c.in-Ok.valid.parts call.invoke.now (texts_in call.args.items) c.in-Err-search_module.ensures.trouble three;
     }

@@ -1,24 +1,23 @@
 use Rattle.std.proofs.Common.{ℕ, List, ◌∙◌, subst}
 use Rattle.search_scheduled.specs.Headers.{IsOfCall}
-use Rattle.report.specs.Searches.{sought_of}
 use Rattle.report.proofs.Searched.{ends_alike}
 use Rattle.report.proofs.searching.tell_made.Goals as goal
 
 pub returns-clause-kept : goal.returns-clause-kept
 returns-clause-kept g c =
-    let m = c.args.module.now.parts in
+    let r = c.args.request.now in
     let s = c.args.search.now in
-    let call = c.args.call in
+    let asked = c.requires.asked in
     let kept = c.in_ok-kept.kept in
     let run = c.in_ok-kept.ensures.run in
     record {
-      args = call.args.now;
-      spelled = c.requires.spelled;
+      args = r.args;
+      spelled = asked.spelled;
       record_is = kept.«record»;
       end = kept.end;
       run = run.run;
-      of_call = subst (λ (name : List ℕ). IsOfCall m name call.args.now s.fuel s.limit kept.«record») c.requires.call.0
-          (subst (λ (fuel : ℕ). IsOfCall m call.name.now call.args.now fuel s.limit kept.«record») c.requires.call.1 run.of_call);
-      ends = ends_alike (sought_of s) s.dump _ _ c.in_ok-kept.ensures.ending c.requires.ends;
+      of_call = subst (λ (name : List ℕ). IsOfCall r.parts name r.args s.call.fuel s.sought.limit kept.«record») asked.name_is
+          (subst (λ (fuel : ℕ). IsOfCall r.parts r.name r.args fuel s.sought.limit kept.«record») asked.fuel_is run.of_call);
+      ends = ends_alike s.sought s.sought.dump _ _ c.in_ok-kept.ensures.ending c.requires.ends;
       kept = λ wanted. c.in_ok-keep.ensures.kept (c.is_some.ensures ∙ wanted);
     }

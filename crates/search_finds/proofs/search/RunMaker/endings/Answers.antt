@@ -7,7 +7,7 @@ use Rattle.search_finds.proofs.search.RunMaker.endings.Goals as goal
 pub loop-n-preserved : goal.loop-n-preserved
 loop-n-preserved c =
     let s = c.args.self.now in (
-      subst (λ (l : List Ending). All (IsMetEnding s.module.now.parts s.call s.sought.limit s.sought.dump) l) (sym {A = List Ending} c.in_ok-push.ensures.items)
-          (All-push (IsMetEnding s.module.now.parts s.call s.sought.limit s.sought.dump) _ _ c.loop-n.invariant.0 c.in_ok-ending.ensures.met),
+      subst (λ (l : List Ending). All (IsMetEnding s.request.now s.sought.now.limit s.sought.now.dump) l) (sym {A = List Ending} c.in_ok-push.ensures.items)
+          (All-push (IsMetEnding s.request.now s.sought.now.limit s.sought.now.dump) _ _ c.loop-n.invariant.0 c.in_ok-ending.ensures.met),
       c.in_ok-ending.ensures.spares,
     )

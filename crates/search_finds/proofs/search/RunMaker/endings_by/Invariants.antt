@@ -3,6 +3,5 @@ use Rattle.search_finds.specs.Finds.{IsMetEnding}
 use Rattle.search_finds.proofs.search.RunMaker.endings_by.Given as goal
 
 abbrev pub invariant-loop : goal.invariant-loop
-invariant-loop g l = All (λ piece. IfOk piece (λ endings. All (IsMetEnding l.self.module.now.parts l.self.call l.self.sought.limit
-    l.self.sought.dump) endings.items)) l.pieces.items
-    × All (IsMetEnding l.self.module.now.parts l.self.call l.self.sought.limit l.self.sought.dump) l.endings.items
+invariant-loop g l = All (λ piece. IfOk piece (λ endings. All (IsMetEnding l.self.request.now l.self.sought.now.limit l.self.sought.now.dump) endings.items)) l.pieces.items
+    × All (IsMetEnding l.self.request.now l.self.sought.now.limit l.self.sought.now.dump) l.endings.items

@@ -3,4 +3,4 @@ use Rattle.search_finds.proofs.search.RunMaker.is_sought.Goals as goal
 
 pub returns : goal.returns
 returns c =
-    IfOk-weaker c.is_ending.result _ _ (λ _ h is. (c.in_ok-ending.ending, c.in_ok-ending.ensures, h.0 is)) c.is_ending.ensures
+    IfOk-weaker c.is_looked_for.result _ _ (λ _ h is. (c.in_ok-ending.ending, c.in_ok-ending.ensures, h.0 is)) c.is_looked_for.ensures
