@@ -1,6 +1,5 @@
 use Rattle.std.proofs.Common.{ℕ, sym, subst}
 use Rattle.types.specs.declared.parts.Parts.{Parts}
-use Rattle.interp.specs.Threads.{meaning_in}
 use Rattle.search_scheduled.specs.SpareThreads.{HoldsSpares}
 use Rattle.search_scheduled.proofs.threads.threads_of.Goals as goal
 
