@@ -3,3 +3,4 @@ pub mod Refused
 pub mod Spelled
 pub mod Calls
 pub mod Printed
+pub mod Asking

@@ -3,4 +3,3 @@ pub mod Whole
 pub mod Leaving
 pub mod Recorded
 pub mod Fronts
-pub mod Requested

@@ -16,7 +16,7 @@ use validate_module::ValidModule;
 
 /// The opening memory of a valid module can be opened.
 pub(crate) fn show_memory_opens(module: &ValidModule)
-    ensures { can_open (opening_memory module.now.parts).bytes (opening_memory module.now.parts).max ≡ true }
+    ensures { can_open (opening_memory «module».now.parts).bytes (opening_memory «module».now.parts).max ≡ true }
 {
     let _parts = module.parts();
 }

@@ -1,4 +1,4 @@
-use Rattle.std.proofs.Common.{◌≡◌, ◌++◌, ℕ, List, length, Some, false, refl, sym, ◌∙◌, ap, subst, arith}
+use Rattle.std.proofs.Common.{◌≡◌, ◌++◌, List, length, Some, false, refl, sym, ◌∙◌, ap, arith}
 use Rattle.types.specs.declared.outcome.ThreadReport.{ThreadReport}
 use Rattle.types.specs.declared.parts.Parts.{Parts}
 use Rattle.shared_memory.specs.Memory.{Memory, pages}
