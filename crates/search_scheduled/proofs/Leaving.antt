@@ -6,7 +6,7 @@ use Rattle.types.specs.declared.outcome.Outcome.{Outcome}
 use Rattle.types.specs.declared.outcome.Outcome.TheVariants as outcomes
 use Rattle.types.specs.declared.outcome.Stop.TheVariants as stops
 use Rattle.shared_memory.specs.Memory.{reply_of}
-use Rattle.schedule.specs.System.{Act.MadeRun}
+use Rattle.schedule.specs.System.{Act.Made}
 use Rattle.schedule_threads.specs.Shared.{act_by}
 use Rattle.interp_trait.specs.Turns.{Meaning}
 use Rattle.interp_trait.specs.declared.turn.Turn.{Turn}
@@ -55,7 +55,7 @@ module _ {S : Type 0} (meaning : S → Meaning) (s : Standing) (n : ℕ) (turn :
       can_event meaning s w.threads.items w.stage.queue w.stage.started w.stage.ends n d.thread d.on d.settles limit count e v
       (goes_on s.program d.thread e d.on.here says.0 says.1).plain reply says.1 room
 
-  pub event_act_on : (e : Event) → turn ≡ turns.Wants e → (v : Reply) → act_by e v ≡ MadeRun e v
+  pub event_act_on : (e : Event) → turn ≡ turns.Wants e → (v : Reply) → act_by e v ≡ Made e v
   event_act_on e is v =
       let says = subst (λ (t : Turn). Says s.program d.thread t) is d.says in
       event_act e v (goes_on s.program d.thread e d.on.here says.0 says.1).plain

@@ -10,6 +10,9 @@ use Rattle.search_scheduled.proofs.Rebased.{has_length, has_pages, is_run}
 use Rattle.search_scheduled.proofs.SpareLaws.{unused_are_spares}
 use Rattle.search_scheduled.proofs.running.run_with_spares.Goals as goal
 
+pub go-requires : goal.go-requires
+go-requires g c = let b = c.in_ok-course.ensures.begun c.in_ok-header.header c.in_ok-header.ensures in (b.run, b.came)
+
 pub returns-in-Ok-clause-run : goal.returns-in-Ok-clause-run
 returns-in-Ok-clause-run g c =
     let m = c.args.request.now.parts in
