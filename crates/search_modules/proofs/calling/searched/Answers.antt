@@ -13,8 +13,8 @@ use Rattle.search_modules.proofs.calling.searched.Goals as goal
 pub invariant_of-result : goal.invariant_of-result
 invariant_of-result c =
     let r = c.args.request.now in
-    let m = c.module.result.now.parts in
-    let same : m ≡ r.parts = c.module.ensures in
+    let m = c.module-valid.result.now.parts in
+    let same : m ≡ r.parts = c.module-valid.ensures in
     let parts = c.parts-parts.ensures in
     let takes = c.number.ensures in
     let worker = subst (λ (x : Parts). IsWorkerOf x c.thread_start.result) same c.thread_start.ensures in
@@ -33,8 +33,8 @@ invariant_of-result c =
 pub returns-clause-call : goal.returns-clause-call
 returns-clause-call c =
     let r = c.args.request.now in
-    let m = c.module.result.now.parts in
-    let same : m ≡ r.parts = c.module.ensures in
+    let m = c.module-valid.result.now.parts in
+    let same : m ≡ r.parts = c.module-valid.ensures in
     let takes = c.number.ensures in
     let worker = subst (λ (x : Parts). IsWorkerOf x c.thread_start.result) same c.thread_start.ensures in
     let opening = c.in_ok-opening.ensures ∙ ap opening_image same in
@@ -47,4 +47,4 @@ returns-clause-call c =
     opening max (sym takes.1)))
 
 pub returns-clause-worker : goal.returns-clause-worker
-returns-clause-worker c = subst (λ (x : Parts). IsWorkerOf x c.thread_start.result) c.module.ensures c.thread_start.ensures
+returns-clause-worker c = subst (λ (x : Parts). IsWorkerOf x c.thread_start.result) c.module-valid.ensures c.thread_start.ensures
