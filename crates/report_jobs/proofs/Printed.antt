@@ -44,11 +44,11 @@ module _ (r : Requested) (job : RunJob) (asked : IsAskedBy job.call r) (out save
     takes = takes_by;
     end = end;
     run = subst Over (sym on_words) (record {
-        record_is = x;
-        records = subst (λ (name : List ℕ). RecordsRun r.parts name r.args job.call.fuel job.limit x end) asked.name_is
-            (subst (λ (fuel : ℕ). RecordsRun r.parts r.name r.args fuel job.limit x end) asked.fuel_is records);
-        run = run;
-        kept = kept;
-      });
+      record_is = x;
+      records = subst (λ (name : List ℕ). RecordsRun r.parts name r.args job.call.fuel job.limit x end) asked.name_is
+          (subst (λ (fuel : ℕ). RecordsRun r.parts r.name r.args fuel job.limit x end) asked.fuel_is records);
+      run = run;
+      kept = kept;
+    });
     prints = prints;
   }

@@ -2,7 +2,6 @@ use Rattle.std.proofs.Common.{◌≡◌, List, ℕ, map, Option, Vec, Global, Bo
 use Rattle.std.specs.Option.{MatchOption}
 use Rattle.types.specs.declared.value.Value.{Value}
 use Rattle.types.specs.Values.{type_of}
-use Rattle.spawn_host.specs.Entries.{Takes}
 use Rattle.report_jobs.specs.Arguments.{AreSpelled, CannotCall, texts_in}
 use Rattle.report_jobs.proofs.Calls.{unknown, cannot}
 use Rattle.report_jobs.proofs.running.args_of.Goals as goal

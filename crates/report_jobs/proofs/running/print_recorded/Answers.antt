@@ -6,8 +6,8 @@ use Rattle.report_jobs.proofs.Calls.{of_recording}
 use Rattle.report_jobs.proofs.Printed.{printed_recorded}
 use Rattle.report_jobs.proofs.running.print_recorded.Goals as goal
 
-pub record_request-requires : goal.record_request-requires
-record_request-requires g c κs within = subst (λ (fuel : ℕ). fuel ≤ MOST_FUEL) (sym c.requires.asked.fuel_is) c.requires.fuel
+pub record_request-requires-clause-fuel : goal.record_request-requires-clause-fuel
+record_request-requires-clause-fuel g c κs within = subst (λ (fuel : ℕ). fuel ≤ MOST_FUEL) (sym c.requires.asked.fuel_is) c.requires.fuel
 
 pub returns-in_err-record-clause-trouble : goal.returns-in_err-record-clause-trouble
 returns-in_err-record-clause-trouble g c =

@@ -1,5 +1,6 @@
-use Rattle.std.proofs.Common.{◌≡◌, ◌∙◌, ap, subst, sym, true}
+use Rattle.std.proofs.Common.{◌≡◌, ◌∙◌, List, ap, subst, sym, true}
 use Rattle.types.specs.declared.limits.TheConstants.{MOST_PAGES}
+use Rattle.types.specs.declared.value.Value.{Value}
 use Rattle.types.specs.declared.parts.Parts.{Parts}
 use Rattle.types.specs.Modules.{IsModule}
 use Rattle.validate_typing.specs.Image.{opening_image, pages_max_of}
@@ -25,9 +26,9 @@ invariant_of-result c =
       callable = subst (λ (x : Parts). is_callable x c.in_ok-opening.opening.items c.pages_max.result c.number.result c.call.result.args.now
           c.thread_start.result ≡ true) (sym same)
           (subst (λ a. is_callable r.parts c.in_ok-opening.opening.items c.pages_max.result c.number.result a c.thread_start.result ≡ true) args
-              (callable_so r.parts r.name r.args takes.0 c.thread_start.result worker c.in_ok-opening.opening.items c.pages_max.result c.number.result
-                  opening max (sym takes.1) (subst (λ (x : Parts). IsModule x) same parts.tested)
-                  (subst (λ (x : Parts). IsValid x) same parts.validated.valid)));
+          (callable_so r.parts r.name r.args takes.0 c.thread_start.result worker c.in_ok-opening.opening.items c.pages_max.result c.number.result
+          opening max (sym takes.1) (subst (λ (x : Parts). IsModule x) same parts.tested)
+          (subst (λ (x : Parts). IsValid x) same parts.validated.valid)));
     }
 
 pub returns-clause-call : goal.returns-clause-call
@@ -40,7 +41,7 @@ returns-clause-call c =
     let opening = c.in_ok-opening.ensures ∙ ap opening_image same in
     let max = c.pages_max.ensures ∙ ap (pages_max_of MOST_PAGES) same in
     let args = c.call.ensures.call.args_are in
-    let b = λ (x : Parts) a. called_of x c.in_ok-opening.opening.items c.pages_max.result c.number.result a c.thread_start.result in
+    let b = λ (x : Parts) (a : List Value). called_of x c.in_ok-opening.opening.items c.pages_max.result c.number.result a c.thread_start.result in
     subst (λ (x : Parts). IsCall r.parts r.name r.args (b x c.call.result.args.now)) (sym same)
     (subst (λ a. IsCall r.parts r.name r.args (b r.parts a)) args
     (call_so r.parts r.name r.args takes.0 c.thread_start.result worker c.in_ok-opening.opening.items c.pages_max.result c.number.result
