@@ -17,6 +17,6 @@ pub returns-in-Ok-write_run-clause-not_here : goal.returns-in-Ok-write_run-claus
 returns-in-Ok-write_run-clause-not_here g c =
     here (Ok c.in-Ok-write_run.status) c.args.bytes.now c.in-Some.address c.in-Some.addend c.in-Some.ensures (λ e. cc e)
 
-pub returns-in-Err-clause-not_here : goal.returns-in-Err-clause-not_here
-returns-in-Err-clause-not_here g c =
+pub returns-clause-not_here : goal.returns-clause-not_here
+returns-clause-not_here g c =
     here (Err Writer) c.args.bytes.now c.in-Some.address c.in-Some.addend c.in-Some.ensures (λ e. cc e)
