@@ -156,7 +156,8 @@ fn not_begun(fault: RunFault, address: u8, addend: u8) -> AllocError
 {
     match fault {
         RunFault::Start(StartFault::NoMemory) => AllocError,
-        RunFault::Call(_) | RunFault::Start(StartFault::NoThread) => unreachable!(),
+        RunFault::Start(StartFault::NoThread) => unreachable!(),
+        RunFault::Call(_) => unreachable!(),
     }
 }
 
