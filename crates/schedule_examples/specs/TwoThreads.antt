@@ -51,7 +51,7 @@ abbrev pub start : Start
 start = record {
   program = program;
   main = main;
-  spawned_example = spawned_example;
+  spawned = spawned_example;
   fuel = 10;
   opening =
       record { bytes = []; max = 0 };
