@@ -5,7 +5,9 @@ use Rattle.types.specs.declared.parts.FuncType.{FuncType}
 use Rattle.validate_module_rules.specs.Exported.{IsExported}
 use Rattle.spawn_host.specs.Entries.{IsUnknown, Refuses, StartsThreads}
 use Rattle.spawn_host.specs.Faults.{IsFaultOf}
+use Rattle.spawn_host_workers.specs.declared.report.StartFault.{StartFault}
 use Rattle.spawn_host_workers.specs.declared.report.StartFault.TheVariants.{NoMemory, NoThread}
+use Rattle.spawn_host.specs.declared.request.CallFault.{CallFault}
 use Rattle.spawn_host.specs.declared.request.CallFault.TheVariants.{UnknownExport, WrongArguments}
 use Rattle.spawn_host.specs.declared.running.RunFault.{RunFault}
 use Rattle.spawn_host.specs.declared.running.RunFault.TheVariants.{Call, Start}
@@ -26,8 +28,12 @@ module _ (a v : ℕ) where
   starts_none some = omega (arith, some)
 
   -- what is left is want of memory
-  pub of_memory : (fault : RunFault) → IsFaultOf (first_parts a v) (codes "f") [] fault → fault ≡ Start NoMemory
-  of_memory (Call UnknownExport) h = absurd (not_unknown h)
-  of_memory (Call WrongArguments) h = absurd (not_unfit h)
-  of_memory (Start NoMemory) h = refl
-  of_memory (Start NoThread) h = absurd (starts_none h.1)
+  pub none_called : (fault : RunFault) (f : CallFault) → IsFaultOf (first_parts a v) (codes "f") [] fault → fault ≡ Call f → ⊥
+  none_called (Call UnknownExport) f h is = not_unknown h
+  none_called (Call WrongArguments) f h is = not_unfit h
+  none_called (Start NoMemory) f h is = cc is
+  none_called (Start NoThread) f h is = starts_none h.1
+
+  pub none_started : (fault : StartFault) → IsFaultOf (first_parts a v) (codes "f") [] (Start fault) → fault ≡ NoThread → ⊥
+  none_started NoMemory h is = cc is
+  none_started NoThread h is = starts_none h.1

@@ -3,6 +3,7 @@ ghost use Rattle.std.specs.Prelude.{◌≡◌, ◌<◌, ◌↔◌, [], IfOk, IsE
 ghost use Rattle.std.specs.Option.{MatchOption};
 ghost use Rattle.binary_wire.specs.Reading.{Refuses};
 ghost use Rattle.spawn_host.specs.Faults.{IsFaultOf};
+ghost use Rattle.spawn_host.specs.declared.running.RunFault.TheVariants as faults;
 ghost use Rattle.report_runs.specs.RunFaults.{IsRecordingFault};
 ghost use Rattle.report_first.specs.First.{first_parts, IsFirstModule, IsNoFirstModule};
 ghost use Rattle.report_first.specs.Laws.{IsFirstEnd};
@@ -150,13 +151,22 @@ fn unopened(fault: OpenFault) -> AllocError
     }
 }
 
-/// The module has the function, which takes no arguments, and it starts no thread.
+/// It starts no thread, so that nothing is left but want of memory.
+fn not_started(fault: StartFault, address: u8, addend: u8) -> AllocError
+    requires { IsFaultOf (first_parts address addend) (codes "f") [] (faults.Start fault) }
+{
+    match fault {
+        StartFault::NoMemory => AllocError,
+        StartFault::NoThread => unreachable!(),
+    }
+}
+
+/// The module has the function, which takes no arguments.
 fn not_begun(fault: RunFault, address: u8, addend: u8) -> AllocError
     requires { IsFaultOf (first_parts address addend) (codes "f") [] fault }
 {
     match fault {
-        RunFault::Start(StartFault::NoMemory) => AllocError,
-        RunFault::Start(StartFault::NoThread) => unreachable!(),
+        RunFault::Start(fault) => not_started(fault, address, addend),
         RunFault::Call(_) => unreachable!(),
     }
 }
