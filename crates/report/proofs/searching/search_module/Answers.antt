@@ -25,7 +25,7 @@ search_all_orders-requires g c =
     asked m _ words c.in_ok-request.request c.in_ok-request.ensures.request refl refl takes
 
 pub search_drawn-requires-clause-asked : goal.search_drawn-requires-clause-asked
-search_drawn-requires-clause-asked g c =
+search_drawn-requires-clause-asked g c κs within =
     let m = c.args.module.now.parts in
     let words = c.args.search.now.call in
     let takes = subst (λ (values : List Value). AreArgumentsOf m words values) (sym c.deref.ensures.value) c.in_ok-args.ensures.takes in
