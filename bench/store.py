@@ -110,8 +110,10 @@ def sum_of(folder):
     for at, folders, files in sorted(os.walk(folder)):
         folders.sort()
         for name in sorted(files):
-            with open(f"{at}/{name}", "rb") as it:
-                found.update(repr((os.path.relpath(f"{at}/{name}", folder), hashlib.sha256(it.read()).hexdigest())).encode())
+            path = f"{at}/{name}"
+            with open(path, "rb") as it:
+                whole = hashlib.sha256(it.read()).hexdigest()
+            found.update(repr((os.path.relpath(path, folder), whole)).encode())
     return found.hexdigest()
 
 
@@ -268,7 +270,8 @@ def tasks_for(crates, verb, names):
 
     def add(crate, kind):
         for it in crate.below():
-            add(crates[it.name], "proof") if (it.name, "proof") not in tasks else None
+            if (it.name, "proof") not in tasks:
+                add(crates[it.name], "proof")
         tasks[crate.name, kind] = [(it.name, "proof") for it in crate.below()]
 
     for name in names or crates:

@@ -65,7 +65,8 @@ module _ {T : Type 0} (meaning : T → Meaning) (m : Parts) (r : RecordParts) wh
   spare_at : (others : List T) → AreSpares meaning m r.fuel others → (k : ℕ) (x : T) → slice_get others k ≡ Some x → IsSpare meaning m r.fuel x
   spare_at others s k x h = subst (IsSpare meaning m r.fuel) (get_or_from_slice_get others k x x h) (s k x (slice_get_within others k x h))
 
-  begins_other : HasDistinctNames m.exports → (first : T) (others : List T) → AreSpares meaning m r.fuel others → (worker : List Value → Config) → IsWorker m worker
+  begins_other : HasDistinctNames m.exports → (first : T) (others : List T) → AreSpares meaning m r.fuel others
+      → (worker : List Value → Config) → IsWorker m worker
       → (k : ℕ) (x : T) → k ≢ 0 → slice_get (first ∷ others) k ≡ Some x → (meaning x).begins spawn_types worker
   begins_other distinct first others s worker w zero x other h = absurd (other refl)
   begins_other distinct first others s worker w (suc k) x other h =
@@ -162,7 +163,8 @@ module _ {T : Type 0} (meaning : T → Meaning) (m : Parts) (r : RecordParts) wh
       no_imports zero h = refl
       no_imports (suc n) h = absurd (h (omega arith))
 
-  pub can_begin : HasDistinctNames m.exports → (threads : List T) (memory : Memory) → AreThreadsFor meaning (requested_by m r) threads → memory ≡ opening_within r.max_pages m
+  pub can_begin : HasDistinctNames m.exports → (threads : List T) (memory : Memory)
+      → AreThreadsFor meaning (requested_by m r) threads → memory ≡ opening_within r.max_pages m
       → CanBegin threads memory
   can_begin distinct threads memory a is =
       subst (λ (l : List T). CanBegin l memory) (sym a.list)

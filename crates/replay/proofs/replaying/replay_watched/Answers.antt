@@ -48,7 +48,9 @@ returns-in_err-threads-clause-none g c =
 
 pub walk-requires-clause-ready : goal.walk-requires-clause-ready
 walk-requires-clause-ready g c =
-    let b = can_begin meaning_in c.args.module.now.parts c.parts-parts.result.now c.has_distinct_names.ensures c.in_ok-threads.threads.items c.in_ok-opening.field-0
+    let m = c.args.module.now.parts in
+    let r = c.parts-parts.result.now in
+    let b = can_begin meaning_in m r c.has_distinct_names.ensures c.in_ok-threads.threads.items c.in_ok-opening.field-0
     c.in_ok-threads.ensures.threads c.in_ok-opening.ensures.opened in
     (b.run, b.ready)
 
@@ -59,7 +61,8 @@ returns-in_err-memory-clause-fault g c =
     let fit = c.in_ok-check_scale.ensures.fits in
     let r = c.parts-parts.result.now in
     let e = c.in_err-memory.field-0.0 in
-    let b = can_begin meaning_in m r c.has_distinct_names.ensures c.in_ok-threads.threads.items c.in_ok-opening.field-0 c.in_ok-threads.ensures.threads c.in_ok-opening.ensures.opened in
+    let b = can_begin meaning_in m r c.has_distinct_names.ensures c.in_ok-threads.threads.items c.in_ok-opening.field-0
+    c.in_ok-threads.ensures.threads c.in_ok-opening.ensures.opened in
     rw (p.1, p.2) (subst (λ (x : RecordParts). IsReplayFault m x e) c.parts-parts.ensures.parts
     (of_walk m r fit.0 fit.1 b.beginning (start b.run) b.same e (c.in_err-memory.ensures.fault b.run b.ready)))
 
@@ -70,7 +73,8 @@ returns-in_err-memory-clause-none g c =
     let fit = c.in_ok-check_scale.ensures.fits in
     let r = c.parts-parts.result.now in
     let e = c.in_err-memory.field-0.0 in
-    let b = can_begin meaning_in m r c.has_distinct_names.ensures c.in_ok-threads.threads.items c.in_ok-opening.field-0 c.in_ok-threads.ensures.threads c.in_ok-opening.ensures.opened in
+    let b = can_begin meaning_in m r c.has_distinct_names.ensures c.in_ok-threads.threads.items c.in_ok-opening.field-0
+    c.in_ok-threads.ensures.threads c.in_ok-opening.ensures.opened in
     let fault = of_walk m r fit.0 fit.1 b.beginning (start b.run) b.same e (c.in_err-memory.ensures.fault b.run b.ready) in
     rw (p.1, p.2) (subst (λ (x : RecordParts). ShowsNoRun m x e) c.parts-parts.ensures.parts (no_run m r c.has_distinct_names.ensures e fault))
 
@@ -79,7 +83,8 @@ returns-clause-run g c =
     let m = c.args.module.now.parts in
     let fit = c.in_ok-check_scale.ensures.fits in
     let r = c.parts-parts.result.now in
-    let b = can_begin meaning_in m r c.has_distinct_names.ensures c.in_ok-threads.threads.items c.in_ok-opening.field-0 c.in_ok-threads.ensures.threads c.in_ok-opening.ensures.opened in
+    let b = can_begin meaning_in m r c.has_distinct_names.ensures c.in_ok-threads.threads.items c.in_ok-opening.field-0
+    c.in_ok-threads.ensures.threads c.in_ok-opening.ensures.opened in
     is_run m r c.args.record.now c.parts-parts.ensures.parts b.beginning c.in_ok-memory.memory
     (subst (λ (s : Start). IsRecordedRun s r c.in_ok-memory.memory) b.same (c.in_ok-memory.ensures.run b.run b.ready)) fit.0 fit.1 _
     (c.in_ok-ends.ensures.items ∙ c.as_slice.ensures) refl c.into_bytes.ensures

@@ -8,8 +8,10 @@ use Rattle.replay.proofs.threads.others_of.Goals as goal
 
 pub returns-then-starts_threads : goal.returns-then-starts_threads
 returns-then-starts_threads c =
-    IfOk-weaker c.spawnable_threads.result _ (λ others. AreOthers meaning_in c.args.module.now.parts c.args.fuel others.items)
-    (λ others s. inl (c.if-starts_threads.ensures.0 refl, s.count, spawnable_are_spares meaning_in c.args.module.now.parts _ c.args.fuel others.items s)) c.spawnable_threads.ensures
+    let m = c.args.module.now.parts in
+    IfOk-weaker c.spawnable_threads.result _ (λ others. AreOthers meaning_in m c.args.fuel others.items)
+    (λ others s. inl (c.if-starts_threads.ensures.0 refl, s.count, spawnable_are_spares meaning_in m _ c.args.fuel others.items s))
+    c.spawnable_threads.ensures
 
 pub returns-else-starts_threads : goal.returns-else-starts_threads
 returns-else-starts_threads c = inr (λ starts. absurd (both_ways false refl (c.if-starts_threads.ensures.1 starts)), c.new.ensures.items)

@@ -7,7 +7,11 @@ use Rattle.spawn_host.proofs.threads.other_threads.Goals as goal
 
 pub returns-then-not-starts_threads : goal.returns-then-not-starts_threads
 returns-then-not-starts_threads c =
-    inr ((λ starts. absurd (cc (c.if-not-starts_threads.ensures.1 (subst (λ (p : Parts). StartsThreads p) (sym c.module-module.ensures) starts)))), c.new.ensures.items)
+    let here = sym c.module-module.ensures in
+    inr (
+      (λ starts. absurd (cc (c.if-not-starts_threads.ensures.1 (subst (λ (p : Parts). StartsThreads p) here starts)))),
+      c.new.ensures.items,
+    )
 
 pub returns : goal.returns
 returns c =
