@@ -1,6 +1,5 @@
 //! Searches by the program: what is printed, and the record of what was found.
 ghost use Rattle.std.specs.Prelude.{◌≡◌, ◌≤◌, ◌<◌, ◌+◌, ◌^◌, ℕ, List, map, IfOk, IfErr, true, is_some};
-ghost use Rattle.validate_typing.specs.Validity.{HasDistinctNames};
 ghost use Rattle.search_finds.specs.Endings.{HaveOneEnding};
 ghost use Rattle.search_finds.specs.Finds.{IsFind, EndsAsLookedFor};
 ghost use Rattle.report_command.specs.Searches.{IsSearchInRange};
@@ -12,13 +11,13 @@ ghost use Rattle.report_jobs.specs.declared.running.Trouble.TheVariants as troub
 
 use crate::all::search_all_orders;
 use report_command::{Search, Sought};
-use report_jobs::{Trouble, args_of, keep, print};
+use report_jobs::{Trouble, args_of, keep, print, request_of};
 use report_lines::is_done;
 use search_endings::Ending;
 use search_finds::{Found, Halt, Met, SearchResult, Size, Table, first_found, shrunk, size_of};
 use search_reach::Follows;
 use search_scheduled::{MadeRun, SearchFault};
-use spawn_host::{Call, Request};
+use spawn_host::Request;
 use std::alloc::Global;
 use std::io::{self, Write};
 use std::thread::{self, Threads};
@@ -132,13 +131,6 @@ fn search_drawn<R: Threads + Sync, F: Follows, W: Write, S: Write>(
     Ok(u8::from(has_failed(&table)))
 }
 
-// The exports of a valid module have distinct names (Core specification 1.0, section 3.4.10).
-fn show_distinct(module: &ValidModule)
-    ensures { HasDistinctNames «module».now.parts.exports }
-{
-    let _parts = module.parts();
-}
-
 /// Searches as is asked for: through drawn runs, or through every order of entries. Answers the status.
 pub fn search_module<R: Threads + Sync, F: Follows, W: Write, S: Write>(
     rt: &R,
@@ -155,13 +147,7 @@ pub fn search_module<R: Threads + Sync, F: Follows, W: Write, S: Write>(
     ensures trouble { IfErr result (IsTroubleOf «module».now.parts search.now.call) }
 {
     let args = args_of(alloc, module, &search.call)?;
-    let call = Call {
-        name: search.call.invoke,
-        args: &args,
-        fuel: search.call.fuel,
-    };
-    show_distinct(module);
-    let request = Request::new(module, call)?;
+    let request = request_of(module, &search.call, &args);
     match search.all {
         Some(most) => search_all_orders(alloc, &request, search, most, follower, out, save),
         None => search_drawn(rt, alloc, &request, search, follower, out, save),

@@ -16,16 +16,17 @@ use Rattle.report_first.specs.First.{IsFirstModule, IsNoFirstModule, is_aligned,
 use Rattle.report_first.specs.Laws.{IsFirstEnd}
 use Rattle.report_lines.specs.Ends.{status_of}
 use Rattle.report_first.specs.Printed.{first_lines, first_status, IsFirstRun}
+use Rattle.report_first.specs.declared.bytes_to_lines.TheConstants.{FUEL, LIMIT}
 use Rattle.report_first.specs.declared.bytes_to_lines.FirstFault.{FirstFault}
 use Rattle.report_first.specs.declared.bytes_to_lines.FirstFault.TheVariants as faults
 use Rattle.report_first.proofs.Ends.{first_modules_end_so}
 
 -- the run by the program's own numbers
 pub end_by : (a v : ℕ) (m : Parts) (H : List Entry) (end : EndState) → m ≡ first_parts a v → a < 64 → v < 64
-    → EndsRun m (codes "f") [] 1000000000 false (Some 100000) H end → IsFirstEnd a v end
+    → EndsRun m (codes "f") [] FUEL false (Some LIMIT) H end → IsFirstEnd a v end
 end_by a v m H end same below small ends =
-    first_modules_end_so a v 1000000000 false (Some 100000) H end below small (omega arith) (λ full. omega (arith, full))
-    (subst (λ parts. EndsRun parts (codes "f") [] 1000000000 false (Some 100000) H end) same ends)
+    first_modules_end_so a v FUEL false (Some LIMIT) H end below small (omega arith) (λ full. omega (arith, full))
+    (subst (λ parts. EndsRun parts (codes "f") [] FUEL false (Some LIMIT) H end) same ends)
 
 one_thread : (threads : List ThreadReport) (o : Outcome) → map (λ (r : ThreadReport). r.outcome) threads ≡ o ∷ []
     → (r : ThreadReport) × (threads ≡ r ∷ []) × (r.outcome ≡ o)

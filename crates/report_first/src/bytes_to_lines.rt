@@ -7,6 +7,7 @@ ghost use Rattle.spawn_host.specs.declared.running.RunFault.TheVariants as fault
 ghost use Rattle.report_runs.specs.RunFaults.{IsRecordingFault};
 ghost use Rattle.report_first.specs.First.{first_parts, IsFirstModule, IsNoFirstModule};
 ghost use Rattle.report_first.specs.Laws.{IsFirstEnd};
+ghost use Rattle.report_first.specs.declared.bytes_to_lines.TheConstants.{LIMIT};
 ghost use Rattle.report_first.specs.Printed.{IsFirstRun, first_fault_number};
 
 use binary::read;
@@ -173,7 +174,7 @@ fn not_begun(fault: RunFault, address: u8, addend: u8) -> AllocError
 
 /// Why there was no run: want of memory.
 fn not_run(fault: RecordRunFault, address: u8, addend: u8) -> AllocError
-    requires { IsRecordingFault (first_parts address addend) (codes "f") [] 100000 fault }
+    requires { IsRecordingFault (first_parts address addend) (codes "f") [] LIMIT fault }
 {
     match fault {
         RecordRunFault::Open(fault) => unopened(fault),

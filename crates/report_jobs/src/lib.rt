@@ -20,5 +20,5 @@ pub use job::{check, complain, refuse, reject, replay_saved, run};
 pub use loading::{Refusal, load, load_checked};
 pub use plain::perform_plain;
 pub use replaying::{Unfit, misfit};
-pub use running::{Trouble, args_of, keep, print};
+pub use running::{Trouble, args_of, keep, print, request_of};
 pub use streams::Streams;

@@ -113,6 +113,29 @@ pub fn args_of(alloc: Global, module: &ValidModule, call: &CallWords) -> Result<
     }
 }
 
+/// The request for a call in words with the values of its arguments.
+pub fn request_of<'m, 'a>(
+    module: &'m ValidModule,
+    words: &CallWords<'a>,
+    args: &'a [Value],
+) -> Request<'m, 'a>
+    requires { AreArgumentsOf «module».now.parts words.now args.now }
+    ensures parts { result.parts ≡ «module».now.parts }
+    ensures args { result.args ≡ args.now }
+    ensures asked { IsAskedBy words.now result }
+{
+    show_distinct(module);
+    let call = Call {
+        name: words.invoke,
+        args,
+        fuel: words.fuel,
+    };
+    match Request::new(module, call) {
+        Ok(request) => request,
+        Err(_) => unreachable!(),
+    }
+}
+
 /// Runs the function, prints the lines, and writes the record where one is wanted. Answers the status: 0 where all
 /// threads ended well, 1 for a trap or stop.
 pub(crate) fn print_run<R, W, S>(
@@ -133,13 +156,7 @@ where
     ensures trouble { IfErr result (IsTroubleOf «module».now.parts job.now.call) }
 {
     let args = args_of(alloc, module, &job.call)?;
-    let call = Call {
-        name: job.call.invoke,
-        args: &args,
-        fuel: job.call.fuel,
-    };
-    show_distinct(module);
-    let request = Request::new(module, call)?;
+    let request = request_of(module, &job.call, &args);
     if job.on_words {
         print_on_words(rt, alloc, &request, job, out)
     } else {

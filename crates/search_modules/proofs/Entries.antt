@@ -30,34 +30,6 @@ use Rattle.search_modules.specs.Returned.{IsCall}
 use Rattle.search_modules.specs.Searching.{type_at, call_by, call_of, takes, can_call, can_spawn, worker_of, called_of, is_callable}
 use Rattle.search_modules.specs.Endings.{IsWorkerOf}
 
--- the function that a module which starts threads exports for them
-
-pub exported_start : (m : Parts) (t : IsThreaded m) → IsExported m (codes "wasi_thread_start") t.own
-exported_start m t = record {
-  place = t.place;
-  entry = t.entry;
-  exported = t.exported;
-  named = t.name;
-  desc = t.desc;
-  function = slice_get_within m.functions t.own t.index t.function;
-}
-
-pub thread_start : (m : Parts) → IsModule m → StartsThreads m → (t : IsThreaded m) → IsWorkerOf m (Some t.own)
-thread_start m tested starts t =
-    let bodies = tested.bodies in
-    let below = slice_get_within m.functions t.own t.index t.function in
-    let body = is_there m.bodies t.own (omega (arith, bodies, below)) in
-    let two = t.takes_two in (
-      starts,
-      two.0,
-      body.0,
-      record {
-        exports = record { exported = exported_start m t; function = record { index = t.index; typed = t.function; type_is = two.1; body_is = body.1 } };
-        params = two.2;
-        results = two.3;
-      },
-    )
-
 -- types are the same as themselves
 
 itself : (t : ValType) → is_type t t ≡ true
@@ -151,10 +123,6 @@ module _ (m : Parts) (entry : List ℕ) (args : List Value) (so : Takes m entry 
         let back_max = sym max_is in
         let back_own = sym own_is in
         subst (IsCall m entry args) (λ i. called_of m (back_opening i) (back_max i) (back_own i) args worker) is_call
-
--- the number of an exported function
-pub same_number : (o : Option ℕ) (x y : ℕ) → o ≡ Some x → o ≡ Some y → x ≡ y
-same_number o x y h k = cc (sym h ∙ k)
 
 -- whoever can be called takes its arguments
 pub takes_them : (m : Parts) (entry : List ℕ) (args : List Value) → Beginning m entry args → Takes m entry args

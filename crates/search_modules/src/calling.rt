@@ -7,22 +7,18 @@ ghost use Rattle.search_modules.specs.Endings.{IsWorkerOf};
 ghost use Rattle.search_modules.specs.Moved.{called};
 
 use crate::called::Searched;
-use spawn_host::Request;
+use spawn_host::{Request, thread_start};
 use std::alloc::{AllocError, Global};
 use validate_module::ValidModule;
 
 /// The number of the function that spawned threads call, where the module can start some.
-fn thread_start(valid: &ValidModule) -> Option<usize>
+fn worker_of(valid: &ValidModule) -> Option<usize>
     ensures { IsWorkerOf valid.now.parts result }
 {
     if !valid.starts_threads() {
         return None;
     }
-    let _parts = valid.parts();
-    let Some(own) = valid.exported("wasi_thread_start") else {
-        unreachable!()
-    };
-    Some(own)
+    Some(thread_start(valid))
 }
 
 /// What is searched: the call that is requested, of which so many first bytes are looked at in the end.
@@ -48,7 +44,7 @@ pub(crate) fn searched<'m, 'a>(
         max: valid.pages_max(),
         main: request.number(),
         args: request.call().args,
-        worker: thread_start(valid),
+        worker: worker_of(valid),
         dump,
     })
 }

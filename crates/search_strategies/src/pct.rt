@@ -1,7 +1,7 @@
 //! Priorities that change at few points (Burckhardt, Kothari, Musuvathi, Nagarakatte: A randomized scheduler with
 //! probabilistic guarantees of finding bugs. ASPLOS 2010).
 ghost use Rattle.std.specs.Prelude.{◌<◌, ◌≤◌, length};
-ghost use Rattle.report_choice.specs.Depths.{most_depth};
+ghost use Rattle.report_choice.specs.declared.way.TheConstants.{MOST_DEPTH};
 
 use crate::draws::Draws;
 use crate::strategy::Strategy;
@@ -35,7 +35,7 @@ impl Pct {
     /// Run number `run` of a seed, with a depth of 1 to 32 (`MOST_DEPTH`), and points of change among the first
     /// `events` events, 1 at least.
     pub fn new(seed: u64, run: u64, depth: u32, events: u32) -> Pct
-        requires depth { depth ≤ most_depth }
+        requires depth { depth ≤ MOST_DEPTH }
         requires events { 0 < events }
     {
         let mut draws = Draws::new(seed, run);

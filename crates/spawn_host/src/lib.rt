@@ -18,4 +18,4 @@ pub use end::EndState;
 pub use exports::{OwnFunction, own_function};
 pub use request::{CallFault, Request};
 pub use running::{RunFault, run, run_request};
-pub use threads::{first_thread, spawnable_threads};
+pub use threads::{first_thread, spawnable_threads, thread_start};

@@ -63,8 +63,8 @@ pub fn first_thread<'m>(alloc: Global, request: &Request<'m, '_>) -> Result<Thre
     )
 }
 
-/// The function of the module itself that spawned threads call.
-fn thread_start(valid: &ValidModule) -> usize
+/// The number of the function of the module itself that spawned threads call, from 0 without the imported ones.
+pub fn thread_start(valid: &ValidModule) -> usize
     requires { StartsThreads valid.now.parts }
     ensures within { result < length valid.now.parts.functions }
     ensures start { (t : FuncType) × (body : Body) × IsThreadStart valid.now.parts result t body }

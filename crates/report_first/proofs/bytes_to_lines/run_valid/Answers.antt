@@ -1,6 +1,7 @@
 use Rattle.std.proofs.Common.{[], subst}
 use Rattle.std.specs.Prelude.{codes}
 use Rattle.report_runs.specs.RunFaults.{IsRecordingFault}
+use Rattle.report_first.specs.declared.bytes_to_lines.TheConstants.{LIMIT}
 use Rattle.report_first.proofs.Lines.{end_by}
 use Rattle.report_first.proofs.bytes_to_lines.run_valid.Goals as goal
 
@@ -11,4 +12,4 @@ returns-in-Ok g c =
 
 pub not_run-requires : goal.not_run-requires
 not_run-requires g c =
-    subst (λ m. IsRecordingFault m (codes "f") [] 100000 c.in-Err.fault) c.requires.parts c.in-Err.ensures.fault
+    subst (λ m. IsRecordingFault m (codes "f") [] LIMIT c.in-Err.fault) c.requires.parts c.in-Err.ensures.fault

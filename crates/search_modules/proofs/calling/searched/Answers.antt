@@ -18,15 +18,15 @@ invariant_of-result c =
     let same : m ≡ r.parts = c.module-valid.ensures in
     let parts = c.parts-parts.ensures in
     let takes = c.number.ensures in
-    let worker = subst (λ (x : Parts). IsWorkerOf x c.thread_start.result) same c.thread_start.ensures in
+    let worker = subst (λ (x : Parts). IsWorkerOf x c.worker_of.result) same c.worker_of.ensures in
     let opening = c.in_ok-opening.ensures ∙ ap opening_image same in
     let max = c.pages_max.ensures ∙ ap (pages_max_of MOST_PAGES) same in
     let args = c.call.ensures.call.args_are in
     record {
       callable = subst (λ (x : Parts). is_callable x c.in_ok-opening.opening.items c.pages_max.result c.number.result c.call.result.args.now
-          c.thread_start.result ≡ true) (sym same)
-          (subst (λ a. is_callable r.parts c.in_ok-opening.opening.items c.pages_max.result c.number.result a c.thread_start.result ≡ true) args
-          (callable_so r.parts r.name r.args takes.0 c.thread_start.result worker c.in_ok-opening.opening.items c.pages_max.result c.number.result
+          c.worker_of.result ≡ true) (sym same)
+          (subst (λ a. is_callable r.parts c.in_ok-opening.opening.items c.pages_max.result c.number.result a c.worker_of.result ≡ true) args
+          (callable_so r.parts r.name r.args takes.0 c.worker_of.result worker c.in_ok-opening.opening.items c.pages_max.result c.number.result
           opening max (sym takes.1) (subst (λ (x : Parts). IsModule x) same parts.tested)
           (subst (λ (x : Parts). IsValid x) same parts.validated.valid)));
     }
@@ -37,15 +37,15 @@ returns-clause-call c =
     let m = c.module-valid.result.now.parts in
     let same : m ≡ r.parts = c.module-valid.ensures in
     let takes = c.number.ensures in
-    let worker = subst (λ (x : Parts). IsWorkerOf x c.thread_start.result) same c.thread_start.ensures in
+    let worker = subst (λ (x : Parts). IsWorkerOf x c.worker_of.result) same c.worker_of.ensures in
     let opening = c.in_ok-opening.ensures ∙ ap opening_image same in
     let max = c.pages_max.ensures ∙ ap (pages_max_of MOST_PAGES) same in
     let args = c.call.ensures.call.args_are in
-    let b = λ (x : Parts) (a : List Value). called_of x c.in_ok-opening.opening.items c.pages_max.result c.number.result a c.thread_start.result in
+    let b = λ (x : Parts) (a : List Value). called_of x c.in_ok-opening.opening.items c.pages_max.result c.number.result a c.worker_of.result in
     subst (λ (x : Parts). IsCall r.parts r.name r.args (b x c.call.result.args.now)) (sym same)
     (subst (λ a. IsCall r.parts r.name r.args (b r.parts a)) args
-    (call_so r.parts r.name r.args takes.0 c.thread_start.result worker c.in_ok-opening.opening.items c.pages_max.result c.number.result
+    (call_so r.parts r.name r.args takes.0 c.worker_of.result worker c.in_ok-opening.opening.items c.pages_max.result c.number.result
     opening max (sym takes.1)))
 
 pub returns-clause-worker : goal.returns-clause-worker
-returns-clause-worker c = subst (λ (x : Parts). IsWorkerOf x c.thread_start.result) c.module-valid.ensures c.thread_start.ensures
+returns-clause-worker c = subst (λ (x : Parts). IsWorkerOf x c.worker_of.result) c.module-valid.ensures c.worker_of.ensures
