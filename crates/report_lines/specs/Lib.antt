@@ -1,2 +1,3 @@
 pub mod Lines
 pub mod Ends
+pub mod Endings

@@ -15,10 +15,17 @@ thread_line thread outcome = codes "thread " ++ decimal thread ++ codes ": " ++ 
 abbrev pub pages_line : ℕ → List ℕ
 pages_line pages = codes "pages " ++ decimal pages ++ codes "\n"
 
+-- The texts of items in a row, each with its number, from a number on.
+abbrev pub numbered : {A : Type 0} → (ℕ → A → List ℕ) → ℕ → List A → List ℕ
+numbered text n [] = []
+numbered text n (x ∷ xs) = text n x ++ numbered text (n + 1) xs
+
 -- The lines of threads in a row, from a number on.
+abbrev pub report_line : ℕ → ThreadReport → List ℕ
+report_line n report = thread_line n report.outcome
+
 abbrev pub thread_lines : ℕ → List ThreadReport → List ℕ
-thread_lines n [] = []
-thread_lines n (report ∷ reports) = thread_line n report.outcome ++ thread_lines (n + 1) reports
+thread_lines = numbered report_line
 
 -- A byte: a space and two digits.
 abbrev pub hex_byte : ℕ → List ℕ

@@ -98,7 +98,7 @@ fn write_bytes<W: Write>(out: &mut W, dump: u32, bytes: &[u8]) -> io::Result<()>
     write!(out, "\n")
 }
 
-fn write_hex<W: Write>(out: &mut W, bytes: &[u8]) -> io::Result<()>
+pub(crate) fn write_hex<W: Write>(out: &mut W, bytes: &[u8]) -> io::Result<()>
     ensures { Wrote W.contents out.old out.new result (hex_bytes bytes.now) }
 {
     for byte in bytes {

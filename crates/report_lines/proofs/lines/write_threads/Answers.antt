@@ -1,6 +1,7 @@
-use Rattle.report_lines.proofs.ThreadLines.{lines_go_on}
+use Rattle.report_lines.specs.Lines.{report_line}
+use Rattle.report_lines.proofs.ThreadLines.{texts_go_on}
 use Rattle.report_lines.proofs.lines.write_threads.Goals as goal
 
 pub loop-thread-preserved : goal.loop-thread-preserved
-loop-thread-preserved g c = lines_go_on _ _ _ c.args.reports.now c.loop-thread.thread _ c.loop-thread-test.true
+loop-thread-preserved g c = texts_go_on report_line _ _ _ c.args.reports.now c.loop-thread.thread _ c.loop-thread-test.true
     c.loop-thread.invariant c.in_ok-write_thread.ensures
