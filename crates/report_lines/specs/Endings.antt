@@ -1,5 +1,5 @@
 -- The lines of endings: how all threads ended, the page count, and bytes where some are looked at.
-use Rattle.std.specs.Prelude.{ℕ, ◌==◌, if◌then◌else◌, List, [], ◌∷◌, ◌++◌, codes}
+use Rattle.std.specs.Prelude.{ℕ, List, [], ◌∷◌, ◌++◌, codes}
 use Rattle.std.specs.Fmt.{decimal}
 use Rattle.std.specs.List.{flat_map}
 use Rattle.types.specs.declared.outcome.Outcome.{Outcome}
@@ -21,7 +21,3 @@ ending_line e = numbered thread_part 0 e.outcomes ++ codes "pages " ++ decimal e
 
 abbrev pub ending_lines : List Ending → List ℕ
 ending_lines endings = flat_map ending_line endings
-
--- So many of a thing, whose name has a form for one and another for more.
-abbrev pub counted : ℕ → List ℕ → List ℕ → List ℕ
-counted count one more = decimal count ++ codes " " ++ (if count == 1 then one else more)
