@@ -1,0 +1,2 @@
+//! Whether every fair run of a graph ends.
+#![tactic(auto)]
