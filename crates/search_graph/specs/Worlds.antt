@@ -46,8 +46,8 @@ module _ {W : Type 0} (worlds : Worlds W) where
         → worlds.can z u
 
   -- `stands s w left`: the state s stands for w, and thread n makes `left n` steps that nobody else sees before its next
-  -- move. Only threads below `most` go on.
-  module _ (most : ℕ) (stands : ℕ → W → (ℕ → ℕ) → Type 0) (moves : List Move) where
+  -- move.
+  module _ (stands : ℕ → W → (ℕ → ℕ) → Type 0) where
     -- The step is one that nobody else sees: s stands for z too, thread t has fewer of them left, and no other thread
     -- has more.
     pub record Stays (s t : ℕ) (z : W) (left : ℕ → ℕ) : Type 0 where
@@ -58,22 +58,23 @@ module _ {W : Type 0} (worlds : Worlds W) where
 
     -- The step is the thread's move. No other thread that has a move has more steps left; one that had none may, as one
     -- that is woken or begins.
-    pub record Leads (s t : ℕ) (z : W) (left : ℕ → ℕ) : Type 0 where
+    pub record Leads (moves : List Move) (s t : ℕ) (z : W) (left : ℕ → ℕ) : Type 0 where
       pub next : ℕ
       pub move : Moves moves s t next
       pub after : ℕ → ℕ
       pub within : stands next z after
       pub others : (u : ℕ) → u ≢ t → CanMove moves s u → after u ≤ left u
 
-    -- The graph has the steps of the worlds: each stays or is a move, and a thread with a move can go on.
-    pub record IsGraphOf : Type 0 where
+    -- The graph has the steps of the worlds: each stays or is a move, a thread with a move can go on, and so can only
+    -- threads below `most`.
+    pub record IsGraphOf (most : ℕ) (moves : List Move) : Type 0 where
       pub few : (s t : ℕ) (w : W) (left : ℕ → ℕ) → stands s w left → worlds.can w t → t < most
       pub step : (s t : ℕ) (w z : W) (left : ℕ → ℕ) → stands s w left → worlds.can w t → worlds.steps t w z
-          → Stays s t z left ⊎ Leads s t z left
+          → Stays s t z left ⊎ Leads moves s t z left
       pub goes_on : (s t : ℕ) (w : W) (left : ℕ → ℕ) → stands s w left → CanMove moves s t → worlds.can w t
 
   -- `rests s w`: the state s stands for w, and no thread has steps left there that nobody sees.
-  module _ (among : W → Type 0) (rests : ℕ → W → Type 0) (moves : List Move) where
+  module _ (rests : ℕ → W → Type 0) where
     -- Threads that can go on come from w to what the next state stands for; the first step is of thread t.
     pub record MakesMove (t next : ℕ) (w : W) : Type 0 where
       pub can : worlds.can w t
@@ -84,7 +85,7 @@ module _ {W : Type 0} (worlds : Worlds W) where
       pub rest : rests next end
 
     -- The worlds make the moves of the graph: each, and no thread can go on that has none.
-    pub record IsMadeOf : Type 0 where
+    pub record IsMadeOf (among : W → Type 0) (moves : List Move) : Type 0 where
       pub persists : Persists among
       pub inside : (s : ℕ) (w : W) → rests s w → among w
       pub makes : (s t next : ℕ) (w : W) → Moves moves s t next → rests s w → MakesMove t next w
