@@ -1,0 +1,3 @@
+pub mod Having
+pub mod Marks
+pub mod Reaching
