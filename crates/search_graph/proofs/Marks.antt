@@ -1,8 +1,9 @@
 -- Marks on states.
-use Rattle.std.specs.Prelude.{◌≡◌, ◌≢◌, ◌<◌, ◌⊎◌, ℕ, zero, suc, Bool, true, false, List, length, slice_index_or, refl}
+use Rattle.std.specs.Prelude.{◌≡◌, ◌≢◌, ◌<◌, ◌≤◌, ◌⊎◌, ℕ, zero, suc, Bool, true, false, List, All, length, take, slice_index_or, refl}
 use Rattle.std.proofs.Common.{ap, subst, sym, ◌∙◌, inl, inr, true≢false, get_or-set_other, get_or-set_same}
 use Rattle.std.proofs.lemmas.Bool.{cases_eq}
-use Rattle.std.proofs.lemmas.List.Elements.{Contains-get_or}
+use Rattle.std.proofs.lemmas.List.{take_all}
+use Rattle.std.proofs.lemmas.List.Elements.{All-same, Contains-get_or}
 use lib.ListN.{replicate, set}
 use Rattle.search_graph.specs.declared.graph.Move.{Move}
 use Rattle.search_graph.specs.Graph.{IsMarked, CanMove, move_at}
@@ -41,3 +42,7 @@ mark-keeps marks i s within h = by (cases_eq s i)
     by : (s ≡ i) ⊎ (s ≢ i) → IsMarked (set marks i true) s
     by (inl q) = ap (λ j. slice_index_or (set marks i true) j false) q ∙ get_or-set_same marks i true false within
     by (inr n) = get_or-set_other marks i s true false n ∙ h
+
+-- What holds of those before the end holds of all.
+pub past : {X : Type 0} (P : X → Type 0) (n : ℕ) (xs : List X) → length xs ≤ n → All P (take n xs) → All P xs
+past P n xs h all = All-same P xs (take n xs) (sym (take_all n xs h)) all

@@ -121,11 +121,7 @@ fn unmarked(alloc: Global, marks: &[bool]) -> Result<Vec<usize>, AllocError>
 
 /// The states from which no path of moves leads to one that has ended, in increasing order. `ended` marks those that
 /// have: a state without moves that is not among them is one from which none can be reached.
-pub fn cannot_end(
-    alloc: Global,
-    graph: &Graph,
-    ended: &[bool],
-) -> Result<Vec<usize>, AllocError>
+pub fn cannot_end(alloc: Global, graph: &Graph, ended: &[bool]) -> Result<Vec<usize>, AllocError>
     requires within { All (IsWithin graph.now.states) graph.now.moves.items }
     requires marks { length ended.now ≡ graph.now.states }
     ensures exact { IfOk result

@@ -17,7 +17,7 @@ loop-s-preserved c =
             order = rises found new c.loop-s.s (λ v h. (old.found.sound v h).0) is old.order;
           }
       | else-not-marked w ↦ record {
-          found = past-marked c.args.marks.now found new c.loop-s.s old.found w.if-not-marked.false (ap (λ v. v.items) w.found-is);
-          order = subst (λ v. IsStrictlyIncreasing v.items) (sym w.found-is) old.order;
-        }
+        found = past-marked c.args.marks.now found new c.loop-s.s old.found w.if-not-marked.false (ap (λ v. v.items) w.found-is);
+        order = subst (λ v. IsStrictlyIncreasing v.items) (sym w.found-is) old.order;
+      }
     ]
