@@ -14,6 +14,8 @@ mod components;
 mod hints;
 mod judged;
 mod movers;
+#[cfg(test)]
+mod tests;
 mod walks;
 
 pub use hints::{Hint, find_hint};
