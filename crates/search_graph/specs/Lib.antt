@@ -1,0 +1,7 @@
+pub mod Paths
+pub mod Graph
+pub mod Worlds
+pub mod Runs
+pub mod Round
+pub mod Ranks
+pub mod Marking
