@@ -1,20 +1,23 @@
 //! How the states that were met have ended.
 ghost use Rattle.std.specs.Prelude.{◌≡◌, IfOk, OnOk, vec_len};
+ghost use Rattle.std.specs.List.{AllZip};
 ghost use Rattle.indexmap.specs.IndexSet.{index_set_len, insert_key};
-ghost use Rattle.search_reach.specs.Search.{IsSound, AllEnds, AreEnds};
+ghost use Rattle.search_reach.specs.Search.{IsSound, IsMarkedSo, AllEnds, AreEnds};
 ghost use Rattle.search_reach.specs.Found.{AreEndings};
 
-use crate::path::paths_to;
+use crate::path::{paths_to, ways_in};
 use crate::{Explores, Follows, Found, Verdict, reach_all};
 use indexmap::IndexSet;
 use std::alloc::{AllocError, Global};
 use std::hash::Hash;
 
-/// The endings of states, each once, and for each the index of the first state that has ended so.
+/// The endings of states, each once, and for each the index of the first state that has ended so; and of each state
+/// whether it has ended.
 #[derive(Drop)]
 pub struct Listed<E: Eq + Hash> {
     pub endings: IndexSet<E>,
     pub firsts: Vec<usize>,
+    pub ended: Vec<bool>,
 }
 
 /// Adds the ending of the state of this index, and notes that index where the ending is new.
@@ -45,15 +48,23 @@ pub fn endings<T: Explores>(
     ensures all { IfOk result (λ r. AllEnds (T.system system.now) T.Ending.eq met.now r.endings.keys) }
     ensures sound { IfOk result (λ r. AreEnds (T.system system.now) r.endings.keys) }
     ensures firsts { IfOk result (λ r. vec_len r.firsts ≡ index_set_len r.endings) }
+    ensures ended { IfOk result (λ r. AllZip (IsMarkedSo (T.system system.now)) met.now r.ended.items) }
 {
     let mut endings = IndexSet::new(alloc);
     let mut firsts = Vec::new(alloc);
+    let mut ended = Vec::new(alloc);
     for (at, state) in met.iter().enumerate() {
-        if let Some(ending) = system.ending(alloc, state)? {
+        let ending = system.ending(alloc, state)?;
+        ended.push(ending.is_some())?;
+        if let Some(ending) = ending {
             add_ending(&mut endings, &mut firsts, at, ending)?;
         }
     }
-    Ok(Listed { endings, firsts })
+    Ok(Listed {
+        endings,
+        firsts,
+        ended,
+    })
 }
 
 /// What was found of a system's endings.
@@ -82,7 +93,9 @@ fn endings_with_paths<T: Explores>(
     ensures paths { IfOk result (λ r. vec_len r.1 ≡ index_set_len r.0) }
 {
     let listed = endings(alloc, system, found.met.as_slice())?;
-    let paths = paths_to(alloc, found.from.as_slice(), listed.firsts.as_slice())?;
+    let moves = found.moves.as_slice();
+    let ways = ways_in(alloc, found.met.len(), moves)?;
+    let paths = paths_to(alloc, moves, ways.as_slice(), listed.firsts.as_slice())?;
     Ok((listed.endings, paths))
 }
 
@@ -90,7 +103,7 @@ fn endings_with_paths<T: Explores>(
 pub fn all_endings<T: Explores, F: Follows>(
     alloc: Global,
     system: &T,
-    most: usize,
+    most: u32,
     follower: &mut F,
 ) -> Result<Ended<T::Ending>, AllocError>
     ensures found { IfOk result (AreEndings (T.system system.now) T.Ending.eq most (F.wish follower.new)) }
