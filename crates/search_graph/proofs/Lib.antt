@@ -1,0 +1,6 @@
+pub mod Having
+pub mod Marks
+pub mod Reaching
+pub mod Checked
+pub mod Fairness
+pub mod Around

@@ -1,5 +1,5 @@
 -- States by their numbers, and the moves of threads from state to state.
-use Rattle.std.specs.Prelude.{◌≡◌, ◌<◌, ◌≤◌, ℕ, Bool, true, false, List, Contains, slice_index, slice_index_or}
+use Rattle.std.specs.Prelude.{◌≡◌, ◌<◌, ℕ, Bool, true, false, List, Contains, slice_index_or}
 use Rattle.search_graph.specs.Paths.{Reaches}
 use Rattle.search_graph.specs.declared.graph.Move.{Move}
 
@@ -11,10 +11,6 @@ pub record IsWithin (states : ℕ) (m : Move) : Type 0 where
 -- The state is marked.
 abbrev pub IsMarked : List Bool → ℕ → Type 0
 IsMarked marks s = slice_index_or marks s false ≡ true
-
--- The thread that the state's rank names.
-abbrev pub mover_at : List ℕ → List ℕ → ℕ → ℕ
-mover_at ranks movers s = slice_index movers (slice_index ranks s)
 
 -- The move of this index.
 abbrev pub move_at : List Move → ℕ → Move
@@ -49,10 +45,3 @@ module _ (moves : List Move) where
   pub record CannotEnd (ended : List Bool) (states s : ℕ) : Type 0 where
     pub state : s < states
     pub never : CanEnd ended s → ⊥
-
-  -- No move leads to a greater rank; at each state with moves, the thread that its rank names has one; and each of its
-  -- moves leads to a smaller rank.
-  pub record AreRanks (ranks movers : List ℕ) : Type 0 where
-    pub down : (s t z : ℕ) → Moves s t z → slice_index ranks z ≤ slice_index ranks s
-    pub can : (s t z : ℕ) → Moves s t z → CanMove s (mover_at ranks movers s)
-    pub falls : (s z : ℕ) → Moves s (mover_at ranks movers s) z → slice_index ranks z < slice_index ranks s

@@ -3,5 +3,5 @@ pub mod Graph
 pub mod Worlds
 pub mod Runs
 pub mod Round
-pub mod Falls
+pub mod Ranks
 pub mod Marking

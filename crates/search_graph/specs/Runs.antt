@@ -1,7 +1,7 @@
 -- Runs without end of the threads of a graph, and which of them are fair.
-use Rattle.std.specs.Prelude.{◌≡◌, ◌≤◌, ◌⊎◌, ℕ, suc, List, Option, Some, None}
+use Rattle.std.specs.Prelude.{◌≡◌, ◌≤◌, ◌⊎◌, ◌%◌, ℕ, suc, List, length, Option, Some, None}
 use Rattle.search_graph.specs.declared.graph.Move.{Move}
-use Rattle.search_graph.specs.Graph.{Moves, CanMove, IsStill}
+use Rattle.search_graph.specs.Graph.{Moves, CanMove, IsStill, move_at}
 
 module _ (moves : List Move) where
   -- What happens between two moments: a thread makes a move, or nothing is done.
@@ -35,10 +35,14 @@ module _ (moves : List Move) where
   abbrev pub EveryFairRunEnds : Type 0
   EveryFairRunEnds = (run : Run) → IsFair run → Ends run
 
-  -- A fair run starts in this state, idles never and ends never.
-  pub record HasFairCycle (start : ℕ) : Type 0 where
+  -- At this moment the run makes the move.
+  pub record Makes (run : Run) (k : ℕ) (m : Move) : Type 0 where
+    pub from : run.at k ≡ m.from
+    pub thread : run.by k ≡ Some m.thread
+
+  -- A fair run starts in this state, and makes the moves of the walk one after the other, again and again.
+  pub record HasFairCycle (start : ℕ) (walk : List Move) : Type 0 where
     pub run : Run
     pub starts : run.at 0 ≡ start
     pub fair : IsFair run
-    pub busy : (k : ℕ) → (t : ℕ) × (run.by k ≡ Some t)
-    pub endless : (k : ℕ) → IsStill moves (run.at k) → ⊥
+    pub makes : (k : ℕ) → Makes run k (move_at walk (k % length walk))
