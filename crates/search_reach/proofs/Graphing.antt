@@ -8,7 +8,7 @@ use Rattle.search_graph.specs.Paths.{Goes, Reaches}
 use Rattle.search_graph.specs.Graph.{Moves, Steps as MoveSteps}
 use Rattle.search_graph.specs.declared.graph.Move.{Move}
 use Rattle.search_reach.specs.declared.explores.Next.{Next}
-use Rattle.search_reach.specs.Search.{StepSystem, Steps, StandsFor, Covers, Comes, AreNext, IsOrderly, IsAll, StaysIn, LeadsOn}
+use Rattle.search_reach.specs.Search.{StepSystem, Steps, StandsFor, Covers, Comes, AreNext, IsAll, StaysIn, LeadsOn}
 use Rattle.search_reach.specs.Explored.{moves_from, HasAt, IsNoted, IsGoneOn, Explored}
 use Rattle.search_reach.proofs.Paths.{stays, one_step, onward}
 use Rattle.search_reach.proofs.Searching.{Contains-head, Contains-tail, noted-each, noted-all, comes-next}
@@ -96,7 +96,7 @@ module _ {S W E : Type 0} (k : StepSystem S W E) (eq : S → S → Bool) (ks : L
           alike = same f.0.state f.2.next.key f.2.next.is;
         }
 
-    module _ (orderly : IsOrderly k) (e : Explored k eq ks moves (length ks)) where
+    module _ (e : Explored k eq ks moves (length ks)) where
       -- the state of this index stands for it
       pub record Stands (index : ℕ) (w : W) : Type 0 where
         pub state : S
@@ -126,7 +126,7 @@ module _ {S W E : Type 0} (k : StepSystem S W E) (eq : S → S → Bool) (ks : L
         pub is : Stands to z
 
       follow : (index : ℕ) (w z : W) → Stands index w → Steps k w z → Follows index z
-      follow index w z st step = by (orderly.idles w z step.0 step.1)
+      follow index w z st step = by ((g.are).orderly.idles w z step.0 (st.left, st.is) step.1)
         where
           g : IsGoneOn k eq ks moves index st.state
           g = gone_on index st.state st.at
@@ -177,7 +177,7 @@ module _ {S W E : Type 0} (k : StepSystem S W E) (eq : S → S → Bool) (ks : L
       lead index to w st step =
           let g = gone_on index st.state st.at in
           let m = move_by index step.thread to st.state g step.is in
-          let c = comes-next eq k orderly st.state g.next g.are w (st.left, st.is) m.next m.among in
+          let c = comes-next eq k st.state g.next g.are w (st.left, st.is) m.next m.among in
           record {
             end = c.end;
             path = c.path;

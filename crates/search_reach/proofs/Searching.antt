@@ -13,7 +13,7 @@ use Rattle.search_graph.specs.Paths.{Reaches}
 use Rattle.search_graph.specs.Worlds.{CanStep}
 use Rattle.search_graph.specs.declared.graph.Move.{Move}
 use Rattle.search_reach.specs.declared.explores.Next.{Next}
-use Rattle.search_reach.specs.Search.{StepSystem, Steps, StandsFor, Covers, Comes, AreNext, IsOrderly, IsFirst, IsMet, IsSound, AllGetStuck, CanGetStuck}
+use Rattle.search_reach.specs.Search.{StepSystem, Steps, StandsFor, Covers, Comes, AreNext, IsFirst, IsMet, IsSound, AllGetStuck, CanGetStuck}
 use Rattle.search_reach.specs.Explored.{Gains, moves_from, HasAt, IsNoted, AreNoted, Notes, IsGoneOn, Explored}
 use Rattle.search_reach.proofs.Paths.{stays, one_step, onward, by_others}
 
@@ -246,95 +246,94 @@ module _ {S W E : Type 0} (eq : S → S → Bool) (k : StepSystem S W E) where
           by (inl d) = absurd (omega (arith, d.1))
           by (inr e) = e
 
-  module _ (orderly : IsOrderly k) where
-    -- what threads come to that can go on can be reached
-    pub can_reach : (w z : W) → Reaches (CanStep k.worlds) w z → Reaches (Steps k) w z
-    can_reach = by_others (CanStep k.worlds) (Steps k) (λ w z s. one_step (Steps k) w z (s.thread, s.is))
+  -- what threads come to that can go on can be reached
+  pub can_reach : (w z : W) → Reaches (CanStep k.worlds) w z → Reaches (Steps k) w z
+  can_reach = by_others (CanStep k.worlds) (Steps k) (λ w z s. one_step (Steps k) w z (s.thread, s.is))
 
-    pub comes-next : (s : S) (xs : List (Next S)) → AreNext k s xs → (w : W) → StandsFor k s w → (x : Next S) → Contains xs x → Comes k w x.state
-    comes-next s xs n w st x c =
-        let r = orderly.settles s w st in
-        let by = n.comes r.0 r.2 x c in
-        let one = one_step (Steps k) r.0 by.second (x.thread, by.is) in
-        let on = onward (Steps k) r.0 by.second by.end one (can_reach by.second by.end by.path) in
-        record { end = by.end; path = onward (Steps k) w r.0 by.end (can_reach w r.0 r.1) on; is = (λ (n : ℕ). 0, by.rest) }
+  pub comes-next : (s : S) (xs : List (Next S)) → AreNext k s xs → (w : W) → StandsFor k s w → (x : Next S) → Contains xs x → Comes k w x.state
+  comes-next s xs n w st x c =
+      let r = (n.orderly).settles w st in
+      let by = n.comes r.0 r.2 x c in
+      let one = one_step (Steps k) r.0 by.second (x.thread, by.is) in
+      let on = onward (Steps k) r.0 by.second by.end one (can_reach by.second by.end by.path) in
+      record { end = by.end; path = onward (Steps k) w r.0 by.end (can_reach w r.0 r.1) on; is = (λ (n : ℕ). 0, by.rest) }
 
-    met-next : (s : S) (xs : List (Next S)) → AreNext k s xs → IsMet k s → (x : Next S) → Contains xs x → IsMet k x.state
-    met-next s xs n m x c =
-        let r = comes-next s xs n m.comes.end m.comes.is x c in
-        record { from = m.from; begun = m.begun; comes = record { end = r.end; path = onward (Steps k) m.from m.comes.end r.end m.comes.path r.path; is = r.is } }
+  met-next : (s : S) (xs : List (Next S)) → AreNext k s xs → IsMet k s → (x : Next S) → Contains xs x → IsMet k x.state
+  met-next s xs n m x c =
+      let r = comes-next s xs n m.comes.end m.comes.is x c in
+      record { from = m.from; begun = m.begun; comes = record { end = r.end; path = onward (Steps k) m.from m.comes.end r.end m.comes.path r.path; is = r.is } }
 
-    -- each state that is gained can be met
-    pub sound-more : (ks ls : List S) (i : ℕ) (s : S) (xs : List (Next S)) → IsSound k ks → slice_get ks i ≡ Some s → AreNext k s xs → Gains ks xs ls
-        → IsSound k ls
-    sound-more ks ls i s xs sound at n g x c = by (Contains-append_cases ks g.more x (subst (λ l. Contains l x) g.is c))
-      where
-        by : Contains ks x ⊎ Contains g.more x → IsMet k x
-        by (inl d) = sound x d
-        by (inr d) = let f = g.among x d in subst (IsMet k) f.2 (met-next s xs n (sound s (here ks i s at)) f.0 f.1)
+  -- each state that is gained can be met
+  pub sound-more : (ks ls : List S) (i : ℕ) (s : S) (xs : List (Next S)) → IsSound k ks → slice_get ks i ≡ Some s → AreNext k s xs → Gains ks xs ls
+      → IsSound k ls
+  sound-more ks ls i s xs sound at n g x c = by (Contains-append_cases ks g.more x (subst (λ l. Contains l x) g.is c))
+    where
+      by : Contains ks x ⊎ Contains g.more x → IsMet k x
+      by (inl d) = sound x d
+      by (inr d) = let f = g.among x d in subst (IsMet k) f.2 (met-next s xs n (sound s (here ks i s at)) f.0 f.1)
 
-    -- the next one is gone on from
-    module _ (ks ls : List S) (xs : List (Next S)) (moves after : List Move) (i : ℕ) (s : S) (e : Explored k eq ks moves i)
-        (at : slice_get ks i ≡ Some s) (n : AreNext k s xs) (g : Gains ks xs ls) (noted : Notes eq ls i xs moves after) where
-      inside : i < length ks
-      inside = slice_get_within ks i s at
+  -- the next one is gone on from
+  module _ (ks ls : List S) (xs : List (Next S)) (moves after : List Move) (i : ℕ) (s : S) (e : Explored k eq ks moves i)
+      (at : slice_get ks i ≡ Some s) (n : AreNext k s xs) (g : Gains ks xs ls) (noted : Notes eq ls i xs moves after) where
+    inside : i < length ks
+    inside = slice_get_within ks i s at
 
-      begins : Begins ks ls
-      begins = Gains-begins ks ls xs g
+    begins : Begins ks ls
+    begins = Gains-begins ks ls xs g
 
-      long : length ks ≤ length ls
-      long = length-longer ks ls begins
+    long : length ks ≤ length ls
+    long = length-longer ks ls begins
 
-      -- the moves from the others, and from this one
-      new_from : (m : Move) → Contains noted.new m → m.from ≡ i
-      new_from m c = (noted-each eq ls i xs noted.new noted.are m c).2.from
+    -- the moves from the others, and from this one
+    new_from : (m : Move) → Contains noted.new m → m.from ≡ i
+    new_from m c = (noted-each eq ls i xs noted.new noted.are m c).2.from
 
-      split : (j : ℕ) → moves_from j after ≡ moves_from j moves ++ moves_from j noted.new
-      split j = ap (moves_from j) noted.is ∙ filter-append (λ (m : Move). m.from == j) moves noted.new
+    split : (j : ℕ) → moves_from j after ≡ moves_from j moves ++ moves_from j noted.new
+    split j = ap (moves_from j) noted.is ∙ filter-append (λ (m : Move). m.from == j) moves noted.new
 
-      others : (j : ℕ) → j < i → moves_from j after ≡ moves_from j moves
-      others j low =
-          split j ∙ ap (λ l. moves_from j moves ++ l) (from-none j noted.new (λ m c same. let is = new_from m c in omega (arith, is, same, low)))
-          ∙ append-nil (moves_from j moves)
+    others : (j : ℕ) → j < i → moves_from j after ≡ moves_from j moves
+    others j low =
+        split j ∙ ap (λ l. moves_from j moves ++ l) (from-none j noted.new (λ m c same. let is = new_from m c in omega (arith, is, same, low)))
+        ∙ append-nil (moves_from j moves)
 
-      this : moves_from i after ≡ noted.new
-      this =
-          split i ∙ ap (λ l. l ++ moves_from i noted.new) (from-none i moves (λ m c same. let low = (e.from m c).0 in omega (arith, low, same)))
-          ∙ from-all i noted.new new_from
+    this : moves_from i after ≡ noted.new
+    this =
+        split i ∙ ap (λ l. l ++ moves_from i noted.new) (from-none i moves (λ m c same. let low = (e.from m c).0 in omega (arith, low, same)))
+        ∙ from-all i noted.new new_from
 
-      gone : (j : ℕ) (x : S) → (j < i) ⊎ (i ≤ j) → j < i + 1 → slice_get ls j ≡ Some x → IsGoneOn k eq ls after j x
-      gone j x (inl low) h there =
-          let old = e.gone_on j x low (get_shorter ks ls j x begins (omega (arith, low, inside)) there) in
-          record {
-            next = old.next;
-            are = old.are;
-            noted = subst (λ l. AreNoted eq ls j old.next l) (sym (others j low)) (noted-longer eq ks ls j old.next (moves_from j moves) begins old.noted);
-          }
-      gone j x (inr high) h there =
-          let same : i ≡ j = omega (arith, high, h) in
-          let here : slice_get ls i ≡ Some s = get_longer ks ls i s begins at in
-          let is : s ≡ x = cc (same, here, there) in
-          record {
-            next = xs;
-            are = subst (λ v. AreNext k v xs) is n;
-            noted = subst (λ v. AreNoted eq ls v xs (moves_from v after)) same (subst (λ l. AreNoted eq ls i xs l) (sym this) noted.are);
-          }
+    gone : (j : ℕ) (x : S) → (j < i) ⊎ (i ≤ j) → j < i + 1 → slice_get ls j ≡ Some x → IsGoneOn k eq ls after j x
+    gone j x (inl low) h there =
+        let old = e.gone_on j x low (get_shorter ks ls j x begins (omega (arith, low, inside)) there) in
+        record {
+          next = old.next;
+          are = old.are;
+          noted = subst (λ l. AreNoted eq ls j old.next l) (sym (others j low)) (noted-longer eq ks ls j old.next (moves_from j moves) begins old.noted);
+        }
+    gone j x (inr high) h there =
+        let same : i ≡ j = omega (arith, high, h) in
+        let here : slice_get ls i ≡ Some s = get_longer ks ls i s begins at in
+        let is : s ≡ x = cc (same, here, there) in
+        record {
+          next = xs;
+          are = subst (λ v. AreNext k v xs) is n;
+          noted = subst (λ v. AreNoted eq ls v xs (moves_from v after)) same (subst (λ l. AreNoted eq ls i xs l) (sym this) noted.are);
+        }
 
-      within_more : (m : Move) → Contains moves m ⊎ Contains noted.new m → (m.from < i + 1) × (m.next < length ls)
-      within_more m (inl c) = let f = e.from m c in (omega (arith, f.0), omega (arith, f.1, long))
-      within_more m (inr c) =
-          let f = noted-each eq ls i xs noted.new noted.are m c in
-          let is : m.from ≡ i = f.2.from in
-          (omega (arith, is), slice_get_within ls m.next f.2.next.key f.2.next.at)
+    within_more : (m : Move) → Contains moves m ⊎ Contains noted.new m → (m.from < i + 1) × (m.next < length ls)
+    within_more m (inl c) = let f = e.from m c in (omega (arith, f.0), omega (arith, f.1, long))
+    within_more m (inr c) =
+        let f = noted-each eq ls i xs noted.new noted.are m c in
+        let is : m.from ≡ i = f.2.from in
+        (omega (arith, is), slice_get_within ls m.next f.2.next.key f.2.next.at)
 
-      pub explored-more : Explored k eq ls after (i + 1)
-      explored-more = record {
-        within = omega (arith, inside, long);
-        begun = λ w b. covers-longer ks ls w begins (e.begun w b);
-        gone_on = λ j x h there. gone j x (cases_lt j i) h there;
-        from = λ m c. within_more m (Contains-append_cases moves noted.new m (subst (λ l. Contains l m) noted.is c));
-        sound = sound-more ks ls i s xs e.sound at n g;
-      }
+    pub explored-more : Explored k eq ls after (i + 1)
+    explored-more = record {
+      within = omega (arith, inside, long);
+      begun = λ w b. covers-longer ks ls w begins (e.begun w b);
+      gone_on = λ j x h there. gone j x (cases_lt j i) h there;
+      from = λ m c. within_more m (Contains-append_cases moves noted.new m (subst (λ l. Contains l m) noted.is c));
+      sound = sound-more ks ls i s xs e.sound at n g;
+    }
 
   -- what it takes up was met
   pub sound-is_met : (ks : List S) (i : ℕ) (s : S) → IsSound k ks → slice_get ks i ≡ Some s → IsMet k s

@@ -65,12 +65,6 @@ module _ {S W E : Type 0} (k : StepSystem S W E) where
   abbrev pub AllGetStuck : S → Type 0
   AllGetStuck s = (w : W) → StandsFor s w → GetsStuck w
 
-  -- It can be reached.
-  pub record IsReached (w : W) : Type 0 where
-    pub from : W
-    pub begun : k.begins from
-    pub path : Reaches Steps from w
-
   -- Something that can be reached is.
   pub record CanGetStuck : Type 0 where
     pub from : W
@@ -108,23 +102,24 @@ module _ {S W E : Type 0} (k : StepSystem S W E) where
     pub path : Reaches (CanStep k.worlds) second end
     pub rest : RestsIn x end
 
+  -- What is asked of the worlds that s stands for: a step of a thread that can't go on changes nothing; only few can; one
+  -- that can go on can until it makes a step; and threads come to where all rest in s.
+  pub record IsOrderly (s : S) : Type 0 where
+    pub idles : (w z : W) (n : ℕ) → StandsFor s w → k.worlds.steps n w z → k.worlds.can w n ⊎ (z ≡ w)
+    pub few : (w : W) (n : ℕ) → StandsFor s w → k.worlds.can w n → n < k.most
+    pub persists : (w z : W) (n u : ℕ) → StandsFor s w → k.worlds.can w n → k.worlds.steps n w z → u ≢ n → k.worlds.can w u
+        → k.worlds.can z u
+    pub settles : (w : W) → StandsFor s w → (z : W) × Reaches (CanStep k.worlds) w z × RestsIn s z
+
   -- These are the next states of s, each with its thread. Each step of a thread that can go on stays within s or leads
   -- to one of them; and where all rest in s, the threads that can go on are theirs, and come to each.
   pub record AreNext (s : S) (xs : List (Next S)) : Type 0 where
+    pub orderly : IsOrderly s
     pub step : (w z : W) (left : ℕ → ℕ) (n : ℕ) → k.stands s w left → k.worlds.can w n → k.worlds.steps n w z
         → StaysIn s n z left ⊎ LeadsOn xs n z left
     pub goes_on : (w : W) → StandsFor s w → (x : Next S) → Contains xs x → k.worlds.can w x.thread
     pub all : (w : W) → RestsIn s w → (n : ℕ) → k.worlds.can w n → HasOf xs n
     pub comes : (w : W) → RestsIn s w → (x : Next S) → Contains xs x → ComesBy x.thread w x.state
-
-  -- What is asked of the worlds: a step of a thread that can't go on changes nothing; only few can; one that can go on
-  -- can until it makes a step; and from whatever a state stands for, threads come to where they rest in it.
-  pub record IsOrderly : Type 0 where
-    pub idles : (w z : W) (n : ℕ) → k.worlds.steps n w z → k.worlds.can w n ⊎ (z ≡ w)
-    pub few : (s : S) (w : W) (n : ℕ) → StandsFor s w → k.worlds.can w n → n < k.most
-    pub persists : (w z : W) (n u : ℕ) → IsReached w → k.worlds.can w n → k.worlds.steps n w z → u ≢ n → k.worlds.can w u
-        → k.worlds.can z u
-    pub settles : (s : S) (w : W) → StandsFor s w → (z : W) × Reaches (CanStep k.worlds) w z × RestsIn s z
 
   -- This is a first state: it stands for all first worlds, and for one.
   pub record IsFirst (s : S) : Type 0 where

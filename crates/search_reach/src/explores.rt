@@ -3,7 +3,6 @@ ghost use Rattle.std.specs.Prelude.{◌≡◌, ℕ, true, Option, None, IfOk, If
 ghost use Rattle.search_reach.specs.Search.{
   StepSystem,
   AreNext,
-  IsOrderly,
   IsFirst,
   IsMet,
   IsEnding,
@@ -55,9 +54,6 @@ pub trait Explores {
     fn ending(&self, alloc: Global, state: &Self::State) -> Result<Option<Self::Ending>, AllocError>
         requires { IsMet (system self.now) state.now }
         ensures { IfOk result (IsEnding (system self.now) state.now) };
-
-    /// A thread that can go on can until it makes a step, and from whatever a state stands for, all come to rest in it.
-    ghost orderly: { (t : Self) → IsOrderly (system t) };
 
     /// Equal states stand for the same.
     ghost same: { (t : Self) (x y : Self.State) → Self.State.eq x y ≡ true → (w : World) (left : ℕ → ℕ)

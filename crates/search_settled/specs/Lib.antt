@@ -4,3 +4,4 @@ pub mod Next
 pub mod Flat
 pub mod Turns
 pub mod Same
+pub mod Orderly

@@ -6,7 +6,7 @@ ghost use Rattle.search_settled.specs.Turns.{turns};
 
 use crate::next::next_states;
 use crate::{Flat, Moves};
-use search_reach::{Ended, Explores, Follows, all_endings};
+use search_reach::{Ended, Explores, Follows, Next, all_endings};
 use std::alloc::{AllocError, Global};
 
 /// The turns of threads, in any order, gone through by their settled states.
@@ -19,6 +19,7 @@ impl<M: Moves> Explores for Turns<'_, M> {
     ghost use Rattle.schedule.specs.System.{State as SystemState};
     ghost use Rattle.search_settled.specs.Turns.{turns};
     ghost use Rattle.search_settled.specs.Same.{flat_alike, stands_alike};
+    ghost use Rattle.search_settled.specs.Orderly.{turns_are_orderly};
 
     type State = Flat<M::Shared, M::Thread>;
 
@@ -27,6 +28,9 @@ impl<M: Moves> Explores for Turns<'_, M> {
     ghost World = { SystemState M.X M.T };
 
     ghost system = { λ t. turns M.Moves t.system.now };
+
+    ghost orderly = { λ t. turns_are_orderly (M.threads t.system.now) (M.ends t.system.now) (M.stuck t.system.now)
+        (M.tame t.system.now) (M.bounded t.system.now) };
 
     ghost same = { λ t x y e. stands_alike (M.threads t.system.now) x y
         (flat_alike M.Shared.eq M.Thread.eq (M.threads t.system.now)
@@ -40,7 +44,7 @@ impl<M: Moves> Explores for Turns<'_, M> {
         &self,
         alloc: Global,
         state: &Flat<M::Shared, M::Thread>,
-    ) -> Result<Option<Vec<Flat<M::Shared, M::Thread>>>, AllocError> {
+    ) -> Result<Option<Vec<Next<Flat<M::Shared, M::Thread>>>>, AllocError> {
         next_states(alloc, self.system, state)
     }
 
@@ -58,7 +62,7 @@ impl<M: Moves> Explores for Turns<'_, M> {
 pub fn search_all<M: Moves, F: Follows>(
     alloc: Global,
     system: &M,
-    most: usize,
+    most: u32,
     follower: &mut F,
 ) -> Result<Ended<M::Ending>, AllocError>
     ensures found { IfOk result (AreEndings (turns M.Moves system.now) M.Ending.eq most (F.wish follower.new)) }

@@ -15,10 +15,10 @@ loop-state-preserved g c =
     let next = if_some_at _ _ _ c.in-Some-2.is c.in_ok-after.ensures.next in
     let gains = c.in_ok-add_all.ensures.met in
     record {
-      sound = sound-more g.T.State.PartialEq.eq (g.T.Explores.system c.args.system.now) (g.met.T.Explores.orderly c.args.system.now)
+      sound = sound-more g.T.State.PartialEq.eq (g.T.Explores.system c.args.system.now)
           c.loop-state.met.keys c.add_all.new.met.keys c.loop-state.at c.in-Some.state.now c.in-Some-2.after.items
           c.loop-state.invariant.sound (sym c.in-Some.ensures.key) next gains;
-      explored = λ few. explored-more g.T.State.PartialEq.eq (g.T.Explores.system c.args.system.now) (g.met.T.Explores.orderly c.args.system.now)
+      explored = λ few. explored-more g.T.State.PartialEq.eq (g.T.Explores.system c.args.system.now)
           c.loop-state.met.keys c.add_all.new.met.keys c.in-Some-2.after.items c.loop-state.moves.items c.add_all.new.moves.items
           c.loop-state.at c.in-Some.state.now
           (c.loop-state.invariant.explored (let more = length-longer c.loop-state.met.keys c.add_all.new.met.keys
@@ -29,7 +29,7 @@ loop-state-preserved g c =
 pub returns-in-End-clause-found : goal.returns-in-End-clause-found
 returns-in-End-clause-found g c = record {
   all = λ v. absurd (cc v);
-  sound = sound-more g.T.State.PartialEq.eq (g.T.Explores.system c.args.system.now) (g.met.T.Explores.orderly c.args.system.now)
+  sound = sound-more g.T.State.PartialEq.eq (g.T.Explores.system c.args.system.now)
       c.loop-state.met.keys c.add_all.new.met.keys c.loop-state.at c.in-Some.state.now c.in-Some-2.after.items
       c.loop-state.invariant.sound (sym c.in-Some.ensures.key) (if_some_at _ _ _ c.in-Some-2.is c.in_ok-after.ensures.next)
       c.in_ok-add_all.ensures.met;
@@ -41,7 +41,7 @@ returns-in-End-clause-found g c = record {
 pub returns-clause-found : goal.returns-clause-found
 returns-clause-found g c = record {
   all = λ v. explored-all (g.T.Explores.system c.args.system.now) g.T.State.PartialEq.eq c.loop-state.met.keys c.loop-state.moves.items
-      (g.met.T.Explores.same c.args.system.now) (g.met.T.Explores.orderly c.args.system.now)
+      (g.met.T.Explores.same c.args.system.now)
       (explored-whole g.T.State.PartialEq.eq (g.T.Explores.system c.args.system.now) c.loop-state.met.keys c.loop-state.moves.items c.loop-state.at
       c.loop-state.invariant.explored (omega arith) (sym c.in_default.ensures.key));
   sound = c.loop-state.invariant.sound;
