@@ -4,3 +4,5 @@ pub mod Reaching
 pub mod Checked
 pub mod Fairness
 pub mod Around
+pub mod Shadow
+pub mod Rounds
