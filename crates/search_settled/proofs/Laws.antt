@@ -12,12 +12,13 @@ use Rattle.search_reach.proofs.Paths.{stays, one_step, onward}
 use Rattle.search_settled.specs.Settled.{ComesTo, ComesToRest, ComesToRestBy, CanGoOn, StepsBy, AreTame}
 use Rattle.search_settled.specs.declared.flat.Flat.{Flat}
 use Rattle.search_settled.specs.Threads.{ThreadSystem, IsFlat}
+use Rattle.search_settled.specs.Flat.{AreBounded}
 use Rattle.search_settled.specs.Next.{StandsForState, IsBeginning, IsAt, IsSomewhere, IsNextBy, IsStuckAfter, HasNext, HasEnded, NobodyTurns}
 use Rattle.search_settled.specs.Turns.{turn_steps}
 use Rattle.search_settled.proofs.Resting.{at_rest, resting_same, rest_by, turns_to, rest_to, rest_self, self_rests, one_count}
 use Rattle.search_settled.proofs.Reaching.{to_rest, by_event}
 use Rattle.search_settled.proofs.Stepping.{own, event}
-use Rattle.search_settled.proofs.Orderly.{only_going, event_leaves, not_awaits, not_gone}
+use Rattle.search_settled.proofs.Orderly.{only_going, event_leaves, not_awaits, not_gone, turns_are_orderly}
 
 -- what holds of what there may be
 pub if-some : {S : Type 0} (P Q : S → Type 0) → ((x : S) → P x → Q x) → (o : Option S) → IfSome o P → IfSome o Q
@@ -79,7 +80,7 @@ module _ {X T E V A G H M O : Type 0} (k : ThreadSystem X T E V A G H M) (ends :
           is = a.3;
         }
 
-    module _ (c : Flat G H) (xs : List (Next (Flat G H))) (next : HasNext k c xs) where
+    module _ (bounded : AreBounded k.system k.first k.count k.most) (c : Flat G H) (xs : List (Next (Flat G H))) (next : HasNext k c xs) where
       -- a thread with a next state makes an event once it rests
       calls_at : (w : State X T) (turns : ℕ → ℕ) (st : StandsForState k c w turns) (u : ℕ) → HasOf xs u
           → (e : E) × (k.system.wants (st.settled.threads u) ≡ Calls e)
@@ -193,6 +194,7 @@ module _ {X T E V A G H M O : Type 0} (k : ThreadSystem X T E V A G H M) (ends :
 
       pub next-are : AreNext Turning c xs
       next-are = record {
+        orderly = turns_are_orderly k ends stuck tame bounded c;
         step = λ w z left n st can made. step w z left n st can made;
         goes_on = λ w stands x among. going w stands.0 stands.1 x.thread (record { next = x; among = among; is = refl });
         all = all;

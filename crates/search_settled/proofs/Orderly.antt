@@ -7,7 +7,6 @@ use Rattle.schedule.proofs.Basics.{put-other}
 use Rattle.search_graph.specs.Paths.{Reaches}
 use Rattle.search_graph.specs.Worlds.{CanStep}
 use Rattle.search_reach.specs.Search.{StandsFor, RestsIn, IsOrderly}
-use Rattle.search_reach.specs.Search as search
 use Rattle.search_reach.proofs.Paths.{stays, one_step, onward, by_others}
 use Rattle.search_settled.specs.Settled.{ComesTo, ComesToRestBy, CanGoOn, turning, StepsBy, AnswersFit, StartsFit, IsReached, AreTame}
 use Rattle.search_settled.specs.declared.flat.Flat.{Flat}
@@ -78,47 +77,51 @@ module _ {X T E V A : Type 0} (s : System X T E V A) where
       subst (λ t. (s.wants t ≡ Turns) ⊎ ((e : E) × (s.wants t ≡ Calls e))) (sym same) going
 
 module _ {X T E V A G H M O : Type 0} (k : ThreadSystem X T E V A G H M) (ends : State X T → O → Type 0) (stuck : State X T → Type 0)
-    (tame : AreTame k.system k.first k.most) where
-  -- what a state stands for comes to rest in it
-  pub settles : (c : Flat G H) (w : State X T) → StandsFor (turn_steps k ends stuck) c w
-      → (z : State X T) × Reaches (CanStep (turning k.system)) w z × RestsIn (turn_steps k ends stuck) c z
-  settles c w stands =
+    (tame : AreTame k.system k.first k.most) (bounded : AreBounded k.system k.first k.count k.most) (c : Flat G H) where
+  abbrev Stands : State X T → Type 0
+  Stands = StandsFor (turn_steps k ends stuck) c
+
+  to_settled : (w : State X T) (stands : Stands w) → Reaches (StepsBy k.system) w stands.1.settled
+  to_settled w stands =
       let st = stands.1 in
-      let path = to_rest k.system k.most w st.settled (tame.few w st.reached) (rest_by k.system stands.0 w st.settled st.rest) in
+      to_rest k.system k.most w st.settled (tame.few w st.reached) (rest_by k.system stands.0 w st.settled st.rest)
+
+  reached_settled : (w : State X T) (stands : Stands w) → IsReached k.system k.first stands.1.settled
+  reached_settled w stands = onward (StepsBy k.system) k.first w stands.1.settled stands.1.reached (to_settled w stands)
+
+  -- what the state stands for comes to rest in it
+  settles : (w : State X T) → Stands w → (z : State X T) × Reaches (CanStep (turning k.system)) w z × RestsIn (turn_steps k ends stuck) c z
+  settles w stands =
+      let st = stands.1 in
       (
         st.settled,
-        only_going k.system w st.settled path,
+        only_going k.system w st.settled (to_settled w stands),
         record {
-          reached = onward (StepsBy k.system) k.first w st.settled st.reached path;
+          reached = reached_settled w stands;
           settled = st.settled;
           rest = rest_self k.system st.settled st.rest.rests;
           settled_is = st.settled_is;
         },
       )
 
-  few : AreBounded k.system k.first k.count k.most → (c : Flat G H) (w : State X T) (n : ℕ) → StandsFor (turn_steps k ends stuck) c w → CanGoOn k.system w n → n < k.most
-  few bounded c w n stands can = elim (cases_lt n k.most) [
+  few : (w : State X T) (n : ℕ) → Stands w → CanGoOn k.system w n → n < k.most
+  few w n stands can = elim (cases_lt n k.most) [
     | inl low ↦ low
     | inr high ↦ absurd (beyond high (stands.0 n) (stands.1.rest.comes n))
   ]
     where
       gone : k.most ≤ n → k.system.wants (stands.1.settled.threads n) ≡ Gone
-      gone high =
-          let st = stands.1 in
-          let path = to_rest k.system k.most w st.settled (tame.few w st.reached) (rest_by k.system stands.0 w st.settled st.rest) in
-          let counted = bounded.few st.settled (onward (StepsBy k.system) k.first w st.settled st.reached path) in
-          (st.settled_is).others n (omega (arith, counted, high))
+      gone high = let counted = bounded.few stands.1.settled (reached_settled w stands) in (stands.1.settled_is).others n (omega (arith, counted, high))
 
       beyond : k.most ≤ n → (count : ℕ) → ComesTo k.system count (w.threads n) (stands.1.settled.threads n) → ⊥
       beyond high zero c = not_gone k.system w n can (ap k.system.wants c ∙ gone high)
       beyond high (suc count) c = tame.few w stands.1.reached n high c.0
 
-  pub turns_are_orderly : AreBounded k.system k.first k.count k.most → IsOrderly (turn_steps k ends stuck)
-  turns_are_orderly bounded = record {
-    idles = idle k.system;
-    few = few bounded;
-    persists = λ w z n u reached can step apart going.
-        let is : IsReached k.system k.first w = subst (λ (v : State X T). Reaches (StepsBy k.system) v w) reached.begun reached.path in
-        persist k.system w z n u (tame.answers w is) (tame.starts w is) step can apart going;
+  pub turns_are_orderly : IsOrderly (turn_steps k ends stuck) c
+  turns_are_orderly = record {
+    idles = λ w z n stands step. idle k.system w z n step;
+    few = few;
+    persists = λ w z n u stands can step apart going.
+        persist k.system w z n u (tame.answers w stands.1.reached) (tame.starts w stands.1.reached) step can apart going;
     settles = settles;
   }

@@ -4,4 +4,3 @@ pub mod Next
 pub mod Flat
 pub mod Turns
 pub mod Same
-pub mod Orderly

@@ -19,7 +19,6 @@ impl<M: Moves> Explores for Turns<'_, M> {
     ghost use Rattle.schedule.specs.System.{State as SystemState};
     ghost use Rattle.search_settled.specs.Turns.{turns};
     ghost use Rattle.search_settled.specs.Same.{flat_alike, stands_alike};
-    ghost use Rattle.search_settled.specs.Orderly.{turns_are_orderly};
 
     type State = Flat<M::Shared, M::Thread>;
 
@@ -28,9 +27,6 @@ impl<M: Moves> Explores for Turns<'_, M> {
     ghost World = { SystemState M.X M.T };
 
     ghost system = { λ t. turns M.Moves t.system.now };
-
-    ghost orderly = { λ t. turns_are_orderly (M.threads t.system.now) (M.ends t.system.now) (M.stuck t.system.now)
-        (M.tame t.system.now) (M.bounded t.system.now) };
 
     ghost same = { λ t x y e. stands_alike (M.threads t.system.now) x y
         (flat_alike M.Shared.eq M.Thread.eq (M.threads t.system.now)
