@@ -45,8 +45,8 @@ module _ {W : Type 0} (worlds : Worlds W) where
     pub still : (t u : ℕ) (w z : W) → among w → worlds.can w t → worlds.steps t w z → u ≢ t → worlds.can w u
         → worlds.can z u
 
-  -- `stands s w left`: the state s stands for w, and thread n makes `left n` steps that nobody else sees before its next
-  -- move.
+  -- `stands s w left`: the state s stands for w, and thread n makes `left n` steps that nobody else sees before its
+  -- next move.
   module _ (stands : ℕ → W → (ℕ → ℕ) → Type 0) where
     -- The step is one that nobody else sees: s stands for z too, thread t has fewer of them left, and no other thread
     -- has more.

@@ -27,7 +27,8 @@ use std::alloc::{AllocError, Global};
 fn mark_back(m: Move, marks: &mut [bool]) -> bool
     requires { IsWithin (length marks.old) m }
     ensures kept { (s : ℕ) → IsMarked marks.old s → IsMarked marks.new s }
-    ensures marked { (s : ℕ) → IsMarked marks.new s → IsMarked marks.old s ⊎ ((s ≡ m.from) × IsMarked marks.old m.next) }
+    ensures marked { (s : ℕ) → IsMarked marks.new s
+        → IsMarked marks.old s ⊎ ((s ≡ m.from) × IsMarked marks.old m.next) }
     ensures closed { IsMarked marks.new m.next → IsMarked marks.new m.from }
     ensures fewer { IsTrue result → unmarked_in marks.new + 1 ≡ unmarked_in marks.old }
     ensures most { unmarked_in marks.new ≤ unmarked_in marks.old }

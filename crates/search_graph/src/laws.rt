@@ -24,8 +24,8 @@ pub trait StandsFor {
     ghost most: { Self → ℕ };
 }
 
-/// Where a graph has the steps of the worlds, and each fair run of the graph ends, no fair run of the worlds goes on for
-/// ever.
+/// Where a graph has the steps of the worlds, and each fair run of the graph ends, no fair run of the worlds goes on
+/// for ever.
 pub fn no_fair_run_goes_on<T: StandsFor>(worlds: &T)
     ensures { (moves : List Move) → IsGraphOf (T.worlds worlds.now) (T.stands worlds.now) (T.most worlds.now) moves
         → EveryFairRunEnds moves → (s : ℕ) (w : T.World) (left : ℕ → ℕ) → T.stands worlds.now s w left

@@ -1,12 +1,12 @@
 //! A finite graph of states and of threads' moves among them: which states can still end, and whether every fair run
 //! does.
 //!
-//! Proved: from which states no path of moves leads to one that has ended is answered exactly; ranks that pass the check
-//! show that every fair run ends, and a walk that does is one that a fair run makes again and again.
+//! Proved: from which states no path of moves leads to one that has ended is answered exactly; ranks that pass the
+//! check show that every fair run ends, and a walk that does is one that a fair run makes again and again.
 //!
-//! A run is fair if no thread has a move at each moment from some moment on and makes none of them. A state is a number,
-//! and a move leads from one to another. Any order of the moves is right; that of a search, by the state that they are
-//! from, is fast.
+//! A run is fair if no thread has a move at each moment from some moment on and makes none of them. A state is a
+//! number, and a move leads from one to another. Any order of the moves is right; that of a search, by the state that
+//! they are from, is fast.
 //!
 //! - `cannot_end` marks back along the moves from the states that have ended, until no mark is new.
 //! - `every_fair_run_ends` checks of ranks that no move leads to a greater one, and that at each state with moves a

@@ -16,7 +16,8 @@ fn ranks_fall(moves: &[Move], ranks: &[u32], movers: &[u32], marks: &mut [bool])
     ensures falls { IsTrue result ↔ All (Falls ranks.now movers.now) moves.now }
     ensures sound { (s : ℕ) → IsMarked marks.new s
         → IsMarked marks.old s ⊎ CanMove moves.now s (mover_at ranks.now movers.now s) }
-    ensures all { IsTrue result → (s : ℕ) → CanMove moves.now s (mover_at ranks.now movers.now s) → IsMarked marks.new s }
+    ensures all { IsTrue result → (s : ℕ) → CanMove moves.now s (mover_at ranks.now movers.now s)
+        → IsMarked marks.new s }
 {
     for m in moves {
         let from = m.from as usize;

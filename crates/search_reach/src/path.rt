@@ -23,7 +23,7 @@ pub(crate) fn ways_in(
 }
 
 /// Which of the moves from its state the move of this place is: the moves from a state stand together.
-pub(crate) fn choice_of(moves: &[Move], place: usize) -> usize {
+fn choice_of(moves: &[Move], place: usize) -> usize {
     let mut choice: usize = 0;
     let mut at = place;
     while at > 0 && at < moves.len() && moves[at - 1].from == moves[at].from {
@@ -31,6 +31,21 @@ pub(crate) fn choice_of(moves: &[Move], place: usize) -> usize {
         choice += 1;
     }
     choice
+}
+
+/// The choices of the moves of these places.
+pub(crate) fn choices_of(
+    alloc: Global,
+    moves: &[Move],
+    places: &[u32],
+) -> Result<Vec<usize>, AllocError>
+    ensures { IfOk result (λ choices. vec_len choices ≡ length places.now) }
+{
+    let mut choices = Vec::with_capacity(alloc, places.len())?;
+    for place in places {
+        choices.push(choice_of(moves, *place as usize))?;
+    }
+    Ok(choices)
 }
 
 /// The choices by which the state of this number was met, the first one first.

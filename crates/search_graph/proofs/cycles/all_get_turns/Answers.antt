@@ -23,7 +23,8 @@ loop-m-preserved c =
     All-more (λ v. v.from ≡ c.args.start → GetsTurnIn c.args.graph.now.moves.items c.args.walk.now v.thread) moves i (record { from = 0; thread = 0; next = 0 }) within
     c.loop-m.invariant
     (elim c.else-m-start.branch [
-      | else-m-start-via-then-m-start+in_ok-gets_turn+else-not-branch w ↦ λ _. subst (λ ms. GetsTurnIn ms c.args.walk.now (move_at moves i).thread) c.as_slice-moves.ensures.value (w.in_ok-gets_turn.ensures.0 w.if-not-branch.false)
+      | else-m-start-via-then-m-start+in_ok-gets_turn+else-not-branch w ↦ λ _.
+          subst (λ ms. GetsTurnIn ms c.args.walk.now (move_at moves i).thread) c.as_slice-moves.ensures.value (w.in_ok-gets_turn.ensures.0 w.if-not-branch.false)
       | else-m-start-via-else-m-start w ↦ λ e. absurd (w.if-m-start.false e)
     ])
 
