@@ -7,7 +7,7 @@ use Rattle.validate_typing.specs.Validity.{HasDistinctNames}
 use Rattle.schedule.specs.System as systems
 use Rattle.schedule_threads.specs.Shared.{Shared}
 use Rattle.spawn_host.specs.Entries.{StartsThreads}
-use Rattle.search_reach.specs.Paths.{Reaches}
+use Rattle.search_graph.specs.Paths.{Reaches}
 use Rattle.search_reach.specs.Search.{StepSystem, HasAllEnds, AreEnds, CanGetStuck}
 use Rattle.search_settled.specs.Settled.{StepsBy}
 use Rattle.search_settled.specs.Turns.{turn_steps}

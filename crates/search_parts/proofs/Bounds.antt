@@ -1,6 +1,6 @@
 -- What holds of all threads of a module: who is there, and what is equal is the same.
 use Rattle.std.specs.Prelude.{ℕ, zero, suc, [], ◌∷◌, ◌≡◌, ◌&&◌, ◌<◌, ◌≤◌, true, List, length, Option, Some, None, nat_eq}
-use Rattle.std.proofs.Common.{refl, sym, ap, ◌∙◌, subst, arith, inl, inr}
+use Rattle.std.proofs.Common.{refl, sym, ap, ◌∙◌, subst, arith, inl, inr, lit≤}
 use Rattle.std.specs.List.{slice_get}
 use Rattle.std.specs.Cmp.{first_so, second_so}
 use Rattle.std.proofs.lemmas.Bool.{cases_lt}
@@ -87,7 +87,7 @@ module _ (b : Called) where
       started_none (begun_by b w.shared n e m) _ (missing b after reached m past)
 
   pub bounded : AreBounded (system_of b) (first_state b) started_in MOST_THREADS
-  bounded = record { few = few; more = more; none = none }
+  bounded = record { numbered = lit≤ tt; few = few; more = more; none = none }
 
 -- a place within a list
 is_there : {A : Type 0} (xs : List A) (n : ℕ) → n < length xs → (x : A) × (slice_get xs n ≡ Some x)

@@ -4,9 +4,11 @@ use Rattle.std.proofs.Common.{ap, subst, sym, ◌∙◌, inl, inr}
 use Rattle.std.proofs.lemmas.List.{take_more, take_all}
 use Rattle.std.proofs.lemmas.List.Elements.{Contains-push, Contains-push_cases}
 use Rattle.std.proofs.lemmas.Option.{none-some}
-use Rattle.std.specs.List.{list_any}
+use Rattle.std.specs.List.{list_any, AllZip}
+use Rattle.std.specs.Option.{is_some}
+use Rattle.std.proofs.lemmas.Slice.Zip.{all_zipped_more}
 use Rattle.indexmap.specs.IndexSet.{insert_key}
-use Rattle.search_reach.specs.Search.{StepSystem, IsMet, IsEnding, HasEqual, AllEnds, HasAllEnds, IsAll, IsEnd, Ended}
+use Rattle.search_reach.specs.Search.{StepSystem, Steps, StandsFor, IsMet, IsEnding, IsMarkedSo, HasEqual, AllEnds, HasAllEnds, IsAll, IsEnd, Ended}
 use Rattle.search_reach.proofs.Paths.{onward}
 use Rattle.search_reach.proofs.Searching.{Begins, Begins-self, found, Begins-insert_key, holds-insert_key, Contains-longer}
 
@@ -25,51 +27,64 @@ module _ {E : Type 0} (eq : E → E → Bool) (self : (e : E) → eq e e ≡ tru
           subst (λ c. HasEqual eq (if c then es else es ++ e ∷ []) e) (sym h) (record { key = e; among = Contains-push es e; is = self e })
 
   module _ {S W : Type 0} (k : StepSystem S W E) where
-    abbrev Goes-on : List S → ℕ → List E → Type 0
+    abbrev Goes-on : List S → ℕ → List E → List Bool → Type 0
     Goes-on = Ended k eq
 
     taken : (ks : List S) (i : ℕ) (s : S) → i < length ks → s ≡ get_or ks i s → take (i + 1) ks ≡ take i ks ++ s ∷ []
     taken ks i s h is = take_more ks i s h ∙ ap (λ y. take i ks ++ y ∷ []) (sym is)
 
     all-more : (ks : List S) (i : ℕ) (s : S) (es fs : List E) → i < length ks → s ≡ get_or ks i s → AllEnds k eq (take i ks) es → Begins es fs
-        → ((w : W) (e : E) → k.stands s w → k.ends w e → HasEqual eq fs e) → AllEnds k eq (take (i + 1) ks) fs
+        → ((w : W) (e : E) → StandsFor k s w → k.ends w e → HasEqual eq fs e) → AllEnds k eq (take (i + 1) ks) fs
     all-more ks i s es fs h is all b here x c w e t d = by (Contains-push_cases (take i ks) s x (subst (λ l. Contains l x) (taken ks i s h is) c))
       where
         by : Contains (take i ks) x ⊎ (s ≡ x) → HasEqual eq fs e
         by (inl a) = has-longer es fs e b (all x a w e t d)
-        by (inr q) = here w e (subst (λ y. k.stands y w) (sym q) t) d
+        by (inr q) = here w e (subst (λ y. StandsFor k y w) (sym q) t) d
+
+    -- a mark more
+    marks-more : (ks : List S) (i : ℕ) (s : S) (r : Option E) (marks : List Bool) → i < length ks → s ≡ get_or ks i s → AllZip (IsMarkedSo k) (take i ks) marks
+        → IsEnding k s r → AllZip (IsMarkedSo k) (take (i + 1) ks) (marks ++ is_some r ∷ [])
+    marks-more ks i s r marks h is before n =
+        subst (λ l. AllZip (IsMarkedSo k) l (marks ++ is_some r ∷ [])) (sym (taken ks i s h is))
+        (all_zipped_more (IsMarkedSo k) (take i ks) marks s (is_some r) before (record { ending = r; is = n; mark_is = refl }))
 
     is-end : (s : S) (r : Option E) (e : E) → IsMet k s → IsEnding k s r → r ≡ Some e → IsEnd k e
     is-end s r e m n q =
         let can = n.sound m.comes.end e m.comes.is q in
-        record { from = m.from; begun = m.begun; can = record { end = can.end; path = onward k.steps m.from m.comes.end can.end m.comes.path can.path; is = can.is } }
+        record { from = m.from; begun = m.begun; can = record { end = can.end; path = onward (Steps k) m.from m.comes.end can.end m.comes.path can.path; is = can.is } }
 
-    ended-insert : (ks : List S) (i : ℕ) (s : S) (r : Option E) (e : E) (es : List E) → i < length ks → s ≡ get_or ks i s → Goes-on ks i es
-        → IsMet k s → IsEnding k s r → r ≡ Some e → Goes-on ks (i + 1) (insert_key eq es e)
-    ended-insert ks i s r e es h is d m n q = record {
+    ended-insert : (ks : List S) (i : ℕ) (s : S) (r : Option E) (e : E) (es : List E) (marks : List Bool) → i < length ks → s ≡ get_or ks i s → Goes-on ks i es marks
+        → IsMet k s → IsEnding k s r → r ≡ Some e → Goes-on ks (i + 1) (insert_key eq es e) (marks ++ is_some r ∷ [])
+    ended-insert ks i s r e es marks h is d m n q = record {
       all = all-more ks i s es (insert_key eq es e) h is d.all (Begins-insert_key eq es e) (λ w f t x. subst (λ y. HasEqual eq (insert_key eq es e) y) (one f (n.all w f t x)) (has-insert_key es e));
       sound = holds-insert_key eq (IsEnd k) es e d.sound (is-end s r e m n q);
+      marks_are = marks-more ks i s r marks h is d.marks_are n;
     }
       where
         one : (f : E) → r ≡ Some f → e ≡ f
         one f p = let both : Some e ≡ Some f = sym q ∙ p in cc
 
     -- A state that has ended.
-    pub ended-some : (ks : List S) (i : ℕ) (s : S) (r : Option E) (e : E) (es fs : List E) → i < length ks → s ≡ get_or ks i s → Goes-on ks i es
-        → IsMet k s → IsEnding k s r → r ≡ Some e → fs ≡ insert_key eq es e → Goes-on ks (i + 1) fs
-    ended-some ks i s r e es fs h is d m n q f = subst (λ l. Goes-on ks (i + 1) l) (sym f) (ended-insert ks i s r e es h is d m n q)
+    pub ended-some : (ks : List S) (i : ℕ) (s : S) (r : Option E) (e : E) (es fs : List E) (marks : List Bool) → i < length ks → s ≡ get_or ks i s → Goes-on ks i es marks
+        → IsMet k s → IsEnding k s r → r ≡ Some e → fs ≡ insert_key eq es e → Goes-on ks (i + 1) fs (marks ++ is_some r ∷ [])
+    ended-some ks i s r e es fs marks h is d m n q f =
+        subst (λ l. Goes-on ks (i + 1) l (marks ++ is_some r ∷ [])) (sym f) (ended-insert ks i s r e es marks h is d m n q)
 
     -- One that has not.
-    pub ended-none : (ks : List S) (i : ℕ) (s : S) (r : Option E) (es fs : List E) → i < length ks → s ≡ get_or ks i s → Goes-on ks i es
-        → IsEnding k s r → r ≡ None → fs ≡ es → Goes-on ks (i + 1) fs
-    ended-none ks i s r es fs h is d n q f = subst (λ l. Goes-on ks (i + 1) l) (sym f) (record {
+    pub ended-none : (ks : List S) (i : ℕ) (s : S) (r : Option E) (es fs : List E) (marks : List Bool) → i < length ks → s ≡ get_or ks i s → Goes-on ks i es marks
+        → IsEnding k s r → r ≡ None → fs ≡ es → Goes-on ks (i + 1) fs (marks ++ is_some r ∷ [])
+    ended-none ks i s r es fs marks h is d n q f = subst (λ l. Goes-on ks (i + 1) l (marks ++ is_some r ∷ [])) (sym f) (record {
       all = all-more ks i s es es h is d.all (Begins-self es) (λ w e t x. absurd (none-some e (sym q ∙ n.all w e t x)));
       sound = d.sound;
+      marks_are = marks-more ks i s r marks h is d.marks_are n;
     })
 
     -- The last one was looked at.
-    pub ended-all : (ks : List S) (i : ℕ) (es : List E) → Goes-on ks i es → length ks ≤ i → AllEnds k eq ks es
-    ended-all ks i es d h s c = d.all s (subst (λ l. Contains l s) (sym (take_all i ks h)) c)
+    pub ended-all : (ks : List S) (i : ℕ) (es : List E) (marks : List Bool) → Goes-on ks i es marks → length ks ≤ i → AllEnds k eq ks es
+    ended-all ks i es marks d h s c = d.all s (subst (λ l. Contains l s) (sym (take_all i ks h)) c)
+
+    pub marks-all : (ks : List S) (i : ℕ) (es : List E) (marks : List Bool) → Goes-on ks i es marks → length ks ≤ i → AllZip (IsMarkedSo k) ks marks
+    marks-all ks i es marks d h = subst (λ l. AllZip (IsMarkedSo k) l marks) (take_all i ks h) d.marks_are
 
 module _ {S W E : Type 0} (k : StepSystem S W E) (eq : E → E → Bool) where
   -- The endings of all states are all.

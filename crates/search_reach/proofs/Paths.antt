@@ -1,7 +1,7 @@
 -- Paths, one after another.
 use Rattle.std.specs.Prelude.{ℕ, zero, suc, refl}
 use Rattle.std.proofs.Common.{subst, sym}
-use Rattle.search_reach.specs.Paths.{Goes, Reaches}
+use Rattle.search_graph.specs.Paths.{Goes, Reaches}
 
 module _ {W : Type 0} (steps : W → W → Type 0) where
   pub stays : (w : W) → Reaches steps w w
@@ -19,3 +19,12 @@ module _ {W : Type 0} (steps : W → W → Type 0) where
 
   pub onward : (w v z : W) → Reaches steps w v → Reaches steps v z → Reaches steps w z
   onward w v z p r = goes_on p.count w v z p.path r
+
+module _ {W : Type 0} (steps others : W → W → Type 0) where
+  -- by other steps
+  along : ((w z : W) → steps w z → Reaches others w z) → (count : ℕ) (w z : W) → Goes steps count w z → Reaches others w z
+  along each zero w z e = subst (λ v. Reaches others w v) e (stays others w)
+  along each (suc count) w z p = onward others w p.0 z (each w p.0 p.1) (along each count p.0 z p.2)
+
+  pub by_others : ((w z : W) → steps w z → Reaches others w z) → (w z : W) → Reaches steps w z → Reaches others w z
+  by_others each w z r = along each r.count w z r.path

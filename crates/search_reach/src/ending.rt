@@ -1,20 +1,26 @@
 //! How the states that were met have ended.
-ghost use Rattle.std.specs.Prelude.{◌≡◌, IfOk, OnOk, vec_len};
+ghost use Rattle.std.specs.Prelude.{◌≡◌, IfOk, OnOk, length, vec_len};
+ghost use Rattle.std.specs.List.{AllZip};
 ghost use Rattle.indexmap.specs.IndexSet.{index_set_len, insert_key};
-ghost use Rattle.search_reach.specs.Search.{IsSound, AllEnds, AreEnds};
+ghost use Rattle.search_reach.specs.Search.{IsSound, IsMarkedSo, AllEnds, AreEnds};
 ghost use Rattle.search_reach.specs.Found.{AreEndings};
+ghost use Rattle.search_reach.specs.Liveness.{IsCount, IsLiveWhereAll};
 
-use crate::path::paths_to;
-use crate::{Explores, Follows, Found, Verdict, reach_all};
+use crate::liveness::judged;
+use crate::path::{paths_to, ways_in};
+use crate::{Explores, Follows, Found, Liveness, Verdict, reach_all};
 use indexmap::IndexSet;
+use search_graph::Graph;
 use std::alloc::{AllocError, Global};
 use std::hash::Hash;
 
-/// The endings of states, each once, and for each the index of the first state that has ended so.
+/// The endings of states, each once, and for each the index of the first state that has ended so; and of each state
+/// whether it has ended.
 #[derive(Drop)]
 pub struct Listed<E: Eq + Hash> {
     pub endings: IndexSet<E>,
     pub firsts: Vec<usize>,
+    pub ended: Vec<bool>,
 }
 
 /// Adds the ending of the state of this index, and notes that index where the ending is new.
@@ -45,15 +51,23 @@ pub fn endings<T: Explores>(
     ensures all { IfOk result (λ r. AllEnds (T.system system.now) T.Ending.eq met.now r.endings.keys) }
     ensures sound { IfOk result (λ r. AreEnds (T.system system.now) r.endings.keys) }
     ensures firsts { IfOk result (λ r. vec_len r.firsts ≡ index_set_len r.endings) }
+    ensures ended { IfOk result (λ r. AllZip (IsMarkedSo (T.system system.now)) met.now r.ended.items) }
 {
     let mut endings = IndexSet::new(alloc);
     let mut firsts = Vec::new(alloc);
+    let mut ended = Vec::new(alloc);
     for (at, state) in met.iter().enumerate() {
-        if let Some(ending) = system.ending(alloc, state)? {
+        let ending = system.ending(alloc, state)?;
+        ended.push(ending.is_some())?;
+        if let Some(ending) = ending {
             add_ending(&mut endings, &mut firsts, at, ending)?;
         }
     }
-    Ok(Listed { endings, firsts })
+    Ok(Listed {
+        endings,
+        firsts,
+        ended,
+    })
 }
 
 /// What was found of a system's endings.
@@ -64,44 +78,57 @@ pub struct Ended<E: Eq + Hash> {
     /// For each ending a way to it from the first state: which of the next states of each is the next one. No clause
     /// says that it leads there: it is a hint, to be judged by whoever follows it.
     pub paths: Vec<Vec<usize>>,
-    /// How many states were met.
+    /// How many states were met, each once.
     pub states: usize,
     /// Whether these are all.
     pub verdict: Verdict,
+    /// Where they are all, whether all comes to an end.
+    pub liveness: Option<Liveness>,
 }
 
-/// The endings of the states that were met, each once, and a way to each.
-fn endings_with_paths<T: Explores>(
-    alloc: Global,
-    system: &T,
-    found: &Found<T::State>,
-) -> Result<(IndexSet<T::Ending>, Vec<Vec<usize>>), AllocError>
-    requires { IsSound (T.system system.now) found.now.met.keys }
-    ensures all { IfOk result (λ r. AllEnds (T.system system.now) T.Ending.eq found.now.met.keys r.0.keys) }
-    ensures sound { IfOk result (λ r. AreEnds (T.system system.now) r.0.keys) }
-    ensures paths { IfOk result (λ r. vec_len r.1 ≡ index_set_len r.0) }
+/// A way to each of these states, by the moves that were noted.
+fn paths_of(alloc: Global, graph: &Graph, states: &[usize]) -> Result<Vec<Vec<usize>>, AllocError>
+    ensures { IfOk result (λ paths. vec_len paths ≡ length states.now) }
 {
-    let listed = endings(alloc, system, found.met.as_slice())?;
-    let paths = paths_to(alloc, found.from.as_slice(), listed.firsts.as_slice())?;
-    Ok((listed.endings, paths))
+    let moves = graph.moves.as_slice();
+    let ways = ways_in(alloc, graph.states, moves)?;
+    paths_to(alloc, moves, ways.as_slice(), states)
 }
 
 /// The endings of a system, of which it meets no more than `most` states and a few, and those before it is told to end.
+/// Where it met all, it says of which states none ends, and whether every fair run ends.
 pub fn all_endings<T: Explores, F: Follows>(
     alloc: Global,
     system: &T,
-    most: usize,
+    most: u32,
     follower: &mut F,
 ) -> Result<Ended<T::Ending>, AllocError>
     ensures found { IfOk result (AreEndings (T.system system.now) T.Ending.eq most (F.wish follower.new)) }
     ensures paths { IfOk result (λ r. vec_len r.paths ≡ index_set_len r.endings) }
+    ensures count { IfOk result (λ r. IsCount (T.system system.now) T.State.eq r.states) }
+    ensures live { IfOk result
+        (λ r. IsLiveWhereAll (T.system system.now) T.State.eq r.states r.verdict r.liveness) }
 {
-    let found = reach_all(alloc, system, most, follower)?;
-    let (endings, paths) = endings_with_paths(alloc, system, &found)?;
+    let Found {
+        met,
+        moves,
+        verdict,
+    } = reach_all(alloc, system, most, follower)?;
+    let Listed {
+        endings,
+        firsts,
+        ended,
+    } = endings(alloc, system, met.as_slice())?;
+    let states = met.len();
+    drop(met);
+    let graph = Graph { states, moves };
+    let paths = paths_of(alloc, &graph, firsts.as_slice())?;
+    let (verdict, liveness) = judged(alloc, &graph, ended.as_slice(), verdict, follower)?;
     Ok(Ended {
         endings,
         paths,
-        states: found.met.len(),
-        verdict: found.verdict,
+        states,
+        verdict,
+        liveness,
     })
 }

@@ -1,11 +1,12 @@
 //! The search.
-ghost use Rattle.std.specs.Prelude.{◌≡◌, [], IfOk, OnOk, vec_len};
-ghost use Rattle.indexmap.specs.IndexSet.{index_set_len, insert_all};
-ghost use Rattle.search_reach.specs.Search.{Explored};
+ghost use Rattle.std.specs.Prelude.{◌≡◌, ◌<◌, ◌^◌, [], IfOk, OnOk};
+ghost use Rattle.indexmap.specs.IndexSet.{index_set_len};
+ghost use Rattle.search_reach.specs.Explored.{Gains, Notes, Explored, IsWhole};
 ghost use Rattle.search_reach.specs.Found.{AreStates, IsSearched};
 
-use crate::{Explores, Follows, Wish};
+use crate::{Explores, Follows, Next, Wish};
 use indexmap::IndexSet;
+use search_graph::Move;
 use std::alloc::{AllocError, Global};
 use std::hash::Hash;
 
@@ -22,43 +23,36 @@ pub enum Verdict {
     Told,
 }
 
-/// How a state was met first: from the state of which index, and which of its next ones it was.
-#[derive(Clone, Copy, PartialEq, Eq)]
-pub struct WayIn {
-    pub state: usize,
-    pub choice: usize,
-}
-
 /// What a search found.
 #[derive(Drop)]
 pub struct Found<S: Eq + Hash> {
     /// The states that it met, each once, in the order of their meeting.
     pub met: IndexSet<S>,
-    /// For each how it was met first; for the first one two zeros. No clause says so: it is a hint at a path, to be
-    /// judged by whoever follows it.
-    pub from: Vec<WayIn>,
+    /// The moves from each state that it went on from, in the order of its next states. A state's number is its place
+    /// among those that were met.
+    pub moves: Vec<Move>,
     /// Whether these are all.
     pub verdict: Verdict,
 }
 
-/// Adds the next states of the one of this index, and notes of each that is new how it was met.
+/// Adds the next states of the one of this index, and notes the move to each.
 fn add_all<S: Eq + Hash + Drop>(
     met: &mut IndexSet<S>,
-    from: &mut Vec<WayIn>,
-    at: usize,
-    after: Vec<S>,
+    moves: &mut Vec<Move>,
+    at: u32,
+    after: Vec<Next<S>>,
 ) -> Result<(), AllocError>
-    requires { vec_len from.old ≡ index_set_len met.old }
-    ensures met { OnOk result (met.new.keys ≡ insert_all S.eq met.old.keys after.items) }
-    ensures from { OnOk result (vec_len from.new ≡ index_set_len met.new) }
+    ensures met { OnOk result (Gains met.old.keys after.items met.new.keys) }
+    ensures noted { OnOk result (index_set_len met.new < 2 ^ 32
+        → Notes S.eq met.new.keys at after.items moves.old.items moves.new.items) }
 {
-    let mut choice: usize = 0;
-    for state in after {
-        let is_new = met.insert(state)?;
-        if is_new {
-            from.push(WayIn { state: at, choice })?;
-        }
-        choice = choice.saturating_add(1);
+    for next in after {
+        let (index, _is_new) = met.insert_full(next.state)?;
+        moves.push(Move {
+            from: at,
+            thread: next.thread,
+            next: index.min(u32::MAX as usize) as u32,
+        })?;
     }
     Ok(())
 }
@@ -68,25 +62,24 @@ fn add_all<S: Eq + Hash + Drop>(
 fn explore<T: Explores, F: Follows>(
     alloc: Global,
     system: &T,
-    most: usize,
+    most: u32,
     follower: &mut F,
     met: &mut IndexSet<T::State>,
-    from: &mut Vec<WayIn>,
+    moves: &mut Vec<Move>,
 ) -> Result<Verdict, AllocError>
-    requires explored { Explored (T.system system.now) met.old.keys 0 }
-    requires from { vec_len from.old ≡ index_set_len met.old }
+    requires { Explored (T.system system.now) T.State.eq met.old.keys moves.old.items 0 }
     ensures found { IfOk result (AreStates (T.system system.now) most (F.wish follower.new) met.new) }
-    ensures from { OnOk result (vec_len from.new ≡ index_set_len met.new) }
+    ensures whole { IfOk result (IsWhole (T.system system.now) T.State.eq met.new.keys moves.new.items) }
 {
-    let mut at: usize = 0;
-    while let Some(state) = met.get_index(at) {
-        if most < met.len() {
+    let mut at: u32 = 0;
+    while let Some(state) = met.get_index(at as usize) {
+        if (most as usize) < met.len() {
             return Ok(Verdict::TooMany);
         }
         let Some(after) = system.next(alloc, state)? else {
             return Ok(Verdict::CannotTell);
         };
-        add_all(met, from, at, after)?;
+        add_all(met, moves, at, after)?;
         if let Wish::End = follower.states(met.len()) {
             return Ok(Verdict::Told);
         }
@@ -99,25 +92,21 @@ fn explore<T: Explores, F: Follows>(
 fn explore_from_first<T: Explores, F: Follows>(
     alloc: Global,
     system: &T,
-    most: usize,
+    most: u32,
     follower: &mut F,
     met: &mut IndexSet<T::State>,
-    from: &mut Vec<WayIn>,
+    moves: &mut Vec<Move>,
 ) -> Result<Verdict, AllocError>
     requires met { met.old.keys ≡ [] }
-    requires from { vec_len from.old ≡ 0 }
+    requires moves { moves.old.items ≡ [] }
     ensures found { IfOk result (AreStates (T.system system.now) most (F.wish follower.new) met.new) }
-    ensures from { OnOk result (vec_len from.new ≡ index_set_len met.new) }
+    ensures whole { IfOk result (IsWhole (T.system system.now) T.State.eq met.new.keys moves.new.items) }
 {
     let Some(first) = system.first(alloc)? else {
         return Ok(Verdict::CannotTell);
     };
     met.insert(first)?;
-    from.push(WayIn {
-        state: 0,
-        choice: 0,
-    })?;
-    explore(alloc, system, most, follower, met, from)
+    explore(alloc, system, most, follower, met, moves)
 }
 
 /// Goes through the states of a system, until there are no more, it has met more than `most`, or it is told to end. The
@@ -125,14 +114,18 @@ fn explore_from_first<T: Explores, F: Follows>(
 pub fn reach_all<T: Explores, F: Follows>(
     alloc: Global,
     system: &T,
-    most: usize,
+    most: u32,
     follower: &mut F,
 ) -> Result<Found<T::State>, AllocError>
     ensures found { IfOk result (IsSearched (T.system system.now) most (F.wish follower.new)) }
-    ensures from { IfOk result (λ f. vec_len f.from ≡ index_set_len f.met) }
+    ensures whole { IfOk result (λ f. IsWhole (T.system system.now) T.State.eq f.met.keys f.moves.items f.verdict) }
 {
     let mut met = IndexSet::new(alloc);
-    let mut from = Vec::new(alloc);
-    let verdict = explore_from_first(alloc, system, most, follower, &mut met, &mut from)?;
-    Ok(Found { met, from, verdict })
+    let mut moves = Vec::new(alloc);
+    let verdict = explore_from_first(alloc, system, most, follower, &mut met, &mut moves)?;
+    Ok(Found {
+        met,
+        moves,
+        verdict,
+    })
 }

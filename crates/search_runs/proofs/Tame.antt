@@ -1,6 +1,10 @@
 -- What threads without budgets come to, the scheduled machine comes to, and it is orderly.
-use Rattle.std.proofs.Common.{◌≡◌, ℕ, zero, suc, ◌+◌, ◌<◌, ◌≤◌, length, List, [], ◌∷◌, refl, sym, ◌∙◌, ap, subst, arith}
+use Rattle.std.proofs.Common.{◌≡◌, ◌==◌, ◌&&◌, Bool, true, false, cond, nat_lt, ℕ, zero, suc, ◌+◌, ◌<◌, ◌≤◌, length, List, [], ◌∷◌, Some, None, refl, sym, ◌∙◌, ap, subst, arith}
+use Rattle.std.specs.Cmp.{second_so}
+use Rattle.std.proofs.lemmas.Bool.{eqb-true}
 use Rattle.types.specs.declared.event.Event.{Event}
+use Rattle.types.specs.declared.event.Event.TheVariants as events
+use Rattle.types.specs.declared.event.Question.TheVariants as questions
 use Rattle.types.specs.declared.event.Reply.{Reply}
 use Rattle.types.specs.declared.event.Answer.{Answer}
 use Rattle.types.specs.declared.outcome.Outcome.{Outcome}
@@ -16,17 +20,17 @@ use Rattle.interp_machine.specs.State.{State, At}
 use Rattle.schedule_threads.specs.Shared.{Shared}
 use Rattle.schedule_threads.specs.Threads.{machine_of, wishes}
 use Rattle.schedule_runs.specs.Runs as runs
-use Rattle.interp_trait.specs.Turns.{Running, wants_of, IsHere}
+use Rattle.interp_trait.specs.Turns.{Running, wants_of, IsHere, spawned_in}
 use Rattle.schedule_machine.specs.Runs.{IsOrderly, system_by}
 use Rattle.schedule_machine.proofs.Beginning.{orderly_first}
-use Rattle.search_reach.specs.Paths.{Goes as GoesSteps, Reaches}
+use Rattle.search_graph.specs.Paths.{Goes as GoesSteps, Reaches}
 use Rattle.search_reach.proofs.Paths.{stays, one_step, onward}
 use Rattle.search_threads.specs.Unlimited.{Unlimited.Missing, Unlimited.Going, Unlimited.Leaving, Unlimited.Away, unlimited_wants, want_by}
-use Rattle.search_threads.specs.Budgets.{IsSame, turns_of}
+use Rattle.search_threads.specs.Budgets.{IsSame, turns_of, started_without}
 use Rattle.search_threads.proofs.Laws as budgets
-use Rattle.search_settled.specs.Settled.{StepsBy, AnswersFit, AreFew}
+use Rattle.search_settled.specs.Settled.{StepsBy, AnswersFit, StartsFit, AreFew}
 use Rattle.search_runs.specs.Called.{Called, Walker, setting_of, with_fuel, system_of, first_state, first_shared, first_threads}
-use Rattle.search_runs.specs.Called.{reply_by, shared_by, answer_by, begun_by}
+use Rattle.search_runs.specs.Called.{reply_by, shared_by, answer_by, begun_at, begun_by}
 use Rattle.search_runs.specs.Theorems.{ThreadsAreTame, CanReach, IsScheduled, EveryEndIsScheduled}
 use Rattle.search_runs.proofs.Same.{budgeted, budgeted_first, system_same, first_state_same}
 use Rattle.search_runs.proofs.Orderly.{along, by_event}
@@ -158,5 +162,29 @@ module _ (b : Called) (w : systems.State Shared Walker) (reach : CanReach b w) w
       let gone : w.threads m ≡ Missing = missing m (omega (arith, low, dues, past)) in
       cc (sym (ap (unlimited_wants (machine_of b.program)) gone) ∙ turns)
 
+  -- a thread that starts has the next number, which nobody has
+  by_number : (arg m : ℕ) (t : Walker) (is : Bool) → (nat_lt m (length w.shared.queue.due) && (m == next_id w.shared.queue)) ≡ is
+      → started_without (cond is (Some (spawned_in b.worker m arg)) None) ≡ Some t → m ≡ next_id w.shared.queue
+  by_number arg m t true is h = eqb-true m (next_id w.shared.queue) (second_so (nat_lt m (length w.shared.queue.due)) (m == next_id w.shared.queue) is)
+  by_number arg m t false is h = absurd (cc h)
+
+  number_of : (e : Event) (m : ℕ) (t : Walker) → started_without (begun_at b w.shared e m) ≡ Some t → m ≡ next_id w.shared.queue
+  number_of events.Size m t h = absurd (cc h)
+  number_of (events.Grow more) m t h = absurd (cc h)
+  number_of (events.Load addr width reach) m t h = absurd (cc h)
+  number_of (events.Store addr width reach value) m t h = absurd (cc h)
+  number_of (events.Rmw op addr width value) m t h = absurd (cc h)
+  number_of (events.Cmpxchg addr width expected replacement) m t h = absurd (cc h)
+  number_of (events.Ask (questions.Wait addr width expected timeout)) m t h = absurd (cc h)
+  number_of (events.Ask (questions.Notify addr count)) m t h = absurd (cc h)
+  number_of (events.Ask (questions.Spawn arg)) m t h = by_number arg m t (nat_lt m (length w.shared.queue.due) && (m == next_id w.shared.queue)) refl h
+  number_of (events.Ask questions.Leave) m t h = absurd (cc h)
+  number_of (events.Told answer) m t h = absurd (cc h)
+
+  pub starts_fit : StartsFit (system_of b) w
+  starts_fit n m e t calls starts =
+      let next : m ≡ next_id w.shared.queue = number_of e m t starts in
+      ap (unlimited_wants (machine_of b.program)) (missing m (omega (arith, next)))
+
 pub tame : ThreadsAreTame
-tame b = record { answers = λ w reach. answers_fit b w reach; few = λ w reach. few b w reach }
+tame b = record { answers = λ w reach. answers_fit b w reach; starts = λ w reach. starts_fit b w reach; few = λ w reach. few b w reach }

@@ -20,7 +20,7 @@ use Rattle.search_runs.specs.Called.{Called, Walker, with_fuel, system_of, first
 use Rattle.search_endings.specs.Endings.{Ending}
 use Rattle.search_runs.specs.Ends.{HasEndedSo}
 
--- Answers go to who awaits them, and at most 64 threads make turns.
+-- Answers go to who awaits them, only who isn't there is started, and at most 64 threads make turns.
 abbrev pub ThreadsAreTame : Type 0
 ThreadsAreTame = (b : Called) → AreTame (system_of b) (first_state b) MOST_THREADS
 

@@ -1,5 +1,5 @@
 -- The next states, of one thread after the other.
-use Rattle.std.proofs.Common.{◌≡◌, ◌⊎◌, inl, inr, ℕ, zero, suc, ◌+◌, ◌<◌, ◌≤◌, List, [], ◌∷◌, ◌++◌, length, Option, Some, None, refl, sym, ◌∙◌, ap, subst, arith, Contains}
+use Rattle.std.proofs.Common.{◌≡◌, ◌⊎◌, inl, inr, ℕ, zero, suc, ◌+◌, ◌^◌, ◌<◌, ◌≤◌, List, [], ◌∷◌, ◌++◌, length, Option, Some, None, refl, sym, ◌∙◌, ap, subst, arith, Contains}
 use Rattle.std.specs.List.{slice_get}
 use Rattle.std.proofs.lemmas.Bool.{cases_lt}
 use Rattle.std.proofs.lemmas.List.Elements.{Contains-push, Contains-push_cases, Contains-append_left}
@@ -8,7 +8,8 @@ use Rattle.schedule.specs.System.{Want.Calls, Want.Awaits, Want.Gone, State, put
 use Rattle.schedule.specs.Scheduled.{after_event, hears_any, or_started}
 use Rattle.schedule.proofs.Basics.{put-other}
 use Rattle.search_settled.specs.Settled.{Settles, IsReached, AreTame}
-use Rattle.search_settled.specs.Next.{IsAt, IsNextBy, IsSomewhere, IsStuckAfter, HasNext}
+use Rattle.search_reach.specs.declared.explores.Next.{Next}
+use Rattle.search_settled.specs.Next.{IsAt, IsNextBy, IsNextOf, IsSomewhere, IsStuckAfter, HasNext}
 use Rattle.search_settled.specs.declared.flat.Flat.{Flat}
 use Rattle.search_settled.specs.Threads.{ThreadSystem}
 use Rattle.search_settled.specs.Flat.{AreBounded, IsThreadOf, IsEventOf, IsEventAt, RestsAfter, IsMove, AllComeAfter, MovesSomewhere, IsStuckByMove, HasNextBelow}
@@ -138,15 +139,16 @@ module _ {X T E V A G H M : Type 0} (k : ThreadSystem X T E V A G H M) where
     }
 
   -- one thread after the other
-  abbrev Below : Flat G H → ℕ → List (Flat G H) → Type 0
+  abbrev Below : Flat G H → ℕ → List (Next (Flat G H)) → Type 0
   Below c i xs = HasNextBelow k c i xs
 
   pub below-none : (c : Flat G H) → Below c 0 []
   below-none c = record { all = λ z at n low. absurd (omega (arith, low)); sound = λ z at x among. absurd (omega (arith, among.1)) }
 
-  later : (c : Flat G H) (z : State X T) (n : ℕ) (e : E) (xs : List (Flat G H)) (y : Flat G H)
-      → (x : Flat G H) × Contains xs x × IsNextBy k z n e x → (x : Flat G H) × Contains (xs ++ y ∷ []) x × IsNextBy k z n e x
-  later c z n e xs y found = (found.0, Contains-append_left xs (y ∷ []) found.0 found.1, found.2)
+  later : (z : State X T) (n : ℕ) (e : E) (xs : List (Next (Flat G H))) (y : Next (Flat G H))
+      → (x : Next (Flat G H)) × Contains xs x × (x.thread ≡ n) × IsNextBy k z n e x.state
+      → (x : Next (Flat G H)) × Contains (xs ++ y ∷ []) x × (x.thread ≡ n) × IsNextBy k z n e x.state
+  later z n e xs y found = (found.0, Contains-append_left xs (y ∷ []) found.0 found.1, found.2, found.3)
 
   thread-at : (c : Flat G H) (z : State X T) → IsAt k c z → (n : ℕ) (t : H) → slice_get c.threads.items n ≡ Some t
       → IsThreadOf k c.shared t n z
@@ -165,7 +167,7 @@ module _ {X T E V A G H M : Type 0} (k : ThreadSystem X T E V A G H M) where
   split n i low = elim (cases_lt n i) [ inl h ↦ inl h | inr h ↦ inr (omega (arith, h, low)) ]
 
   -- a thread that wants no event
-  pub below-same : (c : Flat G H) (i : ℕ) (xs : List (Flat G H)) (t : H) → Below c i xs → slice_get c.threads.items i ≡ Some t → IsEventAt k c.shared t i None
+  pub below-same : (c : Flat G H) (i : ℕ) (xs : List (Next (Flat G H))) (t : H) → Below c i xs → slice_get c.threads.items i ≡ Some t → IsEventAt k c.shared t i None
       → Below c (i + 1) xs
   below-same c i xs t so at none = record {
     all = λ z is n low e wants. elim (split n i low) [
@@ -177,22 +179,25 @@ module _ {X T E V A G H M : Type 0} (k : ThreadSystem X T E V A G H M) where
 
   -- a thread that wants one
   pub below-more : AreTame k.system k.first k.most → AreBounded k.system k.first k.count k.most
-      → (c : Flat G H) (i : ℕ) (xs : List (Flat G H)) (t : H) (p : G × M) (y : Flat G H) (rested : List H) → Below c i xs
+      → (c : Flat G H) (i : ℕ) (xs : List (Next (Flat G H))) (t : H) (p : G × M) (y : Flat G H) (rested : List H) → Below c i xs
       → slice_get c.threads.items i ≡ Some t → IsEventAt k c.shared t i (Some p)
       → AllComeAfter k p.0 p.1 i c.threads.items rested
-      → y.shared ≡ p.0 → y.threads.items ≡ rested → Below c (i + 1) (xs ++ y ∷ [])
+      → y.shared ≡ p.0 → y.threads.items ≡ rested → Below c (i + 1) (xs ++ record { thread = i; state = y } ∷ [])
   below-more tame bounded c i xs t p y rested so at some come same_shared same_threads = record {
     all = λ z is n low e wants. elim (split n i low) [
-      | inl h ↦ later c z n e xs y (so.all z is n h e wants)
-      | inr same ↦ (y, Contains-push xs y, by z is n e same wants)
+      | inl h ↦ later z n e xs new (so.all z is n h e wants)
+      | inr same ↦ (new, Contains-push xs new, sym same, by z is n e same wants)
     ];
-    sound = λ z is x among. elim (Contains-push_cases xs y x among) [
+    sound = λ z is x among. elim (Contains-push_cases xs new x among) [
       | inl before ↦ so.sound z is x before
       | inr same ↦ (let a = some z (thread-at c z is i t at) in
-          (i, a.0, a.1, subst (λ v. IsNextBy k z i a.0 v) same (here z is)))
+          subst (λ v. IsNextOf k z v) same (record { event = a.0; wants = a.1; next = here z is }))
     ];
   }
     where
+      new : Next (Flat G H)
+      new = record { thread = i; state = y }
+
       here : (z : State X T) (is : IsAt k c z) → IsNextBy k z i (some z (thread-at c z is i t at)).0 y
       here z is =
           let a = some z (thread-at c z is i t at) in
@@ -205,7 +210,7 @@ module _ {X T E V A G H M : Type 0} (k : ThreadSystem X T E V A G H M) where
           let event : a.0 ≡ e = cc (a.1, wants_i) in
           subst (λ j. IsNextBy k z j e y) (sym same) (subst (λ v. IsNextBy k z i v y) event (here z is))
 
-  pub below-all : (c : Flat G H) (i : ℕ) (xs : List (Flat G H)) → Below c i xs → length c.threads.items ≤ i → HasNext k c xs
+  pub below-all : (c : Flat G H) (i : ℕ) (xs : List (Next (Flat G H))) → Below c i xs → length c.threads.items ≤ i → HasNext k c xs
   below-all c i xs so past = record {
     all = λ z is n e wants. so.all z is n (low z is n e wants) e wants;
     sound = so.sound;
@@ -216,3 +221,14 @@ module _ {X T E V A G H M : Type 0} (k : ThreadSystem X T E V A G H M) where
         | inl h ↦ (let len = (is.settled_is).len in omega (arith, h, len, past))
         | inr beyond ↦ (let gone = (is.settled_is).others n beyond in absurd (cc (gone, wants)))
       ]
+
+  -- the number of a thread that is there fits
+  pub number-fits : AreBounded k.system k.first k.count k.most → (c : Flat G H) → IsSomewhere k c → (n : ℕ) (t : H) → slice_get c.threads.items n ≡ Some t
+      → n < 2 ^ 32
+  number-fits bounded c at n t h =
+      let is = at.1.settled_is in
+      let len = is.len in
+      let few = bounded.few at.0 at.1.reached in
+      let low = bounded.numbered in
+      let within = slice_get_within c.threads.items n t h in
+      omega (arith, len, few, low, within)

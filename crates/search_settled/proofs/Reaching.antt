@@ -3,7 +3,7 @@ use Rattle.std.proofs.Common.{◌≡◌, ℕ, zero, suc, ◌≤◌, ◌==◌, Bo
 use Rattle.schedule.specs.System.{Want.Turns, Want.Calls, Kind.Turn, System, State, put}
 use Rattle.schedule.specs.Scheduled.{after_turn, after_mark, after_event, with_thread}
 use Rattle.schedule.proofs.Basics.{at_each, put-same, put-other}
-use Rattle.search_reach.specs.Paths.{Reaches}
+use Rattle.search_graph.specs.Paths.{Reaches}
 use Rattle.search_reach.proofs.Paths.{stays, one_step, onward}
 use Rattle.search_settled.specs.Settled.{ComesTo, Settles, ComesToRest, StepsBy, AreFew}
 use Rattle.search_settled.proofs.Resting.{at_rest}

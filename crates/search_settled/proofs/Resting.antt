@@ -2,7 +2,7 @@
 use Rattle.std.proofs.Common.{◌≡◌, ℕ, zero, suc, refl, sym, ◌∙◌, ap, subst, Option, Some, None}
 use Rattle.schedule.specs.System.{Want.Turns, System, State}
 use Rattle.schedule.specs.Scheduled.{hears_any, or_started}
-use Rattle.search_settled.specs.Settled.{ComesTo, Settles, ComesToRest}
+use Rattle.search_settled.specs.Settled.{ComesTo, Settles, ComesToRest, ComesToRestBy}
 
 module _ {X T E V A : Type 0} (s : System X T E V A) where
   -- who rests comes only to itself
@@ -12,14 +12,6 @@ module _ {X T E V A : Type 0} (s : System X T E V A) where
 
   pub at_rest : (t u : T) → Settles s t u → (s.wants t ≡ Turns → ⊥) → t ≡ u
   at_rest t u h rests = rested h.turns t u h.comes rests
-
-  -- a turn of its own is on the way
-  one_less : (count : ℕ) (t u : T) → ComesTo s count t u → s.wants t ≡ Turns → (s.wants u ≡ Turns → ⊥) → Settles s (s.own_turn t) u
-  one_less zero t u c h rests = absurd (rests (ap s.wants (sym c) ∙ h))
-  one_less (suc count) t u c h rests = record { turns = count; comes = c.1; rests = rests }
-
-  pub after_own : (t u : T) → Settles s t u → s.wants t ≡ Turns → Settles s (s.own_turn t) u
-  after_own t u h turns = one_less h.turns t u h.comes turns h.rests
 
   -- what comes of a thread after an event of another
   pub after_other : (o : Option T) (a : Option A) (t u r : T) → Settles s t u → ((x : A) → a ≡ Some x → t ≡ u)
@@ -31,3 +23,28 @@ module _ {X T E V A : Type 0} (s : System X T E V A) where
   -- who rests in the end is what it was
   pub resting_same : (w z : State X T) → ComesToRest s w z → ((m : ℕ) → s.wants (w.threads m) ≡ Turns → ⊥) → w ≡ z
   resting_same w z h rests = λ i. record { shared = h.shared i; threads = λ m. at_rest (w.threads m) (z.threads m) (h.each m) (rests m) i }
+
+  -- by so many turns, or by some
+  pub rest_by : (turns : ℕ → ℕ) (w z : State X T) → ComesToRestBy s turns w z → ComesToRest s w z
+  rest_by turns w z h = record { shared = h.shared; each = λ m. record { turns = turns m; comes = h.comes m; rests = h.rests m } }
+
+  pub turns_to : (w z : State X T) → ComesToRest s w z → ℕ → ℕ
+  turns_to w z h m = (h.each m).turns
+
+  pub rest_to : (w z : State X T) (h : ComesToRest s w z) → ComesToRestBy s (turns_to w z h) w z
+  unfolding turns_to
+  rest_to w z h = record { shared = h.shared; comes = λ m. (h.each m).comes; rests = λ m. (h.each m).rests }
+
+  -- a settled state rests by no turns
+  pub rest_self : (z : State X T) → ((m : ℕ) → s.wants (z.threads m) ≡ Turns → ⊥) → ComesToRestBy s (λ (m : ℕ). 0) z z
+  rest_self z rests = record { shared = refl; comes = λ m. refl; rests = rests }
+
+  pub self_rests : (w z : State X T) → ComesToRestBy s (λ (m : ℕ). 0) w z → w ≡ z
+  self_rests w z h = λ i. record { shared = h.shared i; threads = λ m. h.comes m i }
+
+  -- there is one number of turns until it rests
+  pub one_count : (a b : ℕ) (t u v : T) → ComesTo s a t u → (s.wants u ≡ Turns → ⊥) → ComesTo s b t v → (s.wants v ≡ Turns → ⊥) → a ≡ b
+  one_count zero zero t u v c r d q = refl
+  one_count zero (suc b) t u v c r d q = absurd (r (ap s.wants (sym c) ∙ d.0))
+  one_count (suc a) zero t u v c r d q = absurd (q (ap s.wants (sym d) ∙ c.0))
+  one_count (suc a) (suc b) t u v c r d q = ap suc (one_count a b (s.own_turn t) u v c.1 r d.1 q)

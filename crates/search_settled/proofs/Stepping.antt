@@ -1,20 +1,36 @@
--- A turn from what comes to rest in a state stays there, or is the event of a thread that rests.
-use Rattle.std.proofs.Common.{◌≡◌, ◌≢◌, ℕ, ◌⊎◌, inl, inr, refl, sym, ◌∙◌, ap, subst, Some}
-use Rattle.schedule.specs.System.{Want, Want.Turns, Want.Calls, Want.Awaits, Want.Gone, Kind.Turn, System, State, put}
-use Rattle.schedule.specs.Scheduled.{after_turn, after_mark, after_event, with_thread, hears_any, or_started}
+-- A turn from what comes to rest in a state: of its own, or the event of a thread that rests.
+use Rattle.std.proofs.Common.{◌≡◌, ◌≢◌, ℕ, zero, suc, refl, sym, ◌∙◌, ap, subst, Some}
+use Rattle.schedule.specs.System.{Want.Turns, Want.Calls, Want.Awaits, System, State, put}
+use Rattle.schedule.specs.Scheduled.{after_event, with_thread, hears_any, or_started}
 use Rattle.schedule.proofs.Basics.{at_each, put-same, put-other}
-use Rattle.search_settled.specs.Settled.{Settles, ComesToRest, AnswersFit}
-use Rattle.search_settled.proofs.Resting.{at_rest, after_own, after_other}
+use Rattle.search_settled.specs.Settled.{ComesTo, Settles, ComesToRest, ComesToRestBy, AnswersFit}
+use Rattle.search_settled.proofs.Resting.{at_rest, after_other}
 
 module _ {X T E V A : Type 0} (s : System X T E V A) where
-  -- its own turn
-  own : (w z : State X T) (n : ℕ) → ComesToRest s w z → s.wants (w.threads n) ≡ Turns → ComesToRest s (with_thread s w n (s.own_turn (w.threads n))) z
-  own w z n h turns = record {
-    shared = h.shared;
-    each = at_each n (λ m. Settles s (put w.threads n (s.own_turn (w.threads n)) m) (z.threads m))
-        (subst (λ v. Settles s v (z.threads n)) (sym (put-same w.threads n (s.own_turn (w.threads n)))) (after_own s (w.threads n) (z.threads n) (h.each n) turns))
-        (λ m apart. subst (λ v. Settles s v (z.threads m)) (sym (put-other w.threads n (s.own_turn (w.threads n)) m apart)) (h.each m));
-  }
+  -- its own turn: one less is left
+  pub record OneLess (turns : ℕ → ℕ) (w z : State X T) (n : ℕ) : Type 0 where
+    pub less : ℕ
+    pub is : turns n ≡ suc less
+    pub rest : ComesToRestBy s (put turns n less) (with_thread s w n (s.own_turn (w.threads n))) z
+
+  pub own : (turns : ℕ → ℕ) (w z : State X T) (n : ℕ) → ComesToRestBy s turns w z → s.wants (w.threads n) ≡ Turns → OneLess turns w z n
+  own turns w z n h wants = by (turns n) refl (h.comes n)
+    where
+      by : (count : ℕ) → turns n ≡ count → ComesTo s count (w.threads n) (z.threads n) → OneLess turns w z n
+      by zero is c = absurd (h.rests n (ap s.wants (sym c) ∙ wants))
+      by (suc less) is c = record {
+        less = less;
+        is = is;
+        rest = record {
+          shared = h.shared;
+          comes = at_each n (λ m. ComesTo s (put turns n less m) (put w.threads n (s.own_turn (w.threads n)) m) (z.threads m))
+              (subst (λ (a : ℕ). ComesTo s a (put w.threads n (s.own_turn (w.threads n)) n) (z.threads n)) (sym (put-same turns n less))
+              (subst (λ v. ComesTo s less v (z.threads n)) (sym (put-same w.threads n (s.own_turn (w.threads n)))) c.1))
+              (λ m apart. subst (λ (a : ℕ). ComesTo s a (put w.threads n (s.own_turn (w.threads n)) m) (z.threads m)) (sym (put-other turns n less m apart))
+              (subst (λ v. ComesTo s (turns m) v (z.threads m)) (sym (put-other w.threads n (s.own_turn (w.threads n)) m apart)) (h.comes m)));
+          rests = h.rests;
+        };
+      }
 
   -- its event: from here and from there all come to rest in the same
   module _ (x : X) (f g : ℕ → T) (n : ℕ) (e : E) (each : (m : ℕ) → Settles s (f m) (g m))
@@ -36,7 +52,7 @@ module _ {X T E V A : Type 0} (s : System X T E V A) where
         (subst (λ v. Settles s (or_started (s.starts x n e m) (hears_any s v (s.gives x n e m))) r) (put-other g n (s.takes (g n) (s.reply x n e)) m apart) on)))
         m
 
-  event : (w z : State X T) (n : ℕ) (e : E) → AnswersFit s w → ComesToRest s w z → s.wants (w.threads n) ≡ Calls e
+  pub event : (w z : State X T) (n : ℕ) (e : E) → AnswersFit s w → ComesToRest s w z → s.wants (w.threads n) ≡ Calls e
       → (y : State X T) → ComesToRest s (after_event s z n e) y → ComesToRest s (after_event s w n e) y
   event w z n e fit h calls y on =
       let moved : State X T = record { shared = z.shared; threads = w.threads } in
@@ -46,21 +62,3 @@ module _ {X T E V A : Type 0} (s : System X T E V A) where
         shared = on.shared;
         each = λ m. by_event z.shared w.threads z.threads n e h.each (λ m a given apart. fit' n m e a calls given apart) calls m (y.threads m) (on.each m);
       })
-
-  -- what comes of a turn
-  pub record LeadsOn (w z y : State X T) (n : ℕ) : Type 0 where
-    pub event : E
-    pub wants : s.wants (z.threads n) ≡ Calls event
-    pub on : (r : State X T) → ComesToRest s (after_event s z n event) r → ComesToRest s y r
-
-  by_want : (w z : State X T) (n : ℕ) (want : Want E) → s.wants (w.threads n) ≡ want → AnswersFit s w → ComesToRest s w z
-      → ComesToRest s (after_turn s w n want) z ⊎ LeadsOn w z (after_turn s w n want) n
-  by_want w z n Turns is fit h = inl (own w z n h is)
-  by_want w z n (Calls e) is fit h =
-      let same : w.threads n ≡ z.threads n = at_rest s (w.threads n) (z.threads n) (h.each n) (λ t. cc (is, t)) in
-      inr (record { event = e; wants = ap s.wants (sym same) ∙ is; on = λ r c. event w z n e fit h is r c })
-  by_want w z n Awaits is fit h = inl h
-  by_want w z n Gone is fit h = inl h
-
-  pub by_turn : (w z y : State X T) (n : ℕ) → y ≡ after_mark s w n Turn → AnswersFit s w → ComesToRest s w z → ComesToRest s y z ⊎ LeadsOn w z y n
-  by_turn w z y n is fit h = subst (λ v. ComesToRest s v z ⊎ LeadsOn w z v n) (sym is) (by_want w z n (s.wants (w.threads n)) refl fit h)

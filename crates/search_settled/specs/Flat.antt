@@ -1,17 +1,19 @@
 -- Settled states of threads that are moved one by one: an event, and where each thread comes to rest after it.
-use Rattle.std.specs.Prelude.{ℕ, ◌≡◌, ◌+◌, ◌<◌, ◌≤◌, List, Contains, length, Option, Some, None}
+use Rattle.std.specs.Prelude.{ℕ, ◌≡◌, ◌+◌, ◌^◌, ◌<◌, ◌≤◌, List, Contains, length, Option, Some, None}
 use Rattle.std.specs.List.{slice_get}
 use Rattle.schedule.specs.System.{Want.Calls, System, State}
 use Rattle.schedule.specs.Scheduled.{after_event}
 use Rattle.search_settled.specs.Settled.{Settles, IsReached}
 use Rattle.search_settled.specs.Threads.{ThreadSystem}
-use Rattle.search_settled.specs.Next.{IsAt, IsNextBy}
+use Rattle.search_reach.specs.declared.explores.Next.{Next}
+use Rattle.search_settled.specs.Next.{IsAt, IsNextBy, IsNextOf}
 use Rattle.search_settled.specs.declared.flat.Flat.{Flat}
 
--- So many threads were started, and no more than can be: an event takes none back, and starts none but those that are
--- counted then.
+-- So many threads were started, and no more than can be, each with a number of 32 bits: an event takes none back, and
+-- starts none but those that are counted then.
 pub record AreBounded {X T E V A : Type 0} (s : System X T E V A) (first : State X T) (count : X
     → ℕ) (most : ℕ) : Type 0 where
+  pub numbered : most ≤ 2 ^ 32
   pub few : (w : State X T) → IsReached s first w → count w.shared ≤ most
   pub more : (w : State X T) → IsReached s first w → (n : ℕ) (e : E) → count w.shared ≤ count (s.after w.shared n e)
   pub none : (w : State X T) → IsReached s first w → (n m : ℕ) (e : E) → s.wants (w.threads n) ≡ Calls e
@@ -116,12 +118,11 @@ module _ {X T E V A G H M : Type 0} (k : ThreadSystem X T E V A G H M) where
       → stuck (after_event k.system z n e)
 
   -- The next states by the events of the threads below a number.
-  pub record HasNextBelow (c : Flat G H) (i : ℕ) (xs : List (Flat G H)) : Type 0 where
+  pub record HasNextBelow (c : Flat G H) (i : ℕ) (xs : List (Next (Flat G H))) : Type 0 where
     pub all : (z : State X T) → IsAt k c z → (n : ℕ) → n < i → (e : E) → k.system.wants (z.threads n) ≡ Calls e
-        → (x : Flat G H) × Contains xs x × IsNextBy k z n e x
-    pub sound : (z : State X T) → IsAt k c z → (x : Flat G H) → Contains xs x
-        → (n : ℕ) × (e : E) × (k.system.wants (z.threads n) ≡ Calls e) × IsNextBy k z n e x
+        → (x : Next (Flat G H)) × Contains xs x × (x.thread ≡ n) × IsNextBy k z n e x.state
+    pub sound : (z : State X T) → IsAt k c z → (x : Next (Flat G H)) → Contains xs x → IsNextOf k z x
 
   -- With what was put to them, they are those by the event of one thread more.
-  abbrev pub HasOneMore : Flat G H → ℕ → List (Flat G H) → List (Flat G H) → Type 0
+  abbrev pub HasOneMore : Flat G H → ℕ → List (Next (Flat G H)) → List (Next (Flat G H)) → Type 0
   HasOneMore c n before after = HasNextBelow c n before → HasNextBelow c (n + 1) after

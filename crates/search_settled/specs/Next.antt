@@ -3,15 +3,16 @@ use Rattle.std.specs.Prelude.{ℕ, ◌≡◌, List, Contains, Option, Some}
 use Rattle.schedule.specs.System.{Want.Turns, Want.Calls, System, State}
 use Rattle.schedule.specs.Scheduled.{after_event}
 use Rattle.search_settled.specs.declared.flat.Flat.{Flat}
-use Rattle.search_settled.specs.Settled.{ComesToRest, IsReached}
+use Rattle.search_reach.specs.declared.explores.Next.{Next}
+use Rattle.search_settled.specs.Settled.{ComesToRest, ComesToRestBy, IsReached}
 use Rattle.search_settled.specs.Threads.{ThreadSystem, IsFlat}
 
 module _ {X T E V A G H M : Type 0} (k : ThreadSystem X T E V A G H M) where
-  -- It stands for each state that can be reached and comes to rest in one that it is.
-  pub record StandsForState (c : Flat G H) (w : State X T) : Type 0 where
+  -- It stands for each state that can be reached and comes to rest in one that it is; each thread makes so many turns.
+  pub record StandsForState (c : Flat G H) (w : State X T) (turns : ℕ → ℕ) : Type 0 where
     pub reached : IsReached k.system k.first w
     pub settled : State X T
-    pub rest : ComesToRest k.system w settled
+    pub rest : ComesToRestBy k.system turns w settled
     pub settled_is : IsFlat k c settled
 
   -- It is where all come to rest in the beginning.
@@ -39,12 +40,17 @@ module _ {X T E V A G H M : Type 0} (k : ThreadSystem X T E V A G H M) where
   IsStuckAfter stuck c = (z : State X T) → IsAt c z
       → (n : ℕ) × (e : E) × (k.system.wants (z.threads n) ≡ Calls e) × stuck (after_event k.system z n e)
 
+  -- The next state is of a thread that makes an event there.
+  pub record IsNextOf (z : State X T) (x : Next (Flat G H)) : Type 0 where
+    pub event : E
+    pub wants : k.system.wants (z.threads x.thread) ≡ Calls event
+    pub next : IsNextBy z x.thread event x.state
+
   -- For each thread that wants an event there is one of these, and each of these is of such a thread.
-  pub record HasNext (c : Flat G H) (xs : List (Flat G H)) : Type 0 where
+  pub record HasNext (c : Flat G H) (xs : List (Next (Flat G H))) : Type 0 where
     pub all : (z : State X T) → IsAt c z → (n : ℕ) (e : E) → k.system.wants (z.threads n) ≡ Calls e
-        → (x : Flat G H) × Contains xs x × IsNextBy z n e x
-    pub sound : (z : State X T) → IsAt c z → (x : Flat G H) → Contains xs x
-        → (n : ℕ) × (e : E) × (k.system.wants (z.threads n) ≡ Calls e) × IsNextBy z n e x
+        → (x : Next (Flat G H)) × Contains xs x × (x.thread ≡ n) × IsNextBy z n e x.state
+    pub sound : (z : State X T) → IsAt c z → (x : Next (Flat G H)) → Contains xs x → IsNextOf z x
 
   -- This is how it has ended, if it has.
   pub record HasEnded {O : Type 0} (ends : State X T → O → Type 0) (c : Flat G H) (r : Option O) : Type 0 where

@@ -46,6 +46,7 @@ flat_alike eq_shared eq_thread k same_shared same_thread x y e z is =
 
 -- What is the same settled state stands for the same.
 pub stands_alike : {X T E V A G H M : Type 0} (k : ThreadSystem X T E V A G H M) (x y : Flat G H)
-    → ((z : State X T) → IsFlat k x z → IsFlat k y z) → (w : State X T) → StandsForState k x w → StandsForState k y w
-stands_alike k x y same w st =
+    → ((z : State X T) → IsFlat k x z → IsFlat k y z) → (w : State X T) (turns : ℕ → ℕ)
+    → StandsForState k x w turns → StandsForState k y w turns
+stands_alike k x y same w turns st =
     record { reached = st.reached; settled = st.settled; rest = st.rest; settled_is = same st.settled st.settled_is }

@@ -1,7 +1,7 @@
 -- What is searched of threads: their turns, by settled states.
 use Rattle.schedule.specs.System.{State}
 use Rattle.search_reach.specs.Search.{StepSystem}
-use Rattle.search_settled.specs.Settled.{StepsBy}
+use Rattle.search_settled.specs.Settled.{turning}
 use Rattle.search_settled.specs.Threads.{ThreadSystem}
 use Rattle.search_settled.specs.Next.{StandsForState, IsFirstOf}
 use Rattle.search_settled.specs.declared.flat.Flat.{Flat}
@@ -13,9 +13,10 @@ abbrev pub turn_steps : {X T E V A G H M O : Type 0} → ThreadSystem X T E V A 
     → StepSystem (Flat G H) (State X T) O
 turn_steps k ends stuck =
     record {
+      worlds = turning k.system;
+      most = k.most;
       stands = StandsForState k;
       begins = IsFirstOf k.first;
-      steps = StepsBy k.system;
       ends = ends;
       stuck = stuck;
     }

@@ -13,6 +13,7 @@ ghost use Rattle.search_settled.specs.Flat.{
 };
 
 use crate::{Flat, Moves};
+use search_reach::Next;
 use std::alloc::{AllocError, Global};
 
 /// Where thread m comes to rest after an event of thread n: it is one of these threads, or the event starts it.
@@ -70,7 +71,7 @@ fn put_next<M: Moves>(
     flat: &Flat<M::Shared, M::Thread>,
     thread: &M::Thread,
     n: usize,
-    all: &mut Vec<Flat<M::Shared, M::Thread>>,
+    all: &mut Vec<Next<Flat<M::Shared, M::Thread>>>,
 ) -> Result<bool, AllocError>
     requires somewhere { IsSomewhere (M.threads system.now) flat.now }
     requires thread { slice_get flat.now.threads.items n ≡ Some thread.now }
@@ -86,16 +87,19 @@ fn put_next<M: Moves>(
     else {
         return Ok(false);
     };
-    all.push(Flat { shared, threads })?;
+    all.push(Next {
+        thread: n as u32,
+        state: Flat { shared, threads },
+    })?;
     Ok(true)
 }
 
-/// The next states of a settled state.
+/// The next states of a settled state, each with the thread whose event leads there.
 pub(crate) fn next_states<M: Moves>(
     alloc: Global,
     system: &M,
     flat: &Flat<M::Shared, M::Thread>,
-) -> Result<Option<Vec<Flat<M::Shared, M::Thread>>>, AllocError>
+) -> Result<Option<Vec<Next<Flat<M::Shared, M::Thread>>>>, AllocError>
     requires { IsSomewhere (M.threads system.now) flat.now }
     ensures next { IfOk result (λ o. IfSome o (λ v. HasNext (M.threads system.now) flat.now v.items)) }
     ensures gives_up { IfOk result (λ o. o ≡ None → IsStuckAfter (M.threads system.now) (M.stuck system.now) flat.now) }

@@ -6,7 +6,7 @@ ghost use Rattle.search_settled.specs.Turns.{turns};
 
 use crate::next::next_states;
 use crate::{Flat, Moves};
-use search_reach::{Ended, Explores, Follows, all_endings};
+use search_reach::{Ended, Explores, Follows, Next, all_endings};
 use std::alloc::{AllocError, Global};
 
 /// The turns of threads, in any order, gone through by their settled states.
@@ -40,7 +40,7 @@ impl<M: Moves> Explores for Turns<'_, M> {
         &self,
         alloc: Global,
         state: &Flat<M::Shared, M::Thread>,
-    ) -> Result<Option<Vec<Flat<M::Shared, M::Thread>>>, AllocError> {
+    ) -> Result<Option<Vec<Next<Flat<M::Shared, M::Thread>>>>, AllocError> {
         next_states(alloc, self.system, state)
     }
 
@@ -58,7 +58,7 @@ impl<M: Moves> Explores for Turns<'_, M> {
 pub fn search_all<M: Moves, F: Follows>(
     alloc: Global,
     system: &M,
-    most: usize,
+    most: u32,
     follower: &mut F,
 ) -> Result<Ended<M::Ending>, AllocError>
     ensures found { IfOk result (AreEndings (turns M.Moves system.now) M.Ending.eq most (F.wish follower.new)) }

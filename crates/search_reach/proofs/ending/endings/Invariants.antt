@@ -5,6 +5,6 @@ use Rattle.search_reach.proofs.ending.endings.Given as goal
 
 abbrev pub invariant-loop-at : goal.invariant-loop-at
 invariant-loop-at g l = record {
-  ended : Ended (g.T.Explores.system l.system) g.T.Ending.PartialEq.eq l.met l.at l.endings.keys;
+  ended : Ended (g.T.Explores.system l.system) g.T.Ending.PartialEq.eq l.met l.at l.endings.keys l.ended.items;
   firsts : vec_len l.firsts ≡ index_set_len l.endings;
 }

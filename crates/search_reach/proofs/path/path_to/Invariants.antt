@@ -1,4 +1,4 @@
 use Rattle.search_reach.proofs.path.path_to.Given as goal
 
-abbrev pub decreases-loop-step : goal.decreases-loop-step
-decreases-loop-step l = l.at
+abbrev pub decreases-loop-place : goal.decreases-loop-place
+decreases-loop-place l = l.at

@@ -1,9 +1,10 @@
-use Rattle.std.proofs.Common.{◌≡◌, vec_len}
-use Rattle.indexmap.specs.IndexSet.{index_set_len, insert_all}
+use Rattle.std.proofs.Common.{◌<◌, ◌^◌}
+use Rattle.indexmap.specs.IndexSet.{index_set_len}
+use Rattle.search_reach.specs.Explored.{Gains, Notes}
 use Rattle.search_reach.proofs.search.add_all.Given as goal
 
-abbrev pub invariant-loop-state : goal.invariant-loop-state
-invariant-loop-state g l = record {
-  keys : l.met.keys ≡ insert_all g.S.PartialEq.eq l.fn.met.keys l.yielded;
-  from : vec_len l.from ≡ index_set_len l.met;
+abbrev pub invariant-loop-next : goal.invariant-loop-next
+invariant-loop-next g l = record {
+  gains : Gains l.fn.met.keys l.yielded l.met.keys;
+  notes : index_set_len l.met < 2 ^ 32 → Notes g.S.PartialEq.eq l.met.keys l.at l.yielded l.fn.moves.items l.moves.items;
 }

@@ -1,12 +1,12 @@
-use Rattle.std.proofs.Common.{◌≡◌, ◌-◌, vec_len}
-use Rattle.indexmap.specs.IndexSet.{index_set_len}
-use Rattle.search_reach.specs.Search.{Explored}
+use Rattle.std.proofs.Common.{◌<◌, ◌^◌, ◌-◌, length}
+use Rattle.search_reach.specs.Search.{IsSound}
+use Rattle.search_reach.specs.Explored.{Explored}
 use Rattle.search_reach.proofs.search.explore.Given as goal
 
 abbrev pub invariant-loop-state : goal.invariant-loop-state
 invariant-loop-state g l = record {
-  explored : Explored (g.T.Explores.system l.system) l.met.keys l.at;
-  from : vec_len l.from ≡ index_set_len l.met;
+  sound : IsSound (g.T.Explores.system l.system) l.met.keys;
+  explored : length l.met.keys < 2 ^ 32 → Explored (g.T.Explores.system l.system) g.T.State.PartialEq.eq l.met.keys l.moves.items l.at;
 }
 
 abbrev pub decreases-loop-state : goal.decreases-loop-state

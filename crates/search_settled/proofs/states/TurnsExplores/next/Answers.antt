@@ -10,7 +10,7 @@ next_states-requires g c = somewhere (g.M.Moves.threads c.args.self.now.system.n
 pub returns-clause-next : goal.returns-clause-next
 returns-clause-next g c = IfOk-weaker _ _ _ (if-some _ _ (λ v. next-are (g.M.Moves.threads c.args.self.now.system.now) (g.M.Moves.ends c.args.self.now.system.now)
     (g.M.Moves.stuck c.args.self.now.system.now)
-    (g.met.M.Moves.tame c.args.self.now.system.now) c.args.state.now v.items)) c.next_states.ensures.next
+    (g.met.M.Moves.tame c.args.self.now.system.now) (g.met.M.Moves.bounded c.args.self.now.system.now) c.args.state.now v.items)) c.next_states.ensures.next
 
 pub returns-clause-gives_up : goal.returns-clause-gives_up
 returns-clause-gives_up g c = where-none _ _ (gets-stuck (g.M.Moves.threads c.args.self.now.system.now) (g.M.Moves.ends c.args.self.now.system.now)

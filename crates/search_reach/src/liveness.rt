@@ -1,0 +1,137 @@
+//! Whether all comes to an end: from which states no ending can be reached, and whether every fair run ends.
+ghost use Rattle.std.specs.Prelude.{◌≡◌, None, IfOk, IfSome, All, length};
+ghost use Rattle.search_graph.specs.Graph.{IsWithin};
+ghost use Rattle.search_fairness.specs.Judged.{Says, IsCycle};
+ghost use Rattle.search_reach.specs.declared.follows.Wish.TheVariants as wishes;
+ghost use Rattle.search_reach.specs.declared.search.Verdict.TheVariants as verdicts;
+ghost use Rattle.search_reach.specs.Liveness.{IsRoundOf, SaysOfGraph, IsGraphLive, IsJudged};
+
+use crate::path::{choices_of, path_to, ways_in};
+use crate::{Follows, Verdict, Wish};
+use search_fairness::{Cycle, Fairness, judge};
+use search_graph::{Graph, Move, cannot_end};
+use std::alloc::{AllocError, Global};
+
+/// A fair run that goes on for ever: it comes to a state, and from there goes round and round. No clause speaks of the
+/// choices: they are a hint, to be judged by whoever follows them.
+#[derive(Drop, Debug)]
+pub struct FairCycle {
+    /// The choices to the state where it begins to go round.
+    pub path: Vec<usize>,
+    /// The choices once round.
+    pub walk: Vec<usize>,
+    /// The threads whose choices these are, each once, ascending.
+    pub threads: Vec<u32>,
+    /// How many states it comes through while it goes round.
+    pub states: usize,
+}
+
+/// What is known of fair runs: those in which each thread that can go on makes its next step then or later.
+#[derive(Drop, Debug)]
+pub enum FairRuns {
+    /// Each ends.
+    AllEnd,
+    /// One goes on for ever, as this one does.
+    GoOn(FairCycle),
+    /// Whether each ends is not known.
+    Unknown,
+}
+
+/// What is said of all states: it is said only where all were met.
+#[derive(Drop, Debug)]
+pub struct Liveness {
+    /// The states from which no ending can be reached, by their places among those that were met, ascending.
+    pub endless: Vec<usize>,
+    /// The choices to the first of these, if there is one: a hint, as the paths of endings are.
+    pub path: Vec<usize>,
+    /// Whether every fair run ends.
+    pub fair_runs: FairRuns,
+}
+
+/// The run that goes round this cycle.
+fn round_of(
+    alloc: Global,
+    moves: &[Move],
+    ways: &[usize],
+    cycle: Cycle,
+) -> Result<FairCycle, AllocError>
+    ensures threads { IfOk result (λ r. r.threads.items ≡ cycle.threads.items) }
+    ensures states { IfOk result (λ r. r.states ≡ length cycle.states.items) }
+{
+    let path = path_to(alloc, moves, ways, cycle.start as usize)?;
+    let walk = choices_of(alloc, moves, cycle.walk.as_slice())?;
+    Ok(FairCycle {
+        path,
+        walk,
+        states: cycle.states.len(),
+        threads: cycle.threads,
+    })
+}
+
+/// What is known of the fair runs of a graph.
+fn fair_runs_of(alloc: Global, graph: &Graph, ways: &[usize]) -> Result<FairRuns, AllocError>
+    requires { All (IsWithin graph.now.states) graph.now.moves.items }
+    ensures { IfOk result (SaysOfGraph graph.now) }
+{
+    match judge(alloc, graph)? {
+        Fairness::AllEnd => Ok(FairRuns::AllEnd),
+        Fairness::Cycle(cycle) => {
+            let round = round_of(alloc, graph.moves.as_slice(), ways, cycle)?;
+            Ok(FairRuns::GoOn(round))
+        }
+        Fairness::Unknown => Ok(FairRuns::Unknown),
+    }
+}
+
+/// What is said of the states of a graph, of which some are marked as ended, or nothing where the follower wishes the
+/// end.
+fn liveness_of<F: Follows>(
+    alloc: Global,
+    graph: &Graph,
+    ended: &[bool],
+    follower: &mut F,
+) -> Result<Option<Liveness>, AllocError>
+    requires within { All (IsWithin graph.now.states) graph.now.moves.items }
+    requires marks { length ended.now ≡ graph.now.states }
+    ensures live { IfOk result (λ o. IfSome o (IsGraphLive graph.now ended.now)) }
+    ensures told { IfOk result (λ o. o ≡ None → F.wish follower.new ≡ wishes.End) }
+{
+    let endless = cannot_end(alloc, graph, ended)?;
+    if let Wish::End = follower.states(graph.states) {
+        return Ok(None);
+    }
+    let ways = ways_in(alloc, graph.states, graph.moves.as_slice())?;
+    let fair_runs = fair_runs_of(alloc, graph, ways.as_slice())?;
+    let first = endless.first().copied().unwrap_or(0);
+    let path = path_to(alloc, graph.moves.as_slice(), ways.as_slice(), first)?;
+    Ok(Some(Liveness {
+        endless,
+        path,
+        fair_runs,
+    }))
+}
+
+/// What is said of the states where all were met, and the verdict behind it: the follower is asked before each part.
+pub(crate) fn judged<F: Follows>(
+    alloc: Global,
+    graph: &Graph,
+    ended: &[bool],
+    verdict: Verdict,
+    follower: &mut F,
+) -> Result<(Verdict, Option<Liveness>), AllocError>
+    requires within { verdict ≡ verdicts.All → All (IsWithin graph.now.states) graph.now.moves.items }
+    requires marks { length ended.now ≡ graph.now.states }
+    ensures { IfOk result
+        (λ r. IsJudged graph.now ended.now verdict (F.wish follower.old) r.0 (F.wish follower.new) r.1) }
+{
+    let Verdict::All = verdict else {
+        return Ok((verdict, None));
+    };
+    if let Wish::End = follower.states(graph.states) {
+        return Ok((Verdict::Told, None));
+    }
+    match liveness_of(alloc, graph, ended, follower)? {
+        Some(liveness) => Ok((Verdict::All, Some(liveness))),
+        None => Ok((Verdict::Told, None)),
+    }
+}
