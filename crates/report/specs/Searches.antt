@@ -1,5 +1,5 @@
 -- What is kept of a search.
-use Rattle.std.specs.Prelude.{ℕ, ◌≡◌, ◌≢◌, ◌≤◌, ◌⊎◌, Bool, List, [], true, is_some}
+use Rattle.std.specs.Prelude.{ℕ, ◌≡◌, ◌≢◌, ◌≤◌, ◌⊎◌, All, Bool, List, [], true, is_none, is_some}
 use Rattle.std.specs.List.{list_all}
 use Rattle.types.specs.declared.value.Value.{Value}
 use Rattle.types.specs.declared.parts.Parts.{Parts}
@@ -14,9 +14,13 @@ use Rattle.search_reach.specs.declared.ending.Ended.{Ended}
 use Rattle.search_reach.specs.declared.search.Verdict.TheVariants as verdicts
 use Rattle.search_endings.specs.Endings.{Ending}
 use Rattle.search_modules.specs.Endings.{HasEveryEnding, AllCanEndSo}
-use Rattle.search_finds.specs.Finds.{EndsAsLookedFor}
+use Rattle.search_finds.specs.Finds.{EndsAsLookedFor, IsLookedFor}
+use Rattle.search_finds.specs.Noted.{AreNoted}
+use Rattle.search_finds.specs.declared.met.Table.{Table}
+use Rattle.report_choice.specs.declared.sought.Sought.{Sought}
 use Rattle.report_command.specs.declared.search.Search.{Search}
 use Rattle.report_jobs.specs.Arguments.{AreSpelled, texts_in}
+use Rattle.report_jobs.specs.Asked.{IsAskedBy}
 use Rattle.report_jobs.specs.Prints.{WriterChange, KeepsRecord}
 use Rattle.report_lines.specs.Ends.{is_done}
 use Rattle.report_jobs.specs.declared.running.Trouble.{Trouble}
@@ -77,6 +81,25 @@ FindsNoOther q dump all = AllCanEndSo q.parts q.name q.args dump all.endings.key
 abbrev pub IsWellAt : Parts → Search → ℕ → Type 0
 IsWellAt m s status = is_some s.all ≡ true → status ≡ 0 → EndWell m s
 
+-- Runs were made; in each ending of the table all threads ended well, and none is looked for.
+pub record IsAllWell (s : Sought) (table : Table) : Type 0 where
+  pub some : table.runs ≢ 0
+  pub well : All (λ met. (threads_end_well met.ending ≡ true) × (IsLookedFor s met.ending → ⊥)) table.met.items
+
+-- Runs of the module by the call that was asked for were made; in each all threads ended well, and it ended otherwise
+-- than is looked for.
+pub record DrawWell (m : Parts) (s : Search) : Type 0 where
+  pub request : Requested
+  pub parts_are : request.parts ≡ m
+  pub asked : IsAskedBy s.call request
+  pub table : Table
+  pub noted : AreNoted request s.sought table
+  pub well : IsAllWell s.sought table
+
+-- What status 0 says of a search of drawn runs.
+abbrev pub IsDrawnWellAt : Parts → Search → ℕ → Type 0
+IsDrawnWellAt m s status = is_none s.all ≡ true → status ≡ 0 → DrawWell m s
+
 -- The bytes are a valid module's text, and its runs were searched.
 pub record HasSearched (bytes : List ℕ) (s : Search) (save : WriterChange) (status : ℕ) : Type 0 where
   pub parts : Parts
@@ -84,6 +107,7 @@ pub record HasSearched (bytes : List ℕ) (s : Search) (save : WriterChange) (st
   pub valid : IsValid parts
   pub finds : Finds parts s save status
   pub well : IsWellAt parts s status
+  pub drawn : IsDrawnWellAt parts s status
 
 -- A trouble that is the system's.
 abbrev pub IsOfSystem : Trouble → Type 0

@@ -11,7 +11,7 @@ use report_command::{Search, Sought};
 use report_jobs::Trouble;
 use report_lines::is_done;
 use search_endings::Ending;
-use search_finds::{is_looked_for, run_to};
+use search_finds::{Hears, is_looked_for, run_to};
 use search_modules::all_endings;
 use search_reach::{Ended, Follows, Verdict};
 use spawn_host::Request;
@@ -144,11 +144,12 @@ fn first_sought<'a>(
 }
 
 /// Makes the run to an ending that is looked for and tells of it, or says that none was made.
-fn tell_sought<W: Write, S: Write>(
+fn tell_sought<F: Hears, W: Write, S: Write>(
     alloc: Global,
     request: &Request,
     search: &Search,
     first: SoughtEnding,
+    follower: &mut F,
     out: &mut W,
     save: &mut S,
 ) -> Result<(), Trouble>
@@ -171,7 +172,7 @@ fn tell_sought<W: Write, S: Write>(
     match made {
         Some(made) => {
             write!(out, "found as ending {number}\n")?;
-            tell_made(alloc, request, search, made, out, save)
+            tell_made(alloc, request, search, made, follower, out, save)
         }
         None => {
             write!(out, "found as ending {number}; no run was made for it\n")?;
@@ -183,7 +184,7 @@ fn tell_sought<W: Write, S: Write>(
 /// Goes through every order of the entries of a call, prints the endings, and of the first that is looked for the lines
 /// of a run that ends so; and writes its record, where one is wanted. Answers the status: 1 where such an ending was
 /// found, one has a trap or a stop, there is none, or they are not all, and else 0.
-pub(crate) fn search_all_orders<F: Follows, W: Write, S: Write>(
+pub(crate) fn search_all_orders<F: Hears, W: Write, S: Write>(
     alloc: Global,
     request: &Request,
     search: &Search,
@@ -200,9 +201,12 @@ pub(crate) fn search_all_orders<F: Follows, W: Write, S: Write>(
     let all = all_of(alloc, request, most, search.sought.dump, follower)?;
     follower.end();
     write_all(out, &all, most)?;
+    if !search.sought.stops {
+        return Ok(status_of(&all));
+    }
     let Some(first) = first_sought(alloc, &all, &search.sought)? else {
         return Ok(status_of(&all));
     };
-    tell_sought(alloc, request, search, first, out, save)?;
+    tell_sought(alloc, request, search, first, follower, out, save)?;
     Ok(1)
 }

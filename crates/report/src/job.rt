@@ -10,7 +10,7 @@ ghost use Rattle.report.specs.Jobs.{Performs};
 use crate::{search_module, show_saved};
 use report_command::{Job, Search};
 use report_jobs::{Streams, complain, load, perform_plain, refuse};
-use search_reach::Follows;
+use search_finds::Hears;
 use std::alloc::Global;
 use std::io::Write;
 use std::sync::Wait;
@@ -42,7 +42,7 @@ where
     W: Write,
     E: Write,
     S: Write,
-    F: Follows,
+    F: Hears,
     requires { IsInRange job.now }
     ensures { Performs job.now «module».now saved.now (changed W.contents streams.old.out streams.new.out)
         (changed S.contents streams.old.save streams.new.save) result }
@@ -70,7 +70,7 @@ where
     W: Write,
     E: Write,
     S: Write,
-    F: Follows,
+    F: Hears,
     requires { IsSearchInRange asked.now }
     ensures made { result ≤ 1
         → HasSearched «module».now asked.now (changed S.contents streams.old.save streams.new.save) result }

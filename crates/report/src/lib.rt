@@ -13,6 +13,7 @@ mod all;
 mod job;
 mod searching;
 mod showing;
+mod table;
 
 pub use job::perform;
 pub use report_command::{Job, Usage, command};

@@ -5,17 +5,16 @@ ghost use Rattle.search_finds.specs.Finds.{IsFind, EndsAsLookedFor};
 ghost use Rattle.report_command.specs.Searches.{IsSearchInRange};
 ghost use Rattle.report_jobs.specs.Asked.{IsAskedBy};
 ghost use Rattle.report_jobs.specs.Troubles.{IsTroubleOf};
-ghost use Rattle.report.specs.Searches.{Finds, IsFindKept, IsOfSystem, IsWellAt};
+ghost use Rattle.report.specs.Searches.{Finds, DrawWell, IsDrawnWellAt, IsFindKept, IsOfSystem, IsWellAt};
 ghost use Rattle.report_jobs.specs.Prints.{changed};
 ghost use Rattle.report_jobs.specs.declared.running.Trouble.TheVariants as troubles;
 
 use crate::all::search_all_orders;
+use crate::table::{is_all_well, write_cut, write_table, write_unseen};
 use report_command::{Search, Sought};
 use report_jobs::{Trouble, args_of, keep, print, request_of};
-use report_lines::is_done;
 use search_endings::Ending;
-use search_finds::{Found, Halt, Met, SearchResult, Size, Table, first_found, shrunk, size_of};
-use search_reach::Follows;
+use search_finds::{Found, Halt, Hears, SearchResult, Size, first_found, shrunk, size_of};
 use search_scheduled::{MadeRun, SearchFault};
 use spawn_host::Request;
 use std::alloc::Global;
@@ -55,35 +54,10 @@ pub(crate) fn write_ending<W: Write>(out: &mut W, ending: &Ending) -> io::Result
     write!(out, "\n")
 }
 
-/// The line of an ending: how often it was met and first when, and what it is.
-fn write_met<W: Write>(out: &mut W, met: &Met, runs: u64) -> io::Result<()> {
-    let times = met.times;
-    let first = met.first;
-    write!(out, "{times} of {runs}, first in run {first}: ")?;
-    write_ending(out, &met.ending)
-}
-
-/// The table of the endings, in the order of their first runs.
-fn write_table<W: Write>(out: &mut W, table: &Table) -> io::Result<()> {
-    for met in table.met.iter() {
-        write_met(out, met, table.runs)?;
-    }
-    out.flush()
-}
-
 /// The line of a search that was told to end: how many of its runs were made.
 fn write_told<W: Write>(out: &mut W, made: u64, runs: u64) -> io::Result<()> {
     write!(out, "told to end: {made} of {runs} runs\n")?;
     out.flush()
-}
-
-/// Whether some ending of a table has a trap or a stop.
-fn has_failed(table: &Table) -> bool {
-    table.met.iter().any(|met| met
-        .ending
-        .outcomes()
-        .iter()
-        .any(|outcome| !is_done(*outcome)))
 }
 
 /// What became of the size of a run.
@@ -98,7 +72,7 @@ fn write_sizes<W: Write>(out: &mut W, before: Size, after: Size) -> io::Result<(
 /// Makes the runs that a search asks for, prints the table of their endings, and of a run that was found its lines, or
 /// that it was told to end; and writes the record of what was found, where one is wanted. Answers the status: 1 where a
 /// run was found or an ending has a trap or a stop, and else 0.
-fn search_drawn<R: Threads + Sync, F: Follows, W: Write, S: Write>(
+fn search_drawn<R: Threads + Sync, F: Hears, W: Write, S: Write>(
     rt: &R,
     alloc: Global,
     request: &Request,
@@ -110,6 +84,7 @@ fn search_drawn<R: Threads + Sync, F: Follows, W: Write, S: Write>(
     requires range { IsSearchInRange search.now }
     requires asked { IsAskedBy search.now.call request.now }
     ensures finds { IfOk result (Finds request.now.parts search.now (changed S.contents save.old save.new)) }
+    ensures well { IfOk result (λ status. status ≡ 0 → DrawWell request.now.parts search.now) }
     ensures trouble { IfErr result IsOfSystem }
 {
     let jobs = jobs_of(rt, search);
@@ -119,20 +94,25 @@ fn search_drawn<R: Threads + Sync, F: Follows, W: Write, S: Write>(
     };
     let SearchResult { table, halt } = searched;
     follower.end();
-    write_table(out, &table)?;
+    write_table(out, &search.sought, &table)?;
+    write_cut(out, &search.sought, &table)?;
     match halt {
         Halt::Found(found) => {
-            tell_found(alloc, request, search, found, out, save)?;
+            tell_found(alloc, request, search, found, follower, out, save)?;
             return Ok(1);
         }
         Halt::AllMade => {}
         Halt::Told => write_told(out, table.runs, search.sought.runs)?,
     }
-    Ok(u8::from(has_failed(&table)))
+    write_unseen(out, &search.sought, &table)?;
+    if is_all_well(alloc, &search.sought, &table)? {
+        return Ok(0);
+    }
+    Ok(1)
 }
 
 /// Searches as is asked for: through drawn runs, or through every order of entries. Answers the status.
-pub fn search_module<R: Threads + Sync, F: Follows, W: Write, S: Write>(
+pub fn search_module<R: Threads + Sync, F: Hears, W: Write, S: Write>(
     rt: &R,
     alloc: Global,
     module: &ValidModule,
@@ -144,6 +124,7 @@ pub fn search_module<R: Threads + Sync, F: Follows, W: Write, S: Write>(
     requires { IsSearchInRange search.now }
     ensures finds { IfOk result (Finds «module».now.parts search.now (changed S.contents save.old save.new)) }
     ensures well { IfOk result (IsWellAt «module».now.parts search.now) }
+    ensures drawn { IfOk result (IsDrawnWellAt «module».now.parts search.now) }
     ensures trouble { IfErr result (IsTroubleOf «module».now.parts search.now.call) }
 {
     let args = args_of(alloc, module, &search.call)?;
@@ -155,11 +136,12 @@ pub fn search_module<R: Threads + Sync, F: Follows, W: Write, S: Write>(
 }
 
 /// The run that was found, or where that is asked for a smaller one that ends alike, of which the sizes are printed.
-fn shrunk_if_asked<W: Write>(
+fn shrunk_if_asked<F: Hears, W: Write>(
     alloc: Global,
     request: &Request,
     search: &Search,
     found: MadeRun,
+    follower: &mut F,
     out: &mut W,
 ) -> Result<MadeRun, Trouble>
     requires { IsFind request.now search.now.sought.limit found }
@@ -172,20 +154,22 @@ fn shrunk_if_asked<W: Write>(
     }
     let before = size_of(&found.record);
     let Sought { limit, dump, .. } = search.sought;
-    let made = match shrunk(alloc, request, limit, dump, found) {
+    let made = match shrunk(alloc, request, limit, dump, found, follower) {
         Ok(made) => made,
         Err(fault) => return Err(no_memory(fault)),
     };
+    follower.end();
     write_sizes(out, before, size_of(&made.record))?;
     Ok(made)
 }
 
 /// Prints the lines of a run that ends as is looked for, or of a smaller one that ends alike, and writes its record.
-pub(crate) fn tell_made<W: Write, S: Write>(
+pub(crate) fn tell_made<F: Hears, W: Write, S: Write>(
     alloc: Global,
     request: &Request,
     search: &Search,
     made: MadeRun,
+    follower: &mut F,
     out: &mut W,
     save: &mut S,
 ) -> Result<(), Trouble>
@@ -195,18 +179,20 @@ pub(crate) fn tell_made<W: Write, S: Write>(
     ensures kept { IfOk result (λ _. IsFindKept request.now.parts search.now (changed S.contents save.old save.new)) }
     ensures trouble { IfErr result IsOfSystem }
 {
-    let kept = shrunk_if_asked(alloc, request, search, made, out)?;
+    out.flush()?;
+    let kept = shrunk_if_asked(alloc, request, search, made, follower, out)?;
     print(out, &kept.end, search.sought.dump)?;
     keep(&kept.record, search.save.is_some(), save)?;
     Ok(())
 }
 
 /// Prints the number of a run that was found, and tells of it.
-fn tell_found<W: Write, S: Write>(
+fn tell_found<F: Hears, W: Write, S: Write>(
     alloc: Global,
     request: &Request,
     search: &Search,
     found: Found,
+    follower: &mut F,
     out: &mut W,
     save: &mut S,
 ) -> Result<(), Trouble>
@@ -218,5 +204,5 @@ fn tell_found<W: Write, S: Write>(
 {
     let Found { run, made } = found;
     write!(out, "found in run {run}\n")?;
-    tell_made(alloc, request, search, made, out, save)
+    tell_made(alloc, request, search, made, follower, out, save)
 }

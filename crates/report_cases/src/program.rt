@@ -4,6 +4,7 @@ ghost use Rattle.report_command.specs.Jobs.{IsInRange};
 use report::{Job, Streams, perform, show_saved};
 use report_command::{Order, Usage, asked};
 use report_reasons::{Done, explain_done};
+use search_finds::{Hears, Size};
 use search_reach::{Follows, Wish};
 use std::alloc::{AllocError, Global};
 use std::io::Write;
@@ -69,6 +70,22 @@ impl Follows for Wishes {
     }
 
     fn end(&mut self) {}
+}
+
+impl Hears for Wishes {
+    type Watch = ();
+
+    fn watch(&self) -> () {}
+
+    fn given_up(&mut self) -> Wish {
+        self.wish
+    }
+
+    fn found(&mut self) {}
+
+    fn tried(&mut self, _tries: u32, _size: Size) -> Wish {
+        self.wish
+    }
 }
 
 /// Does a job.

@@ -1,6 +1,26 @@
 //! What a search along drawn schedules makes, and looks for.
 
 use crate::way::Way;
+use types::Outcome;
+
+/// What a line of a thread is found by.
+#[derive(Clone, Copy)]
+pub enum Find<'a> {
+    /// Nothing.
+    Nothing,
+    /// A trap or a stop.
+    Failure,
+    /// These words.
+    Words(&'a str),
+}
+
+/// What is looked for: a run that has a line of a thread with this, or whose thread 0 comes to another result than is
+/// expected.
+#[derive(Clone, Copy)]
+pub struct Target<'a> {
+    pub find: Find<'a>,
+    pub expect: Option<Outcome>,
+}
 
 /// Which runs are made, and what is looked for.
 #[derive(Clone, Copy)]
@@ -17,8 +37,8 @@ pub struct Sought<'a> {
     pub limit: u32,
     /// How many bytes of the memory belong to an ending.
     pub dump: u32,
-    /// The words of a thread's line by which a run is found.
-    pub find: Option<&'a str>,
-    /// The words without which thread 0's line is found.
-    pub expect: Option<&'a str>,
+    /// What is looked for.
+    pub target: Target<'a>,
+    /// Whether the first run that is looked for is the last that is made.
+    pub stops: bool,
 }

@@ -2,3 +2,4 @@ pub mod Searches
 pub mod Views
 pub mod Jobs
 pub mod FaultNumbers
+pub mod Results

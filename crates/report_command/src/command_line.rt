@@ -8,7 +8,7 @@ ghost use Rattle.report_command.specs.FaultNumbers.{usage_number, IsWrong};
 use crate::arguments::{Argument, CommandRow, FLAG, Form, OPTION, command_of};
 use crate::call::{ARGS, CallWords, FUEL, INVOKE, call_of};
 use crate::limits::{DEFAULT_DUMP, DEFAULT_LIMIT, MOST_DUMP};
-use crate::search::{SEARCH, Search, search_job};
+use crate::search::{SEARCH, Search, search_job, search_misuse};
 use crate::show::{SHOW, View, misread, show_job};
 use clap::builder::ValueParser;
 use clap::error::ErrorKind;
@@ -334,6 +334,22 @@ fn job_of<'a>(
     }
 }
 
+/// What is said of words that no line has.
+const FINDS_NOTHING: &str =
+    "invalid value for '--find <WORDS>': no line of a thread can have these words. A line is `thread T: ` and one of\n\
+    \x20 ok, ok i32:V, ok i64:V\n\
+    \x20 trap and unreachable, divide by zero, integer overflow, out of bounds, unaligned atomic, not shared,\n\
+    \x20      undefined element, uninitialized element, signature mismatch or stack exhausted\n\
+    \x20 stop and out of fuel, asleep for good or record full";
+
+/// What is said of a result that is none.
+const EXPECTS_NONE: &str =
+    "invalid value for '--expect <RESULT>': it is the whole result of thread 0, as its line has it:\n\
+    \x20 ok, i32:V, i64:V\n\
+    \x20 trap and unreachable, divide by zero, integer overflow, out of bounds, unaligned atomic, not shared,\n\
+    \x20      undefined element, uninitialized element, signature mismatch or stack exhausted\n\
+    \x20 stop and out of fuel, asleep for good or record full";
+
 /// Why words are no job, though the parser takes each of them.
 #[derive(Clone, Copy)]
 pub enum Misuse {
@@ -353,12 +369,18 @@ pub enum Misuse {
     NoBytes,
     /// What it makes would take the place of a file that it reads.
     ReplacesRead,
-    /// A record is wanted of what is found, and nothing is looked for.
-    RecordsNothing,
     /// The record of what is found would take the place of the module.
     FindReplacesModule,
     /// The strategy is none.
     Strategy,
+    /// No words are looked for, which each line has.
+    FindsAll,
+    /// No line has the words.
+    FindsNothing,
+    /// The words are those of budgets, which a search through every order doesn't spend.
+    FindsNoBudget,
+    /// What is expected is no result.
+    ExpectsNone,
 }
 
 impl Misuse {
@@ -367,14 +389,17 @@ impl Misuse {
             Misuse::RecordsWords
             | Misuse::ReplacesModule
             | Misuse::FindReplacesModule
-            | Misuse::ReplacesRead => ErrorKind::ArgumentConflict,
-            Misuse::RecordsNothing => ErrorKind::MissingRequiredArgument,
+            | Misuse::ReplacesRead
+            | Misuse::FindsNoBudget => ErrorKind::ArgumentConflict,
             Misuse::NotText
             | Misuse::Unreadable
             | Misuse::NoLines
             | Misuse::NoAddresses
             | Misuse::NoBytes
-            | Misuse::Strategy => ErrorKind::InvalidValue,
+            | Misuse::Strategy
+            | Misuse::FindsAll
+            | Misuse::FindsNothing
+            | Misuse::ExpectsNone => ErrorKind::InvalidValue,
         }
     }
 
@@ -386,9 +411,12 @@ impl Misuse {
             Misuse::NoLines | Misuse::NoAddresses | Misuse::NoBytes | Misuse::ReplacesRead => {
                 Some(CommandName::Show)
             }
-            Misuse::RecordsNothing | Misuse::FindReplacesModule | Misuse::Strategy => {
-                Some(CommandName::Search)
-            }
+            Misuse::FindReplacesModule
+            | Misuse::Strategy
+            | Misuse::FindsAll
+            | Misuse::FindsNothing
+            | Misuse::FindsNoBudget
+            | Misuse::ExpectsNone => Some(CommandName::Search),
         }
     }
 
@@ -404,9 +432,6 @@ impl Misuse {
             Misuse::ReplacesRead => {
                 "'--html <OUT>' and '--trace <OUT>' cannot be used with the path of <FILE> or <RECORD>"
             }
-            Misuse::RecordsNothing => {
-                "'--record <OUT>' and '--shrink' are for what '--find <WORDS>' or '--expect <WORDS>' finds"
-            }
             Misuse::Unreadable => "the command line can't be read",
             Misuse::NoLines => {
                 "invalid value for '--lines <A-B>': it is one unsigned decimal, or two with the lower one first"
@@ -418,8 +443,16 @@ impl Misuse {
                 "invalid value for '--dump <A:N>': it is an address and a number of bytes up to 4096"
             }
             Misuse::Strategy => {
-                "invalid value for '--strategy <WAY>': it is random, or pct:D with a D of 1 to 32"
+                "invalid value for '--strategy <WAY>': it is mix, random, spin, or pct:D with a D of 1 to 32"
             }
+            Misuse::FindsAll => {
+                "invalid value for '--find <WORDS>': each line of a thread has no words at all"
+            }
+            Misuse::FindsNothing => FINDS_NOTHING,
+            Misuse::FindsNoBudget => {
+                "the argument '--all' cannot be used with '--find' of 'out of fuel' or 'record full': it spends no budget"
+            }
+            Misuse::ExpectsNone => EXPECTS_NONE,
         }
     }
 }
@@ -482,9 +515,7 @@ fn misuse_of(job: &Job) -> Option<Misuse>
             _ => None,
         },
         Job::Search(search) => {
-            if search.keeps_nothing() {
-                Some(Misuse::RecordsNothing)
-            } else if search.save == Some(search.file) {
+            if search.save == Some(search.file) {
                 Some(Misuse::FindReplacesModule)
             } else {
                 None
@@ -523,14 +554,6 @@ pub fn command<'a>(alloc: Global, words: &'a [&'a str]) -> Result<Job<'a>, Usage
     }
 }
 
-/// Why words of the command with this name are no job: the parser sees to all but the strategy of a search.
-fn unreadable(name: &str) -> Misuse {
-    match name {
-        "search" => Misuse::Strategy,
-        _ => Misuse::Unreadable,
-    }
-}
-
 /// What words ask for that the parser takes.
 fn order_of<'a>(alloc: Global, matches: &ArgMatches<'a>) -> Result<Order<'a>, Usage>
     ensures range { IfOk result (λ asked. IsInRange asked.job) }
@@ -542,8 +565,11 @@ fn order_of<'a>(alloc: Global, matches: &ArgMatches<'a>) -> Result<Order<'a>, Us
     if let Some(misuse) = misread(name, matches) {
         return Err(misused(alloc, misuse));
     }
+    if let Some(misuse) = search_misuse(alloc, name, matches)? {
+        return Err(misused(alloc, misuse));
+    }
     let Some(job) = job_of(alloc, name, matches)? else {
-        return Err(misused(alloc, unreadable(name)));
+        return Err(misused(alloc, Misuse::Unreadable));
     };
     match misuse_of(&job) {
         None => Ok(Order {

@@ -8,11 +8,12 @@ mod arguments;
 mod call;
 mod command_line;
 mod limits;
+mod lines;
 mod search;
 mod show;
 
 pub use call::CallWords;
 pub use command_line::{Job, Misuse, Order, RunJob, Usage, asked, command, misused};
-pub use report_choice::{Color, Look, Sought, Way};
+pub use report_choice::{Color, Find, Look, Sought, Target, Way};
 pub use search::Search;
 pub use show::{At, View};

@@ -15,6 +15,12 @@ pub(crate) const MOST_STATES: u32 = 1_000_000_000;
 /// The most threads that make the runs of a search.
 pub(crate) const MOST_JOBS: u32 = 256;
 
+/// The most seconds after which a search ends, or a smaller run is no longer looked for.
+pub(crate) const MOST_SECONDS: u32 = 1_000_000;
+
+/// For how many seconds a smaller run is looked for.
+pub(crate) const DEFAULT_SHRINK_SECONDS: u32 = 10;
+
 /// The highest number of a line of a record before which threads and memory are shown.
 pub(crate) const MOST_LINE: u64 = 2_000_000;
 
@@ -29,11 +35,16 @@ pub(crate) const DEFAULT_FUEL: &str = "1000000000";
 /// How many entries the log takes.
 pub(crate) const DEFAULT_LIMIT: &str = "100000";
 
+/// The same of a search, whose runs are many.
+pub(crate) const DEFAULT_SEARCH_FUEL: &str = "10000000";
+
+pub(crate) const DEFAULT_SEARCH_LIMIT: &str = "10000";
+
 /// How many bytes of the memory are printed.
 pub(crate) const DEFAULT_DUMP: &str = "0";
 
 /// How many runs a search makes, from which one on, and of which seed.
-pub(crate) const DEFAULT_RUNS: &str = "1000";
+pub(crate) const DEFAULT_RUNS: &str = "10000";
 
 pub(crate) const DEFAULT_FROM: &str = "1";
 

@@ -6,14 +6,16 @@ ghost use Rattle.report_command.specs.Searches.{IsSoughtInRange};
 
 use crate::arguments::{Argument, CommandRow, FLAG, OPTION};
 use crate::call::{ARGS, CallWords, FUEL, INVOKE, call_of};
-use crate::command_line::{DUMP, FILE, Job, LIMIT, limit_and_dump_of};
+use crate::command_line::{DUMP, FILE, Job, LIMIT, Misuse, limit_and_dump_of};
+use crate::lines::{Standing, result_of, standing_of};
 use crate::limits::{
-    DEFAULT_FROM, DEFAULT_RUNS, DEFAULT_SEED, DEFAULT_STATES, MOST_JOBS, MOST_RUNS, MOST_SEED,
+    DEFAULT_FROM, DEFAULT_RUNS, DEFAULT_SEARCH_FUEL, DEFAULT_SEARCH_LIMIT, DEFAULT_SEED,
+    DEFAULT_SHRINK_SECONDS, DEFAULT_STATES, MOST_JOBS, MOST_RUNS, MOST_SECONDS, MOST_SEED,
     MOST_STATES,
 };
 use clap::ArgMatches;
 use clap::builder::ValueParser;
-use report_choice::{MOST_DEPTH, Sought, Way};
+use report_choice::{Find, MOST_DEPTH, Sought, Target, Way};
 use std::alloc::{AllocError, Global};
 
 /// A search through runs of a function of a module.
@@ -27,6 +29,10 @@ pub struct Search<'a> {
     pub sought: Sought<'a>,
     /// Whether of what is found a run with few switches of threads is looked for.
     pub shrink: bool,
+    /// For how many seconds, 1 to 1,000,000.
+    pub shrink_time: u32,
+    /// After how many seconds the search is told to end, if it is.
+    pub time: Option<u32>,
     /// How many threads make runs; without a number as many as there are processors.
     pub jobs: Option<u32>,
     /// Where every order of entries is gone through in place of drawn runs: how many states are met at most, 1 to
@@ -36,14 +42,6 @@ pub struct Search<'a> {
     pub until: Option<&'a str>,
     /// The path of the record of what is found, if one is wanted.
     pub save: Option<&'a str>,
-}
-
-impl Search<'_> {
-    /// Whether a record or a smaller run is wanted, and nothing is looked for.
-    pub(crate) fn keeps_nothing(&self) -> bool {
-        let looks = self.sought.find.is_some() || self.sought.expect.is_some();
-        (self.save.is_some() || self.shrink) && !looks
-    }
 }
 
 /// What the option is for that ends a search.
@@ -80,12 +78,17 @@ const SEED: Argument = Argument {
     ..OPTION
 };
 
+/// What is said of the strategies.
+const STRATEGY_HELP: &str =
+    "Who goes on: random, pct:D for priorities that change at D - 1 points, D of 1 to 32, spin for long turns, or mix \
+     for all of these in turn";
+
 /// Who goes on.
 const STRATEGY: Argument = Argument {
     name: "strategy",
     value: "WAY",
-    help: "Who goes on: random, or pct:D for priorities that change at D - 1 points, D of 1 to 32",
-    defaults: &["random"],
+    help: STRATEGY_HELP,
+    defaults: &["mix"],
     ..OPTION
 };
 
@@ -125,16 +128,48 @@ const MET: Argument = Argument {
 const FIND: Argument = Argument {
     name: "find",
     value: "WORDS",
-    help: "Stop at the first run with a thread's line that has these words",
+    help: "Stop at the first run with a thread's line that has these words; without it, and without --expect, a run \
+           is looked for in which a thread traps or stops",
     ..OPTION
 };
 
 /// What isn't looked for.
 const EXPECT: Argument = Argument {
     name: "expect",
-    value: "WORDS",
-    help: "Stop at the first run whose line of thread 0 hasn't these words",
+    value: "RESULT",
+    help: "Stop at the first run in which thread 0 comes to another result: i32:2, ok, trap unreachable ..",
     ..OPTION
+};
+
+/// How long it takes.
+const TIME: Argument = Argument {
+    name: "time",
+    value: "SECONDS",
+    help: "End after so many seconds, and print what was met so far",
+    parser: ValueParser::Signed(1, MOST_SECONDS as i64),
+    ..OPTION
+};
+
+/// How long smaller runs are looked for.
+const SHRINK_TIME: Argument = Argument {
+    name: "shrink-time",
+    value: "SECONDS",
+    help: "With --shrink: for how many seconds; without it 10",
+    parser: ValueParser::Signed(1, MOST_SECONDS as i64),
+    needs: &["shrink"],
+    ..OPTION
+};
+
+/// How much a thread may spend.
+const SEARCH_FUEL: Argument = Argument {
+    defaults: &[DEFAULT_SEARCH_FUEL],
+    ..FUEL
+};
+
+/// How much a log takes.
+const SEARCH_LIMIT: Argument = Argument {
+    defaults: &[DEFAULT_SEARCH_LIMIT],
+    ..LIMIT
 };
 
 /// Where the record of what is found goes.
@@ -163,24 +198,45 @@ const UNTIL: Argument = Argument {
     ..OPTION
 };
 
-/// `search FILE --invoke NAME [--runs N] [--from I] [--seed S] [--strategy random|pct:D] [--jobs N] [--all [--states
-/// N]] [--find WORDS] [--expect WORDS] [--record OUT] [--shrink] [--until PATH] [--fuel N] [--limit N] [--dump N]
-/// [ARG..]`
+/// `search FILE --invoke NAME [--runs N] [--from I] [--seed S] [--strategy mix|random|pct:D|spin] [--jobs N] [--all
+/// [--states N]] [--find WORDS] [--expect RESULT] [--record OUT] [--shrink [--shrink-time SECONDS]] [--time SECONDS]
+/// [--until PATH] [--fuel N] [--limit N] [--dump N] [ARG..]`
 pub(crate) static SEARCH: CommandRow = CommandRow {
     name: "search",
     call: "wathread search",
     about: "Runs a function of a module on one thread along many schedules, and prints how the runs end",
     after_help: Some(UNTIL_HELP),
     arguments: &[
-        FILE, INVOKE, RUNS, FROM, SEED, STRATEGY, JOBS, ALL, MET, FIND, EXPECT, SAVE, SHRINK,
-        UNTIL, FUEL, LIMIT, DUMP, ARGS,
+        FILE,
+        INVOKE,
+        RUNS,
+        FROM,
+        SEED,
+        STRATEGY,
+        JOBS,
+        ALL,
+        MET,
+        FIND,
+        EXPECT,
+        SAVE,
+        SHRINK,
+        SHRINK_TIME,
+        TIME,
+        UNTIL,
+        SEARCH_FUEL,
+        SEARCH_LIMIT,
+        DUMP,
+        ARGS,
     ],
 };
 
-/// The strategy that a word names: `random`, or `pct:` with a depth of 1 to 32.
+/// The strategy that a word names: `mix`, `random`, `spin`, or `pct:` with a depth of 1 to 32.
 fn way_of(word: &str) -> Option<Way> {
-    if word == "random" {
-        return Some(Way::Random);
+    match word {
+        "mix" => return Some(Way::Mix),
+        "random" => return Some(Way::Random),
+        "spin" => return Some(Way::Spin),
+        _ => {}
     }
     let Some(depth) = word.strip_prefix("pct:") else {
         return None;
@@ -191,9 +247,64 @@ fn way_of(word: &str) -> Option<Way> {
     }
 }
 
+/// Why words can't be looked for, if they can't: the search through every order spends no budget.
+fn find_misuse(alloc: Global, words: &str, is_all: bool) -> Result<Option<Misuse>, AllocError> {
+    if words.is_empty() {
+        return Ok(Some(Misuse::FindsAll));
+    }
+    Ok(match standing_of(alloc, words)? {
+        Standing::Nowhere => Some(Misuse::FindsNothing),
+        Standing::WhereSpent if is_all => Some(Misuse::FindsNoBudget),
+        Standing::WhereSpent | Standing::Somewhere => None,
+    })
+}
+
+/// Which of the words of a search can't be taken, though the parser takes each, if one can't.
+pub(crate) fn search_misuse(
+    alloc: Global,
+    name: &str,
+    matches: &ArgMatches,
+) -> Result<Option<Misuse>, AllocError> {
+    if name != "search" {
+        return Ok(None);
+    }
+    if matches.get_str("strategy").and_then(way_of).is_none() {
+        return Ok(Some(Misuse::Strategy));
+    }
+    if let Some(words) = matches.get_str("expect")
+        && result_of(alloc, words)?.is_none()
+    {
+        return Ok(Some(Misuse::ExpectsNone));
+    }
+    match matches.get_str("find") {
+        Some(words) => find_misuse(alloc, words, matches.get_flag("all")),
+        None => Ok(None),
+    }
+}
+
+/// What is looked for: a trap or a stop, where nothing is said.
+fn target_of<'a>(alloc: Global, matches: &ArgMatches<'a>) -> Result<Target<'a>, AllocError> {
+    let expect = match matches.get_str("expect") {
+        Some(words) => result_of(alloc, words)?,
+        None => None,
+    };
+    let find = match matches.get_str("find") {
+        Some(words) => Find::Words(words),
+        None if expect.is_some() => Find::Nothing,
+        None => Find::Failure,
+    };
+    Ok(Target { find, expect })
+}
+
+/// Whether a search stops at the first run that is looked for: where it is said what that is, or what becomes of it.
+fn stops(matches: &ArgMatches) -> bool {
+    let is_said = matches.get_str("find").is_some() || matches.get_str("expect").is_some();
+    is_said || matches.get_str("record").is_some() || matches.get_flag("shrink")
+}
+
 /// Which runs are drawn, where the numbers are there and in range, as the parser sees to, and the strategy is one; and
 /// what is looked for.
-fn sought_of<'a>(matches: &ArgMatches<'a>) -> Option<Sought<'a>>
+fn sought_of<'a>(matches: &ArgMatches<'a>, target: Target<'a>) -> Option<Sought<'a>>
     ensures { IfSome result IsSoughtInRange }
 {
     let Some(word) = matches.get_str("strategy") else {
@@ -219,8 +330,8 @@ fn sought_of<'a>(matches: &ArgMatches<'a>) -> Option<Sought<'a>>
         runs,
         limit,
         dump,
-        find: matches.get_str("find"),
-        expect: matches.get_str("expect"),
+        target,
+        stops: stops(matches),
     })
 }
 
@@ -242,7 +353,8 @@ pub(crate) fn search_job<'a>(
 ) -> Result<Option<Job<'a>>, AllocError>
     ensures { IfOk result (λ job. IfSome job IsInRange) }
 {
-    let (Some(file), Some(sought)) = (matches.get_str("file"), sought_of(matches)) else {
+    let target = target_of(alloc, matches)?;
+    let (Some(file), Some(sought)) = (matches.get_str("file"), sought_of(matches, target)) else {
         return Ok(None);
     };
     let Some(call) = call_of(alloc, matches)? else {
@@ -253,6 +365,10 @@ pub(crate) fn search_job<'a>(
         call,
         sought,
         shrink: matches.get_flag("shrink"),
+        shrink_time: matches
+            .get_one::<u32>("shrink-time")
+            .unwrap_or(DEFAULT_SHRINK_SECONDS),
+        time: matches.get_one::<u32>("time"),
         jobs: matches.get_one::<u32>("jobs"),
         all: all_of(matches),
         until: matches.get_str("until"),

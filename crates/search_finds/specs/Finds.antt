@@ -1,15 +1,20 @@
 -- What is found.
-use Rattle.std.specs.Prelude.{ℕ, ◌≡◌, ◌⊎◌, Option, Some, All, List}
+use Rattle.std.specs.Prelude.{ℕ, ◌≡◌, ◌⊎◌, Option, Some, All, List, false, slice_get}
 use Rattle.std.specs.Borrow.{Bor}
+use Rattle.std.specs.List.{list_all}
+use Rattle.types.specs.declared.outcome.Outcome.{Outcome}
 use Rattle.spawn_host.specs.declared.end.EndState.{EndState}
 use Rattle.replay.specs.Runs.{IsRunOf}
 use Rattle.spawn_host.specs.Requests.{Requested}
+use Rattle.report_lines.specs.Ends.{is_done}
 use Rattle.search_scheduled.specs.Headers.{IsOfRequest}
 use Rattle.search_scheduled.specs.declared.running.MadeRun.{MadeRun}
 use Rattle.search_endings.specs.Endings.{Ending}
 use Rattle.search_finds.specs.declared.met.Table.{Table}
 use Rattle.search_finds.specs.Endings.{ending_left, HaveOneEnding}
-use Rattle.search_finds.specs.Words.{HasLineWith, LacksInThread0}
+use Rattle.search_finds.specs.Words.{HasLineWith}
+use Rattle.report_choice.specs.declared.sought.Find.{Find}
+use Rattle.report_choice.specs.declared.sought.Find.TheVariants as finds
 use Rattle.report_choice.specs.declared.sought.Sought.{Sought}
 
 -- Its record is of a run of the module by the call that is requested, which left what it says.
@@ -23,17 +28,27 @@ pub record IsMetEnding (q : Requested) (limit dump : ℕ) (e : Ending) : Type 0 
   pub find : IsFind q limit made
   pub ending : e ≡ ending_left dump made.end
 
--- There are words, and a thread's line has them.
-abbrev pub HasWantedWords : Option (Bor (List ℕ)) → Ending → Type 0
-HasWantedWords words e = (w : _) × (words ≡ Some w) × HasLineWith w.now e.outcomes
+-- Some thread trapped or was stopped.
+abbrev pub HasFailure : List Outcome → Type 0
+HasFailure outcomes = list_all is_done outcomes ≡ false
 
--- There are words, and that of thread 0 hasn't them.
-abbrev pub LacksWantedWords : Option (Bor (List ℕ)) → Ending → Type 0
-LacksWantedWords words e = (w : _) × (words ≡ Some w) × LacksInThread0 w.now e.outcomes
+-- By this a run with these outcomes is found.
+abbrev pub IsFoundBy : Find → List Outcome → Type 0
+IsFoundBy finds.Nothing outcomes = ⊥
+IsFoundBy finds.Failure outcomes = HasFailure outcomes
+IsFoundBy (finds.Words words) outcomes = HasLineWith words.now outcomes
 
--- A thread's line has the words that are looked for, or that of thread 0 hasn't those that are expected.
+-- Thread 0 comes to another result.
+abbrev pub ComesToAnother : Outcome → List Outcome → Type 0
+ComesToAnother expected outcomes = (slice_get outcomes 0 ≡ Some expected) → ⊥
+
+-- A result is expected, and thread 0 comes to another.
+abbrev pub IsUnexpected : Option Outcome → List Outcome → Type 0
+IsUnexpected expect outcomes = (o : Outcome) × (expect ≡ Some o) × ComesToAnother o outcomes
+
+-- It has a line of a thread by which a run is found, or thread 0 comes to another result than is expected.
 abbrev pub IsLookedFor : Sought → Ending → Type 0
-IsLookedFor s e = HasWantedWords s.find e ⊎ LacksWantedWords s.expect e
+IsLookedFor s e = IsFoundBy s.target.find e.outcomes ⊎ IsUnexpected s.target.expect e.outcomes
 
 -- So a run ended.
 abbrev pub EndsAsLookedFor : Sought → ℕ → EndState → Type 0
@@ -46,6 +61,10 @@ IsFound q s made = IsFind q s.limit made × EndsAsLookedFor s s.dump made.end
 -- Each ending of the table is that of a run by the call.
 abbrev pub AreMet : Requested → Sought → Table → Type 0
 AreMet q s table = All (λ met. IsMetEnding q s.limit s.dump met.ending) table.met.items
+
+-- None of them is looked for.
+abbrev pub HasNoneLookedFor : Sought → Table → Type 0
+HasNoneLookedFor s table = All (λ met. IsLookedFor s met.ending → ⊥) table.met.items
 
 -- A run by the call that ends as another one.
 abbrev pub IsFindAlike : Requested → ℕ → ℕ → MadeRun → MadeRun → Type 0

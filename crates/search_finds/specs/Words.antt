@@ -18,7 +18,3 @@ pub record HasWordsAt (words : List ℕ) (outcomes : List Outcome) (thread : ℕ
 -- They stand in the line of some thread.
 abbrev pub HasLineWith : List ℕ → List Outcome → Type 0
 HasLineWith words outcomes = (thread : ℕ) × (outcome : Outcome) × HasWordsAt words outcomes thread outcome
-
--- They don't stand in the line of thread 0.
-abbrev pub LacksInThread0 : List ℕ → List Outcome → Type 0
-LacksInThread0 words outcomes = (outcome : Outcome) → HasWordsAt words outcomes 0 outcome → ⊥

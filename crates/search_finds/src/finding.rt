@@ -1,22 +1,24 @@
 //! The first run with an ending that is looked for.
-ghost use Rattle.std.specs.Prelude.{◌≡◌, ◌+◌, ◌<◌, ◌≤◌, ◌^◌, true, All, IfOk, OnOk, IfSome};
-ghost use Rattle.search_finds.specs.Finds.{IsFound, AreMet, EndsAsLookedFor};
+ghost use Rattle.std.specs.Prelude.{◌≡◌, ◌+◌, ◌<◌, ◌≤◌, ◌^◌, true, All, IfOk, OnOk, OnSome, IfSome, IsTrue};
+ghost use Rattle.search_finds.specs.Finds.{IsFound, AreMet, EndsAsLookedFor, HasNoneLookedFor};
+ghost use Rattle.search_finds.specs.Noted.{AreNoted};
 ghost use Rattle.search_finds.specs.Searching.{IsMadeIn, IsMetIn, IsFoundIn, AreSparesIn};
 ghost use Rattle.search_finds.specs.Halts.{IfFound};
 
+use crate::hears::Hears;
 use crate::search::RunMaker;
 use crate::{Table, ending_of, is_looked_for};
-use report_choice::{MOST_DEPTH, Sought, Way};
+use report_choice::{Sought, Way};
 use search_endings::Ending;
-use search_reach::{Follows, Wish};
+use search_reach::Wish;
 use search_scheduled::{MadeRun, SearchFault, Spares, run_along, run_with_spares};
-use search_strategies::{Along, Pct, Random};
+use search_strategies::{Along, Drawn, Watch, Watched};
 use spawn_host::{EndState, Request};
 use std::alloc::{AllocError, Global};
 use std::thread::{Threads, map_indices};
 
-/// How many runs a job makes before the endings are looked at.
-const PIECE: usize = 128;
+/// How many runs a job makes at most before the endings are looked at.
+const PIECE: u64 = 128;
 
 /// A run that was found, and its number.
 #[derive(Drop)]
@@ -43,14 +45,31 @@ pub struct SearchResult {
     pub halt: Halt,
 }
 
+/// Who makes runs: so many threads, each of which gives a run up where that is to be seen.
+struct Crew<'a, R, W> {
+    rt: &'a R,
+    jobs: usize,
+    watch: &'a W,
+}
+
+impl<R, W> Drop for Crew<'_, R, W> {
+    fn drop(self) {
+        let Crew {
+            rt: _,
+            jobs: _,
+            watch: _,
+        } = self;
+    }
+}
+
 /// How many entries the run has in which a thread goes on as long as it can: among so many lie the points at which
 /// priorities change.
 fn plain_entries(alloc: Global, request: &Request, sought: &Sought) -> Result<u32, SearchFault>
     ensures { IfOk result (λ entries. 0 < entries) }
 {
     match sought.way {
-        Way::Random => Ok(1),
-        Way::Priorities(_) => {
+        Way::Random | Way::Spin => Ok(1),
+        Way::Priorities(_) | Way::Mix => {
             let plain = run_along(alloc, request, sought.limit, &mut Along::new(&[]))?;
             let entries = plain.record.parts().log.as_slice().len();
             Ok((entries.min(1_000_000) as u32).max(1))
@@ -60,38 +79,45 @@ fn plain_entries(alloc: Global, request: &Request, sought: &Sought) -> Result<u3
 
 impl<'m, 'a> RunMaker<'m, 'a> {
     /// Makes a run of this number, with the threads that the runs before it didn't start.
-    fn run(&self, alloc: Global, run: u64, spares: &mut Spares<'m>) -> Result<MadeRun, SearchFault>
+    fn run<W: Watch>(
+        &self,
+        alloc: Global,
+        watch: &W,
+        run: u64,
+        spares: &mut Spares<'m>,
+    ) -> Result<MadeRun, SearchFault>
         requires { AreSparesIn self.now spares.old }
         ensures find { IfOk result (IsMadeIn self.now) }
         ensures spares { OnOk result (AreSparesIn self.now spares.new) }
     {
-        let sought = self.sought;
-        match sought.way {
-            Way::Random => {
-                let mut random = Random::new(sought.seed, run);
-                run_with_spares(alloc, self.request, sought.limit, &mut random, spares)
-            }
-            Way::Priorities(depth) => {
-                let depth = depth.min(MOST_DEPTH);
-                let mut pct = Pct::new(sought.seed, run, depth, self.entries);
-                run_with_spares(alloc, self.request, sought.limit, &mut pct, spares)
-            }
-        }
+        let Sought {
+            way, seed, limit, ..
+        } = *self.sought;
+        let drawn = Drawn::new(way, seed, run, self.entries);
+        let mut watched = Watched::new(drawn, watch);
+        run_with_spares(alloc, self.request, limit, &mut watched, spares)
     }
 
-    /// The ending of the run of this number, with the threads that the runs before it didn't start.
-    fn ending(
+    /// The ending of the run of this number, with the threads that the runs before it didn't start; none where it was
+    /// given up.
+    fn ending<W: Watch>(
         &self,
         alloc: Global,
+        watch: &W,
         run: u64,
         spares: &mut Spares<'m>,
-    ) -> Result<Ending, SearchFault>
+    ) -> Result<Option<Ending>, SearchFault>
         requires { AreSparesIn self.now spares.old }
-        ensures met { IfOk result (IsMetIn self.now) }
-        ensures spares { OnOk result (AreSparesIn self.now spares.new) }
+        ensures met { IfOk result (λ ending. IfSome ending (IsMetIn self.now)) }
+        ensures spares { IfOk result (λ ending. OnSome ending (AreSparesIn self.now spares.new)) }
     {
-        let made = self.run(alloc, run, spares)?;
-        Ok(ending_of(alloc, &made.end, self.sought.dump)?)
+        let made = match self.run(alloc, watch, run, spares) {
+            Ok(made) => made,
+            Err(SearchFault::GivenUp) => return Ok(None),
+            Err(fault) => return Err(fault),
+        };
+        let ending = ending_of(alloc, &made.end, self.sought.dump)?;
+        Ok(Some(ending))
     }
 
     /// Makes the run of this number, with threads of its own.
@@ -99,7 +125,16 @@ impl<'m, 'a> RunMaker<'m, 'a> {
         ensures { IfOk result (IsMadeIn self.now) }
     {
         let mut spares = Spares::new(alloc);
-        self.run(alloc, run, &mut spares)
+        self.run(alloc, &(), run, &mut spares)
+    }
+
+    /// The ending of the run of this number, with threads of its own.
+    fn ending_anew(&self, alloc: Global, run: u64) -> Result<Ending, SearchFault>
+        ensures { IfOk result (IsMetIn self.now) }
+    {
+        let made = self.run_anew(alloc, run)?;
+        let ending = ending_of(alloc, &made.end, self.sought.dump)?;
+        Ok(ending)
     }
 
     /// Whether a run that ended so is looked for.
@@ -111,36 +146,51 @@ impl<'m, 'a> RunMaker<'m, 'a> {
         is_looked_for(alloc, self.sought, &ending)
     }
 
-    /// Makes the run of this number, which is given where it ends as is looked for.
-    fn found(&self, alloc: Global, run: u64) -> Result<Option<Found>, SearchFault>
-        ensures { IfOk result (λ found. IfSome found (λ f. IsFoundIn self.now f.made)) }
+    /// Makes the run of this number, which was made before and ended as is looked for.
+    ///
+    /// # Errors
+    /// `NoEnd` where it ends otherwise now, which none does.
+    fn found(&self, alloc: Global, run: u64) -> Result<Found, SearchFault>
+        ensures found { IfOk result (λ found. IsFoundIn self.now found.made) }
+        ensures number { IfOk result (λ found. found.run ≡ run) }
     {
         let made = self.run_anew(alloc, run)?;
         if self.is_sought(alloc, &made.end)? {
-            Ok(Some(Found { run, made }))
+            Ok(Found { run, made })
         } else {
-            Ok(None)
+            Err(SearchFault::NoEnd)
         }
     }
 
-    /// The endings of runs in a row, the last first.
-    fn endings(&self, alloc: Global, from: u64, count: usize) -> Result<Vec<Ending>, SearchFault>
+    /// The endings of runs in a row, the last first: of all of them, or where one is given up of those before it.
+    fn endings<W: Watch>(
+        &self,
+        alloc: Global,
+        watch: &W,
+        from: u64,
+        count: usize,
+    ) -> Result<Vec<Ending>, SearchFault>
         ensures { IfOk result (λ endings. All (IsMetIn self.now) endings.items) }
     {
         let mut endings = Vec::new(alloc);
         let mut spares = Spares::new(alloc);
-        for n in (0..count).rev() {
+        for n in 0..count {
             let run = from.saturating_add(n as u64);
-            endings.push(self.ending(alloc, run, &mut spares)?)?;
+            let Some(ending) = self.ending(alloc, watch, run, &mut spares)? else {
+                return Ok(endings);
+            };
+            endings.insert(0, ending)?;
         }
         Ok(endings)
     }
 
-    /// Adds the endings of the last piece, if there is one, and takes it away.
+    /// Puts the endings of the last piece, if there is one, behind those of later runs, and takes it away. Where it
+    /// hasn't as many as were wanted, the later ones are dropped.
     fn add(
         &self,
         endings: &mut Vec<Ending>,
         pieces: &mut Vec<Result<Vec<Ending>, SearchFault>>,
+        wanted: usize,
     ) -> Result<(), SearchFault>
         requires endings { All (IsMetIn self.now) endings.old.items }
         requires pieces { All (λ piece. IfOk piece (λ made. All (IsMetIn self.now) made.items)) pieces.old.items }
@@ -152,75 +202,83 @@ impl<'m, 'a> RunMaker<'m, 'a> {
             return Ok(());
         };
         let mut made = piece?;
+        if made.len() < wanted {
+            endings.clear();
+        }
         endings.append(&mut made)?;
         Ok(())
     }
 
-    /// The endings of runs in a row, the last first: each job makes as many of them as another, or fewer.
-    fn endings_by<R: Threads + Sync>(
+    /// The endings of runs in a row, the last first, up to one that is given up. Each job makes as many of them as
+    /// another, or fewer.
+    fn endings_by<R: Threads + Sync, W: Watch + Sync>(
         &self,
-        rt: &R,
         alloc: Global,
-        jobs: usize,
+        crew: &Crew<R, W>,
+        piece: u64,
         from: u64,
         count: u64,
     ) -> Result<Vec<Ending>, SearchFault>
         ensures { IfOk result (λ endings. All (IsMetIn self.now) endings.items) }
     {
+        let (rt, jobs, watch) = (crew.rt, crew.jobs, crew.watch);
         let mut pieces = map_indices(
             rt,
             alloc,
             jobs,
             &|job| {
-                let first = (job as u64).saturating_mul(PIECE as u64);
-                let left = count.saturating_sub(first).min(PIECE as u64);
-                self.endings(alloc, from.saturating_add(first), left as usize)
+                let first = (job as u64).saturating_mul(piece);
+                let wanted = count.saturating_sub(first).min(piece);
+                self.endings(alloc, watch, from.saturating_add(first), wanted as usize)
             },
         )?;
         let mut endings = Vec::new(alloc);
-        for _ in 0..jobs {
-            self.add(&mut endings, &mut pieces)?;
+        for job in (0..jobs).rev() {
+            let first = (job as u64).saturating_mul(piece);
+            let wanted = count.saturating_sub(first).min(piece);
+            self.add(&mut endings, &mut pieces, wanted as usize)?;
         }
         Ok(endings)
     }
 
     /// The ending of the run of this number, with which `left` runs are left: one that was made ahead, or it is made,
-    /// and others after it.
-    fn next_ending<R: Threads + Sync>(
+    /// and others after it, the more the more were made before. None where it was given up.
+    fn next_ending<R: Threads + Sync, W: Watch + Sync>(
         &self,
-        rt: &R,
         alloc: Global,
-        jobs: usize,
+        crew: &Crew<R, W>,
         run: u64,
         left: u64,
         ahead: &mut Vec<Ending>,
-    ) -> Result<Ending, SearchFault>
+    ) -> Result<Option<Ending>, SearchFault>
         requires { All (IsMetIn self.now) ahead.old.items }
-        ensures met { IfOk result (IsMetIn self.now) }
+        ensures met { IfOk result (λ ending. IfSome ending (IsMetIn self.now)) }
         ensures ahead { OnOk result (All (IsMetIn self.now) ahead.new.items) }
     {
         if let Some(ending) = ahead.pop() {
-            return Ok(ending);
+            return Ok(Some(ending));
         }
-        *ahead = self.endings_by(rt, alloc, jobs, run, left)?;
-        match ahead.pop() {
-            Some(ending) => Ok(ending),
-            None => self.ending(alloc, run, &mut Spares::new(alloc)),
-        }
+        let made = run.saturating_sub(self.sought.from);
+        let share = made / (crew.jobs as u64).max(1);
+        let piece = (share / 2).saturating_add(1).min(PIECE);
+        *ahead = self.endings_by(alloc, crew, piece, run, left)?;
+        Ok(ahead.pop())
     }
 }
 
-/// Makes the runs of a call that is requested in the order of their numbers, by so many threads, and notes the
-/// ending of each, up to the first that is looked for, or behind which the follower tells it to end. Run number I of a
-/// seed is the same run, whoever makes it, and so is what is found. The follower hears of each how many were made, with
-/// how many endings.
+/// Makes the runs of a call that is requested in the order of their numbers, by so many threads, and notes the ending
+/// of each; up to the first that is looked for, where the search stops there, or behind which the follower tells it to
+/// end. Run number I of a seed is the same run, whoever makes it, and so is what is found. The follower hears of each
+/// how many were made, with how many endings; and where a run is given up since there is something to be seen, it is
+/// asked.
 ///
-/// Each ending of the table is one of a run of the module by the call, and so is what is found: it ends as is looked
-/// for. Where nothing is found, all runs were made, or the follower's last wish is that it ends.
+/// The table has the endings of runs of the module by the call, in a row from the first on, each noted. What is found is
+/// such a run, the last of them: it ends as is looked for. Where nothing is found, all runs were made, and, where the
+/// search stops, none is looked for; or the follower's last wish is that it ends.
 ///
 /// # Errors
 /// As of `run_along`.
-pub fn first_found<R: Threads + Sync, F: Follows>(
+pub fn first_found<R: Threads + Sync, F: Hears>(
     rt: &R,
     alloc: Global,
     request: &Request,
@@ -230,8 +288,12 @@ pub fn first_found<R: Threads + Sync, F: Follows>(
 ) -> Result<SearchResult, SearchFault>
     requires { sought.now.from + sought.now.runs < 2 ^ 64 }
     ensures met { IfOk result (λ s. AreMet request.now sought.now s.table) }
+    ensures noted { IfOk result (λ s. AreNoted request.now sought.now s.table) }
     ensures found { IfOk result (λ s. IfFound s.halt (λ f. IsFound request.now sought.now f.made)) }
+    ensures number { IfOk result (λ s. IfFound s.halt (λ f. f.run + 1 ≡ sought.now.from + s.table.runs)) }
     ensures all_made { IfOk result (λ s. s.halt ≡ Halt.AllMade → s.table.runs ≡ sought.now.runs) }
+    ensures none { IfOk result (λ s. s.halt ≡ Halt.AllMade → IsTrue sought.now.stops
+        → HasNoneLookedFor sought.now s.table) }
     ensures told { IfOk result (λ s. s.halt ≡ Halt.Told → F.wish follower.new ≡ Wish.End) }
 {
     let search = RunMaker {
@@ -239,16 +301,31 @@ pub fn first_found<R: Threads + Sync, F: Follows>(
         sought,
         entries: plain_entries(alloc, request, sought)?,
     };
+    let watch = follower.watch();
+    let crew = Crew {
+        rt,
+        jobs,
+        watch: &watch,
+    };
     let mut table = Table::new(alloc);
     let mut ahead = Vec::new(alloc);
     let end = sought.from + sought.runs;
     for run in sought.from..end {
-        let ending = search.next_ending(rt, alloc, jobs, run, end - run, &mut ahead)?;
+        let ending = match search.next_ending(alloc, &crew, run, end - run, &mut ahead)? {
+            Some(ending) => ending,
+            None => {
+                if let Wish::End = follower.given_up() {
+                    let halt = Halt::Told;
+                    return Ok(SearchResult { table, halt });
+                }
+                search.ending_anew(alloc, run)?
+            }
+        };
         let is_sought = is_looked_for(alloc, sought, &ending)?;
         table.note(run, ending)?;
         let wish = follower.runs(table.runs, table.met.len());
-        if is_sought && let Some(found) = search.found(alloc, run)? {
-            let halt = Halt::Found(found);
+        if is_sought && sought.stops {
+            let halt = Halt::Found(search.found(alloc, run)?);
             return Ok(SearchResult { table, halt });
         }
         if let Wish::End = wish {

@@ -20,19 +20,22 @@
 mod ending;
 mod finding;
 mod following;
+mod hears;
 mod met;
 mod search;
 mod shrinking;
 mod size;
 mod sought;
+mod spins;
 mod table;
 mod words;
 
 pub use ending::{ending_of, have_one_ending};
 pub use finding::{Found, Halt, SearchResult, first_found};
 pub use following::run_to;
+pub use hears::Hears;
 pub use met::{Met, Table};
 pub use shrinking::shrunk;
 pub use size::{Size, size_of};
 pub use sought::is_looked_for;
-pub use words::{has_line_with, lacks_in_thread_0};
+pub use words::has_line_with;

@@ -2,11 +2,15 @@
 ghost use Rattle.std.specs.Prelude.{IfOk, IfSome};
 ghost use Rattle.search_finds.specs.Endings.{HaveOneEnding};
 ghost use Rattle.search_finds.specs.Finds.{IsFind, IsFindAlike};
+ghost use Rattle.search_finds.specs.Sizes.{size_in, IsSmaller, IsNoLarger};
 
 use crate::have_one_ending;
+use crate::hears::Hears;
 use crate::size::{schedule_of, size_of};
+use crate::spins::without_spins;
+use search_reach::Wish;
 use search_scheduled::{MadeRun, SearchFault, run_along};
-use search_strategies::Along;
+use search_strategies::{Along, Watch, Watched};
 use spawn_host::Request;
 use std::alloc::{AllocError, Global};
 
@@ -50,22 +54,26 @@ fn without(alloc: Global, schedule: &[u32], cut: Cut) -> Result<Vec<u32>, AllocE
     Ok(rest)
 }
 
-/// Tries the run whose schedule is that of another without a cut: it is given where it is smaller and ends as the
-/// other.
-fn tried(
+/// Makes the run along a schedule: it is given where it is smaller than another and ends as that.
+fn tried<W: Watch>(
     alloc: Global,
     request: &Request,
     limit: u32,
     dump: u32,
+    watch: &W,
     best: &MadeRun,
-    cut: Cut,
+    schedule: &[u32],
 ) -> Result<Option<MadeRun>, SearchFault>
-    ensures { IfOk result (λ o. IfSome o (IsFindAlike request.now limit dump best.now)) }
+    ensures alike { IfOk result (λ o. IfSome o (IsFindAlike request.now limit dump best.now)) }
+    ensures smaller { IfOk result (λ o. IfSome o (λ m. IsSmaller (size_in m.record) (size_in best.now.record))) }
 {
-    let schedule = schedule_of(alloc, &best.record)?;
-    let rest = without(alloc, &schedule, cut)?;
-    let made = run_along(alloc, request, limit, &mut Along::new(&rest))?;
-    if size_of(&made.record) < size_of(&best.record)
+    let mut along = Watched::new(Along::new(schedule), watch);
+    let made = match run_along(alloc, request, limit, &mut along) {
+        Ok(made) => made,
+        Err(SearchFault::GivenUp) => return Ok(None),
+        Err(fault) => return Err(fault),
+    };
+    if size_of(&made.record).is_below(size_of(&best.record))
         && have_one_ending(alloc, &best.end, &made.end, dump)?
     {
         return Ok(Some(made));
@@ -73,52 +81,75 @@ fn tried(
     Ok(None)
 }
 
-/// The run without a cut, where it is smaller and ends alike, and else the run itself; and whether it is smaller.
+/// The run along a schedule, where it is smaller than another and ends alike, and else that; and whether it is smaller.
 #[tactic(auto, using(crate::proofs::Alike::alike_itself))]
-fn better(
+fn better<W: Watch>(
     alloc: Global,
     request: &Request,
     limit: u32,
     dump: u32,
+    watch: &W,
     best: MadeRun,
-    cut: Cut,
+    schedule: &[u32],
 ) -> Result<(MadeRun, bool), SearchFault>
     requires { IsFind request.now limit best }
     ensures run { IfOk result (λ r. IsFind request.now limit r.0) }
     ensures ending { IfOk result (λ r. HaveOneEnding dump best.end r.0.end) }
+    ensures size { IfOk result (λ r. IsNoLarger (size_in r.0.record) (size_in best.record)) }
 {
-    match tried(alloc, request, limit, dump, &best, cut)? {
+    match tried(alloc, request, limit, dump, watch, &best, schedule)? {
         Some(smaller) => Ok((smaller, true)),
         None => Ok((best, false)),
     }
 }
 
-/// Of a run a smaller one that ends alike, found by leaving out parts of its schedule, halves first and single
-/// stretches last (delta debugging), in 10,000 runs at most.
+/// The schedule of a run without a cut.
+fn cut_schedule(alloc: Global, made: &MadeRun, cut: Cut) -> Result<Vec<u32>, AllocError> {
+    let schedule = schedule_of(alloc, &made.record)?;
+    without(alloc, &schedule, cut)
+}
+
+/// How many stretches the schedule of a run has.
+fn stretches_of(alloc: Global, made: &MadeRun) -> Result<usize, AllocError> {
+    Ok(stretches(&schedule_of(alloc, &made.record)?))
+}
+
+/// Of a run a smaller one that ends alike, found by leaving out parts of its schedule: first the rounds of waits in
+/// loops, then halves, and single stretches last (delta debugging); in 10,000 runs at most, and as long as the follower
+/// doesn't wish an end.
 ///
 /// # Errors
 /// As of `run_along`.
 #[tactic(auto, using(crate::proofs::Alike::alike_itself, crate::proofs::Alike::alike_on))]
-pub fn shrunk(
+pub fn shrunk<F: Hears>(
     alloc: Global,
     request: &Request,
     limit: u32,
     dump: u32,
     made: MadeRun,
+    follower: &mut F,
 ) -> Result<MadeRun, SearchFault>
     requires { IsFind request.now limit made }
     ensures run { IfOk result (IsFind request.now limit) }
     ensures ending { IfOk result (λ small. HaveOneEnding dump made.end small.end) }
+    ensures size { IfOk result (λ small. IsNoLarger (size_in small.record) (size_in made.record)) }
 {
-    let mut best = made;
-    let all = stretches(&schedule_of(alloc, &best.record)?);
+    follower.found();
+    let watch = follower.watch();
+    let short = without_spins(alloc, &made.record)?;
+    let (mut best, _) = better(alloc, request, limit, dump, &watch, made, &short)?;
+    let all = stretches_of(alloc, &best)?;
     let mut cut = Cut {
         at: 0,
         count: (all / 2).max(1),
     };
     let mut is_better = false;
-    for _ in 0..TRIES {
-        let (next, is_smaller) = better(alloc, request, limit, dump, best, cut)?;
+    for tries in 0..TRIES {
+        if let Wish::End = follower.tried(tries, size_of(&best.record)) {
+            return Ok(best);
+        }
+        let rest = cut_schedule(alloc, &best, cut)?;
+        let (next, is_smaller) = better(alloc, request, limit, dump, &watch, best, &rest)?;
         best = next;
         if is_smaller {
             is_better = true;

@@ -1,8 +1,10 @@
 //! How large a run is.
+ghost use Rattle.std.specs.Prelude.{◌≡◌, ◌↔◌, IsTrue};
+ghost use Rattle.search_finds.specs.Sizes.{size_in, schedule_in, switches_in, IsSmaller};
 
 use replay_text::Record;
 use std::alloc::{AllocError, Global};
-use types::Event;
+use types::{Entry, Event};
 
 /// How often another thread makes the next event, and how many entries the log has. Fewer switches are smaller, and of
 /// as many switches fewer entries.
@@ -10,6 +12,16 @@ use types::Event;
 pub struct Size {
     pub switches: usize,
     pub entries: usize,
+}
+
+impl Size {
+    /// Whether it is smaller than another.
+    pub(crate) fn is_below(self, other: Size) -> bool
+        ensures { IsTrue result ↔ IsSmaller self other }
+    {
+        self.switches < other.switches
+            || (self.switches == other.switches && self.entries < other.entries)
+    }
 }
 
 /// The threads of a record's events in order: a schedule along which the run is made again.
@@ -23,22 +35,33 @@ pub(crate) fn schedule_of(alloc: Global, record: &Record) -> Result<Vec<u32>, Al
     Ok(schedule)
 }
 
-/// The size of a recorded run.
-pub fn size_of(record: &Record) -> Size {
-    let log = record.parts().log.as_slice();
+/// How often another thread makes the next event of a log.
+fn switches_of(log: &[Entry]) -> usize
+    ensures { result ≡ switches_in (schedule_in log.now) }
+{
     let mut last = None;
-    let mut switches = 0usize;
+    let mut switches = 0;
     for entry in log {
         if matches!(entry.event, Event::Told(_)) {
             continue;
         }
-        if last.is_some() && last != Some(entry.thread) {
-            switches = switches.saturating_add(1);
+        if let Some(thread) = last
+            && thread != entry.thread
+        {
+            switches += 1;
         }
         last = Some(entry.thread);
     }
+    switches
+}
+
+/// The size of a recorded run.
+pub fn size_of(record: &Record) -> Size
+    ensures { result ≡ size_in «record».now }
+{
+    let log = record.parts().log.as_slice();
     Size {
-        switches,
+        switches: switches_of(log),
         entries: log.len(),
     }
 }

@@ -1,32 +1,49 @@
 //! What is looked for.
 ghost use Rattle.std.specs.Prelude.{◌≡◌, ◌↔◌, true, IfOk};
-ghost use Rattle.search_finds.specs.Finds.{IsLookedFor, HasWantedWords, LacksWantedWords};
+ghost use Rattle.search_finds.specs.Finds.{IsLookedFor, IsFoundBy, IsUnexpected, HasFailure, ComesToAnother};
 
-use crate::{has_line_with, lacks_in_thread_0};
-use report_choice::Sought;
+use crate::has_line_with;
+use report_choice::{Find, Sought};
+use report_lines::is_done;
 use search_endings::Ending;
 use std::alloc::{AllocError, Global};
+use types::Outcome;
 
-/// Whether some thread's line has the words, where there are words.
-fn is_found(alloc: Global, ending: &Ending, words: Option<&str>) -> Result<bool, AllocError>
-    ensures { IfOk result (λ is. (is ≡ true) ↔ HasWantedWords words.entry ending.now) }
+/// Whether some thread trapped or was stopped.
+fn has_failure(ending: &Ending) -> bool
+    ensures { (result ≡ true) ↔ HasFailure ending.now.outcomes }
 {
-    match words {
-        Some(words) => has_line_with(alloc, ending, words),
-        None => Ok(false),
+    !ending.outcomes().iter().all(|outcome| is_done(*outcome))
+}
+
+/// Whether a run with this ending is found by this.
+fn is_found(alloc: Global, ending: &Ending, find: Find) -> Result<bool, AllocError>
+    ensures { IfOk result (λ is. (is ≡ true) ↔ IsFoundBy find.entry ending.now.outcomes) }
+{
+    match find {
+        Find::Nothing => Ok(false),
+        Find::Failure => Ok(has_failure(ending)),
+        Find::Words(words) => has_line_with(alloc, ending, words),
     }
 }
 
-/// Whether thread 0's line hasn't the words, where there are words.
-fn is_unexpected(alloc: Global, ending: &Ending, words: Option<&str>) -> Result<bool, AllocError>
-    ensures { IfOk result (λ is. (is ≡ true) ↔ LacksWantedWords words.entry ending.now) }
+/// Whether thread 0 comes to another result.
+fn comes_to_another(ending: &Ending, expected: Outcome) -> bool
+    ensures { (result ≡ true) ↔ ComesToAnother expected ending.now.outcomes }
 {
-    match words {
-        Some(words) => {
-            let lacks = lacks_in_thread_0(alloc, ending, words)?;
-            Ok(lacks)
-        }
-        None => Ok(false),
+    match ending.outcomes().first() {
+        Some(outcome) => *outcome != expected,
+        None => true,
+    }
+}
+
+/// Whether thread 0 comes to another result than is expected, where one is.
+fn is_unexpected(ending: &Ending, expect: Option<Outcome>) -> bool
+    ensures { (result ≡ true) ↔ IsUnexpected expect ending.now.outcomes }
+{
+    match expect {
+        Some(expected) => comes_to_another(ending, expected),
+        None => false,
     }
 }
 
@@ -37,8 +54,8 @@ fn is_unexpected(alloc: Global, ending: &Ending, words: Option<&str>) -> Result<
 pub fn is_looked_for(alloc: Global, sought: &Sought, ending: &Ending) -> Result<bool, AllocError>
     ensures { IfOk result (λ is. (is ≡ true) ↔ IsLookedFor sought.now ending.now) }
 {
-    if is_found(alloc, ending, sought.find)? {
+    if is_found(alloc, ending, sought.target.find)? {
         return Ok(true);
     }
-    is_unexpected(alloc, ending, sought.expect)
+    Ok(is_unexpected(ending, sought.target.expect))
 }

@@ -1,7 +1,7 @@
 //! What is looked for in the lines of a run's threads.
 ghost use Rattle.std.specs.Prelude.{◌↔◌, IfOk, IsTrue};
 ghost use Rattle.std.specs.Str.Iter.{HasSubslice};
-ghost use Rattle.search_finds.specs.Words.{line_of, HasLineWith, LacksInThread0};
+ghost use Rattle.search_finds.specs.Words.{line_of, HasLineWith};
 
 use search_endings::Ending;
 use std::alloc::{AllocError, Global};
@@ -30,14 +30,4 @@ pub fn has_line_with(alloc: Global, ending: &Ending, words: &str) -> Result<bool
         }
     }
     Ok(false)
-}
-
-/// Whether the line of thread 0 doesn't have the words.
-pub fn lacks_in_thread_0(alloc: Global, ending: &Ending, words: &str) -> Result<bool, AllocError>
-    ensures { IfOk result (λ lacks. IsTrue lacks ↔ LacksInThread0 words.now ending.now.outcomes) }
-{
-    match ending.outcomes().first() {
-        Some(outcome) => Ok(!has_words(alloc, 0, *outcome, words)?),
-        None => Ok(true),
-    }
 }

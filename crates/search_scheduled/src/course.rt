@@ -24,6 +24,9 @@ pub enum CourseFault {
     /// A thread that can go on makes no entry.
     #[error("no entry")]
     NoEntry,
+    /// The strategy gave the run up.
+    #[error("given up")]
+    GivenUp,
 }
 
 impl<T: Drop> From<AllocFailed<T>> for CourseFault {
@@ -102,8 +105,9 @@ impl<T: TakesTurns> Course<T> {
         Ok(Some(entry))
     }
 
-    /// A thread makes its next event, if it can go on. All threads take the answers that are due by it.
-    fn advance(&mut self, n: u32) -> Result<(), CourseFault>
+    /// A thread makes its next event, if it can go on, and its entry is given. All threads take the answers that are due
+    /// by it.
+    fn advance(&mut self, n: u32) -> Result<Option<Entry>, CourseFault>
         requires { IsOnARun T.meaning self.old }
         ensures { OnOk result (StaysOnItsRuns T.meaning self.old self.new) }
     {
@@ -117,7 +121,7 @@ impl<T: TakesTurns> Course<T> {
         {
             self.hear_all()?;
         }
-        Ok(())
+        Ok(made)
     }
 
     /// The threads that can go on, in order.
@@ -134,10 +138,10 @@ impl<T: TakesTurns> Course<T> {
         ready
     }
 
-    /// Goes on until nobody can: before each event the strategy says who makes it.
+    /// Goes on until nobody can: before each event the strategy says who makes it, and hears the entry then.
     ///
     /// # Errors
-    /// `NoMemory`; and `NoEntry`, after which the course stands nowhere.
+    /// `NoMemory`; `GivenUp` where the strategy names nobody; and `NoEntry`, after which the course stands nowhere.
     pub fn go<S: Strategy>(&mut self, strategy: &mut S) -> Result<(), CourseFault>
         requires { IsOnARun T.meaning self.old }
         ensures { OnOk result (StaysOnItsRuns T.meaning self.old self.new) }
@@ -148,8 +152,12 @@ impl<T: TakesTurns> Course<T> {
             if ready.is_empty() {
                 return Ok(());
             }
-            let place = strategy.choose(&ready);
-            self.advance(ready[place])?;
+            let Some(place) = strategy.choose(&ready) else {
+                return Err(CourseFault::GivenUp);
+            };
+            if let Some(entry) = self.advance(ready[place])? {
+                strategy.hear(&entry);
+            }
         }
         Ok(())
     }

@@ -15,6 +15,9 @@ pub enum SearchFault {
     /// The run came to no end that a record can tell.
     #[error("no end")]
     NoEnd,
+    /// The strategy gave the run up.
+    #[error("given up")]
+    GivenUp,
 }
 
 impl From<AllocError> for SearchFault {
@@ -38,6 +41,7 @@ impl From<CourseFault> for SearchFault {
         match fault {
             CourseFault::NoMemory => SearchFault::NoMemory,
             CourseFault::NoEntry => SearchFault::NoEnd,
+            CourseFault::GivenUp => SearchFault::GivenUp,
         }
     }
 }

@@ -69,7 +69,7 @@ fn header_of(alloc: Global, request: &Request, limit: u32) -> Result<RecordParts
 /// may be 64 threads and 256 pages.
 ///
 /// # Errors
-/// `NoEnd` where a number is out of its range, `NoMemory`.
+/// `NoEnd` where a number is out of its range, `GivenUp` where the strategy gives the run up, `NoMemory`.
 pub fn run_along<S: Strategy>(
     alloc: Global,
     request: &Request,

@@ -2,6 +2,7 @@
 ghost use Rattle.std.specs.Prelude.{◌<◌, length, IfSome};
 
 use crate::strategy::Strategy;
+use types::Entry;
 
 /// How many events a thread makes in a row behind the schedule, while others could go on.
 const PATIENCE: u32 = 200;
@@ -64,19 +65,21 @@ fn next_behind(ready: &[u32], thread: u32) -> usize
 }
 
 impl Strategy for Along<'_> {
-    fn choose(&mut self, ready: &[u32]) -> usize {
+    fn choose(&mut self, ready: &[u32]) -> Option<usize> {
         if let Some(place) = self.followed(ready) {
-            return place;
+            return Some(place);
         }
         if self.in_a_row < PATIENCE
             && let Some(place) = place_of(ready, self.last)
         {
             self.in_a_row += 1;
-            return place;
+            return Some(place);
         }
         let place = next_behind(ready, self.last);
         self.last = ready[place];
         self.in_a_row = 1;
-        place
+        Some(place)
     }
+
+    fn hear(&mut self, _entry: &Entry) {}
 }

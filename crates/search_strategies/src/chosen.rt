@@ -2,6 +2,7 @@
 ghost use Rattle.std.specs.Prelude.{◌<◌, length};
 
 use crate::strategy::Strategy;
+use types::Entry;
 
 /// Takes choices one after another: each is a place among the threads that can go on, the first place where there is no
 /// such place, and behind the choices.
@@ -20,11 +21,13 @@ impl<'a> Chosen<'a> {
 }
 
 impl Strategy for Chosen<'_> {
-    fn choose(&mut self, ready: &[u32]) -> usize {
+    fn choose(&mut self, ready: &[u32]) -> Option<usize> {
         let Some(place) = self.choices.get(self.at).copied() else {
-            return 0;
+            return Some(0);
         };
         self.at += 1;
-        if place < ready.len() { place } else { 0 }
+        Some(if place < ready.len() { place } else { 0 })
     }
+
+    fn hear(&mut self, _entry: &Entry) {}
 }

@@ -9,14 +9,20 @@
 
 mod along;
 mod chosen;
+mod drawn;
 mod draws;
 mod pct;
 mod random;
+mod spin;
 mod strategy;
+mod watched;
 
 pub use along::Along;
 pub use chosen::Chosen;
+pub use drawn::Drawn;
 pub use draws::Draws;
 pub use pct::Pct;
 pub use random::Random;
+pub use spin::Spin;
 pub use strategy::Strategy;
+pub use watched::{Watch, Watched};

@@ -7,7 +7,7 @@ use crate::draws::Draws;
 use crate::strategy::Strategy;
 use arrayvec::ArrayVec;
 use report_choice::MOST_DEPTH;
-use types::MOST_THREADS;
+use types::{Entry, MOST_THREADS};
 
 /// How many points of change there are at most.
 const CHANGES: usize = MOST_DEPTH as usize - 1;
@@ -112,7 +112,7 @@ fn highest(ranks: &[i64; MOST_THREADS], ready: &[u32]) -> usize
 }
 
 impl Strategy for Pct {
-    fn choose(&mut self, ready: &[u32]) -> usize {
+    fn choose(&mut self, ready: &[u32]) -> Option<usize> {
         let place = highest(&self.ranks, ready);
         let thread = ready[place];
         let fall = self.fall(thread, ready.len() == 1);
@@ -120,9 +120,11 @@ impl Strategy for Pct {
         match fall {
             Some(rank) => {
                 self.rank(thread, rank);
-                highest(&self.ranks, ready)
+                Some(highest(&self.ranks, ready))
             }
-            None => place,
+            None => Some(place),
         }
     }
+
+    fn hear(&mut self, _entry: &Entry) {}
 }

@@ -2,6 +2,7 @@
 
 use crate::draws::Draws;
 use crate::strategy::Strategy;
+use types::Entry;
 
 /// Draws who goes on, each thread that can alike.
 #[derive(Drop)]
@@ -19,7 +20,9 @@ impl Random {
 }
 
 impl Strategy for Random {
-    fn choose(&mut self, ready: &[u32]) -> usize {
-        self.draws.below(ready.len() as u32) as usize
+    fn choose(&mut self, ready: &[u32]) -> Option<usize> {
+        Some(self.draws.below(ready.len() as u32) as usize)
     }
+
+    fn hear(&mut self, _entry: &Entry) {}
 }

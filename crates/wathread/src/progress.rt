@@ -1,6 +1,9 @@
 //! How far a search came, on one line of a terminal, and whether it is told to end.
 
+use report_command::Search;
+use search_finds::{Hears, Size};
 use search_reach::{Follows, Wish};
+use search_strategies::Watch;
 use std::fs;
 use std::io::IsTerminal;
 use std::time::{Duration, Instant};
@@ -9,15 +12,55 @@ use std::time::{Duration, Instant};
 /// for again.
 const PAUSE: u64 = 250;
 
+/// When a search ends before it has made all: once there is a file with this path, and at a time.
+#[derive(Clone, Copy)]
+struct Until<'a> {
+    path: Option<&'a str>,
+    /// When it began, and how long it may take.
+    time: Option<(Instant, Duration)>,
+}
+
+/// Whether it is to end, to be asked from any thread.
+#[derive(Drop)]
+pub(crate) struct Bell<'a> {
+    rt: &'a HostRuntime,
+    until: Until<'a>,
+}
+
+impl Bell<'_> {
+    /// Whether so much time has passed.
+    fn is_late(&self) -> bool {
+        let Some((began, most)) = self.until.time else {
+            return false;
+        };
+        match Instant::now(self.rt) {
+            Ok(now) => now.duration_since(began) >= most,
+            Err(_) => false,
+        }
+    }
+}
+
+impl Watch for Bell<'_> {
+    fn is_over(&self) -> bool {
+        self.is_late()
+            || self
+                .until
+                .path
+                .is_some_and(|path| fs::exists(self.rt, path).unwrap_or(false))
+    }
+}
+
 /// Follows a search that is on its way. Where standard error is a terminal, a line there has how much it did, how much
-/// in a second, and how many endings it met. Where a path is given, it ends once there is a file with it.
+/// in a second, and how many endings it met. Where a path is given, it ends once there is a file with it, and where a
+/// time is given, once that has passed.
 #[derive(Drop)]
 pub(crate) struct Progress<'a> {
     rt: &'a HostRuntime,
     /// When the search began and when it was last time for a line and a look; none where there is neither.
     times: Option<(Instant, Instant)>,
-    /// The path of the file at which it ends.
-    until: Option<&'a str>,
+    until: Until<'a>,
+    /// For how long smaller runs are looked for.
+    shrink: Duration,
     /// Whether lines are written.
     is_shown: bool,
     /// Whether one stands there.
@@ -33,17 +76,26 @@ fn in_a_second(count: u64, took: Duration) -> u64 {
 
 impl<'a> Progress<'a> {
     /// No line is written yet, and none ever where standard error is no terminal.
-    pub(crate) fn new(rt: &'a HostRuntime, until: Option<&'a str>) -> Progress<'a> {
+    pub(crate) fn new(rt: &'a HostRuntime, search: Option<&Search<'a>>) -> Progress<'a> {
         let is_shown = rt.stderr().is_terminal();
-        let now = if is_shown || until.is_some() {
-            Instant::now(rt).ok()
-        } else {
-            None
+        let now = match search {
+            Some(_) => Instant::now(rt).ok(),
+            None => None,
         };
+        let seconds = search.and_then(|search| search.time);
+        let time = match (now, seconds) {
+            (Some(now), Some(seconds)) => Some((now, Duration::from_secs(u64::from(seconds)))),
+            _ => None,
+        };
+        let shrink = search.map_or(0, |search| search.shrink_time);
         Progress {
             rt,
             times: now.map(|now| (now, now)),
-            until,
+            until: Until {
+                path: search.and_then(|search| search.until),
+                time,
+            },
+            shrink: Duration::from_secs(u64::from(shrink)),
             is_shown,
             is_written: false,
             wish: Wish::GoOn,
@@ -61,11 +113,17 @@ impl<'a> Progress<'a> {
         Some(now.duration_since(began))
     }
 
-    /// Wishes that the search ends, where there is the file that ends it.
+    /// What says whether it is to end.
+    fn bell(&self) -> Bell<'a> {
+        Bell {
+            rt: self.rt,
+            until: self.until,
+        }
+    }
+
+    /// Wishes that the search ends, where it is to.
     fn look(&mut self) {
-        if let Some(path) = self.until
-            && fs::exists(self.rt, path).unwrap_or(false)
-        {
+        if self.bell().is_over() {
             self.wish = Wish::End;
         }
     }
@@ -110,5 +168,40 @@ impl Follows for Progress<'_> {
             let _ = eprint!(self.rt; "\r\x1b[K");
             self.is_written = false;
         }
+    }
+}
+
+impl<'a> Hears for Progress<'a> {
+    type Watch = Bell<'a>;
+
+    fn watch(&self) -> Bell<'a> {
+        self.bell()
+    }
+
+    fn given_up(&mut self) -> Wish {
+        self.look();
+        self.wish
+    }
+
+    /// Smaller runs are looked for as long as was asked for.
+    fn found(&mut self) {
+        if let Ok(now) = Instant::now(self.rt) {
+            let left = match self.until.time {
+                Some((began, most)) => most.saturating_sub(now.duration_since(began)),
+                None => self.shrink,
+            };
+            self.until.time = Some((now, left.min(self.shrink)));
+        }
+    }
+
+    fn tried(&mut self, tries: u32, size: Size) -> Wish {
+        if let Some(took) = self.line_due() {
+            let rate = in_a_second(u64::from(tries), took);
+            let Size { switches, entries } = size;
+            let _ = eprint!(self.rt;
+                "\r\x1b[K{tries} smaller runs tried, {rate} a second: {entries} entries, {switches} switches so far"
+            );
+        }
+        self.wish
     }
 }

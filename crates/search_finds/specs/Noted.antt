@@ -1,0 +1,21 @@
+-- The table of a search.
+use Rattle.std.specs.Prelude.{ℕ, ◌≡◌, ◌+◌, List, [], ◌∷◌, ◌++◌, All, Bool, length}
+use Rattle.spawn_host.specs.Requests.{Requested}
+use Rattle.search_endings.specs.Endings.{Ending}
+use Rattle.report_choice.specs.declared.sought.Sought.{Sought}
+use Rattle.search_finds.specs.declared.met.Table.{Table}
+use Rattle.search_finds.specs.Finds.{IsMetEnding}
+use Rattle.search_finds.specs.Tables.{IsNoted}
+
+-- It has these endings, noted one after another: of runs with numbers in a row, from the first on.
+pub data IsTableOf (first : ℕ) : List Ending → Table → Type 0 where
+  none : (t : Table) → t.runs ≡ 0 → t.met.items ≡ [] → IsTableOf first [] t
+  more : (es : List Ending) (e : Ending) (is_new : Bool) (old new : Table) → IsTableOf first es old
+      → IsNoted (first + length es) e is_new old new → IsTableOf first (es ++ e ∷ []) new
+
+-- It has the endings of runs by the call, as many as it says.
+pub record AreNoted (q : Requested) (s : Sought) (table : Table) : Type 0 where
+  pub endings : List Ending
+  pub noted : IsTableOf s.from endings table
+  pub met : All (IsMetEnding q s.limit s.dump) endings
+  pub count : length endings ≡ table.runs

@@ -1,0 +1,58 @@
+//! A strategy that gives a run up.
+ghost use Rattle.std.specs.Prelude.{◌<◌, length, IfSome};
+
+use crate::strategy::Strategy;
+use types::Entry;
+
+/// Before how many events it isn't asked whether it is time to end.
+const PAUSE: u32 = 1000;
+
+/// Says, to any thread that asks, whether it is time to end.
+pub trait Watch {
+    fn is_over(&self) -> bool;
+}
+
+/// It never is.
+impl Watch for () {
+    fn is_over(&self) -> bool {
+        false
+    }
+}
+
+/// Goes on by a strategy as long as it isn't time to end: that is asked before the first event and each 1000th behind
+/// it.
+#[derive(Drop)]
+pub struct Watched<'a, S, W> {
+    strategy: S,
+    watch: &'a W,
+    /// Before how many events it isn't asked again.
+    left: u32,
+}
+
+impl<'a, S, W> Watched<'a, S, W> {
+    /// Before the first event.
+    pub fn new(strategy: S, watch: &'a W) -> Watched<'a, S, W> {
+        Watched {
+            strategy,
+            watch,
+            left: 0,
+        }
+    }
+}
+
+impl<S: Strategy, W: Watch> Strategy for Watched<'_, S, W> {
+    fn choose(&mut self, ready: &[u32]) -> Option<usize> {
+        if self.left == 0 {
+            if self.watch.is_over() {
+                return None;
+            }
+            self.left = PAUSE;
+        }
+        self.left -= 1;
+        self.strategy.choose(ready)
+    }
+
+    fn hear(&mut self, entry: &Entry) {
+        self.strategy.hear(entry);
+    }
+}
