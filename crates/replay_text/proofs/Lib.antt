@@ -5,3 +5,4 @@ pub mod Whole
 pub mod Names
 pub mod Free
 pub mod Stopping
+pub mod Broken
