@@ -135,7 +135,7 @@ trap_back traps.UninitializedElement = refl
 trap_back traps.SignatureMismatch = refl
 trap_back traps.StackExhausted = refl
 
-trap_small : (t : Trap) → trap_number t ≤ 10
+pub trap_small : (t : Trap) → trap_number t ≤ 10
 trap_small traps.Unreachable = omega arith
 trap_small traps.DivideByZero = omega arith
 trap_small traps.IntegerOverflow = omega arith
@@ -152,7 +152,7 @@ stop_back stops.OutOfFuel = refl
 stop_back stops.AsleepForGood = refl
 stop_back stops.RecordFull = refl
 
-stop_small : (s : Stop) → stop_number s ≤ 3
+pub stop_small : (s : Stop) → stop_number s ≤ 3
 stop_small stops.OutOfFuel = omega arith
 stop_small stops.AsleepForGood = omega arith
 stop_small stops.RecordFull = omega arith

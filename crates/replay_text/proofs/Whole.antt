@@ -42,7 +42,7 @@ use Rattle.replay_text.proofs.Records.{value_front, value_taken, value_back, end
 
 -- ---- lists of items that fit
 
-all_fit : {A : Type 0} (P : A → Type 0) (i : ℕ) (xs : List A) → All P xs → AllFit (λ k. P) i xs
+pub all_fit : {A : Type 0} (P : A → Type 0) (i : ℕ) (xs : List A) → All P xs → AllFit (λ k. P) i xs
 all_fit P i [] h = tt
 all_fit P i (x ∷ xs) h = (All-head P x xs h, all_fit P (i + 1) xs (All-tail P x xs h))
 
@@ -64,7 +64,7 @@ hex_texts : (i : ℕ) (bytes rest : List ℕ) → texts (λ k. hex_byte_text) i 
 hex_texts i [] rest = refl
 hex_texts i (b ∷ bytes) rest = ap (hex_byte_text b) (hex_texts (i + 1) bytes rest)
 
-abbrev IsByte : ℕ → Type 0
+abbrev pub IsByte : ℕ → Type 0
 IsByte b = b ≤ 255
 
 name_stops : (k : ℕ) (rest : List ℕ) → hex_byte_at ((10 ∷ []) ++ rest) ≡ None
@@ -79,10 +79,10 @@ hex_list_law = listed_law (λ rest. Unit {0}) (λ k. hex_byte_text) (λ k. IsByt
     (10 ∷ []) hex_takes (λ i x rest g fit. hex_again x rest fit) (λ i x rest. tt) (λ i x rest. omega arith)
     (λ rest. tt) name_stops
 
-abbrev NameFits : List ℕ → Type 0
+abbrev pub NameFits : List ℕ → Type 0
 NameFits name = (is_utf8 name ≡ true) × AllFit (λ k. IsByte) 0 name
 
-abbrev name_text : List ℕ → List ℕ → List ℕ
+abbrev pub name_text : List ℕ → List ℕ → List ℕ
 name_text name rest = name_word name ++ 10 ∷ rest
 
 named_there : (x y rest : List ℕ) → AllFit (λ k. IsByte) 0 x → named x ≡ Some y → (hex_list_text x rest ≡ name_text y rest) × NameFits y
@@ -92,7 +92,7 @@ named_there (b ∷ bytes) y rest fit e =
     subst (λ (z : List ℕ). (hex_list_text (b ∷ bytes) rest ≡ name_text z rest) × NameFits z)
     (some_is (b ∷ bytes) y p.1) (hex_texts 0 (b ∷ bytes) (10 ∷ rest), (p.0, fit))
 
-utf8_empty : is_utf8 [] ≡ true
+pub utf8_empty : is_utf8 [] ≡ true
 utf8_empty = is_utf8-from_IsUtf8 [] IsUtf8-nil
 
 abbrev dash_at : Reader (List ℕ)
@@ -120,13 +120,13 @@ name_law : Law name_text NameFits (first dash_at hex_name_at)
 name_law = law_from name_text NameFits _ (first_takes _ _ dash_at hex_name_at (word_takes [] (codes "-" ++ 10 ∷ []) _ _ (λ rest. refl) (utf8_empty, tt))
     (made_takes named _ _ _ name_text NameFits hex_list_law named_there)) name_again
 
-invoke_law : Law (behind_text (codes "invoke ") name_text) NameFits invoke_at
+pub invoke_law : Law (behind_text (codes "invoke ") name_text) NameFits invoke_at
 unfolding invoke_at
 invoke_law = behind_law (codes "invoke ") _ _ _ name_law
 
 -- ---- arguments
 
-abbrev arg_text : Value → List ℕ → List ℕ
+abbrev pub arg_text : Value → List ℕ → List ℕ
 arg_text v rest = 32 ∷ value_front v rest
 
 arg_takes : (i : ℕ) (bytes : List ℕ) (v : Value) (rest : List ℕ) → arg_at bytes ≡ Some (v, rest) → (bytes ≡ arg_text v rest) × IsValue v
@@ -146,10 +146,10 @@ arg_stops k rest = refl
 arg_longer : (i : ℕ) (v : Value) (rest : List ℕ) → 1 + length rest ≤ length (arg_text v rest)
 arg_longer i v rest = omega (arith, length-append (value_text v) rest)
 
-abbrev args_text : List Value → List ℕ → List ℕ
+abbrev pub args_text : List Value → List ℕ → List ℕ
 args_text args rest = texts (λ k. arg_text) 0 args ((10 ∷ []) ++ rest)
 
-args_law : Law (behind_text (codes "args") args_text) (AllFit (λ k. IsValue) 0) args_at
+pub args_law : Law (behind_text (codes "args") args_text) (AllFit (λ k. IsValue) 0) args_at
 unfolding args_at
 args_law = behind_law (codes "args") _ _ _ (listed_law (λ rest. begins_plain rest ≡ true) (λ k. arg_text)
     (λ k. IsValue) (λ place. arg_at) (10 ∷ []) arg_takes arg_again (λ i v rest. refl) arg_longer (λ rest. refl)
@@ -161,13 +161,13 @@ args_line i (v ∷ args) rest = ap (arg_text v) (args_line (i + 1) args rest)
 
 -- ---- the lines before the entries
 
-abbrev ended : ℕ → List ℕ → List ℕ
+abbrev pub ended : ℕ → List ℕ → List ℕ
 ended = number_text (10 ∷ [])
 
-fuel_law : Law (behind_text (codes "fuel ") ended) (λ n. n ≤ MOST_FUEL) fuel_at
+pub fuel_law : Law (behind_text (codes "fuel ") ended) (λ n. n ≤ MOST_FUEL) fuel_at
 fuel_law = behind_law (codes "fuel ") _ _ _ (number_law MOST_FUEL 10 [] (omega arith) refl)
 
-abbrev CountFits : ℕ → ℕ → Type 0
+abbrev pub CountFits : ℕ → ℕ → Type 0
 CountFits max n = (1 ≤ n) × (n ≤ max)
 
 abbrev CountPlain : List ℕ → ℕ → Type 0
@@ -197,44 +197,44 @@ count_law : (word : List ℕ) (max : ℕ) → CountPlain word max → Law (behin
 count_law word max plain = law_from _ _ _ (made_takes above_zero _ _ _ _ (CountFits max) plain (count_there word max))
     (λ n rest fit. made_again above_zero _ _ _ plain n n rest fit.1 (count_to n fit.0))
 
-limit_law : Law (behind_text (codes "limit ") ended) (CountFits MOST_LIMIT) limit_at
+pub limit_law : Law (behind_text (codes "limit ") ended) (CountFits MOST_LIMIT) limit_at
 limit_law = count_law (codes "limit ") MOST_LIMIT (behind_law (codes "limit ") _ _ _ (number_law MOST_LIMIT 10 [] (omega arith) refl))
 
 -- ---- the version, the length, the threads and the pages
 
-module_law : Law (behind_text (codes "module ") ended) (λ n. n ≤ MOST_MODULE_BYTES) module_at
+pub module_law : Law (behind_text (codes "module ") ended) (λ n. n ≤ MOST_MODULE_BYTES) module_at
 module_law = behind_law (codes "module ") _ _ _ (number_law MOST_MODULE_BYTES 10 [] (omega arith) refl)
 
-threads_law : Law (behind_text (codes "threads ") ended) (CountFits MOST_THREADS) threads_at
+pub threads_law : Law (behind_text (codes "threads ") ended) (CountFits MOST_THREADS) threads_at
 threads_law = count_law (codes "threads ") MOST_THREADS (behind_law (codes "threads ") _ _ _ (number_law MOST_THREADS 10 [] (omega arith) refl))
 
-max_pages_law : Law (behind_text (codes "max-pages ") ended) (CountFits MOST_PAGES) max_pages_at
+pub max_pages_law : Law (behind_text (codes "max-pages ") ended) (CountFits MOST_PAGES) max_pages_at
 max_pages_law = count_law (codes "max-pages ") MOST_PAGES (behind_law (codes "max-pages ") _ _ _ (number_law MOST_PAGES 10 [] (omega arith) refl))
 
-abbrev Sizes : Type 0
+abbrev pub Sizes : Type 0
 Sizes = ℕ × (ℕ × ℕ)
 
-abbrev sizes_text : Sizes → List ℕ → List ℕ
+abbrev pub sizes_text : Sizes → List ℕ → List ℕ
 sizes_text = behind_text second_line (both_text (behind_text (codes "module ") ended)
     (both_text (behind_text (codes "threads ") ended) (behind_text (codes "max-pages ") ended)))
 
-abbrev SizesFit : Sizes → Type 0
+abbrev pub SizesFit : Sizes → Type 0
 SizesFit x = (x.0 ≤ MOST_MODULE_BYTES) × (CountFits MOST_THREADS (x.1).0 × CountFits MOST_PAGES (x.1).1)
 
-sizes_law : Law sizes_text SizesFit (behind second_line (both module_at (both threads_at max_pages_at)))
+pub sizes_law : Law sizes_text SizesFit (behind second_line (both module_at (both threads_at max_pages_at)))
 sizes_law = behind_law second_line _ _ _ (both_law _ _ _ _ _ _ module_law (both_law _ _ _ _ _ _ threads_law max_pages_law))
 
-abbrev text_by : Version → Sizes → List ℕ → List ℕ
+abbrev pub text_by : Version → Sizes → List ℕ → List ℕ
 text_by versions.One x rest = first_line ++ rest
 text_by versions.Two x rest = sizes_text x rest
 
-abbrev scale_text : Scale → List ℕ → List ℕ
+abbrev pub scale_text : Scale → List ℕ → List ℕ
 scale_text s rest = text_by s.0 s.1 rest
 
-abbrev ScaleFits : Scale → Type 0
+abbrev pub ScaleFits : Scale → Type 0
 ScaleFits s = IsScale s.0 (s.1).0 ((s.1).1).0 ((s.1).1).1
 
-abbrev scale_two : Sizes → Scale
+abbrev pub scale_two : Sizes → Scale
 scale_two x = (versions.Two, x)
 
 two_there : (x : Sizes) (y : Scale) (rest : List ℕ) → SizesFit x → Some (scale_two x) ≡ Some y
@@ -258,7 +258,7 @@ scale_back versions.Two x rest fit =
     second_again one_at two_at (sizes_text x rest) _ (not_one x rest)
     (made_again (λ y. Some (versions.Two, y)) _ _ _ sizes_law x (versions.Two, x) rest fit refl)
 
-scale_law : Law scale_text ScaleFits scale_at
+pub scale_law : Law scale_text ScaleFits scale_at
 unfolding scale_at
 scale_law = law_from scale_text ScaleFits _ (first_takes _ _ one_at two_at
     (word_takes _ first_line _ _ (λ rest. refl) (refl, (refl, refl)))
@@ -269,34 +269,34 @@ pub counted : (v : Version) (len threads pages : ℕ) → IsScale v len threads 
 counted versions.One len threads pages fit = ((omega (arith, (fit.1).0), omega (arith, (fit.1).0)), omega (arith, (fit.1).1))
 counted versions.Two len threads pages fit = ((fit.1).0, ((fit.1).1).1)
 
-abbrev header_text : Header → List ℕ → List ℕ
+abbrev pub header_text : Header → List ℕ → List ℕ
 header_text = both_text scale_text (both_text (behind_text (codes "invoke ") name_text)
     (both_text (behind_text (codes "args") args_text)
     (both_text (behind_text (codes "fuel ") ended) (behind_text (codes "limit ") ended))))
 
-abbrev HeaderFits : Header → Type 0
+abbrev pub HeaderFits : Header → Type 0
 HeaderFits h = ScaleFits h.0 × (NameFits (h.1).0 × (AllFit (λ k. IsValue) 0 ((h.1).1).0
     × (((((h.1).1).1).0 ≤ MOST_FUEL) × CountFits MOST_LIMIT (limit_in h))))
 
-header_law : Law header_text HeaderFits header_at
+pub header_law : Law header_text HeaderFits header_at
 unfolding header_at
 header_law = both_law _ _ _ _ _ _ scale_law (both_law _ _ _ _ _ _ invoke_law (both_law _ _ _ _ _ _ args_law (both_law _ _ _ _ _ _ fuel_law limit_law)))
 
 -- ---- what stands behind them
 
-abbrev pages_text : ℕ → List ℕ → List ℕ
+abbrev pub pages_text : ℕ → List ℕ → List ℕ
 pages_text = behind_text (codes "pages ") ended
 
-pages_law : (max_pages : ℕ) → max_pages ≤ MOST_PAGES → Law pages_text (λ n. n ≤ max_pages) (pages_at max_pages)
+pub pages_law : (max_pages : ℕ) → max_pages ≤ MOST_PAGES → Law pages_text (λ n. n ≤ max_pages) (pages_at max_pages)
 pages_law max_pages fits = behind_law (codes "pages ") _ _ _ (number_law max_pages 10 [] (omega (arith, fits)) refl)
 
-abbrev Ends : Type 0
+abbrev pub Ends : Type 0
 Ends = List ThreadReport × ℕ
 
-abbrev ends_text : Ends → List ℕ → List ℕ
+abbrev pub ends_text : Ends → List ℕ → List ℕ
 ends_text x rest = texts end_text 0 x.0 (pages_text x.1 (last_line ++ rest))
 
-abbrev EndsFit : ℕ → ℕ → Ends → Type 0
+abbrev pub EndsFit : ℕ → ℕ → Ends → Type 0
 EndsFit threads max_pages x = AllFit EndFits 0 x.0 × ((1 ≤ length x.0) × ((length x.0 ≤ threads) × (x.1 ≤ max_pages)))
 
 items_are : {A : Type 0} (xs ys : List A) → some_items xs ≡ Some ys → (xs ≡ ys) × (1 ≤ length ys)
@@ -319,7 +319,7 @@ ends_made threads max_pages bytes all ends pages mid last x rest t i p m e =
     let few : length ends ≤ threads = subst (λ (z : List ThreadReport). length z ≤ threads) i.0 t.few in
     move (λ (z : Ends) (r : List ℕ). (bytes ≡ ends_text z r) × EndsFit threads max_pages z) (ends, pages) x last rest e (whole, (fit, (i.1, (few, p.1))))
 
-ends_found : (threads max_pages : ℕ) → max_pages ≤ MOST_PAGES → (bytes : List ℕ) (x : Ends) (rest : List ℕ)
+pub ends_found : (threads max_pages : ℕ) → max_pages ≤ MOST_PAGES → (bytes : List ℕ) (x : Ends) (rest : List ℕ)
     → ends_at threads max_pages bytes ≡ Some (x, rest) → (bytes ≡ ends_text x rest) × EndsFit threads max_pages x
 unfolding ends_at
 ends_found threads max_pages fits bytes x rest e =
@@ -331,11 +331,11 @@ ends_found threads max_pages fits bytes x rest e =
     (several_takes end_text EndFits end_at end_takes 0 threads bytes) (items_are all.0 p.0 p.1)
     ((pages_law max_pages fits).takes all.1 q.0.0 q.0.1 q.1) (after_takes last_line q.0.1 s.0 s.1) s.2
 
-pages_stop : (k p : ℕ) (rest : List ℕ) → end_at k (pages_text p rest) ≡ None
+pub pages_stop : (k p : ℕ) (rest : List ℕ) → end_at k (pages_text p rest) ≡ None
 unfolding end_at after
 pages_stop k p rest = refl
 
-ends_again : (threads max_pages : ℕ) → max_pages ≤ MOST_PAGES → (x : Ends) (rest : List ℕ) → EndsFit threads max_pages x
+pub ends_again : (threads max_pages : ℕ) → max_pages ≤ MOST_PAGES → (x : Ends) (rest : List ℕ) → EndsFit threads max_pages x
     → ends_at threads max_pages (ends_text x rest) ≡ Some (x, rest)
 unfolding ends_at
 ends_again threads max_pages fits x rest fit =
@@ -346,17 +346,17 @@ ends_again threads max_pages fits x rest fit =
     ap (λ (z : List ThreadReport × List ℕ). some_items z.0 >>= λ ends. pages_at max_pages z.1 >>= λ pages. after last_line pages.1 >>= λ r. Some ((ends, pages.0), r)) s
     ∙ rw (items_to x.0 (fit.1).0, (pages_law max_pages fits).again x.1 (last_line ++ rest) ((fit.1).1).1, after_again last_line rest) refl
 
-abbrev body_text : Body → List ℕ → List ℕ
+abbrev pub body_text : Body → List ℕ → List ℕ
 body_text b rest = texts (λ k. entry_text) 0 b.0 (ends_text b.1 rest)
 
-abbrev BodyFits : ℕ → ℕ → ℕ → Body → Type 0
+abbrev pub BodyFits : ℕ → ℕ → ℕ → Body → Type 0
 BodyFits threads max_pages limit b =
     AllFit (λ k. IsEntry threads) 0 b.0 × ((length b.0 ≤ limit + 3 * threads) × EndsFit threads max_pages b.1)
 
-abbrev AreIn : ℕ → ℕ → Type 0
+abbrev pub AreIn : ℕ → ℕ → Type 0
 AreIn threads max_pages = IsCount threads × (max_pages ≤ MOST_PAGES)
 
-body_takes : (threads max_pages : ℕ) → AreIn threads max_pages → (limit : ℕ) (bytes : List ℕ) (b : Body) (rest : List ℕ)
+pub body_takes : (threads max_pages : ℕ) → AreIn threads max_pages → (limit : ℕ) (bytes : List ℕ) (b : Body) (rest : List ℕ)
     → body_at threads max_pages limit bytes ≡ Some (b, rest) → (bytes ≡ body_text b rest) × BodyFits threads max_pages limit b
 unfolding body_at
 body_takes threads max_pages are limit bytes b rest e =
@@ -367,7 +367,7 @@ body_takes threads max_pages are limit bytes b rest e =
     move (λ (z : Body) (r : List ℕ). (bytes ≡ body_text z r) × BodyFits threads max_pages limit z)
     (all.0, p.0.0) b p.0.1 rest p.2 (t.spelled ∙ ap (texts (λ k. entry_text) 0 all.0) u.0, (t.fit, (t.few, u.1)))
 
-end_stops_at : (threads : ℕ) (reports : List ThreadReport) (rest : List ℕ) → 1 ≤ length reports → entry_at threads (texts end_text 0 reports rest) ≡ None
+pub end_stops_at : (threads : ℕ) (reports : List ThreadReport) (rest : List ℕ) → 1 ≤ length reports → entry_at threads (texts end_text 0 reports rest) ≡ None
 unfolding entry_at number_at
 end_stops_at threads [] rest le = absurd (omega arith)
 end_stops_at threads (r ∷ reports) rest le = refl
@@ -375,7 +375,7 @@ end_stops_at threads (r ∷ reports) rest le = refl
 end_stops : (threads : ℕ) (x : Ends) (rest : List ℕ) → 1 ≤ length x.0 → entry_at threads (ends_text x rest) ≡ None
 end_stops threads x rest le = end_stops_at threads x.0 (pages_text x.1 (last_line ++ rest)) le
 
-body_again : (threads max_pages : ℕ) → AreIn threads max_pages → (limit : ℕ) (b : Body) (rest : List ℕ) → BodyFits threads max_pages limit b
+pub body_again : (threads max_pages : ℕ) → AreIn threads max_pages → (limit : ℕ) (b : Body) (rest : List ℕ) → BodyFits threads max_pages limit b
     → body_at threads max_pages limit (body_text b rest) ≡ Some (b, rest)
 unfolding body_at
 body_again threads max_pages are limit b rest fit =
@@ -387,7 +387,7 @@ body_again threads max_pages are limit b rest fit =
 
 -- ---- records
 
-abbrev whole_text : Header → Body → List ℕ
+abbrev pub whole_text : Header → Body → List ℕ
 whole_text h b = header_text h (body_text b [])
 
 ends_lines : (i : ℕ) (reports : List ThreadReport) (more : List (List (List ℕ)))
@@ -420,13 +420,13 @@ record_by : (v : Version) (x : Sizes) (c : List ℕ × (List Value × (ℕ × �
 record_by versions.One x c b = ap (λ (t : List ℕ). first_line ++ t) (call_is ((versions.One, x), c) b _ (behind_log b))
 record_by versions.Two x c b = ap (λ (t : List ℕ). sizes_text x t) (call_is ((versions.Two, x), c) b _ (behind_log b))
 
-record_is : (h : Header) (b : Body) → record_text (parts_of h b) ≡ whole_text h b
+pub record_is : (h : Header) (b : Body) → record_text (parts_of h b) ≡ whole_text h b
 record_is h b = record_by (h.0).0 (h.0).1 h.1 b
 
-abbrev Fits : Header → Body → Type 0
+abbrev pub Fits : Header → Body → Type 0
 Fits h b = BodyFits (threads_in h) (max_pages_in h) (limit_in h) b
 
-record_fits : (h : Header) (b : Body) → HeaderFits h → Fits h b → IsRecord (parts_of h b)
+pub record_fits : (h : Header) (b : Body) → HeaderFits h → Fits h b → IsRecord (parts_of h b)
 record_fits h b f g = record {
   invoke = ((f.1).0).0;
   bytes = fit_all IsByte 0 (h.1).0 ((f.1).0).1;
@@ -445,7 +445,7 @@ record_fits h b f g = record {
   ends = fit_ends 0 (b.1).0 ((g.1).1).0;
 }
 
-are_in : (h : Header) → HeaderFits h → AreIn (threads_in h) (max_pages_in h)
+pub are_in : (h : Header) → HeaderFits h → AreIn (threads_in h) (max_pages_in h)
 are_in h f = counted (h.0).0 ((h.0).1).0 (threads_in h) (max_pages_in h) f.0
 
 nothing_is : {A : Type 0} (bytes : List ℕ) (x y : A) → nothing_left bytes x ≡ Some y → (bytes ≡ []) × (x ≡ y)
@@ -487,10 +487,10 @@ one_record r s p q e = some_is r s (sym (record_again r p) ∙ ap record_at e �
 -- ---- what the reader answers
 
 pub read_found : (bytes : List ℕ) (result : Result RecordParts RecordFault)
-    → Gives (λ (r : RecordParts). r) result (record_at bytes) → (r : RecordParts) → IsRecord r
+    → (fault : RecordFault) → Gives (λ (r : RecordParts). r) result fault (record_at bytes) → (r : RecordParts) → IsRecord r
     → bytes ≡ record_text r → (result ≡ Ok r) ⊎ (result ≡ Err faults.NoMemory)
-read_found bytes (Ok x) h r fit e = inl (ap (λ (z : RecordParts). Ok z) (some_is x r (sym h ∙ ap record_at e ∙ record_again r fit)))
-read_found bytes (Err faults.NoMemory) h r fit e = inr refl
-read_found bytes (Err (faults.Header line)) h r fit e = let s = sym h ∙ ap record_at e ∙ record_again r fit in absurd cc
-read_found bytes (Err (faults.Unreadable line)) h r fit e = let s = sym h ∙ ap record_at e ∙ record_again r fit in absurd cc
-read_found bytes (Err faults.EndMissing) h r fit e = let s = sym h ∙ ap record_at e ∙ record_again r fit in absurd cc
+read_found bytes (Ok x) fault h r fit e = inl (ap (λ (z : RecordParts). Ok z) (some_is x r (sym h ∙ ap record_at e ∙ record_again r fit)))
+read_found bytes (Err faults.NoMemory) fault h r fit e = inr refl
+read_found bytes (Err (faults.Header line)) fault h r fit e = let s = sym h.0 ∙ ap record_at e ∙ record_again r fit in absurd cc
+read_found bytes (Err (faults.Unreadable line)) fault h r fit e = let s = sym h.0 ∙ ap record_at e ∙ record_again r fit in absurd cc
+read_found bytes (Err faults.EndMissing) fault h r fit e = let s = sym h.0 ∙ ap record_at e ∙ record_again r fit in absurd cc

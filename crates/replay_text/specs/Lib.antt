@@ -4,4 +4,6 @@ pub mod Versions
 pub mod Text
 pub mod Reading
 pub mod Faults
+pub mod Refusals
+pub mod Breaks
 pub mod Views

@@ -1,8 +1,10 @@
 //! Reading what stands behind the header.
 
-ghost use Rattle.std.specs.Prelude.{◌≤◌};
+ghost use Rattle.std.specs.Prelude.{◌≡◌, ◌≤◌};
 ghost use Rattle.types.specs.declared.limits.TheConstants.{MOST_LIMIT, MOST_THREADS};
-ghost use Rattle.replay_text.specs.Faults.{GivesLines, GivesLinesAs, Refuses};
+ghost use Rattle.replay_text.specs.Faults.{GivesLines, GivesLinesAs};
+ghost use Rattle.replay_text.specs.Versions.{header_count};
+ghost use Rattle.replay_text.specs.Refusals.{body_line, last_refusal, ends_refusal, body_refusal};
 ghost use Rattle.replay_text.specs.Views.{ends_view, body_of};
 ghost use Rattle.replay_text.specs.Reading.{last_lines_at, ends_at, body_at};
 
@@ -32,7 +34,7 @@ pub struct RecordBody {
 
 /// What is wrong where the line of this number isn't what it has to be: no line, if no line feed is left.
 fn fault_at(line: usize, rest: &[u8]) -> RecordFault
-    ensures { Refuses result }
+    ensures { result ≡ body_line line rest.now }
 {
     if rest.contains(&b'\n') {
         RecordFault::Unreadable(line)
@@ -44,7 +46,7 @@ fn fault_at(line: usize, rest: &[u8]) -> RecordFault
 /// The pages after the run, and the line `finish`.
 fn last_lines_in(max_pages: u32, line: usize, bytes: &[u8]) -> Result<(u32, &[u8]), RecordFault>
     requires { line ≤ 2000064 }
-    ensures { GivesLines (last_lines_at max_pages) bytes.now result }
+    ensures { GivesLines (last_lines_at max_pages) (last_refusal max_pages line) bytes.now result }
 {
     let Some((pages, rest)) = u32_behind(b"pages ", max_pages, b"\n", bytes) else {
         return Err(fault_at(line, bytes));
@@ -56,7 +58,7 @@ fn last_lines_in(max_pages: u32, line: usize, bytes: &[u8]) -> Result<(u32, &[u8
 }
 
 /// The end lines, of so many threads at most, and the two lines behind them. The first is the line of this number.
-#[tactic(auto, unfolding(crate::specs::Reading::ends_at), using(crate::proofs::Faults::fails_none))]
+#[tactic(auto, unfolding(crate::specs::Reading::ends_at))]
 fn ends_in(
     alloc: Global,
     scale: Scale,
@@ -65,7 +67,8 @@ fn ends_in(
 ) -> Result<(Ends, &[u8]), RecordFault>
     requires line { line ≤ 2000000 }
     requires threads { scale.threads ≤ MOST_THREADS }
-    ensures { GivesLinesAs ends_view (ends_at scale.threads scale.max_pages) bytes.now result }
+    ensures { GivesLinesAs ends_view (ends_at scale.threads scale.max_pages)
+        (ends_refusal scale.threads scale.max_pages line) bytes.now result }
 {
     let (ends, rest) = several(alloc, &EndLine, scale.threads as usize, bytes)?;
     if ends.is_empty() {
@@ -89,7 +92,9 @@ pub fn body_in(
 ) -> Result<(RecordBody, &[u8]), RecordFault>
     requires limit { limit ≤ MOST_LIMIT }
     requires threads { scale.threads ≤ MOST_THREADS }
-    ensures { GivesLinesAs body_of (body_at scale.threads scale.max_pages limit) bytes.now result }
+    ensures { let header = header_count scale.version in
+        GivesLinesAs body_of (body_at scale.threads scale.max_pages limit)
+        (body_refusal header scale.threads scale.max_pages limit) bytes.now result }
 {
     let threads = scale.threads;
     let most = limit as usize + 3 * threads as usize;

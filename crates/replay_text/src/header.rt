@@ -7,6 +7,7 @@ ghost use Rattle.replay_text.specs.Faults.{GivesLines, GivesLinesAs};
 ghost use Rattle.replay_text.specs.Views.{scale_of, header_of};
 ghost use Rattle.replay_text.specs.Reading.{named, count_at, scale_at, invoke_at, args_at, fuel_at, limit_at};
 ghost use Rattle.replay_text.specs.Reading.{header_at};
+ghost use Rattle.replay_text.specs.Refusals.{header_line, scale_refusal, budget_refusal, header_refusal};
 
 use crate::fault::RecordFault;
 use crate::number::{number_behind, u32_behind};
@@ -55,7 +56,7 @@ fn count_at<'a>(word: &[u8], max: u32, bytes: &'a [u8]) -> Option<(u32, &'a [u8]
 #[tactic(auto, unfolding(crate::specs::Reading::scale_at))]
 fn scale_in(bytes: &[u8]) -> Result<(Scale, &[u8]), RecordFault>
     ensures threads { IfOk result (λ r. r.0.threads ≤ MOST_THREADS) }
-    ensures gives { GivesLinesAs scale_of scale_at bytes.now result }
+    ensures gives { GivesLinesAs scale_of scale_at scale_refusal bytes.now result }
 {
     if let Some(rest) = after(b"wathread-record 1\n", bytes) {
         let scale = Scale {
@@ -104,7 +105,7 @@ fn name_of(bytes: Vec<u8>) -> Option<Name>
 
 #[tactic(auto, unfolding(crate::specs::Reading::invoke_at))]
 fn invoke_in(alloc: Global, line: usize, bytes: &[u8]) -> Result<(Name, &[u8]), RecordFault>
-    ensures { GivesLines invoke_at bytes.now result }
+    ensures { GivesLines invoke_at (header_line line) bytes.now result }
 {
     let Some(rest) = after(b"invoke ", bytes) else {
         return Err(RecordFault::Header(line));
@@ -128,7 +129,7 @@ fn args_in(
     line: usize,
     bytes: &[u8],
 ) -> Result<(Sequence<Value>, &[u8]), RecordFault>
-    ensures { GivesLines args_at bytes.now result }
+    ensures { GivesLines args_at (header_line line) bytes.now result }
 {
     let Some(rest) = after(b"args", bytes) else {
         return Err(RecordFault::Header(line));
@@ -144,7 +145,7 @@ fn args_in(
 fn budget_in(line: usize, bytes: &[u8]) -> Result<((u64, u32), &[u8]), RecordFault>
     requires { line ≤ 7 }
     ensures limit { IfOk result (λ r. r.0.1 ≤ MOST_LIMIT) }
-    ensures gives { GivesLines (both fuel_at limit_at) bytes.now result }
+    ensures gives { GivesLines (both fuel_at limit_at) (budget_refusal line) bytes.now result }
 {
     let Some((fuel, rest)) = number_behind(b"fuel ", MOST_FUEL, b"\n", bytes) else {
         return Err(RecordFault::Header(line));
@@ -160,7 +161,7 @@ fn budget_in(line: usize, bytes: &[u8]) -> Result<((u64, u32), &[u8]), RecordFau
 pub fn header_in(alloc: Global, bytes: &[u8]) -> Result<(Header, &[u8]), RecordFault>
     ensures limit { IfOk result (λ r. r.0.limit ≤ MOST_LIMIT) }
     ensures threads { IfOk result (λ r. r.0.scale.threads ≤ MOST_THREADS) }
-    ensures gives { GivesLinesAs header_of header_at bytes.now result }
+    ensures gives { GivesLinesAs header_of header_at header_refusal bytes.now result }
 {
     let (scale, rest) = scale_in(bytes)?;
     let last = scale.version.header_lines();

@@ -1,9 +1,12 @@
 //! Reading a record.
 
-ghost use Rattle.std.specs.Prelude.{◌≡◌, IfOk};
+ghost use Rattle.std.specs.Prelude.{◌≡◌, ◌⊎◌, IfOk, IfErr};
 ghost use Rattle.replay_text.specs.Faults.{Gives};
 ghost use Rattle.replay_text.specs.Reading.{record_at};
+ghost use Rattle.replay_text.specs.Refusals.{record_refusal};
 ghost use Rattle.replay_text.specs.Text.{record_text, IsRecord, FindsRecord};
+ghost use Rattle.replay_text.specs.Breaks.{IsFaultOf};
+ghost use Rattle.replay_text.specs.declared.fault.RecordFault.TheVariants.{NoMemory};
 
 use crate::body::body_in;
 use crate::fault::RecordFault;
@@ -14,7 +17,7 @@ use std::alloc::Global;
 
 #[tactic(auto, unfolding(crate::specs::Reading::record_at))]
 fn parts_in(alloc: Global, bytes: &[u8]) -> Result<RecordParts, RecordFault>
-    ensures { Gives (λ r. r) result (record_at bytes.now) }
+    ensures { Gives (λ r. r) result (record_refusal bytes.now) (record_at bytes.now) }
 {
     let (header, rest) = header_in(alloc, bytes)?;
     let scale = header.scale;
@@ -49,6 +52,7 @@ fn parts_in(alloc: Global, bytes: &[u8]) -> Result<RecordParts, RecordFault>
 pub fn read_record(alloc: Global, bytes: &[u8]) -> Result<Record, RecordFault>
     ensures ok { IfOk result (λ r. IsRecord r × (bytes.now ≡ record_text r)) }
     ensures found { FindsRecord bytes.now result }
+    ensures refused { IfErr result (λ e. (e ≡ NoMemory) ⊎ IsFaultOf bytes.now e) }
 {
     match parts_in(alloc, bytes) {
         Ok(parts) => Ok(Record::from_tested(parts)),

@@ -17,3 +17,4 @@ pub mod Refused
 pub mod Along
 pub mod Begin
 pub mod Watched
+pub mod Seen

@@ -7,6 +7,7 @@ ghost use Rattle.shared_memory.specs.Events.{is_exempt};
 ghost use Rattle.replay_text.specs.Conditions.{IsEntry};
 ghost use Rattle.replay_walk.specs.Walked.{BeginsWalk, StandsSomewhere, StandsWithin, StandsReady, TakesEntry};
 ghost use Rattle.replay_walk.specs.Walked.{RefusesEntry};
+ghost use Rattle.replay_walk.specs.Seen.{SeesLeave, SeesEvent, SeesEntry, SeesWhole, SeesUpTo};
 ghost use Rattle.replay_walk.specs.Walked.{RefusesLeave, TakesAnswer, RefusesAnswer, IsNewWalk, ComesAlong, StopsAt};
 
 use crate::watch::show_event;
@@ -54,6 +55,7 @@ impl<T: TakesTurns> Walk<T> {
         ensures count { length self.new.threads.items ≡ length self.old.threads.items }
         ensures taken { result ≡ true → TakesEntry T.meaning self.old self.new limit at entry.now }
         ensures refused { result ≡ false → RefusesEntry T.meaning self.old limit at entry.now }
+        ensures seen { SeesEntry T.meaning W.sees limit at self.old entry.now result watch.old watch.new }
     {
         match entry.event {
             Event::Told(answer) => self.take_told(entry.thread, answer),
@@ -77,6 +79,7 @@ impl<T: TakesTurns> Walk<T> {
         ensures count { length self.new.threads.items ≡ length self.old.threads.items }
         ensures taken { result ≡ true → TakesEntry T.meaning self.old self.new limit at entry.now }
         ensures refused { result ≡ false → RefusesLeave T.meaning self.old limit at entry.now }
+        ensures seen { SeesLeave T.meaning W.sees self.old entry.now result watch.old watch.new }
     {
         let n = entry.thread;
         if !self.stage.is_going::<T>(n) {
@@ -113,6 +116,7 @@ impl<T: TakesTurns> Walk<T> {
         ensures count { length self.new.threads.items ≡ length self.old.threads.items }
         ensures taken { result ≡ true → TakesEntry T.meaning self.old self.new limit at entry.now }
         ensures refused { result ≡ false → RefusesEntry T.meaning self.old limit at entry.now }
+        ensures seen { SeesEvent T.meaning W.sees limit at self.old entry.now result watch.old watch.new }
     {
         let Entry {
             thread: n,
@@ -158,6 +162,10 @@ impl<T: TakesTurns> Walk<T> {
         requires new { IsNewWalk T.meaning self.old fuel limit }
         ensures whole { result ≡ None → ComesAlong T.meaning self.old limit log.now self.new }
         ensures misfit { (k : ℕ) → result ≡ Some k → StopsAt T.meaning self.old limit log.now k }
+        ensures seen { result ≡ None
+            → SeesWhole T.meaning W.sees self.old limit log.now self.new watch.old watch.new }
+        ensures stopped { (k : ℕ) → result ≡ Some k
+            → SeesUpTo T.meaning W.sees self.old limit log.now k watch.old watch.new }
     {
         for (at, entry) in log.iter().enumerate() {
             watch.came(at, self);

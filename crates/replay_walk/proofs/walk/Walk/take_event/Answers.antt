@@ -1,4 +1,4 @@
-use Rattle.std.proofs.Common.{◌≡◌, arith, List, length, sym, ◌∙◌, ap, subst}
+use Rattle.std.proofs.Common.{◌≡◌, arith, List, length, sym, ◌∙◌, ap, subst, inl, inr, refl}
 use Rattle.std.proofs.lemmas.List.{take_at}
 use Rattle.types.specs.declared.event.Event.{Event}
 use Rattle.types.specs.declared.event.Reply.{Reply}
@@ -17,6 +17,7 @@ use Rattle.replay_walk.proofs.Watched.{wants_at}
 use Rattle.replay_walk.proofs.Taken.{room_for, can_event, took_as}
 use Rattle.replay_walk.proofs.Refused.{refused_gone, refused_full, refused_other, refused_reply}
 use Rattle.replay_walk.proofs.Replaced.{count_back}
+use Rattle.replay_walk.proofs.Seen.{told_of, shown_of, seen_by}
 use Rattle.replay_walk.proofs.walk.Walk.take_event.Goals as goal
 use Rattle.replay_walk.proofs.walk.Walk.take_event.Goals.{then-at-limit-via-then-at-limit, then-at-limit-via-else-at-limit+then-not-is_going}
 
@@ -181,3 +182,31 @@ returns-then-not-is_same_event-clause-count g c = count_back c.settle_at-turn.ne
 pub returns-clause-count : goal.returns-clause-count
 returns-clause-count g c = count_back c.make.new.threads c.as_mut_slice-threads.result.now _ _ _
     (c.make.ensures.count ∙ c.settle_at-turn.ensures.count) c.as_mut_slice-threads.ensures.value c.as_mut_slice-threads.ensures.len
+
+pub returns-then-at-limit-clause-seen : goal.returns-then-at-limit-clause-seen
+returns-then-at-limit-clause-seen g c = inl (elim c.then-at-limit.branch [
+  | then-at-limit-via-then-at-limit w ↦ inl w.if-at-limit.true
+  | then-at-limit-via-else-at-limit+then-not-is_going w ↦ inr (w.is_going.ensures.gone w.if-not-is_going.true)
+], refl)
+
+pub returns-in_default-clause-seen : goal.returns-in_default-clause-seen
+returns-in_default-clause-seen g c = inr (inl (c.settle_at-turn.result, told_of g.T.TakesTurns.meaning g.W.Watch.sees c.args.self.now c.args.entry.now.thread c.settle_at-turn.result
+    c.as_mut_slice-threads.result.now c.settle_at-turn.new.threads c.args.watch.now c.settled.new.self c.as_mut_slice-threads.ensures.value
+    c.settle_at-turn.ensures.settled c.settled.ensures,
+    λ is. c.in_default.not-Wants c.args.entry.now.event is))
+
+pub returns-then-not-is_same_event-clause-seen : goal.returns-then-not-is_same_event-clause-seen
+returns-then-not-is_same_event-clause-seen g c = inr (inl (c.settle_at-turn.result, told_of g.T.TakesTurns.meaning g.W.Watch.sees c.args.self.now c.args.entry.now.thread c.settle_at-turn.result
+    c.as_mut_slice-threads.result.now c.settle_at-turn.new.threads c.args.watch.now c.settled.new.self c.as_mut_slice-threads.ensures.value
+    c.settle_at-turn.ensures.settled c.settled.ensures,
+    λ is. c.is_same_event.ensures.other c.if-not-is_same_event.true (same_wanted c.in-Wants.is is)))
+
+pub returns-clause-seen : goal.returns-clause-seen
+returns-clause-seen g c =
+    let same : c.in-Wants.wanted ≡ c.args.entry.now.event = c.is_same_event.ensures.same c.if-not-is_same_event.false in
+    seen_by g.T.TakesTurns.meaning g.W.Watch.sees c.args.limit c.args.at c.args.self.now c.args.entry.now c.make.result
+    c.args.watch.now c.show_event.new.watch
+    (shown_of g.T.TakesTurns.meaning g.W.Watch.sees c.args.self.now c.args.entry.now c.settle_at-turn.result
+    c.as_mut_slice-threads.result.now c.settle_at-turn.new.threads c.args.watch.now c.settled.new.self c.show_event.new.watch
+    c.as_mut_slice-threads.ensures.value c.settle_at-turn.ensures.settled
+    (c.in-Wants.is ∙ ap (λ (e : Event). turns.Wants e) same) c.settled.ensures c.show_event.ensures)

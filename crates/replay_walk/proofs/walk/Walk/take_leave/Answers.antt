@@ -1,4 +1,4 @@
-use Rattle.std.proofs.Common.{sym, ◌∙◌, subst}
+use Rattle.std.proofs.Common.{sym, ◌∙◌, subst, inl, inr, refl}
 use Rattle.std.proofs.lemmas.List.{take_at}
 use Rattle.types.specs.declared.event.Event.{Event}
 use Rattle.types.specs.declared.event.Event.TheVariants as events
@@ -20,6 +20,7 @@ use Rattle.replay_walk.proofs.Settled.{within, ready, settled}
 use Rattle.replay_walk.proofs.Taken.{Leaves, leaves_ended, leaves_full, took_as}
 use Rattle.replay_walk.proofs.Refused.{refused_gone, refused_leave}
 use Rattle.replay_walk.proofs.Replaced.{count_back}
+use Rattle.replay_walk.proofs.Seen.{told_of}
 use Rattle.replay_walk.proofs.walk.Walk.take_leave.Goals as goal
 use Rattle.replay_walk.proofs.walk.Walk.take_leave.Goals.{in-Ended, in-Wants+else-at-limit}
 
@@ -144,3 +145,21 @@ returns-then-at-limit-clause-count g c = count_back c.settle_at-turn.new.threads
 pub returns-clause-count : goal.returns-clause-count
 returns-clause-count g c = count_back c.settle_at-turn.new.threads c.deref_mut.result.now _ _ _
     c.settle_at-turn.ensures.count c.deref_mut.ensures.value c.deref_mut.ensures.len
+
+pub returns-then-not-is_going-clause-seen : goal.returns-then-not-is_going-clause-seen
+returns-then-not-is_going-clause-seen g c = inl (c.is_going.ensures.gone c.if-not-is_going.true, refl)
+
+pub returns-then-at-limit-clause-seen : goal.returns-then-at-limit-clause-seen
+returns-then-at-limit-clause-seen g c = inr (c.settle_at-turn.result, told_of g.T.TakesTurns.meaning g.W.Watch.sees c.args.self.now c.args.entry.now.thread c.settle_at-turn.result
+    c.deref_mut.result.now c.settle_at-turn.new.threads c.args.watch.now c.settled.new.self c.deref_mut.ensures.value
+    c.settle_at-turn.ensures.settled c.settled.ensures)
+
+pub returns-in_default-clause-seen : goal.returns-in_default-clause-seen
+returns-in_default-clause-seen g c = inr (c.settle_at-turn.result, told_of g.T.TakesTurns.meaning g.W.Watch.sees c.args.self.now c.args.entry.now.thread c.settle_at-turn.result
+    c.deref_mut.result.now c.settle_at-turn.new.threads c.args.watch.now c.settled.new.self c.deref_mut.ensures.value
+    c.settle_at-turn.ensures.settled c.settled.ensures)
+
+pub returns-clause-seen : goal.returns-clause-seen
+returns-clause-seen g c = (c.settle_at-turn.result, told_of g.T.TakesTurns.meaning g.W.Watch.sees c.args.self.now c.args.entry.now.thread c.settle_at-turn.result
+    c.deref_mut.result.now c.settle_at-turn.new.threads c.args.watch.now c.settled.new.self c.deref_mut.ensures.value
+    c.settle_at-turn.ensures.settled c.settled.ensures)
