@@ -17,5 +17,5 @@ mod laws;
 mod reached;
 
 pub use body::check_body;
-pub use laws::operands_have_one_type_each;
+pub use laws::{blocks_are_read_off_the_code, operands_have_one_type_each};
 pub use reached::operand_types;
