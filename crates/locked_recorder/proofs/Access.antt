@@ -122,7 +122,7 @@ enters_log opening limit capacity m c event reply log k goes known is right allo
 
 -- a new log
 pub opened_keeps : (opening : Memory) (limit capacity : ℕ) (m : Memory) (log : L) → log ≡ [] → m ≡ opening
-    → limit + PAST_LIMIT ≤ capacity → limit ≤ MOST_LIMIT → KeepsLog opening limit capacity m log
+    → capacity ≡ limit + PAST_LIMIT → limit ≤ MOST_LIMIT → KeepsLog opening limit capacity m log
 opened_keeps opening limit capacity m log none same reserved small = subst (λ (l : L). KeepsLog opening limit capacity m l) (sym none) (record {
   after = same;
   seen = record { legal = tt; entries = All-nil IsEntry };

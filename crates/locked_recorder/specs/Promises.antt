@@ -40,13 +40,13 @@ abbrev pub log_after : Bool → List Entry → Entry → List Entry
 log_after full log e = if full then log else log ++ e ∷ []
 
 -- What lies under the lock: the memory is the one after the log, the log is legal for the memory and for the wait
--- queue, and it has room for what may still come.
+-- queue, and it has room for what may still come, and for no entry more than its limit lets in.
 pub record KeepsLog (opening : Memory) (limit : ℕ) (capacity : ℕ) (memory : Memory) (log : List Entry) : Type 0 where
   pub after : memory ≡ memory_after opening log
   pub seen : IsSeen opening log
   pub queue : IsQueueLegal log
   pub spare : HasSpare limit log
-  pub reserved : limit + PAST_LIMIT ≤ capacity
+  pub reserved : capacity ≡ limit + PAST_LIMIT
   pub small : limit ≤ MOST_LIMIT
 
 -- A keeper logs for the memory with this table, opening and limit: its seat of that table knows the log, and no caller
@@ -56,11 +56,11 @@ Logs table opening limit own me held capacity memory log =
     (own ≡ table) × (me ≡ (keeper log [], [])) × (held ≡ limit) × KeepsLog opening held capacity memory log
 
 -- A recorder that has no name yet: all callers stand on the keeper's seat of its table of one word, and the empty log
--- has room for all that its limit lets in.
+-- has room for all that its limit lets in, and for no more.
 abbrev pub IsPrepared : TableId → TableId → Me ℕ View → ℕ → ℕ → List Entry → Type 0
 IsPrepared table own me limit capacity log =
     (own ≡ table) × (me ≡ (opened true, [])) × (table.words ≡ 1) × (limit ≤ MOST_LIMIT) × (log ≡ [])
-    × (limit + PAST_LIMIT ≤ capacity)
+    × (capacity ≡ limit + PAST_LIMIT)
 
 -- It is to record the accesses of a memory of these bytes and at most so many pages, by a log with this limit.
 abbrev pub IsOpenedFrom : List ℕ → ℕ → ℕ → MemoryName → Type 0

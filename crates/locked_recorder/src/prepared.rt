@@ -36,7 +36,7 @@ impl Model for Prepared {
 impl Prepared {
     /// Prepares a recorder over a memory of these bytes and at most `max` pages, whose log takes `limit` entries, and
     /// past it only `Told` and the question `Leave`. All that later calls need is reserved here and by
-    /// `LockedRecorder::open`.
+    /// `LockedRecorder::open`, and no more: room for `limit` and 192 entries.
     ///
     /// # Errors
     /// `PastLimit` exactly where the image isn't whole pages of 65,536 bytes or passes `max` pages, `max` passes 256,

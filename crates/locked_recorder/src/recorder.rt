@@ -1,5 +1,5 @@
 //! The recorder.
-ghost use Rattle.std.specs.Prelude.{◌≡◌, ◌<◌, IfOk, IsOkUnless, All, map};
+ghost use Rattle.std.specs.Prelude.{◌≡◌, ◌<◌, IfOk, IsOkUnless, All, map, vec_capacity};
 ghost use Rattle.types.specs.declared.limits.TheConstants.{SEATS};
 ghost use Rattle.shared_memory.specs.Memory.{IsWhole};
 ghost use Rattle.shared_memory_on_table.specs.Callers.{fresh_from};
@@ -47,6 +47,7 @@ impl<B: Naming, W: Wait + Drop> LockedRecorder<B, W> {
         requires opening { prepared.opening ≡ B.opening }
         requires limit { prepared.limit ≡ B.limit }
         ensures seats { IfOk result (λ r. map (λ s. s.caller) r.1.items ≡ fresh_from SEATS 0) }
+        ensures room { IfOk result (λ r. vec_capacity r.1 ≡ SEATS) }
         ensures fault { IsOkUnless result OpenFault.NoMemory }
     {
         let Prepared {

@@ -1,5 +1,5 @@
 //! The seats of a memory that opens.
-ghost use Rattle.std.specs.Prelude.{◌≡◌, ◌<◌, ◌≤◌, ◌∷◌, [], IfOk, map};
+ghost use Rattle.std.specs.Prelude.{◌≡◌, ◌<◌, ◌≤◌, ◌∷◌, [], IfOk, map, vec_capacity};
 ghost use Rattle.types.specs.declared.limits.TheConstants.{DESK_NAME, SEATS};
 ghost use Rattle.shared_memory_on_table.specs.Callers.{fresh, fresh_from};
 ghost use Rattle.shared_memory_on_table.specs.Moves.{others_of};
@@ -50,6 +50,7 @@ pub fn take_seats<B: Naming, K, H: History<K>>(
     requires row { (row.now.table_id ≡ B.table) × (0 < row.now.table_id.words) }
     requires all { (all.old.table_id ≡ B.table) × (all.old.me ≡ (opened H.has_keeper, [])) }
     ensures seats { IfOk result (λ v. map (λ s. s.caller) v.items ≡ fresh_from SEATS 0) }
+    ensures room { IfOk result (λ v. vec_capacity v ≡ SEATS) }
     ensures all { IfOk result (λ _. (all.new.table_id ≡ B.table) × IsGathered H.has_keeper [] all.new) }
 {
     let mut seats = Vec::with_capacity(alloc, SEATS as usize)?;

@@ -6,7 +6,7 @@ use Rattle.types.specs.declared.parts.ExportDesc.{ExportDesc}
 use Rattle.types.specs.declared.parts.ExportDesc.TheVariants as exported
 use Rattle.binary_wire.specs.Faults.{input}
 use Rattle.binary_wire.specs.Reading.{Reading, ◌>>=◌, u32_at, name_at, vector_at}
-use Rattle.show_places.specs.Sections.{HasCustom, HasSubsection}
+use Rattle.show_places.specs.Sections.{Part, HasFirst, HasCustom}
 use Rattle.show_places.specs.declared.names.Named.{Named}
 use Rattle.show_places.specs.declared.names.FunctionName.{FunctionName}
 use Rattle.show_places.specs.declared.names.FunctionName.TheVariants as called
@@ -17,17 +17,21 @@ named_at s bytes = do
   name ← name_at s n.1
   Ok (record { function = n.0; name = name.0 }, name.1)
 
--- The subsection 1 of the custom section `name` is a vector of them.
+-- The first subsection 1 of the first custom section `name` is a vector of them.
 pub record AreNames (bytes : List ℕ) (names : List Named) : Type 0 where
   pub text : List ℕ
-  pub contents : List ℕ
+  pub functions : Part
   pub rest : List ℕ
   pub custom : HasCustom bytes (codes "name") text
-  pub subsection : HasSubsection text 1 contents
-  pub vector : vector_at 0xffff_ffff named_at (input contents) contents ≡ Ok (names, rest)
+  pub subsection : HasFirst (λ x. x.0 ≡ 1) (input text) text functions
+  pub vector : vector_at 0xffff_ffff named_at (input functions.2) functions.2 ≡ Ok (names, rest)
+
+-- Where there is no such subsection, or it is no such vector.
+abbrev pub HasNoNames : List ℕ → Type 0
+HasNoNames bytes = (names : List Named) → AreNames bytes names → ⊥
 
 abbrev pub IsNames : List ℕ → List Named → Type 0
-IsNames bytes names = AreNames bytes names ⊎ (names ≡ [])
+IsNames bytes names = AreNames bytes names ⊎ ((names ≡ []) × HasNoNames bytes)
 
 abbrev pub is_of : ℕ → Named → Bool
 is_of index named = nat_eq named.function index

@@ -49,7 +49,7 @@ pub fn read_names(alloc: Global, bytes: &[u8]) -> Result<Sequence<Named>, AllocE
     match read_vector::<NamedItem>(&mut reader, alloc, u32::MAX) {
         Ok(names) => Ok(names),
         Err(ReadFault::OutOfMemory) => Err(AllocError),
-        Err(_) => Ok(none),
+        Err(ReadFault::Malformed { .. }) => Ok(none),
     }
 }
 

@@ -3,7 +3,8 @@
 //! memory and the memory's maximum.
 //!
 //! Proved: `validate` gives the module, only where it is valid, and refuses a valid one only for want of memory. A
-//! fault outside bodies is the first one, another is in the first body that isn't typed. `check_module` says the same,
+//! fault outside bodies is the first one, another is in the first body that isn't typed, at the first instruction with
+//! which no typed code goes on. `check_module` says the same,
 //! and makes no `ValidModule`.
 #![tactic(auto)]
 

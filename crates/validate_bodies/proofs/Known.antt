@@ -26,9 +26,10 @@ use Rattle.validate_bodies.specs.Reached.{Done, InBody, InBlock, carried, condit
 use Rattle.validate_bodies.specs.Reached.{BeginsNone, Unreached}
 use Rattle.validate_bodies.specs.Forth.{Fills, Stands, AreDone, Comes, Forth, goes_on_in}
 use Rattle.validate_bodies.proofs.Forth.{stands_live}
+use Rattle.validate_bodies.proofs.Begun.{fill, filled_known}
 use Rattle.validate_bodies.proofs.Unique.{reached_before, same_types}
 use Rattle.validate_bodies.proofs.Endings.{some_open}
-use Rattle.validate_bodies.proofs.Whole.{CheckedOn, on_stuck}
+use Rattle.validate_bodies.proofs.Whole.{CheckedOn, none_begins}
 
 -- The pass up to a place.
 
@@ -60,9 +61,9 @@ pub begins_none : (c : Context) (code : List Instr) (here place : ℕ) (i : Inst
     CheckedOn c code (reverse old) later here → slice_get code here ≡ Some i → Stuck c i here (slice_get later 0) old (Wrong kind) → here < place →
     BeginsNone c code place
 begins_none c code here place i old later kind x k at s l other t y =
-    let b = on_stuck c code old later here i kind x k at s in
+    let b = none_begins c code old later here i kind x k at s in
     let le : here + 1 ≤ place = omega arith in
-    b.never other (sym (take-take (here + 1) place other le) ∙ ap (take (here + 1)) t ∙ take-take (here + 1) place code le) y
+    b other (sym (take-take (here + 1) place other le) ∙ ap (take (here + 1)) t ∙ take-take (here + 1) place code le) y
 
 -- Where all operands are known.
 
@@ -145,25 +146,6 @@ pub cut_off : (c : Context) (code : List Instr) (place : ℕ) (blocks : List Ope
 cut_off c code place blocks h g = inr (inr (record { done = h.0; before = h.1; unreached = sym (live_reached c (reverse blocks) h.0 h.2) ∙ g }))
 
 -- Where one isn't known the place can't be reached: two types would do.
-
-fill : ValType → Option ValType → ValType
-fill d None = d
-fill d (Some t) = t
-
-filled_have : (flow : Flow) (d : ValType) (ks : List (Option ValType)) → MayHave flow ks (map (fill d) ks)
-unfolding fill
-filled_have Live d [] = refl
-filled_have Idle d [] = refl
-filled_have Free d [] = tt
-filled_have Live d (None ∷ ks) = (tt, filled_have Live d ks)
-filled_have Idle d (None ∷ ks) = (tt, filled_have Idle d ks)
-filled_have Free d (None ∷ ks) = (tt, filled_have Free d ks)
-filled_have Live d (Some k ∷ ks) = (refl, filled_have Live d ks)
-filled_have Idle d (Some k ∷ ks) = (refl, filled_have Idle d ks)
-filled_have Free d (Some k ∷ ks) = (refl, filled_have Free d ks)
-
-filled_known : (block : OpenBlock) (d : ValType) → Known block (map (fill d) (reverse block.operands.items))
-filled_known block d = filled_have block.flow d (reverse block.operands.items)
 
 filled_differ : (ks : List (Option ValType)) (n : ℕ) → n < length ks → get_or ks n None ≡ None → map (fill I32) ks ≡ map (fill I64) ks → ⊥
 unfolding fill

@@ -6,5 +6,7 @@ pub mod Endings
 pub mod Whole
 pub mod Forth
 pub mod Unique
+pub mod Begun
 pub mod Known
+pub mod Breaks
 pub mod Reading

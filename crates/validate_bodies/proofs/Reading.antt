@@ -127,7 +127,7 @@ done_read : (d : Done) → read (InBody Empty) (flat_done d) ≡ d
 unfolding read
 done_read d = ap (read (InBody Empty)) (sym (append-nil (flat_done d))) ∙ read_done d []
 
-same_done : (front : List Instr) (d e : Done) → front ≡ flat_done d → front ≡ flat_done e → d ≡ e
+pub same_done : (front : List Instr) (d e : Done) → front ≡ flat_done d → front ≡ flat_done e → d ≡ e
 same_done front d e f g = sym (done_read d) ∙ ap (read (InBody Empty)) (sym f ∙ g) ∙ done_read e
 
 same_left : (c : Context) (d : Done) (taken xs ys : List ValType) → is_reached d ≡ true → Leaves c d taken xs → Leaves c d taken ys → xs ≡ ys

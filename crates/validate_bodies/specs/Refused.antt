@@ -2,31 +2,32 @@
 use Rattle.std.specs.Prelude.{◌≡◌, ℕ, ◌+◌, ◌^◌, ◌≤◌, List, take, Some, Result, MatchResult}
 use Rattle.std.specs.Bool.{⊤}
 use Rattle.std.specs.List.{slice_get}
-use Rattle.types.specs.declared.value.ValType.{ValType}
 use Rattle.types.specs.declared.instr.Instr.{Instr}
 use Rattle.validate_typing.specs.declared.fault.Fault.{Fault}
 use Rattle.validate_typing.specs.declared.fault.ValidFault.{ValidFault}
 use Rattle.validate_typing.specs.declared.fault.ValidFault.TheVariants as validity
 use Rattle.validate_typing.specs.Context.{Context}
 use Rattle.validate_typing.specs.declared.target.Target.{Target}
-use Rattle.validate_typing.specs.Typing.{IsTyped}
 use Rattle.validate_typing.specs.Placed.{IsTabled}
 use Rattle.validate_instructions.specs.declared.problem.Problem.{Problem}
 use Rattle.validate_instructions.specs.declared.problem.Problem.TheVariants.{OutOfMemory}
 use Rattle.validate_instructions.specs.Kinds.{kind_at}
+use Rattle.validate_bodies.specs.Reached.{Done, flat_done, labels_in, BeginsSome, BeginsNone}
 
 -- Memory ran out: a number counts things that don't fit into it.
 abbrev pub TooLarge : ℕ → Problem → Type 0
 TooLarge n e = (e ≡ OutOfMemory) × (2 ^ 64 ≤ n)
 
--- Code breaks a rule at a place: no code that begins as this one does up to there, that instruction with it, is typed.
--- The fault is that of the instruction, inside some labels.
+-- Code breaks a rule at a place, and before it none: some typed code begins with what comes before the place, and none
+-- with the instruction there behind that. The fault is that of the instruction inside the labels of the open blocks.
 pub record BreaksAt (c : Context) (code : List Instr) (kind : Fault) (place : ℕ) : Type 0 where
   pub instr : Instr
-  pub labels : List (List ValType)
+  pub done : Done
   pub here : slice_get code place ≡ Some instr
-  pub kind_is : kind ≡ kind_at c labels instr
-  pub never : (other : List Instr) → take (place + 1) other ≡ take (place + 1) code → IsTyped c other → ⊥
+  pub before : take place code ≡ flat_done done
+  pub kind_is : kind ≡ kind_at c (labels_in c done) instr
+  pub first : BeginsSome c code place
+  pub never : BeginsNone c code (place + 1)
 
 -- The table of branches of code.
 abbrev pub HasTable : Context → List Instr → List (List Target) → Type 0

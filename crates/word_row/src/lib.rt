@@ -3,7 +3,7 @@
 //! Proved: it meets the trait without a lock; a try is lost only to a change of another thread within that very try. A
 //! `Store` or `Rmw` of 8 bytes and a bitwise `Rmw` of any width are never lost, and each try that is lost raises its
 //! seat's count by one. `close` gives the pages and bytes after a history that each seat's list begins. `access` and
-//! `meet` take no leave to wait, so they return.
+//! `meet` take no leave to wait, so they return. The words are opened from a list that has room for no other.
 //!
 //! Word 0 of a table is the page count, and each further word has eight bytes of the memory, the lowest first. An
 //! access notes the page count, unless it lies within the one that its seat remembers. A store or a read-modify-write

@@ -1,5 +1,6 @@
 //! The opening of a row, up to its name.
 ghost use Rattle.std.specs.Prelude.{◌≡◌, ◌↔◌, ◌<◌, ◌≤◌, ◌%◌, ◌^◌, true, false, IfOk, OnOk, IsErrOf, All, take, drop};
+ghost use Rattle.std.specs.Prelude.{vec_capacity, vec_len};
 ghost use Rattle.shared_memory.specs.Numbers.{le_number};
 ghost use Rattle.shared_memory_sequential.specs.Opening.{can_open, IsSized};
 ghost use Rattle.word_row.specs.Words.{words_of, IsStored};
@@ -48,6 +49,7 @@ fn word_at(memory: &mut OneMemory, addr: u64) -> u64
 /// The words that stand for a memory.
 fn words(alloc: Global, memory: &mut OneMemory) -> Result<Vec<u64>, AllocError>
     ensures words { IfOk result (λ v. v.items ≡ words_of memory.old) }
+    ensures room { IfOk result (λ v. vec_capacity v ≡ vec_len v) }
     ensures same { memory.new ≡ memory.old }
     ensures stored { IsStored memory.old }
 {

@@ -1,5 +1,5 @@
 //! The row.
-ghost use Rattle.std.specs.Prelude.{◌≡◌, ◌≢◌, ◌<◌, ◌≤◌, true, None, IfOk, IsOkUnless, All, map};
+ghost use Rattle.std.specs.Prelude.{◌≡◌, ◌≢◌, ◌<◌, ◌≤◌, true, None, IfOk, IsOkUnless, All, map, vec_capacity};
 ghost use Rattle.types.specs.declared.event.Reply.TheVariants.{Again};
 ghost use Rattle.types.specs.declared.limits.TheConstants.{MOST_PAGES, SEATS};
 ghost use Rattle.shared_memory.specs.Events.{IsEvent, is_of_queue};
@@ -71,6 +71,7 @@ impl<B: Naming> WordRow<B> {
         requires table { prepared.table ≡ B.table }
         requires opening { prepared.opening ≡ B.opening }
         ensures seats { IfOk result (λ r. map (λ s. s.caller) r.1.items ≡ fresh_from SEATS 0) }
+        ensures room { IfOk result (λ r. vec_capacity r.1 ≡ SEATS) }
         ensures fault { IsOkUnless result OpenFault.NoMemory }
     {
         let Prepared {

@@ -1,5 +1,5 @@
 //! The seats of a row.
-ghost use Rattle.std.specs.Prelude.{◌≡◌, ◌<◌, ◌≤◌, false, [], IfOk, map};
+ghost use Rattle.std.specs.Prelude.{◌≡◌, ◌<◌, ◌≤◌, false, [], IfOk, map, vec_capacity};
 ghost use Rattle.types.specs.declared.limits.TheConstants.{DESK_NAME, MOST_PAGES, SEATS};
 ghost use Rattle.shared_memory_on_table.specs.Callers.{fresh_from};
 ghost use Rattle.shared_memory_on_table.specs.Rule.{opened};
@@ -35,15 +35,16 @@ pub(crate) fn take_seats<B: Naming>(
 ) -> Result<Vec<WordSeat<B>>, AllocError>
     requires row { (row.now.table_id ≡ B.table) × (0 < row.now.table_id.words) }
     requires all { (all.old.table_id ≡ B.table) × (all.old.me ≡ (opened false, [])) }
-    ensures { IfOk result (λ v. map (λ s. s.caller) v.items ≡ fresh_from SEATS 0) }
+    ensures seats { IfOk result (λ v. map (λ s. s.caller) v.items ≡ fresh_from SEATS 0) }
+    ensures room { IfOk result (λ v. vec_capacity v ≡ SEATS) }
 {
     let given = shared_memory_on_table::take_seats::<B, OneMemory, MemoryWords>(alloc, row, all)?;
     let mut seats = Vec::with_capacity(alloc, given.len())?;
     for seat in given {
-        seats.push(WordSeat {
+        seats.push_reserved(WordSeat {
             caller: seat.caller,
             pages: 0,
-        })?;
+        });
     }
     Ok(seats)
 }

@@ -1,4 +1,4 @@
-use Rattle.std.proofs.Common.{◌≡◌, ◌≤◌, ◌++◌, [], ◌-◌, length}
+use Rattle.std.proofs.Common.{◌≡◌, ◌++◌, [], ◌-◌, length}
 use Rattle.std.specs.Prelude.{vec_capacity, map}
 use Rattle.types.specs.declared.limits.TheConstants.{SEATS}
 use Rattle.shared_memory_on_table.specs.Callers.{fresh_from}
@@ -11,5 +11,5 @@ invariant-loop-name g l = record {
   left : l.all.me ≡ (gathered g.H.History.has_keeper (fresh_from (SEATS - l.name) l.name), []);
   taken : map (λ s. s.caller) l.seats.items ++ fresh_from (SEATS - l.name) l.name ≡ fresh_from SEATS 0;
   count : length l.seats.items ≡ l.name;
-  room : SEATS ≤ vec_capacity l.seats;
+  room : vec_capacity l.seats ≡ SEATS;
 }

@@ -1,13 +1,19 @@
-use Rattle.std.proofs.Common.{arith}
-use Rattle.show_places.proofs.Behind.{found, passed_on}
+use Rattle.std.proofs.Common.{◌∙◌, arith}
+use Rattle.show_places.proofs.Behind.{found, passed_on, none_left, shorter}
 use Rattle.show_places.proofs.sections.find.Goals as goal
 
-pub returns-then-found-id : goal.returns-then-found-id
-returns-then-found-id c =
-    found _ _ _ _ _ _ _ _ c.loop.invariant.bounds c.loop.invariant.behind c.in-Ok.ensures.gives (omega (arith, c.if-found-id.true))
+pub returns-then-section-id : goal.returns-then-section-id
+returns-then-section-id c =
+    found _ _ _ _ _ _ _ c.loop-section.invariant.bounds c.loop-section.invariant.passed c.in-Ok.ensures.gives (omega (arith, c.if-section-id.true))
 
-pub loop-preserved : goal.loop-preserved
-loop-preserved c = record {
-  bounds = cc (c.in-Ok.ensures.keeps, c.loop.invariant.bounds);
-  behind = passed_on _ _ _ _ _ _ c.loop.invariant.bounds c.loop.invariant.behind c.in-Ok.ensures.gives;
+pub loop-section-smaller : goal.loop-section-smaller
+loop-section-smaller c = shorter _ _ _ _ c.in-Ok.ensures.gives
+
+pub loop-section-preserved : goal.loop-section-preserved
+loop-section-preserved c = record {
+  bounds = c.in-Ok.ensures.keeps ∙ c.loop-section.invariant.bounds;
+  passed = passed_on _ _ _ _ _ _ _ c.loop-section.invariant.bounds c.loop-section.invariant.passed c.in-Ok.ensures.gives c.if-section-id.false;
 }
+
+pub returns : goal.returns
+returns c = none_left _ _ _ _ _ _ c.loop-section.invariant.bounds c.loop-section.invariant.passed c.in_default.ensures.gives

@@ -1,9 +1,12 @@
-use Rattle.std.proofs.Common.{◌≡◌}
+use Rattle.std.proofs.Common.{◌≡◌, length}
 use Rattle.show_places.proofs.Behind.{Passed}
 use Rattle.show_places.proofs.sections.find.Given as goal
 
-abbrev pub invariant-loop : goal.invariant-loop
-invariant-loop l = record {
+abbrev pub invariant-loop-section : goal.invariant-loop-section
+invariant-loop-section l = record {
   bounds : l.reader.bounds ≡ l.fn.reader.bounds;
-  behind : Passed l.fn.reader.bounds l.fn.reader.rest.now l.reader.rest.now;
+  passed : Passed (λ x. x.0 ≡ l.id) l.fn.reader.bounds l.fn.reader.rest.now l.reader.rest.now;
 }
+
+abbrev pub decreases-loop-section : goal.decreases-loop-section
+decreases-loop-section l = length l.reader.rest.now
