@@ -113,12 +113,7 @@ impl<M: SharedMemory> Locked<M> {
     }
 
     /// Takes the answer to an open question, and tells all who wait.
-    pub(crate) fn collect(
-        &mut self,
-        changed: &Condvar,
-        memory: &M,
-        seat: &mut M::Seat,
-    ) -> Answer
+    pub(crate) fn collect(&mut self, changed: &Condvar, memory: &M, seat: &mut M::Seat) -> Answer
         requires waiting { IsWaiting (queue_after (M.seen seat.old)) (M.name seat.old) }
         requires awake { is_asleep self.old.queue (M.name seat.old) ≡ false }
         ensures stays { SeatStays M.SharedMemory seat.old seat.new }
@@ -126,8 +121,9 @@ impl<M: SharedMemory> Locked<M> {
     {
         memory.meet(seat, &mut self.seat);
         let answer = hear(memory, seat, &mut self.queue);
+        let told = Told::tell_all(changed, &self.queue);
         memory.meet(seat, &mut self.seat);
-        self.told = Told::tell_all(changed, &self.queue);
+        self.told = told;
         answer
     }
 
