@@ -1,6 +1,6 @@
 #!/bin/sh
-# Plants faults of waking in a copy of the desk, and runs the tests of the desk over each, unproved. No contract refuses
-# them, since none can say that a thread goes on: each has to fail a test, or to hang there for ten seconds.
+# Plants faults of waking in a copy of the desk, and runs the tests of the desk over each, unproved. They are of the one
+# line that wakes, of which no contract can say whom it wakes: each has to fail a test, or to hang there for ten seconds.
 # usage: crates/waiters_tests/plants.sh
 set -u
 top=$(cd "$(dirname "$0")/../.." && pwd)
@@ -8,13 +8,13 @@ room=$(mktemp -d)
 trap 'rm -rf "$room"' EXIT
 missed=0
 
-# The tests, over a desk whose `ask` has this in place of its notify_all.
+# The tests, over a desk whose `Told::tell_all` has this in place of its notify_all.
 plant() {
     rm -rf "$room/crates"
     tar -C "$top" --exclude=out -cf - crates.txt crates | tar -C "$room" -xf -
-    desk="$room/crates/waiters_desk/src/desk.rt"
-    sed -i "0,/self\.changed\.notify_all();/s//$2/" "$desk"
-    if cmp -s "$desk" "$top/crates/waiters_desk/src/desk.rt"; then
+    told="$room/crates/waiters_desk/src/told.rt"
+    sed -i "0,/changed\.notify_all();/s//$2/" "$told"
+    if cmp -s "$told" "$top/crates/waiters_desk/src/told.rt"; then
         echo "$1: not planted"
         missed=1
         return
@@ -30,12 +30,6 @@ plant() {
     fi
 }
 
-plant "one is woken in place of all" 'self.changed.notify_one();'
-for question in Wait Spawn Notify Leave; do
-    case $question in
-        Leave) pattern='Question::Leave' ;;
-        *) pattern="Question::$question { .. }" ;;
-    esac
-    plant "nobody is woken by a $question" "if !matches!(\&question, $pattern) { self.changed.notify_all(); }"
-done
+plant "one is woken in place of all" 'changed.notify_one();'
+plant "nobody is woken" 'let _ = changed;'
 exit $missed

@@ -2,7 +2,7 @@
 use Rattle.std.proofs.Common.{◌≡◌, ℕ, zero, suc, ◌<◌, All, List, length, map, Some, refl, sym, subst, ap, ◌∙◌}
 use Rattle.std.proofs.Common.{◌⊎◌, inl, inr, arith, get_or}
 use Rattle.std.specs.Global.{Vec}
-use Rattle.std.specs.Prelude.{Result, Ok, Err, IfOk, IfErr, IsOkUnless}
+use Rattle.std.specs.Prelude.{Result, Ok, Err, IfOk, IfErr}
 use Rattle.std.proofs.lemmas.Option.{slice_get_within}
 use Rattle.types.specs.declared.value.Value.{Value}
 use Rattle.types.specs.declared.parts.FuncType.{FuncType}
@@ -19,11 +19,14 @@ use Rattle.spawn_host_workers.specs.Crew.{CountsSpawnable}
 use Rattle.spawn_host_workers.specs.OverMemory.{OverMemory}
 use Rattle.spawn_host_workers.specs.declared.report.StartFault.{StartFault}
 use Rattle.spawn_host_workers.specs.declared.report.StartFault.TheVariants.{NoMemory, NoThread}
+use Rattle.spawn_host_workers.specs.declared.report.Unstarted.{Unstarted}
+use Rattle.spawn_host_workers.specs.declared.report.Unstarted.TheVariants as unstarted
+use Rattle.spawn_host_workers.specs.Unstarted.{IsAsTheyCame}
 use Rattle.spawn_host.specs.declared.call.Call.{Call}
 use Rattle.spawn_host.specs.declared.running.RunFault.TheVariants as faults
 use Rattle.spawn_host.specs.Entries.{Takes, StartsThreads}
 use Rattle.spawn_host.specs.Requests.{Requested, IsRequestOf, IsNumberOf}
-use Rattle.spawn_host.specs.Faults.{IsFaultOf, IsStartFault}
+use Rattle.spawn_host.specs.Faults.{HasStartFault, IsFaultOf, IsStartFault}
 use Rattle.spawn_host.specs.Threads.{IsCall, IsFirst, BeginsRequest, BeginBeside, AreSpawnable}
 use Rattle.spawn_host.specs.Runs.{IsRun, IsRunOfRequest}
 
@@ -72,24 +75,24 @@ beside meaning r m call args of_module of_call starts (Ok threads) w =
 
 -- faults at the start of its threads
 
-lone_fault : {A : Type 0} (r : Requested) (result : Result A StartFault) → IsOkUnless result NoMemory
-    → IfErr result (IsStartFault r)
-lone_fault r (Ok x) is = tt
-lone_fault r (Err NoMemory) is = tt
-lone_fault r (Err NoThread) is = absurd (cc is)
+lone_fault : {A S : Type 0} (r : Requested) (seats : List S) (result : Result A (Unstarted S)) → IfErr result (IsAsTheyCame seats)
+    → IfErr result (HasStartFault r)
+lone_fault r seats (Ok x) is = tt
+lone_fault r seats (Err (unstarted.NoMemory back)) is = tt
+lone_fault r seats (Err (unstarted.NoThread seat)) is = absurd is
 
-threads_fault : {A : Type 0} (r : Requested) (result : Result A StartFault) → StartsThreads r.parts
-    → IfErr result (IsStartFault r)
+threads_fault : {A S : Type 0} (r : Requested) (result : Result A (Unstarted S)) → StartsThreads r.parts
+    → IfErr result (HasStartFault r)
 threads_fault r (Ok x) starts = tt
-threads_fault r (Err NoMemory) starts = tt
-threads_fault r (Err NoThread) starts = starts
+threads_fault r (Err (unstarted.NoMemory back)) starts = tt
+threads_fault r (Err (unstarted.NoThread seat)) starts = starts
 
 -- the threads beside the first
 module _ {T : Type 0} (meaning : T → Meaning) (r : Requested) (threads : List T) where
-  pub start_fault : {A : Type 0} (result : Result A StartFault) → BeginBeside meaning r threads
-      → (length threads ≡ 0 → IsOkUnless result NoMemory) → IfErr result (IsStartFault r)
-  start_fault result (inl some) fault = threads_fault r result some.0
-  start_fault result (inr none) fault = lone_fault r result (fault (ap length none.1))
+  pub start_fault : {A S : Type 0} (seats : List S) (result : Result A (Unstarted S)) → BeginBeside meaning r threads
+      → (length threads ≡ 0 → IfErr result (IsAsTheyCame seats)) → IfErr result (HasStartFault r)
+  start_fault seats result (inl some) fault = threads_fault r result some.0
+  start_fault seats result (inr none) fault = lone_fault r seats result (fault (ap length none.1))
 
   pub counted : (first : T) → BeginsRequest meaning r first → BeginBeside meaning r threads
       → CountsSpawnable (meaning first) (length threads)

@@ -17,5 +17,5 @@ pub use call::Call;
 pub use end::EndState;
 pub use exports::{OwnFunction, own_function};
 pub use request::{CallFault, Request};
-pub use running::{RunFault, run, run_request};
+pub use running::{Refused, RunFault, Unrun, run, run_request};
 pub use threads::{first_thread, spawnable_threads, thread_start};

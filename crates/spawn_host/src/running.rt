@@ -2,7 +2,8 @@
 ghost use Rattle.std.specs.Prelude.{◌≡◌, ◌<◌, ℕ, true, [], IfOk, IfErr, slice_index_or, vec_len};
 ghost use Rattle.types.specs.declared.limits.TheConstants.{DESK_NAME, SEATS};
 ghost use Rattle.spawn_host_workers.specs.OverMemory.{over};
-ghost use Rattle.spawn_host.specs.Faults.{IsFaultOf, IsStartFault, run_fault_number};
+ghost use Rattle.spawn_host_workers.specs.Unstarted.{IsUnstarted};
+ghost use Rattle.spawn_host.specs.Faults.{HasStartFault, IsFaultOf, IsUnrun, fault_of, run_fault_number};
 ghost use Rattle.spawn_host.specs.Runs.{opening_memory, IsRun, IsRunOfRequest};
 ghost use Rattle.spawn_host.specs.declared.running.RunFault.TheVariants as faults;
 
@@ -11,7 +12,7 @@ use crate::request::{CallFault, Request};
 use crate::threads::{first_thread, other_threads};
 use interp_trait::Gate;
 use shared_memory::SharedMemory;
-use spawn_host_workers::{RunEnd, StartFault, run_all};
+use spawn_host_workers::{RunEnd, StartFault, Unstarted, run_all};
 use std::alloc::Global;
 use std::sync::Wait;
 use std::thread::Threads;
@@ -59,6 +60,34 @@ impl From<StartFault> for RunFault {
     }
 }
 
+/// What is left of a run that there wasn't: no thread has made a turn.
+#[derive(Drop)]
+pub enum Unrun<S> {
+    /// The call can't be made. All seats, as they came.
+    Call(CallFault, Vec<S>),
+    /// It can, and its threads weren't started.
+    Start(Unstarted<S>),
+}
+
+impl<S> Unrun<S> {
+    /// Why there's no run.
+    pub fn fault(&self) -> RunFault
+        ensures { result ≡ fault_of self.now }
+    {
+        match self {
+            Unrun::Call(fault, _) => RunFault::Call(*fault),
+            Unrun::Start(unstarted) => RunFault::Start(unstarted.fault()),
+        }
+    }
+}
+
+/// A fault, with the ticket that a run would have used up.
+#[derive(PartialEq, Eq, Debug, Drop)]
+pub struct Refused<F, K> {
+    pub fault: F,
+    pub ticket: K,
+}
+
 /// Runs an exported function of a module with arguments, and the threads that are spawned meanwhile, each as a real
 /// thread over the memory. Each has the budget of the call.
 ///
@@ -67,7 +96,8 @@ impl From<StartFault> for RunFault {
 ///
 /// # Errors
 /// `Call` where the call can't be made. Otherwise `Start` where memory is refused, or the system starts no further
-/// thread. All come before the first turn of a thread.
+/// thread. All come before the first turn of a thread: the seats come back as they came, or where a thread is refused
+/// thread 0's seat, whose thread has left and entered nothing else.
 pub fn run<M, G, R>(
     rt: &R,
     alloc: Global,
@@ -76,7 +106,7 @@ pub fn run<M, G, R>(
     memory: &M,
     seats: Vec<M::Seat>,
     gate: &G,
-) -> Result<RunEnd<M::Seat>, RunFault>
+) -> Result<RunEnd<M::Seat>, Unrun<M::Seat>>
 where
     M: SharedMemory + Sync,
     G: Gate + Sync,
@@ -88,25 +118,69 @@ where
     requires right { (d : M.Seat) → M.has_queue_right (slice_index_or seats.items DESK_NAME d) ≡ true }
     ensures run { IfOk result (λ end. IsRun «module».now.parts call.entry.name.now call.entry.args.now call.entry.fuel
         (over M.SharedMemory memory.now) end.threads.items end.seats.items) }
-    ensures fault { IfErr result (λ fault. IsFaultOf «module».now.parts call.entry.name.now call.entry.args.now fault) }
+    ensures fault { IfErr result (λ unrun. IsFaultOf «module».now.parts call.entry.name.now call.entry.args.now
+        (fault_of unrun)) }
+    ensures unrun { IfErr result (IsUnrun M.SharedMemory memory.now seats.items) }
 {
-    let request = Request::new(module, call)?;
-    let end = run_request(rt, alloc, &request, memory, seats, gate)?;
-    Ok(end)
+    let request = match Request::new(module, call) {
+        Ok(request) => request,
+        Err(fault) => return Err(Unrun::Call(fault, seats)),
+    };
+    match run_request(rt, alloc, &request, memory, seats, gate, ()) {
+        Ok(end) => Ok(end),
+        Err(refused) => Err(Unrun::Start(refused.fault)),
+    }
 }
 
-/// The same, of a call that can be made.
+/// The same, of a call that can be made. The ticket is anything: a run uses it up, and a fault gives it back. So who
+/// hands on a ticket of a type that it knows nothing of can answer no fault once the threads have run.
 ///
 /// # Errors
-/// Where memory is refused, or the system starts no further thread, before the first turn of a thread.
-pub fn run_request<M, G, R>(
+/// Where memory is refused, or the system starts no further thread, before the first turn of a thread: `NoMemory` with
+/// the seats as they came, or `NoThread` with thread 0's seat, whose thread has left and entered nothing else.
+pub fn run_request<M, G, R, K>(
     rt: &R,
     alloc: Global,
     request: &Request,
     memory: &M,
     seats: Vec<M::Seat>,
     gate: &G,
-) -> Result<RunEnd<M::Seat>, StartFault>
+    ticket: K,
+) -> Result<RunEnd<M::Seat>, Refused<Unstarted<M::Seat>, K>>
+where
+    M: SharedMemory + Sync,
+    G: Gate + Sync,
+    R: Threads + Wait + Sync,
+    K: Drop,
+    requires opening { M.opening ≡ opening_memory request.now.parts }
+    requires len { vec_len seats ≡ SEATS }
+    requires names { (k : ℕ) (d : M.Seat) → k < SEATS → M.name (slice_index_or seats.items k d) ≡ k }
+    requires new { (k : ℕ) (d : M.Seat) → k < SEATS → M.seen (slice_index_or seats.items k d) ≡ [] }
+    requires right { (d : M.Seat) → M.has_queue_right (slice_index_or seats.items DESK_NAME d) ≡ true }
+    ensures run { IfOk result (λ end. IsRunOfRequest request.now (over M.SharedMemory memory.now) end.threads.items
+        end.seats.items) }
+    ensures fault { IfErr result (λ refused. HasStartFault request.now refused.fault) }
+    ensures unstarted { IfErr result (λ refused. IsUnstarted M.SharedMemory memory.now seats.items refused.fault) }
+    ensures ticket { IfErr result (λ refused. refused.ticket ≡ ticket) }
+{
+    match start(rt, alloc, request, memory, seats, gate) {
+        Ok(end) => {
+            drop(ticket);
+            Ok(end)
+        }
+        Err(fault) => Err(Refused { fault, ticket }),
+    }
+}
+
+/// The threads of the request, from their starts to their ends.
+fn start<M, G, R>(
+    rt: &R,
+    alloc: Global,
+    request: &Request,
+    memory: &M,
+    seats: Vec<M::Seat>,
+    gate: &G,
+) -> Result<RunEnd<M::Seat>, Unstarted<M::Seat>>
 where
     M: SharedMemory + Sync,
     G: Gate + Sync,
@@ -118,13 +192,14 @@ where
     requires right { (d : M.Seat) → M.has_queue_right (slice_index_or seats.items DESK_NAME d) ≡ true }
     ensures run { IfOk result (λ end. IsRunOfRequest request.now (over M.SharedMemory memory.now) end.threads.items
         end.seats.items) }
-    ensures fault { IfErr result (IsStartFault request.now) }
+    ensures fault { IfErr result (HasStartFault request.now) }
+    ensures unstarted { IfErr result (IsUnstarted M.SharedMemory memory.now seats.items) }
 {
     let Ok(first) = first_thread(alloc, request) else {
-        return Err(StartFault::NoMemory);
+        return Err(Unstarted::NoMemory(seats));
     };
     let Ok(others) = other_threads(alloc, request) else {
-        return Err(StartFault::NoMemory);
+        return Err(Unstarted::NoMemory(seats));
     };
     run_all(rt, alloc, first, others, memory, seats, gate)
 }

@@ -8,3 +8,4 @@ pub mod Composed
 pub mod Ends
 pub mod Serving
 pub mod Seats
+pub mod Unstarted

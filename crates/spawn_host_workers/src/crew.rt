@@ -1,5 +1,5 @@
 //! The threads of a run.
-ghost use Rattle.std.specs.Prelude.{◌≡◌, ◌≤◌, ◌+◌, ◌++◌, [], All, IfOk, vec_len, vec_capacity};
+ghost use Rattle.std.specs.Prelude.{◌≡◌, ◌≤◌, ◌+◌, ◌++◌, [], All, IfOk, IfErr, vec_len, vec_capacity};
 ghost use Rattle.types.specs.declared.limits.TheConstants.{MOST_THREADS};
 ghost use Rattle.shared_memory.specs.History.{entries_of, queue_after};
 ghost use Rattle.shared_memory.specs.WaitQueue.{IsFree};
@@ -9,13 +9,12 @@ ghost use Rattle.spawn_host_workers.specs.Pairs.{AllThree};
 ghost use Rattle.spawn_host_workers.specs.Works.{EndsWork};
 ghost use Rattle.spawn_host_workers.specs.Crew.{EndsFirst, MayStart, EndsCrew, EndsAlone, idle_ends};
 ghost use Rattle.spawn_host_workers.specs.Duties.{IsDuty, IsDone, Joined};
+ghost use Rattle.spawn_host_workers.specs.Unstarted.{LeavesUnrun};
 
-use crate::report::StartFault;
 use crate::worker::{WorkerEnd, work};
 use crate::{ThreadEnd, run_thread};
 use interp_trait::{Gate, TakesTurns};
 use shared_memory::SharedMemory;
-use std::alloc::Global;
 use std::snapshot::Snapshot;
 use std::sync::Wait;
 use std::thread::{Promise, PromisedHandle, Scope, Threads};
@@ -55,13 +54,17 @@ impl<T: TakesTurns, M: SharedMemory> Promise<WorkerEnd<M::Seat>> for Duty<T, M> 
     ghost kept_by = { λ p r. EndsWork (over M.SharedMemory p.memory.value) T.meaning p.thread.value p.seat.value r };
 }
 
+/// The system started no further thread.
+#[derive(Clone, Copy)]
+struct NoThread;
+
 /// Starts a worker for a thread, with its seat.
 fn start_worker<'s, E, T, M, W, G, R>(
     scope: &Scope<'s, E>,
     place: &'s Workplace<'s, M, W, G, R>,
     thread: T,
     seat: M::Seat,
-) -> Result<PromisedHandle<WorkerEnd<M::Seat>, Duty<T, M>>, StartFault>
+) -> Result<PromisedHandle<WorkerEnd<M::Seat>, Duty<T, M>>, NoThread>
 where
     T: TakesTurns + Send + Drop + 's,
     M: SharedMemory + Sync,
@@ -86,19 +89,20 @@ where
             ensures { EndsWork (over M.SharedMemory place.entry.now.memory.now) T.meaning thread seat result }
         { work(place, thread, seat) },
     ) else {
-        return Err(StartFault::NoThread);
+        return Err(NoThread);
     };
     Ok(handle)
 }
 
-/// Starts a worker for each thread, with the seat at its place.
+/// Starts a worker for each thread, with the seat at its place, and puts the handles into the room that was kept for
+/// them.
 fn start_workers<'s, E, T, M, W, G, R>(
     scope: &Scope<'s, E>,
-    alloc: Global,
     place: &'s Workplace<'s, M, W, G, R>,
     threads: Vec<T>,
     seats: Vec<M::Seat>,
-) -> Result<Vec<PromisedHandle<WorkerEnd<M::Seat>, Duty<T, M>>>, StartFault>
+    mut handles: Vec<PromisedHandle<WorkerEnd<M::Seat>, Duty<T, M>>>,
+) -> Result<Vec<PromisedHandle<WorkerEnd<M::Seat>, Duty<T, M>>>, NoThread>
 where
     T: TakesTurns + Send + Drop + 's,
     M: SharedMemory + Sync,
@@ -109,12 +113,11 @@ where
     requires len { vec_len threads ≡ vec_len seats }
     requires new { All (λ (s : M.Seat). entries_of (M.name s) (M.seen s) ≡ []) seats.items }
     requires begins { All (λ (t : T). MayBeSpawned (T.meaning t)) threads.items }
-    ensures { IfOk result (λ handles. AllThree (IsDuty place.now.memory.now) threads.items seats.items handles.items
-        × (vec_len handles ≡ vec_len seats)) }
+    requires empty { handles.items ≡ [] }
+    requires room { vec_len seats ≤ vec_capacity handles }
+    ensures { IfOk result (λ all. AllThree (IsDuty place.now.memory.now) threads.items seats.items all.items
+        × (vec_len all ≡ vec_len seats)) }
 {
-    let Ok(mut handles) = Vec::with_capacity(alloc, seats.len()) else {
-        return Err(StartFault::NoMemory);
-    };
     let mut threads = threads.into_iter();
     for seat in seats {
         let Some(thread) = threads.next() else {
@@ -122,7 +125,7 @@ where
         };
         match start_worker(scope, place, thread, seat) {
             Ok(handle) => handles.push_reserved(handle),
-            Err(fault) => return Err(fault),
+            Err(none) => return Err(none),
         }
     }
     Ok(handles)
@@ -143,13 +146,16 @@ fn join_all<T: TakesTurns, M: SharedMemory, R: Threads>(
 }
 
 /// Runs the first thread in the calling one, and a worker for each other.
+///
+/// # Errors
+/// Where the system starts no further thread: the first thread left without a turn, and its seat comes back.
 pub(crate) fn lead_crew<'s, E, T, M, W, G, R>(
     scope: &Scope<'s, E>,
-    alloc: Global,
     place: &'s Workplace<'s, M, W, G, R>,
     crew: Crew<T, M::Seat>,
+    handles: Vec<PromisedHandle<WorkerEnd<M::Seat>, Duty<T, M>>>,
     mut ends: Vec<WorkerEnd<M::Seat>>,
-) -> Result<Vec<WorkerEnd<M::Seat>>, StartFault>
+) -> Result<Vec<WorkerEnd<M::Seat>>, M::Seat>
 where
     T: TakesTurns + Send + Drop + 's,
     M: SharedMemory + Sync,
@@ -159,9 +165,11 @@ where
     R: Threads + Wait + Sync,
     requires start { MayStart M.name M.seen T.meaning crew }
     requires len { vec_len crew.threads ≡ vec_len crew.seats }
+    requires none { (handles.items ≡ []) × (vec_len crew.seats ≤ vec_capacity handles) }
     requires empty { ends.items ≡ [] }
     requires room { MOST_THREADS ≤ vec_capacity ends }
-    ensures { IfOk result (λ all. EndsCrew (over M.SharedMemory place.now.memory.now) T.meaning crew all.items) }
+    ensures ends { IfOk result (λ all. EndsCrew (over M.SharedMemory place.now.memory.now) T.meaning crew all.items) }
+    ensures left { IfErr result (LeavesUnrun M.SharedMemory place.now.memory.now crew.seat) }
 {
     let Crew {
         first,
@@ -169,11 +177,11 @@ where
         threads,
         seats,
     } = crew;
-    let handles = match start_workers(scope, alloc, place, threads, seats) {
+    let handles = match start_workers(scope, place, threads, seats, handles) {
         Ok(handles) => handles,
-        Err(fault) => {
+        Err(NoThread) => {
             place.desk.end(place.memory, &mut seat);
-            return Err(fault);
+            return Err(seat);
         }
     };
     ends.push_reserved(lead(place, first, seat));

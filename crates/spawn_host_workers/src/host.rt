@@ -1,25 +1,25 @@
 //! A run of real threads.
-ghost use Rattle.std.specs.Prelude.{◌≡◌, ◌≢◌, ◌≤◌, ◌<◌, ◌+◌, true, [], All, IfOk, IsOkUnless, slice_index_or};
+ghost use Rattle.std.specs.Prelude.{◌≡◌, ◌≢◌, ◌≤◌, ◌<◌, ◌+◌, true, [], All, IfOk, IfErr, IsOk, slice_index_or};
 ghost use Rattle.std.specs.Prelude.{vec_len, vec_capacity};
 ghost use Rattle.types.specs.declared.limits.TheConstants.{DESK_NAME, MOST_THREADS, SEATS};
 ghost use Rattle.interp_trait.specs.Turns.{MayRun, MayBeSpawned};
 ghost use Rattle.spawn_host_workers.specs.OverMemory.{over};
 ghost use Rattle.spawn_host_workers.specs.Crew.{CountsSpawnable, EndsCrew, EndsAll, MayStart};
 ghost use Rattle.spawn_host_workers.specs.Composed.{reported, seats_of};
-ghost use Rattle.spawn_host_workers.specs.declared.report.StartFault.{StartFault};
+ghost use Rattle.spawn_host_workers.specs.Unstarted.{IsAsTheyCame, IsUnstarted, LeavesUnrun};
 ghost use Rattle.spawn_host_workers.specs.Seats.{AreInOrder, AreLevel, AreNew, ComeHome, GivesRun};
 
-use crate::crew::{Crew, Workplace, lead_alone, lead_crew};
-use crate::report::{RunEnd, StartFault};
+use crate::crew::{Crew, Duty, Workplace, lead_alone, lead_crew};
+use crate::report::{RunEnd, Unstarted};
 use crate::rounds::level;
 use crate::seats::{Dealt, deal};
 use crate::worker::WorkerEnd;
 use interp_trait::{Gate, TakesTurns};
 use shared_memory::SharedMemory;
-use std::alloc::Global;
+use std::alloc::{AllocError, Global};
 use std::sync::Wait;
 use std::thread;
-use std::thread::Threads;
+use std::thread::{PromisedHandle, Threads};
 use types::{MOST_THREADS, SEATS, ThreadReport};
 use waiters_desk::Desk;
 
@@ -44,11 +44,11 @@ fn split<S: Drop>(ends: Vec<WorkerEnd<S>>, threads: &mut Vec<ThreadReport>, seat
 
 /// Runs the threads of a crew, each worker as a thread of a scope.
 fn in_scope<T, M, G, R>(
-    alloc: Global,
     place: &Workplace<M, &R, G, R>,
     crew: Crew<T, M::Seat>,
+    handles: Vec<PromisedHandle<WorkerEnd<M::Seat>, Duty<T, M>>>,
     ends: Vec<WorkerEnd<M::Seat>>,
-) -> Result<Vec<WorkerEnd<M::Seat>>, StartFault>
+) -> Result<Vec<WorkerEnd<M::Seat>>, M::Seat>
 where
     T: TakesTurns + Send + Drop,
     M: SharedMemory + Sync,
@@ -56,30 +56,38 @@ where
     R: Threads + Wait + Sync,
     requires start { MayStart M.name M.seen T.meaning crew }
     requires len { vec_len crew.threads ≡ vec_len crew.seats }
+    requires none { (handles.items ≡ []) × (vec_len crew.seats ≤ vec_capacity handles) }
     requires empty { ends.items ≡ [] }
     requires room { MOST_THREADS ≤ vec_capacity ends }
-    ensures { IfOk result (λ all. EndsCrew (over M.SharedMemory place.now.memory.now) T.meaning crew all.items) }
+    ensures ends { IfOk result (λ all. EndsCrew (over M.SharedMemory place.now.memory.now) T.meaning crew all.items) }
+    ensures left { IfErr result (LeavesUnrun M.SharedMemory place.now.memory.now crew.seat) }
 {
     thread::scope(
         thread::scope_env(),
         place.rt,
-        move |scope| -> Result<Vec<WorkerEnd<M::Seat>>, StartFault>
+        move |scope| -> Result<Vec<WorkerEnd<M::Seat>>, M::Seat>
             requires start { MayStart M.name M.seen T.meaning crew }
             requires len { vec_len crew.threads ≡ vec_len crew.seats }
+            requires none { (handles.items ≡ []) × (vec_len crew.seats ≤ vec_capacity handles) }
             requires empty { ends.items ≡ [] }
             requires room { MOST_THREADS ≤ vec_capacity ends }
-            ensures { IfOk result (λ all. EndsCrew (over M.SharedMemory place.entry.now.memory.now) T.meaning crew
+            ensures ends { IfOk result (λ all. EndsCrew (over M.SharedMemory place.entry.now.memory.now) T.meaning crew
                 all.items) }
-        { lead_crew(scope, alloc, place, crew, ends) },
+            ensures left { IfErr result (LeavesUnrun M.SharedMemory place.entry.now.memory.now crew.seat) }
+        { lead_crew(scope, place, crew, handles, ends) },
     )
 }
 
 /// Runs the threads of a crew. Where no other can be spawned, the first runs alone, and no thread is started.
+///
+/// # Errors
+/// Where the system starts no further thread: the first thread left without a turn, and its seat comes back.
 fn run_crew<T, M, G, R>(
-    alloc: Global,
     place: &Workplace<M, &R, G, R>,
     crew: Crew<T, M::Seat>,
-) -> Result<Vec<WorkerEnd<M::Seat>>, StartFault>
+    handles: Vec<PromisedHandle<WorkerEnd<M::Seat>, Duty<T, M>>>,
+    ends: Vec<WorkerEnd<M::Seat>>,
+) -> Result<Vec<WorkerEnd<M::Seat>>, M::Seat>
 where
     T: TakesTurns + Send + Drop,
     M: SharedMemory + Sync,
@@ -87,16 +95,48 @@ where
     R: Threads + Wait + Sync,
     requires start { MayStart M.name M.seen T.meaning crew }
     requires len { vec_len crew.threads ≢ 0 → vec_len crew.threads ≡ vec_len crew.seats }
-    ensures fault { vec_len crew.threads ≡ 0 → IsOkUnless result StartFault.NoMemory }
+    requires none { (handles.items ≡ []) × (vec_len crew.threads ≤ vec_capacity handles) }
+    requires empty { ends.items ≡ [] }
+    requires room { MOST_THREADS ≤ vec_capacity ends }
+    ensures alone { vec_len crew.threads ≡ 0 → IsOk result }
     ensures ends { IfOk result (λ all. EndsAll (over M.SharedMemory place.now.memory.now) T.meaning crew all.items) }
+    ensures left { IfErr result (LeavesUnrun M.SharedMemory place.now.memory.now crew.seat) }
 {
-    let Ok(ends) = Vec::with_capacity(alloc, MOST_THREADS) else {
-        return Err(StartFault::NoMemory);
-    };
     if crew.threads.is_empty() {
         return Ok(lead_alone(place, crew, ends));
     }
-    in_scope(alloc, place, crew, ends)
+    in_scope(place, crew, handles, ends)
+}
+
+/// The room that a run needs, which is taken before its first turn.
+#[derive(Drop)]
+struct Room<T: TakesTurns, M: SharedMemory> {
+    handles: Vec<PromisedHandle<WorkerEnd<M::Seat>, Duty<T, M>>>,
+    ends: Vec<WorkerEnd<M::Seat>>,
+    reports: Vec<ThreadReport>,
+    home: Vec<M::Seat>,
+}
+
+/// Takes the room for a run with so many workers.
+fn reserve<T: TakesTurns, M: SharedMemory>(
+    alloc: Global,
+    workers: usize,
+) -> Result<Room<T, M>, AllocError>
+    ensures handles { IfOk result (λ r. (r.handles.items ≡ []) × (workers ≤ vec_capacity r.handles)) }
+    ensures ends { IfOk result (λ r. (r.ends.items ≡ []) × (MOST_THREADS ≤ vec_capacity r.ends)) }
+    ensures reports { IfOk result (λ r. (r.reports.items ≡ []) × (MOST_THREADS ≤ vec_capacity r.reports)) }
+    ensures home { IfOk result (λ r. (r.home.items ≡ []) × (SEATS ≤ vec_capacity r.home)) }
+{
+    let handles = Vec::with_capacity(alloc, workers)?;
+    let ends = Vec::with_capacity(alloc, MOST_THREADS)?;
+    let reports = Vec::with_capacity(alloc, MOST_THREADS)?;
+    let home = Vec::with_capacity(alloc, SEATS as usize)?;
+    Ok(Room {
+        handles,
+        ends,
+        reports,
+        home,
+    })
 }
 
 /// All seats meet the hub, and so have seen one list.
@@ -137,7 +177,9 @@ fn bring_home<M: SharedMemory>(
 /// The 65 seats are those of a new memory, in order of their names.
 ///
 /// # Errors
-/// Where memory is refused, or the system starts no further thread, before the first turn of a thread.
+/// Where memory is refused, or the system starts no further thread, before the first turn of a thread: all that a run
+/// needs is reserved, and each worker started, before that. Where memory is refused the seats come back as they came.
+/// Otherwise thread 0 has left, as if it had ended at once, and its seat has seen of it nothing else.
 pub fn run_all<T, M, G, R>(
     rt: &R,
     alloc: Global,
@@ -146,7 +188,7 @@ pub fn run_all<T, M, G, R>(
     memory: &M,
     seats: Vec<M::Seat>,
     gate: &G,
-) -> Result<RunEnd<M::Seat>, StartFault>
+) -> Result<RunEnd<M::Seat>, Unstarted<M::Seat>>
 where
     T: TakesTurns + Send + Drop,
     M: SharedMemory + Sync,
@@ -159,15 +201,19 @@ where
     requires names { AreInOrder M.SharedMemory seats.items }
     requires new { AreNew M.SharedMemory seats.items }
     requires right { (d : M.Seat) → M.has_queue_right (slice_index_or seats.items DESK_NAME d) ≡ true }
-    ensures fault { vec_len spawned ≡ 0 → IsOkUnless result StartFault.NoMemory }
+    ensures alone { vec_len spawned ≡ 0 → IfErr result (IsAsTheyCame seats.items) }
     ensures composed { IfOk result (GivesRun M.SharedMemory memory.now T.meaning first spawned.items) }
+    ensures unstarted { IfErr result (IsUnstarted M.SharedMemory memory.now seats.items) }
 {
-    let Ok(reports) = Vec::with_capacity(alloc, MOST_THREADS) else {
-        return Err(StartFault::NoMemory);
+    let Ok(room) = reserve::<T, M>(alloc, spawned.len()) else {
+        return Err(Unstarted::NoMemory(seats));
     };
-    let Ok(home) = Vec::with_capacity(alloc, SEATS as usize) else {
-        return Err(StartFault::NoMemory);
-    };
+    let Room {
+        handles,
+        ends,
+        reports,
+        home,
+    } = room;
     let Dealt {
         first: seat,
         workers,
@@ -186,11 +232,11 @@ where
         threads: spawned,
         seats: workers,
     };
-    match run_crew(alloc, &place, crew) {
+    match run_crew(&place, crew, handles, ends) {
         Ok(ends) => {
             let hub = desk.close();
             Ok(bring_home(memory, ends, hub, reports, home))
         }
-        Err(fault) => Err(fault),
+        Err(seat) => Err(Unstarted::NoThread(seat)),
     }
 }

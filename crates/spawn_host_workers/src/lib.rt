@@ -16,5 +16,5 @@ mod serving;
 mod worker;
 
 pub use host::run_all;
-pub use report::{RunEnd, StartFault};
+pub use report::{RunEnd, StartFault, Unstarted};
 pub use running::{ThreadEnd, run_thread};

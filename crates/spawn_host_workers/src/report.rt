@@ -1,4 +1,6 @@
 //! What a run gives, and why it can give nothing.
+ghost use Rattle.std.specs.Prelude.{◌≡◌};
+ghost use Rattle.spawn_host_workers.specs.Unstarted.{fault_of};
 
 use thiserror::Error;
 use types::ThreadReport;
@@ -21,4 +23,26 @@ pub enum StartFault {
     /// The system started no further thread.
     #[error("no thread")]
     NoThread,
+}
+
+/// What is left of a run whose threads weren't started: no thread has made a turn.
+#[derive(Drop)]
+pub enum Unstarted<S> {
+    /// The system had too little memory left. All seats, as they came.
+    NoMemory(Vec<S>),
+    /// The system started no further thread. Thread 0's seat: that thread left without a turn, so that the workers which
+    /// were started found nobody alive.
+    NoThread(S),
+}
+
+impl<S> Unstarted<S> {
+    /// Which of the two it is.
+    pub fn fault(&self) -> StartFault
+        ensures { result ≡ fault_of self.now }
+    {
+        match self {
+            Unstarted::NoMemory(_) => StartFault::NoMemory,
+            Unstarted::NoThread(_) => StartFault::NoThread,
+        }
+    }
 }

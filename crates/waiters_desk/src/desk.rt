@@ -4,11 +4,11 @@ ghost use Rattle.types.specs.declared.event.Event.TheVariants.{Ask};
 ghost use Rattle.types.specs.declared.event.Question.TheVariants.{Wait};
 ghost use Rattle.types.specs.declared.limits.TheConstants.{DESK_NAME};
 ghost use Rattle.shared_memory.specs.Events.{IsQuestion, is_exempt};
-ghost use Rattle.shared_memory.specs.WaitQueue.{IsFree};
+ghost use Rattle.shared_memory.specs.WaitQueue.{IsFree, is_asleep};
 ghost use Rattle.shared_memory.specs.History.{entries_of, of_queue, queue_after};
 ghost use Rattle.shared_memory.specs.Legal.{IsQueueLegal};
 ghost use Rattle.shared_memory.specs.Seats.{SeatStays};
-ghost use Rattle.waiters_desk.specs.Calls.{IsWaiting};
+ghost use Rattle.waiters_desk.specs.Calls.{IsToCome, IsWaiting, MayBegin};
 ghost use Rattle.waiters_desk.specs.Locks.{WaitsReadWhatNotifiersSaw};
 ghost use Rattle.waiters_desk.specs.Seats.{SeatBegins, SeatCollects, SeatLeaves, SeatNotifies, SeatNotifiesBehind};
 ghost use Rattle.waiters_desk.specs.Seats.{SeatPuts};
@@ -84,9 +84,9 @@ impl<M: SharedMemory, W: Wait + Drop> Desk<M, W> {
         ensures exempt { OnErr result (is_exempt (Ask question) ≡ false) }
         ensures reads { WaitsReadWhatNotifiersSaw M.opening (M.seen seat.new) }
     {
-        let asked = self.state.lock(&self.rt).put(memory, seat, question);
-        self.changed.notify_all();
-        asked
+        self.state
+            .lock(&self.rt)
+            .put(&self.changed, memory, seat, question)
     }
 
     /// Asks to sleep while the number in `width` bytes at `addr` is the expected one (threads proposal,
@@ -132,12 +132,12 @@ impl<M: SharedMemory, W: Wait + Drop> Desk<M, W> {
         let mut locked = self.changed.wait_while(
             &self.rt,
             self.state.lock(&self.rt),
-            |locked| locked.is_asleep(name),
+            |locked: &mut Locked<M>| -> bool
+                ensures same { locked.new ≡ locked.old }
+                ensures asleep { result ≡ is_asleep locked.new.queue name }
+            { locked.is_asleep(name) },
         );
-        let answer = locked.collect(memory, seat);
-        drop(locked);
-        self.changed.notify_all();
-        answer
+        locked.collect(&self.changed, memory, seat)
     }
 
     /// Wakes those that have slept longest at an address that 4 divides, as many as are counted (threads proposal,
@@ -188,7 +188,11 @@ impl<M: SharedMemory, W: Wait + Drop> Desk<M, W> {
         let mut locked = self.changed.wait_while(
             &self.rt,
             self.state.lock(&self.rt),
-            |locked| locked.is_to_come(name),
+            |locked: &mut Locked<M>| -> bool
+                ensures same { locked.new ≡ locked.old }
+                ensures waits { result ≡ true → IsToCome locked.new.queue name }
+                ensures goes_on { result ≡ false → MayBegin locked.new.queue name }
+            { locked.is_to_come(name) },
         );
         locked.begin(memory, seat)
     }

@@ -13,6 +13,7 @@ mod answers;
 mod desk;
 mod laws;
 mod locked;
+mod told;
 mod turn;
 
 pub use answers::{Asked, Full, Notified};

@@ -13,25 +13,34 @@ ghost use Rattle.waiters_desk.specs.Seats.{SeatBegins, SeatCollects, SeatPuts, S
 ghost use Rattle.waiters_desk.specs.Locks.{WaitsReadWhatNotifiersSaw};
 
 use crate::answers::{Asked, Full};
+use crate::told::Told;
 use crate::turn::{hear, put};
 use shared_memory::SharedMemory;
+use std::sync::Condvar;
 use types::{Answer, MOST_THREADS, Question};
 use waiters::Queue;
 
-/// The desk's seat, which has the queue right, and the wait queue after what that seat has seen.
+/// The desk's seat, which has the queue right, and the wait queue after what that seat has seen. All who wait at the
+/// desk were told of that queue: so whoever changes it wakes them before the lock is given up.
 pub(crate) struct Locked<M: SharedMemory> {
     seat: M::Seat,
     queue: Queue,
+    told: Told,
     ghost right: { M.has_queue_right seat ≡ true },
     ghost named: { M.name seat ≡ DESK_NAME },
     ghost tied: { queue ≡ queue_after (M.seen seat) },
     ghost legal: { IsQueueLegal (M.seen seat) } by { IsQueueLegal-prop (M.seen seat) },
     ghost silent: { entries_of DESK_NAME (M.seen seat) ≡ [] },
+    ghost all_told: { told ≡ queue },
 }
 
 impl<M: SharedMemory> Drop for Locked<M> {
     fn drop(self) {
-        let Locked { seat: _, queue: _ } = self;
+        let Locked {
+            seat: _,
+            queue: _,
+            told: _,
+        } = self;
     }
 }
 
@@ -46,6 +55,7 @@ impl<M: SharedMemory> Locked<M> {
         Locked {
             seat,
             queue: Queue::new(MOST_THREADS as u32),
+            told: Told::first(),
         }
     }
 
@@ -55,7 +65,11 @@ impl<M: SharedMemory> Locked<M> {
         ensures legal { IsQueueLegal (M.seen result) }
         ensures silent { entries_of DESK_NAME (M.seen result) ≡ [] }
     {
-        let Locked { seat, queue: _ } = self;
+        let Locked {
+            seat,
+            queue: _,
+            told: _,
+        } = self;
         seat
     }
 
@@ -74,9 +88,10 @@ impl<M: SharedMemory> Locked<M> {
         self.queue.arg_of(name).is_none() && !self.queue.is_over()
     }
 
-    /// Asks a question, and takes the answer unless the thread falls asleep.
+    /// Asks a question, and takes the answer unless the thread falls asleep. Then it tells all who wait.
     pub(crate) fn put(
         &mut self,
+        changed: &Condvar,
         memory: &M,
         seat: &mut M::Seat,
         question: Question,
@@ -93,11 +108,12 @@ impl<M: SharedMemory> Locked<M> {
         memory.meet(seat, &mut self.seat);
         let asked = put(memory, seat, &mut self.queue, question);
         memory.meet(seat, &mut self.seat);
+        self.told = Told::tell_all(changed, &self.queue);
         asked
     }
 
-    /// Takes the answer to an open question.
-    pub(crate) fn collect(&mut self, memory: &M, seat: &mut M::Seat) -> Answer
+    /// Takes the answer to an open question, and tells all who wait.
+    pub(crate) fn collect(&mut self, changed: &Condvar, memory: &M, seat: &mut M::Seat) -> Answer
         requires waiting { IsWaiting (queue_after (M.seen seat.old)) (M.name seat.old) }
         requires awake { is_asleep self.old.queue (M.name seat.old) ≡ false }
         ensures stays { SeatStays M.SharedMemory seat.old seat.new }
@@ -105,7 +121,9 @@ impl<M: SharedMemory> Locked<M> {
     {
         memory.meet(seat, &mut self.seat);
         let answer = hear(memory, seat, &mut self.queue);
+        let told = Told::tell_all(changed, &self.queue);
         memory.meet(seat, &mut self.seat);
+        self.told = told;
         answer
     }
 

@@ -1,9 +1,15 @@
 use Rattle.spawn_host_workers.specs.OverMemory.{over}
+use Rattle.spawn_host_workers.specs.Unstarted as starts
 use Rattle.spawn_host.proofs.Requested.{fault_of_call, run_of_call}
 use Rattle.spawn_host.proofs.running.run.Goals as goal
 
-pub returns-clause-run : goal.returns-clause-run
-returns-clause-run g c =
-    let end = c.in_ok-end.end in
-    run_of_call c.in_ok-request.request c.args.module.now.parts c.args.call c.in_ok-request.ensures.request
-    (over g.M.SharedMemory c.args.memory.now) end.threads.items end.seats.items c.in_ok-end.ensures.run
+pub returns-in-Ok-run_request-clause-run : goal.returns-in-Ok-run_request-clause-run
+returns-in-Ok-run_request-clause-run g c =
+    let end = c.in-Ok-run_request.end in
+    run_of_call c.in-Ok.request c.args.module.now.parts c.args.call c.in-Ok.ensures.request
+    (over g.M.SharedMemory c.args.memory.now) end.threads.items end.seats.items c.in-Ok-run_request.ensures.run
+
+pub returns-in-Err-run_request-clause-fault : goal.returns-in-Err-run_request-clause-fault
+returns-in-Err-run_request-clause-fault g c =
+    fault_of_call c.in-Ok.request c.args.module.now.parts c.args.call c.in-Ok.ensures.request
+    (starts.fault_of c.in-Err-run_request.refused.fault) c.in-Ok.ensures.takes c.in-Err-run_request.ensures.fault

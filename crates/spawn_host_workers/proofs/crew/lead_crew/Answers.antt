@@ -2,8 +2,8 @@ use Rattle.spawn_host_workers.proofs.Duties.{crew_of}
 use Rattle.spawn_host_workers.proofs.Pairing.{first_there}
 use Rattle.spawn_host_workers.proofs.crew.lead_crew.Goals as goal
 
-pub returns : goal.returns
-returns g c =
+pub returns-clause-ends : goal.returns-clause-ends
+returns-clause-ends g c =
     let m = g.M.SharedMemory in
     let t = g.T.TakesTurns in
     let crew = c.args.crew in

@@ -15,7 +15,7 @@ loop-seat-init g c =
       same = search rules;
       new = subst (λ w. All (λ s. entries_of (m.name s) (m.seen s) ≡ []) w) (sym gives.0) c.requires.new;
       begins = subst (λ w. All (λ t. MayBeSpawned (g.T.TakesTurns.meaning t)) w) (sym c.into_iter-threads.ensures.rest) c.requires.begins;
-      duties = rw (c.into_iter-threads.ensures.rest, gives.0, c.in-Ok.ensures.items)
+      duties = rw (c.into_iter-threads.ensures.rest, gives.0, c.requires.empty)
           (so_far_none (IsDuty c.args.place.now.memory.now) (vec_items c.args.threads) (vec_items c.args.seats));
     }
 
@@ -47,8 +47,8 @@ loop-seat-preserved g c =
           (so_far_more (IsDuty c.args.place.now.memory.now) (vec_items c.args.threads) (vec_items c.args.seats)
           (vec_items c.loop-seat.handles) (into_iter_items c.loop-seat.threads) (into_iter_items c.next-in-loop-seat.new.self)
           (into_iter_items c.loop-seat.seat-iterator) (into_iter_items c.next.new.self)
-          c.in-Some-next.thread c.in-Some.seat c.in-Ok-start_worker.handle i.duties next.0 step.0
-          c.in-Ok-start_worker.ensures);
+          c.in-Some-next.thread c.in-Some.seat c.in-Ok.handle i.duties next.0 step.0
+          c.in-Ok.ensures);
     }
 
 pub returns : goal.returns
@@ -62,9 +62,6 @@ returns g c =
           (none_of threads.items (sym threads.ok.0 ∙ (i.same ∙ none))) (none_of seats.items (sym seats.ok.0 ∙ none)),
       omega (arith, i.len, none),
     )
-
-pub returns-in_default : goal.returns-in_default
-returns-in_default g c = tt
 
 pub returns-in-Err : goal.returns-in-Err
 returns-in-Err g c = c.in-Err.ensures

@@ -1,8 +1,11 @@
-use Rattle.std.proofs.Common.{arith, ap, ℕ, ◌≡◌, inl, inr, refl, subst, vec_len}
+use Rattle.std.proofs.Common.{arith, ap, ℕ, ◌≡◌, ◌≤◌, ◌<◌, ◌+◌, ◌∙◌, List, [], length, inl, inr, subst, vec_len, vec_capacity}
+use Rattle.std.specs.Global.{Vec}
 use Rattle.shared_memory.specs.History.{entries_of, of_queue}
 use Rattle.types.specs.declared.limits.TheConstants.{MOST_THREADS, DESK_NAME}
 use Rattle.spawn_host_workers.specs.OverMemory.{over}
-use Rattle.spawn_host_workers.proofs.OneList.{Unpacked, IsDeskSeat, lead_may_ask, workers_new, desk_new}
+use Rattle.waiters_desk.specs.Calls.{Leaves}
+use Rattle.types.specs.declared.event.Entry.{Entry}
+use Rattle.spawn_host_workers.proofs.OneList.{Unpacked, IsDeskSeat, first_name, first_new, lead_may_ask, workers_new, desk_new}
 use Rattle.spawn_host_workers.specs.Crew.{CountsSpawnable}
 use Rattle.spawn_host_workers.proofs.Ending.{ends_length, composed_any}
 use Rattle.spawn_host_workers.proofs.host.run_all.Given as given
@@ -19,6 +22,21 @@ desk : (g : given.Over) (c : After-deal-seat g)
 desk g c =
     desk_new g.M.SharedMemory.name g.M.SharedMemory.seen c.args.seats.items c.deal-seat.result.first c.deal-seat.result.workers.items
     c.deal-seat.result.desk (dealt_of g c) c.requires.names c.requires.new g.M.SharedMemory.has_queue_right c.requires.right
+
+-- an empty vector with room for so many
+room_for : {A B : Type 0} (ends : Vec A) (reports : Vec B) (room : ℕ) → vec_len ends ≡ room → reports.items ≡ [] → room ≤ vec_capacity reports
+    → vec_len reports + vec_len ends ≤ vec_capacity reports
+room_for ends reports room many none fits =
+    let empty : length reports.items ≡ 0 = ap length none in
+    let len = reports.ok.0 in
+    omega (arith, many, empty, len, fits)
+
+more_room_for : {A B : Type 0} (ends : Vec A) (home : Vec B) (room : ℕ) → vec_len ends ≡ room → home.items ≡ [] → room < vec_capacity home
+    → vec_len home + vec_len ends < vec_capacity home
+more_room_for ends home room many none fits =
+    let empty : length home.items ≡ 0 = ap length none in
+    let len = home.ok.0 in
+    omega (arith, many, empty, len, fits)
 
 pub open-desk-requires-clause-right : goal.open-desk-requires-clause-right
 open-desk-requires-clause-right g c κs within = (desk g (goal.at.open-desk-requires-clause-right g c).After-deal-seat).may_ask
@@ -60,8 +78,8 @@ bring_home-requires-clause-room g c κs within =
     let count = ends_length (over m c.args.memory.now) t.meaning c.args.first c.deal-seat.result.first c.args.spawned.items
     c.deal-seat.result.workers.items ends.items c.in-Ok-run_crew.ensures.ends in
     let here : vec_len ends ≡ MOST_THREADS = omega (arith, count, ends.ok.0, c.deal-seat.ensures.len) in (
-      omega (arith, here, c.in-Ok.ensures.len, c.in-Ok.ensures.capacity),
-      omega (arith, here, c.in-Ok-with_capacity.ensures.len, c.in-Ok-with_capacity.ensures.capacity),
+      room_for ends c.in-Ok.room.reports MOST_THREADS here c.in-Ok.ensures.reports.0 c.in-Ok.ensures.reports.1,
+      (let fits = c.in-Ok.ensures.home.1 in more_room_for ends c.in-Ok.room.home MOST_THREADS here c.in-Ok.ensures.home.0 (omega (arith, fits))),
     )
 
 pub returns-in-Ok-run_crew-clause-composed : goal.returns-in-Ok-run_crew-clause-composed
@@ -83,26 +101,26 @@ bring_home-requires-clause-right g c κs within = c.close-hub.ensures.right
 pub returns-in_default-clause-composed : goal.returns-in_default-clause-composed
 returns-in_default-clause-composed g c = tt
 
-pub returns-in_default-with_capacity-clause-composed : goal.returns-in_default-with_capacity-clause-composed
-returns-in_default-with_capacity-clause-composed g c = tt
-
-pub returns-in-Ok-run_crew-clause-fault : goal.returns-in-Ok-run_crew-clause-fault
-returns-in-Ok-run_crew-clause-fault g c = λ none. tt
-
 pub deal-seat-requires : goal.deal-seat-requires
 deal-seat-requires g c = c.requires.len
 
 pub bring_home-requires-clause-empty : goal.bring_home-requires-clause-empty
-bring_home-requires-clause-empty g c κs within = (c.in-Ok.ensures.items, c.in-Ok-with_capacity.ensures.items)
-
-pub returns-in_default-clause-fault : goal.returns-in_default-clause-fault
-returns-in_default-clause-fault g c = λ none. refl
-
-pub returns-in_default-with_capacity-clause-fault : goal.returns-in_default-with_capacity-clause-fault
-returns-in_default-with_capacity-clause-fault g c = λ none. refl
-
-pub returns-in-Err-clause-fault : goal.returns-in-Err-clause-fault
-returns-in-Err-clause-fault g c = c.in-Err.ensures.fault
+bring_home-requires-clause-empty g c κs within = (c.in-Ok.ensures.reports.0, c.in-Ok.ensures.home.0)
 
 pub returns-in-Err-clause-composed : goal.returns-in-Err-clause-composed
 returns-in-Err-clause-composed g c = tt
+
+pub returns-in-Err-clause-unstarted : goal.returns-in-Err-clause-unstarted
+returns-in-Err-clause-unstarted g c =
+    let m = g.M.SharedMemory in
+    let dealt = c.deal-seat.result in
+    let u : Unpacked c.args.seats.items dealt.first dealt.workers.items dealt.desk
+    = record { parts = c.deal-seat.ensures.parts; len = c.deal-seat.ensures.len } in
+    let name = first_name m.name m.seen c.args.seats.items dealt.first dealt.workers.items dealt.desk u c.requires.names c.requires.new in
+    let fresh = first_new m.name m.seen c.args.seats.items dealt.first dealt.workers.items dealt.desk u c.requires.names c.requires.new in
+    let last = m.seen c.in-Err.seat in
+    let limit = m.limit c.args.memory.now in (
+      c.in-Err.ensures.left.name_is ∙ name,
+      subst (λ (n : ℕ). Leaves m.opening limit n [] last) name
+          (subst (λ (l : List Entry). Leaves m.opening limit (m.name dealt.first) l last) fresh c.in-Err.ensures.left.left),
+    )

@@ -7,7 +7,7 @@ use Rattle.spawn_host_workers.specs.OverMemory.{over}
 use Rattle.spawn_host_workers.specs.Crew.{CountsSpawnable}
 use Rattle.spawn_host.proofs.Together.{any_result}
 use Rattle.spawn_host.proofs.Requested.{start_fault, counted, spawned_begin}
-use Rattle.spawn_host.proofs.running.run_request.Goals as goal
+use Rattle.spawn_host.proofs.running.start.Goals as goal
 
 pub run_all-requires-clause-here : goal.run_all-requires-clause-here
 run_all-requires-clause-here g c κs within =
@@ -33,5 +33,5 @@ returns-clause-run g c =
 pub returns-clause-fault : goal.returns-clause-fault
 returns-clause-fault g c =
     let others = c.in-Ok-other_threads.others in
-    start_fault meaning_in c.args.request.now others.items c.run_all.result c.in-Ok-other_threads.ensures
-    (λ none. c.run_all.ensures.fault (others.ok.0 ∙ none))
+    start_fault meaning_in c.args.request.now others.items c.args.seats.items c.run_all.result c.in-Ok-other_threads.ensures
+    (λ none. c.run_all.ensures.alone (others.ok.0 ∙ none))
