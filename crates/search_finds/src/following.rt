@@ -1,4 +1,4 @@
-//! The run to an ending.
+//! The run to an ending, and one that goes round and round.
 ghost use Rattle.std.specs.Prelude.{◌≡◌, IfOk, IfSome};
 ghost use Rattle.search_finds.specs.Endings.{ending_left};
 ghost use Rattle.search_finds.specs.Finds.{IsFind};
@@ -6,7 +6,7 @@ ghost use Rattle.search_finds.specs.Finds.{IsFind};
 use crate::ending_of;
 use search_endings::Ending;
 use search_scheduled::{MadeRun, SearchFault, run_along};
-use search_strategies::Chosen;
+use search_strategies::{Chosen, Rounds};
 use spawn_host::Request;
 use std::alloc::Global;
 
@@ -32,4 +32,21 @@ pub fn run_to(
     } else {
         Ok(None)
     }
+}
+
+/// The run in which the threads that can go on are chosen by a path, and then by a round, again and again, until the
+/// budgets or the log are spent; without a round they go on in turn.
+///
+/// # Errors
+/// As of `run_along`.
+pub fn run_round(
+    alloc: Global,
+    request: &Request,
+    limit: u32,
+    path: &[usize],
+    round: &[usize],
+) -> Result<MadeRun, SearchFault>
+    ensures { IfOk result (IsFind request.now limit) }
+{
+    run_along(alloc, request, limit, &mut Rounds::new(path, round))
 }

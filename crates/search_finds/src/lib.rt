@@ -32,7 +32,7 @@ mod words;
 
 pub use ending::{ending_of, have_one_ending};
 pub use finding::{Found, Halt, SearchResult, first_found};
-pub use following::run_to;
+pub use following::{run_round, run_to};
 pub use hears::Hears;
 pub use met::{Met, Table};
 pub use shrinking::shrunk;

@@ -57,7 +57,7 @@ fn place_of(ready: &[u32], thread: u32) -> Option<usize>
 }
 
 /// The first of those that can go on with a higher number, or the first of all.
-fn next_behind(ready: &[u32], thread: u32) -> usize
+pub(crate) fn next_behind(ready: &[u32], thread: u32) -> usize
     requires { 0 < length ready.now }
     ensures { result < length ready.now }
 {
