@@ -1,25 +1,23 @@
 //! Every order of the entries of a call: what is printed, and the record of what was found.
-ghost use Rattle.std.specs.Prelude.{◌≡◌, ◌≤◌, ◌↔◌, true, IfOk, IfErr, IfSome};
+ghost use Rattle.std.specs.Prelude.{◌≡◌, ◌≤◌, All, None, IfOk, IfErr, IfSome};
 ghost use Rattle.search_finds.specs.Finds.{IsLookedFor};
 ghost use Rattle.report_jobs.specs.Asked.{IsAskedBy};
-ghost use Rattle.report.specs.Searches.{Finds, FindsEvery, FindsNoOther, KeepsNoneOrFind, IsOfSystem};
-ghost use Rattle.report.specs.Searches.{IsWellAt, AreAllWell, threads_end_well, all_end_well};
+ghost use Rattle.report.specs.Searches.{Finds, IsCompleteOf, KeepsNoneOrFind, KeepsNoneOrRun, IsOfSystem};
+ghost use Rattle.report.specs.Searches.{IsWellAt, PrintsAll};
 ghost use Rattle.report_jobs.specs.Prints.{changed};
 
-use crate::searching::{no_memory, tell_made, write_ending};
+use crate::complete::{Complete, are_well, write_complete};
+use crate::searching::{no_memory, tell_made};
+use report_choice::Find;
 use report_command::{Search, Sought};
-use report_jobs::Trouble;
-use report_lines::is_done;
+use report_jobs::{Trouble, keep, print};
 use search_endings::Ending;
-use search_finds::{Hears, is_looked_for, run_to};
+use search_finds::{Hears, entries_leading, is_looked_for, run_round, run_to};
 use search_modules::all_endings;
-use search_reach::{Ended, Follows, Verdict};
+use search_reach::{FairRuns, Follows, Liveness};
 use spawn_host::Request;
 use std::alloc::{AllocError, Global};
-use std::io::{self, Write};
-
-/// The endings of a call, each with a path to it, and whether they are all.
-type All = Ended<Ending>;
+use std::io::Write;
 
 /// An ending of the list that is looked for: its number from 1 on, and the choices by which it was met.
 #[derive(Clone, Copy)]
@@ -29,6 +27,14 @@ struct SoughtEnding<'a> {
     choices: &'a [usize],
 }
 
+/// A run that never ends: the choices to where it is sure of that, and those of the round that it goes then, if it goes
+/// one.
+#[derive(Clone, Copy)]
+struct EndlessRun<'a> {
+    path: &'a [usize],
+    round: &'a [usize],
+}
+
 /// Goes through every order of the entries of a call.
 fn all_of<F: Follows>(
     alloc: Global,
@@ -36,107 +42,32 @@ fn all_of<F: Follows>(
     most: u32,
     dump: u32,
     follower: &mut F,
-) -> Result<All, Trouble>
-    ensures every { IfOk result (FindsEvery request.now dump) }
-    ensures can { IfOk result (FindsNoOther request.now dump) }
+) -> Result<Complete, Trouble>
+    ensures complete { IfOk result (IsCompleteOf request.now dump) }
     ensures trouble { IfErr result IsOfSystem }
 {
-    Ok(all_endings(alloc, request, most as usize, dump as usize, follower)?)
-}
-
-/// The word for so many.
-fn word_of(count: usize, one: &'static str, more: &'static str) -> &'static str {
-    if count == 1 { one } else { more }
-}
-
-/// The line that says whether the endings are all.
-fn write_verdict<W: Write>(out: &mut W, all: &All, most: u32) -> io::Result<()> {
-    let endings = all.endings.len();
-    let states = all.states;
-    let ending = word_of(endings, "ending", "endings");
-    let state = word_of(states, "state", "states");
-    match all.verdict {
-        Verdict::All => write!(out, "all: {endings} {ending}, {states} {state}\n"),
-        Verdict::TooMany => {
-            let state = word_of(most as usize, "state", "states");
-            write!(
-                out,
-                "not all: more than {most} {state}; {endings} {ending} so far\n"
-            )
-        }
-        Verdict::CannotTell => write!(
-            out,
-            "not all: a thread spends its units without an entry; {endings} {ending} so far\n"
-        ),
-        Verdict::Told => write!(
-            out,
-            "not all: told to end; {endings} {ending}, {states} {state} so far\n"
-        ),
-    }
-}
-
-/// A line for each ending, and whether these are all.
-fn write_all<W: Write>(out: &mut W, all: &All, most: u32) -> Result<(), Trouble>
-    ensures { IfErr result IsOfSystem }
-{
-    for ending in all.endings.as_slice() {
-        write_ending(out, ending)?;
-    }
-    write_verdict(out, all, most)?;
-    out.flush()?;
-    Ok(())
-}
-
-/// Whether all threads ended well.
-fn has_ended_well(ending: &Ending) -> bool
-    ensures { result ≡ threads_end_well ending.now }
-{
-    ending.outcomes().iter().all(|outcome| is_done(*outcome))
-}
-
-/// Whether in each of the endings all threads ended well.
-fn all_ended_well(endings: &[Ending]) -> bool
-    ensures { result ≡ all_end_well endings.now }
-{
-    endings.iter().all(|ending| has_ended_well(ending))
-}
-
-/// Whether the endings are all, there is one, and in each all threads ended well. Where no run ends there is none.
-fn are_well(all: &All) -> bool
-    ensures { (result ≡ true) ↔ AreAllWell all.now }
-{
-    let endings = all.endings.as_slice();
-    let is_all = matches!(all.verdict, Verdict::All);
-    is_all && !endings.is_empty() && all_ended_well(endings)
-}
-
-/// The status where nothing is looked for or found: 0 where they are all well, and else 1.
-fn status_of(all: &All) -> u8
-    ensures well { result ≡ 0 → AreAllWell all.now }
-    ensures status { result ≤ 1 }
-{
-    if are_well(all) {
-        return 0;
-    }
-    1
+    Ok(all_endings(alloc, request, most, dump as usize, follower)?)
 }
 
 /// The first ending that is looked for.
 fn first_sought<'a>(
     alloc: Global,
-    all: &'a All,
+    all: &'a Complete,
     sought: &Sought,
 ) -> Result<Option<SoughtEnding<'a>>, AllocError>
-    ensures { IfOk result (λ o. IfSome o (λ first. IsLookedFor sought.now first.ending.now)) }
+    ensures first { IfOk result (λ o. IfSome o (λ first. IsLookedFor sought.now first.ending.now)) }
+    ensures none { IfOk result (λ o. o ≡ None → All (λ e. IsLookedFor sought.now e → ⊥) all.now.endings.keys) }
 {
     for (place, ending) in all.endings.as_slice().iter().enumerate() {
-        if is_looked_for(alloc, sought, ending)?
-            && let Some(choices) = all.paths.get(place)
-        {
+        if is_looked_for(alloc, sought, ending)? {
+            let choices = match all.paths.get(place) {
+                Some(choices) => choices.as_slice(),
+                None => &[],
+            };
             return Ok(Some(SoughtEnding {
                 number: place + 1,
                 ending,
-                choices: choices.as_slice(),
+                choices,
             }));
         }
     }
@@ -181,9 +112,88 @@ fn tell_sought<F: Hears, W: Write, S: Write>(
     }
 }
 
-/// Goes through every order of the entries of a call, prints the endings, and of the first that is looked for the lines
-/// of a run that ends so; and writes its record, where one is wanted. Answers the status: 1 where such an ending was
-/// found, one has a trap or a stop, there is none, or they are not all, and else 0.
+/// The run that never ends, where one is looked for: to the first state from which no run ends, or else round a cycle
+/// of a fair run. Where nothing is said, both are looked for.
+fn endless_run<'a>(liveness: &'a Liveness, find: Find) -> Option<EndlessRun<'a>> {
+    let (finds_stuck, finds_rounds) = match find {
+        Find::Failure => (true, true),
+        Find::NoEnd => (true, false),
+        Find::ForEver => (false, true),
+        Find::Nothing | Find::Words(_) => (false, false),
+    };
+    if finds_stuck && !liveness.endless.is_empty() {
+        return Some(EndlessRun {
+            path: liveness.path.as_slice(),
+            round: &[],
+        });
+    }
+    match &liveness.fair_runs {
+        FairRuns::GoOn(cycle) if finds_rounds => Some(EndlessRun {
+            path: cycle.path.as_slice(),
+            round: cycle.walk.as_slice(),
+        }),
+        _ => None,
+    }
+}
+
+/// Makes a run that never ends, as far as budgets and log reach, and tells of it.
+fn tell_endless<W: Write, S: Write>(
+    alloc: Global,
+    request: &Request,
+    search: &Search,
+    endless: EndlessRun,
+    out: &mut W,
+    save: &mut S,
+) -> Result<(), Trouble>
+    requires asked { IsAskedBy search.now.call request.now }
+    ensures kept { IfOk result
+        (λ _. KeepsNoneOrRun request.now.parts search.now (changed S.contents save.old save.new)) }
+    ensures trouble { IfErr result IsOfSystem }
+{
+    let EndlessRun { path, round } = endless;
+    let Sought { limit, dump, .. } = search.sought;
+    let made = match run_round(alloc, request, limit, path, round) {
+        Ok(made) => made,
+        Err(fault) => return Err(no_memory(fault)),
+    };
+    let entries = entries_leading(&made.record, path.len());
+    let entry = if entries == 1 { "entry" } else { "entries" };
+    if round.is_empty() {
+        write!(out, "found: after {entries} {entry} no run ends\n")?;
+    } else {
+        write!(out, "found: after {entries} {entry} a fair run goes round for ever\n")?;
+    }
+    print(out, &made.end, dump)?;
+    keep(&made.record, search.save.is_some(), save)?;
+    Ok(())
+}
+
+/// Tells of a run that never ends, where one is looked for. Answers whether there is one.
+fn tell_if_endless<W: Write, S: Write>(
+    alloc: Global,
+    request: &Request,
+    search: &Search,
+    all: &Complete,
+    out: &mut W,
+    save: &mut S,
+) -> Result<(), Trouble>
+    requires asked { IsAskedBy search.now.call request.now }
+    ensures kept { IfOk result
+        (λ _. KeepsNoneOrRun request.now.parts search.now (changed S.contents save.old save.new)) }
+    ensures trouble { IfErr result IsOfSystem }
+{
+    if let Some(liveness) = &all.liveness
+        && let Some(endless) = endless_run(liveness, search.sought.target.find)
+    {
+        tell_endless(alloc, request, search, endless, out, save)?;
+    }
+    Ok(())
+}
+
+/// Goes through every order of the entries of a call, prints the endings, whether these are all, and what never ends;
+/// and of the first ending that is looked for the lines of a run that ends so, or where none is, those of a run that
+/// never ends; and writes its record, where one is wanted. Answers the status: 1 where such an ending was found, one
+/// has a trap or a stop, there is none, they are not all, or something never ends, and else 0.
 pub(crate) fn search_all_orders<F: Hears, W: Write, S: Write>(
     alloc: Global,
     request: &Request,
@@ -195,18 +205,26 @@ pub(crate) fn search_all_orders<F: Hears, W: Write, S: Write>(
 ) -> Result<u8, Trouble>
     requires { IsAskedBy search.now.call request.now }
     ensures finds { IfOk result (Finds request.now.parts search.now (changed S.contents save.old save.new)) }
+    ensures prints { IfOk result
+        (λ _. PrintsAll request.now.parts search.now most (changed W.contents out.old out.new)) }
     ensures well { IfOk result (IsWellAt request.now.parts search.now) }
     ensures trouble { IfErr result IsOfSystem }
 {
     let all = all_of(alloc, request, most, search.sought.dump, follower)?;
     follower.end();
-    write_all(out, &all, most)?;
-    if !search.sought.stops {
-        return Ok(status_of(&all));
+    write_complete(out, &all, most)?;
+    let first = first_sought(alloc, &all, &search.sought)?;
+    if let Some(first) = first {
+        if search.sought.stops {
+            tell_sought(alloc, request, search, first, follower, out, save)?;
+        }
+        return Ok(1);
     }
-    let Some(first) = first_sought(alloc, &all, &search.sought)? else {
-        return Ok(status_of(&all));
-    };
-    tell_sought(alloc, request, search, first, follower, out, save)?;
+    if are_well(&all, &search.sought) {
+        return Ok(0);
+    }
+    if search.sought.stops {
+        tell_if_endless(alloc, request, search, &all, out, save)?;
+    }
     Ok(1)
 }

@@ -10,6 +10,7 @@
 #![tactic(auto)]
 
 mod all;
+mod complete;
 mod job;
 mod searching;
 mod showing;

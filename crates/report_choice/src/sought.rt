@@ -12,6 +12,10 @@ pub enum Find<'a> {
     Failure,
     /// These words.
     Words(&'a str),
+    /// A state from which no run ends. Only a search through every order knows of one.
+    NoEnd,
+    /// A fair run that goes on for ever. The same.
+    ForEver,
 }
 
 /// What is looked for: a run that has a line of a thread with this, or whose thread 0 comes to another result than is

@@ -37,6 +37,8 @@ abbrev pub IsFoundBy : Find → List Outcome → Type 0
 IsFoundBy finds.Nothing outcomes = ⊥
 IsFoundBy finds.Failure outcomes = HasFailure outcomes
 IsFoundBy (finds.Words words) outcomes = HasLineWith words.now outcomes
+IsFoundBy finds.NoEnd outcomes = ⊥
+IsFoundBy finds.ForEver outcomes = ⊥
 
 -- Thread 0 comes to another result.
 abbrev pub ComesToAnother : Outcome → List Outcome → Type 0

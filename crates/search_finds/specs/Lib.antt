@@ -6,3 +6,4 @@ pub mod Sizes
 pub mod Endings
 pub mod Words
 pub mod Tables
+pub mod Leading

@@ -21,7 +21,7 @@ fn is_found(alloc: Global, ending: &Ending, find: Find) -> Result<bool, AllocErr
     ensures { IfOk result (λ is. (is ≡ true) ↔ IsFoundBy find.entry ending.now.outcomes) }
 {
     match find {
-        Find::Nothing => Ok(false),
+        Find::Nothing | Find::NoEnd | Find::ForEver => Ok(false),
         Find::Failure => Ok(has_failure(ending)),
         Find::Words(words) => has_line_with(alloc, ending, words),
     }
