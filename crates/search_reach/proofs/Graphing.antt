@@ -104,7 +104,7 @@ module _ {S W E : Type 0} (k : StepSystem S W E) (eq : S → S → Bool) (ks : L
         pub left : ℕ → ℕ
         pub is : k.stands state w left
 
-      gone_on : (index : ℕ) (s : S) → slice_get ks index ≡ Some s → IsGoneOn k eq ks moves index s
+      pub gone_on : (index : ℕ) (s : S) → slice_get ks index ≡ Some s → IsGoneOn k eq ks moves index s
       gone_on index s at = e.gone_on index s (slice_get_within ks index s at) at
 
       pub covered : (w : W) → Covers k ks w → (index : ℕ) × Stands index w
@@ -125,7 +125,7 @@ module _ {S W E : Type 0} (k : StepSystem S W E) (eq : S → S → Bool) (ks : L
         pub path : Reaches (MoveSteps moves) index to
         pub is : Stands to z
 
-      follow : (index : ℕ) (w z : W) → Stands index w → Steps k w z → Follows index z
+      pub follow : (index : ℕ) (w z : W) → Stands index w → Steps k w z → Follows index z
       follow index w z st step = by ((g.are).orderly.idles w z step.0 (st.left, st.is) step.1)
         where
           g : IsGoneOn k eq ks moves index st.state

@@ -67,8 +67,8 @@ module _ {S W E : Type 0} (k : StepSystem S W E) where
   IsLiveWhereAll eq states verdict o =
       MatchOption o (verdict ≡ verdicts.All → ⊥) (λ l. (verdict ≡ verdicts.All) × IsLive eq states l)
 
--- The same of a graph, of which some states are marked as ended.
-module _ (graph : Graph) (ended : List Bool) where
+-- The same of a graph.
+module _ (graph : Graph) where
   -- The threads and the number of the states are those of a cycle of the graph.
   pub record IsRoundOf (c : rounds.FairCycle) : Type 0 where
     pub cycle : cycles.Cycle
@@ -81,11 +81,13 @@ module _ (graph : Graph) (ended : List Bool) where
   SaysOfGraph (GoOn c) = IsRoundOf c
   SaysOfGraph Unknown = Unit {0}
 
+-- Some of its states are marked as ended.
+module _ (graph : Graph) (ended : List Bool) where
   pub record IsGraphLive (l : Liveness) : Type 0 where
     pub order : IsStrictlyIncreasing l.endless.items
     pub exact : (s : ℕ) → Contains l.endless.items s ↔ CannotEnd graph.moves.items ended graph.states s
     pub others : (s : ℕ) → s < graph.states → Contains l.endless.items s ⊎ PathEnds graph.moves.items ended s
-    pub fair_runs : SaysOfGraph l.fair_runs
+    pub fair_runs : SaysOfGraph graph l.fair_runs
 
   -- How it is judged, by the verdict and the last wish before: where all were met, and nobody wishes the end.
   pub record IsJudged (before : Verdict) (old : Wish) (after : Verdict) (new : Wish) (o : Option Liveness) : Type 0 where
