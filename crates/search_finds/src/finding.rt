@@ -1,5 +1,5 @@
 //! The first run with an ending that is looked for.
-ghost use Rattle.std.specs.Prelude.{◌≡◌, ◌+◌, ◌<◌, ◌≤◌, ◌^◌, true, All, IfOk, OnOk, OnSome, IfSome, IsTrue};
+ghost use Rattle.std.specs.Prelude.{◌≡◌, ◌+◌, ◌<◌, ◌≤◌, ◌^◌, true, All, IfOk, OnOk, OnSome, IfSome, IfNone, IsTrue};
 ghost use Rattle.search_finds.specs.Finds.{IsFound, AreMet, EndsAsLookedFor, HasNoneLookedFor};
 ghost use Rattle.search_finds.specs.Noted.{AreNoted};
 ghost use Rattle.search_finds.specs.Searching.{IsMadeIn, IsMetIn, IsFoundIn, AreSparesIn};
@@ -264,6 +264,32 @@ impl<'m, 'a> RunMaker<'m, 'a> {
         *ahead = self.endings_by(alloc, crew, piece, run, left)?;
         Ok(ahead.pop())
     }
+
+    /// The ending of the run of this number, which is made whether or not runs are given up; none where the follower
+    /// wishes an end then.
+    fn noted_next<R: Threads + Sync, F: Hears>(
+        &self,
+        alloc: Global,
+        crew: &Crew<R, F::Watch>,
+        run: u64,
+        left: u64,
+        ahead: &mut Vec<Ending>,
+        follower: &mut F,
+    ) -> Result<Option<Ending>, SearchFault>
+        requires { All (IsMetIn self.now) ahead.old.items }
+        ensures met { IfOk result (λ ending. IfSome ending (IsMetIn self.now)) }
+        ensures ahead { OnOk result (All (IsMetIn self.now) ahead.new.items) }
+        ensures told { IfOk result (λ ending. IfNone ending (F.wish follower.new ≡ Wish.End)) }
+    {
+        if let Some(ending) = self.next_ending(alloc, crew, run, left, ahead)? {
+            return Ok(Some(ending));
+        }
+        if let Wish::End = follower.given_up() {
+            return Ok(None);
+        }
+        let ending = self.ending_anew(alloc, run)?;
+        Ok(Some(ending))
+    }
 }
 
 /// Makes the runs of a call that is requested in the order of their numbers, by so many threads, and notes the ending
@@ -311,15 +337,11 @@ pub fn first_found<R: Threads + Sync, F: Hears>(
     let mut ahead = Vec::new(alloc);
     let end = sought.from + sought.runs;
     for run in sought.from..end {
-        let ending = match search.next_ending(alloc, &crew, run, end - run, &mut ahead)? {
-            Some(ending) => ending,
-            None => {
-                if let Wish::End = follower.given_up() {
-                    let halt = Halt::Told;
-                    return Ok(SearchResult { table, halt });
-                }
-                search.ending_anew(alloc, run)?
-            }
+        let left = end - run;
+        let next = search.noted_next(alloc, &crew, run, left, &mut ahead, follower)?;
+        let Some(ending) = next else {
+            let halt = Halt::Told;
+            return Ok(SearchResult { table, halt });
         };
         let is_sought = is_looked_for(alloc, sought, &ending)?;
         table.note(run, ending)?;

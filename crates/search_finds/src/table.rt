@@ -1,5 +1,5 @@
 //! How endings are noted.
-ghost use Rattle.std.specs.Prelude.{◌≡◌, ◌<◌, ◌^◌, ◌-◌, IfOk, IfErr, MatchOption, length};
+ghost use Rattle.std.specs.Prelude.{◌≡◌, ◌<◌, ◌^◌, ◌-◌, IfOk, IfErr, MatchOption, []};
 ghost use Rattle.search_finds.specs.Tables.{IsNewTo, HasRowAt, IsNoted, IsMetAgain};
 
 use crate::met::{Met, Table};
@@ -9,7 +9,7 @@ use std::alloc::{AllocError, Global};
 impl Table {
     /// Before the first run.
     pub fn new(alloc: Global) -> Table
-        ensures { (result.runs ≡ 0) × (length result.met.items ≡ 0) }
+        ensures { (result.runs ≡ 0) × (result.met.items ≡ []) }
     {
         Table {
             met: Vec::new(alloc),
