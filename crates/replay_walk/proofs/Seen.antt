@@ -9,10 +9,10 @@ use Rattle.interp_trait.specs.declared.turn.Turn.{Turn}
 use Rattle.interp_trait.specs.declared.turn.Turn.TheVariants as turns
 use Rattle.replay_walk.specs.declared.walk.Walk.{Walk}
 use Rattle.replay_walk.specs.Standing.{SettlesThread}
-use Rattle.replay_walk.specs.Seen.{Moment, Moment.Came, Moment.Settled, Moment.Wanted, IsToldOf, IsShown, SeesEvent, SeesEntry, SeesNext, SeesLog}
+use Rattle.replay_walk.specs.Seen.{Sight, Sight.Came, Sight.Settled, Sight.Wanted, IsToldOf, IsShown, SeesEvent, SeesEntry, SeesNext, SeesLog}
 use Rattle.replay_walk.specs.Seen.{CameAlong, SeesUpTo, SeesWhole}
 
-module _ {S W : Type 0} (meaning : S → Meaning) (sees : W → Moment S → W → Type 0) where
+module _ {S W : Type 0} (meaning : S → Meaning) (sees : W → Sight S → W → Type 0) where
   pub told_of : (w : Walk S) (n : ℕ) (turn : Turn) (xs ys : List S) (old new : W) → xs ≡ w.threads.items
       → SettlesThread meaning xs n turn ys → sees old (Settled n turn) new → IsToldOf meaning sees w n turn old new
   told_of w n turn xs ys old new same settles tells = record {

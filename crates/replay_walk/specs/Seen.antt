@@ -15,10 +15,10 @@ use Rattle.replay_walk.specs.Walked.{Run, WalkCame}
 
 -- A watch is told that the walk came along so many entries; that by turns of its own a thread comes to this; or that
 -- this thread wants the event of an entry, over this memory.
-pub data Moment (S : Type 0) : Type 0 where
-  Came : ℕ → Walk S → Moment S
-  Settled : ℕ → Turn → Moment S
-  Wanted : Entry → S → Memory → Moment S
+pub data Sight (S : Type 0) : Type 0 where
+  Came : ℕ → Walk S → Sight S
+  Settled : ℕ → Turn → Sight S
+  Wanted : Entry → S → Memory → Sight S
 
 module _ {S : Type 0} (meaning : S → Meaning) where
   -- From where each run with this limit begins, the walk came along so many of its entries.
@@ -26,7 +26,7 @@ module _ {S : Type 0} (meaning : S → Meaning) where
   CameAlong first limit log count w = (r : Run) → WalkCame meaning r [] first → r.limit ≡ limit
       → WalkCame meaning r (take count log) w
 
-module _ {S W : Type 0} (meaning : S → Meaning) (sees : W → Moment S → W → Type 0) where
+module _ {S W : Type 0} (meaning : S → Meaning) (sees : W → Sight S → W → Type 0) where
   -- A walk's thread makes its turns of its own, and the watch is told what it comes to;
   pub record IsToldOf (w : Walk S) (n : ℕ) (turn : Turn) (old new : W) : Type 0 where
     pub settled : List S
