@@ -30,13 +30,17 @@ module _ {W : Type 0} (sees : W → Sight Thread → W → Type 0) (m : Parts) (
   module _ (threads : List Thread) (memory : Memory) (b : CanBegin meaning_in m r threads memory) where
     pub seen_run : {M : Type 0} → (result : Result M ReplayFault) (old new : W) → SeesWalk meaning_in sees r threads memory result old new
         → SeesRun sees m r result old new
-    seen_run result old new seen = (seen.0, record {
-      run = b.run;
-      beginning = b.beginning;
-      same = b.same;
-      limit = b.ready.limit;
-      came = seen.1 b.run b.ready;
-    }, seen.2)
+    seen_run result old new seen = (
+      seen.0,
+      record {
+        run = b.run;
+        beginning = b.beginning;
+        same = b.same;
+        limit = b.ready.limit;
+        came = seen.1 b.run b.ready;
+      },
+      seen.2,
+    )
 
     pub seen_fault : (fault : ReplayFault) (old new : W) → SeesWalk {M = Memory} meaning_in sees r threads memory (Err fault) old new
         → SeesRefused sees m r fault old new

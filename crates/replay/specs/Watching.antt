@@ -53,7 +53,8 @@ module _ {W : Type 0} (sees : W → Sight Thread → W → Type 0) where
   -- It sees all of the log of a record that is replayed, from the beginning on, and nothing of one that doesn't fit
   -- before its log, or where there was no memory.
   abbrev pub SeesRun : {M : Type 0} → Parts → RecordParts → Result M ReplayFault → W → W → Type 0
-  SeesRun m r result old new = (first : Walk Thread) × StandsFirst m r first × SeesBy meaning_in sees r result first old new
+  SeesRun m r result old new =
+      (first : Walk Thread) × StandsFirst m r first × SeesBy meaning_in sees r result first old new
 
   abbrev pub SeesRefused : Parts → RecordParts → ReplayFault → W → W → Type 0
   SeesRefused m r (Line line) old new =

@@ -57,7 +57,7 @@ module _ {S W : Type 0} (meaning : S → Meaning) (sees : W → Sight S → W �
       → SeesNext meaning sees Stands limit at e found old new
   next_of Stands limit at e taken found w old between new stands came entry is =
       let next : SeesNext meaning sees Stands limit at e taken old new =
-          record { walk = w; stands = stands; between = between; came = came; entry = entry } in
+      record { walk = w; stands = stands; between = between; came = came; entry = entry } in
       subst (λ (t : Bool). SeesNext meaning sees Stands limit at e t old new) is next
 
   pub goes_on_seen : (first : Walk S) (limit : ℕ) (log : List Entry) (at : ℕ) (z : Entry) (taken : Bool) (w : Walk S)
@@ -79,9 +79,13 @@ module _ {S W : Type 0} (meaning : S → Meaning) (sees : W → Sight S → W �
       → SeesUpTo meaning sees first limit log k old new
   stops_seen first limit log at z taken w old mid between new lt seen stands came entry is k same =
       let e = get_or log at z in
-      subst (λ (j : ℕ). SeesUpTo meaning sees first limit log j old new) same
-      (e, slice_get-get_or log at z lt, mid, seen,
-      next_of (CameAlong meaning first limit log) limit at e taken false w mid between new stands came entry is)
+      subst (λ (j : ℕ). SeesUpTo meaning sees first limit log j old new) same (
+        e,
+        slice_get-get_or log at z lt,
+        mid,
+        seen,
+        next_of (CameAlong meaning first limit log) limit at e taken false w mid between new stands came entry is,
+      )
 
   pub ends_seen : (first : Walk S) (limit : ℕ) (log : List Entry) (at : ℕ) (last : Walk S) (old mid new : W) → at ≤ length log
       → length log ≤ at → SeesLog meaning sees (CameAlong meaning first limit log) limit 0 (take at log) old mid

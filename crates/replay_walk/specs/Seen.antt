@@ -72,7 +72,8 @@ module _ {S W : Type 0} (meaning : S → Meaning) (sees : W → Sight S → W �
 
   -- Behind so many entries the watch is told so, with a walk that stands there, and sees of the next one whether it is
   -- taken.
-  pub record SeesNext (Stands : ℕ → Walk S → Type 0) (limit count : ℕ) (e : Entry) (taken : Bool) (old new : W) : Type 0 where
+  pub record SeesNext (Stands : ℕ → Walk S → Type 0) (limit count : ℕ) (e : Entry) (taken : Bool) (old new : W)
+      : Type 0 where
     pub walk : Walk S
     pub stands : Stands count walk
     pub between : W
@@ -87,7 +88,8 @@ module _ {S W : Type 0} (meaning : S → Meaning) (sees : W → Sight S → W �
 
   -- A watch sees all of a log, and then the walk behind it.
   abbrev pub SeesWhole : Walk S → ℕ → List Entry → Walk S → W → W → Type 0
-  SeesWhole first limit log last old new = (between : W) × SeesLog (CameAlong meaning first limit log) limit 0 log old between
+  SeesWhole first limit log last old new =
+      (between : W) × SeesLog (CameAlong meaning first limit log) limit 0 log old between
       × sees between (Came (length log) last) new
 
   -- It sees a log up to the entry at k, which isn't taken.
