@@ -9,3 +9,4 @@ pub mod Schedules
 pub mod Left
 pub mod LegalLogs
 pub mod Openable
+pub mod Seeing

@@ -3,6 +3,7 @@ ghost use Rattle.std.specs.Prelude.{◌≡◌, ◌↔◌, IsTrue, IfOk, OnOk, If
 ghost use Rattle.validate_typing.specs.Validity.{HasDistinctNames};
 ghost use Rattle.spawn_host.specs.Runs.{opening_within};
 ghost use Rattle.replay.specs.Runs.{HasLength, FitsModule, OfScale, IsRunOf, IsReplayFault, ShowsNoRun, pages_line};
+ghost use Rattle.replay.specs.Watching.{SeesReplay};
 
 use crate::fault::ReplayFault;
 use crate::threads::threads_of;
@@ -48,6 +49,7 @@ pub fn replay_watched<'m, W: Watch<Thread<'m>>>(
     ensures run { IfOk result (λ end. IsRunOf «module».now.parts «record».now end) }
     ensures fault { IfErr result (λ fault. IsReplayFault «module».now.parts «record».now fault) }
     ensures none { IfErr result (λ fault. ShowsNoRun «module».now.parts «record».now fault) }
+    ensures seen { SeesReplay W.sees «module».now.parts «record».now result watch.old watch.new }
 {
     has_distinct_names(module);
     let parts = record.parts();

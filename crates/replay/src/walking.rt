@@ -3,6 +3,7 @@ ghost use Rattle.std.specs.Prelude.{◌≡◌, ◌+◌, ◌≤◌, IfOk, IfErr};
 ghost use Rattle.replay_text.specs.Text.{IsRecord};
 ghost use Rattle.replay_walk.specs.Walked.{Run};
 ghost use Rattle.replay.specs.Walks.{IsReadyFor, ShowsFault, ShowsRun};
+ghost use Rattle.replay.specs.Watching.{SeesWalk};
 
 use crate::fault::ReplayFault;
 use crate::first_wrong_end;
@@ -34,6 +35,7 @@ pub(crate) fn walk<T: TakesTurns + Drop, W: Watch<T>>(
     requires ready { (run : Run) × IsReadyFor T.meaning run parts.now threads.items memory }
     ensures run { IfOk result (ShowsRun T.meaning parts.now threads.items memory) }
     ensures fault { IfErr result (ShowsFault T.meaning parts.now threads.items memory) }
+    ensures seen { SeesWalk T.meaning W.sees parts.now threads.items memory result watch.old watch.new }
 {
     let mut walk = Walk::new(threads, memory, parts.threads);
     let first = parts.version.header_lines() + 1;

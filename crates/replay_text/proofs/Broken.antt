@@ -1,7 +1,6 @@
 -- A text that isn't read breaks off where its fault says.
-use Rattle.std.proofs.Common.{◌≡◌, ℕ, zero, suc, ◌+◌, ◌-◌, ◌*◌, ◌^◌, ◌<◌, ◌≤◌, Bool, true, false, cond, List, [], ◌∷◌, ◌++◌, Option, Some, None, refl, sym, ap, subst, ◌∙◌, append_assoc, arith, inl, inr, ◌⊎◌}
+use Rattle.std.proofs.Common.{◌≡◌, ℕ, ◌+◌, ◌-◌, ◌*◌, ◌^◌, ◌<◌, ◌≤◌, Bool, true, false, cond, List, [], ◌∷◌, ◌++◌, Option, Some, None, refl, sym, ap, subst, ◌∙◌, append_assoc, arith, inl, inr, ◌⊎◌}
 use Rattle.std.specs.Prelude.{length, codes, nat_le}
-use Rattle.std.specs.List.{list_any}
 use Rattle.std.specs.Fmt.{decimal}
 use Rattle.std.proofs.lemmas.Bool.Decides.{nat_tests}
 use Rattle.types.specs.declared.value.Value.{Value}
@@ -9,14 +8,14 @@ use Rattle.types.specs.declared.event.Entry.{Entry}
 use Rattle.types.specs.declared.outcome.Outcome.TheVariants as outcomes
 use Rattle.types.specs.declared.outcome.ThreadReport.{ThreadReport}
 use Rattle.types.specs.Values.{value_text}
-use Rattle.types.specs.declared.limits.TheConstants.{MOST_PAGES, MOST_THREADS, MOST_SPAWNED, MOST_LIMIT, MOST_FUEL, MOST_MODULE_BYTES}
-use Rattle.replay_forms.specs.Reading.{◌>>=◌, Reader, after, both, several, made, behind, word_for, first}
+use Rattle.types.specs.declared.limits.TheConstants.{MOST_PAGES, MOST_THREADS, MOST_LIMIT, MOST_FUEL, MOST_MODULE_BYTES}
+use Rattle.replay_forms.specs.Reading.{◌>>=◌, Reader, after, both, several, first}
 use Rattle.replay_forms.specs.Texts.{texts}
-use Rattle.replay_forms.proofs.Laws.{Law, after_takes, after_again, both_text, both_law, behind_text, begins_plain}
-use Rattle.replay_forms.proofs.Repeated.{AllFit, IsSeveral, several_takes}
+use Rattle.replay_forms.proofs.Laws.{Law, after_takes, both_text, behind_text}
+use Rattle.replay_forms.proofs.Repeated.{AllFit, several_takes}
 use Rattle.replay_text.specs.Words.{entry_words, end_words}
-use Rattle.replay_text.specs.Conditions.{IsValue, IsEntry, IsReport}
-use Rattle.replay_text.specs.Text.{name_word, record_text, IsRecord}
+use Rattle.replay_text.specs.Conditions.{IsValue, IsEntry}
+use Rattle.replay_text.specs.Text.{name_word, record_text}
 use Rattle.replay_text.specs.Versions.{header_count}
 use Rattle.replay_text.specs.Reading.{Scale, Header, Body, first_line, second_line, last_line, one_at, two_at, scale_at}
 use Rattle.replay_text.specs.Reading.{module_at, threads_at, max_pages_at, invoke_at, args_at, fuel_at, limit_at}
@@ -24,8 +23,8 @@ use Rattle.replay_text.specs.Reading.{header_at, entry_at, end_at, pages_at, som
 use Rattle.replay_text.specs.Reading.{threads_in, max_pages_in, limit_in, parts_of, nothing_left}
 use Rattle.replay_text.specs.Faults.{Refusal, Fails}
 use Rattle.replay_text.specs.Refusals.{fault_or, or_next, header_line, body_line, scale_refusal, call_refusal, header_refusal}
-use Rattle.replay_text.specs.Refusals.{behind_ends, last_refusal, body_refusal, behind_header, record_refusal, left_refusal}
-use Rattle.replay_text.specs.Breaks.{is_feed, line_feeds, line_behind, fault_behind, Begins, BreaksOff, RunsOver, IsFaultOf}
+use Rattle.replay_text.specs.Refusals.{behind_ends, body_refusal, behind_header, record_refusal, left_refusal}
+use Rattle.replay_text.specs.Breaks.{line_feeds, Begins, IsFaultOf}
 use Rattle.replay_text.specs.declared.version.Version.{Version}
 use Rattle.replay_text.specs.declared.version.Version.TheVariants as versions
 use Rattle.replay_text.specs.declared.parts.RecordParts.{RecordParts}
@@ -38,8 +37,8 @@ use Rattle.replay_text.proofs.Whole.{args_law, header_law, pages_law, end_stops_
 use Rattle.replay_text.proofs.Whole.{NameFits, name_text, args_text, arg_text, ended, CountFits, Sizes, sizes_text, SizesFit}
 use Rattle.replay_text.proofs.Whole.{scale_text, ScaleFits, scale_two, header_text, HeaderFits, pages_text, Ends, ends_text}
 use Rattle.replay_text.proofs.Whole.{EndsFit, body_text, BodyFits, AreIn, are_in, whole_text, utf8_empty, record_again}
-use Rattle.replay_text.proofs.Whole.{body_takes, record_takes}
-use Rattle.replay_text.proofs.Free.{Free, free_append, free_cons, decimal_free, feeds_append, free_feeds, words_joined}
+use Rattle.replay_text.proofs.Whole.{body_takes}
+use Rattle.replay_text.proofs.Free.{Free, free_append, free_cons, decimal_free, feeds_append, words_joined}
 use Rattle.replay_text.proofs.Free.{line_spelled, line_free, entry_free, end_free, value_free, name_free}
 use Rattle.replay_text.proofs.Stopping.{none_some, OneLine, local, after_local, Lines, one_lines, both_lines, Stops, Breaks}
 use Rattle.replay_text.proofs.Stopping.{Breaking, line_breaks, first_stops, second_stops, joined_none, both_breaks}
@@ -105,7 +104,7 @@ args_line = record {
   free = λ args fit. free_append (codes "args") (args_words args) refl (args_free 0 args fit);
 }
 
-abbrev entry_line : Entry → List ℕ
+abbrev pub entry_line : Entry → List ℕ
 entry_line e = words_joined (entry_words e)
 
 log_line : (threads : ℕ) → threads ≤ MOST_THREADS → OneLine entry_text (IsEntry threads)
@@ -115,7 +114,7 @@ log_line threads few = record {
   free = λ e fit. line_free (entry_words e) (entry_free threads few e fit);
 }
 
-abbrev end_line : ℕ → ThreadReport → List ℕ
+abbrev pub end_line : ℕ → ThreadReport → List ℕ
 end_line thread r = words_joined (end_words thread r)
 
 end_fits_free : (thread : ℕ) (r : ThreadReport) → EndFits thread r → Free (end_line thread r)
@@ -136,11 +135,11 @@ log_law threads count = record { takes = entry_takes threads count; again = entr
 
 -- ---- the version, the length, the threads and the pages
 
-abbrev version_count : Version → ℕ
+abbrev pub version_count : Version → ℕ
 version_count versions.One = 1
 version_count versions.Two = 4
 
-abbrev scale_count : Scale → ℕ
+abbrev pub scale_count : Scale → ℕ
 scale_count s = version_count s.0
 
 abbrev inner_text : Sizes → List ℕ → List ℕ
@@ -293,7 +292,7 @@ call_lines : Lines call_text CallFits (λ x. 4)
 call_lines = both_lines _ _ _ _ _ _ (one_lines _ _ invoke_line) (both_lines _ _ _ _ _ _ (one_lines _ _ args_line)
     (both_lines _ _ _ _ _ _ (one_lines _ _ fuel_line) (one_lines _ _ limit_line)))
 
-abbrev header_lines_of : Header → ℕ
+abbrev pub header_lines_of : Header → ℕ
 header_lines_of h = scale_count h.0 + 4
 
 lines_are : (v : Version) → version_count v + 4 ≡ header_count v
@@ -304,7 +303,7 @@ call_first : (v : Version) → header_count v - 3 ≡ 1 + version_count v
 call_first versions.One = refl
 call_first versions.Two = refl
 
-header_front : Lines header_text HeaderFits header_lines_of
+pub header_front : Lines header_text HeaderFits header_lines_of
 header_front = both_lines _ _ _ _ _ _ scale_lines call_lines
 
 abbrev with_call : Scale × List ℕ → Option (Header × List ℕ)
@@ -326,9 +325,9 @@ header_by bytes (Some z) e n =
     let c = call_breaks z.0.0 z.1 (joined_none call_at z n) in
     let f = scale_lines.front z.0 in
     let feeds : line_feeds (f ++ c.front) ≡ version_count z.0.0 + line_feeds c.front =
-        omega (arith, feeds_append f c.front, scale_lines.feeds z.0 t.1) in
+    omega (arith, feeds_append f c.front, scale_lines.feeds z.0 t.1) in
     let number : (header_count z.0.0 - 3) + line_feeds c.front ≡ 1 + line_feeds (f ++ c.front) =
-        omega (arith, call_first z.0.0, feeds) in
+    omega (arith, call_first z.0.0, feeds) in
     record {
       front = f ++ c.front;
       rest = c.rest;
@@ -406,10 +405,10 @@ no_end threads max_pages bytes left read =
       is = λ line. same_number left line (line + 0) (omega arith);
     }
 
-abbrev ends_before : List ThreadReport → List ℕ
+abbrev pub ends_before : List ThreadReport → List ℕ
 ends_before ends = items_front end_line 0 ends
 
-ends_spelled : (ends : List ThreadReport) (rest : List ℕ) → texts end_text 0 ends rest ≡ ends_before ends ++ rest
+pub ends_spelled : (ends : List ThreadReport) (rest : List ℕ) → texts end_text 0 ends rest ≡ ends_before ends ++ rest
 ends_spelled ends rest = items_spelled end_text end_line (λ i r rest. line_spelled (end_words i r) rest) 0 ends rest
 
 ends_feeds : (ends : List ThreadReport) → AllFit EndFits 0 ends → line_feeds (ends_before ends) ≡ length ends
@@ -429,10 +428,10 @@ no_pages threads max_pages bytes left end others read none =
         again = λ line more other f.
             let next = line ++ 10 ∷ other in
             let stop : length ends < threads → end_at (0 + length ends) next ≡ None =
-                λ lt. local (end_text (0 + length ends)) (EndFits (0 + length ends)) (end_at (0 + length ends)) (end_law (0 + length ends))
-                (one_end (0 + length ends)) line more other (ap (end_at (0 + length ends)) (sym f) ∙ read.stop lt) in
+            λ lt. local (end_text (0 + length ends)) (EndFits (0 + length ends)) (end_at (0 + length ends)) (end_law (0 + length ends))
+            (one_end (0 + length ends)) line more other (ap (end_at (0 + length ends)) (sym f) ∙ read.stop lt) in
             let page = local pages_text (λ n. n ≤ max_pages) (pages_at max_pages) (pages_law max_pages read.are.1)
-                (pages_line max_pages read.are.1) line more other (ap (pages_at max_pages) (sym f) ∙ none) in
+            (pages_line max_pages read.are.1) line more other (ap (pages_at max_pages) (sym f) ∙ none) in
             ap (ends_at threads max_pages) (sym (ends_spelled ends next))
             ∙ ends_are threads max_pages (texts end_text 0 ends next)
             ∙ ap (from_ends max_pages) (end_passed threads ends next read.fit read.few stop)
@@ -463,10 +462,10 @@ no_last threads max_pages bytes left end others read pages rest e none =
     let page = l.front pages in
     let front = ends_before ends ++ page in
     let spelled : (z : List ℕ) → texts end_text 0 ends (pages_text pages z) ≡ front ++ z =
-        λ z. ends_spelled ends (pages_text pages z) ∙ ap (λ (t : List ℕ). ends_before ends ++ t) (l.spelled pages z)
-        ∙ sym (append_assoc (ends_before ends) page z) in
+    λ z. ends_spelled ends (pages_text pages z) ∙ ap (λ (t : List ℕ). ends_before ends ++ t) (l.spelled pages z)
+    ∙ sym (append_assoc (ends_before ends) page z) in
     let feeds : line_feeds front ≡ length ends + 1 =
-        omega (arith, feeds_append (ends_before ends) page, ends_feeds ends read.fit, l.feeds pages t.1) in
+    omega (arith, feeds_append (ends_before ends) page, ends_feeds ends read.fit, l.feeds pages t.1) in
     record {
       front = front;
       rest = rest;
@@ -535,13 +534,18 @@ body_breaks header threads max_pages are limit bytes none =
     let ends = several end_at 0 threads all.1 in
     let u = several_takes end_text EndFits end_at end_takes 0 threads all.1 in
     let read : IsRead threads max_pages all.1 ends.0 ends.1 = record {
-      are = are; spelled = u.spelled; fit = u.fit; few = u.few; stop = λ lt. several_stops end_at 0 threads all.1 lt } in
+      are = are;
+      spelled = u.spelled;
+      fit = u.fit;
+      few = u.few;
+      stop = λ lt. several_stops end_at 0 threads all.1 lt;
+    } in
     let c = ends_by threads max_pages all.1 ends.0 ends.1 read (sym (ends_are threads max_pages all.1) ∙ n) in
     let before = items_front (λ i. entry_line) 0 all.0 in
     let spelled : (z : List ℕ) → texts (λ k. entry_text) 0 all.0 z ≡ before ++ z =
-        λ z. items_spelled (λ k. entry_text) (λ i. entry_line) (λ i e rest. line_spelled (entry_words e) rest) 0 all.0 z in
+    λ z. items_spelled (λ k. entry_text) (λ i. entry_line) (λ i e rest. line_spelled (entry_words e) rest) 0 all.0 z in
     let feeds : line_feeds (before ++ c.front) ≡ length all.0 + line_feeds c.front =
-        omega (arith, feeds_append before c.front, items_feeds (λ i. entry_line) (λ k. IsEntry threads) (λ i e fit. line_free (entry_words e) (entry_free threads are.0.1 e fit)) 0 all.0 t.fit) in
+    omega (arith, feeds_append before c.front, items_feeds (λ i. entry_line) (λ k. IsEntry threads) (λ i e fit. line_free (entry_words e) (entry_free threads are.0.1 e fit)) 0 all.0 t.fit) in
     record {
       front = before ++ c.front;
       rest = c.rest;
@@ -550,7 +554,7 @@ body_breaks header threads max_pages are limit bytes none =
         again = λ line more other f.
             let next = c.front ++ (line ++ 10 ∷ other) in
             let stop : length all.0 < most → entry_at threads next ≡ None =
-                λ lt. c.entry line more other f (several_stops (λ place. entry_at threads) 0 most bytes lt) in
+            λ lt. c.entry line more other f (several_stops (λ place. entry_at threads) 0 most bytes lt) in
             ap (body_at threads max_pages limit) (append_assoc before c.front (line ++ 10 ∷ other) ∙ sym (spelled next))
             ∙ body_is threads max_pages limit (texts (λ k. entry_text) 0 all.0 next)
             ∙ ap (from_log threads max_pages) (several_all (λ k. entry_text) (λ k. IsEntry threads) (λ place. entry_at threads)
@@ -590,13 +594,13 @@ never front line none b =
     ∙ ap (λ (t : List ℕ). front ++ t) (append_assoc line (10 ∷ []) b.more) in
     none_some b.parts (record_at (front ++ (line ++ 10 ∷ b.more))) (none b.more) (ap record_at (sym back) ∙ record_again b.parts b.is_record)
 
-abbrev body_in : Header × List ℕ → Option (Body × List ℕ)
+abbrev pub body_in : Header × List ℕ → Option (Body × List ℕ)
 body_in h = body_at (threads_in h.0) (max_pages_in h.0) (limit_in h.0) h.1
 
-abbrev with_body : Header × List ℕ → Option RecordParts
+abbrev pub with_body : Header × List ℕ → Option RecordParts
 with_body h = body_in h >>= λ b. nothing_left b.1 (parts_of h.0 b.0)
 
-record_are : (bytes : List ℕ) → record_at bytes ≡ (header_at bytes >>= with_body)
+pub record_are : (bytes : List ℕ) → record_at bytes ≡ (header_at bytes >>= with_body)
 unfolding record_at
 record_are bytes = refl
 
@@ -641,7 +645,7 @@ refused_body bytes h left e none =
     let before = header_front.front h in
     let front = before ++ c.front in
     let feeds : line_feeds front ≡ header + line_feeds c.front =
-        omega (arith, feeds_append before c.front, header_front.feeds h t.1, lines_are (h.0).0) in
+    omega (arith, feeds_append before c.front, header_front.feeds h t.1, lines_are (h.0).0) in
     inl (record {
       front = front;
       rest = c.rest;
@@ -679,8 +683,18 @@ texts_feeds h b fit gits are =
     let r = ap line_feeds log ∙ feeds_append (items_front (λ i. entry_line) 0 b.0) (ends_text b.1 []) in
     let s = ap line_feeds (header_front.spelled h (body_text b [])) ∙ feeds_append (header_front.front h) (body_text b []) in
     let log_feeds = items_feeds (λ i. entry_line) (λ k. IsEntry (threads_in h)) (λ i e f. line_free (entry_words e) (entry_free (threads_in h) are.0.1 e f)) 0 b.0 gits.0 in
-    omega (arith, p, q, r, s, log_feeds, ends_feeds (b.1).0 ((gits.1).1).0, l.feeds (b.1).1 ((((gits.1).1).1).1).1,
-    header_front.feeds h fit, lines_are (h.0).0)
+    omega (
+      arith,
+      p,
+      q,
+      r,
+      s,
+      log_feeds,
+      ends_feeds (b.1).0 ((gits.1).1).0,
+      l.feeds (b.1).1 ((((gits.1).1).1).1).1,
+      header_front.feeds h fit,
+      lines_are (h.0).0,
+    )
 
 texts_then : {A : Type 0} (text : ℕ → A → List ℕ → List ℕ) (words : ℕ → A → List ℕ)
     → ((i : ℕ) (x : A) (rest : List ℕ) → text i x rest ≡ words i x ++ 10 ∷ rest) → (i : ℕ) (xs : List A) (rest more : List ℕ)
@@ -693,7 +707,7 @@ pages_then : (pages : ℕ) (rest more : List ℕ) → pages_text pages rest ++ m
 pages_then pages rest more = ap (λ (t : List ℕ). codes "pages " ++ t) (append_assoc (decimal pages) (10 ∷ rest) more)
 
 -- more bytes behind the text of a record
-whole_then : (h : Header) (b : Body) (more : List ℕ) → whole_text h b ++ more ≡ header_text h (body_text b more)
+pub whole_then : (h : Header) (b : Body) (more : List ℕ) → whole_text h b ++ more ≡ header_text h (body_text b more)
 whole_then h b more =
     let behind_ends = pages_text (b.1).1 (last_line ++ []) in
     let front = header_front.front h in
@@ -713,7 +727,7 @@ refused_left bytes h left b more some e f =
     let header = header_count (h.0).0 in
     let whole : whole_text h b ++ more ≡ header_text h (body_text b more) = whole_then h b more in
     let feeds : line_feeds (record_text (parts_of h b)) ≡ header + (length b.0 + (length (b.1).0 + 2)) =
-        ap line_feeds (record_is h b) ∙ texts_feeds h b t.1 u.1 are in
+    ap line_feeds (record_is h b) ∙ texts_feeds h b t.1 u.1 are in
     inr (record {
       parts = parts_of h b;
       is_record = record_fits h b t.1 u.1;

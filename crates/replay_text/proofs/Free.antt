@@ -1,5 +1,5 @@
 -- Words have no line feed, so a line has one.
-use Rattle.std.proofs.Common.{◌≡◌, ℕ, zero, suc, ◌+◌, ◌-◌, ◌/◌, ◌%◌, ◌^◌, ◌<◌, ◌≤◌, Bool, true, false, cond, ◌||◌, List, [], ◌∷◌, ◌++◌, Option, Some, None, refl, sym, ap, subst, ◌∙◌, append_assoc, arith, map}
+use Rattle.std.proofs.Common.{◌≡◌, ℕ, suc, ◌+◌, ◌/◌, ◌%◌, ◌^◌, ◌<◌, ◌≤◌, Bool, true, false, ◌||◌, List, [], ◌∷◌, ◌++◌, Some, None, refl, sym, ap, ◌∙◌, append_assoc, arith}
 use Rattle.std.specs.Prelude.{codes, ◌==◌, pos, negsuc, ℤ}
 use Rattle.std.specs.List.{list_any}
 use Rattle.std.specs.Fmt.{decimal, signed_decimal}
@@ -17,19 +17,17 @@ use Rattle.types.specs.declared.event.Answer.TheVariants.{Number, ForGood}
 use Rattle.types.specs.declared.event.Reply.{Reply}
 use Rattle.types.specs.declared.event.Reply.TheVariants as replies
 use Rattle.types.specs.declared.event.Entry.{Entry}
-use Rattle.types.specs.declared.outcome.Trap.{Trap}
-use Rattle.types.specs.declared.outcome.Stop.{Stop}
 use Rattle.types.specs.declared.outcome.Outcome.{Outcome}
 use Rattle.types.specs.declared.outcome.Outcome.TheVariants as outcomes
 use Rattle.types.specs.declared.outcome.ThreadReport.{ThreadReport}
 use Rattle.types.specs.Values.{value_text}
 use Rattle.types.specs.Outcomes.{trap_number, stop_number}
-use Rattle.types.specs.declared.limits.TheConstants.{MOST_THREADS, MOST_FUEL}
+use Rattle.types.specs.declared.limits.TheConstants.{MOST_THREADS}
 use Rattle.replay_forms.specs.Reading.{FitsSigned64}
 use Rattle.replay_forms.specs.Texts.{words_line, line, hex_digit, hex_text}
 use Rattle.replay_forms.proofs.Hex.{hex_is_digit}
 use Rattle.replay_text.specs.Conditions.{Fits32, Fits64, EventFits, ReplyFits, IsValue, IsEntry, IsOutcome, IsReport}
-use Rattle.replay_text.specs.Words.{op_word, event_words, reply_word, reply_words, outcome_words, entry_words, end_words}
+use Rattle.replay_text.specs.Words.{op_word, event_words, reply_words, outcome_words, entry_words, end_words}
 use Rattle.replay_text.specs.Text.{name_word}
 use Rattle.replay_text.specs.Breaks.{is_feed, line_feeds}
 use Rattle.replay_text.proofs.Records.{trap_small, stop_small}
@@ -154,9 +152,11 @@ reply_free replies.Again fit = (refl, (refl, tt))
 reply_free replies.Full fit = (refl, (refl, tt))
 
 pub entry_free : (threads : ℕ) → threads ≤ MOST_THREADS → (e : Entry) → IsEntry threads e → AllFree (entry_words e)
-entry_free threads few e fit =
-    (decimal_free e.thread (omega (arith, few, fit.thread)), all_append (event_words e.event) (reply_words e.reply)
-    (event_free e.event fit.event_fits) (reply_free e.reply fit.reply_fits))
+entry_free threads few e fit = (
+  decimal_free e.thread (omega (arith, few, fit.thread)),
+  all_append (event_words e.event) (reply_words e.reply)
+      (event_free e.event fit.event_fits) (reply_free e.reply fit.reply_fits),
+)
 
 -- ---- ends, values and names
 
@@ -172,9 +172,14 @@ outcome_free (outcomes.Stop s) fit = (refl, (free8 (stop_number s) (omega (arith
 
 pub end_free : (thread : ℕ) → thread < 2 ^ 64 → (r : ThreadReport) → IsReport r → AllFree (end_words thread r)
 end_free thread few r fit =
-    let spent : r.spent < 2 ^ 64 = omega (arith, fit.spent) in
-    (refl, (decimal_free thread few, all_append (outcome_words r.outcome) (decimal r.spent ∷ [])
-    (outcome_free r.outcome fit.outcome) (decimal_free r.spent spent, tt)))
+    let spent : r.spent < 2 ^ 64 = omega (arith, fit.spent) in (
+      refl,
+      (
+        decimal_free thread few,
+        all_append (outcome_words r.outcome) (decimal r.spent ∷ [])
+            (outcome_free r.outcome fit.outcome) (decimal_free r.spent spent, tt),
+      ),
+    )
 
 hex_free : (bytes : List ℕ) → Free (hex_text bytes)
 hex_free [] = refl

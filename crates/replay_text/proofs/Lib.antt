@@ -6,3 +6,4 @@ pub mod Names
 pub mod Free
 pub mod Stopping
 pub mod Broken
+pub mod OneFault

@@ -1,16 +1,15 @@
 -- Where the readings of lines stop: what they took begins a text, and none goes on with the next line.
-use Rattle.std.proofs.Common.{◌≡◌, ℕ, zero, suc, ◌+◌, ◌-◌, ◌<◌, ◌≤◌, Bool, true, false, List, [], ◌∷◌, ◌++◌, Option, Some, None, refl, sym, ap, subst, ◌∙◌, append_assoc, arith}
-use Rattle.std.specs.Prelude.{length, ◌==◌}
+use Rattle.std.proofs.Common.{◌≡◌, ℕ, zero, suc, ◌+◌, ◌<◌, ◌≤◌, false, List, [], ◌∷◌, ◌++◌, Option, Some, None, refl, sym, ap, subst, ◌∙◌, append_assoc, arith}
+use Rattle.std.specs.Prelude.{length}
 use Rattle.std.specs.List.{list_any}
 use Rattle.std.proofs.lemmas.Bool.Decides.{nat_tests}
-use Rattle.replay_forms.specs.Reading.{◌>>=◌, Reader, after, both, several, more_of, word_for}
+use Rattle.replay_forms.specs.Reading.{◌>>=◌, Reader, after, both, several, more_of}
 use Rattle.replay_forms.specs.Texts.{texts}
-use Rattle.replay_forms.proofs.Laws.{Law, after_takes, after_again, both_text, some_is}
+use Rattle.replay_forms.proofs.Laws.{Law, after_takes, after_again, both_text}
 use Rattle.replay_forms.proofs.Repeated.{AllFit}
 use Rattle.replay_text.specs.Faults.{Refusal}
 use Rattle.replay_text.specs.Refusals.{fault_or, or_next, header_line}
 use Rattle.replay_text.specs.Breaks.{is_feed, line_feeds}
-use Rattle.replay_text.specs.declared.fault.RecordFault.{RecordFault}
 use Rattle.replay_text.specs.declared.fault.RecordFault.TheVariants.{Header}
 use Rattle.replay_text.proofs.Free.{Free, or_false, free_feeds, feeds_append}
 
@@ -29,10 +28,10 @@ not_feed : (b : ℕ) → is_feed b ≡ false → 10 ≡ b → ⊥
 not_feed b p e = absurd (grind (arith, nat_tests, p, e))
 
 -- a text without a line feed, and one, at the front of a line
-abbrev Split : List ℕ → List ℕ → List ℕ → List ℕ → Type 0
+abbrev pub Split : List ℕ → List ℕ → List ℕ → List ℕ → Type 0
 Split line other word rest = (l : List ℕ) × (line ++ 10 ∷ [] ≡ word ++ 10 ∷ l) × (rest ≡ l ++ other)
 
-split : (line other word rest : List ℕ) → Free word → line ++ 10 ∷ other ≡ word ++ 10 ∷ rest → Split line other word rest
+pub split : (line other word rest : List ℕ) → Free word → line ++ 10 ∷ other ≡ word ++ 10 ∷ rest → Split line other word rest
 split [] other [] rest free e = ([], refl, sym (tail_is 10 10 other rest e))
 split [] other (b ∷ word) rest free e =
     absurd (not_feed b (or_false (is_feed b) (list_any is_feed word) free).0 (head_is 10 b other (word ++ 10 ∷ rest) e))
@@ -224,7 +223,7 @@ both_by {A} {B} text Fits at uext Gits bt dount law one y gfit x fit first next 
     let c = b z.1 (joined_none bt z n) in
     let l = one_lines text Fits one in
     let f : 1 + line_feeds c.front ≡ line_feeds (l.front z.0 ++ c.front) =
-        omega (arith, feeds_append (l.front z.0) c.front, l.feeds z.0 t.1) in
+    omega (arith, feeds_append (l.front z.0) c.front, l.feeds z.0 t.1) in
     record {
       front = l.front z.0 ++ c.front;
       rest = c.rest;
@@ -261,8 +260,13 @@ pub items_feeds : {A : Type 0} (words : ℕ → A → List ℕ) (Fits : ℕ → 
     → line_feeds (items_front words i xs) ≡ length xs
 items_feeds words Fits free i [] fit = refl
 items_feeds words Fits free i (x ∷ xs) fit =
-    omega (arith, feeds_append (words i x ++ 10 ∷ []) (items_front words (i + 1) xs), feeds_append (words i x) (10 ∷ []),
-    free_feeds (words i x) (free i x fit.0), items_feeds words Fits free (i + 1) xs fit.1)
+    omega (
+      arith,
+      feeds_append (words i x ++ 10 ∷ []) (items_front words (i + 1) xs),
+      feeds_append (words i x) (10 ∷ []),
+      free_feeds (words i x) (free i x fit.0),
+      items_feeds words Fits free (i + 1) xs fit.1,
+    )
 
 stops_by : {A : Type 0} (at : ℕ → Reader A) (i n : ℕ) (bytes : List ℕ) (o : Option (A × List ℕ)) → at i bytes ≡ o
     → ((rest : List ℕ) → length (several at (i + 1) n rest).0 < n

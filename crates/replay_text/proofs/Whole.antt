@@ -463,23 +463,27 @@ record_takes bytes r e =
     let whole : bytes ≡ record_text (parts_of p.0.0 q.0.0) = t.0 ∙ ap (header_text p.0.0) (u.0 ∙ ap (body_text q.0.0) n.0) ∙ sym (record_is p.0.0 q.0.0) in
     subst (λ (z : RecordParts). IsRecord z × (bytes ≡ record_text z)) n.1 (record_fits p.0.0 q.0.0 t.1 u.1, whole)
 
-abbrev header_of : RecordParts → Header
+abbrev pub header_of : RecordParts → Header
 header_of r = ((r.version, (r.module_len, (r.threads, r.max_pages))), (r.invoke, (r.args, (r.fuel, r.limit))))
 
-abbrev body_of : RecordParts → Body
+abbrev pub body_of : RecordParts → Body
 body_of r = (r.log, (r.ends, r.pages))
+
+pub fits_of : (r : RecordParts) → IsRecord r → HeaderFits (header_of r) × Fits (header_of r) (body_of r)
+fits_of r fit =
+    let n = fit.numbers in
+    let hf : HeaderFits (header_of r) = (n.scale, ((fit.invoke, all_fit IsByte 0 r.invoke fit.bytes), (all_fit IsValue 0 r.args fit.args, (n.fuel, (n.limit_low, n.limit))))) in
+    let are = are_in (header_of r) hf in
+    let few : 0 + length r.ends ≤ MOST_THREADS = omega (arith, n.ends, are.0.1) in
+    (hf, (all_fit (IsEntry r.threads) 0 r.log fit.log, (n.log, (ends_fit 0 r.ends fit.ends few, (n.ends_low, (n.ends, n.pages))))))
 
 pub record_again : (r : RecordParts) → IsRecord r → record_at (record_text r) ≡ Some r
 unfolding record_at
 record_again r fit =
     let h = header_of r in
     let b = body_of r in
-    let n = fit.numbers in
-    let hf : HeaderFits h = (n.scale, ((fit.invoke, all_fit IsByte 0 r.invoke fit.bytes), (all_fit IsValue 0 r.args fit.args, (n.fuel, (n.limit_low, n.limit))))) in
-    let are = are_in h hf in
-    let few : 0 + length r.ends ≤ MOST_THREADS = omega (arith, n.ends, are.0.1) in
-    let bf : Fits h b = (all_fit (IsEntry r.threads) 0 r.log fit.log, (n.log, (ends_fit 0 r.ends fit.ends few, (n.ends_low, (n.ends, n.pages))))) in
-    ap record_at (record_is h b) ∙ rw (header_law.again h (body_text b []) hf, body_again r.threads r.max_pages are r.limit b [] bf) refl
+    let f = fits_of r fit in
+    ap record_at (record_is h b) ∙ rw (header_law.again h (body_text b []) f.0, body_again r.threads r.max_pages (are_in h f.0) r.limit b [] f.1) refl
 
 pub one_record : (r s : RecordParts) → IsRecord r → IsRecord s → record_text r ≡ record_text s → r ≡ s
 one_record r s p q e = some_is r s (sym (record_again r p) ∙ ap record_at e ∙ record_again s q)

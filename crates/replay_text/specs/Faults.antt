@@ -14,7 +14,8 @@ Fails (Header line) fault read = (read ≡ None) × (Header line ≡ fault)
 Fails (Unreadable line) fault read = (read ≡ None) × (Unreadable line ≡ fault)
 Fails EndMissing fault read = (read ≡ None) × (EndMissing ≡ fault)
 
--- What a reader answers: what is read where it answers Ok, and where it refuses, nothing is read, and this is the fault.
+-- What a reader answers: what is read where it answers Ok; and where it refuses, nothing is read, and this is the
+-- fault.
 abbrev pub Gives : {X Y : Type 0} → (X → Y) → Result X RecordFault → RecordFault → Option Y → Type 0
 Gives view (Ok x) fault read = read ≡ Some (view x)
 Gives view (Err e) fault read = Fails e fault read
@@ -24,7 +25,8 @@ abbrev pub Refusal : Type 0
 Refusal = List ℕ → RecordFault
 
 -- What a reader of lines answers: the value, seen by view, and the bytes behind the lines.
-abbrev pub GivesLinesAs : {X A : Type 0} → (X → A) → Reader A → Refusal → List ℕ → Result (X × Bor (List ℕ)) RecordFault → Type 0
+abbrev pub GivesLinesAs : {X A : Type 0} → (X → A) → Reader A → Refusal → List ℕ → Result (X × Bor (List ℕ)) RecordFault
+    → Type 0
 GivesLinesAs view at fault bytes result = Gives (λ r. (view r.0, r.1.now)) result (fault bytes) (at bytes)
 
 abbrev pub GivesLines : {A : Type 0} → Reader A → Refusal → List ℕ → Result (A × Bor (List ℕ)) RecordFault → Type 0

@@ -46,7 +46,8 @@ header_refusal bytes = fault_or (scale_at bytes) (scale_refusal bytes) (λ s. ca
 
 -- The pages after the run, and the last line, from this one on.
 abbrev pub last_refusal : ℕ → ℕ → Refusal
-last_refusal max_pages line bytes = fault_or (pages_at max_pages bytes) (body_line line bytes) (λ pages. body_line (line + 1))
+last_refusal max_pages line bytes =
+    fault_or (pages_at max_pages bytes) (body_line line bytes) (λ pages. body_line (line + 1))
 
 abbrev pub behind_ends : {A : Type 0} → ℕ → ℕ → List A → Refusal
 behind_ends max_pages line [] rest = body_line line rest

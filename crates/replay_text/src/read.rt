@@ -1,12 +1,14 @@
 //! Reading a record.
 
-ghost use Rattle.std.specs.Prelude.{◌≡◌, ◌⊎◌, IfOk, IfErr};
+ghost use Rattle.std.specs.Prelude.{◌≡◌, ◌⊎◌, ℕ, List, IfOk, IfErr};
 ghost use Rattle.replay_text.specs.Faults.{Gives};
 ghost use Rattle.replay_text.specs.Reading.{record_at};
 ghost use Rattle.replay_text.specs.Refusals.{record_refusal};
 ghost use Rattle.replay_text.specs.Text.{record_text, IsRecord, FindsRecord};
 ghost use Rattle.replay_text.specs.Breaks.{IsFaultOf};
+ghost use Rattle.replay_text.specs.declared.fault.RecordFault.{RecordFault};
 ghost use Rattle.replay_text.specs.declared.fault.RecordFault.TheVariants.{NoMemory};
+ghost use Rattle.replay_text.specs.declared.parts.RecordParts.{RecordParts};
 
 use crate::body::body_in;
 use crate::fault::RecordFault;
@@ -59,3 +61,13 @@ pub fn read_record(alloc: Global, bytes: &[u8]) -> Result<Record, RecordFault>
         Err(fault) => Err(fault),
     }
 }
+
+/// Bytes have one fault at most.
+pub fn one_fault()
+    ensures { (bytes : List ℕ) (e f : RecordFault) → IsFaultOf bytes e → IsFaultOf bytes f → e ≡ f }
+{}
+
+/// A record's text has none.
+pub fn no_fault()
+    ensures { (r : RecordParts) (e : RecordFault) → IsRecord r → IsFaultOf (record_text r) e → ⊥ }
+{}

@@ -9,10 +9,10 @@ use Rattle.interp_trait.specs.declared.turn.Turn.{Turn}
 use Rattle.interp_trait.specs.declared.turn.Turn.TheVariants as turns
 use Rattle.replay_walk.specs.declared.walk.Walk.{Walk}
 use Rattle.replay_walk.specs.Standing.{SettlesThread}
-use Rattle.replay_walk.specs.Seen.{Moment, Moment.Came, Moment.Settled, Moment.Wanted, IsToldOf, IsShown, SeesEvent, SeesEntry, SeesNext, SeesLog}
+use Rattle.replay_walk.specs.Seen.{Sight, Sight.Came, Sight.Settled, Sight.Wanted, IsToldOf, IsShown, SeesEvent, SeesEntry, SeesNext, SeesLog}
 use Rattle.replay_walk.specs.Seen.{CameAlong, SeesUpTo, SeesWhole}
 
-module _ {S W : Type 0} (meaning : S → Meaning) (sees : W → Moment S → W → Type 0) where
+module _ {S W : Type 0} (meaning : S → Meaning) (sees : W → Sight S → W → Type 0) where
   pub told_of : (w : Walk S) (n : ℕ) (turn : Turn) (xs ys : List S) (old new : W) → xs ≡ w.threads.items
       → SettlesThread meaning xs n turn ys → sees old (Settled n turn) new → IsToldOf meaning sees w n turn old new
   told_of w n turn xs ys old new same settles tells = record {
@@ -57,7 +57,7 @@ module _ {S W : Type 0} (meaning : S → Meaning) (sees : W → Moment S → W �
       → SeesNext meaning sees Stands limit at e found old new
   next_of Stands limit at e taken found w old between new stands came entry is =
       let next : SeesNext meaning sees Stands limit at e taken old new =
-          record { walk = w; stands = stands; between = between; came = came; entry = entry } in
+      record { walk = w; stands = stands; between = between; came = came; entry = entry } in
       subst (λ (t : Bool). SeesNext meaning sees Stands limit at e t old new) is next
 
   pub goes_on_seen : (first : Walk S) (limit : ℕ) (log : List Entry) (at : ℕ) (z : Entry) (taken : Bool) (w : Walk S)
@@ -79,9 +79,13 @@ module _ {S W : Type 0} (meaning : S → Meaning) (sees : W → Moment S → W �
       → SeesUpTo meaning sees first limit log k old new
   stops_seen first limit log at z taken w old mid between new lt seen stands came entry is k same =
       let e = get_or log at z in
-      subst (λ (j : ℕ). SeesUpTo meaning sees first limit log j old new) same
-      (e, slice_get-get_or log at z lt, mid, seen,
-      next_of (CameAlong meaning first limit log) limit at e taken false w mid between new stands came entry is)
+      subst (λ (j : ℕ). SeesUpTo meaning sees first limit log j old new) same (
+        e,
+        slice_get-get_or log at z lt,
+        mid,
+        seen,
+        next_of (CameAlong meaning first limit log) limit at e taken false w mid between new stands came entry is,
+      )
 
   pub ends_seen : (first : Walk S) (limit : ℕ) (log : List Entry) (at : ℕ) (last : Walk S) (old mid new : W) → at ≤ length log
       → length log ≤ at → SeesLog meaning sees (CameAlong meaning first limit log) limit 0 (take at log) old mid

@@ -15,10 +15,10 @@ use Rattle.replay_walk.specs.Walked.{Run, WalkCame}
 
 -- A watch is told that the walk came along so many entries; that by turns of its own a thread comes to this; or that
 -- this thread wants the event of an entry, over this memory.
-pub data Moment (S : Type 0) : Type 0 where
-  Came : ℕ → Walk S → Moment S
-  Settled : ℕ → Turn → Moment S
-  Wanted : Entry → S → Memory → Moment S
+pub data Sight (S : Type 0) : Type 0 where
+  Came : ℕ → Walk S → Sight S
+  Settled : ℕ → Turn → Sight S
+  Wanted : Entry → S → Memory → Sight S
 
 module _ {S : Type 0} (meaning : S → Meaning) where
   -- From where each run with this limit begins, the walk came along so many of its entries.
@@ -26,7 +26,7 @@ module _ {S : Type 0} (meaning : S → Meaning) where
   CameAlong first limit log count w = (r : Run) → WalkCame meaning r [] first → r.limit ≡ limit
       → WalkCame meaning r (take count log) w
 
-module _ {S W : Type 0} (meaning : S → Meaning) (sees : W → Moment S → W → Type 0) where
+module _ {S W : Type 0} (meaning : S → Meaning) (sees : W → Sight S → W → Type 0) where
   -- A walk's thread makes its turns of its own, and the watch is told what it comes to;
   pub record IsToldOf (w : Walk S) (n : ℕ) (turn : Turn) (old new : W) : Type 0 where
     pub settled : List S
@@ -72,7 +72,8 @@ module _ {S W : Type 0} (meaning : S → Meaning) (sees : W → Moment S → W �
 
   -- Behind so many entries the watch is told so, with a walk that stands there, and sees of the next one whether it is
   -- taken.
-  pub record SeesNext (Stands : ℕ → Walk S → Type 0) (limit count : ℕ) (e : Entry) (taken : Bool) (old new : W) : Type 0 where
+  pub record SeesNext (Stands : ℕ → Walk S → Type 0) (limit count : ℕ) (e : Entry) (taken : Bool) (old new : W)
+      : Type 0 where
     pub walk : Walk S
     pub stands : Stands count walk
     pub between : W
@@ -87,7 +88,8 @@ module _ {S W : Type 0} (meaning : S → Meaning) (sees : W → Moment S → W �
 
   -- A watch sees all of a log, and then the walk behind it.
   abbrev pub SeesWhole : Walk S → ℕ → List Entry → Walk S → W → W → Type 0
-  SeesWhole first limit log last old new = (between : W) × SeesLog (CameAlong meaning first limit log) limit 0 log old between
+  SeesWhole first limit log last old new =
+      (between : W) × SeesLog (CameAlong meaning first limit log) limit 0 log old between
       × sees between (Came (length log) last) new
 
   -- It sees a log up to the entry at k, which isn't taken.

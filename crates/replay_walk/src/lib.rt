@@ -1,7 +1,8 @@
 //! Replaying a recorded run by one thread: the walk along its log, entry by entry.
 //!
 //! Proved: `Walk::along_watched` takes all of a log or names the first entry that doesn't fit, and stands where the
-//! machine does. A `Watch` is called, before each entry, where the walk came along those before it.
+//! machine does. A `Watch` is called before each entry, at each leave and each event, and behind the last, as often as
+//! that and in this order (`specs/Seen.antt`), where the walk came along the entries before it.
 //!
 //! How the pieces go together:
 //! - Crate `replay_rules` says what a recorded run is: some schedule without lost tries makes the log, and its

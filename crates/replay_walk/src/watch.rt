@@ -4,7 +4,7 @@ ghost use Rattle.std.specs.List.{slice_get};
 ghost use Rattle.interp_trait.specs.Turns.{Running, WantsEvent};
 ghost use Rattle.replay_walk.specs.Standing.{WantsAt};
 ghost use Rattle.replay_walk.specs.Walked.{HasComeBy};
-ghost use Rattle.replay_walk.specs.Seen.Moment.{Wanted};
+ghost use Rattle.replay_walk.specs.Seen.Sight.{Wanted};
 
 use crate::walk::Walk;
 use interp_trait::{TakesTurns, Turn};
@@ -13,11 +13,11 @@ use types::Entry;
 
 /// Sees a walk behind each of its entries, and each event before it is made.
 pub trait Watch<T: TakesTurns> {
-    ghost use Rattle.replay_walk.specs.Seen.{Moment};
-    ghost use Rattle.replay_walk.specs.Seen.Moment.{Came, Settled, Wanted};
+    ghost use Rattle.replay_walk.specs.Seen.{Sight};
+    ghost use Rattle.replay_walk.specs.Seen.Sight.{Came, Settled, Wanted};
 
     /// What it makes of being told something: how it is before, what it is told, and how it is then.
-    ghost sees: { Self → Moment T → Self → Type 0 };
+    ghost sees: { Self → Sight T → Self → Type 0 };
 
     /// The walk came along as many entries of a run's log. Threads haven't made the turns of their own behind their
     /// last entries.

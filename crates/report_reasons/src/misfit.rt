@@ -24,6 +24,10 @@ struct Next<'a> {
 }
 
 impl<'a, 'm> Watch<Thread<'m>> for Next<'a> {
+    ghost use Rattle.report_reasons.specs.Misfits.{NextSees};
+
+    ghost sees = { NextSees };
+
     fn came(&mut self, entries: usize, walk: &Walk<Thread<'m>>) {
         self.turn = None;
         self.place = None;

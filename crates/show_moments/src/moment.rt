@@ -126,9 +126,11 @@ impl Moment<'_> {
 }
 
 impl<'a, 'm> Watch<Thread<'m>> for Moment<'a> {
-    fn came(&mut self, entries: usize, walk: &Walk<Thread<'m>>)
-        ensures { self.new.came ≡ entries }
-    {
+    ghost use Rattle.show_moments.specs.Moments.{MomentSees};
+
+    ghost sees = { MomentSees };
+
+    fn came(&mut self, entries: usize, walk: &Walk<Thread<'m>>) {
         self.came = entries;
         if entries == self.at && self.look_round(walk).is_err() {
             self.is_short = true;
@@ -144,11 +146,7 @@ impl<'a, 'm> Watch<Thread<'m>> for Moment<'a> {
         self.came = entries;
     }
 
-    fn event(&mut self, entry: &Entry, thread: &Thread<'m>, _memory: &OneMemory)
-        // What a thread wants first from this moment on, it wants where it stands.
-        ensures { self.old.at ≤ self.old.came → IsOpen self.old entry.now.thread → self.new.is_short ≡ false
-            → IsSeen self.new entry.now.thread thread.now }
-    {
+    fn event(&mut self, entry: &Entry, thread: &Thread<'m>, _memory: &OneMemory) {
         if self.came >= self.at {
             self.see(entry.thread, thread);
         }

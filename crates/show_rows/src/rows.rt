@@ -91,10 +91,12 @@ impl Rows<'_> {
 }
 
 impl<'a, 'm> Watch<Thread<'m>> for Rows<'a> {
+    ghost use Rattle.show_rows.specs.Rows.{RowsSee};
+
+    ghost sees = { RowsSee };
+
     /// An answer that is heard stands where the thread stood before it, and a leave where the thread ended.
-    fn came(&mut self, entries: usize, walk: &Walk<Thread<'m>>)
-        ensures { self.new.came ≡ entries }
-    {
+    fn came(&mut self, entries: usize, walk: &Walk<Thread<'m>>) {
         self.came = entries;
         self.see(entries, &walk.threads);
         if let Some(last) = entries.checked_sub(1)
@@ -105,11 +107,7 @@ impl<'a, 'm> Watch<Thread<'m>> for Rows<'a> {
         }
     }
 
-    fn event(&mut self, entry: &Entry, thread: &Thread<'m>, memory: &OneMemory)
-        // The row of the entry that comes next is where the thread stands that wants it.
-        ensures { self.old.came < length self.old.rows.items → (row : Row)
-            × (slice_get self.new.rows.items self.old.came ≡ Some (Some row)) × StandsThere thread.now row }
-    {
+    fn event(&mut self, entry: &Entry, thread: &Thread<'m>, memory: &OneMemory) {
         if let Some(row) = self.rows.get_mut(self.came) {
             *row = Some(row_of(thread, number_before(memory.bytes(), entry.event)));
         }

@@ -8,6 +8,7 @@ use Rattle.replay_text.specs.Versions.{header_count}
 use Rattle.replay_text.specs.Text.{IsRecord}
 use Rattle.replay_text.proofs.Whole.{counted}
 use Rattle.replay_walk.specs.Walked as walked
+use Rattle.replay_walk.specs.Seen.{SeesUpTo, SeesWhole}
 use Rattle.replay.proofs.Deciding.{wider, first_misfit, within_log, none_left, is_recorded, is_wrong, within_ends}
 use Rattle.replay.proofs.walking.walk.Goals as goal
 
@@ -79,3 +80,40 @@ returns-in-None-clause-run g c = λ run ready.
     let w = c.along_watched.ensures.whole (none_left c.along_watched.result c.in_default.not-Some) run (c.new-walk.ensures run ready.ready ready.most) ready.limit in
     is_recorded run c.args.parts.now ready.limit ready.most ready.budget c.as_slice-log.ensures c.deref.ensures.value w
     c.pages-held.ensures c.first_wrong_end.result c.first_wrong_end.ensures c.in-None.is
+
+pub returns-in-Some-clause-seen : goal.returns-in-Some-clause-seen
+returns-in-Some-clause-seen g c =
+    let line = c.line_at.ensures in (
+      c.new-walk.result,
+      λ run ready. c.new-walk.ensures run ready.ready ready.most,
+      (
+        c.in-Some.at,
+        omega (arith, line, c.header_lines-first.ensures),
+        subst (λ (l : List Entry). SeesUpTo g.T.TakesTurns.meaning g.W.Watch.sees c.new-walk.result c.args.parts.now.limit l c.in-Some.at
+            c.args.watch.now c.along_watched.new.watch) c.as_slice-log.ensures (c.in-Some.ensures.stopped c.in-Some.at refl),
+      ),
+    )
+
+pub returns-in-Some-first_wrong_end-clause-seen : goal.returns-in-Some-first_wrong_end-clause-seen
+returns-in-Some-first_wrong_end-clause-seen g c =
+    let whole = c.along_watched.ensures.seen (none_left c.along_watched.result c.in_default.not-Some) in (
+      c.new-walk.result,
+      λ run ready. c.new-walk.ensures run ready.ready ready.most,
+      (
+        c.along_watched.new.self,
+        subst (λ (l : List Entry). SeesWhole g.T.TakesTurns.meaning g.W.Watch.sees c.new-walk.result
+            c.args.parts.now.limit l c.along_watched.new.self c.args.watch.now c.along_watched.new.watch) c.as_slice-log.ensures whole,
+      ),
+    )
+
+pub returns-in-None-clause-seen : goal.returns-in-None-clause-seen
+returns-in-None-clause-seen g c =
+    let whole = c.along_watched.ensures.seen (none_left c.along_watched.result c.in_default.not-Some) in (
+      c.new-walk.result,
+      λ run ready. c.new-walk.ensures run ready.ready ready.most,
+      (
+        c.along_watched.new.self,
+        subst (λ (l : List Entry). SeesWhole g.T.TakesTurns.meaning g.W.Watch.sees c.new-walk.result
+            c.args.parts.now.limit l c.along_watched.new.self c.args.watch.now c.along_watched.new.watch) c.as_slice-log.ensures whole,
+      ),
+    )

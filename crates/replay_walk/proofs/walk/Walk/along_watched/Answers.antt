@@ -31,13 +31,14 @@ loop-at-preserved g c = record {
       c.loop-at.self c.args.watch.now c.loop-at.watch c.came.new.self c.take.new.watch c.loop-at-test.true c.loop-at.invariant.seen
       c.loop-at.invariant.walked c.came.ensures c.take.ensures.seen c.if-not-take.false;
   walked = λ r walked limit.
-    let w = c.loop-at.invariant.walked r walked limit in
-    goes_in g.T.TakesTurns.meaning r c.args.log.now c.loop-at.self.threads.items c.loop-at.self.memory
-    c.loop-at.self.stage.queue c.loop-at.self.stage.started c.loop-at.self.stage.ends c.loop-at.at
-    c.args.limit limit w _ c.loop-at-test.true c.take.new.self.threads.items c.take.new.self.memory
-    c.take.new.self.stage.queue c.take.new.self.stage.started c.take.new.self.stage.ends
-    c.take.ensures.count
-    (c.take.ensures.taken c.if-not-take.false (standing_in r c.loop-at.self.memory w.state w.places) w.standing refl) }
+      let w = c.loop-at.invariant.walked r walked limit in
+      goes_in g.T.TakesTurns.meaning r c.args.log.now c.loop-at.self.threads.items c.loop-at.self.memory
+      c.loop-at.self.stage.queue c.loop-at.self.stage.started c.loop-at.self.stage.ends c.loop-at.at
+      c.args.limit limit w _ c.loop-at-test.true c.take.new.self.threads.items c.take.new.self.memory
+      c.take.new.self.stage.queue c.take.new.self.stage.started c.take.new.self.stage.ends
+      c.take.ensures.count
+      (c.take.ensures.taken c.if-not-take.false (standing_in r c.loop-at.self.memory w.state w.places) w.standing refl);
+}
 
 pub returns-clause-whole : goal.returns-clause-whole
 returns-clause-whole g c = λ none r walked limit.

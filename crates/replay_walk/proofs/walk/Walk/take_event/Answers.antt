@@ -184,22 +184,31 @@ returns-clause-count g c = count_back c.make.new.threads c.as_mut_slice-threads.
     (c.make.ensures.count ∙ c.settle_at-turn.ensures.count) c.as_mut_slice-threads.ensures.value c.as_mut_slice-threads.ensures.len
 
 pub returns-then-at-limit-clause-seen : goal.returns-then-at-limit-clause-seen
-returns-then-at-limit-clause-seen g c = inl (elim c.then-at-limit.branch [
-  | then-at-limit-via-then-at-limit w ↦ inl w.if-at-limit.true
-  | then-at-limit-via-else-at-limit+then-not-is_going w ↦ inr (w.is_going.ensures.gone w.if-not-is_going.true)
-], refl)
+returns-then-at-limit-clause-seen g c = inl (
+  elim c.then-at-limit.branch [
+    | then-at-limit-via-then-at-limit w ↦ inl w.if-at-limit.true
+    | then-at-limit-via-else-at-limit+then-not-is_going w ↦ inr (w.is_going.ensures.gone w.if-not-is_going.true)
+  ],
+  refl,
+)
 
 pub returns-in_default-clause-seen : goal.returns-in_default-clause-seen
-returns-in_default-clause-seen g c = inr (inl (c.settle_at-turn.result, told_of g.T.TakesTurns.meaning g.W.Watch.sees c.args.self.now c.args.entry.now.thread c.settle_at-turn.result
-    c.as_mut_slice-threads.result.now c.settle_at-turn.new.threads c.args.watch.now c.settled.new.self c.as_mut_slice-threads.ensures.value
-    c.settle_at-turn.ensures.settled c.settled.ensures,
-    λ is. c.in_default.not-Wants c.args.entry.now.event is))
+returns-in_default-clause-seen g c = inr (inl (
+  c.settle_at-turn.result,
+  told_of g.T.TakesTurns.meaning g.W.Watch.sees c.args.self.now c.args.entry.now.thread c.settle_at-turn.result
+      c.as_mut_slice-threads.result.now c.settle_at-turn.new.threads c.args.watch.now c.settled.new.self c.as_mut_slice-threads.ensures.value
+      c.settle_at-turn.ensures.settled c.settled.ensures,
+  λ is. c.in_default.not-Wants c.args.entry.now.event is,
+))
 
 pub returns-then-not-is_same_event-clause-seen : goal.returns-then-not-is_same_event-clause-seen
-returns-then-not-is_same_event-clause-seen g c = inr (inl (c.settle_at-turn.result, told_of g.T.TakesTurns.meaning g.W.Watch.sees c.args.self.now c.args.entry.now.thread c.settle_at-turn.result
-    c.as_mut_slice-threads.result.now c.settle_at-turn.new.threads c.args.watch.now c.settled.new.self c.as_mut_slice-threads.ensures.value
-    c.settle_at-turn.ensures.settled c.settled.ensures,
-    λ is. c.is_same_event.ensures.other c.if-not-is_same_event.true (same_wanted c.in-Wants.is is)))
+returns-then-not-is_same_event-clause-seen g c = inr (inl (
+  c.settle_at-turn.result,
+  told_of g.T.TakesTurns.meaning g.W.Watch.sees c.args.self.now c.args.entry.now.thread c.settle_at-turn.result
+      c.as_mut_slice-threads.result.now c.settle_at-turn.new.threads c.args.watch.now c.settled.new.self c.as_mut_slice-threads.ensures.value
+      c.settle_at-turn.ensures.settled c.settled.ensures,
+  λ is. c.is_same_event.ensures.other c.if-not-is_same_event.true (same_wanted c.in-Wants.is is),
+))
 
 pub returns-clause-seen : goal.returns-clause-seen
 returns-clause-seen g c =

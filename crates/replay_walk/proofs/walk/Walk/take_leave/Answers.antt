@@ -150,16 +150,25 @@ pub returns-then-not-is_going-clause-seen : goal.returns-then-not-is_going-claus
 returns-then-not-is_going-clause-seen g c = inl (c.is_going.ensures.gone c.if-not-is_going.true, refl)
 
 pub returns-then-at-limit-clause-seen : goal.returns-then-at-limit-clause-seen
-returns-then-at-limit-clause-seen g c = inr (c.settle_at-turn.result, told_of g.T.TakesTurns.meaning g.W.Watch.sees c.args.self.now c.args.entry.now.thread c.settle_at-turn.result
-    c.deref_mut.result.now c.settle_at-turn.new.threads c.args.watch.now c.settled.new.self c.deref_mut.ensures.value
-    c.settle_at-turn.ensures.settled c.settled.ensures)
+returns-then-at-limit-clause-seen g c = inr (
+  c.settle_at-turn.result,
+  told_of g.T.TakesTurns.meaning g.W.Watch.sees c.args.self.now c.args.entry.now.thread c.settle_at-turn.result
+      c.deref_mut.result.now c.settle_at-turn.new.threads c.args.watch.now c.settled.new.self c.deref_mut.ensures.value
+      c.settle_at-turn.ensures.settled c.settled.ensures,
+)
 
 pub returns-in_default-clause-seen : goal.returns-in_default-clause-seen
-returns-in_default-clause-seen g c = inr (c.settle_at-turn.result, told_of g.T.TakesTurns.meaning g.W.Watch.sees c.args.self.now c.args.entry.now.thread c.settle_at-turn.result
-    c.deref_mut.result.now c.settle_at-turn.new.threads c.args.watch.now c.settled.new.self c.deref_mut.ensures.value
-    c.settle_at-turn.ensures.settled c.settled.ensures)
+returns-in_default-clause-seen g c = inr (
+  c.settle_at-turn.result,
+  told_of g.T.TakesTurns.meaning g.W.Watch.sees c.args.self.now c.args.entry.now.thread c.settle_at-turn.result
+      c.deref_mut.result.now c.settle_at-turn.new.threads c.args.watch.now c.settled.new.self c.deref_mut.ensures.value
+      c.settle_at-turn.ensures.settled c.settled.ensures,
+)
 
 pub returns-clause-seen : goal.returns-clause-seen
-returns-clause-seen g c = (c.settle_at-turn.result, told_of g.T.TakesTurns.meaning g.W.Watch.sees c.args.self.now c.args.entry.now.thread c.settle_at-turn.result
-    c.deref_mut.result.now c.settle_at-turn.new.threads c.args.watch.now c.settled.new.self c.deref_mut.ensures.value
-    c.settle_at-turn.ensures.settled c.settled.ensures)
+returns-clause-seen g c = (
+  c.settle_at-turn.result,
+  told_of g.T.TakesTurns.meaning g.W.Watch.sees c.args.self.now c.args.entry.now.thread c.settle_at-turn.result
+      c.deref_mut.result.now c.settle_at-turn.new.threads c.args.watch.now c.settled.new.self c.deref_mut.ensures.value
+      c.settle_at-turn.ensures.settled c.settled.ensures,
+)

@@ -1,0 +1,5 @@
+use Rattle.replay_text.proofs.OneFault as laws
+use Rattle.replay_text.proofs.read.one_fault.Goals as goal
+
+pub returns : goal.returns
+returns c = laws.one_fault
