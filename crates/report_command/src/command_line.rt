@@ -340,7 +340,8 @@ const FINDS_NOTHING: &str =
     \x20 ok, ok i32:V, ok i64:V\n\
     \x20 trap and unreachable, divide by zero, integer overflow, out of bounds, unaligned atomic, not shared,\n\
     \x20      undefined element, uninitialized element, signature mismatch or stack exhausted\n\
-    \x20 stop and out of fuel, asleep for good or record full";
+    \x20 stop and out of fuel, asleep for good or record full\n\
+    With --all it is also a part of `from which no run ends` or of `a fair run can go on for ever`";
 
 /// What is said of a result that is none.
 const EXPECTS_NONE: &str =

@@ -2,6 +2,7 @@
 ghost use Rattle.std.specs.Prelude.{◌≡◌, true, IfOk, IfSome};
 ghost use Rattle.report_command.specs.Results.{IsSpelledBy};
 
+use report_choice::Find;
 use std::alloc::{AllocError, Global};
 use types::{MOST_THREADS, Outcome, Stop, Trap, Value};
 
@@ -94,6 +95,17 @@ pub(crate) fn standing_of(alloc: Global, words: &str) -> Result<Standing, AllocE
         return Ok(Standing::WhereSpent);
     }
     Ok(Standing::Nowhere)
+}
+
+/// What a search through every order looks for by words of the lines in which it says what never ends.
+pub(crate) fn endless_of(words: &str) -> Option<Find<'static>> {
+    if "from which no run ends".contains(words) {
+        return Some(Find::NoEnd);
+    }
+    if "a fair run can go on for ever".contains(words) {
+        return Some(Find::ForEver);
+    }
+    None
 }
 
 /// Whether a result is spelled so: as in the line of a thread, or without its first word `ok`.

@@ -7,7 +7,7 @@ ghost use Rattle.report_command.specs.Searches.{IsSoughtInRange};
 use crate::arguments::{Argument, CommandRow, FLAG, OPTION};
 use crate::call::{ARGS, CallWords, FUEL, INVOKE, call_of};
 use crate::command_line::{DUMP, FILE, Job, LIMIT, Misuse, limit_and_dump_of};
-use crate::lines::{Standing, result_of, standing_of};
+use crate::lines::{Standing, endless_of, result_of, standing_of};
 use crate::limits::{
     DEFAULT_FROM, DEFAULT_RUNS, DEFAULT_SEARCH_FUEL, DEFAULT_SEARCH_LIMIT, DEFAULT_SEED,
     DEFAULT_SHRINK_SECONDS, DEFAULT_STATES, MOST_JOBS, MOST_RUNS, MOST_SECONDS, MOST_SEED,
@@ -103,8 +103,9 @@ const JOBS: Argument = Argument {
 
 /// What is said of every order in place of drawn runs.
 const ALL_HELP: &str =
-    "In place of drawn runs, go through every order of the threads' entries, by each state once. `all` is of runs that \
-     end: one that goes on for ever has no ending and isn't told";
+    "In place of drawn runs, go through every order of the threads' entries, by each state once, and say how all runs \
+     end and whether all do; nothing is said of timeouts that end while somebody is awake, of weaker memories, or of other \
+     arguments";
 
 /// Every order in place of drawn runs.
 const ALL: Argument = Argument {
@@ -253,6 +254,7 @@ fn find_misuse(alloc: Global, words: &str, is_all: bool) -> Result<Option<Misuse
         return Ok(Some(Misuse::FindsAll));
     }
     Ok(match standing_of(alloc, words)? {
+        Standing::Nowhere if is_all && endless_of(words).is_some() => None,
         Standing::Nowhere => Some(Misuse::FindsNothing),
         Standing::WhereSpent if is_all => Some(Misuse::FindsNoBudget),
         Standing::WhereSpent | Standing::Somewhere => None,
@@ -282,6 +284,17 @@ pub(crate) fn search_misuse(
     }
 }
 
+/// What is looked for by words: where no line of a thread can have them, what a search through every order says.
+fn find_of<'a>(alloc: Global, words: &'a str, is_all: bool) -> Result<Find<'a>, AllocError> {
+    if is_all
+        && standing_of(alloc, words)? == Standing::Nowhere
+        && let Some(find) = endless_of(words)
+    {
+        return Ok(find);
+    }
+    Ok(Find::Words(words))
+}
+
 /// What is looked for: a trap or a stop, where nothing is said.
 fn target_of<'a>(alloc: Global, matches: &ArgMatches<'a>) -> Result<Target<'a>, AllocError> {
     let expect = match matches.get_str("expect") {
@@ -289,7 +302,7 @@ fn target_of<'a>(alloc: Global, matches: &ArgMatches<'a>) -> Result<Target<'a>, 
         None => None,
     };
     let find = match matches.get_str("find") {
-        Some(words) => Find::Words(words),
+        Some(words) => find_of(alloc, words, matches.get_flag("all"))?,
         None if expect.is_some() => Find::Nothing,
         None => Find::Failure,
     };
