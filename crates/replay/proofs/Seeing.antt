@@ -42,7 +42,7 @@ module _ {W : Type 0} (sees : W → Sight Thread → W → Type 0) (m : Parts) (
       seen.2,
     )
 
-    pub seen_fault : (fault : ReplayFault) (old new : W) → SeesWalk {M = Memory} meaning_in sees r threads memory (Err fault) old new
+    pub seen_fault : (fault : ReplayFault) (old new : W) → SeesWalk meaning_in sees {M = Memory} r threads memory (Err fault) old new
         → SeesRefused sees m r fault old new
     seen_fault (Line line) old new seen = inr (seen_run {M = Memory} (Err (Line line)) old new seen)
     seen_fault (EndLine line) old new seen = seen_run {M = Memory} (Err (EndLine line)) old new seen
