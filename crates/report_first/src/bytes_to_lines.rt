@@ -203,9 +203,9 @@ where
         args: &[],
         fuel: FUEL,
     };
-    match record_run(rt, alloc, valid, call, LIMIT, &OpenGate) {
+    match record_run(rt, alloc, valid, call, LIMIT, &OpenGate, ()) {
         Ok((_, end)) => Ok(end),
-        Err(fault) => Err(not_run(fault, address, addend)),
+        Err(refused) => Err(not_run(refused.fault, address, addend)),
     }
 }
 

@@ -12,5 +12,5 @@ mod words;
 
 pub use laws::the_log_is_the_history_that_all_seats_saw;
 pub use recording::{RecordRunFault, record_request, record_run};
-pub use spawn_host::{Call, EndState};
+pub use spawn_host::{Call, EndState, Refused};
 pub use words::{run_on_words, run_request_on_words};

@@ -2,6 +2,7 @@
 ghost use Rattle.std.specs.Prelude.{◌≡◌, ◌≤◌, ◌+◌, ◌++◌, [], length, vec_len, vec_capacity, IfOk, OnOk, IfErr};
 ghost use Rattle.types.specs.declared.limits.TheConstants.{MOST_THREADS, MOST_LIMIT, MOST_FUEL};
 ghost use Rattle.spawn_host.specs.Runs.{opening_memory};
+ghost use Rattle.spawn_host_workers.specs.Unstarted.{fault_of};
 ghost use Rattle.replay.specs.Runs.{IsRunOf};
 ghost use Rattle.report_runs.specs.FaultNumbers.{record_run_fault_number};
 ghost use Rattle.report_runs.specs.Called.{RecordsCall, RecordsRequest};
@@ -18,8 +19,8 @@ use interp_trait::Gate;
 use locked_recorder::{LockedRecorder, Naming, Prepared};
 use replay_text::{Record, RecordParts, Version};
 use shared_memory_sequential::OpenFault;
-use spawn_host::{Call, CallFault, EndState, Request, RunFault, run_request};
-use spawn_host_workers::StartFault;
+use spawn_host::{Call, CallFault, EndState, Refused, Request, RunFault, run_request};
+use spawn_host_workers::{StartFault, Unstarted};
 use std::alloc::{AllocError, Global};
 use std::marker::Brand;
 use std::sync::Wait;
@@ -93,6 +94,7 @@ struct Header {
     invoke: Name,
     args: Sequence<Value>,
     fuel: u64,
+    limit: u32,
     ends: Vec<ThreadReport>,
 }
 
@@ -107,26 +109,37 @@ struct Header {
 /// `Open` with `PastLimit` exactly where the limit is out of its range. Otherwise `Run` with `UnknownExport` exactly
 /// where no function of the module itself is exported under the name, and with `WrongArguments` exactly where one is,
 /// and the arguments don't fit it. Otherwise `NoMemory`, `Open` or `Run` where memory is refused, and `Run` with
-/// `NoThread` where the system starts no further thread. All come before the first turn.
-pub fn record_run<G, R>(
+/// `NoThread` where the system starts no further thread. All come before the first turn: the ticket, which is anything,
+/// is used up by a run, and a fault gives it back.
+pub fn record_run<G, R, K>(
     rt: &R,
     alloc: Global,
     module: &ValidModule,
     call: Call,
     limit: u32,
     gate: &G,
-) -> Result<(Record, EndState), RecordRunFault>
+    ticket: K,
+) -> Result<(Record, EndState), Refused<RecordRunFault, K>>
 where
     G: Gate + Sync,
     R: Threads + Wait + Sync,
+    K: Drop,
     requires fuel { call.fuel ≤ MOST_FUEL }
     ensures record { IfOk result (λ r. RecordsCall «module».now.parts call.entry limit r.0 r.1) }
     ensures run { IfOk result (λ r. IsRunOf «module».now.parts r.0 r.1) }
-    ensures fault { IfErr result (IsRecordingFaultOf «module».now.parts call.entry limit) }
+    ensures fault { IfErr result (λ refused. IsRecordingFaultOf «module».now.parts call.entry limit refused.fault) }
+    ensures ticket { IfErr result (λ refused. refused.ticket ≡ ticket) }
 {
-    check_limit(limit)?;
-    let request = Request::new(module, call)?;
-    record_request(rt, alloc, &request, limit, gate)
+    if let Err(fault) = check_limit(limit) {
+        return Err(Refused { fault, ticket });
+    }
+    match Request::new(module, call) {
+        Ok(request) => record_request(rt, alloc, &request, limit, gate, ticket),
+        Err(fault) => Err(Refused {
+            fault: RecordRunFault::Run(RunFault::Call(fault)),
+            ticket,
+        }),
+    }
 }
 
 /// The same of a call that can be made.
@@ -134,27 +147,32 @@ where
 /// # Errors
 /// `Open` with `PastLimit` exactly where the limit is out of its range. Otherwise `NoMemory`, `Open` or `Run` where
 /// memory is refused, and `Run` with `NoThread` where the system starts no further thread. All come before the first
-/// turn.
-pub fn record_request<G, R>(
+/// turn, and give the ticket back.
+pub fn record_request<G, R, K>(
     rt: &R,
     alloc: Global,
     request: &Request,
     limit: u32,
     gate: &G,
-) -> Result<(Record, EndState), RecordRunFault>
+    ticket: K,
+) -> Result<(Record, EndState), Refused<RecordRunFault, K>>
 where
     G: Gate + Sync,
     R: Threads + Wait + Sync,
+    K: Drop,
     requires fuel { request.now.fuel ≤ MOST_FUEL }
     ensures record { IfOk result (λ r. RecordsRequest request.now limit r.0 r.1) }
     ensures run { IfOk result (λ r. IsRunOf request.now.parts r.0 r.1) }
-    ensures fault { IfErr result (IsRecordingFaultOfRequest request.now limit) }
+    ensures fault { IfErr result (λ refused. IsRecordingFaultOfRequest request.now limit refused.fault) }
+    ensures ticket { IfErr result (λ refused. refused.ticket ≡ ticket) }
 {
-    check_limit(limit)?;
+    if let Err(fault) = check_limit(limit) {
+        return Err(Refused { fault, ticket });
+    }
     show_module_fits(request.module());
-    match over_new_memory(rt, alloc, request, limit, gate) {
+    match over_new_memory(rt, alloc, request, limit, gate, ticket) {
         Ok((parts, end)) => Ok((record_of(parts), end)),
-        Err(fault) => Err(fault),
+        Err(refused) => Err(refused),
     }
 }
 
@@ -185,36 +203,43 @@ fn record_of(parts: RecordParts) -> Record
 }
 
 /// The parts of the record, once there is a memory, and room for them.
-fn over_new_memory<G, R>(
+fn over_new_memory<G, R, K>(
     rt: &R,
     alloc: Global,
     request: &Request,
     limit: u32,
     gate: &G,
-) -> Result<(RecordParts, EndState), RecordRunFault>
+    ticket: K,
+) -> Result<(RecordParts, EndState), Refused<RecordRunFault, K>>
 where
     G: Gate + Sync,
     R: Threads + Wait + Sync,
+    K: Drop,
     requires range { IsLogLimit limit }
     ensures made { IfOk result (λ r. RecordsRequest request.now limit r.0 r.1) }
-    ensures fault { IfErr result (IsRecordingFaultOfRequest request.now limit) }
+    ensures fault { IfErr result (λ refused. IsRecordingFaultOfRequest request.now limit refused.fault) }
+    ensures ticket { IfErr result (λ refused. refused.ticket ≡ ticket) }
 {
-    let Ok(header) = header_of(alloc, request) else {
-        return Err(RecordRunFault::NoMemory);
+    let Ok(header) = header_of(alloc, request, limit) else {
+        return Err(Refused {
+            fault: RecordRunFault::NoMemory,
+            ticket,
+        });
     };
     let prepared = match prepare(alloc, request, limit) {
         Ok(prepared) => prepared,
         Err(fault) => {
             drop(header);
-            return Err(fault);
+            return Err(Refused { fault, ticket });
         }
     };
-    over_recorder::<Brand, _, _>(rt, alloc, request, prepared, header, limit, gate)
+    over_recorder::<Brand, _, _, _>(rt, alloc, request, prepared, header, gate, ticket)
 }
 
 /// What a record says of the call, and room for its ends.
-fn header_of(alloc: Global, request: &Request) -> Result<Header, AllocError>
+fn header_of(alloc: Global, request: &Request, limit: u32) -> Result<Header, AllocError>
     ensures of_request { IfOk result (λ h. IsHeaderOf request.now h) }
+    ensures limit { IfOk result (λ h. h.limit ≡ limit) }
     ensures ends { IfOk result (λ h. h.ends.items ≡ []) }
     ensures room { IfOk result (λ h. MOST_THREADS ≤ vec_capacity h.ends) }
 {
@@ -226,6 +251,7 @@ fn header_of(alloc: Global, request: &Request) -> Result<Header, AllocError>
         invoke: Name::from_string(invoke),
         args: Sequence::from_vec(args),
         fuel: call.fuel,
+        limit,
         ends,
     })
 }
@@ -249,41 +275,46 @@ fn prepare(alloc: Global, request: &Request, limit: u32) -> Result<Prepared, Rec
 }
 
 /// The parts of the record, over a recorder whose type has been named.
-fn over_recorder<B, G, R>(
+fn over_recorder<B, G, R, K>(
     rt: &R,
     alloc: Global,
     request: &Request,
     prepared: Prepared,
     header: Header,
-    limit: u32,
     gate: &G,
-) -> Result<(RecordParts, EndState), RecordRunFault>
+    ticket: K,
+) -> Result<(RecordParts, EndState), Refused<RecordRunFault, K>>
 where
     B: Naming + Send + Sync,
     G: Gate + Sync,
     R: Threads + Wait + Sync,
+    K: Drop,
     requires table { prepared.table ≡ B.table }
     requires opening { prepared.opening ≡ B.opening }
     requires limit { prepared.limit ≡ B.limit }
     requires image { B.opening ≡ opening_memory request.now.parts }
-    requires bound { B.limit ≡ limit }
-    requires range { IsLogLimit limit }
+    requires bound { B.limit ≡ header.limit }
+    requires range { IsLogLimit header.limit }
     requires of_request { IsHeaderOf request.now header }
     requires ends { header.ends.items ≡ [] }
     requires room { MOST_THREADS ≤ vec_capacity header.ends }
-    ensures made { IfOk result (λ r. RecordsRequest request.now limit r.0 r.1) }
-    ensures fault { IfErr result (IsRecordingFaultOfRequest request.now limit) }
+    ensures made { IfOk result (λ r. RecordsRequest request.now header.limit r.0 r.1) }
+    ensures fault { IfErr result (λ refused. IsRecordingFaultOfRequest request.now header.limit refused.fault) }
+    ensures ticket { IfErr result (λ refused. refused.ticket ≡ ticket) }
 {
     let Ok((memory, seats)) = LockedRecorder::<B, &R>::open(alloc, rt, prepared) else {
         drop(header);
-        return Err(RecordRunFault::Open(OpenFault::NoMemory));
+        return Err(Refused {
+            fault: RecordRunFault::Open(OpenFault::NoMemory),
+            ticket,
+        });
     };
-    let end = match run_request(rt, alloc, request, &memory, seats, gate) {
+    let end = match run_request(rt, alloc, request, &memory, seats, gate, ticket) {
         Ok(end) => end,
-        Err(fault) => {
+        Err(refused) => {
             drop(memory);
             drop(header);
-            return Err(RecordRunFault::Run(RunFault::Start(fault)));
+            return Err(not_started(refused));
         }
     };
     let finished = memory.finish(end.seats);
@@ -291,6 +322,7 @@ where
         invoke,
         args,
         fuel,
+        limit,
         mut ends,
     } = header;
     copy_reports(&end.threads, &mut ends);
@@ -313,6 +345,20 @@ where
         bytes: finished.bytes,
     };
     Ok((parts, end))
+}
+
+/// What is told of threads that weren't started. Their seats, or thread 0's, are let go of.
+pub(crate) fn not_started<S: Drop, K>(
+    refused: Refused<Unstarted<S>, K>,
+) -> Refused<RecordRunFault, K>
+    ensures fault { result.fault ≡ faults.Run (run_faults.Start (fault_of refused.fault)) }
+    ensures ticket { result.ticket ≡ refused.ticket }
+{
+    let Refused { fault, ticket } = refused;
+    Refused {
+        fault: RecordRunFault::Run(RunFault::Start(fault.fault())),
+        ticket,
+    }
 }
 
 /// Copies the reports into the room that was kept for them.

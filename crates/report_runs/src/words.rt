@@ -7,10 +7,10 @@ ghost use Rattle.report_runs.specs.Called.{EndsCallOnWords};
 ghost use Rattle.report_runs.specs.RunFaults.{IsWordsFaultOf, IsWordsFaultOfRequest};
 
 use crate::fitting::show_memory_opens;
-use crate::recording::RecordRunFault;
+use crate::recording::{RecordRunFault, not_started};
 use interp_trait::Gate;
 use shared_memory_sequential::OpenFault;
-use spawn_host::{Call, EndState, Request, RunFault, run_request};
+use spawn_host::{Call, EndState, Refused, Request, RunFault, run_request};
 use std::alloc::Global;
 use std::marker::Brand;
 use std::sync::Wait;
@@ -29,81 +29,105 @@ use word_row::{ClosedRow, Naming, Prepared, WordRow};
 /// `Run` with `UnknownExport` exactly where no function of the module itself is exported under the name, and with
 /// `WrongArguments` exactly where one is, and the arguments don't fit it. Otherwise `NoMemory`, `Open` or `Run` where
 /// memory is refused, and `Run` with `NoThread` where the system starts no further thread. All come before the first
-/// turn: room for the final bytes is taken before it, and nothing afterwards.
-pub fn run_on_words<G, R>(
+/// turn: room for the final bytes is taken before it, and nothing afterwards. The ticket, which is anything, is used up
+/// by a run, and a fault gives it back.
+pub fn run_on_words<G, R, K>(
     rt: &R,
     alloc: Global,
     module: &ValidModule,
     call: Call,
     gate: &G,
-) -> Result<EndState, RecordRunFault>
+    ticket: K,
+) -> Result<EndState, Refused<RecordRunFault, K>>
 where
     G: Gate + Sync,
     R: Threads + Wait + Sync,
+    K: Drop,
     ensures end { IfOk result (EndsCallOnWords «module».now.parts call.entry) }
-    ensures fault { IfErr result (IsWordsFaultOf «module».now.parts call.entry) }
+    ensures fault { IfErr result (λ refused. IsWordsFaultOf «module».now.parts call.entry refused.fault) }
+    ensures ticket { IfErr result (λ refused. refused.ticket ≡ ticket) }
 {
-    let request = Request::new(module, call)?;
-    run_request_on_words(rt, alloc, &request, gate)
+    match Request::new(module, call) {
+        Ok(request) => run_request_on_words(rt, alloc, &request, gate, ticket),
+        Err(fault) => Err(Refused {
+            fault: RecordRunFault::Run(RunFault::Call(fault)),
+            ticket,
+        }),
+    }
 }
 
 /// The same of a call that can be made.
 ///
 /// # Errors
 /// `NoMemory`, `Open` or `Run` where memory is refused, and `Run` with `NoThread` where the system starts no further
-/// thread. All come before the first turn: room for the final bytes is taken before it, and nothing afterwards.
-pub fn run_request_on_words<G, R>(
+/// thread. All come before the first turn, and give the ticket back: room for the final bytes is taken before it, and
+/// nothing afterwards.
+pub fn run_request_on_words<G, R, K>(
     rt: &R,
     alloc: Global,
     request: &Request,
     gate: &G,
-) -> Result<EndState, RecordRunFault>
+    ticket: K,
+) -> Result<EndState, Refused<RecordRunFault, K>>
 where
     G: Gate + Sync,
     R: Threads + Wait + Sync,
+    K: Drop,
     ensures end { IfOk result (EndsRequestOnWords request.now) }
-    ensures fault { IfErr result (IsWordsFaultOfRequest request.now) }
+    ensures fault { IfErr result (λ refused. IsWordsFaultOfRequest request.now refused.fault) }
+    ensures ticket { IfErr result (λ refused. refused.ticket ≡ ticket) }
 {
     let most = request.module().pages_max();
     let Ok(bytes) = Vec::with_capacity(alloc, PAGE_SIZE * most as usize) else {
-        return Err(RecordRunFault::NoMemory);
+        return Err(Refused {
+            fault: RecordRunFault::NoMemory,
+            ticket,
+        });
     };
     match prepare(alloc, request) {
-        Ok(prepared) => over_row::<Brand, _, _>(rt, alloc, request, prepared, bytes, gate),
+        Ok(prepared) => over_row::<Brand, _, _, _>(
+            rt, alloc, request, prepared, bytes, gate, ticket,
+        ),
         Err(fault) => {
             drop(bytes);
-            Err(fault)
+            Err(Refused { fault, ticket })
         }
     }
 }
 
 /// The end, over a row whose type has been named.
-fn over_row<B, G, R>(
+fn over_row<B, G, R, K>(
     rt: &R,
     alloc: Global,
     request: &Request,
     prepared: Prepared,
     mut bytes: Vec<u8>,
     gate: &G,
-) -> Result<EndState, RecordRunFault>
+    ticket: K,
+) -> Result<EndState, Refused<RecordRunFault, K>>
 where
     B: Naming + Send + Sync,
     G: Gate + Sync,
     R: Threads + Wait + Sync,
+    K: Drop,
     requires table { prepared.table ≡ B.table }
     requires opening { prepared.opening ≡ B.opening }
     requires image { B.opening ≡ opening_memory request.now.parts }
     requires none { bytes.items ≡ [] }
     requires room { PAGE_SIZE * (opening_memory request.now.parts).max ≤ vec_capacity bytes }
     ensures end { IfOk result (EndsRequestOnWords request.now) }
-    ensures fault { IfErr result (IsWordsFaultOfRequest request.now) }
+    ensures fault { IfErr result (λ refused. IsWordsFaultOfRequest request.now refused.fault) }
+    ensures ticket { IfErr result (λ refused. refused.ticket ≡ ticket) }
 {
     let Ok((memory, seats)) = WordRow::<B>::open(alloc, prepared) else {
-        return Err(RecordRunFault::Open(OpenFault::NoMemory));
+        return Err(Refused {
+            fault: RecordRunFault::Open(OpenFault::NoMemory),
+            ticket,
+        });
     };
-    let end = match run_request(rt, alloc, request, &memory, seats, gate) {
+    let end = match run_request(rt, alloc, request, &memory, seats, gate, ticket) {
         Ok(end) => end,
-        Err(fault) => return Err(RecordRunFault::Run(RunFault::Start(fault))),
+        Err(refused) => return Err(not_started(refused)),
     };
     let closed = memory.close(end.seats);
     let pages = closed.pages();

@@ -2,7 +2,8 @@
 //! desk that it shares with others.
 //!
 //! Proved: where `run_all` answers, all 65 seats have seen one legal list, and each report is of a run with its
-//! entries. `run_thread` runs any thread that makes turns: its units are its budget, and as many of its steps are lost
+//! entries. Where it answers a fault, all seats are as they came, or all that thread 0 ever entered is that it leaves.
+//! `run_thread` runs any thread that makes turns: its units are its budget, and as many of its steps are lost
 //! tries as its seat lost.
 #![tactic(auto)]
 
