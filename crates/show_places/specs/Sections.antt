@@ -54,6 +54,7 @@ FindsSubsection bytes id found = FindsPart (input bytes) bytes id found
 abbrev pub IsNamed : List ℕ → List ℕ → List ℕ → Type 0
 IsNamed bytes name contents = block_at (input bytes) bytes ≡ Ok (name, contents)
 
+-- No name stands there.
 abbrev pub IsUnnamed : List ℕ → Type 0
 IsUnnamed bytes = (name contents : List ℕ) → IsNamed bytes name contents → ⊥
 

@@ -2,12 +2,12 @@
 //! sections of an id or a name, what functions are called, and where the instructions of a function stand, as offsets
 //! from the start of the code section's contents.
 //!
-//! Proved: places are those of the reading; a section or a list of names is the first such one, and is found where there
-//! is one. The offset of a section's contents is exact. A function's name is the first in the list, else the first
-//! export, else the index (`IsCalled`).
+//! Proved: places are those of the reading; a section or a list of names is the first such one, and is found where
+//! there is one. The offset of a section's contents is exact. A function's name is the first in the list, else the
+//! first export, else the index (`IsCalled`).
 //!
-//! Nothing is asked of the bytes: from where they are malformed on, there is no section. The offsets of instructions are those
-//! that the reading of crate `binary_instructions` keeps of each (`specs/Places.antt`).
+//! Nothing is asked of the bytes: from where they are malformed on, there is no section. The offsets of instructions
+//! are those that the reading of crate `binary_instructions` keeps of each (`specs/Places.antt`).
 #![tactic(auto)]
 
 mod bodies;
