@@ -48,9 +48,10 @@ tools() {
     local it
     mkdir "$work/$1"
     for it in bash env readlink dirname sed sha256sum cut find sort xargs mktemp uname chmod mv cp rm mkdir install sleep \
-        grep setpriv xz python3; do
-        [[ " ${*:2} " == *" $it "* ]] || ln -s "$(command -v "$it")" "$work/$1/$it"
+        tail grep setpriv xz; do
+        [[ " ${*:2} " == *" $it "* ]] || ln -s "$(type -P "$it")" "$work/$1/$it"
     done
+    [[ " ${*:2} " == *" python3 "* ]] || ln -s "$(python3 -c 'import sys; print(sys.executable)')" "$work/$1/python3"
 }
 tools all
 tools no_xz xz
@@ -139,7 +140,7 @@ ends 0 "$ADDED" '' "${bare[@]}" bash -c '"$0" "${@:2}"' "$work/a place/bin/wathr
 cmp -s "$work/a place/libexec/wathread/wathread" crates/wathread/out/wathread.by-rattle || say "another program is installed"
 [ "$(<"$work/a place/share/man/man1/wathread.1")" = 'a page' ] || say "no page is installed"
 ends 0 "$work/a place/bin/wathread" '' "${bare[@]}" ./wathread --install "$work/a place"
-ends 5 '' '.*/dev/null/.*' "${bare[@]}" ./wathread --install /dev/null/place
+ends 5 '' '.*/dev/null.*' "${bare[@]}" ./wathread --install /dev/null/place
 
 # Ctrl-C: after DELAY seconds, N times, each a hundredth of a second behind the other: interrupted N DELAY COMMAND..
 interrupted='
@@ -190,11 +191,9 @@ if command -v rt >/dev/null; then
     rm -rf crates/wathread/out
     ends 0 '' "$TOOK" "${bare[@]}" ./wathread
     ends 0 ".*$SAME"$'\n1 passed, 0 failed' '.*' .ci/run
-    rm -rf crates/wathread/out/*.by-rattle.sum
-    cp release/wathread-x86_64-linux.sum kept
     printf damage | dd of=release/wathread-x86_64-linux.xz bs=1 seek=1000 conv=notrunc 2>/dev/null
     ends 1 ".*$DIFFERS: $DAMAGED"$'\n1 passed, 0 failed' '.*' .ci/run
-    pack "$PWD" "$(command -v true)" && cp release/wathread-x86_64-linux.sum other
+    pack "$PWD" "$(type -P true)"
     ends 0 ".*$DIFFERS: it was built by that of a trial"$'\n1 passed, 0 failed' '.*' .ci/run
     sed -i "s/^toolchain .*/toolchain $(rt version)/" release/wathread-x86_64-linux.sum
     ends 1 ".*$DIFFERS: they differ"$'\n1 passed, 0 failed' '.*' .ci/run
