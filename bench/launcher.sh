@@ -75,6 +75,14 @@ echo "the first command took $took ms, the second $((($(date +%s%N) - began) / 1
 clone second
 ends 0 "$ADDED" "$TOOK" "${run[@]}"
 
+# Many first commands at a time.
+clone many
+for _ in {1..20}; do "${bare[@]}" "${run[@]}" 2>&1 & done >"$work/.many"
+wait
+[ "$(grep -c "${ADDED%%$'\n'*}" "$work/.many")" = 20 ] || say "many first commands: $(<"$work/.many")"
+ends 0 "$ADDED" '' "${bare[@]}" "${run[@]}"
+[ "$(ls crates/wathread/out)" = $'wathread.by-rattle\nwathread.by-rattle.sum' ] || say "$(ls crates/wathread/out)"
+
 # What is passed on: the folder, words with blanks, streams, statuses.
 cd "$work/first" || exit 1
 cp examples/atomic_add.wasm "$work/a name  with blanks.wasm"
