@@ -192,7 +192,7 @@ if command -v rt >/dev/null; then
     [ -z "$(ls -A "$work/temporary" | grep '^wathread')" ] || say "Ctrl-C leaves $(ls -A "$work/temporary")"
     ends 0 '' "$PROVED" ./wathread
     ends 0 '' '' ./wathread
-    ends 1 "$DIFFERS: no program is shipped" "$PROVED" ./wathread --prove
+    ends 1 "the shipped program wasn't compared: no program is shipped" "$PROVED" ./wathread --prove
     ends 0 "$SAME"$'\n.*' '' release/make.sh
     commit
     ends 0 "$SAME" "$PROVED" ./wathread --prove

@@ -49,17 +49,26 @@ is_built() {
         [ "$(said program "$built.sum")" = "$(sum_of "$built")" ]
 }
 
+# Whether xz or Python can unpack here.
+can_unpack() { command -v xz >/dev/null || python3 -c 'import lzma' 2>/dev/null; }
+
+# Prints what is packed in the file $1.
+unpacked() {
+    if command -v xz >/dev/null; then
+        xz -dc "$1"
+    else
+        python3 -c 'import lzma, shutil, sys; shutil.copyfileobj(lzma.open(sys.argv[1]), sys.stdout.buffer)' "$1"
+    fi
+}
+
 # Unpacks the shipped program into the file $1, or puts into `why` what hinders it.
 unpack() {
-    local words=(xz -dc)
     why="no program is shipped"
     [ -f "$shipped.xz" ] && [ -f "$shipped.sum" ] || return
     why="there's neither xz nor python3, and the shipped program is packed"
-    command -v xz >/dev/null || { command -v python3 >/dev/null && words=(python3 -c '
-import lzma, shutil, sys
-shutil.copyfileobj(lzma.open(sys.argv[1]), sys.stdout.buffer)'); } || return
+    can_unpack || return
     why="the shipped program is damaged, or there's no room for it"
-    "${words[@]}" "$shipped.xz" >"$1" 2>/dev/null && [ "$(sum_of "$1")" = "$(said program "$shipped.sum")" ] &&
+    unpacked "$shipped.xz" >"$1" 2>/dev/null && [ "$(sum_of "$1")" = "$(said program "$shipped.sum")" ] &&
         chmod 755 "$1"
 }
 
@@ -67,20 +76,21 @@ shutil.copyfileobj(lzma.open(sys.argv[1]), sys.stdout.buffer)'); } || return
 agrees() { [ "$(said "$1" "$shipped.sum")" = "$(said "$1" "$built.sum")" ]; }
 
 # Says whether the shipped program is what was just built, byte for byte. The status is 0 where it is; 1 where it isn't,
-# and is said to be of the same sources and toolchain; 2 where it is said to be of others, or none is shipped.
+# and is said to be of the same sources and toolchain; 2 where it is said to be of others, none is shipped, or it can't
+# be unpacked here.
 compare() {
-    local room status=1
+    local room status=1 verdict="isn't the one that was built"
     room=$(mktemp -dt wathread.XXXXXX) || return
     unpack "$room/wathread" && why="they differ" && cmp -s "$room/wathread" "$built" && status=0
     rm -rf "$room"
     [ "$status" = 0 ] && echo "the shipped program is the one that was built, byte for byte" && return
-    if [ ! -f "$shipped.sum" ]; then
-        status=2
+    if [ ! -f "$shipped.sum" ] || ! can_unpack; then
+        verdict="wasn't compared" status=2
     elif ! agrees sources; then
         why="it is of other sources" status=2
     elif ! agrees toolchain; then
         why="it was built by $(said toolchain "$shipped.sum")" status=2
     fi
-    echo "the shipped program isn't the one that was built: $why"
+    echo "the shipped program $verdict: $why"
     return "$status"
 }
