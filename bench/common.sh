@@ -3,8 +3,8 @@ top=$(cd "$(dirname "${BASH_SOURCE[0]}")/.." && pwd)
 work=$(mktemp -d)
 trap 'rm -rf "$work"' EXIT
 # PROGRAM=PATH: the program, where it is built already.
-program=${PROGRAM:-$top/crates/wathread/out/wathread}
-[ -n "${PROGRAM-}" ] || "$top/wathread" search --help >/dev/null
+program=${PROGRAM:-$top/crates/wathread/out/wathread.by-rattle}
+[ -n "${PROGRAM-}" ] || "$top/wathread" --version >/dev/null
 
 # How often each command runs; the least time counts.
 rounds=${ROUNDS:-15}

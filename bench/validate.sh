@@ -6,7 +6,7 @@ set -eu
 cd "$(dirname "$0")/.."
 folder=$(mktemp -d)
 trap 'rm -rf "$folder"' EXIT
-program=${PROGRAM:-crates/wathread/out/wathread}
+program=${PROGRAM:-crates/wathread/out/wathread.by-rattle}
 for kind in functions blocks nops; do
     file=$folder/$kind.wasm
     python3 bench/modules.py "$kind" "$file"

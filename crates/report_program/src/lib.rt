@@ -24,4 +24,4 @@ pub use reading::{Unread, read_front, read_module, read_saved};
 pub use saving::{SavePlace, SavedFile, is_one_file};
 pub use streams::Noted;
 pub use task::{Task, open_task};
-pub use telling::{tell, tell_usage};
+pub use telling::tell_usage;

@@ -15,7 +15,7 @@ pub(crate) const FILE_FAULT: u8 = 5;
 const TEXT: usize = 8192;
 
 /// Says on standard error what went wrong. Where that can't be written there is nobody left to tell.
-pub fn tell(rt: &HostRuntime, text: &[u8]) {
+pub(crate) fn tell(rt: &HostRuntime, text: &[u8]) {
     let _ = rt.stderr().write_all(text);
 }
 
