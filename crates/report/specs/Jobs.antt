@@ -19,8 +19,8 @@ pub record Shows (bytes saved : List ℕ) (status : ℕ) : Type 0 where
 
 -- What that of a search says: 0 and 1 of runs that were made, 2 of a refused module, 3 of a call that can't be made. 5
 -- is that memory or a stream failed.
-pub record Searches (bytes : List ℕ) (s : Search) (save : WriterChange) (status : ℕ) : Type 0 where
-  pub made : status ≤ 1 → HasSearched bytes s save status
+pub record Searches (bytes : List ℕ) (s : Search) (out save : WriterChange) (status : ℕ) : Type 0 where
+  pub made : status ≤ 1 → HasSearched bytes s out save status
   pub refused : status ≡ 2 → IsNoValidModule bytes
   pub cannot : status ≡ 3 → HasNoSuchCall bytes s.call
   pub statuses : (status ≤ 3) ⊎ (status ≡ 5)
@@ -28,5 +28,5 @@ pub record Searches (bytes : List ℕ) (s : Search) (save : WriterChange) (statu
 -- What the status of a job says: of one that is no show and no search, what it says of a plain job.
 abbrev pub Performs : Job → List ℕ → List ℕ → WriterChange → WriterChange → ℕ → Type 0
 Performs (Show file record_path names look at) bytes saved out save status = Shows bytes saved status
-Performs (jobs.Search s) bytes saved out save status = Searches bytes s save status
+Performs (jobs.Search s) bytes saved out save status = Searches bytes s out save status
 Performs job bytes saved out save status = PerformsPlain job bytes saved out save status

@@ -1,6 +1,5 @@
 -- What is kept of a search.
-use Rattle.std.specs.Prelude.{ℕ, ◌≡◌, ◌≢◌, ◌≤◌, ◌⊎◌, All, Bool, List, [], true, is_none, is_some}
-use Rattle.std.specs.List.{list_all}
+use Rattle.std.specs.Prelude.{ℕ, ◌≡◌, ◌≢◌, ◌≤◌, ◌⊎◌, All, Bool, List, [], true, Some, is_none, is_some}
 use Rattle.types.specs.declared.value.Value.{Value}
 use Rattle.types.specs.declared.parts.Parts.{Parts}
 use Rattle.validate_typing.specs.Validity.{IsValid}
@@ -12,17 +11,25 @@ use Rattle.spawn_host.specs.Requests.{Requested}
 use Rattle.search_scheduled.specs.Headers.{IsOfCall}
 use Rattle.search_reach.specs.declared.ending.Ended.{Ended}
 use Rattle.search_reach.specs.declared.search.Verdict.TheVariants as verdicts
+use Rattle.schedule.specs.System.{State}
+use Rattle.schedule_threads.specs.Shared.{Shared}
+use Rattle.search_runs.specs.Called.{Called, Walker as Thread}
+use Rattle.search_runs.specs.Theorems.{CanReach}
 use Rattle.search_endings.specs.Endings.{Ending}
 use Rattle.search_modules.specs.Endings.{HasEveryEnding, AllCanEndSo}
+use Rattle.search_modules.specs.Liveness.{CanStillEnd, HasFairRun, CountsStates, SaysWhereAll}
+use Rattle.search_modules.specs.Returned.{IsCall}
 use Rattle.search_finds.specs.Finds.{EndsAsLookedFor, IsLookedFor}
 use Rattle.search_finds.specs.Noted.{AreNoted}
 use Rattle.search_finds.specs.declared.met.Table.{Table}
+use Rattle.report_choice.specs.declared.sought.Find.{Find}
+use Rattle.report_choice.specs.declared.sought.Find.TheVariants as finds
 use Rattle.report_choice.specs.declared.sought.Sought.{Sought}
 use Rattle.report_command.specs.declared.search.Search.{Search}
 use Rattle.report_jobs.specs.Arguments.{AreSpelled, texts_in}
 use Rattle.report_jobs.specs.Asked.{IsAskedBy}
 use Rattle.report_jobs.specs.Prints.{WriterChange, KeepsRecord}
-use Rattle.report_lines.specs.Ends.{is_done}
+use Rattle.report.specs.Complete.{PrintsComplete, threads_end_well, all_end_well}
 use Rattle.report_jobs.specs.declared.running.Trouble.{Trouble}
 use Rattle.report_jobs.specs.declared.running.Trouble.TheVariants as troubles
 
@@ -38,29 +45,75 @@ pub record IsFindKept (m : Parts) (s : Search) (save : WriterChange) : Type 0 wh
   pub ends : EndsAsLookedFor s.sought s.sought.dump end
   pub kept : KeepsRecord (is_some s.save) save record_is
 
+-- Runs that never end are looked for.
+abbrev pub FindsEndless : Find → Type 0
+FindsEndless finds.Nothing = ⊥
+FindsEndless finds.Failure = Unit {0}
+FindsEndless (finds.Words words) = ⊥
+FindsEndless finds.NoEnd = Unit {0}
+FindsEndless finds.ForEver = Unit {0}
+
+-- Of a search through every order of entries, in which runs that never end are looked for, a run of the module by the
+-- call that was asked for; and its record was written, where one is wanted.
+pub record IsEndlessKept (m : Parts) (s : Search) (save : WriterChange) : Type 0 where
+  pub every_order : is_some s.all ≡ true
+  pub sought : FindsEndless s.sought.target.find
+  pub args : List Value
+  pub spelled : AreSpelled (texts_in s.call.args.items) args
+  pub record_is : RecordParts
+  pub end : EndState
+  pub run : IsRunOf m record_is end
+  pub of_call : IsOfCall m s.call.invoke.now args s.call.fuel s.sought.limit record_is
+  pub kept : KeepsRecord (is_some s.save) save record_is
+
 -- Nothing was written, or the record of a run that was found.
 abbrev pub KeepsNoneOrFind : Parts → Search → WriterChange → Type 0
 KeepsNoneOrFind m s save = (save.new ≡ save.old) ⊎ IsFindKept m s save
 
+abbrev pub KeepsNoneOrEndless : Parts → Search → WriterChange → Type 0
+KeepsNoneOrEndless m s save = (save.new ≡ save.old) ⊎ IsEndlessKept m s save
+
 -- Nothing was found and nothing written, or a run was found, and the status is 1.
+abbrev pub IsKept : Parts → Search → WriterChange → Type 0
+IsKept m s save = IsFindKept m s save ⊎ IsEndlessKept m s save
+
 abbrev pub Finds : Parts → Search → WriterChange → ℕ → Type 0
-Finds m s save status = ((status ≤ 1) × (save.new ≡ save.old)) ⊎ ((status ≡ 1) × IsFindKept m s save)
+Finds m s save status = ((status ≤ 1) × (save.new ≡ save.old)) ⊎ ((status ≡ 1) × IsKept m s save)
 
--- All threads ended well; and in each of these endings they did.
-abbrev pub threads_end_well : Ending → Bool
-threads_end_well e = list_all is_done e.outcomes
+-- They are all endings of a call, where that is said; and each is one.
+abbrev pub FindsEvery : Requested → ℕ → Ended Ending → Type 0
+FindsEvery q dump all = all.verdict ≡ verdicts.All → HasEveryEnding q.parts q.name q.args dump all.endings.keys
 
-abbrev pub all_end_well : List Ending → Bool
-all_end_well endings = list_all threads_end_well endings
+abbrev pub FindsNoOther : Requested → ℕ → Ended Ending → Type 0
+FindsNoOther q dump all = AllCanEndSo q.parts q.name q.args dump all.endings.keys
 
--- These are all endings that were looked for, there is one, and in each all threads ended well.
-pub record AreAllWell (all : Ended Ending) : Type 0 where
-  pub are_all : all.verdict ≡ verdicts.All
-  pub some : all.endings.keys ≢ []
-  pub well : all_end_well all.endings.keys ≡ true
+-- What is found of all runs of a call: where it says so the endings are all; each is one; as many states were met as it
+-- says; and what it says of whether all comes to an end.
+pub record IsCompleteOf (q : Requested) (dump : ℕ) (all : Ended Ending) : Type 0 where
+  pub every : FindsEvery q dump all
+  pub can : FindsNoOther q dump all
+  pub count : CountsStates q all.states
+  pub live : SaysWhereAll q dump all.states all.verdict all.liveness
 
--- Runs of the module by the call that was asked for can end; and each that ends, all its threads with units and room
--- enough, ends well: all threads' functions returned.
+-- What was written are the lines of what was found of all runs of the module by the call that was asked for, with what
+-- was found behind them.
+pub record PrintsAll (m : Parts) (s : Search) (most : ℕ) (out : WriterChange) : Type 0 where
+  pub request : Requested
+  pub parts_are : request.parts ≡ m
+  pub asked : IsAskedBy s.call request
+  pub all : Ended Ending
+  pub complete : IsCompleteOf request s.sought.dump all
+  pub prints : PrintsComplete most all out
+
+-- By this call threads without budgets can still end from wherever they come, and no fair run goes on for ever.
+pub record IsSureToEnd (m : Parts) (entry : List ℕ) (args : List Value) (dump : ℕ) : Type 0 where
+  pub called : Called
+  pub call : IsCall m entry args called
+  pub can_end : (w : State Shared Thread) → CanReach called w → CanStillEnd called dump w
+  pub fair_runs_end : HasFairRun called → ⊥
+
+-- Runs of the module by the call that was asked for can end; each that ends, all its threads with units and room enough,
+-- ends well and otherwise than is looked for: all threads' functions returned; and they are sure to end.
 pub record EndWell (m : Parts) (s : Search) : Type 0 where
   pub args : List Value
   pub spelled : AreSpelled (texts_in s.call.args.items) args
@@ -69,13 +122,8 @@ pub record EndWell (m : Parts) (s : Search) : Type 0 where
   pub can : AllCanEndSo m s.call.invoke.now args s.sought.dump endings
   pub some : endings ≢ []
   pub well : all_end_well endings ≡ true
-
--- They are all endings of a call, where that is said; and each is one.
-abbrev pub FindsEvery : Requested → ℕ → Ended Ending → Type 0
-FindsEvery q dump all = all.verdict ≡ verdicts.All → HasEveryEnding q.parts q.name q.args dump all.endings.keys
-
-abbrev pub FindsNoOther : Requested → ℕ → Ended Ending → Type 0
-FindsNoOther q dump all = AllCanEndSo q.parts q.name q.args dump all.endings.keys
+  pub unsought : All (λ e. IsLookedFor s.sought e → ⊥) endings
+  pub sure : IsSureToEnd m s.call.invoke.now args s.sought.dump
 
 -- What status 0 says of a search through every order of entries.
 abbrev pub IsWellAt : Parts → Search → ℕ → Type 0
@@ -100,14 +148,19 @@ pub record DrawWell (m : Parts) (s : Search) : Type 0 where
 abbrev pub IsDrawnWellAt : Parts → Search → ℕ → Type 0
 IsDrawnWellAt m s status = is_none s.all ≡ true → status ≡ 0 → DrawWell m s
 
+-- What is printed of a search through every order of entries.
+abbrev pub IsPrintedOf : Parts → Search → WriterChange → Type 0
+IsPrintedOf m s out = (most : ℕ) → s.all ≡ Some most → PrintsAll m s most out
+
 -- The bytes are a valid module's text, and its runs were searched.
-pub record HasSearched (bytes : List ℕ) (s : Search) (save : WriterChange) (status : ℕ) : Type 0 where
+pub record HasSearched (bytes : List ℕ) (s : Search) (out save : WriterChange) (status : ℕ) : Type 0 where
   pub parts : Parts
   pub text : IsModuleText bytes parts
   pub valid : IsValid parts
   pub finds : Finds parts s save status
   pub well : IsWellAt parts s status
   pub drawn : IsDrawnWellAt parts s status
+  pub prints : IsPrintedOf parts s out
 
 -- A trouble that is the system's.
 abbrev pub IsOfSystem : Trouble → Type 0

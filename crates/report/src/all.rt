@@ -1,9 +1,9 @@
 //! Every order of the entries of a call: what is printed, and the record of what was found.
-ghost use Rattle.std.specs.Prelude.{◌≡◌, ◌≤◌, All, None, IfOk, IfErr, IfSome};
+ghost use Rattle.std.specs.Prelude.{◌≡◌, ◌≤◌, All, Some, None, is_some, true, IfOk, IfErr, IfSome};
 ghost use Rattle.search_finds.specs.Finds.{IsLookedFor};
 ghost use Rattle.report_jobs.specs.Asked.{IsAskedBy};
-ghost use Rattle.report.specs.Searches.{Finds, IsCompleteOf, KeepsNoneOrFind, KeepsNoneOrRun, IsOfSystem};
-ghost use Rattle.report.specs.Searches.{IsWellAt, PrintsAll};
+ghost use Rattle.report.specs.Searches.{Finds, FindsEndless, IsCompleteOf, KeepsNoneOrFind, KeepsNoneOrEndless};
+ghost use Rattle.report.specs.Searches.{IsOfSystem, IsWellAt, PrintsAll};
 ghost use Rattle.report_jobs.specs.Prints.{changed};
 
 use crate::complete::{Complete, are_well, write_complete};
@@ -114,7 +114,9 @@ fn tell_sought<F: Hears, W: Write, S: Write>(
 
 /// The run that never ends, where one is looked for: to the first state from which no run ends, or else round a cycle
 /// of a fair run. Where nothing is said, both are looked for.
-fn endless_run<'a>(liveness: &'a Liveness, find: Find) -> Option<EndlessRun<'a>> {
+fn endless_run<'a>(liveness: &'a Liveness, find: Find) -> Option<EndlessRun<'a>>
+    ensures { IfSome result (λ _. FindsEndless find.entry) }
+{
     let (finds_stuck, finds_rounds) = match find {
         Find::Failure => (true, true),
         Find::NoEnd => (true, false),
@@ -146,8 +148,10 @@ fn tell_endless<W: Write, S: Write>(
     save: &mut S,
 ) -> Result<(), Trouble>
     requires asked { IsAskedBy search.now.call request.now }
+    requires every_order { is_some search.now.all ≡ true }
+    requires sought { FindsEndless search.now.sought.target.find }
     ensures kept { IfOk result
-        (λ _. KeepsNoneOrRun request.now.parts search.now (changed S.contents save.old save.new)) }
+        (λ _. KeepsNoneOrEndless request.now.parts search.now (changed S.contents save.old save.new)) }
     ensures trouble { IfErr result IsOfSystem }
 {
     let EndlessRun { path, round } = endless;
@@ -168,7 +172,7 @@ fn tell_endless<W: Write, S: Write>(
     Ok(())
 }
 
-/// Tells of a run that never ends, where one is looked for. Answers whether there is one.
+/// Tells of a run that never ends, where one is looked for.
 fn tell_if_endless<W: Write, S: Write>(
     alloc: Global,
     request: &Request,
@@ -178,8 +182,9 @@ fn tell_if_endless<W: Write, S: Write>(
     save: &mut S,
 ) -> Result<(), Trouble>
     requires asked { IsAskedBy search.now.call request.now }
+    requires every_order { is_some search.now.all ≡ true }
     ensures kept { IfOk result
-        (λ _. KeepsNoneOrRun request.now.parts search.now (changed S.contents save.old save.new)) }
+        (λ _. KeepsNoneOrEndless request.now.parts search.now (changed S.contents save.old save.new)) }
     ensures trouble { IfErr result IsOfSystem }
 {
     if let Some(liveness) = &all.liveness
@@ -203,7 +208,8 @@ pub(crate) fn search_all_orders<F: Hears, W: Write, S: Write>(
     out: &mut W,
     save: &mut S,
 ) -> Result<u8, Trouble>
-    requires { IsAskedBy search.now.call request.now }
+    requires asked { IsAskedBy search.now.call request.now }
+    requires every_order { search.now.all ≡ Some most }
     ensures finds { IfOk result (Finds request.now.parts search.now (changed S.contents save.old save.new)) }
     ensures prints { IfOk result
         (λ _. PrintsAll request.now.parts search.now most (changed W.contents out.old out.new)) }

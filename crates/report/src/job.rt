@@ -72,8 +72,8 @@ where
     S: Write,
     F: Hears,
     requires { IsSearchInRange asked.now }
-    ensures made { result ≤ 1
-        → HasSearched «module».now asked.now (changed S.contents streams.old.save streams.new.save) result }
+    ensures made { result ≤ 1 → HasSearched «module».now asked.now (changed W.contents streams.old.out streams.new.out)
+        (changed S.contents streams.old.save streams.new.save) result }
     ensures refused { result ≡ 2 → IsNoValidModule «module».now }
     ensures cannot { result ≡ 3 → HasNoSuchCall «module».now asked.now.call }
     ensures status { (result ≤ 3) ⊎ (result ≡ 5) }

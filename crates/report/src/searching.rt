@@ -5,7 +5,7 @@ ghost use Rattle.search_finds.specs.Finds.{IsFind, EndsAsLookedFor};
 ghost use Rattle.report_command.specs.Searches.{IsSearchInRange};
 ghost use Rattle.report_jobs.specs.Asked.{IsAskedBy};
 ghost use Rattle.report_jobs.specs.Troubles.{IsTroubleOf};
-ghost use Rattle.report.specs.Searches.{Finds, DrawWell, IsDrawnWellAt, IsFindKept, IsOfSystem, IsWellAt};
+ghost use Rattle.report.specs.Searches.{Finds, DrawWell, IsDrawnWellAt, IsFindKept, IsOfSystem, IsPrintedOf, IsWellAt};
 ghost use Rattle.report_jobs.specs.Prints.{changed};
 ghost use Rattle.report_jobs.specs.declared.running.Trouble.TheVariants as troubles;
 
@@ -125,6 +125,8 @@ pub fn search_module<R: Threads + Sync, F: Hears, W: Write, S: Write>(
     ensures finds { IfOk result (Finds «module».now.parts search.now (changed S.contents save.old save.new)) }
     ensures well { IfOk result (IsWellAt «module».now.parts search.now) }
     ensures drawn { IfOk result (IsDrawnWellAt «module».now.parts search.now) }
+    ensures prints { IfOk result
+        (λ _. IsPrintedOf «module».now.parts search.now (changed W.contents out.old out.new)) }
     ensures trouble { IfErr result (IsTroubleOf «module».now.parts search.now.call) }
 {
     let args = args_of(alloc, module, &search.call)?;
