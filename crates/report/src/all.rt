@@ -41,7 +41,7 @@ fn all_of<F: Follows>(
     ensures can { IfOk result (FindsNoOther request.now dump) }
     ensures trouble { IfErr result IsOfSystem }
 {
-    Ok(all_endings(alloc, request, most as usize, dump as usize, follower)?)
+    Ok(all_endings(alloc, request, most, dump as usize, follower)?)
 }
 
 /// The word for so many.
