@@ -28,7 +28,7 @@ use Rattle.search_modules.specs.Moved.{called, threads, IsStuck}
 use Rattle.search_modules.specs.Endings.{HasEveryEnding, AllCanEndSo, IsWorkerOf, BeginsUnknown, CanBeLost}
 
 -- what is gone through
-abbrev gone : Searched → StepSystem (Flat Common SharedWalker) (systems.State Shared Thread) Ending
+abbrev pub gone : Searched → StepSystem (Flat Common SharedWalker) (systems.State Shared Thread) Ending
 gone s = turn_steps (threads s) (HasEndedSo s.dump) (IsStuck s)
 
 module _ (m : Parts) (entry : List ℕ) (args : List Value) (s : Searched) (call : IsCall m entry args (called s)) (dump : ℕ)

@@ -4,4 +4,5 @@ pub mod Following
 pub mod Told
 pub mod Entries
 pub mod Finding
+pub mod Living
 pub mod Returning

@@ -2,3 +2,4 @@ pub mod Searching
 pub mod Moved
 pub mod Endings
 pub mod Returned
+pub mod Liveness

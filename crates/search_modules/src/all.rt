@@ -4,6 +4,7 @@ ghost use Rattle.std.specs.Prelude.{◌≡◌, IfOk, vec_len};
 ghost use Rattle.indexmap.specs.IndexSet.{index_set_len};
 ghost use Rattle.search_reach.specs.Found.{AreListed};
 ghost use Rattle.search_modules.specs.Endings.{claims_of};
+ghost use Rattle.search_modules.specs.Liveness.{CountsStates, SaysWhereAll};
 
 use crate::calling::searched;
 use search_endings::Ending;
@@ -25,17 +26,24 @@ use std::alloc::{AllocError, Global};
 /// coming to rest, or stands where a spawned one begins in a module that can start none (`CanBeLost`), and
 /// `Verdict::Told` only where the follower's last wish is that it ends.
 ///
+/// `states` is the number of states that it met, of which no two are equal, and to each of which threads can come
+/// (`CountsStates`). At `Verdict::All`, and there alone, it says of which of them no ending can be reached, and whether a
+/// fair run of threads without budgets goes on for ever (`SaysOfCall`): one in which each thread that wants a turn of its
+/// own or an event makes its next turn then or later. The choices that it gives with that are hints.
+///
 /// # Errors
 /// Where memory is refused.
 pub fn all_endings<F: Follows>(
     alloc: Global,
     request: &Request,
-    most_states: usize,
+    most_states: u32,
     dump: usize,
     follower: &mut F,
 ) -> Result<Ended<Ending>, AllocError>
     ensures found { IfOk result (AreListed (claims_of request.now dump) most_states (F.wish follower.new)) }
     ensures paths { IfOk result (λ r. vec_len r.paths ≡ index_set_len r.endings) }
+    ensures count { IfOk result (λ r. CountsStates request.now r.states) }
+    ensures live { IfOk result (λ r. SaysWhereAll request.now dump r.states r.verdict r.liveness) }
 {
     let searched = searched(alloc, request, dump)?;
     search_all(alloc, &searched, most_states, follower)

@@ -1,15 +1,15 @@
 -- The moves that a search noted, as a graph of its states.
-use Rattle.std.specs.Prelude.{◌≡◌, ◌==◌, ◌<◌, ◌⊎◌, ℕ, zero, suc, Bool, true, false, List, [], ◌∷◌, length, Contains, slice_get, Some, refl, cond}
+use Rattle.std.specs.Prelude.{◌≡◌, ◌==◌, ◌⊎◌, ℕ, zero, suc, Bool, true, false, List, [], ◌∷◌, length, Contains, slice_get, Some, refl, cond}
 use Rattle.std.proofs.Common.{ap, subst, sym, ◌∙◌, inl, inr, arith}
 use Rattle.std.proofs.lemmas.List.Elements.{Contains-push_cases, Contains-append_cases}
-use Rattle.std.proofs.lemmas.Bool.{eqb-true, eq-eqb, cond-true}
+use Rattle.std.proofs.lemmas.Bool.{eq-eqb, cond-true}
 use Rattle.std.proofs.lemmas.Option.{slice_get_within, get_or_from_slice_get, slice_get-get_or}
 use Rattle.search_graph.specs.Paths.{Goes, Reaches}
 use Rattle.search_graph.specs.Graph.{Moves, Steps as MoveSteps}
 use Rattle.search_graph.specs.declared.graph.Move.{Move}
 use Rattle.search_reach.specs.declared.explores.Next.{Next}
-use Rattle.search_reach.specs.Search.{StepSystem, Steps, StandsFor, Covers, Comes, AreNext, IsAll, StaysIn, LeadsOn}
-use Rattle.search_reach.specs.Explored.{moves_from, HasAt, IsNoted, IsGoneOn, Explored}
+use Rattle.search_reach.specs.Search.{StepSystem, Steps, Covers, IsAll, StaysIn, LeadsOn}
+use Rattle.search_reach.specs.Explored.{moves_from, IsGoneOn, Explored}
 use Rattle.search_reach.proofs.Paths.{stays, one_step, onward}
 use Rattle.search_reach.proofs.Searching.{Contains-head, Contains-tail, noted-each, noted-all, comes-next}
 

@@ -5,7 +5,7 @@ use Rattle.std.specs.List.{slice_get, AllZip, IsDistinct}
 use Rattle.std.specs.List.Sorted.{IsStrictlyIncreasing}
 use Rattle.std.specs.Option.{is_some}
 use Rattle.search_graph.specs.Paths.{Goes, Reaches}
-use Rattle.std.proofs.lemmas.Option.{slice_get_within, get_or_from_slice_get, slice_get-get_or, none-some}
+use Rattle.std.proofs.lemmas.Option.{slice_get_within, none-some}
 use Rattle.std.proofs.lemmas.List.Elements.{All-weaker, All-contains_itself}
 use Rattle.search_graph.specs.Graph.{Moves, IsWithin, IsMarked, CanMove, CanEnd as PathEnds, CannotEnd}
 use Rattle.search_graph.specs.Runs.{Turns, EveryFairRunEnds, HasFairCycle}

@@ -82,7 +82,6 @@ module _ {S : Type 0} (eq : S → S → Bool) where
       by true c = h s c
       by false c = last (Contains-push_cases ks k s c)
 
-
 -- the first keys are the first of more
 slice_get_front : {A : Type 0} (ks more : List A) (i : ℕ) (x : A) → slice_get ks i ≡ Some x → slice_get (ks ++ more) i ≡ Some x
 slice_get_front [] more i x h = absurd (none-some x h)
@@ -171,7 +170,7 @@ module _ {S : Type 0} (eq : S → S → Bool) where
       let old = notes (let e = ap length inserted in omega (arith, long, e, few)) in
       let new : Notes eq (insert_key eq ks x.state) at (xs ++ x ∷ []) before (between ++ m index ∷ []) =
       notes-more ks at xs x before between index old
-          (record { key = stored.0; at = ap (λ l. slice_get l index) (sym inserted) ∙ stored.1; is = stored.2 }) in
+      (record { key = stored.0; at = ap (λ l. slice_get l index) (sym inserted) ∙ stored.1; is = stored.2 }) in
       subst (λ l. Notes eq l at (xs ++ x ∷ []) before after) (sym inserted)
       (subst (λ l. Notes eq (insert_key eq ks x.state) at (xs ++ x ∷ []) before l) (sym (pushed ∙ ap (λ (n : ℕ). between ++ m n ∷ []) same)) new)
 

@@ -7,7 +7,6 @@ use Rattle.search_graph.specs.Graph.{CanEnd as PathEnds, CannotEnd}
 use Rattle.search_graph.specs.Runs.{EveryFairRunEnds}
 use Rattle.search_graph.specs.Worlds.{FairRun}
 use Rattle.search_graph.specs.declared.graph.Graph.{Graph}
-use Rattle.search_graph.specs.declared.graph.Move.{Move}
 use Rattle.search_fairness.specs.Judged.{IsCycle}
 use Rattle.search_fairness.specs.declared.judged.Cycle as cycles
 use Rattle.search_reach.specs.Search.{StepSystem, StandsFor, CanEnd, IsSound, IsAll}

@@ -107,13 +107,13 @@ module _ {X T E V A G H M O : Type 0} (k : ThreadSystem X T E V A G H M) (ends :
         no_more u apart has =
             let can = going w turns st u has in
             let same = event_leaves k.system w n u e (tame.answers w st.reached) (tame.starts w st.reached) calls apart
-                (not_awaits k.system w u can) (not_gone k.system w u can) in
+            (not_awaits k.system w u can) (not_gone k.system w u can) in
             let by_on = rest_to k.system (after_event k.system w n e) at.settled rest_on in
             let left = turns_to k.system (after_event k.system w n e) at.settled rest_on in
             let comes : ComesTo k.system (left u) (w.threads u) (at.settled.threads u) =
             subst (λ (t : T). ComesTo k.system (left u) t (at.settled.threads u)) same (by_on.comes u) in
             let one = one_count k.system (left u) (turns u) (w.threads u) (at.settled.threads u) (st.settled.threads u) comes (by_on.rests u)
-                (st.rest.comes u) (st.rest.rests u) in
+            (st.rest.comes u) (st.rest.rests u) in
             omega (arith, one)
 
         leads : (y : State X T) → y ≡ after_event k.system w n e → LeadsOn Turning xs n y turns
@@ -160,7 +160,7 @@ module _ {X T E V A G H M O : Type 0} (k : ThreadSystem X T E V A G H M) (ends :
           let is : y ≡ after_event k.system w n calls.0 = made ∙ ap (after_turn k.system w n) calls.1 in
           let here : w.threads n ≡ st.settled.threads n =
           at_rest k.system (w.threads n) (st.settled.threads n) ((rest_by k.system turns w st.settled st.rest).each n)
-              (λ t. (let c = calls.1 in cc (c, t))) in
+          (λ t. (let c = calls.1 in cc (c, t))) in
           let x = next.all st.settled (at_settled c w turns st) n calls.0 (ap k.system.wants (sym here) ∙ calls.1) in
           inr (leads w turns st n calls.0 calls.1 x.0 x.1 x.2 x.3 y is)
 

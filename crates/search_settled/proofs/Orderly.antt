@@ -8,11 +8,10 @@ use Rattle.search_graph.specs.Paths.{Reaches}
 use Rattle.search_graph.specs.Worlds.{CanStep}
 use Rattle.search_reach.specs.Search.{StandsFor, RestsIn, IsOrderly}
 use Rattle.search_reach.proofs.Paths.{stays, one_step, onward, by_others}
-use Rattle.search_settled.specs.Settled.{ComesTo, ComesToRestBy, CanGoOn, turning, StepsBy, AnswersFit, StartsFit, IsReached, AreTame}
+use Rattle.search_settled.specs.Settled.{ComesTo, CanGoOn, turning, StepsBy, AnswersFit, StartsFit, IsReached, AreTame}
 use Rattle.search_settled.specs.declared.flat.Flat.{Flat}
 use Rattle.search_settled.specs.Threads.{ThreadSystem}
 use Rattle.search_settled.specs.Flat.{AreBounded}
-use Rattle.search_settled.specs.Next.{StandsForState}
 use Rattle.search_settled.specs.Turns.{turn_steps}
 use Rattle.search_settled.proofs.Resting.{rest_by, rest_self}
 use Rattle.search_settled.proofs.Reaching.{to_rest}
@@ -92,8 +91,7 @@ module _ {X T E V A G H M O : Type 0} (k : ThreadSystem X T E V A G H M) (ends :
   -- what the state stands for comes to rest in it
   settles : (w : State X T) → Stands w → (z : State X T) × Reaches (CanStep (turning k.system)) w z × RestsIn (turn_steps k ends stuck) c z
   settles w stands =
-      let st = stands.1 in
-      (
+      let st = stands.1 in (
         st.settled,
         only_going k.system w st.settled (to_settled w stands),
         record {

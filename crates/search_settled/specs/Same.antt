@@ -27,11 +27,15 @@ module _ {H : Type 0} (eq : H → H → Bool) where
       (x, refl, ap (eq x) (sym same) ∙ first_so (eq x z) (pointwise eq xs ys) e)
   one_at (x ∷ xs) (z ∷ ys) (suc m) y e at = one_at xs ys m y (second_so (eq x z) (pointwise eq xs ys) e) at
 
+-- Flat states that are equal.
+abbrev pub flat_eq : {G H : Type 0} → (G → G → Bool) → (H → H → Bool) → Flat G H → Flat G H → Bool
+flat_eq eq_shared eq_thread x y = eq_shared x.shared y.shared && pointwise eq_thread x.threads.items y.threads.items
+
 pub flat_alike : {X T E V A G H M : Type 0} (eq_shared : G → G → Bool) (eq_thread : H → H
     → Bool) (k : ThreadSystem X T E V A G H M)
     → ((x y : G) → eq_shared x y ≡ true → (w : X) → k.shares x w → k.shares y w)
     → ((x y : H) → eq_thread x y ≡ true → (w : T) → k.is_thread x w → k.is_thread y w)
-    → (x y : Flat G H) → (eq_shared x.shared y.shared && pointwise eq_thread x.threads.items y.threads.items) ≡ true
+    → (x y : Flat G H) → flat_eq eq_shared eq_thread x y ≡ true
     → (z : State X T) → IsFlat k x z → IsFlat k y z
 flat_alike eq_shared eq_thread k same_shared same_thread x y e z is =
     let a = first_so (eq_shared x.shared y.shared) (pointwise eq_thread x.threads.items y.threads.items) e in

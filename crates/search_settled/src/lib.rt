@@ -1,6 +1,7 @@
 //! Settled states: a search over the turns of threads needs to look only where no thread wants a turn of its own.
 //!
-//! Proved: at `Verdict::All` the list has the ending of every run of turns, in any order, and no other ending.
+//! Proved: at `Verdict::All` the list has the ending of every run of turns, in any order, and no other ending; from
+//! which states none can be reached is exact, and so is what is said of fair runs.
 //!
 //! A thread's own turns change nobody else. So whoever goes through all runs of threads goes from settled state to
 //! settled state: one thread makes the event that it wants, and then each makes its turns of its own. It is stated over
@@ -12,7 +13,7 @@
 //!   which settled states come next.
 //! - `proofs/Resting.antt` and `proofs/Stepping.antt`: a turn from what comes to rest in a state stays there, or is the
 //!   event of a thread that rests. `proofs/Reaching.antt`: where threads come to rest can be reached, by their own
-//!   turns.
+//!   turns. `proofs/Orderly.antt`: a thread that can go on can until it makes a turn.
 //! - `Flat` is a settled state as a value, `Moves` what a system supplies, whose threads are moved one by one, and
 //!   `search_all` the search: at `Verdict::All` the list has the ending of each run, whatever the order of the turns.
 #![tactic(auto)]

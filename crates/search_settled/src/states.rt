@@ -2,7 +2,9 @@
 ghost use Rattle.std.specs.Prelude.{◌≡◌, IfOk, vec_len};
 ghost use Rattle.indexmap.specs.IndexSet.{index_set_len};
 ghost use Rattle.search_reach.specs.Found.{AreEndings};
+ghost use Rattle.search_reach.specs.Liveness.{IsCount, IsLiveWhereAll};
 ghost use Rattle.search_settled.specs.Turns.{turns};
+ghost use Rattle.search_settled.specs.Same.{flat_eq};
 
 use crate::next::next_states;
 use crate::{Flat, Moves};
@@ -54,7 +56,8 @@ impl<M: Moves> Explores for Turns<'_, M> {
 }
 
 /// The endings of all runs of threads, whatever the order of their turns; it meets no more than `most` settled states
-/// and a few, and those before it is told to end.
+/// and a few, and those before it is told to end. Where it met all, it says of which states no run ends, and whether
+/// every fair run ends: one in which each thread that wants a turn of its own or an event makes its next turn.
 pub fn search_all<M: Moves, F: Follows>(
     alloc: Global,
     system: &M,
@@ -63,6 +66,10 @@ pub fn search_all<M: Moves, F: Follows>(
 ) -> Result<Ended<M::Ending>, AllocError>
     ensures found { IfOk result (AreEndings (turns M.Moves system.now) M.Ending.eq most (F.wish follower.new)) }
     ensures paths { IfOk result (λ r. vec_len r.paths ≡ index_set_len r.endings) }
+    ensures count { IfOk result
+        (λ r. IsCount (turns M.Moves system.now) (flat_eq M.Shared.eq M.Thread.eq) r.states) }
+    ensures live { IfOk result
+        (λ r. IsLiveWhereAll (turns M.Moves system.now) (flat_eq M.Shared.eq M.Thread.eq) r.states r.verdict r.liveness) }
 {
     let states = Turns { system };
     all_endings(alloc, &states, most, follower)

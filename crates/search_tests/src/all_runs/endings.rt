@@ -37,7 +37,7 @@ fn check_endings<R: Abort>(
 ) -> Result<(), Fail> {
     let all = gone_through(alloc, valid, gone, MOST)?;
     assert_eq!(rt; all.verdict, Verdict::All);
-    assert_eq!(rt; all.states, gone.states);
+    assert_eq!(rt; all.states, gone.states as usize);
     assert_eq!(rt; all.endings.len(), gone.endings.len());
     for ending in all.endings.as_slice() {
         let text = text_of(alloc, ending)?;
@@ -60,7 +60,7 @@ fn verdict_at(
     alloc: Global,
     valid: &ValidModule,
     gone: &Gone,
-    most: usize,
+    most: u32,
 ) -> Result<Verdict, Fail> {
     let all = gone_through(alloc, valid, gone, most)?;
     Ok(all.verdict)

@@ -18,7 +18,7 @@ use validate::ValidModule;
 pub(crate) const DUMP: u32 = 16;
 
 /// More states than any of the modules has.
-pub(crate) const MOST: usize = 10_000;
+pub(crate) const MOST: u32 = 10_000;
 
 /// A call of a module, and what another enumeration says of it (`bench/endings.py --dump 16`): the endings, and how
 /// many states it met.
@@ -26,7 +26,7 @@ pub(crate) struct Gone {
     pub module: &'static [u8],
     pub args: &'static [Value],
     pub endings: &'static [&'static str],
-    pub states: usize,
+    pub states: u32,
 }
 
 pub(crate) static MODULES: [Gone; 9] = [
@@ -118,7 +118,7 @@ pub(crate) fn gone_through(
     alloc: Global,
     valid: &ValidModule,
     gone: &Gone,
-    most: usize,
+    most: u32,
 ) -> Result<Ended<Ending>, Fail> {
     let request = Request::new(valid, call_of(gone))?;
     Ok(all_endings(alloc, &request, most, DUMP as usize, &mut ())?)

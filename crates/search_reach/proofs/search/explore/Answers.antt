@@ -22,7 +22,7 @@ loop-state-preserved g c =
           c.loop-state.met.keys c.add_all.new.met.keys c.in-Some-2.after.items c.loop-state.moves.items c.add_all.new.moves.items
           c.loop-state.at c.in-Some.state.now
           (c.loop-state.invariant.explored (let more = length-longer c.loop-state.met.keys c.add_all.new.met.keys
-              (Gains-begins c.loop-state.met.keys c.add_all.new.met.keys c.in-Some-2.after.items gains) in omega (arith, more, few)))
+          (Gains-begins c.loop-state.met.keys c.add_all.new.met.keys c.in-Some-2.after.items gains) in omega (arith, more, few)))
           (sym c.in-Some.ensures.key) next gains (c.in_ok-add_all.ensures.noted few);
     }
 
