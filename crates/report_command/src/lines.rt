@@ -112,7 +112,10 @@ fn is_spelled(alloc: Global, words: &str, outcome: Outcome) -> Result<bool, Allo
         return Ok(true);
     }
     let behind = format!(in alloc; "ok {words}")?;
-    Ok(text.as_str() == behind.as_str())
+    if text.as_str() == behind.as_str() {
+        return Ok(true);
+    }
+    Ok(false)
 }
 
 /// The value that ends words, if one does.
