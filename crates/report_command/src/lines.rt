@@ -23,11 +23,18 @@ static PLAIN: [Outcome; 12] = [
 ];
 
 /// Those by which a budget is spent.
-static SPENT: [Outcome; 2] = [Outcome::Stop(Stop::OutOfFuel), Outcome::Stop(Stop::RecordFull)];
+static SPENT: [Outcome; 2] = [
+    Outcome::Stop(Stop::OutOfFuel),
+    Outcome::Stop(Stop::RecordFull),
+];
 
 /// The number at the end of words, or where there are no digits 0; none where it has more than 64 bits.
 fn number_in(words: &str) -> Option<u64> {
-    let digits = words.bytes().rev().take_while(|byte| byte.is_ascii_digit()).count();
+    let digits = words
+        .bytes()
+        .rev()
+        .take_while(|byte| byte.is_ascii_digit())
+        .count();
     if digits == 0 {
         return Some(0);
     }
@@ -117,7 +124,10 @@ fn is_spelled(alloc: Global, words: &str, outcome: Outcome) -> Result<bool, Allo
         return Ok(true);
     }
     let behind = format!(in alloc; "ok {words}")?;
-    Ok(text == behind)
+    if text.as_str() == behind.as_str() {
+        return Ok(true);
+    }
+    Ok(false)
 }
 
 /// The value that ends words, if one does.

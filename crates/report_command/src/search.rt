@@ -7,12 +7,12 @@ ghost use Rattle.report_command.specs.Searches.{IsSoughtInRange};
 use crate::arguments::{Argument, CommandRow, FLAG, OPTION};
 use crate::call::{ARGS, CallWords, FUEL, INVOKE, call_of};
 use crate::command_line::{DUMP, FILE, Job, LIMIT, Misuse, limit_and_dump_of};
-use crate::lines::{Standing, endless_of, result_of, standing_of};
 use crate::limits::{
     DEFAULT_FROM, DEFAULT_RUNS, DEFAULT_SEARCH_FUEL, DEFAULT_SEARCH_LIMIT, DEFAULT_SEED,
     DEFAULT_SHRINK_SECONDS, DEFAULT_STATES, MOST_JOBS, MOST_RUNS, MOST_SECONDS, MOST_SEED,
     MOST_STATES,
 };
+use crate::lines::{Standing, endless_of, result_of, standing_of};
 use clap::ArgMatches;
 use clap::builder::ValueParser;
 use report_choice::{Find, MOST_DEPTH, Sought, Target, Way};

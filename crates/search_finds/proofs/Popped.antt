@@ -9,4 +9,4 @@ popped P xs ys r x e some all = let h = All-pop P xs ys r e all in (h.0, rw some
 
 -- It holds of each once one of which it holds stands first.
 pub put_first : {X : Type 0} (P : X → Type 0) (xs : List X) (x : X) → All P xs → P x → All P (take 0 xs ++ x ∷ drop 0 xs)
-put_first P xs x all one = All-append P (take 0 xs) _ (All-take P 0 xs all) (All-cons P x (drop 0 xs) one (All-drop P 0 xs all))
+put_first P xs x all one = All-append P (take 0 xs) (x ∷ drop 0 xs) (All-take P 0 xs all) (All-cons P x (drop 0 xs) one (All-drop P 0 xs all))

@@ -91,7 +91,10 @@ impl<'m, 'a> RunMaker<'m, 'a> {
         ensures spares { OnOk result (AreSparesIn self.now spares.new) }
     {
         let Sought {
-            way, seed, limit, ..
+            way,
+            seed,
+            limit,
+            ..
         } = *self.sought;
         let drawn = Drawn::new(way, seed, run, self.entries);
         let mut watched = Watched::new(drawn, watch);
@@ -184,6 +187,16 @@ impl<'m, 'a> RunMaker<'m, 'a> {
         Ok(endings)
     }
 
+    /// Drops the endings of later runs, where those before them aren't whole.
+    fn drop_later(&self, endings: &mut Vec<Ending>, is_whole: bool)
+        requires { All (IsMetIn self.now) endings.old.items }
+        ensures { All (IsMetIn self.now) endings.new.items }
+    {
+        if !is_whole {
+            endings.clear();
+        }
+    }
+
     /// Puts the endings of the last piece, if there is one, behind those of later runs, and takes it away. Where it
     /// hasn't as many as were wanted, the later ones are dropped.
     fn add(
@@ -202,9 +215,7 @@ impl<'m, 'a> RunMaker<'m, 'a> {
             return Ok(());
         };
         let mut made = piece?;
-        if made.len() < wanted {
-            endings.clear();
-        }
+        self.drop_later(endings, made.len() >= wanted);
         endings.append(&mut made)?;
         Ok(())
     }
@@ -226,7 +237,9 @@ impl<'m, 'a> RunMaker<'m, 'a> {
             rt,
             alloc,
             jobs,
-            &|job| {
+            &|job: usize| -> Result<Vec<Ending>, SearchFault>
+                ensures { IfOk result (λ endings. All (IsMetIn self.entry.now) endings.items) }
+            {
                 let first = (job as u64).saturating_mul(piece);
                 let wanted = count.saturating_sub(first).min(piece);
                 self.endings(alloc, watch, from.saturating_add(first), wanted as usize)

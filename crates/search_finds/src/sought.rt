@@ -1,5 +1,7 @@
 //! What is looked for.
 ghost use Rattle.std.specs.Prelude.{◌≡◌, ◌↔◌, true, IfOk};
+ghost use Rattle.std.specs.List.{list_all};
+ghost use Rattle.report_lines.specs.Ends as specified;
 ghost use Rattle.search_finds.specs.Finds.{IsLookedFor, IsFoundBy, IsUnexpected, HasFailure, ComesToAnother};
 
 use crate::has_line_with;
@@ -9,11 +11,18 @@ use search_endings::Ending;
 use std::alloc::{AllocError, Global};
 use types::Outcome;
 
+/// Whether all threads' functions returned.
+fn all_done(outcomes: &[Outcome]) -> bool
+    ensures { result ≡ list_all specified.is_done outcomes.now }
+{
+    outcomes.iter().all(|outcome| is_done(*outcome))
+}
+
 /// Whether some thread trapped or was stopped.
 fn has_failure(ending: &Ending) -> bool
     ensures { (result ≡ true) ↔ HasFailure ending.now.outcomes }
 {
-    !ending.outcomes().iter().all(|outcome| is_done(*outcome))
+    !all_done(ending.outcomes())
 }
 
 /// Whether a run with this ending is found by this.

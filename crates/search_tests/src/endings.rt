@@ -6,7 +6,7 @@ use interp_trait::OpenGate;
 use report_choice::Way;
 use report_runs::record_run;
 use search_endings::Ending;
-use search_finds::{Table, ending_of, has_line_with, lacks_in_thread_0};
+use search_finds::{Table, ending_of, has_line_with};
 use search_strategies::Along;
 use spawn_host::Call;
 use std::alloc::Global;
@@ -159,7 +159,7 @@ fn sleepers_sleep_for_good(rt: HostRuntime) -> Result<(), Fail> {
 /// Whether thread 1 sleeps for good exactly where thread 0 has woken nobody.
 fn is_told_rightly(alloc: Global, ending: &Ending) -> Result<bool, Trouble> {
     let sleeps = has_line_with(alloc, ending, "asleep")?;
-    let woke_nobody = lacks_in_thread_0(alloc, ending, "i32:1")?;
+    let woke_nobody = ending.outcomes().first() != Some(&Outcome::Done(Some(Value::I32(1))));
     Ok(sleeps == woke_nobody)
 }
 

@@ -6,7 +6,7 @@ ghost use Rattle.search_finds.specs.Finds.{IsFind};
 use crate::modules::LOST_UPDATE;
 use crate::runs::{FUEL, LIMIT, Trouble, load};
 use replay::replay;
-use report_choice::{Sought, Way};
+use report_choice::{Find, Sought, Target, Way};
 use search_finds::{
     Halt, Met, SearchResult, Size, Table, first_found, have_one_ending, shrunk, size_of,
 };
@@ -17,6 +17,7 @@ use std::process::Abort;
 use std::test::Fail;
 use std::thread::Threads;
 use test_modules::{BROKEN_LOCK, SLEEPERS};
+use types::{Outcome, Value};
 use validate::ValidModule;
 
 /// The call of each module here.
@@ -32,8 +33,8 @@ struct Wish {
     way: Way,
     from: u64,
     runs: u64,
-    find: Option<&'static str>,
-    expect: Option<&'static str>,
+    find: Find<'static>,
+    expect: Option<Outcome>,
     /// Whether a run is found.
     is_found: bool,
 }
@@ -44,8 +45,8 @@ static WISHES: [Wish; 6] = [
         way: Way::Random,
         from: 1,
         runs: 200,
-        find: None,
-        expect: Some("i32:2"),
+        find: Find::Nothing,
+        expect: Some(Outcome::Done(Some(Value::I32(2)))),
         is_found: true,
     },
     Wish {
@@ -53,7 +54,7 @@ static WISHES: [Wish; 6] = [
         way: Way::Priorities(2),
         from: 1,
         runs: 200,
-        find: Some("i32:1"),
+        find: Find::Words("i32:1"),
         expect: None,
         is_found: true,
     },
@@ -62,7 +63,7 @@ static WISHES: [Wish; 6] = [
         way: Way::Random,
         from: 77,
         runs: 200,
-        find: Some("trap"),
+        find: Find::Words("trap"),
         expect: None,
         is_found: false,
     },
@@ -71,16 +72,16 @@ static WISHES: [Wish; 6] = [
         way: Way::Random,
         from: 77,
         runs: 1,
-        find: Some("thread 0: ok"),
+        find: Find::Words("thread 0: ok"),
         expect: None,
         is_found: true,
     },
     Wish {
         module: SLEEPERS,
-        way: Way::Random,
+        way: Way::Mix,
         from: 1,
         runs: 200,
-        find: Some("asleep for good"),
+        find: Find::Failure,
         expect: None,
         is_found: true,
     },
@@ -89,8 +90,8 @@ static WISHES: [Wish; 6] = [
         way: Way::Random,
         from: 1,
         runs: 5,
-        find: None,
-        expect: Some("i32:600"),
+        find: Find::Nothing,
+        expect: Some(Outcome::Done(Some(Value::I32(600)))),
         is_found: true,
     },
 ];
@@ -105,8 +106,11 @@ fn sought_by(wish: &Wish) -> Sought<'static> {
         runs: wish.runs,
         limit: LIMIT,
         dump: 4,
-        find: wish.find,
-        expect: wish.expect,
+        target: Target {
+            find: wish.find,
+            expect: wish.expect,
+        },
+        stops: true,
     }
 }
 
@@ -258,7 +262,7 @@ fn shrinks_well(
         return Ok(false);
     };
     let size = size_of(&made.record);
-    let small = shrunk(alloc, request, limit, 4, made)?;
+    let small = shrunk(alloc, request, limit, 4, made, &mut ())?;
     is_small(alloc, valid, &small, &before, size)
 }
 

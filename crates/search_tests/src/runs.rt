@@ -2,11 +2,11 @@
 
 use binary::read;
 use replay::{ReplayFault, replay};
-use report_choice::{MOST_DEPTH, Way};
+use report_choice::Way;
 use search_endings::Ending;
 use search_finds::ending_of;
 use search_scheduled::{MadeRun, SearchFault, run_along};
-use search_strategies::{Pct, Random, Strategy};
+use search_strategies::{Drawn, Strategy};
 use spawn_host::{Call, CallFault, Request};
 use std::alloc::{AllocError, Global};
 use types::Value;
@@ -21,8 +21,8 @@ pub(crate) const LIMIT: u32 = 100_000;
 /// Among how many events the points of change are drawn.
 const EVENTS: u32 = 12;
 
-/// Both ways to draw a run.
-pub(crate) const WAYS: [Way; 2] = [Way::Random, Way::Priorities(2)];
+/// The ways to draw a run.
+pub(crate) const WAYS: [Way; 4] = [Way::Random, Way::Priorities(2), Way::Spin, Way::Mix];
 
 /// Why there was no run.
 #[derive(Clone, Copy, PartialEq, Eq, Debug)]
@@ -114,18 +114,8 @@ pub(crate) fn run_drawn(
     seed: u64,
     number: u64,
 ) -> Result<MadeRun, Trouble> {
-    match way {
-        Way::Random => run(alloc, valid, args, &mut Random::new(seed, number)),
-        Way::Priorities(depth) => {
-            let depth = depth.min(MOST_DEPTH);
-            run(
-                alloc,
-                valid,
-                args,
-                &mut Pct::new(seed, number, depth, EVENTS),
-            )
-        }
-    }
+    let mut drawn = Drawn::new(way, seed, number, EVENTS);
+    run(alloc, valid, args, &mut drawn)
 }
 
 /// Its ending, with the first four bytes of the memory.

@@ -2,9 +2,10 @@
 
 use crate::modules::LOST_UPDATE;
 use crate::runs::{FUEL, LIMIT, Trouble, load};
-use report_choice::{Sought, Way};
-use search_finds::{Halt, SearchResult, first_found};
+use report_choice::{Find, Sought, Target, Way};
+use search_finds::{Halt, Hears, SearchResult, Size, first_found};
 use search_reach::{Follows, Wish};
+use search_strategies::Watch;
 use spawn_host::{Call, Request};
 use std::alloc::Global;
 use std::test::Fail;
@@ -34,11 +35,39 @@ impl Follows for Few {
     fn end(&mut self) {}
 }
 
-/// What a search answers that is told to end behind three runs.
+/// Says from the first run on that it is time.
+#[derive(Drop)]
+struct Over;
+
+impl Watch for Over {
+    fn is_over(&self) -> bool {
+        true
+    }
+}
+
+impl Hears for Few {
+    type Watch = Over;
+
+    fn watch(&self) -> Over {
+        Over
+    }
+
+    fn given_up(&mut self) -> Wish {
+        self.wish
+    }
+
+    fn found(&mut self) {}
+
+    fn tried(&mut self, _tries: u32, _size: Size) -> Wish {
+        self.wish
+    }
+}
+
+/// What a search answers that is told to end behind three runs, though each run is given up before.
 fn told<R: Threads + Sync>(
     rt: &R,
     alloc: Global,
-    find: Option<&'static str>,
+    words: &'static str,
 ) -> Result<SearchResult, Trouble> {
     let valid = load(alloc, LOST_UPDATE)?;
     let call = Call {
@@ -54,8 +83,11 @@ fn told<R: Threads + Sync>(
         runs: 1000,
         limit: LIMIT,
         dump: 4,
-        find,
-        expect: None,
+        target: Target {
+            find: Find::Words(words),
+            expect: None,
+        },
+        stops: true,
     };
     let mut few = Few {
         most: 3,
@@ -66,7 +98,7 @@ fn told<R: Threads + Sync>(
 
 #[test]
 fn a_search_ends_behind_the_third_run(rt: HostRuntime) -> Result<(), Fail> {
-    let SearchResult { table, halt } = told(&rt, rt.alloc(), Some("trap"))?;
+    let SearchResult { table, halt } = told(&rt, rt.alloc(), "trap")?;
     assert!(rt; matches!(&halt, Halt::Told));
     assert_eq!(rt; table.runs, 3);
     Ok(())
@@ -74,7 +106,7 @@ fn a_search_ends_behind_the_third_run(rt: HostRuntime) -> Result<(), Fail> {
 
 #[test]
 fn what_is_found_comes_first(rt: HostRuntime) -> Result<(), Fail> {
-    let SearchResult { table, halt } = told(&rt, rt.alloc(), Some("thread 0: ok"))?;
+    let SearchResult { table, halt } = told(&rt, rt.alloc(), "thread 0: ok")?;
     assert!(rt; matches!(&halt, Halt::Found(_)));
     assert_eq!(rt; table.runs, 1);
     Ok(())

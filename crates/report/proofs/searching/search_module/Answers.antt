@@ -1,47 +1,25 @@
-use Rattle.std.proofs.Common.{ℕ, List, IfOk, IfErr, refl, sym, subst}
-use Rattle.std.proofs.lemmas.Result.{IfErr-weaker}
-use Rattle.types.specs.declared.value.Value.{Value}
+use Rattle.std.proofs.Common.{ℕ, ◌≡◌, true, IfOk, IfErr, subst}
+use Rattle.std.specs.Prelude.{is_none}
+use Rattle.std.proofs.lemmas.Result.{IfErr-weaker, IfOk-weaker}
 use Rattle.types.specs.declared.parts.Parts.{Parts}
 use Rattle.report_jobs.specs.Arguments.{texts_in}
 use Rattle.report_jobs.specs.Prints.{changed}
-use Rattle.report_jobs.specs.Troubles.{AreArgumentsOf, IsTroubleOf}
-use Rattle.report_jobs.proofs.Calls.{fits}
-use Rattle.report.specs.Searches.{Finds, IsOfSystem, IsWellAt}
-use Rattle.report.proofs.Asking.{asked, of_system}
+use Rattle.report_jobs.specs.Troubles.{IsTroubleOf}
+use Rattle.report.specs.Searches.{DrawWell, Finds, IsDrawnWellAt, IsOfSystem, IsWellAt}
+use Rattle.report.proofs.Asking.{of_system}
 use Rattle.report.proofs.searching.search_module.Goals as goal
-
-pub returns-in_err-request-clause-trouble : goal.returns-in_err-request-clause-trouble
-returns-in_err-request-clause-trouble g c =
-    let m = c.args.module.now.parts in
-    let words = c.args.search.now.call in
-    let takes = subst (λ (values : List Value). AreArgumentsOf m words values) (sym c.deref.ensures.value) c.in_ok-args.ensures.takes in
-    absurd (fits m c.show_distinct.ensures words.invoke.now c.deref.result.now takes.1 c.in_err-request.field-0.0 c.in_err-request.ensures.fault)
-
-pub search_all_orders-requires : goal.search_all_orders-requires
-search_all_orders-requires g c =
-    let m = c.args.module.now.parts in
-    let words = c.args.search.now.call in
-    let takes = subst (λ (values : List Value). AreArgumentsOf m words values) (sym c.deref.ensures.value) c.in_ok-args.ensures.takes in
-    asked m _ words c.in_ok-request.request c.in_ok-request.ensures.request refl refl takes
-
-pub search_drawn-requires-clause-asked : goal.search_drawn-requires-clause-asked
-search_drawn-requires-clause-asked g c κs within =
-    let m = c.args.module.now.parts in
-    let words = c.args.search.now.call in
-    let takes = subst (λ (values : List Value). AreArgumentsOf m words values) (sym c.deref.ensures.value) c.in_ok-args.ensures.takes in
-    asked m _ words c.in_ok-request.request c.in_ok-request.ensures.request refl refl takes
 
 pub returns-in-Some-clause-finds : goal.returns-in-Some-clause-finds
 returns-in-Some-clause-finds g c =
     let s = c.args.search.now in
     let save = changed g.S.Write.contents c.args.save.now c.search_all_orders.new.save in
-    subst (λ (m : Parts). IfOk c.search_all_orders.result (Finds m s save)) c.in_ok-request.ensures.request.parts_are
+    subst (λ (m : Parts). IfOk c.search_all_orders.result (Finds m s save)) c.request_of-request.ensures.parts
     c.search_all_orders.ensures.finds
 
 pub returns-in-Some-clause-well : goal.returns-in-Some-clause-well
 returns-in-Some-clause-well g c =
     let s = c.args.search.now in
-    subst (λ (m : Parts). IfOk c.search_all_orders.result (IsWellAt m s)) c.in_ok-request.ensures.request.parts_are
+    subst (λ (m : Parts). IfOk c.search_all_orders.result (IsWellAt m s)) c.request_of-request.ensures.parts
     c.search_all_orders.ensures.well
 
 pub returns-in-Some-clause-trouble : goal.returns-in-Some-clause-trouble
@@ -55,7 +33,15 @@ pub returns-clause-finds : goal.returns-clause-finds
 returns-clause-finds g c =
     let s = c.args.search.now in
     let save = changed g.S.Write.contents c.args.save.now c.search_drawn.new.save in
-    subst (λ (m : Parts). IfOk c.search_drawn.result (Finds m s save)) c.in_ok-request.ensures.request.parts_are c.search_drawn.ensures.finds
+    subst (λ (m : Parts). IfOk c.search_drawn.result (Finds m s save)) c.request_of-request.ensures.parts c.search_drawn.ensures.finds
+
+pub returns-clause-drawn : goal.returns-clause-drawn
+returns-clause-drawn g c =
+    let m = c.args.module.now.parts in
+    let s = c.args.search.now in
+    IfOk-weaker c.search_drawn.result _ (IsDrawnWellAt m s)
+    (λ status h drawn zero. subst (λ (parts : Parts). DrawWell parts s) c.request_of-request.ensures.parts (h zero))
+    c.search_drawn.ensures.well
 
 pub returns-clause-trouble : goal.returns-clause-trouble
 returns-clause-trouble g c =

@@ -12,7 +12,7 @@ returns-clause-endings c =
     c.pop.ensures.items c.in-Some.is c.requires.pieces).1 in
     let made = rw c.in_ok-made.was at piece in
     subst (λ (l : List Ending). All (IsMetEnding s.request.now s.sought.now.limit s.sought.now.dump) l) (sym {A = List Ending} c.in_ok-append.ensures.items)
-    (All-append (IsMetEnding s.request.now s.sought.now.limit s.sought.now.dump) _ _ c.requires.endings made)
+    (All-append (IsMetEnding s.request.now s.sought.now.limit s.sought.now.dump) _ _ c.drop_later.ensures made)
 
 pub returns-clause-pieces : goal.returns-clause-pieces
 returns-clause-pieces c =

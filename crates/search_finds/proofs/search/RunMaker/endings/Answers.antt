@@ -8,6 +8,7 @@ pub loop-n-preserved : goal.loop-n-preserved
 loop-n-preserved g c =
     let s = c.args.self.now in (
       subst (λ (l : List Ending). All (IsMetEnding s.request.now s.sought.now.limit s.sought.now.dump) l) (sym {A = List Ending} c.in_ok-insert.ensures.items)
-          (put_first (IsMetEnding s.request.now s.sought.now.limit s.sought.now.dump) _ _ c.loop-n.invariant.0 c.in_ok-ending.ensures.met),
-      c.in_ok-ending.ensures.spares,
+          (put_first (IsMetEnding s.request.now s.sought.now.limit s.sought.now.dump) _ _ c.loop-n.invariant.0
+          (rw c.in-Some.is at c.in_ok-ending.ensures.met)),
+      rw c.in-Some.is at c.in_ok-ending.ensures.spares,
     )

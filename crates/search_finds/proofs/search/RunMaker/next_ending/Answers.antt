@@ -1,3 +1,4 @@
+use Rattle.std.proofs.lemmas.List.Elements.{All-pop}
 use Rattle.search_finds.specs.Finds.{IsMetEnding}
 use Rattle.search_finds.proofs.Popped.{popped}
 use Rattle.search_finds.proofs.search.RunMaker.next_ending.Goals as goal
@@ -12,12 +13,12 @@ returns-in-Some-clause-ahead g c =
     let s = c.args.self.now in
     (popped (IsMetEnding s.request.now s.sought.now.limit s.sought.now.dump) _ _ _ _ c.pop.ensures.items c.in-Some.is c.requires).0
 
-pub returns-in-Some-pop-clause-met : goal.returns-in-Some-pop-clause-met
-returns-in-Some-pop-clause-met g c =
+pub returns-clause-met : goal.returns-clause-met
+returns-clause-met g c =
     let s = c.args.self.now in
-    (popped (IsMetEnding s.request.now s.sought.now.limit s.sought.now.dump) _ _ _ _ c.pop-2.ensures.items c.in-Some-pop.is c.in_ok-ahead.ensures).1
+    (All-pop (IsMetEnding s.request.now s.sought.now.limit s.sought.now.dump) _ _ _ c.pop-2.ensures.items c.in_ok-ahead.ensures).1
 
-pub returns-in-Some-pop-clause-ahead : goal.returns-in-Some-pop-clause-ahead
-returns-in-Some-pop-clause-ahead g c =
+pub returns-clause-ahead : goal.returns-clause-ahead
+returns-clause-ahead g c =
     let s = c.args.self.now in
-    (popped (IsMetEnding s.request.now s.sought.now.limit s.sought.now.dump) _ _ _ _ c.pop-2.ensures.items c.in-Some-pop.is c.in_ok-ahead.ensures).0
+    (All-pop (IsMetEnding s.request.now s.sought.now.limit s.sought.now.dump) _ _ _ c.pop-2.ensures.items c.in_ok-ahead.ensures).0
