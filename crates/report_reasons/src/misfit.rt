@@ -1,5 +1,7 @@
 //! What the thread of a record's line does in place of it.
 
+ghost use Rattle.std.specs.Prelude.{◌≡◌, Some, None};
+
 use crate::Instead;
 use binary::read;
 use interp::{CodePlace, Thread};
@@ -28,7 +30,9 @@ impl<'a, 'm> Watch<Thread<'m>> for Next<'a> {
 
     ghost sees = { NextSees };
 
-    fn came(&mut self, entries: usize, walk: &Walk<Thread<'m>>) {
+    fn came(&mut self, entries: usize, walk: &Walk<Thread<'m>>)
+        ensures { self.new.turn ≡ None }
+    {
         self.turn = None;
         self.place = None;
         if let Some(entry) = self.log.get(entries) {
@@ -39,9 +43,13 @@ impl<'a, 'm> Watch<Thread<'m>> for Next<'a> {
         }
     }
 
-    fn event(&mut self, _entry: &Entry, _thread: &Thread<'m>, _memory: &OneMemory) {}
+    fn event(&mut self, _entry: &Entry, _thread: &Thread<'m>, _memory: &OneMemory)
+        ensures { self.new ≡ self.old }
+    {}
 
-    fn settled(&mut self, _thread: u32, turn: Turn) {
+    fn settled(&mut self, _thread: u32, turn: Turn)
+        ensures { self.new ≡ record self.old { turn = Some turn } }
+    {
         self.turn = Some(turn);
     }
 }

@@ -130,7 +130,9 @@ impl<'a, 'm> Watch<Thread<'m>> for Moment<'a> {
 
     ghost sees = { MomentSees };
 
-    fn came(&mut self, entries: usize, walk: &Walk<Thread<'m>>) {
+    fn came(&mut self, entries: usize, walk: &Walk<Thread<'m>>)
+        ensures { self.new.came ≡ entries }
+    {
         self.came = entries;
         if entries == self.at && self.look_round(walk).is_err() {
             self.is_short = true;
@@ -146,11 +148,17 @@ impl<'a, 'm> Watch<Thread<'m>> for Moment<'a> {
         self.came = entries;
     }
 
-    fn event(&mut self, entry: &Entry, thread: &Thread<'m>, _memory: &OneMemory) {
+    fn event(&mut self, entry: &Entry, thread: &Thread<'m>, _memory: &OneMemory)
+        // What a thread wants first from this moment on, it wants where it stands.
+        ensures { self.old.at ≤ self.old.came → IsOpen self.old entry.now.thread → self.new.is_short ≡ false
+            → IsSeen self.new entry.now.thread thread.now }
+    {
         if self.came >= self.at {
             self.see(entry.thread, thread);
         }
     }
 
-    fn settled(&mut self, _thread: u32, _turn: Turn) {}
+    fn settled(&mut self, _thread: u32, _turn: Turn)
+        ensures { self.new ≡ self.old }
+    {}
 }

@@ -22,5 +22,5 @@ StandsThere thread row =
 abbrev pub RowsSee : Rows → Sight Thread → Rows → Type 0
 RowsSee old (Came entries walk) new = new.came ≡ entries
 RowsSee old (Settled n turn) new = new ≡ old
-RowsSee old (Wanted entry thread memory) new = (new.came ≡ old.came) × (old.came < length old.rows.items
-    → (row : Row) × (slice_get new.rows.items old.came ≡ Some (Some row)) × StandsThere thread row)
+RowsSee old (Wanted entry thread memory) new = old.came < length old.rows.items
+    → (row : Row) × (slice_get new.rows.items old.came ≡ Some (Some row)) × StandsThere thread row

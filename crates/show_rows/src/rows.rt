@@ -96,7 +96,9 @@ impl<'a, 'm> Watch<Thread<'m>> for Rows<'a> {
     ghost sees = { RowsSee };
 
     /// An answer that is heard stands where the thread stood before it, and a leave where the thread ended.
-    fn came(&mut self, entries: usize, walk: &Walk<Thread<'m>>) {
+    fn came(&mut self, entries: usize, walk: &Walk<Thread<'m>>)
+        ensures { self.new.came ≡ entries }
+    {
         self.came = entries;
         self.see(entries, &walk.threads);
         if let Some(last) = entries.checked_sub(1)
@@ -107,11 +109,17 @@ impl<'a, 'm> Watch<Thread<'m>> for Rows<'a> {
         }
     }
 
-    fn event(&mut self, entry: &Entry, thread: &Thread<'m>, memory: &OneMemory) {
+    fn event(&mut self, entry: &Entry, thread: &Thread<'m>, memory: &OneMemory)
+        // The row of the entry that comes next is where the thread stands that wants it.
+        ensures { self.old.came < length self.old.rows.items → (row : Row)
+            × (slice_get self.new.rows.items self.old.came ≡ Some (Some row)) × StandsThere thread.now row }
+    {
         if let Some(row) = self.rows.get_mut(self.came) {
             *row = Some(row_of(thread, number_before(memory.bytes(), entry.event)));
         }
     }
 
-    fn settled(&mut self, _thread: u32, _turn: Turn) {}
+    fn settled(&mut self, _thread: u32, _turn: Turn)
+        ensures { self.new ≡ self.old }
+    {}
 }
