@@ -2,7 +2,9 @@
 //! run.
 //!
 //! Proved: `run` is the headline over any memory of the trait; an export or arguments are refused only where they
-//! don't fit. "No thread" comes only where the module imports `thread-spawn`.
+//! don't fit. "No thread" comes only where the module imports `thread-spawn`. Where there is no run, all seats are as
+//! they came, or all that thread 0 ever entered is that it leaves; and `run_request` gives back the ticket that a run
+//! uses up.
 #![tactic(auto)]
 
 mod call;

@@ -30,8 +30,8 @@ pub enum StartFault {
 pub enum Unstarted<S> {
     /// The system had too little memory left. All seats, as they came.
     NoMemory(Vec<S>),
-    /// The system started no further thread. Thread 0's seat: that thread left without a turn, so that the workers which
-    /// were started found nobody alive.
+    /// The system started no further thread. Thread 0's seat: that thread left without a turn, so that the workers
+    /// which were started found nobody alive.
     NoThread(S),
 }
 

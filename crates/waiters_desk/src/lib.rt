@@ -6,8 +6,8 @@
 //! thread was spawned with it, and nothing only where nobody is alive and it wasn't. What a call asks of its caller is
 //! of the caller's own list, and others' entries don't change that. A `wait` reads its word behind all that its caller
 //! had seen; and each wait behind a `notify`, in whatever history goes on from there, reads behind all that the
-//! notifier had seen (clause `reads`; the law `a_wait_after_a_notify_reads_what_the_notifier_saw`). Who changes the queue
-//! wakes all who wait at the desk, behind the change and before the lock is given up.
+//! notifier had seen (clause `reads`; the law `a_wait_after_a_notify_reads_what_the_notifier_saw`). Who changes the
+//! queue wakes all who wait at the desk, behind the change and before the lock is given up.
 #![tactic(auto)]
 
 mod answers;
