@@ -1,7 +1,8 @@
 #!/usr/bin/env python3
 """Checks docs/HEADLINE.md: python3 bench/headline.py [--lines]
 
-The document names two clauses, and in its tables files with the definitions that have to be read. Checked is that
+The document names two clauses, and those of a complete search, and in its tables files with the definitions that have
+to be read. Checked is that
 - each clause, file, definition and field is there,
 - each definition that one of these names is in a row too, or in one of those of what may be left unread,
 - nothing is in a row that none of these names,
@@ -17,7 +18,8 @@ os.chdir(os.path.join(os.path.dirname(os.path.abspath(__file__)), ".."))
 
 DOCUMENT = "docs/HEADLINE.md"
 UNREAD = "What may be left unread"
-STANDARD = {"Vec", "Box", "String", "Option", "Result", "Global"}
+COMPLETE = "What a complete search says"
+STANDARD = {"Vec", "Box", "String", "Option", "Result", "Global", "F", "AllocError", "IndexSet"}
 WORD = re.compile(r"[^\W\d][\w']*(?:\.[^\W\d][\w']*)*")
 USE = re.compile(r"\buse\s+Rattle\.([\w.]+?)(?:\.\{([^}]*)\})?(?:\s+as\s+([\w']+))?\s*;?\s*$", re.M)
 HEADER = re.compile(r"((?:(?:abbrev|unfoldable|pub|record|data)\s+)+)([^\s:({]+)")
@@ -47,7 +49,7 @@ class Source:
         self.read_imports()
 
     def read_definitions(self):
-        """Definitions begin at the margin, or two places further within a `module`; comments above are theirs."""
+        """Definitions begin at the margin, or two places further within each `module`; comments above are theirs."""
         margin, current, above = 0, None, []
         for line in self.lines:
             text = line.strip()
@@ -63,11 +65,11 @@ class Source:
             elif text.startswith("--"):
                 above.append(line)
             elif text.startswith("module "):
-                margin, current, above = 2, None, []
+                margin, current, above = indent + 2, None, []
             elif text.startswith("use ") or text.startswith("pub mod ") or text.startswith("infix"):
                 margin, current, above = 0, None, []
             else:
-                margin = margin if indent == margin else 0
+                margin = indent
                 header = HEADER.match(text)
                 name = header.group(2) if header else WORD.match(text) and WORD.match(text).group(0)
                 if header or (name != current and PLAIN.match(text)):
@@ -172,7 +174,7 @@ def kinds_in(lines):
 
 def signature_of(function, file):
     """The types of a function's parameters and answer."""
-    text = "\n".join(code(file.definitions[function])).split("where")[0]
+    text = re.split(r"\bwhere\b|\bensures\b|\brequires\b", "\n".join(code(file.definitions[function])))[0]
     return set(re.findall(r"[A-Z]\w+", text[text.index("(") :]))
 
 
@@ -231,12 +233,12 @@ def read_rows(sections):
     return read, unread, counts
 
 
-def roots_of(text):
-    """What the two clauses name, and the types of their functions."""
+def roots_of(text, count):
+    """What so many clauses name, and the types of their functions."""
     found, kinds = set(), set()
     clauses = re.findall(r"`\w+::(\w+)`\s+\(`(crates/[^`]+)`\),\s+clause\s+`(\w+)`", text)
-    if len(clauses) != 2:
-        tell("there are %d clauses, and not two" % len(clauses))
+    if len(clauses) != count:
+        tell("there are %d clauses, and not %d" % (len(clauses), count))
     for function, path, name in clauses:
         lines = clause(path, function, name)
         if lines:
@@ -302,8 +304,9 @@ def main():
     sections = section_of(open(DOCUMENT, encoding="utf-8").read())
     read, unread, counts = read_rows(sections)
     check_fields(sections[""], read)
-    ahead, kinds = roots_of(sections[""])
-    check_needed(read, unread, ahead, kinds)
+    ahead, kinds = roots_of(sections[""], 2)
+    more, other = roots_of(sections[COMPLETE], 3)
+    check_needed(read, unread, ahead | more, kinds | other)
     if "--lines" in sys.argv[1:]:
         print("\n".join(["lines   code", *counts]))
     for text in wrong:
