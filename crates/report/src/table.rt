@@ -1,5 +1,5 @@
 //! The table of a search of drawn runs, and what it says of runs that weren't made.
-ghost use Rattle.std.specs.Prelude.{◌≡◌, true, IfOk};
+ghost use Rattle.std.specs.Prelude.{◌≡◌, ◌==◌, count_by, true, IfOk};
 ghost use Rattle.report.specs.Searches.{threads_end_well, IsAllWell};
 
 use crate::searching::write_ending;
@@ -89,14 +89,16 @@ pub(crate) fn write_cut<W: Write>(out: &mut W, sought: &Sought, table: &Table) -
 }
 
 /// How many endings of a table were met in one run alone.
-fn singles_of(table: &Table) -> usize {
+fn singles_of(table: &Table) -> usize
+    ensures { result ≡ count_by (λ m. m.times == 1) table.now.met.items }
+{
     table.met.iter().filter(|met| met.times == 1).count()
 }
 
 /// How many endings of a table were met first in the last half of its runs.
 fn late_of(sought: &Sought, table: &Table) -> usize {
     let half = sought.from.saturating_add(table.runs / 2);
-    table.met.iter().filter(|met| met.first >= half).count()
+    table.met.iter().filter(|met| half <= met.first).count()
 }
 
 /// The line of what is unseen: how many endings there are, how many were new in the last half of the runs, and with
