@@ -21,11 +21,7 @@ fn write_met<W: Write>(out: &mut W, sought: &Sought, met: &Met, runs: u64) -> io
 }
 
 /// The table of the endings, in the order of their first runs.
-pub(crate) fn write_table<W: Write>(
-    out: &mut W,
-    sought: &Sought,
-    table: &Table,
-) -> io::Result<()> {
+pub(crate) fn write_table<W: Write>(out: &mut W, sought: &Sought, table: &Table) -> io::Result<()> {
     for met in table.met.iter() {
         write_met(out, sought, met, table.runs)?;
     }
@@ -40,11 +36,7 @@ fn is_well(ending: &Ending) -> bool
 }
 
 /// Whether a run was made, in each ending of the table all threads ended well, and none is looked for.
-pub(crate) fn is_all_well(
-    alloc: Global,
-    sought: &Sought,
-    table: &Table,
-) -> Result<bool, AllocError>
+pub(crate) fn is_all_well(alloc: Global, sought: &Sought, table: &Table) -> Result<bool, AllocError>
     ensures { IfOk result (λ is. (is ≡ true) → IsAllWell sought.now table.now) }
 {
     if table.runs == 0 {
@@ -117,6 +109,10 @@ pub(crate) fn write_unseen<W: Write>(
     let count = singles.max(1);
     write!(
         out,
-        "{endings} {word}, {late} new in the last half of the runs; chance of another one in a further run: {about} {count} in {runs}\n"
+        "{endings} {word}, {late} new in the last half of the runs; "
+    )?;
+    write!(
+        out,
+        "chance of another one in a further run: {about} {count} in {runs}\n"
     )
 }

@@ -3,7 +3,8 @@ use Rattle.std.specs.Prelude.{ℕ, ◌*◌, ◌/◌, ◌^◌}
 use Rattle.rand_pcg.specs.Lcg.{Lcg, started, increment_of}
 use Rattle.rand_pcg.specs.Pcg.{multiplier_64, pcg32}
 
--- The generator of the run of this number, of a seed: the seed is the state from which it starts, the number its stream.
+-- The generator of the run of this number, of a seed: the seed is the state from which it starts, and the number its
+-- stream.
 abbrev pub draws_of : ℕ → ℕ → Lcg
 draws_of seed run = started 64 multiplier_64 seed (increment_of 64 run)
 

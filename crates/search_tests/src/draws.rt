@@ -6,7 +6,12 @@ use std::test::Fail;
 
 /// The first words that PCG's demonstration (`pcg32-demo.c`) prints of the state 42 and the stream 54.
 static WORDS: [u32; 6] = [
-    0xa15c_02b7, 0x7b47_f409, 0xba1d_3330, 0x83d2_f293, 0xbfa4_784b, 0xcbed_606e,
+    0xa15c_02b7,
+    0x7b47_f409,
+    0xba1d_3330,
+    0x83d2_f293,
+    0xbfa4_784b,
+    0xcbed_606e,
 ];
 
 /// Below 2^32 - 1 the number of a word W above 0 is W - 1.
