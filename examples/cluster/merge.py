@@ -6,7 +6,8 @@ met, runs = {}, 0
 for line in sys.stdin:
     found = re.match(r"(\d+) of (\d+), first in run (\d+) by (\S+): (.*)", line)
     if not found:
-        print(line, end="")
+        if not re.match(r"\d+ endings?, ", line):
+            print(line, end="")
         continue
     times, first, ending = int(found[1]), (int(found[3]), found[4]), found[5]
     before = met.get(ending, (0, first))

@@ -5,8 +5,8 @@
 //! Proved: what each status of a job says; of `show` and `search` nothing of what they print. 0 of a show: the record
 //! is of a run of the module. 0 or 1 of a search: the bytes spell a valid module; and nothing was written to the
 //! record's writer, or the status is 1 and what was written, where a record is wanted, is that of a run by the call
-//! which ends as is looked for. Where nothing was written the clause doesn't say that nothing was found. `load` gives
-//! the module that the bytes spell.
+//! which ends as is looked for. 0 of a search of drawn runs: runs of the call were made, each was noted in the table,
+//! in each all threads ended well, and none is looked for. `load` gives the module that the bytes spell.
 #![tactic(auto)]
 
 mod all;

@@ -1,5 +1,5 @@
 //! The table of a search of drawn runs, and what it says of runs that weren't made.
-ghost use Rattle.std.specs.Prelude.{◌≡◌, true, IfOk};
+ghost use Rattle.std.specs.Prelude.{◌≡◌, ◌==◌, count_by, true, IfOk};
 ghost use Rattle.report.specs.Searches.{threads_end_well, IsAllWell};
 
 use crate::searching::write_ending;
@@ -21,11 +21,7 @@ fn write_met<W: Write>(out: &mut W, sought: &Sought, met: &Met, runs: u64) -> io
 }
 
 /// The table of the endings, in the order of their first runs.
-pub(crate) fn write_table<W: Write>(
-    out: &mut W,
-    sought: &Sought,
-    table: &Table,
-) -> io::Result<()> {
+pub(crate) fn write_table<W: Write>(out: &mut W, sought: &Sought, table: &Table) -> io::Result<()> {
     for met in table.met.iter() {
         write_met(out, sought, met, table.runs)?;
     }
@@ -40,11 +36,7 @@ fn is_well(ending: &Ending) -> bool
 }
 
 /// Whether a run was made, in each ending of the table all threads ended well, and none is looked for.
-pub(crate) fn is_all_well(
-    alloc: Global,
-    sought: &Sought,
-    table: &Table,
-) -> Result<bool, AllocError>
+pub(crate) fn is_all_well(alloc: Global, sought: &Sought, table: &Table) -> Result<bool, AllocError>
     ensures { IfOk result (λ is. (is ≡ true) → IsAllWell sought.now table.now) }
 {
     if table.runs == 0 {
@@ -89,14 +81,16 @@ pub(crate) fn write_cut<W: Write>(out: &mut W, sought: &Sought, table: &Table) -
 }
 
 /// How many endings of a table were met in one run alone.
-fn singles_of(table: &Table) -> usize {
+fn singles_of(table: &Table) -> usize
+    ensures { result ≡ count_by (λ m. m.times == 1) table.now.met.items }
+{
     table.met.iter().filter(|met| met.times == 1).count()
 }
 
 /// How many endings of a table were met first in the last half of its runs.
 fn late_of(sought: &Sought, table: &Table) -> usize {
     let half = sought.from.saturating_add(table.runs / 2);
-    table.met.iter().filter(|met| met.first >= half).count()
+    table.met.iter().filter(|met| half <= met.first).count()
 }
 
 /// The line of what is unseen: how many endings there are, how many were new in the last half of the runs, and with
@@ -115,6 +109,10 @@ pub(crate) fn write_unseen<W: Write>(
     let count = singles.max(1);
     write!(
         out,
-        "{endings} {word}, {late} new in the last half of the runs; chance of another one in a further run: {about} {count} in {runs}\n"
+        "{endings} {word}, {late} new in the last half of the runs; "
+    )?;
+    write!(
+        out,
+        "chance of another one in a further run: {about} {count} in {runs}\n"
     )
 }

@@ -451,7 +451,7 @@ impl Misuse {
             }
             Misuse::FindsNothing => FINDS_NOTHING,
             Misuse::FindsNoBudget => {
-                "the argument '--all' cannot be used with '--find' of 'out of fuel' or 'record full': it spends no budget"
+                "the argument '--all' cannot be used with '--find' of 'out of fuel' or 'record full': no budget is spent"
             }
             Misuse::ExpectsNone => EXPECTS_NONE,
         }

@@ -1,7 +1,7 @@
 //! The command line as a job.
 //!
 //! Proved: a job's numbers are in their ranges; no run keeps a record in place of its module, or one of a memory of
-//! words.
+//! words. A result that is expected of a search is spelled whole.
 #![tactic(auto)]
 
 mod arguments;

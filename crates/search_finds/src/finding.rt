@@ -311,9 +311,9 @@ impl<'m, 'a> RunMaker<'m, 'a> {
 /// how many were made, with how many endings; and where a run is given up since there is something to be seen, it is
 /// asked.
 ///
-/// The table has the endings of runs of the module by the call, in a row from the first on, each noted. What is found is
-/// such a run, the last of them: it ends as is looked for. Where nothing is found, all runs were made, and, where the
-/// search stops, none is looked for; or the follower's last wish is that it ends.
+/// The table has the endings of runs of the module by the call, in a row from the first on, each noted. What is found
+/// is such a run, the last of them: it ends as is looked for. Where nothing is found, all runs were made, and, where
+/// the search stops, none is looked for; or the follower's last wish is that it ends.
 ///
 /// # Errors
 /// As of `run_along`.

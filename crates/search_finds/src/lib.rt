@@ -2,16 +2,18 @@
 //! that one a run with few switches of threads.
 //!
 //! Proved: a find is a run of the module by the call that ends as is looked for; each ending of a table is one of such
-//! a run. Where none is found, all runs that were asked for were made, or the follower's last wish was to end.
-//! `shrunk` answers a run by the same call that ends alike.
+//! a run, and as many were noted, one after another, as the table says. Where none is found, all runs that were asked
+//! for were made, and none is looked for, where a search stops at the first; or the follower's last wish was to end.
+//! The size of a run is exact, and `shrunk` answers a run by the same call that ends alike and is no larger.
 //!
 //! - `report_choice::Sought` says which runs are made, and what is looked for; `is_looked_for` whether an ending is.
 //! - `Table` counts the endings that were met (`search_endings::Ending`).
 //! - `first_found` makes them one by one and notes their endings, up to the first that is looked for, or until it is
 //!   told to end; `Halt` says which.
-//! - `shrunk` tries parts of that run's schedule; a run that ends alike with fewer switches, or with as many and fewer
-//!   entries, takes its place.
+//! - `shrunk` leaves out the rounds of waits in loops, and then tries parts of that run's schedule; a run that ends
+//!   alike with fewer switches, or with as many and fewer entries, takes its place.
 //! - `run_to` follows choices to an ending: it answers a run only where that ends so.
+//! - `Hears` follows a search on its way, and gives what runs look at in their middle (`search_strategies::Watch`).
 //!
 //! All runs are `search_scheduled::run_along`'s: so what is found, and what becomes of it, is a run of the module
 //! (`IsFind`, specs/Finds.antt).

@@ -105,8 +105,8 @@ impl<T: TakesTurns> Course<T> {
         Ok(Some(entry))
     }
 
-    /// A thread makes its next event, if it can go on, and its entry is given. All threads take the answers that are due
-    /// by it.
+    /// A thread makes its next event, if it can go on, and its entry is given. All threads take the answers that are
+    /// due by it.
     fn advance(&mut self, n: u32) -> Result<Option<Entry>, CourseFault>
         requires { IsOnARun T.meaning self.old }
         ensures { OnOk result (StaysOnItsRuns T.meaning self.old self.new) }

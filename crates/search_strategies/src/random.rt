@@ -1,7 +1,11 @@
 //! Each thread alike.
+ghost use Rattle.std.specs.Prelude.{◌≡◌, ◌<◌, ◌≤◌, Some, length, IfSome};
+ghost use Rattle.types.specs.declared.limits.TheConstants.{MOST_THREADS};
+ghost use Rattle.search_strategies.specs.Draws.{draws_of, number_below, behind};
 
 use crate::draws::Draws;
 use crate::strategy::Strategy;
+use std::marker::Model;
 use types::Entry;
 
 /// Draws who goes on, each thread that can alike.
@@ -10,9 +14,19 @@ pub struct Random {
     draws: Draws,
 }
 
+impl Model for Random {
+    ghost use Rattle.rand_pcg.specs.Lcg.{Lcg};
+
+    ghost Value = { Lcg };
+
+    ghost view = { λ r. r.draws };
+}
+
 impl Random {
     /// Run number `run` of a seed.
-    pub fn new(seed: u64, run: u64) -> Random {
+    pub fn new(seed: u64, run: u64) -> Random
+        ensures { result ≡ draws_of seed run }
+    {
         Random {
             draws: Draws::new(seed, run),
         }
@@ -20,7 +34,13 @@ impl Random {
 }
 
 impl Strategy for Random {
-    fn choose(&mut self, ready: &[u32]) -> Option<usize> {
+    fn choose(&mut self, ready: &[u32]) -> Option<usize>
+        requires some { 0 < length ready.now }
+        requires few { length ready.now ≤ MOST_THREADS }
+        ensures place { IfSome result (λ place. place < length ready.now) }
+        ensures number { result ≡ Some (number_below (length ready.now) self.old) }
+        ensures next { self.new ≡ behind self.old }
+    {
         Some(self.draws.below(ready.len() as u32) as usize)
     }
 

@@ -7,6 +7,8 @@
 #[cfg(test)]
 mod all_runs;
 #[cfg(test)]
+mod draws;
+#[cfg(test)]
 mod endings;
 #[cfg(test)]
 mod finds;

@@ -10,4 +10,4 @@ pub returns-then-eq-2 : goal.returns-then-eq-2
 returns-then-eq-2 c = λ t. inr (
     let same : c.as_str-2.result.now ≡ c.as_str-3.result.now = search rules in
     sym (c.as_str-2.ensures.value ∙ c.in_ok-text.ensures.ok) ∙ (same ∙ (c.as_str-3.ensures.value ∙ (c.in_ok-behind.ensures.ok
-        ∙ ap (λ (words : List ℕ). codes "ok " ++ words) (take_all c.args.words.now)))))
+    ∙ ap (λ (words : List ℕ). codes "ok " ++ words) (take_all c.args.words.now)))))
