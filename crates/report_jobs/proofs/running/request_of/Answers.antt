@@ -1,3 +1,4 @@
+use Rattle.std.proofs.Common.{refl}
 use Rattle.report_jobs.proofs.Asking.{asked_by}
 use Rattle.report_jobs.proofs.Calls.{fits}
 use Rattle.report_jobs.proofs.running.request_of.Goals as goal
