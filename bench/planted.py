@@ -69,31 +69,37 @@ class Tried:
     """Tries bugs, and keeps what became of each: rt gives a verdict of a check, and this what the check printed too."""
 
     def __init__(self, rt):
-        self.rt, self.results, self.proved = rt, {}, set()
+        self.rt, self.results = rt, {}
         self.here, self.printing = threading.local(), threading.Lock()
-        check, must_fail = rt.checked, rt.must_fail
+        check = rt.checked
 
         def checked(crate, texts, flags, kept=None):
             ran = check(crate, texts, flags, kept)
             self.here.said = ran.stdout
-            if not texts and not ran.returncode:
-                self.proved.add(crate.name)
             return ran
 
-        def one(crate, edit, flags, kept=None):
-            self.here.said = ""
-            refused, text = must_fail(crate, edit, flags, kept)
-            self.results[crate.name, os.path.basename(edit)[:-5]] = fared(refused, text, self.here.said)
-            return refused, text
+        rt.checked = checked
 
-        rt.checked, rt.must_fail = checked, one
+    def one(self, crate, bug, seed):
+        """Tries one bug over what a check of the crate as it stands proved."""
+        self.here.said, over = "", f"{seed}.{bug}"
+        self.rt.linked(seed, over)
+        try:
+            status, text = self.rt.must_fail(crate, file_of(crate.name, bug), ["--jobs", "1"], over)
+        finally:
+            shutil.rmtree(over, ignore_errors=True)
+        refused = status in (self.rt.REFUSED, self.rt.AT_LIMIT)
+        self.results[crate.name, bug] = fared(refused, text, self.here.said)
 
     def crate(self, crate, bugs):
         """Tries these bugs of a crate and prints a line for each."""
-        self.rt.must_fail_all(crate, [file_of(crate.name, it) for it in bugs], ["--jobs", "1"])
-        # rt tries the crate as it stands too, but for one bug alone
-        if crate.name not in self.proved and self.rt.checked(crate, {}, ["--jobs", "1"]).returncode:
-            self.results.update({(crate.name, it): (UNPROVED, "") for it in bugs})
+        room = self.rt.seeded(crate, ["--jobs", "1"])
+        for it in bugs:
+            if room:
+                self.one(crate, it, f"{room}/seed")
+            else:
+                self.results[crate.name, it] = UNPROVED, ""
+        shutil.rmtree(room or "", ignore_errors=True)
         with self.printing:
             for it in bugs:
                 by, where = self.results[crate.name, it]
