@@ -121,7 +121,7 @@ fn status_of(all: &All) -> u8
     1
 }
 
-/// The first ending that is looked for.
+/// The first ending that is looked for, where the search stops at one.
 fn first_sought<'a>(
     alloc: Global,
     all: &'a All,
@@ -129,6 +129,9 @@ fn first_sought<'a>(
 ) -> Result<Option<SoughtEnding<'a>>, AllocError>
     ensures { IfOk result (λ o. IfSome o (λ first. IsLookedFor sought.now first.ending.now)) }
 {
+    if !sought.stops {
+        return Ok(None);
+    }
     for (place, ending) in all.endings.as_slice().iter().enumerate() {
         if is_looked_for(alloc, sought, ending)?
             && let Some(choices) = all.paths.get(place)
@@ -201,9 +204,6 @@ pub(crate) fn search_all_orders<F: Hears, W: Write, S: Write>(
     let all = all_of(alloc, request, most, search.sought.dump, follower)?;
     follower.end();
     write_all(out, &all, most)?;
-    if !search.sought.stops {
-        return Ok(status_of(&all));
-    }
     let Some(first) = first_sought(alloc, &all, &search.sought)? else {
         return Ok(status_of(&all));
     };
