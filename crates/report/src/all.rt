@@ -49,7 +49,7 @@ fn all_of<F: Follows>(
     Ok(all_endings(alloc, request, most, dump as usize, follower)?)
 }
 
-/// The first ending that is looked for.
+/// The first ending that is looked for, where the search stops at one.
 fn first_sought<'a>(
     alloc: Global,
     all: &'a Complete,
@@ -58,6 +58,9 @@ fn first_sought<'a>(
     ensures first { IfOk result (λ o. IfSome o (λ first. IsLookedFor sought.now first.ending.now)) }
     ensures none { IfOk result (λ o. o ≡ None → All (λ e. IsLookedFor sought.now e → ⊥) all.now.endings.keys) }
 {
+    if !sought.stops {
+        return Ok(None);
+    }
     for (place, ending) in all.endings.as_slice().iter().enumerate() {
         if is_looked_for(alloc, sought, ending)? {
             let choices = match all.paths.get(place) {
