@@ -203,9 +203,9 @@ where
         args: &[],
         fuel: FUEL,
     };
-    match record_run(rt, alloc, valid, call, LIMIT, &OpenGate, ()) {
+    match record_run(rt, alloc, valid, call, LIMIT, &OpenGate) {
         Ok((_, end)) => Ok(end),
-        Err(refused) => Err(not_run(refused.fault, address, addend)),
+        Err(fault) => Err(not_run(fault, address, addend)),
     }
 }
 

@@ -109,36 +109,28 @@ struct Header {
 /// `Open` with `PastLimit` exactly where the limit is out of its range. Otherwise `Run` with `UnknownExport` exactly
 /// where no function of the module itself is exported under the name, and with `WrongArguments` exactly where one is,
 /// and the arguments don't fit it. Otherwise `NoMemory`, `Open` or `Run` where memory is refused, and `Run` with
-/// `NoThread` where the system starts no further thread. All come before the first turn: the ticket, which is anything,
-/// is used up by a run, and a fault gives it back.
-pub fn record_run<G, R, K>(
+/// `NoThread` where the system starts no further thread. All come before the first turn.
+pub fn record_run<G, R>(
     rt: &R,
     alloc: Global,
     module: &ValidModule,
     call: Call,
     limit: u32,
     gate: &G,
-    ticket: K,
-) -> Result<(Record, EndState), Refused<RecordRunFault, K>>
+) -> Result<(Record, EndState), RecordRunFault>
 where
     G: Gate + Sync,
     R: Threads + Wait + Sync,
-    K: Drop,
     requires fuel { call.fuel ≤ MOST_FUEL }
     ensures record { IfOk result (λ r. RecordsCall «module».now.parts call.entry limit r.0 r.1) }
     ensures run { IfOk result (λ r. IsRunOf «module».now.parts r.0 r.1) }
-    ensures fault { IfErr result (λ refused. IsRecordingFaultOf «module».now.parts call.entry limit refused.fault) }
-    ensures ticket { IfErr result (λ refused. refused.ticket ≡ ticket) }
+    ensures fault { IfErr result (IsRecordingFaultOf «module».now.parts call.entry limit) }
 {
-    if let Err(fault) = check_limit(limit) {
-        return Err(Refused { fault, ticket });
-    }
-    match Request::new(module, call) {
-        Ok(request) => record_request(rt, alloc, &request, limit, gate, ticket),
-        Err(fault) => Err(Refused {
-            fault: RecordRunFault::Run(RunFault::Call(fault)),
-            ticket,
-        }),
+    check_limit(limit)?;
+    let request = Request::new(module, call)?;
+    match record_request(rt, alloc, &request, limit, gate, ()) {
+        Ok(recorded) => Ok(recorded),
+        Err(refused) => Err(refused.fault),
     }
 }
 

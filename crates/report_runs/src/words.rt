@@ -29,30 +29,24 @@ use word_row::{ClosedRow, Naming, Prepared, WordRow};
 /// `Run` with `UnknownExport` exactly where no function of the module itself is exported under the name, and with
 /// `WrongArguments` exactly where one is, and the arguments don't fit it. Otherwise `NoMemory`, `Open` or `Run` where
 /// memory is refused, and `Run` with `NoThread` where the system starts no further thread. All come before the first
-/// turn: room for the final bytes is taken before it, and nothing afterwards. The ticket, which is anything, is used up
-/// by a run, and a fault gives it back.
-pub fn run_on_words<G, R, K>(
+/// turn: room for the final bytes is taken before it, and nothing afterwards.
+pub fn run_on_words<G, R>(
     rt: &R,
     alloc: Global,
     module: &ValidModule,
     call: Call,
     gate: &G,
-    ticket: K,
-) -> Result<EndState, Refused<RecordRunFault, K>>
+) -> Result<EndState, RecordRunFault>
 where
     G: Gate + Sync,
     R: Threads + Wait + Sync,
-    K: Drop,
     ensures end { IfOk result (EndsCallOnWords «module».now.parts call.entry) }
-    ensures fault { IfErr result (λ refused. IsWordsFaultOf «module».now.parts call.entry refused.fault) }
-    ensures ticket { IfErr result (λ refused. refused.ticket ≡ ticket) }
+    ensures fault { IfErr result (IsWordsFaultOf «module».now.parts call.entry) }
 {
-    match Request::new(module, call) {
-        Ok(request) => run_request_on_words(rt, alloc, &request, gate, ticket),
-        Err(fault) => Err(Refused {
-            fault: RecordRunFault::Run(RunFault::Call(fault)),
-            ticket,
-        }),
+    let request = Request::new(module, call)?;
+    match run_request_on_words(rt, alloc, &request, gate, ()) {
+        Ok(end) => Ok(end),
+        Err(refused) => Err(refused.fault),
     }
 }
 

@@ -4,7 +4,7 @@ use interp_trait::Gate;
 use replay::{ReplayFault, replay};
 use replay_text::Record;
 use report_jobs::{Refusal, load};
-use report_runs::{Call, EndState, RecordRunFault, Refused, record_run, run_on_words};
+use report_runs::{Call, EndState, RecordRunFault, record_run, run_on_words};
 use std::alloc::{AllocError, Global};
 use std::sync::Wait;
 use std::thread::Threads;
@@ -55,9 +55,9 @@ impl From<Refusal> for Trouble {
     }
 }
 
-impl From<Refused<RecordRunFault, ()>> for Trouble {
-    fn from(refused: Refused<RecordRunFault, ()>) -> Trouble {
-        Trouble::Run(refused.fault)
+impl From<RecordRunFault> for Trouble {
+    fn from(fault: RecordRunFault) -> Trouble {
+        Trouble::Run(fault)
     }
 }
 
@@ -90,7 +90,7 @@ fn run_recorded<G: Gate + Sync, R: Threads + Wait + Sync>(
     if call.fuel > MOST_FUEL {
         return Err(Trouble::Fuel);
     }
-    let (record, end) = record_run(rt, alloc, valid, call, limit, gate, ())?;
+    let (record, end) = record_run(rt, alloc, valid, call, limit, gate)?;
     if comes_to(alloc, valid, &record, &end)? {
         Ok(end)
     } else {
@@ -106,7 +106,7 @@ fn run_plain<G: Gate + Sync, R: Threads + Wait + Sync>(
     call: Call,
     gate: &G,
 ) -> Result<EndState, Trouble> {
-    Ok(run_on_words(rt, alloc, valid, call, gate, ())?)
+    Ok(run_on_words(rt, alloc, valid, call, gate)?)
 }
 
 /// Runs a module's function behind a gate.

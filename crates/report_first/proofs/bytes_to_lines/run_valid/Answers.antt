@@ -12,4 +12,4 @@ returns-in-Ok g c =
 
 pub not_run-requires : goal.not_run-requires
 not_run-requires g c =
-    subst (λ m. IsRecordingFault m (codes "f") [] LIMIT c.in-Err.refused.fault) c.requires.parts c.in-Err.ensures.fault
+    subst (λ m. IsRecordingFault m (codes "f") [] LIMIT c.in-Err.fault) c.requires.parts c.in-Err.ensures.fault
