@@ -1,5 +1,6 @@
 -- A trouble of the system is one of a search's call.
 use Rattle.std.proofs.Common.{ℕ, List}
+use Rattle.types.specs.declared.parts.Parts.{Parts}
 use Rattle.report_jobs.specs.Troubles.{IsTrouble}
 use Rattle.report_jobs.specs.declared.running.Trouble.{Trouble}
 use Rattle.report_jobs.specs.declared.running.Trouble.TheVariants as troubles

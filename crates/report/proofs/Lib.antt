@@ -1,3 +1,4 @@
 mod Plain
 mod Searched
 mod Asking
+mod Sure

@@ -42,10 +42,9 @@ complete_lines most all =
     ending_lines all.endings.keys
     ++ (verdict_line all.verdict most (length all.endings.keys) all.states ++ liveness_lines all.liveness)
 
--- These were written, and something behind them, where something was found.
-pub record PrintsComplete (most : ℕ) (all : Ended Ending) (out : WriterChange) : Type 0 where
-  pub found : List ℕ
-  pub lines : Appends out.old out.new (complete_lines most all ++ found)
+-- These were written.
+abbrev pub PrintsComplete : ℕ → Ended Ending → WriterChange → Type 0
+PrintsComplete most all out = Appends out.old out.new (complete_lines most all)
 
 -- All threads ended well; and in each of these endings they did.
 abbrev pub threads_end_well : Ending → Bool

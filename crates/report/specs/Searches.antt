@@ -1,5 +1,5 @@
 -- What is kept of a search.
-use Rattle.std.specs.Prelude.{ℕ, ◌≡◌, ◌≢◌, ◌≤◌, ◌⊎◌, All, Bool, List, [], true, Some, is_none, is_some}
+use Rattle.std.specs.Prelude.{ℕ, ◌≡◌, ◌≢◌, ◌≤◌, ◌⊎◌, All, Bool, List, [], false, true, Some, is_none, is_some}
 use Rattle.types.specs.declared.value.Value.{Value}
 use Rattle.types.specs.declared.parts.Parts.{Parts}
 use Rattle.validate_typing.specs.Validity.{IsValid}
@@ -95,15 +95,16 @@ pub record IsCompleteOf (q : Requested) (dump : ℕ) (all : Ended Ending) : Type
   pub count : CountsStates q all.states
   pub live : SaysWhereAll q dump all.states all.verdict all.liveness
 
--- What was written are the lines of what was found of all runs of the module by the call that was asked for, with what
--- was found behind them.
-pub record PrintsAll (m : Parts) (s : Search) (most : ℕ) (out : WriterChange) : Type 0 where
+-- What was written are the lines of what was found of all runs of the module by the call that was asked for: where
+-- nothing that was found is told behind them, so at status 0, and where the search doesn't stop at what is looked for.
+pub record PrintsAll (m : Parts) (s : Search) (most : ℕ) (out : WriterChange) (status : ℕ) : Type 0 where
   pub request : Requested
   pub parts_are : request.parts ≡ m
   pub asked : IsAskedBy s.call request
   pub all : Ended Ending
   pub complete : IsCompleteOf request s.sought.dump all
-  pub prints : PrintsComplete most all out
+  pub well : status ≡ 0 → PrintsComplete most all out
+  pub untold : s.sought.stops ≡ false → PrintsComplete most all out
 
 -- By this call threads without budgets can still end from wherever they come, and no fair run goes on for ever.
 pub record IsSureToEnd (m : Parts) (entry : List ℕ) (args : List Value) (dump : ℕ) : Type 0 where
@@ -149,8 +150,8 @@ abbrev pub IsDrawnWellAt : Parts → Search → ℕ → Type 0
 IsDrawnWellAt m s status = is_none s.all ≡ true → status ≡ 0 → DrawWell m s
 
 -- What is printed of a search through every order of entries.
-abbrev pub IsPrintedOf : Parts → Search → WriterChange → Type 0
-IsPrintedOf m s out = (most : ℕ) → s.all ≡ Some most → PrintsAll m s most out
+abbrev pub IsPrintedOf : Parts → Search → WriterChange → ℕ → Type 0
+IsPrintedOf m s out status = (most : ℕ) → s.all ≡ Some most → PrintsAll m s most out status
 
 -- The bytes are a valid module's text, and its runs were searched.
 pub record HasSearched (bytes : List ℕ) (s : Search) (out save : WriterChange) (status : ℕ) : Type 0 where
@@ -160,7 +161,7 @@ pub record HasSearched (bytes : List ℕ) (s : Search) (out save : WriterChange)
   pub finds : Finds parts s save status
   pub well : IsWellAt parts s status
   pub drawn : IsDrawnWellAt parts s status
-  pub prints : IsPrintedOf parts s out
+  pub prints : IsPrintedOf parts s out status
 
 -- A trouble that is the system's.
 abbrev pub IsOfSystem : Trouble → Type 0

@@ -49,7 +49,7 @@ fn all_of<F: Follows>(
     Ok(all_endings(alloc, request, most, dump as usize, follower)?)
 }
 
-/// The first ending that is looked for, where the search stops at one.
+/// The first ending that is looked for.
 fn first_sought<'a>(
     alloc: Global,
     all: &'a Complete,
@@ -58,10 +58,8 @@ fn first_sought<'a>(
     ensures first { IfOk result (λ o. IfSome o (λ first. IsLookedFor sought.now first.ending.now)) }
     ensures none { IfOk result (λ o. o ≡ None → All (λ e. IsLookedFor sought.now e → ⊥) all.now.endings.keys) }
 {
-    if !sought.stops {
-        return Ok(None);
-    }
-    for (place, ending) in all.endings.as_slice().iter().enumerate() {
+    let endings = all.endings.as_slice();
+    for (place, ending) in endings.iter().enumerate() {
         if is_looked_for(alloc, sought, ending)? {
             let choices = match all.paths.get(place) {
                 Some(choices) => choices.as_slice(),
@@ -215,7 +213,7 @@ pub(crate) fn search_all_orders<F: Hears, W: Write, S: Write>(
     requires every_order { search.now.all ≡ Some most }
     ensures finds { IfOk result (Finds request.now.parts search.now (changed S.contents save.old save.new)) }
     ensures prints { IfOk result
-        (λ _. PrintsAll request.now.parts search.now most (changed W.contents out.old out.new)) }
+        (PrintsAll request.now.parts search.now most (changed W.contents out.old out.new)) }
     ensures well { IfOk result (IsWellAt request.now.parts search.now) }
     ensures trouble { IfErr result IsOfSystem }
 {
@@ -223,17 +221,20 @@ pub(crate) fn search_all_orders<F: Hears, W: Write, S: Write>(
     follower.end();
     write_complete(out, &all, most)?;
     let first = first_sought(alloc, &all, &search.sought)?;
+    let stops = search.sought.stops;
     if let Some(first) = first {
-        if search.sought.stops {
-            tell_sought(alloc, request, search, first, follower, out, save)?;
+        if !stops {
+            return Ok(1);
         }
+        tell_sought(alloc, request, search, first, follower, out, save)?;
         return Ok(1);
     }
     if are_well(&all, &search.sought) {
         return Ok(0);
     }
-    if search.sought.stops {
-        tell_if_endless(alloc, request, search, &all, out, save)?;
+    if !stops {
+        return Ok(1);
     }
+    tell_if_endless(alloc, request, search, &all, out, save)?;
     Ok(1)
 }

@@ -126,7 +126,7 @@ pub fn search_module<R: Threads + Sync, F: Hears, W: Write, S: Write>(
     ensures well { IfOk result (IsWellAt «module».now.parts search.now) }
     ensures drawn { IfOk result (IsDrawnWellAt «module».now.parts search.now) }
     ensures prints { IfOk result
-        (λ _. IsPrintedOf «module».now.parts search.now (changed W.contents out.old out.new)) }
+        (IsPrintedOf «module».now.parts search.now (changed W.contents out.old out.new)) }
     ensures trouble { IfErr result (IsTroubleOf «module».now.parts search.now.call) }
 {
     let args = args_of(alloc, module, &search.call)?;

@@ -1,6 +1,7 @@
 //! The table of a search of drawn runs, and what it says of runs that weren't made.
 ghost use Rattle.std.specs.Prelude.{◌≡◌, ◌==◌, count_by, true, IfOk};
-ghost use Rattle.report.specs.Searches.{threads_end_well, IsAllWell};
+ghost use Rattle.report.specs.Complete.{threads_end_well};
+ghost use Rattle.report.specs.Searches.{IsAllWell};
 
 use crate::searching::write_ending;
 use report_command::Sought;

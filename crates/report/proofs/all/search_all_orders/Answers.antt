@@ -1,20 +1,49 @@
-use Rattle.std.proofs.Common.{ℕ, List, subst}
+use Rattle.std.proofs.Common.{ℕ, List, refl, sym, ◌∙◌, subst, arith, true≢false}
 use Rattle.search_modules.specs.Endings.{HasEveryEnding, AllCanEndSo}
+use Rattle.report.specs.Searches.{IsSureToEnd}
+use Rattle.report.proofs.Sure.{sure}
 use Rattle.report.proofs.all.search_all_orders.Goals as goal
 
-pub returns-in_default-clause-well : goal.returns-in_default-clause-well
-returns-in_default-clause-well g c = λ some zero.
-    let well = c.status_of.ensures.well zero in
+pub returns-in-Some-clause-prints : goal.returns-in-Some-clause-prints
+returns-in-Some-clause-prints g c = record {
+  request = c.args.request.now;
+  parts_are = refl;
+  asked = c.requires.asked;
+  all = c.in_ok-all.all;
+  complete = c.in_ok-all.ensures.complete;
+  well = λ zero. absurd (omega (arith, zero));
+  untold = λ plain. absurd (true≢false (sym c.if-not-stops.false ∙ plain));
+}
+
+pub returns-clause-prints : goal.returns-clause-prints
+returns-clause-prints g c = record {
+  request = c.args.request.now;
+  parts_are = refl;
+  asked = c.requires.asked;
+  all = c.in_ok-all.all;
+  complete = c.in_ok-all.ensures.complete;
+  well = λ zero. absurd (omega (arith, zero));
+  untold = λ plain. absurd (true≢false (sym c.if-not-stops-2.false ∙ plain));
+}
+
+pub returns-then-are_well-clause-well : goal.returns-then-are_well-clause-well
+returns-then-are_well-clause-well g c = λ some zero.
     let r = c.args.request.now in
     let dump = c.args.search.now.sought.dump in
-    let asked = c.requires in
-    let endings = c.in_ok-all.all.endings.keys in
+    let asked = c.requires.asked in
+    let all = c.in_ok-all.all in
+    let complete = c.in_ok-all.ensures.complete in
+    let endings = all.endings.keys in
+    let well = c.are_well.ensures c.if-are_well.true in
     record {
       args = r.args;
       spelled = asked.spelled;
       endings = endings;
-      every = subst (λ (name : List ℕ). HasEveryEnding r.parts name r.args dump endings) asked.name_is (c.in_ok-all.ensures.every well.are_all);
-      can = subst (λ (name : List ℕ). AllCanEndSo r.parts name r.args dump endings) asked.name_is c.in_ok-all.ensures.can;
+      every = subst (λ (name : List ℕ). HasEveryEnding r.parts name r.args dump endings) asked.name_is (complete.every well.are_all);
+      can = subst (λ (name : List ℕ). AllCanEndSo r.parts name r.args dump endings) asked.name_is complete.can;
       some = well.some;
       well = well.well;
+      unsought = well.unsought;
+      sure = subst (λ (name : List ℕ). IsSureToEnd r.parts name r.args dump) asked.name_is
+          (sure r dump all.states all.verdict all.liveness well.are_all well.live complete.live);
     }

@@ -1,7 +1,7 @@
 use Rattle.std.proofs.Common.{ℕ, ◌≡◌, ◌<◌, true, get_or}
 use Rattle.search_finds.specs.declared.met.Met.{Met}
 use Rattle.search_finds.specs.Finds.{IsLookedFor}
-use Rattle.report.specs.Searches.{threads_end_well}
+use Rattle.report.specs.Complete.{threads_end_well}
 use Rattle.report.proofs.table.is_all_well.Given as goal
 
 abbrev pub invariant-loop-met : goal.invariant-loop-met

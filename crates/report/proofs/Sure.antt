@@ -1,0 +1,26 @@
+-- Where it is said that every state can end and that every fair run does, the threads of the call are sure to end.
+use Rattle.std.proofs.Common.{◌≡◌, ℕ, List, Option, Some, None, refl, subst}
+use Rattle.std.specs.Option.{MatchOption}
+use Rattle.spawn_host.specs.Requests.{Requested}
+use Rattle.search_reach.specs.declared.liveness.Liveness.{Liveness}
+use Rattle.search_reach.specs.declared.search.Verdict.{Verdict}
+use Rattle.search_reach.specs.declared.search.Verdict.TheVariants as verdicts
+use Rattle.search_modules.specs.Moved.{called}
+use Rattle.search_modules.specs.Liveness.{SaysOfCall, SaysOfRuns}
+use Rattle.report.specs.Complete.{EndsForSure}
+use Rattle.report.specs.Searches.{IsSureToEnd}
+
+pub sure : (q : Requested) (dump states : ℕ) (verdict : Verdict) (o : Option Liveness) → verdict ≡ verdicts.All
+    → ((l : Liveness) → o ≡ Some l → EndsForSure l)
+    → MatchOption o (verdict ≡ verdicts.All → ⊥) (λ l. (verdict ≡ verdicts.All) × SaysOfCall q dump states l)
+    → IsSureToEnd q.parts q.name q.args dump
+sure q dump states verdict None is_all well none = absurd (none is_all)
+sure q dump states verdict (Some l) is_all well says =
+    let so = well l refl in
+    let s = says.1 in
+    record {
+      called = called s.searched;
+      call = s.call;
+      can_end = s.every so.none;
+      fair_runs_end = subst (SaysOfRuns (called s.searched)) so.fair s.fair_runs;
+    }
