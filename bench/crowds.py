@@ -1,6 +1,6 @@
 #!/usr/bin/env python3
 """Writes the threaded examples with 63 spawned threads in place of their three or four, and modules whose starts are measured,
-into a folder: crowds.py EXAMPLES FOLDER. Where many wait for one lock, each thread takes it five times."""
+into a folder: crowds.py EXAMPLES CASES FOLDER, where CASES has those in C. Where many wait for one lock, each thread takes it five times."""
 import sys
 
 
@@ -75,15 +75,15 @@ CROWDS = {
     # the count of spawns, how many ends are waited for, the rounds
     "ticket_lock": [(code("4104 490d"), code("413f 490d")), (code("2001 4104 46"), code("2001 413f 46")), (code("41e400 21"), code("4105 21"))],
     "broken_lock": [(code("4103 490d"), code("413f 490d")), (code("2001 4103 46"), code("2001 413f 46")), (code("41c801 21"), code("4105 21"))],
-    "c/counter": [(code("4104 470d"), code("413f 470d")), (code("4103 4a"), code("413e 4a")), (code("4104 480d"), code("413f 480d"))],
-    "c/ticket_lock": [
+    "c_counter": [(code("4104 470d"), code("413f 470d")), (code("4103 4a"), code("413e 4a")), (code("4104 480d"), code("413f 480d"))],
+    "c_ticket_lock": [
         (code("4104 470d"), code("413f 470d")),
         (code("4103 4a"), code("413e 4a")),
         (code("4104 480d"), code("413f 480d")),
         (code("41e400 47"), code("4105 47")),
     ],
     # a bit for each thread that has ended
-    "c/one_word_lock": [
+    "c_one_word_lock": [
         (code("4104 470d"), code("413f 470d")),
         (code("420f 51"), code("42ffffffffffffffffff00 51")),
         (code("420f 52"), code("42ffffffffffffffffff00 52")),
@@ -116,9 +116,9 @@ STARTS = {
     "spawns_63": spawns(63),
 }
 
-examples, folder = sys.argv[1:]
+examples, cases, folder = sys.argv[1:]
 for name, pairs in CROWDS.items():
-    data = open(f"{examples}/{name}.wasm", "rb").read()
-    open(f"{folder}/{name.replace('/', '_')}.wasm", "wb").write(changed(data, pairs))
+    data = open(f"{cases if name.startswith('c_') else examples}/{name}.wasm", "rb").read()
+    open(f"{folder}/{name}.wasm", "wb").write(changed(data, pairs))
 for name, data in STARTS.items():
     open(f"{folder}/{name}.wasm", "wb").write(data)

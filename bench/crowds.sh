@@ -5,7 +5,7 @@
 # Needs python3.
 set -u
 . "$(dirname "$0")/common.sh"
-"$top/bench/crowds.py" "$top/examples" "$work" || exit 1
+"$top/bench/crowds.py" "$top/examples" "$top/crates/cases/data" "$work" || exit 1
 cd "$work" || exit 1
 times=${TIMES:-100} wrong=0 runs=0
 

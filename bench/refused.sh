@@ -6,7 +6,7 @@
 set -u
 . "$(dirname "$0")/common.sh"
 cp "$program" "$work/wathread"
-cp "$top"/examples/{atomic_add,counting}.wasm "$top/examples/c/one_word_lock.wasm" "$work"
+cp "$top"/examples/{atomic_add,counting}.wasm "$top/crates/cases/data/c_one_word_lock.wasm" "$work"
 cc -O2 -shared -fPIC "$top/bench/refuse.c" -o "$work/refuse.so" || exit 1
 cd "$work" || exit 1
 # (import "wasi" "thread-spawn" ..) (memory 1 1 shared) (func (export "f") (loop $round br $round))
@@ -75,7 +75,7 @@ each ./wathread --help
 each ./wathread run
 each ./wathread check $'\xff'
 each ./wathread check nothing.wasm
-for file in atomic_add counting one_word_lock; do
+for file in atomic_add counting c_one_word_lock; do
     each ./wathread check $file.wasm
     for memory in locked words; do
         each ./wathread run $file.wasm --invoke f --memory $memory --dump 16

@@ -1,36 +1,38 @@
 /* A lock that isn't one: it waits until the flag is clear, and then sets it, in two steps. Two threads can both find it
-   clear, and then an increment is lost. */
-#include "threads.h"
-
-#define FLAG ((_Atomic int *)1024)
-#define SUM ((int *)1028)
-#define DONE ((_Atomic int *)1032)
+   clear, and then an increment is lost: `main` answers 1, and not 2. */
+#include <pthread.h>
+#include <stdatomic.h>
+#include <wathread.h>
 
 enum { THREADS = 2 };
 
+static atomic_int flag;
+static int sum;
+
 static void lock(void) {
-    while (*FLAG)
-        wait_while(FLAG, 1);
-    *FLAG = 1;
+    while (flag)
+        wait_while(&flag, 1);
+    flag = 1;
 }
 
 static void unlock(void) {
-    *FLAG = 0;
-    notify_one(FLAG);
+    flag = 0;
+    notify_one(&flag);
 }
 
-EXPORT("f") int run(void) {
-    for (int i = 0; i < THREADS; i++)
-        thread_spawn(i);
-    for (int done; (done = *DONE) != THREADS;)
-        wait_while(DONE, done);
-    return *SUM;
-}
-
-EXPORT("wasi_thread_start") void thread_start(int id, int arg) {
+static void *add_one(void *unused) {
+    (void)unused;
     lock();
-    *SUM += 1;
+    sum++;
     unlock();
-    *DONE += 1;
-    notify_all(DONE);
+    return 0;
+}
+
+int main(void) {
+    pthread_t threads[THREADS];
+    for (int i = 0; i < THREADS; i++)
+        pthread_create(&threads[i], 0, add_one, 0);
+    for (int i = 0; i < THREADS; i++)
+        pthread_join(threads[i], 0);
+    return sum;
 }

@@ -1,29 +1,28 @@
-/* A wake-up that is lost: the reader looks whether the box is full, and sleeps on whatever the count of letters is by then.
-   A letter that comes between the two wakes nobody, and the reader sleeps for good. */
-#include "threads.h"
+/* A wake-up that is lost: who takes looks whether the box is full, and sleeps on whatever the count of letters is by then.
+   A letter that comes between the two wakes nobody, and the first thread sleeps for good. */
+#include <pthread.h>
+#include <stdatomic.h>
+#include <wathread.h>
 
-#define FULL ((_Atomic int *)1024)
-#define COUNT ((_Atomic int *)1028)
-#define LETTER ((int *)1032)
+static atomic_int full, count;
+static int box;
 
 static int take(void) {
-    while (!*FULL)
-        wait_while(COUNT, *COUNT);
-    return *LETTER;
+    while (!full)
+        wait_while(&count, count);
+    return box;
 }
 
-static void put(int letter) {
-    *LETTER = letter;
-    *FULL = 1;
-    *COUNT += 1;
-    notify_all(COUNT);
+static void *put(void *letter) {
+    box = (int)letter;
+    full = 1;
+    count++;
+    notify_all(&count);
+    return 0;
 }
 
-EXPORT("f") int run(void) {
-    thread_spawn(7);
+int main(void) {
+    pthread_t thread;
+    pthread_create(&thread, 0, put, (void *)7);
     return take();
-}
-
-EXPORT("wasi_thread_start") void thread_start(int id, int arg) {
-    put(arg);
 }

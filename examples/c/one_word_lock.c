@@ -1,42 +1,49 @@
-/* A ticket lock of one word of 64 bits: the tickets drawn in its upper half, the tickets served in its lower half. The
-   threads that are done set their bits in another such word, which the first thread takes whole, again and again. */
-#include "threads.h"
+/* A ticket lock in one word of 64 bits: the tickets drawn in its upper half, those served in the lower. To draw a ticket
+   and to see which one is served is one step, so whoever finds the lock free has it by that. */
+#include <assert.h>
+#include <pthread.h>
 #include <stdatomic.h>
+#include <stdint.h>
+#include <wathread.h>
 
-#define LOCK ((_Atomic unsigned long long *)1024)
-#define SERVED ((_Atomic int *)1024)
-#define DONE ((_Atomic unsigned long long *)1032)
-#define DONE_LOW ((_Atomic int *)1032)
-#define SUM ((int *)1040)
+enum { THREADS = 3, ROUNDS = 1 };
 
-enum { THREADS = 4, ROUNDS = 100, ALL = (1 << THREADS) - 1 };
+static union {
+    _Atomic uint64_t both;
+    struct {
+        atomic_int served, drawn;
+    };
+} tickets;
+
+static int sum;
 
 static void lock(void) {
-    int ticket = atomic_fetch_add(LOCK, 1ull << 32) >> 32;
-    for (int served; (served = *SERVED) != ticket;)
-        wait_while(SERVED, served);
+    uint64_t before = atomic_fetch_add(&tickets.both, (uint64_t)1 << 32);
+    int ticket = before >> 32;
+    for (int served = (int)before; served != ticket; served = tickets.served)
+        wait_while(&tickets.served, served);
 }
 
 static void unlock(void) {
-    *SERVED += 1;
-    notify_all(SERVED);
+    tickets.served++;
+    notify_all(&tickets.served);
 }
 
-EXPORT("f") int run(void) {
-    for (int i = 0; i < THREADS; i++)
-        thread_spawn(i);
-    for (unsigned long long done = 0; (done |= atomic_exchange(DONE, 0)) != ALL;)
-        wait_while(DONE_LOW, 0);
-    return *SUM;
-}
-
-EXPORT("wasi_thread_start") void thread_start(int id, int arg) {
-    (void)id;
+static void *add(void *number) {
     for (int i = 0; i < ROUNDS; i++) {
         lock();
-        *SUM += arg + 1;
+        sum += (int)number;
         unlock();
     }
-    atomic_fetch_or(DONE, 1ull << arg);
-    notify_all(DONE_LOW);
+    return 0;
+}
+
+int main(void) {
+    pthread_t threads[THREADS];
+    for (int i = 0; i < THREADS; i++)
+        pthread_create(&threads[i], 0, add, (void *)(i + 1));
+    for (int i = 0; i < THREADS; i++)
+        pthread_join(threads[i], 0);
+    assert(sum == ROUNDS * THREADS * (THREADS + 1) / 2);
+    return sum;
 }

@@ -1,39 +1,44 @@
-/* A ticket lock over two words; the number that it guards is changed by plain accesses. */
-#include "threads.h"
+/* A ticket lock: who comes draws a ticket, and waits until that one is served. */
+#include <assert.h>
+#include <pthread.h>
+#include <stdatomic.h>
+#include <wathread.h>
 
-#define NEXT ((_Atomic int *)1024)
-#define SERVED ((_Atomic int *)1028)
-#define SUM ((int *)1032)
-#define DONE ((_Atomic int *)1036)
+enum { THREADS = 3, ROUNDS = 1 };
 
-enum { THREADS = 4, ROUNDS = 100 };
+struct ticket_lock {
+    atomic_int drawn, served;
+};
 
-static void lock(void) {
-    int ticket = (*NEXT)++;
-    for (int served; (served = *SERVED) != ticket;)
-        wait_while(SERVED, served);
+static struct ticket_lock tickets;
+static int sum;
+
+static void lock(struct ticket_lock *l) {
+    int ticket = atomic_fetch_add(&l->drawn, 1);
+    for (int served; (served = l->served) != ticket;)
+        wait_while(&l->served, served);
 }
 
-static void unlock(void) {
-    *SERVED += 1;
-    notify_all(SERVED);
+static void unlock(struct ticket_lock *l) {
+    l->served++;
+    notify_all(&l->served); /* the next one may be any of them */
 }
 
-EXPORT("f") int run(void) {
-    for (int i = 0; i < THREADS; i++)
-        thread_spawn(i);
-    for (int done; (done = *DONE) < THREADS;)
-        wait_while(DONE, done);
-    return *SUM;
-}
-
-EXPORT("wasi_thread_start") void thread_start(int id, int arg) {
-    (void)id;
+static void *add(void *number) {
     for (int i = 0; i < ROUNDS; i++) {
-        lock();
-        *SUM += arg + 1;
-        unlock();
+        lock(&tickets);
+        sum += (int)number;
+        unlock(&tickets);
     }
-    *DONE += 1;
-    notify_all(DONE);
+    return 0;
+}
+
+int main(void) {
+    pthread_t threads[THREADS];
+    for (int i = 0; i < THREADS; i++)
+        pthread_create(&threads[i], 0, add, (void *)(i + 1));
+    for (int i = 0; i < THREADS; i++)
+        pthread_join(threads[i], 0);
+    assert(sum == ROUNDS * THREADS * (THREADS + 1) / 2);
+    return sum;
 }

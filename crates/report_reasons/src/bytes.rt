@@ -102,7 +102,8 @@ fn add_hint(out: &mut String, bytes: &[u8], kind: Fault, offset: usize) -> Resul
             "a memory has 256 pages at most; wasm-ld: --max-memory=16777216, or less"
         }
         (Fault::Limit, Some(10)) => {
-            "a body has 65,536 bytes at most, 1,000 locals, and 255 blocks in one another"
+            "a body has 65,536 bytes at most, 1,000 locals, and 255 blocks in one another; \
+            clang: -O1 makes fewer locals than -O0"
         }
         (Fault::Limit, _) if bytes.len() > 1_048_576 => {
             "a module has 1,048,576 bytes at most; wasm-ld: --strip-debug, and `show --names` takes the lines from the other build"

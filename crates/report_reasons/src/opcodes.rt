@@ -10,13 +10,16 @@ pub(crate) struct Unserved {
 const FLOATS: &str =
     "floats aren't served, and no switch of a compiler takes them away: use integers";
 
-const BULK: &str = "bulk memory isn't served; clang: -fno-builtin, and copy no large struct";
+const BULK: &str =
+    "bulk memory isn't served: c/wathread-cc puts calls in its place; clang by itself: -fno-builtin, \
+    and copy no large struct";
 
 const STATIC_DATA: &str =
     "bulk memory isn't served, by which wasm-ld fills the static data of a shared memory: \
-    use none, but fixed addresses, as examples/c does";
+    c/wathread-cc makes modules of C without it";
 
-const REFERENCES: &str = "reference types aren't served; clang: -mno-reference-types";
+const REFERENCES: &str =
+    "reference types aren't served; clang: -mno-reference-types, as c/wathread-cc has it";
 
 const SIMD: &str = "vectors aren't served; clang: -mno-simd128";
 

@@ -40,7 +40,8 @@ pub(crate) fn add_validity(
 fn add_rule(out: &mut String, kind: Fault) -> Result<(), AllocError> {
     let words = match kind {
         Fault::MoreThanOne => {
-            "a module has one memory and one table at most, and a function and a block one result; clang: -mno-multivalue"
+            "a module has one memory and one table at most, and a function and a block one result; \
+            clang: -mno-multivalue, as c/wathread-cc has it"
         }
         Fault::SharedWithoutMaximum => {
             "a shared memory has a maximum; wasm-ld: --max-memory=16777216, or less"
@@ -93,8 +94,8 @@ fn add_start(
         add_function(alloc, out, bytes, index)?;
     }
     out.push_str(
-        "\nexport the function and invoke it; where wasm-ld made it, there is static data, which it fills: use fixed addresses, \
-        as examples/c does\n",
+        "\nexport the function and invoke it; where wasm-ld made it, for the static data of a shared memory, \
+        c/wathread-cc makes modules of C without it\n",
     )
 }
 

@@ -1,4 +1,4 @@
-//! A module that clang 14 and wasm-ld 14 made with `-gdwarf-4` and the switches of `examples/c/build.sh`, and a record
+//! A module that clang 14 and wasm-ld 14 made with `-gdwarf-4` and the switches of `bench/imported/build.sh`, and a record
 //! of its run.
 
 /// Of this source, `small.c`:

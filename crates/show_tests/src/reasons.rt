@@ -44,7 +44,8 @@ static MODULES: [Case; 14] = [
         bytes: b"\x00asm\x01\x00\x00\x00\x01\x04\x01\x60\x00\x00\x03\x02\x01\x00\
             \x0a\x0d\x01\x0b\x00\x41\x00\x41\x00\x41\x00\xfc\x0b\x00\x0b",
         lines: "byte fc 0b (memory.fill) at 0x1d in the code section, function 0: unknown byte\n\
-            bulk memory isn't served; clang: -fno-builtin, and copy no large struct\n",
+            bulk memory isn't served: c/wathread-cc puts calls in its place; clang by itself: -fno-builtin, \
+            and copy no large struct\n",
     },
     // f32.const
     Case {
@@ -64,7 +65,7 @@ static MODULES: [Case; 14] = [
         bytes: b"\x00asm\x01\x00\x00\x00\x0c\x01\x01",
         lines: "byte 0c (data count) at 0x8 in the data count section: unknown byte\n\
             bulk memory isn't served, by which wasm-ld fills the static data of a shared memory: \
-            use none, but fixed addresses, as examples/c does\n",
+            c/wathread-cc makes modules of C without it\n",
     },
     // a memory of 1 to 257 pages
     Case {
@@ -84,8 +85,8 @@ static MODULES: [Case; 14] = [
         bytes: b"\x00asm\x01\x00\x00\x00\x01\x04\x01\x60\x00\x00\x03\x02\x01\x00\x08\x01\x00\x0a\x04\x01\x02\x00\x0b",
         lines: "start section\n\
             the start section, function 0\n\
-            export the function and invoke it; where wasm-ld made it, there is static data, which it fills: \
-            use fixed addresses, as examples/c does\n",
+            export the function and invoke it; where wasm-ld made it, for the static data of a shared memory, \
+            c/wathread-cc makes modules of C without it\n",
     },
     // a shared memory without a maximum
     Case {

@@ -1,0 +1,39 @@
+/* For those who write locks themselves: threads, and how a thread sleeps and wakes others.
+
+   A WORD below is the address of four or eight bytes, as of an _Atomic int or an _Atomic long long: another size is an
+   error of the compiler. Who sleeps is asked by the address alone, in order of falling asleep. */
+#ifndef WATHREAD_H
+#define WATHREAD_H
+
+/* Starts a thread that calls body(arg), and answers its number, from 1 on, or -1 where --threads of wathread-cc, or 63,
+   are there already. Threads have the same numbers in traces: t1, t2 .. */
+int thread_spawn(void (*body)(int), int arg);
+
+/* Waits until a thread has ended. */
+void thread_join(int thread);
+
+/* The number of the thread that asks; that of `main` is 0. */
+int thread_self(void);
+
+/* Sleeps until a notify of the same word, if it is VALUE; to look and to fall asleep is one step. Answers 0 where a
+   notify woke it, and 1 where the word was another. */
+#define wait_while(word, value) wait_while_for(word, value, -1)
+
+/* The same, and wakes by itself, with 2, after so many nanoseconds; a negative number is no end. Time isn't measured: it
+   goes by where all threads are asleep, and then the one with the fewest left wakes. */
+#define wait_while_for(word, value, nanoseconds)                                                                   \
+    (sizeof *(word) == 8                                                                                           \
+         ? __builtin_wasm_memory_atomic_wait64((long long *)WATHREAD_WORD(word), (long long)(value), nanoseconds)  \
+         : __builtin_wasm_memory_atomic_wait32((int *)WATHREAD_WORD(word), (int)(value), nanoseconds))
+
+/* Wakes one thread that sleeps on the word, or all, or at most so many. Answers how many. */
+#define notify_one(word) notify_some(word, 1)
+#define notify_all(word) notify_some(word, -1)
+#define notify_some(word, most) __builtin_wasm_memory_atomic_notify((int *)WATHREAD_WORD(word), most)
+
+#define WATHREAD_WORD(word) _Generic((char (*)[sizeof *(word)])0, char (*)[4]: (void *)(word), char (*)[8]: (void *)(word))
+
+/* In front of a function: it can be called by this name, as `--invoke NAME`, beside `main` or in its place. */
+#define EXPORT(name) __attribute__((export_name(name)))
+
+#endif

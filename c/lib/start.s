@@ -1,0 +1,88 @@
+# Where a started thread begins, by its number and the argument of its start. The block of thread-local data of thread I
+# lies at `thread_first + I * thread_size`, with its stack right below it: wathread-link fills in these values. Without
+# --shared-memory wasm-ld gives thread-local data absolute addresses, those of thread 0, to which the code adds
+# `__tls_base`: that is 0 there, and in another thread the distance of its block.
+	.globaltype	__stack_pointer, i32
+	.globaltype	__tls_base, i32
+	.globl	__tls_base
+__tls_base:
+	.globaltype	thread_image, i32
+	.globl	thread_image
+thread_image:
+	.globaltype	thread_first, i32
+	.globl	thread_first
+thread_first:
+	.globaltype	thread_size, i32
+	.globl	thread_size
+thread_size:
+	.globaltype	thread_count, i32
+	.globl	thread_count
+thread_count:
+	.globaltype	thread_stack, i32
+	.globl	thread_stack
+thread_stack:
+	.globaltype	thread_limit, i32
+	.globl	thread_limit
+thread_limit:
+	.globaltype	thread_number, i32
+	.globl	thread_number
+thread_number:
+	.functype	__wathread_begin (i32, i32) -> ()
+
+	.section	.text.wasi_thread_start,"",@
+	.globl	wasi_thread_start
+	.export_name	wasi_thread_start, wasi_thread_start
+	.type	wasi_thread_start,@function
+wasi_thread_start:
+	.functype	wasi_thread_start (i32, i32) -> ()
+	local.get	0
+	global.set	thread_number
+	global.get	thread_first
+	local.get	0
+	global.get	thread_size
+	i32.mul
+	i32.add
+	global.set	__stack_pointer
+	global.get	__stack_pointer
+	global.get	thread_image
+	i32.sub
+	global.set	__tls_base
+	global.get	__stack_pointer
+	global.get	thread_stack
+	i32.sub
+	global.set	thread_limit
+	local.get	0
+	local.get	1
+	call	__wathread_begin
+	end_function
+
+	.section	.text.thread_self,"",@
+	.globl	thread_self
+	.type	thread_self,@function
+thread_self:
+	.functype	thread_self () -> (i32)
+	global.get	thread_number
+	end_function
+
+	.section	.text.__wathread_most,"",@
+	.globl	__wathread_most
+	.type	__wathread_most,@function
+__wathread_most:
+	.functype	__wathread_most () -> (i32)
+	global.get	thread_count
+	end_function
+
+# What -finstrument-function-entry-bare calls in each function once that has its frame: a trap where the stack is too
+# small. It makes no event, and costs six units. In traces it is called `stack_overflow`.
+	.section	.text.__cyg_profile_func_enter_bare,"",@
+	.globl	__cyg_profile_func_enter_bare
+	.type	__cyg_profile_func_enter_bare,@function
+__cyg_profile_func_enter_bare:
+	.functype	__cyg_profile_func_enter_bare () -> ()
+	global.get	__stack_pointer
+	global.get	thread_limit
+	i32.lt_s
+	if
+	unreachable
+	end_if
+	end_function

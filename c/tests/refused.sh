@@ -1,0 +1,205 @@
+#!/bin/bash
+# What wathread-cc refuses: one line, status 1, and OUT is what it was. It wants no wathread, but gcc, and as root also
+# setpriv. CC names the clang.
+set -u
+cc_=$(cd "$(dirname "$0")/.." && pwd)/wathread-cc
+clang=${CC:-clang}
+work=$(mktemp -d)
+trap 'chmod -R u+w "$work"; rm -rf "$work"' EXIT
+cd "$work" || exit 1
+wrong=0 tried=0
+other=()
+[ "$(id -u)" != 0 ] || other=(setpriv --reuid=65534 --regid=65534 --clear-groups env HOME=/tmp TMPDIR="$work/temporary")
+mkdir temporary && chmod 777 temporary && chmod 755 "$work"
+
+say() {
+    echo "WRONG: $*"
+    wrong=$((wrong + 1))
+}
+
+# refuses TEXT WORDS..: the call says one line with the text, with status 1, and neither changes m.wasm nor leaves a file.
+refuses() {
+    local text=$1 status before
+    shift
+    tried=$((tried + 1))
+    echo old >m.wasm
+    before=$(find . -path ./temporary -prune -o -type f -print | sort)
+    "$@" >out.text 2>err.text
+    status=$?
+    [ $status = 1 ] || say "status $status: $*"
+    [ "$(wc -l <err.text)" = 1 ] || say "$(wc -l <err.text) lines: $*: $(head -3 err.text)"
+    grep -qF -- "$text" err.text || say "said '$(cat err.text)' and not '$text': $*"
+    [ ! -s out.text ] || say "on standard output '$(head -1 out.text)': $*"
+    [ "$(cat m.wasm)" = old ] || say "OUT is changed: $*"
+    rm -f out.text err.text
+    [ "$before" = "$(find . -path ./temporary -prune -o -type f -print | sort)" ] || say "a file is left: $*"
+}
+
+# passes TEXT WORDS..: a fault of clang or of the linker comes as it is, with status 1, and m.wasm stays.
+passes() {
+    local text=$1 status
+    shift
+    tried=$((tried + 1))
+    echo old >m.wasm
+    "$@" >out.text 2>err.text
+    status=$?
+    [ $status = 1 ] || say "status $status: $*"
+    grep -qF -- "$text" err.text || say "said '$(head -3 err.text)' and not '$text': $*"
+    [ "$(cat m.wasm)" = old ] || say "OUT is changed: $*"
+    [ ! -e a.wasm ] || say "a.wasm is there: $*"
+    rm -f out.text err.text
+}
+
+# makes OUT WORDS..: the call says nothing and makes a module at this place.
+makes() {
+    local out=$1 status
+    shift
+    tried=$((tried + 1))
+    "$@" >out.text 2>err.text
+    status=$?
+    [ $status = 0 ] || say "status $status: $*: $(head -3 err.text)"
+    [ ! -s err.text ] && [ ! -s out.text ] || say "said '$(head -1 out.text err.text)': $*"
+    [ "$(head -c 4 "$out" | tail -c 3)" = asm ] || say "no module at $out: $*"
+    rm -f out.text err.text
+}
+
+cat >good.c <<'END'
+#include <pthread.h>
+static _Atomic int sum;
+static void *add(void *n) { sum += (int)n; return 0; }
+int main(void) {
+    pthread_t t;
+    pthread_create(&t, 0, add, (void *)3);
+    pthread_join(t, 0);
+    return sum;
+}
+END
+cp good.c 'two words & a "quote".c'
+cat >nothing_to_call.c <<'END'
+int f(void) { return 1; }
+END
+cat >other.c <<'END'
+#include <wathread.h>
+int g(void);
+EXPORT("f") int f(void) { return g(); }
+END
+echo 'int g(void) { return 2; }' >third.c
+echo 'static int x = 3 int main(void) { return x; }' >wrong.c
+echo 'int puts(const char *); int main(void) { return puts("a"); }' >missing.c
+echo '#include <stdio.h>
+int main(void) { return 0; }' >header.c
+echo 'static volatile float f = 1; __attribute__((noinline)) static int average(void) { return f * 2; } int main(void) { return average(); }' >float.c
+echo '#include <wathread.h>
+EXPORT("half") double half(double x) { return x; }' >float_type.c
+echo 'typedef float (*F)(float); F volatile f; int main(void) { return f(1) > 2; }' >float_pointer.c
+echo 'static char big[20 << 20]; int main(int n, char **a) { (void)a; big[n] = 1; return big[n + 1]; }' >big.c
+echo 'extern _Thread_local int x; _Atomic int y; _Thread_local int x; int h(void) { y++; return x++; }' >object.c
+echo '#include <stdlib.h>
+int main(void) { return !malloc(5); }' >pool.c
+echo '#include <wathread.h>
+__attribute__((import_module("env"), import_name("log"))) void log_it(int);
+int main(void) { log_it(1); return 0; }' >import.c
+{
+    echo 'int main(void) { volatile int x = 0;'
+    for i in $(seq 1200); do echo "int y$i = x; x += y$i * 7;"; done
+    echo 'return x; }'
+} >long.c
+{
+    echo 'static volatile int x; int main(void) {'
+    for i in $(seq 4000); do echo "x = x * $i + x;"; done
+    echo 'return x; }'
+} >longer.c
+
+# words
+refuses 'no source' "$cc_" -o m.wasm
+refuses 'no source' "$cc_"
+refuses '-o wants a value' "$cc_" good.c -o
+refuses '-o wants a path' "$cc_" good.c -o ''
+refuses '--threads wants a value' "$cc_" good.c -o m.wasm --threads
+for value in 0 64 -1 many '' 07 99999999999999999999; do
+    refuses "--threads $value: it takes 1 to 63" "$cc_" good.c -o m.wasm --threads "$value"
+done
+for option in stack pool; do
+    for value in 0 63 16777217 99999999999999999999 -64 4k; do
+        refuses "--$option $value: it takes 64 to 16777216" "$cc_" good.c -o m.wasm --$option "$value"
+        refuses "--$option $value: it takes 64 to 16777216" "$cc_" good.c -o m.wasm --$option="$value"
+    done
+done
+refuses 'is a module and no source' "$cc_" good.c m.wasm
+refuses 'good.c is what is compiled' "$cc_" good.c -o good.c
+refuses 'good.c is what is compiled' "$cc_" good.c -o ./good.c
+passes 'unsupported option' "$cc_" good.c -o m.wasm --thread 4
+passes 'unknown argument' "$cc_" good.c -o m.wasm -fno-such-thing
+
+# the tools
+refuses "no-clang isn't there" env CC=no-clang "$cc_" good.c -o m.wasm
+refuses 'gcc is no clang' env CC=gcc "$cc_" good.c -o m.wasm
+printf '#!/bin/sh\ncat >/dev/null\necho 13\n' >old-clang && chmod +x old-clang
+refuses 'is of version 13' env CC=./old-clang "$cc_" good.c -o m.wasm
+mkdir bare
+for tool in sh env dirname readlink cat mktemp rm "${clang%% *}"; do ln -s "$(command -v "$tool")" bare; done
+refuses "python3 isn't there" env PATH="$work/bare" "$cc_" good.c -o m.wasm
+rm -r bare
+
+# paths
+refuses 'm: ' "$cc_" good.c -o nowhere/m
+mkdir folder read-only && cp good.c read-only && chmod 755 folder && chmod 555 read-only
+refuses 'folder is a folder' "$cc_" good.c -o folder
+refuses 'Permission denied' "${other[@]}" "$cc_" read-only/good.c -o read-only/m
+passes "no such file or directory: 'nothing.c'" "$cc_" nothing.c -o m.wasm
+passes "no such file or directory: 'nothing.c'" "$cc_" good.c nothing.c -o m.wasm
+passes 'Is a directory' "$cc_" folder -o m.wasm
+rm -rf folder
+mkdir 'a folder of ours'
+makes 'a folder of ours/the module' "$cc_" 'two words & a "quote".c' -o 'a folder of ours/the module'
+makes a.wasm "$cc_" good.c && rm a.wasm
+makes m.wasm "$cc_" good.c -om.wasm
+makes m.wasm "$cc_" other.c third.c -o m.wasm
+ln -s m.wasm link.wasm
+makes link.wasm "$cc_" good.c -o link.wasm
+[ -L link.wasm ] || say "a link is a link no more"
+makes m.wasm "$cc_" -pthread -std=c11 -Wall -Wextra -Werror good.c -lpthread -o m.wasm
+makes m.wasm "$cc_" -x c - -o m.wasm <good.c
+makes m.wasm "$cc_" --threads 63 --stack=64 --pool 64 good.c -o m.wasm
+makes m.wasm "$cc_" --threads 1 --stack 8000000 good.c -o m.wasm
+"$cc_" good.c -o /dev/null || say "/dev/null"
+[ -c /dev/null ] || say "/dev/null is gone"
+"$cc_" good.c -o /dev/full 2>err.text && say "/dev/full"
+grep -q 'No space left' err.text || say "/dev/full: $(cat err.text)"
+"$cc_" --help | head -1 | grep -q '^usage: wathread-cc' || say "--help"
+"$cc_" --version | grep -q clang || say "--version"
+
+# sources
+passes 'error: expected' "$cc_" wrong.c -o m.wasm
+passes 'undefined symbol: puts' "$cc_" missing.c -o m.wasm
+passes "'stdio.h' file not found" "$cc_" header.c -o m.wasm
+for level in 0 1 2 3; do
+    refuses 'in average: a float' "$cc_" -O$level float.c -o m.wasm
+    refuses 'in main: a float' "$cc_" -O$level float_pointer.c -o m.wasm
+    refuses 'in half: a float' "$cc_" -O$level float_type.c -o m.wasm
+done
+refuses 'there is no main' "$cc_" nothing_to_call.c -o m.wasm
+refuses '321 pages of 64 KiB, and a module may have 256: 321 for data and the first stack' "$cc_" big.c -o m.wasm
+refuses '273 pages of 64 KiB, and a module may have 256: 17 for data and the first stack, 256 for --threads 16' \
+    "$cc_" good.c --stack 1048576 --threads 16 -o m.wasm
+refuses '513 pages of 64 KiB' "$cc_" good.c --stack 16777216 --threads 1 -o m.wasm
+refuses '257 pages of 64 KiB' "$cc_" pool.c --pool 16777216 -o m.wasm
+refuses 'it imports env log' "$cc_" import.c -o m.wasm
+refuses 'in main: ' "$cc_" -O0 longer.c -o m.wasm
+refuses 'leave out -s' "$cc_" -s good.c -o m.wasm
+refuses 'leave out --import-memory' "$cc_" good.c -Wl,--import-memory -o m.wasm
+refuses 'leave out --max-memory' "$cc_" good.c -Wl,--max-memory=131072 -o m.wasm
+passes '__tls_base' "$cc_" good.c -Wl,--shared-memory,--max-memory=131072 -o m.wasm
+
+# objects
+for without in '-matomics' '-mbulk-memory' ''; do
+    $clang --target=wasm32 -mcpu=mvp $without -O1 -ftls-model=local-exec -c object.c -o object.o || say "$without"
+    refuses 'object.o lost its atomics' "$cc_" good.c object.o -o m.wasm
+    rm object.o
+done
+"$cc_" -c object.c -o object.o && "$cc_" -c good.c -o good.o || say "-c"
+makes m.wasm "$cc_" good.o object.o -o m.wasm
+"$cc_" -flto -c object.c -o object.o || say "-flto -c"
+refuses 'object.o is made with -flto' "$cc_" good.c object.o -o m.wasm
+echo "$tried calls, $wrong wrong"
+[ $wrong = 0 ]
