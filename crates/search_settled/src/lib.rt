@@ -1,7 +1,8 @@
 //! Settled states: a search over the turns of threads needs to look only where no thread wants a turn of its own.
 //!
-//! Proved: at `Verdict::All` the list has the ending of every run of turns, in any order, and no other ending; from
-//! which states none can be reached is exact, and so is what is said of fair runs.
+//! Proved: at `Verdict::All` the list has the ending of every run of turns, in any order, and no other ending; the states
+//! from which none can be reached are those that it names; and every fair run ends, or one goes on for ever, where it
+//! says so.
 //!
 //! A thread's own turns change nobody else. So whoever goes through all runs of threads goes from settled state to
 //! settled state: one thread makes the event that it wants, and then each makes its turns of its own. It is stated over
