@@ -1,11 +1,11 @@
-use Rattle.std.proofs.Common.{ℕ, ◌≡◌, true, IfOk, IfErr, subst}
+use Rattle.std.proofs.Common.{ℕ, ◌≡◌, ◌∙◌, true, IfOk, IfErr, sym, subst}
 use Rattle.std.specs.Prelude.{is_none}
 use Rattle.std.proofs.lemmas.Result.{IfErr-weaker, IfOk-weaker}
 use Rattle.types.specs.declared.parts.Parts.{Parts}
 use Rattle.report_jobs.specs.Arguments.{texts_in}
 use Rattle.report_jobs.specs.Prints.{changed}
 use Rattle.report_jobs.specs.Troubles.{IsTroubleOf}
-use Rattle.report.specs.Searches.{DrawWell, Finds, IsDrawnWellAt, IsOfSystem, IsWellAt}
+use Rattle.report.specs.Searches.{DrawWell, Finds, IsDrawnWellAt, IsOfSystem, IsPrintedOf, IsWellAt, PrintsAll}
 use Rattle.report.proofs.Asking.{of_system}
 use Rattle.report.proofs.searching.search_module.Goals as goal
 
@@ -49,3 +49,14 @@ returns-clause-trouble g c =
     let words = c.args.search.now.call in
     IfErr-weaker c.search_drawn.result IsOfSystem (IsTroubleOf m words) (of_system m words.invoke.now (texts_in words.args.items))
     c.search_drawn.ensures.trouble
+
+pub returns-in-Some-clause-prints : goal.returns-in-Some-clause-prints
+returns-in-Some-clause-prints g c =
+    let m = c.args.module.now.parts in
+    let r = c.request_of-request.result.parts in
+    let s = c.args.search.now in
+    let out = changed g.W.Write.contents c.args.out.now c.search_all_orders.new.out in
+    IfOk-weaker c.search_all_orders.result (PrintsAll r s c.in-Some.most out) (IsPrintedOf m s out)
+    (λ status so most is. subst (λ (n : ℕ). PrintsAll m s n out status) (cc (sym c.in-Some.is ∙ is))
+    (subst (λ (p : Parts). PrintsAll p s c.in-Some.most out status) c.request_of-request.ensures.parts so))
+    c.search_all_orders.ensures.prints
