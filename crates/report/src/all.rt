@@ -166,7 +166,10 @@ fn tell_endless<W: Write, S: Write>(
     if round.is_empty() {
         write!(out, "found: after {entries} {entry} no run ends\n")?;
     } else {
-        write!(out, "found: after {entries} {entry} a fair run goes round for ever\n")?;
+        write!(
+            out,
+            "found: after {entries} {entry} a fair run goes round for ever\n"
+        )?;
     }
     print(out, &made.end, dump)?;
     keep(&made.record, search.save.is_some(), save)?;

@@ -92,6 +92,9 @@ pub(crate) fn are_well(all: &Complete, sought: &Sought) -> bool
 {
     let endings = all.endings.as_slice();
     let is_all = matches!(all.verdict, Verdict::All);
-    let is_live = all.liveness.as_ref().is_some_and(|liveness| ends_for_sure(liveness));
+    let is_live = all
+        .liveness
+        .as_ref()
+        .is_some_and(|liveness| ends_for_sure(liveness));
     is_all && is_live && !endings.is_empty() && all_ended_well(endings)
 }

@@ -56,12 +56,7 @@ fn endings_are_those_of_another_enumeration(rt: HostRuntime) -> Result<(), Fail>
 }
 
 /// What a search says that may meet so many states.
-fn verdict_at(
-    alloc: Global,
-    valid: &ValidModule,
-    gone: &Gone,
-    most: u32,
-) -> Result<Verdict, Fail> {
+fn verdict_at(alloc: Global, valid: &ValidModule, gone: &Gone, most: u32) -> Result<Verdict, Fail> {
     let all = gone_through(alloc, valid, gone, most)?;
     Ok(all.verdict)
 }
