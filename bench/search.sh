@@ -23,7 +23,7 @@ gone_through() {
     local name=$1 out user system kib states
     shift
     out=$(/usr/bin/time -f '%U %S %M' -o "$work/took" "$program" search "$top/examples/search/$name.wasm" --invoke f --all \
-        --states 1000000000 "$@" | tail -n 1)
+        --states 1000000000 "$@" | grep -E '^(not )?all: ')
     read -r user system kib < <(tail -n 1 "$work/took")
     states=$(sed -n 's/^all: .* endings*, \([0-9]*\) states*$/\1/p' <<< "$out")
     awk -v what="$name $*" -v said="$out" -v n="${states:-0}" -v t="$user" -v u="$system" -v kib="$kib" 'BEGIN {
@@ -36,4 +36,5 @@ gone_through peterson 20
 gone_through mutex 3 3
 gone_through tickets 3 4
 gone_through queue 1
+gone_through queue 2
 machine
