@@ -45,6 +45,10 @@ module _ {W : Type 0} (worlds : Worlds W) where
     pub still : (t u : ℕ) (w z : W) → among w → worlds.can w t → worlds.steps t w z → u ≢ t → worlds.can w u
         → worlds.can z u
 
+  -- A fair run begins wherever threads that can go on come from there to a world at which one begins.
+  abbrev pub FairRunsBeginBefore : (W → Type 0) → Type 0
+  FairRunsBeginBefore among = (w z : W) → among w → Reaches CanStep w z → FairRun z → FairRun w
+
   -- `stands s w left`: the state s stands for w, and thread n makes `left n` steps that nobody else sees before its
   -- next move.
   module _ (stands : ℕ → W → (ℕ → ℕ) → Type 0) where
@@ -73,6 +77,10 @@ module _ {W : Type 0} (worlds : Worlds W) where
           → Stays s t z left ⊎ Leads moves s t z left
       pub goes_on : (s t : ℕ) (w : W) (left : ℕ → ℕ) → stands s w left → CanMove moves s t → worlds.can w t
 
+    -- No fair run begins in a world that a state stands for.
+    abbrev pub NoFairRun : Type 0
+    NoFairRun = (s : ℕ) (w : W) (left : ℕ → ℕ) → stands s w left → FairRun w → ⊥
+
   -- `rests s w`: the state s stands for w, and no thread has steps left there that nobody sees.
   module _ (rests : ℕ → W → Type 0) where
     -- Threads that can go on come from w to what the next state stands for; the first step is of thread t.
@@ -90,3 +98,7 @@ module _ {W : Type 0} (worlds : Worlds W) where
       pub inside : (s : ℕ) (w : W) → rests s w → among w
       pub makes : (s t next : ℕ) (w : W) → Moves moves s t next → rests s w → MakesMove t next w
       pub all : (s u : ℕ) (w : W) → rests s w → worlds.can w u → CanMove moves s u
+
+    -- A fair run begins in each world that the state stands for.
+    abbrev pub HasFairRun : ℕ → Type 0
+    HasFairRun s = (w : W) → rests s w → FairRun w

@@ -1,9 +1,10 @@
 //! From a graph to the worlds that its states stand for. Each function here does nothing, and its contract is a law.
 ghost use Rattle.std.specs.Prelude.{ℕ, List};
 ghost use Rattle.search_graph.specs.declared.graph.Move.{Move};
-ghost use Rattle.search_graph.specs.Paths.{Reaches};
 ghost use Rattle.search_graph.specs.Runs.{EveryFairRunEnds, HasFairCycle};
-ghost use Rattle.search_graph.specs.Worlds.{Worlds, FairRun, CanStep, Persists, IsGraphOf, IsMadeOf};
+ghost use Rattle.search_graph.specs.Worlds.{
+    Worlds, Persists, IsGraphOf, IsMadeOf, NoFairRun, HasFairRun, FairRunsBeginBefore
+};
 
 /// Worlds between which threads make steps, and what stands for them.
 pub trait StandsFor {
@@ -28,21 +29,19 @@ pub trait StandsFor {
 /// for ever.
 pub fn no_fair_run_goes_on<T: StandsFor>(worlds: &T)
     ensures { (moves : List Move) → IsGraphOf (T.worlds worlds.now) (T.stands worlds.now) (T.most worlds.now) moves
-        → EveryFairRunEnds moves → (s : ℕ) (w : T.World) (left : ℕ → ℕ) → T.stands worlds.now s w left
-        → FairRun (T.worlds worlds.now) w → ⊥ }
+        → EveryFairRunEnds moves → NoFairRun (T.worlds worlds.now) (T.stands worlds.now) }
 {}
 
 /// Where worlds make the moves of a graph, and a fair run of the graph makes a walk again and again, a fair run of the
 /// worlds goes on for ever.
 pub fn a_fair_run_goes_round<T: StandsFor>(worlds: &T)
     ensures { (moves : List Move) → IsMadeOf (T.worlds worlds.now) (T.rests worlds.now) (T.among worlds.now) moves
-        → (start : ℕ) (walk : List Move) → HasFairCycle moves start walk → (w : T.World) → T.rests worlds.now start w
-        → FairRun (T.worlds worlds.now) w }
+        → (start : ℕ) (walk : List Move) → HasFairCycle moves start walk
+        → HasFairRun (T.worlds worlds.now) (T.rests worlds.now) start }
 {}
 
 /// Where threads that can go on come to a world at which a fair run begins, one begins where they come from.
 pub fn a_fair_run_begins_before<T: StandsFor>(worlds: &T)
-    ensures { Persists (T.worlds worlds.now) (T.among worlds.now) → (w z : T.World) → T.among worlds.now w
-        → Reaches (CanStep (T.worlds worlds.now)) w z → FairRun (T.worlds worlds.now) z
-        → FairRun (T.worlds worlds.now) w }
+    ensures { Persists (T.worlds worlds.now) (T.among worlds.now)
+        → FairRunsBeginBefore (T.worlds worlds.now) (T.among worlds.now) }
 {}
