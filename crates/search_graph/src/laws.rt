@@ -3,7 +3,13 @@ ghost use Rattle.std.specs.Prelude.{ℕ, List};
 ghost use Rattle.search_graph.specs.declared.graph.Move.{Move};
 ghost use Rattle.search_graph.specs.Runs.{EveryFairRunEnds, HasFairCycle};
 ghost use Rattle.search_graph.specs.Worlds.{
-    Worlds, Persists, IsGraphOf, IsMadeOf, NoFairRun, HasFairRun, FairRunsBeginBefore
+  Worlds,
+  Persists,
+  IsGraphOf,
+  IsMadeOf,
+  NoFairRun,
+  HasFairRun,
+  FairRunsBeginBefore,
 };
 
 /// Worlds between which threads make steps, and what stands for them.
