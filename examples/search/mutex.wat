@@ -1,6 +1,7 @@
 ;; A mutex that sleeps: the word at 0 is 0 where it is free, 1 where it is held, and 2 where others may wait for it (Drepper,
-;; "Futexes are tricky"). So many threads each add 1 to the plain number at 4, so many times.
-;; `./wathread search examples/search/mutex.wasm --invoke f --all --dump 8 2 2`
+;; "Futexes are tricky"). So many threads each add 1 to the plain number at 4, so many times. The first sleeps until all others
+;; are done, of which 8 has the count, and answers the number: all increments, if none was lost.
+;; `./wathread search examples/search/mutex.wasm --invoke f --all 2 2`
 (module
   (import "wasi" "thread-spawn" (func $spawn (param i32) (result i32)))
   (memory 1 1 shared)
@@ -22,13 +23,23 @@
       call $unlock
       (local.set $rounds (i32.sub (local.get $rounds) (i32.const 1)))
       (br_if $next (local.get $rounds))))
-  (func (export "f") (param $threads i32) (param $rounds i32)
+  (func (export "f") (param $threads i32) (param $rounds i32) (result i32)
+    (local $started i32) (local $done i32)
     (loop $more
-      (local.set $threads (i32.sub (local.get $threads) (i32.const 1)))
-      (if (local.get $threads)
+      (local.set $started (i32.add (local.get $started) (i32.const 1)))
+      (if (i32.lt_u (local.get $started) (local.get $threads))
         (then
           (drop (call $spawn (local.get $rounds)))
           br $more)))
-    (call $work (local.get $rounds)))
+    (call $work (local.get $rounds))
+    (loop $join
+      (local.set $done (i32.atomic.load (i32.const 8)))
+      (if (i32.lt_u (i32.add (local.get $done) (i32.const 1)) (local.get $started))
+        (then
+          (drop (memory.atomic.wait32 (i32.const 8) (local.get $done) (i64.const -1)))
+          br $join)))
+    (i32.load (i32.const 4)))
   (func (export "wasi_thread_start") (param $id i32) (param $rounds i32)
-    (call $work (local.get $rounds))))
+    (call $work (local.get $rounds))
+    (drop (i32.atomic.rmw.add (i32.const 8) (i32.const 1)))
+    (drop (memory.atomic.notify (i32.const 8) (i32.const 1)))))

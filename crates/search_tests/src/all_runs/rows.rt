@@ -43,8 +43,8 @@ pub(crate) static MODULES: [Gone; 9] = [
     Gone {
         module: MUTEX,
         args: &[Value::I32(2), Value::I32(2)],
-        endings: &["ok, ok; pages 1; 00000000040000000000000000000000"],
-        states: 297,
+        endings: &["ok i32:4, ok; pages 1; 00000000040000000100000000000000"],
+        states: 372,
     },
     Gone {
         module: PETERSON,
@@ -68,8 +68,8 @@ pub(crate) static MODULES: [Gone; 9] = [
     Gone {
         module: TICKETS,
         args: &[Value::I32(2), Value::I32(2)],
-        endings: &["ok, ok; pages 1; 04000000040000000400000000000000"],
-        states: 130,
+        endings: &["ok i32:4, ok; pages 1; 04000000040000000400000000000000"],
+        states: 122,
     },
     Gone {
         module: WAKEUP,
@@ -92,14 +92,14 @@ pub(crate) static MODULES: [Gone; 9] = [
     Gone {
         module: MUTEX,
         args: &[Value::I32(3), Value::I32(1)],
-        endings: &["ok, ok, ok; pages 1; 00000000030000000000000000000000"],
-        states: 938,
+        endings: &["ok i32:3, ok, ok; pages 1; 00000000030000000200000000000000"],
+        states: 1_812,
     },
     Gone {
         module: TICKETS,
         args: &[Value::I32(3), Value::I32(1)],
-        endings: &["ok, ok, ok; pages 1; 03000000030000000300000000000000"],
-        states: 239,
+        endings: &["ok i32:3, ok, ok; pages 1; 03000000030000000300000000000000"],
+        states: 210,
     },
 ];
 
