@@ -2,3 +2,5 @@ pub mod Lines
 pub mod Ends
 pub mod Endings
 pub mod Complete
+pub mod Drawn
+pub mod Found

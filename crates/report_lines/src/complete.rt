@@ -10,14 +10,14 @@ ghost use Rattle.report_lines.specs.Complete.{number_text, threads_text, cycle_l
 use std::io::{self, Write};
 
 /// The form of a word for so many.
-fn form_of(count: usize, one: &'static str, more: &'static str) -> &'static str
+pub(crate) fn form_of(count: usize, one: &'static str, more: &'static str) -> &'static str
     ensures { result.now ≡ specified.form_of count one.now more.now }
 {
     if count == 1 { one } else { more }
 }
 
 /// So many endings.
-fn write_endings_count<W: Write>(out: &mut W, count: usize) -> io::Result<()>
+pub(crate) fn write_endings_count<W: Write>(out: &mut W, count: usize) -> io::Result<()>
     ensures { Wrote W.contents out.old out.new result (endings_text count) }
 {
     let form = form_of(count, "ending", "endings");
