@@ -1,7 +1,6 @@
 -- What is printed of a search through every order of entries, and what is well of it.
 use Rattle.std.specs.Prelude.{ℕ, ◌≡◌, ◌≢◌, All, Bool, List, [], ◌++◌, length, true, Option, Some, None}
 use Rattle.std.specs.List.{list_all}
-use Rattle.std.specs.Io.KnownBytes.{Appends}
 use Rattle.search_reach.specs.declared.ending.Ended.{Ended}
 use Rattle.search_reach.specs.declared.search.Verdict.{Verdict}
 use Rattle.search_reach.specs.declared.search.Verdict.TheVariants as verdicts
@@ -16,7 +15,6 @@ use Rattle.report_lines.specs.Ends.{is_done}
 use Rattle.report_lines.specs.Endings.{ending_lines}
 use Rattle.report_lines.specs.Complete.{all_line, too_many_line, cannot_tell_line, told_line, cannot_end_line}
 use Rattle.report_lines.specs.Complete.{fair_runs_end_line, unknown_line, cycle_line}
-use Rattle.report_jobs.specs.Prints.{WriterChange}
 
 -- The line that says whether so many endings of so many states are all.
 abbrev pub verdict_line : Verdict → ℕ → ℕ → ℕ → List ℕ
@@ -41,10 +39,6 @@ abbrev pub complete_lines : ℕ → Ended Ending → List ℕ
 complete_lines most all =
     ending_lines all.endings.keys
     ++ (verdict_line all.verdict most (length all.endings.keys) all.states ++ liveness_lines all.liveness)
-
--- These were written.
-abbrev pub PrintsComplete : ℕ → Ended Ending → WriterChange → Type 0
-PrintsComplete most all out = Appends out.old out.new (complete_lines most all)
 
 -- All threads ended well; and in each of these endings they did.
 abbrev pub threads_end_well : Ending → Bool

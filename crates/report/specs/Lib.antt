@@ -1,3 +1,4 @@
 pub mod Jobs
 pub mod Complete
+pub mod Drawn
 pub mod Searches

@@ -1,5 +1,6 @@
 -- What is kept of a search.
-use Rattle.std.specs.Prelude.{ℕ, ◌≡◌, ◌≢◌, ◌≤◌, ◌⊎◌, All, Bool, List, [], false, true, Some, is_none, is_some}
+use Rattle.std.specs.Prelude.{ℕ, ◌≡◌, ◌≢◌, ◌≤◌, ◌⊎◌, All, Bool, List, [], ◌++◌, false, true, Some, is_none, is_some}
+use Rattle.std.specs.Io.KnownBytes.{Appends}
 use Rattle.types.specs.declared.value.Value.{Value}
 use Rattle.types.specs.declared.parts.Parts.{Parts}
 use Rattle.validate_typing.specs.Validity.{IsValid}
@@ -25,11 +26,13 @@ use Rattle.search_finds.specs.declared.met.Table.{Table}
 use Rattle.report_choice.specs.declared.sought.Find.{Find}
 use Rattle.report_choice.specs.declared.sought.Find.TheVariants as finds
 use Rattle.report_choice.specs.declared.sought.Sought.{Sought}
+use Rattle.report_choice.specs.declared.sought.Target.{Target}
 use Rattle.report_command.specs.declared.search.Search.{Search}
 use Rattle.report_jobs.specs.Arguments.{AreSpelled, texts_in}
 use Rattle.report_jobs.specs.Asked.{IsAskedBy}
 use Rattle.report_jobs.specs.Prints.{WriterChange, KeepsRecord}
-use Rattle.report.specs.Complete.{PrintsComplete, threads_end_well, all_end_well}
+use Rattle.report.specs.Complete.{complete_lines, threads_end_well, all_end_well}
+use Rattle.report.specs.Drawn.{table_lines}
 use Rattle.report_jobs.specs.declared.running.Trouble.{Trouble}
 use Rattle.report_jobs.specs.declared.running.Trouble.TheVariants as troubles
 
@@ -45,19 +48,23 @@ pub record IsFindKept (m : Parts) (s : Search) (save : WriterChange) : Type 0 wh
   pub ends : EndsAsLookedFor s.sought s.sought.dump end
   pub kept : KeepsRecord (is_some s.save) save record_is
 
--- Runs that never end are looked for.
-abbrev pub FindsEndless : Find → Type 0
-FindsEndless finds.Nothing = ⊥
-FindsEndless finds.Failure = Unit {0}
-FindsEndless (finds.Words words) = ⊥
-FindsEndless finds.NoEnd = Unit {0}
-FindsEndless finds.ForEver = Unit {0}
+-- By this runs that never end are found.
+abbrev pub IsEndless : Find → Type 0
+IsEndless finds.Nothing = ⊥
+IsEndless finds.Failure = Unit {0}
+IsEndless (finds.Words words) = ⊥
+IsEndless finds.NoEnd = Unit {0}
+IsEndless finds.ForEver = Unit {0}
+
+-- Runs that never end are looked for: also where a result is expected, to which they don't come.
+abbrev pub FindsEndless : Target → Type 0
+FindsEndless t = IsEndless t.find ⊎ (is_some t.expect ≡ true)
 
 -- Of a search through every order of entries, in which runs that never end are looked for, a run of the module by the
 -- call that was asked for; and its record was written, where one is wanted.
 pub record IsEndlessKept (m : Parts) (s : Search) (save : WriterChange) : Type 0 where
   pub every_order : is_some s.all ≡ true
-  pub sought : FindsEndless s.sought.target.find
+  pub sought : FindsEndless s.sought.target
   pub args : List Value
   pub spelled : AreSpelled (texts_in s.call.args.items) args
   pub record_is : RecordParts
@@ -95,16 +102,19 @@ pub record IsCompleteOf (q : Requested) (dump : ℕ) (all : Ended Ending) : Type
   pub count : CountsStates q all.states
   pub live : SaysWhereAll q dump all.states all.verdict all.liveness
 
--- What was written are the lines of what was found of all runs of the module by the call that was asked for: where
--- nothing that was found is told behind them, so at status 0, and where the search doesn't stop at what is looked for.
+-- What was written begins with the lines of what was found of all runs of the module by the call that was asked for.
+-- Nothing stands behind them at status 0, and where the search doesn't stop at what is looked for: else what is told of a
+-- run that was found.
 pub record PrintsAll (m : Parts) (s : Search) (most : ℕ) (out : WriterChange) (status : ℕ) : Type 0 where
   pub request : Requested
   pub parts_are : request.parts ≡ m
   pub asked : IsAskedBy s.call request
   pub all : Ended Ending
   pub complete : IsCompleteOf request s.sought.dump all
-  pub well : status ≡ 0 → PrintsComplete most all out
-  pub untold : s.sought.stops ≡ false → PrintsComplete most all out
+  pub told : List ℕ
+  pub lines : Appends out.old out.new (complete_lines most all ++ told)
+  pub well : status ≡ 0 → told ≡ []
+  pub untold : s.sought.stops ≡ false → told ≡ []
 
 -- By this call threads without budgets can still end from wherever they come, and no fair run goes on for ever.
 pub record IsSureToEnd (m : Parts) (entry : List ℕ) (args : List Value) (dump : ℕ) : Type 0 where
@@ -135,19 +145,21 @@ pub record IsAllWell (s : Sought) (table : Table) : Type 0 where
   pub some : table.runs ≢ 0
   pub well : All (λ met. (threads_end_well met.ending ≡ true) × (IsLookedFor s met.ending → ⊥)) table.met.items
 
--- Runs of the module by the call that was asked for were made; in each all threads ended well, and it ended otherwise
--- than is looked for.
-pub record DrawWell (m : Parts) (s : Search) : Type 0 where
+-- What was written begins with the lines of a table of runs of the module by the call that was asked for, each of which
+-- was noted in it. At status 0 some were made, in each all threads ended well, and it ended otherwise than is looked for.
+pub record PrintsDrawn (m : Parts) (s : Search) (out : WriterChange) (status : ℕ) : Type 0 where
   pub request : Requested
   pub parts_are : request.parts ≡ m
   pub asked : IsAskedBy s.call request
   pub table : Table
   pub noted : AreNoted request s.sought table
-  pub well : IsAllWell s.sought table
+  pub told : List ℕ
+  pub lines : Appends out.old out.new (table_lines s.sought table ++ told)
+  pub well : status ≡ 0 → IsAllWell s.sought table
 
--- What status 0 says of a search of drawn runs.
-abbrev pub IsDrawnWellAt : Parts → Search → ℕ → Type 0
-IsDrawnWellAt m s status = is_none s.all ≡ true → status ≡ 0 → DrawWell m s
+-- What is printed of a search of drawn runs.
+abbrev pub IsDrawn : Parts → Search → WriterChange → ℕ → Type 0
+IsDrawn m s out status = is_none s.all ≡ true → PrintsDrawn m s out status
 
 -- What is printed of a search through every order of entries.
 abbrev pub IsPrintedOf : Parts → Search → WriterChange → ℕ → Type 0
@@ -160,8 +172,12 @@ pub record HasSearched (bytes : List ℕ) (s : Search) (out save : WriterChange)
   pub valid : IsValid parts
   pub finds : Finds parts s save status
   pub well : IsWellAt parts s status
-  pub drawn : IsDrawnWellAt parts s status
+  pub drawn : IsDrawn parts s out status
   pub prints : IsPrintedOf parts s out status
+
+-- Something was written behind what stood there.
+abbrev pub Grows : WriterChange → Type 0
+Grows out = (text : List ℕ) × Appends out.old out.new text
 
 -- A trouble that is the system's.
 abbrev pub IsOfSystem : Trouble → Type 0

@@ -3,21 +3,22 @@ ghost use Rattle.std.specs.Prelude.{◌≡◌, ◌≤◌, All, Some, None, is_so
 ghost use Rattle.search_finds.specs.Finds.{IsLookedFor};
 ghost use Rattle.report_jobs.specs.Asked.{IsAskedBy};
 ghost use Rattle.report.specs.Searches.{Finds, FindsEndless, IsCompleteOf, KeepsNoneOrFind, KeepsNoneOrEndless};
-ghost use Rattle.report.specs.Searches.{IsOfSystem, IsWellAt, PrintsAll};
+ghost use Rattle.report.specs.Searches.{Grows, IsOfSystem, IsWellAt, PrintsAll};
 ghost use Rattle.report_jobs.specs.Prints.{changed};
 
 use crate::complete::{Complete, are_well, write_complete};
 use crate::searching::{no_memory, tell_made};
-use report_choice::Find;
+use report_choice::{Find, Target};
 use report_command::{Search, Sought};
 use report_jobs::{Trouble, keep, print};
+use report_lines::{write_for_ever, write_found_ending, write_no_end, write_without_run};
 use search_endings::Ending;
 use search_finds::{Hears, entries_leading, is_looked_for, run_round, run_to};
 use search_modules::all_endings;
 use search_reach::{FairRuns, Follows, Liveness};
 use spawn_host::Request;
 use std::alloc::{AllocError, Global};
-use std::io::Write;
+use std::io::{self, Write};
 
 /// An ending of the list that is looked for: its number from 1 on, and the choices by which it was met.
 #[derive(Clone, Copy)]
@@ -89,6 +90,7 @@ fn tell_sought<F: Hears, W: Write, S: Write>(
     requires sought { IsLookedFor search.now.sought first.ending.now }
     ensures told { IfOk result
         (λ _. KeepsNoneOrFind request.now.parts search.now (changed S.contents save.old save.new)) }
+    ensures grows { IfOk result (λ _. Grows (changed W.contents out.old out.new)) }
     ensures trouble { IfErr result IsOfSystem }
 {
     let SoughtEnding {
@@ -103,39 +105,62 @@ fn tell_sought<F: Hears, W: Write, S: Write>(
     };
     match made {
         Some(made) => {
-            write!(out, "found as ending {number}\n")?;
+            write_found_ending(out, number)?;
             tell_made(alloc, request, search, made, follower, out, save)
         }
         None => {
-            write!(out, "found as ending {number}; no run was made for it\n")?;
+            write_without_run(out, number)?;
             Ok(())
         }
     }
 }
 
-/// The run that never ends, where one is looked for: to the first state from which no run ends, or else round a cycle
-/// of a fair run. Where nothing is said, both are looked for.
-fn endless_run<'a>(liveness: &'a Liveness, find: Find) -> Option<EndlessRun<'a>>
-    ensures { IfSome result (λ _. FindsEndless find.entry) }
+/// Whether a run to where none ends is looked for: where nothing is said, where its words are, and where a result is
+/// expected, to which it doesn't come.
+fn finds_no_end(target: Target) -> bool
+    ensures { result ≡ true → FindsEndless target.entry }
 {
-    let (finds_stuck, finds_rounds) = match find {
-        Find::Failure => (true, true),
-        Find::NoEnd => (true, false),
-        Find::ForEver => (false, true),
-        Find::Nothing | Find::Words(_) => (false, false),
-    };
-    if finds_stuck && !liveness.endless.is_empty() {
+    target.expect.is_some() || matches!(target.find, Find::Failure | Find::NoEnd)
+}
+
+/// Whether one that goes round for ever is.
+fn finds_for_ever(target: Target) -> bool
+    ensures { result ≡ true → FindsEndless target.entry }
+{
+    target.expect.is_some() || matches!(target.find, Find::Failure | Find::ForEver)
+}
+
+/// The run that never ends, where one is looked for: to the first state from which no run ends, or else round a cycle
+/// of a fair run.
+fn endless_run<'a>(liveness: &'a Liveness, target: Target) -> Option<EndlessRun<'a>>
+    ensures { IfSome result (λ _. FindsEndless target.entry) }
+{
+    if finds_no_end(target) && !liveness.endless.is_empty() {
         return Some(EndlessRun {
             path: liveness.path.as_slice(),
             round: &[],
         });
     }
+    if !finds_for_ever(target) {
+        return None;
+    }
     match &liveness.fair_runs {
-        FairRuns::GoOn(cycle) if finds_rounds => Some(EndlessRun {
+        FairRuns::GoOn(cycle) => Some(EndlessRun {
             path: cycle.path.as_slice(),
             round: cycle.walk.as_slice(),
         }),
         _ => None,
+    }
+}
+
+/// The line of a run that never ends: after how many entries none does, or it goes round for ever.
+fn write_endless<W: Write>(out: &mut W, entries: usize, is_stuck: bool) -> io::Result<()>
+    ensures { IfOk result (λ _. Grows (changed W.contents out.old out.new)) }
+{
+    if is_stuck {
+        write_no_end(out, entries)
+    } else {
+        write_for_ever(out, entries)
     }
 }
 
@@ -150,9 +175,10 @@ fn tell_endless<W: Write, S: Write>(
 ) -> Result<(), Trouble>
     requires asked { IsAskedBy search.now.call request.now }
     requires every_order { is_some search.now.all ≡ true }
-    requires sought { FindsEndless search.now.sought.target.find }
+    requires sought { FindsEndless search.now.sought.target }
     ensures kept { IfOk result
         (λ _. KeepsNoneOrEndless request.now.parts search.now (changed S.contents save.old save.new)) }
+    ensures grows { IfOk result (λ _. Grows (changed W.contents out.old out.new)) }
     ensures trouble { IfErr result IsOfSystem }
 {
     let EndlessRun { path, round } = endless;
@@ -162,15 +188,7 @@ fn tell_endless<W: Write, S: Write>(
         Err(fault) => return Err(no_memory(fault)),
     };
     let entries = entries_leading(&made.record, path.len());
-    let entry = if entries == 1 { "entry" } else { "entries" };
-    if round.is_empty() {
-        write!(out, "found: after {entries} {entry} no run ends\n")?;
-    } else {
-        write!(
-            out,
-            "found: after {entries} {entry} a fair run goes round for ever\n"
-        )?;
-    }
+    write_endless(out, entries, round.is_empty())?;
     print(out, &made.end, dump)?;
     keep(&made.record, search.save.is_some(), save)?;
     Ok(())
@@ -189,10 +207,11 @@ fn tell_if_endless<W: Write, S: Write>(
     requires every_order { is_some search.now.all ≡ true }
     ensures kept { IfOk result
         (λ _. KeepsNoneOrEndless request.now.parts search.now (changed S.contents save.old save.new)) }
+    ensures grows { IfOk result (λ _. Grows (changed W.contents out.old out.new)) }
     ensures trouble { IfErr result IsOfSystem }
 {
     if let Some(liveness) = &all.liveness
-        && let Some(endless) = endless_run(liveness, search.sought.target.find)
+        && let Some(endless) = endless_run(liveness, search.sought.target)
     {
         tell_endless(alloc, request, search, endless, out, save)?;
     }

@@ -11,13 +11,16 @@ use crate::{search_module, show_saved};
 use report_command::{Job, Search};
 use report_jobs::{Streams, complain, load, perform_plain, refuse};
 use search_finds::Hears;
+use spawn_host::own_function;
 use std::alloc::Global;
 use std::io::Write;
 use std::sync::Wait;
 use std::thread::Threads;
+use validate_module::ValidModule;
 
-/// Does a job on a module's bytes: writes its lines, and at most one line about what went wrong; and the record that a
-/// run makes, or that of what a search found, after the lines, or the file that a show makes.
+/// Does a job on a module's bytes: writes its lines, and at most one line about what went wrong, or about what a search
+/// doesn't compare; and the record that a run makes, or that of what a search found, after the lines, or the file that a
+/// show makes.
 ///
 /// The job's numbers are in their ranges, as those of a job are that `command` gives.
 ///
@@ -84,7 +87,25 @@ where
         Err(refusal) => return refuse(err, refusal),
     };
     match search_module(rt, alloc, &valid, asked, follower, out, save) {
-        Ok(status) => status,
+        Ok(status) => {
+            note_if_bare(err, &valid, asked);
+            status
+        }
         Err(trouble) => complain(err, trouble, asked.save),
+    }
+}
+
+/// Says that only how threads ended is compared, where the function returns nothing and no bytes are named.
+fn note_if_bare<E: Write>(err: &mut E, valid: &ValidModule, asked: &Search) {
+    let name = asked.call.invoke;
+    let Some(function) = own_function(valid, name) else {
+        return;
+    };
+    if function.func_type.results.as_slice().is_empty() && asked.sought.dump == 0 {
+        let _ = write!(
+            err,
+            "note: {name} returns nothing, and without --dump no bytes belong to an ending: only how the threads \
+             ended is compared\n"
+        );
     }
 }

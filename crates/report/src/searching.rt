@@ -5,15 +5,15 @@ ghost use Rattle.search_finds.specs.Finds.{IsFind, EndsAsLookedFor};
 ghost use Rattle.report_command.specs.Searches.{IsSearchInRange};
 ghost use Rattle.report_jobs.specs.Asked.{IsAskedBy};
 ghost use Rattle.report_jobs.specs.Troubles.{IsTroubleOf};
-ghost use Rattle.report.specs.Searches.{Finds, DrawWell, IsDrawnWellAt, IsFindKept, IsOfSystem, IsPrintedOf, IsWellAt};
+ghost use Rattle.report.specs.Searches.{Finds, Grows, IsDrawn, IsFindKept, IsOfSystem, IsPrintedOf, IsWellAt, PrintsDrawn};
 ghost use Rattle.report_jobs.specs.Prints.{changed};
 ghost use Rattle.report_jobs.specs.declared.running.Trouble.TheVariants as troubles;
 
 use crate::all::search_all_orders;
-use crate::table::{is_all_well, write_cut, write_table, write_unseen};
+use crate::table::{is_all_well, write_cut_of, write_table, write_unseen_of};
 use report_command::{Search, Sought};
 use report_jobs::{Trouble, args_of, keep, print, request_of};
-use search_endings::Ending;
+use report_lines::{write_found_run, write_stopped};
 use search_finds::{Found, Halt, Hears, SearchResult, Size, first_found, shrunk, size_of};
 use search_scheduled::{MadeRun, SearchFault};
 use spawn_host::Request;
@@ -38,30 +38,10 @@ fn jobs_of<R: Threads>(rt: &R, search: &Search) -> usize {
     }
 }
 
-/// What an ending is, to the end of its line.
-pub(crate) fn write_ending<W: Write>(out: &mut W, ending: &Ending) -> io::Result<()> {
-    for (thread, outcome) in ending.outcomes().iter().enumerate() {
-        write!(out, "thread {thread}: {outcome}; ")?;
-    }
-    let pages = ending.pages();
-    write!(out, "pages {pages}")?;
-    if !ending.bytes().is_empty() {
-        write!(out, "; bytes")?;
-    }
-    for byte in ending.bytes() {
-        write!(out, " {byte:02x}")?;
-    }
-    write!(out, "\n")
-}
-
-/// The line of a search that was told to end: how many of its runs were made.
-fn write_told<W: Write>(out: &mut W, made: u64, runs: u64) -> io::Result<()> {
-    write!(out, "told to end: {made} of {runs} runs\n")?;
-    out.flush()
-}
-
 /// What became of the size of a run.
-fn write_sizes<W: Write>(out: &mut W, before: Size, after: Size) -> io::Result<()> {
+fn write_sizes<W: Write>(out: &mut W, before: Size, after: Size) -> io::Result<()>
+    ensures { IfOk result (λ _. Grows (changed W.contents out.old out.new)) }
+{
     write!(
         out,
         "{} entries, {} switches -> {} entries, {} switches\n",
@@ -84,7 +64,7 @@ fn search_drawn<R: Threads + Sync, F: Hears, W: Write, S: Write>(
     requires range { IsSearchInRange search.now }
     requires asked { IsAskedBy search.now.call request.now }
     ensures finds { IfOk result (Finds request.now.parts search.now (changed S.contents save.old save.new)) }
-    ensures well { IfOk result (λ status. status ≡ 0 → DrawWell request.now.parts search.now) }
+    ensures prints { IfOk result (PrintsDrawn request.now.parts search.now (changed W.contents out.old out.new)) }
     ensures trouble { IfErr result IsOfSystem }
 {
     let jobs = jobs_of(rt, search);
@@ -95,16 +75,16 @@ fn search_drawn<R: Threads + Sync, F: Hears, W: Write, S: Write>(
     let SearchResult { table, halt } = searched;
     follower.end();
     write_table(out, &search.sought, &table)?;
-    write_cut(out, &search.sought, &table)?;
+    write_cut_of(out, &search.sought, &table)?;
     match halt {
         Halt::Found(found) => {
             tell_found(alloc, request, search, found, follower, out, save)?;
             return Ok(1);
         }
         Halt::AllMade => {}
-        Halt::Told => write_told(out, table.runs, search.sought.runs)?,
+        Halt::Told => write_stopped(out, table.runs, search.sought.runs)?,
     }
-    write_unseen(out, &search.sought, &table)?;
+    write_unseen_of(out, &search.sought, &table)?;
     if is_all_well(alloc, &search.sought, &table)? {
         return Ok(0);
     }
@@ -124,7 +104,7 @@ pub fn search_module<R: Threads + Sync, F: Hears, W: Write, S: Write>(
     requires { IsSearchInRange search.now }
     ensures finds { IfOk result (Finds «module».now.parts search.now (changed S.contents save.old save.new)) }
     ensures well { IfOk result (IsWellAt «module».now.parts search.now) }
-    ensures drawn { IfOk result (IsDrawnWellAt «module».now.parts search.now) }
+    ensures drawn { IfOk result (IsDrawn «module».now.parts search.now (changed W.contents out.old out.new)) }
     ensures prints { IfOk result
         (IsPrintedOf «module».now.parts search.now (changed W.contents out.old out.new)) }
     ensures trouble { IfErr result (IsTroubleOf «module».now.parts search.now.call) }
@@ -149,6 +129,7 @@ fn shrunk_if_asked<F: Hears, W: Write>(
     requires { IsFind request.now search.now.sought.limit found }
     ensures run { IfOk result (IsFind request.now search.now.sought.limit) }
     ensures ending { IfOk result (λ made. HaveOneEnding search.now.sought.dump found.end made.end) }
+    ensures grows { IfOk result (λ _. Grows (changed W.contents out.old out.new)) }
     ensures trouble { IfErr result IsOfSystem }
 {
     if !search.shrink {
@@ -179,6 +160,7 @@ pub(crate) fn tell_made<F: Hears, W: Write, S: Write>(
     requires asked { IsAskedBy search.now.call request.now }
     requires ends { EndsAsLookedFor search.now.sought search.now.sought.dump made.end }
     ensures kept { IfOk result (λ _. IsFindKept request.now.parts search.now (changed S.contents save.old save.new)) }
+    ensures grows { IfOk result (λ _. Grows (changed W.contents out.old out.new)) }
     ensures trouble { IfErr result IsOfSystem }
 {
     out.flush()?;
@@ -202,9 +184,10 @@ fn tell_found<F: Hears, W: Write, S: Write>(
     requires asked { IsAskedBy search.now.call request.now }
     requires ends { EndsAsLookedFor search.now.sought search.now.sought.dump found.made.end }
     ensures kept { IfOk result (λ _. IsFindKept request.now.parts search.now (changed S.contents save.old save.new)) }
+    ensures grows { IfOk result (λ _. Grows (changed W.contents out.old out.new)) }
     ensures trouble { IfErr result IsOfSystem }
 {
     let Found { run, made } = found;
-    write!(out, "found in run {run}\n")?;
+    write_found_run(out, run)?;
     tell_made(alloc, request, search, made, follower, out, save)
 }

@@ -1,39 +1,32 @@
 //! The table of a search of drawn runs, and what it says of runs that weren't made.
 ghost use Rattle.std.specs.Prelude.{◌≡◌, ◌==◌, count_by, true, IfOk};
-ghost use Rattle.report.specs.Complete.{threads_end_well};
-ghost use Rattle.report.specs.Searches.{IsAllWell};
+ghost use Rattle.replay_forms.specs.Texts.{Wrote};
+ghost use Rattle.report_jobs.specs.Prints.{changed};
+ghost use Rattle.report.specs.Drawn.{table_lines};
+ghost use Rattle.report.specs.Searches.{Grows, IsAllWell};
 
-use crate::searching::write_ending;
+use crate::complete::has_ended_well;
 use report_command::Sought;
-use report_lines::is_done;
-use search_endings::Ending;
+use report_lines::{Often, write_cut, write_met, write_unseen};
 use search_finds::{Met, Table, is_looked_for};
 use std::alloc::{AllocError, Global};
 use std::io::{self, Write};
 use types::{Outcome, Stop};
 
-/// The line of an ending: how often it was met, when first and by which strategy, and what it is.
-fn write_met<W: Write>(out: &mut W, sought: &Sought, met: &Met, runs: u64) -> io::Result<()> {
-    let times = met.times;
-    let first = met.first;
-    let way = sought.way.of_run(first);
-    write!(out, "{times} of {runs}, first in run {first} by {way}: ")?;
-    write_ending(out, &met.ending)
-}
-
 /// The table of the endings, in the order of their first runs.
-pub(crate) fn write_table<W: Write>(out: &mut W, sought: &Sought, table: &Table) -> io::Result<()> {
-    for met in table.met.iter() {
-        write_met(out, sought, met, table.runs)?;
+pub(crate) fn write_table<W: Write>(out: &mut W, sought: &Sought, table: &Table) -> io::Result<()>
+    ensures { Wrote W.contents out.old out.new result (table_lines sought.now table.now) }
+{
+    let rows = table.met.as_slice();
+    for met in rows {
+        let often = Often {
+            times: met.times,
+            runs: table.runs,
+            first: met.first,
+        };
+        write_met(out, often, sought.way.of_run(met.first), &met.ending)?;
     }
     out.flush()
-}
-
-/// Whether all threads ended well.
-fn is_well(ending: &Ending) -> bool
-    ensures { result ≡ threads_end_well ending.now }
-{
-    ending.outcomes().iter().all(|outcome| is_done(*outcome))
 }
 
 /// Whether a run was made, in each ending of the table all threads ended well, and none is looked for.
@@ -44,7 +37,7 @@ pub(crate) fn is_all_well(alloc: Global, sought: &Sought, table: &Table) -> Resu
         return Ok(false);
     }
     for met in table.met.iter() {
-        if !is_well(&met.ending) || is_looked_for(alloc, sought, &met.ending)? {
+        if !has_ended_well(&met.ending) || is_looked_for(alloc, sought, &met.ending)? {
             return Ok(false);
         }
     }
@@ -71,14 +64,10 @@ fn cut_of(table: &Table) -> u64 {
 }
 
 /// The line of runs that were cut at the end of their log, where there are some.
-pub(crate) fn write_cut<W: Write>(out: &mut W, sought: &Sought, table: &Table) -> io::Result<()> {
-    let cut = cut_of(table);
-    let limit = sought.limit;
-    match cut {
-        0 => Ok(()),
-        1 => write!(out, "1 run was cut at {limit} entries\n"),
-        _ => write!(out, "{cut} runs were cut at {limit} entries\n"),
-    }
+pub(crate) fn write_cut_of<W: Write>(out: &mut W, sought: &Sought, table: &Table) -> io::Result<()>
+    ensures { IfOk result (λ _. Grows (changed W.contents out.old out.new)) }
+{
+    write_cut(out, cut_of(table), sought.limit)
 }
 
 /// How many endings of a table were met in one run alone.
@@ -96,24 +85,14 @@ fn late_of(sought: &Sought, table: &Table) -> usize {
 
 /// The line of what is unseen: how many endings there are, how many were new in the last half of the runs, and with
 /// which chance a further run ends as none did (the share of the runs whose ending no other run has; Good-Turing).
-pub(crate) fn write_unseen<W: Write>(
+pub(crate) fn write_unseen_of<W: Write>(
     out: &mut W,
     sought: &Sought,
     table: &Table,
-) -> io::Result<()> {
-    let runs = table.runs;
+) -> io::Result<()>
+    ensures { IfOk result (λ _. Grows (changed W.contents out.old out.new)) }
+{
     let endings = table.met.len();
-    let word = if endings == 1 { "ending" } else { "endings" };
     let late = late_of(sought, table);
-    let singles = singles_of(table);
-    let about = if singles == 0 { "below" } else { "about" };
-    let count = singles.max(1);
-    write!(
-        out,
-        "{endings} {word}, {late} new in the last half of the runs; "
-    )?;
-    write!(
-        out,
-        "chance of another one in a further run: {about} {count} in {runs}\n"
-    )
+    write_unseen(out, endings, late, singles_of(table), table.runs)
 }

@@ -125,20 +125,29 @@ const MET: Argument = Argument {
     ..OPTION
 };
 
+/// What is said of what is looked for.
+const FIND_HELP: &str =
+    "Stop at the first run with a thread's line that has these words; without it, and without --expect, a run is looked \
+     for in which a thread traps or stops; with --all also 'from which no run ends' or 'a fair run can go on for ever'";
+
 /// What is looked for.
 const FIND: Argument = Argument {
     name: "find",
     value: "WORDS",
-    help: "Stop at the first run with a thread's line that has these words; without it, and without --expect, a run \
-           is looked for in which a thread traps or stops",
+    help: FIND_HELP,
     ..OPTION
 };
+
+/// What is said of what isn't looked for.
+const EXPECT_HELP: &str =
+    "Stop at the first run in which thread 0 comes to another result: i32:2, ok, trap unreachable ..; with --all also \
+     at one that never ends";
 
 /// What isn't looked for.
 const EXPECT: Argument = Argument {
     name: "expect",
     value: "RESULT",
-    help: "Stop at the first run in which thread 0 comes to another result: i32:2, ok, trap unreachable ..",
+    help: EXPECT_HELP,
     ..OPTION
 };
 
