@@ -164,6 +164,7 @@ makes m.wasm "$cc_" --threads 63 --stack=64 --pool 64 good.c -o m.wasm
 makes m.wasm "$cc_" --threads 1 --stack 8000000 good.c -o m.wasm
 "$cc_" good.c -o /dev/null || say "/dev/null"
 [ -c /dev/null ] || say "/dev/null is gone"
+[ "$("$cc_" good.c -o /dev/stdout | head -c 4 | tail -c 3)" = asm ] || say "/dev/stdout"
 "$cc_" good.c -o /dev/full 2>err.text && say "/dev/full"
 grep -q 'No space left' err.text || say "/dev/full: $(cat err.text)"
 "$cc_" --help | head -1 | grep -q '^usage: wathread-cc' || say "--help"
