@@ -128,7 +128,7 @@ done
 refuses 'is a module and no source' "$cc_" good.c m.wasm
 refuses 'good.c is what is compiled' "$cc_" good.c -o good.c
 refuses 'good.c is what is compiled' "$cc_" good.c -o ./good.c
-passes 'unsupported option' "$cc_" good.c -o m.wasm --thread 4
+passes "'--thread'" "$cc_" good.c -o m.wasm --thread 4
 passes 'unknown argument' "$cc_" good.c -o m.wasm -fno-such-thing
 
 # the tools
