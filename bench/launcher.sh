@@ -180,9 +180,9 @@ sys.exit(status if status >= 0 else 128 - status)'
 search=(search examples/broken_lock.wasm --invoke f --runs 1000000)
 for it in ./wathread "$work/a place/bin/wathread"; do
     ends 0 $'.*\ntold to end: [0-9]+ of 1000000 runs\n[^\n]*' '' \
-        "${bare[@]}" python3 -c "$interrupted" 1 1 "$it" "${search[@]}"
-    ends 130 '.*' '' "${bare[@]}" python3 -c "$interrupted" 2 1 "$it" "${search[@]}"
-    ends 130 '' '' "${bare[@]}" python3 -c "$interrupted" 1 1 "$it" "${search[@]}" --until "$work/never"
+        "${bare[@]}" python3 -c "$interrupted" 1 3 "$it" "${search[@]}"
+    ends 130 '.*' '' "${bare[@]}" python3 -c "$interrupted" 2 3 "$it" "${search[@]}"
+    ends 130 '' '' "${bare[@]}" python3 -c "$interrupted" 1 3 "$it" "${search[@]}" --until "$work/never"
 done
 [ -z "$(ls -A "$work/temporary")" ] || say "left among the temporary files: $(ls -A "$work/temporary")"
 
