@@ -156,7 +156,7 @@ ends 5 '' '.*/dev/null.*' "${bare[@]}" ./wathread --install /dev/null/place
 if command -v clang >/dev/null; then
     ends 0 '' '' "$work/a place/bin/wathread-cc" examples/c/counter.c -o "$work/counter.wasm"
     c/wathread-cc examples/c/counter.c -o "$work/same.wasm"
-    cmp -s "$work/counter.wasm" "$work/same.wasm" || say "the installed wathread-cc makes another module"
+    cmp -s "$work/counter.wasm" "$work/same.wasm" || say "an installed wathread-cc makes another module"
 fi
 
 # Ctrl-C: after DELAY seconds, N times, each a hundredth of a second behind the other: interrupted N DELAY COMMAND..

@@ -1,5 +1,6 @@
-# Linked along by clang 20 and later. Without --shared-memory, lld 14 to 19 gives thread-local data its addresses in `main`,
-# and lld 22 its distances from the first of it. wathread-link reads the constant below, and looks where the mark is.
+# Linked along where clang is of a version behind 19. Without --shared-memory, lld 14 to 19 gives thread-local data its
+# addresses in `main`, and lld 22 its distances from the first byte of it. wathread-link reads the constant below, and
+# looks where the mark is.
 	.section	.tdata.__wathread_mark,"T",@
 	.globl	__wathread_mark
 	.p2align	2

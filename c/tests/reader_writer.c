@@ -1,5 +1,5 @@
-/* The first W threads write both words under the writers' lock; the others read them under the readers', and find them the
-   same. No increment is lost. */
+/* The first W threads write both words under the writers' lock; the others read them under the readers', and find them
+   the same. No increment is lost. */
 #include "common.h"
 
 #ifndef W

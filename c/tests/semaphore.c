@@ -1,4 +1,4 @@
-/* A semaphore that lets one in guards a plain counter; by another one the first thread waits until all have been there. */
+/* A semaphore that lets one in guards a plain counter; by another one `main` waits until all have been there. */
 #include "common.h"
 #include <semaphore.h>
 

@@ -1,5 +1,5 @@
-/* Two mutexes that each thread takes, all in one order. Threads that take them in two orders, and try again where the second
-   one is held, can go round for ever. */
+/* Two mutexes that each thread takes, all in one order. Threads that take them in two orders, and try again where the
+   second one is held, can go round for ever. */
 #include "common.h"
 
 static pthread_mutex_t mutexes[2];

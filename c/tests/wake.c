@@ -1,5 +1,5 @@
-/* wathread.h: N threads sleep at a gate of four bytes, and each that is through wakes the next one, by notify_one; then at
-   one of eight bytes, whose sleepers the first thread wakes by their number. */
+/* wathread.h: N threads sleep at a gate of four bytes, and each that is through wakes the next one, by notify_one; then
+   at one of eight bytes, whose sleepers `main` wakes by their number. */
 #include <assert.h>
 #include <wathread.h>
 
