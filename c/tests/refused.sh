@@ -182,8 +182,8 @@ done
 refuses 'there is no main' "$cc_" nothing_to_call.c -o m.wasm
 refuses '321 pages of 64 KiB, and a module may have 256: 321 for data and the first stack' "$cc_" big.c -o m.wasm
 refuses '273 pages of 64 KiB, and a module may have 256: 17 for data and the first stack, 256 for --threads 16' \
-    "$cc_" good.c --stack 1048576 --threads 16 -o m.wasm
-refuses '513 pages of 64 KiB' "$cc_" good.c --stack 16777216 --threads 1 -o m.wasm
+    "$cc_" good.c --stack 1048000 --threads 16 -o m.wasm
+refuses '513 pages of 64 KiB' "$cc_" good.c --stack 16777152 --threads 1 -o m.wasm
 refuses '257 pages of 64 KiB' "$cc_" pool.c --pool 16777216 -o m.wasm
 refuses 'it imports env log' "$cc_" import.c -o m.wasm
 refuses 'in main: ' "$cc_" -O0 longer.c -o m.wasm
