@@ -3,7 +3,7 @@
 #ifndef PTHREAD_H
 #define PTHREAD_H
 #include <errno.h>
-
+#include <sched.h>
 typedef int pthread_t; /* the number that traces have: t1, t2 .. */
 typedef struct { int unused; } pthread_attr_t, pthread_mutexattr_t, pthread_condattr_t, pthread_rwlockattr_t,
     pthread_barrierattr_t;

@@ -1,5 +1,6 @@
 #ifndef SCHED_H
 #define SCHED_H
+#include <stddef.h>
 
 /* Does nothing: any thread may come next at any time. */
 static inline int sched_yield(void) { return 0; }

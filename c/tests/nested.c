@@ -1,8 +1,12 @@
-/* Each thread starts a thread itself, and waits for it: each of the 2 N gets its own argument, and a number of its own. */
+/* Each thread starts a thread itself, and so does the first one: each of these gets its own argument, and each thread a
+   number of its own. */
+#ifndef N
+#define N 1
+#endif
 #include "common.h"
 
 static _Atomic int seen; /* by the numbers of threads */
-static int arguments[N];
+static int arguments[N + 1];
 
 static void note(pthread_t number) {
     assert(!(seen & 1 << number));
@@ -25,8 +29,9 @@ static void body(int me) {
 
 int main(void) {
     start_all();
+    body(N);
     join_all();
-    for (int i = 0; i < N; i++)
+    for (int i = 0; i <= N; i++)
         assert(arguments[i] == 1);
     return 0;
 }

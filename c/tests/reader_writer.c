@@ -1,5 +1,10 @@
-/* Thread 0 writes both words under the writers' lock; the others read them under the readers', and find them the same. */
+/* The first W threads write both words under the writers' lock; the others read them under the readers', and find them
+   the same. No increment is lost. */
 #include "common.h"
+
+#ifndef W
+#define W 1
+#endif
 
 static pthread_rwlock_t lock = PTHREAD_RWLOCK_INITIALIZER;
 static int left, right;
@@ -23,7 +28,7 @@ static void read_both(void) {
 
 static void body(int me) {
     for (int i = 0; i < R; i++)
-        if (me == 0)
+        if (me < W)
             write_both();
         else
             read_both();
@@ -32,5 +37,6 @@ static void body(int me) {
 int main(void) {
     start_all();
     join_all();
+    assert(left == W * R && right == left);
     return left;
 }

@@ -128,7 +128,7 @@ done
 refuses 'is a module and no source' "$cc_" good.c m.wasm
 refuses 'good.c is what is compiled' "$cc_" good.c -o good.c
 refuses 'good.c is what is compiled' "$cc_" good.c -o ./good.c
-passes 'unsupported option' "$cc_" good.c -o m.wasm --thread 4
+passes "'--thread'" "$cc_" good.c -o m.wasm --thread 4
 passes 'unknown argument' "$cc_" good.c -o m.wasm -fno-such-thing
 
 # the tools
@@ -164,6 +164,7 @@ makes m.wasm "$cc_" --threads 63 --stack=64 --pool 64 good.c -o m.wasm
 makes m.wasm "$cc_" --threads 1 --stack 8000000 good.c -o m.wasm
 "$cc_" good.c -o /dev/null || say "/dev/null"
 [ -c /dev/null ] || say "/dev/null is gone"
+[ "$("$cc_" good.c -o /dev/stdout | head -c 4 | tail -c 3)" = asm ] || say "/dev/stdout"
 "$cc_" good.c -o /dev/full 2>err.text && say "/dev/full"
 grep -q 'No space left' err.text || say "/dev/full: $(cat err.text)"
 "$cc_" --help | head -1 | grep -q '^usage: wathread-cc' || say "--help"
@@ -181,8 +182,8 @@ done
 refuses 'there is no main' "$cc_" nothing_to_call.c -o m.wasm
 refuses '321 pages of 64 KiB, and a module may have 256: 321 for data and the first stack' "$cc_" big.c -o m.wasm
 refuses '273 pages of 64 KiB, and a module may have 256: 17 for data and the first stack, 256 for --threads 16' \
-    "$cc_" good.c --stack 1048576 --threads 16 -o m.wasm
-refuses '513 pages of 64 KiB' "$cc_" good.c --stack 16777216 --threads 1 -o m.wasm
+    "$cc_" good.c --stack 1048000 --threads 16 -o m.wasm
+refuses '513 pages of 64 KiB' "$cc_" good.c --stack 16777152 --threads 1 -o m.wasm
 refuses '257 pages of 64 KiB' "$cc_" pool.c --pool 16777216 -o m.wasm
 refuses 'it imports env log' "$cc_" import.c -o m.wasm
 refuses 'in main: ' "$cc_" -O0 longer.c -o m.wasm

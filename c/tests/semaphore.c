@@ -1,8 +1,8 @@
-/* A semaphore that lets one in guards a plain counter. */
+/* A semaphore that lets one in guards a plain counter; by another one `main` waits until all have been there. */
 #include "common.h"
 #include <semaphore.h>
 
-static sem_t semaphore;
+static sem_t semaphore, done;
 static int sum;
 
 static void body(int me) {
@@ -12,6 +12,7 @@ static void body(int me) {
         sum++;
         sem_post(&semaphore);
     }
+    sem_post(&done);
 }
 
 int main(void) {
@@ -20,8 +21,11 @@ int main(void) {
 #else
     sem_init(&semaphore, 0, 1);
 #endif
+    sem_init(&done, 0, 0);
     start_all();
-    join_all();
+    for (int i = 0; i < N; i++)
+        sem_wait(&done);
     assert(sum == N * R);
+    join_all();
     return sum;
 }

@@ -1,22 +1,23 @@
 /* Who tries and gets a lock is alone in there, and who doesn't get it goes on; in the end all are free. */
 #include "common.h"
+#include <sched.h>
 #include <semaphore.h>
 
 static pthread_mutex_t mutex = PTHREAD_MUTEX_INITIALIZER;
 static pthread_rwlock_t lock = PTHREAD_RWLOCK_INITIALIZER;
 static pthread_spinlock_t spin;
 static sem_t semaphore;
-static volatile int inside;
+static volatile int in_mutex, in_spin; /* how many are in there */
 
-static void enter(void) {
-    inside++;
-    assert(inside == 1);
-    inside--;
+static void enter(volatile int *inside) {
+    ++*inside;
+    assert(*inside == 1);
+    --*inside;
 }
 
 static void body(int me) {
     if (pthread_mutex_trylock(&mutex) == 0) {
-        enter();
+        enter(&in_mutex);
         pthread_mutex_unlock(&mutex);
     }
     if (me == 0 && pthread_rwlock_trywrlock(&lock) == 0) {
@@ -31,11 +32,12 @@ static void body(int me) {
 #else
     if (pthread_spin_trylock(&spin) == 0) {
 #endif
-        enter();
+        enter(&in_spin);
         pthread_spin_unlock(&spin);
     }
     if (sem_trywait(&semaphore) == 0)
         sem_post(&semaphore);
+    sched_yield();
 }
 
 int main(void) {
