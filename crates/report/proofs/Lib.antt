@@ -2,3 +2,4 @@ mod Plain
 mod Searched
 mod Asking
 mod Sure
+mod Growing

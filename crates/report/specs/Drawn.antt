@@ -1,9 +1,6 @@
 -- What is printed of a search of drawn runs.
-use Rattle.std.specs.Prelude.{ℕ, Bool, List, if◌then◌else◌, any}
-use Rattle.std.specs.List.{flat_map, sum_by}
-use Rattle.types.specs.declared.outcome.Outcome.{Outcome}
-use Rattle.types.specs.declared.outcome.Outcome.TheVariants as outcomes
-use Rattle.types.specs.declared.outcome.Stop.TheVariants as stops
+use Rattle.std.specs.Prelude.{ℕ, List}
+use Rattle.std.specs.List.{flat_map}
 use Rattle.report_choice.specs.declared.sought.Sought.{Sought}
 use Rattle.report_choice.specs.Ways.{way_of}
 use Rattle.search_finds.specs.declared.met.Met.{Met}

@@ -2,7 +2,7 @@
 ghost use Rattle.std.specs.Prelude.{◌≡◌, ◌==◌, count_by, true, IfOk};
 ghost use Rattle.replay_forms.specs.Texts.{Wrote};
 ghost use Rattle.report_jobs.specs.Prints.{changed};
-ghost use Rattle.report.specs.Drawn.{table_lines};
+ghost use Rattle.report.specs.Drawn.{table_line, table_lines};
 ghost use Rattle.report.specs.Searches.{Grows, IsAllWell};
 
 use crate::complete::has_ended_well;
@@ -13,18 +13,26 @@ use std::alloc::{AllocError, Global};
 use std::io::{self, Write};
 use types::{Outcome, Stop};
 
+/// The line of an ending: how often it was met, when first and by which strategy, and what it is.
+fn write_row<W: Write>(out: &mut W, sought: &Sought, runs: u64, met: &Met) -> io::Result<()>
+    ensures { Wrote W.contents out.old out.new result (table_line sought.now runs met.now) }
+{
+    let often = Often {
+        times: met.times,
+        runs,
+        first: met.first,
+    };
+    let way = sought.way.of_run(met.first);
+    write_met(out, often, way, &met.ending)
+}
+
 /// The table of the endings, in the order of their first runs.
 pub(crate) fn write_table<W: Write>(out: &mut W, sought: &Sought, table: &Table) -> io::Result<()>
     ensures { Wrote W.contents out.old out.new result (table_lines sought.now table.now) }
 {
     let rows = table.met.as_slice();
     for met in rows {
-        let often = Often {
-            times: met.times,
-            runs: table.runs,
-            first: met.first,
-        };
-        write_met(out, often, sought.way.of_run(met.first), &met.ending)?;
+        write_row(out, sought, table.runs, met)?;
     }
     out.flush()
 }

@@ -1,5 +1,6 @@
 use Rattle.std.proofs.Common.{ℕ, List, ◌∙◌, inr, subst}
 use Rattle.search_scheduled.specs.Headers.{IsOfCall}
+use Rattle.report.proofs.Growing.{grows_then}
 use Rattle.report.proofs.all.tell_endless.Goals as goal
 
 pub returns-clause-kept : goal.returns-clause-kept
@@ -21,3 +22,9 @@ returns-clause-kept g c =
           (subst (λ (fuel : ℕ). IsOfCall r.parts r.name r.args fuel s.sought.limit made.«record») asked.fuel_is run.of_call);
       kept = λ wanted. c.in_ok-keep.ensures.kept (c.is_some.ensures ∙ wanted);
     })
+
+pub returns-clause-grows : goal.returns-clause-grows
+returns-clause-grows g c =
+    let contents = g.W.Write.contents in
+    grows_then (contents c.args.out.now) (contents c.write_endless.new.out) (contents c.print.new.out) _
+    c.in_ok-write_endless.ensures c.in_ok-print.ensures.prints.lines

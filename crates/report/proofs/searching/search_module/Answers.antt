@@ -5,7 +5,7 @@ use Rattle.types.specs.declared.parts.Parts.{Parts}
 use Rattle.report_jobs.specs.Arguments.{texts_in}
 use Rattle.report_jobs.specs.Prints.{changed}
 use Rattle.report_jobs.specs.Troubles.{IsTroubleOf}
-use Rattle.report.specs.Searches.{DrawWell, Finds, IsDrawnWellAt, IsOfSystem, IsPrintedOf, IsWellAt, PrintsAll}
+use Rattle.report.specs.Searches.{Finds, IsDrawn, IsOfSystem, IsPrintedOf, IsWellAt, PrintsAll, PrintsDrawn}
 use Rattle.report.proofs.Asking.{of_system}
 use Rattle.report.proofs.searching.search_module.Goals as goal
 
@@ -38,10 +38,12 @@ returns-clause-finds g c =
 pub returns-clause-drawn : goal.returns-clause-drawn
 returns-clause-drawn g c =
     let m = c.args.module.now.parts in
+    let r = c.request_of-request.result.parts in
     let s = c.args.search.now in
-    IfOk-weaker c.search_drawn.result _ (IsDrawnWellAt m s)
-    (λ status h drawn zero. subst (λ (parts : Parts). DrawWell parts s) c.request_of-request.ensures.parts (h zero))
-    c.search_drawn.ensures.well
+    let out = changed g.W.Write.contents c.args.out.now c.search_drawn.new.out in
+    IfOk-weaker c.search_drawn.result (PrintsDrawn r s out) (IsDrawn m s out)
+    (λ status so _. subst (λ (parts : Parts). PrintsDrawn parts s out status) c.request_of-request.ensures.parts so)
+    c.search_drawn.ensures.prints
 
 pub returns-clause-trouble : goal.returns-clause-trouble
 returns-clause-trouble g c =

@@ -1,6 +1,7 @@
 use Rattle.std.proofs.Common.{ℕ, List, ◌∙◌, subst}
 use Rattle.search_scheduled.specs.Headers.{IsOfCall}
 use Rattle.report.proofs.Searched.{ends_alike}
+use Rattle.report.proofs.Growing.{grows_then, keeps_then}
 use Rattle.report.proofs.searching.tell_made.Goals as goal
 
 pub returns-clause-kept : goal.returns-clause-kept
@@ -21,3 +22,11 @@ returns-clause-kept g c =
       ends = ends_alike s.sought s.sought.dump c.args.made.end kept.end c.in_ok-kept.ensures.ending c.requires.ends;
       kept = λ wanted. c.in_ok-keep.ensures.kept (c.is_some.ensures ∙ wanted);
     }
+
+pub returns-clause-grows : goal.returns-clause-grows
+returns-clause-grows g c =
+    let contents = g.W.Write.contents in
+    let before = contents c.args.out.now in
+    let between = contents c.shrunk_if_asked.new.out in
+    let sizes = keeps_then before (contents c.flush.new.self) between c.in_ok-flush.ensures.bytes c.in_ok-kept.ensures.grows in
+    grows_then before between (contents c.print.new.out) _ sizes c.in_ok-print.ensures.prints.lines
