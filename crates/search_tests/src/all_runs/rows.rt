@@ -68,8 +68,8 @@ pub(crate) static MODULES: [Gone; 9] = [
     Gone {
         module: TICKETS,
         args: &[Value::I32(2), Value::I32(2)],
-        endings: &["ok i32:4, ok; pages 1; 04000000040000000400000000000000"],
-        states: 122,
+        endings: &["ok i32:4, ok; pages 1; 04000000040000000400000001000000"],
+        states: 181,
     },
     Gone {
         module: WAKEUP,
@@ -98,8 +98,8 @@ pub(crate) static MODULES: [Gone; 9] = [
     Gone {
         module: TICKETS,
         args: &[Value::I32(3), Value::I32(1)],
-        endings: &["ok i32:3, ok, ok; pages 1; 03000000030000000300000000000000"],
-        states: 210,
+        endings: &["ok i32:3, ok, ok; pages 1; 03000000030000000300000002000000"],
+        states: 620,
     },
 ];
 
