@@ -3,8 +3,41 @@
 # that run it. The first counts the processor's time of one job, user and system; the second has malloc keep what is given back.
 # And how long `search --all` takes to go through every order of some locks, and how much memory it takes a state: wanted within a
 # minute and 2 GiB each.
+#
+# search.sh strategies: instead, how many runs each strategy makes until it finds the bug of each program of examples/bugs, the median of
+# SEEDS seeds, and how the mix stands to the best of the others; a search that finds nothing in MOST runs counts as more than MOST.
 set -e
 . "$(dirname "$0")/common.sh"
+
+# The number of the first run that is found, or one more than MOST.
+first_find() {
+    "$program" search "$1" --invoke main --strategy "$2" --seed "$3" --runs "$most" --jobs 1 --record "$work/record" |
+        awk -v most="$most" '/^found in run / { run = $4 } END { print run ? run : most + 1 }'
+}
+strategies() {
+    local most=${MOST:-20000} seeds=${SEEDS:-20} ways=(random pct:2 pct:3 pct:5 pct:8 spin mix) way file name row
+    echo "| Program |$(printf ' %s |' "${ways[@]}") mix to the best |"
+    echo "|---$(printf '|---%.0s' "${ways[@]}")|---|"
+    for file in "$top"/examples/bugs/*.wasm; do
+        name=$(basename "$file" .wasm)
+        [[ $name != *-repaired ]] || continue
+        row=
+        for way in "${ways[@]}"; do
+            row+=" $(for seed in $(seq "$seeds"); do first_find "$file" "$way" "$seed"; done | sort -n |
+                awk '{ at[NR] = $1 } END { print int((at[int((NR + 1) / 2)] + at[int(NR / 2) + 1]) / 2) }')"
+        done
+        awk -v name="$name" -v most="$most" '{
+            for (i = 1; i < NF; i++) if (!best || $i < best) best = $i
+            printf "| `%s.c` |", name
+            for (i = 1; i <= NF; i++) printf " %s |", ($i > most ? "more than " most : $i)
+            printf " %s |\n", (best > most ? "" : sprintf("%s%.1f", ($NF > most ? "above " : ""), $NF / best))
+        }' <<< "$row"
+    done
+}
+if [ "${1-}" = strategies ]; then
+    strategies
+    exit
+fi
 file=$(module search/broken_lock)
 runs=${RUNS:-20000}
 searched() {
