@@ -1,11 +1,7 @@
 -- What is written goes behind what stood there.
-use Rattle.std.proofs.Common.{ℕ, List, [], ◌++◌, Option, None, Some, ◌∙◌, ap, subst, sym, append-nil}
+use Rattle.std.proofs.Common.{ℕ, List, ◌++◌, Option, None, Some, ◌∙◌, ap}
 use Rattle.std.specs.Io.KnownBytes.{Appends, Keeps}
 use Rattle.replay_forms.proofs.Written.{appends_then}
-
--- The text alone is the text with nothing behind it.
-pub alone : (a b : Option (List ℕ)) (x : List ℕ) → Appends a b x → Appends a b (x ++ [])
-alone a b x p = subst (Appends a b) (sym (append-nil x)) p
 
 -- Some text, and then this one.
 pub grows_then : (a b c : Option (List ℕ)) (y : List ℕ) → (x : List ℕ) × Appends a b x → Appends b c y → (z : List ℕ) × Appends a c z

@@ -3,3 +3,4 @@ mod Searched
 mod Asking
 mod Sure
 mod Growing
+mod Printed

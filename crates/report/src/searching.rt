@@ -14,7 +14,7 @@ use crate::table::{is_all_well, write_cut_of, write_table, write_unseen_of};
 use report_command::{Search, Sought};
 use report_jobs::{Trouble, args_of, keep, print, request_of};
 use report_lines::{write_found_run, write_stopped};
-use search_finds::{Found, Halt, Hears, SearchResult, Size, first_found, shrunk, size_of};
+use search_finds::{Found, Halt, Hears, SearchResult, Size, Table, first_found, shrunk, size_of};
 use search_scheduled::{MadeRun, SearchFault};
 use spawn_host::Request;
 use std::alloc::Global;
@@ -49,6 +49,23 @@ fn write_sizes<W: Write>(out: &mut W, before: Size, after: Size) -> io::Result<(
     )
 }
 
+/// What is said behind the table of a search that found nothing: that it was told to end, where it was, and what is
+/// unseen.
+fn write_behind<W: Write>(
+    out: &mut W,
+    sought: &Sought,
+    table: &Table,
+    is_told: bool,
+) -> io::Result<()>
+    ensures { IfOk result (λ _. Grows (changed W.contents out.old out.new)) }
+{
+    if !is_told {
+        return write_unseen_of(out, sought, table);
+    }
+    write_stopped(out, table.runs, sought.runs)?;
+    write_unseen_of(out, sought, table)
+}
+
 /// Makes the runs that a search asks for, prints the table of their endings, and of a run that was found its lines, or
 /// that it was told to end; and writes the record of what was found, where one is wanted. Answers the status: 1 where a
 /// run was found or an ending has a trap or a stop, and else 0.
@@ -76,15 +93,15 @@ fn search_drawn<R: Threads + Sync, F: Hears, W: Write, S: Write>(
     follower.end();
     write_table(out, &search.sought, &table)?;
     write_cut_of(out, &search.sought, &table)?;
-    match halt {
+    let is_told = match halt {
         Halt::Found(found) => {
             tell_found(alloc, request, search, found, follower, out, save)?;
             return Ok(1);
         }
-        Halt::AllMade => {}
-        Halt::Told => write_stopped(out, table.runs, search.sought.runs)?,
-    }
-    write_unseen_of(out, &search.sought, &table)?;
+        Halt::AllMade => false,
+        Halt::Told => true,
+    };
+    write_behind(out, &search.sought, &table, is_told)?;
     if is_all_well(alloc, &search.sought, &table)? {
         return Ok(0);
     }

@@ -2,6 +2,7 @@
 use Rattle.std.specs.Prelude.{◌≡◌, ◌≢◌, ◌<◌, ◌≤◌, ◌⊎◌, ℕ, suc, List}
 use Rattle.search_graph.specs.Paths.{Reaches}
 use Rattle.search_graph.specs.Graph.{Moves, CanMove}
+use Rattle.search_graph.specs.Runs.{HasFairCycle}
 use Rattle.search_graph.specs.declared.graph.Move.{Move}
 
 -- Which steps thread n makes, and whether it can go on.
@@ -99,6 +100,7 @@ module _ {W : Type 0} (worlds : Worlds W) where
       pub makes : (s t next : ℕ) (w : W) → Moves moves s t next → rests s w → MakesMove t next w
       pub all : (s u : ℕ) (w : W) → rests s w → worlds.can w u → CanMove moves s u
 
-    -- A fair run begins in each world that the state stands for.
-    abbrev pub HasFairRun : ℕ → Type 0
-    HasFairRun s = (w : W) → rests s w → FairRun w
+    -- A fair run begins in each world that a state stands for, where a fair run of the graph goes round from there.
+    abbrev pub CyclesAreRuns : List Move → Type 0
+    CyclesAreRuns moves =
+        (start : ℕ) (walk : List Move) → HasFairCycle moves start walk → (w : W) → rests start w → FairRun w

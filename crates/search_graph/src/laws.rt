@@ -1,14 +1,14 @@
 //! From a graph to the worlds that its states stand for. Each function here does nothing, and its contract is a law.
 ghost use Rattle.std.specs.Prelude.{ℕ, List};
 ghost use Rattle.search_graph.specs.declared.graph.Move.{Move};
-ghost use Rattle.search_graph.specs.Runs.{EveryFairRunEnds, HasFairCycle};
+ghost use Rattle.search_graph.specs.Runs.{EveryFairRunEnds};
 ghost use Rattle.search_graph.specs.Worlds.{
   Worlds,
   Persists,
   IsGraphOf,
   IsMadeOf,
   NoFairRun,
-  HasFairRun,
+  CyclesAreRuns,
   FairRunsBeginBefore,
 };
 
@@ -42,8 +42,7 @@ pub fn no_fair_run_goes_on<T: StandsFor>(worlds: &T)
 /// worlds goes on for ever.
 pub fn a_fair_run_goes_round<T: StandsFor>(worlds: &T)
     ensures { (moves : List Move) → IsMadeOf (T.worlds worlds.now) (T.rests worlds.now) (T.among worlds.now) moves
-        → (start : ℕ) (walk : List Move) → HasFairCycle moves start walk
-        → HasFairRun (T.worlds worlds.now) (T.rests worlds.now) start }
+        → CyclesAreRuns (T.worlds worlds.now) (T.rests worlds.now) moves }
 {}
 
 /// Where threads that can go on come to a world at which a fair run begins, one begins where they come from.
