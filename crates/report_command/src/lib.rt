@@ -11,6 +11,7 @@ mod limits;
 mod lines;
 mod search;
 mod show;
+mod words;
 
 pub use call::CallWords;
 pub use command_line::{Job, Misuse, Order, RunJob, Usage, asked, command, misused};
