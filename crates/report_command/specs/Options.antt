@@ -1,7 +1,7 @@
 -- Which field of a job is which argument of the command line: a line for each.
-use Rattle.std.specs.Prelude.{ℕ, ◌≡◌, ◌≢◌, ◌⊎◌, ◌||◌, ◌++◌, map, Bool, true, List, Option, Some, None, is_some, codes, IfSome, MatchOption}
+use Rattle.std.specs.Prelude.{ℕ, ◌≡◌, ◌≢◌, ◌⊎◌, ◌||◌, ◌++◌, map, Bool, true, List, Option, Some, None, is_some, option_map, codes, IfSome, MatchOption}
 use Rattle.std.specs.Borrow.{Bor}
-use Rattle.clap.specs.Words.{first_value, rows_of, subcommand_rows_of, HasMatchesOf, app_of, IsParsedFrom}
+use Rattle.clap.specs.Words.{first_value, rows_of, subcommand_name_of, subcommand_rows_of, HasMatchesOf, app_of, IsParsedFrom}
 use Rattle.clap.specs.declared.builder.command.Command.{Command}
 use Rattle.clap.specs.declared.parser.matches.ArgMatches.{ArgMatches}
 use Rattle.clap.specs.declared.parser.matches.Found.{Found}
@@ -192,7 +192,8 @@ AsksReasons name f explain =
 -- What the parser found asks for: the command, and its arguments.
 pub record IsOrderOf (m : ArgMatches) (order : Order) : Type 0 where
   pub found : Found
-  pub command : subcommand_rows_of m ≡ Some (command_name order.job, rows_of found)
+  pub command : subcommand_name_of m ≡ Some (command_name order.job)
+  pub arguments : option_map (λ s. s.1) (subcommand_rows_of m) ≡ Some (rows_of found)
   pub job : AsksJob found order.job
   pub reasons : AsksReasons (command_name order.job) found order.explain
 

@@ -332,10 +332,7 @@ fn sought_words_of<'a>(alloc: Global, matches: &ArgMatches<'a>) -> Result<Find<'
 }
 
 /// What is looked for; `None` where the result that is expected is none.
-fn target_of<'a>(
-    alloc: Global,
-    matches: &ArgMatches<'a>,
-) -> Result<Option<Target<'a>>, AllocError>
+fn target_of<'a>(alloc: Global, matches: &ArgMatches<'a>) -> Result<Option<Target<'a>>, AllocError>
     ensures { IfOk result (λ target. IfSome target (AsksTarget (found_of matches.now))) }
 {
     let Some(expect) = expect_of(alloc, matches)? else {
@@ -357,11 +354,7 @@ fn stops(matches: &ArgMatches, shrink: bool) -> bool
 
 /// Which runs are drawn, where the numbers are there and in range, as the parser sees to, and the strategy is one; and
 /// what is looked for.
-fn sought_of<'a>(
-    matches: &ArgMatches<'a>,
-    target: Target<'a>,
-    stops: bool,
-) -> Option<Sought<'a>>
+fn sought_of<'a>(matches: &ArgMatches<'a>, target: Target<'a>, stops: bool) -> Option<Sought<'a>>
     requires { AsksTarget (found_of matches.now) target }
     ensures range { IfSome result IsSoughtInRange }
     ensures asks { IfSome result (AsksSought (found_of matches.now)) }

@@ -25,10 +25,7 @@ pub(crate) fn number_of(matches: &ArgMatches, name: &str) -> Option<u64>
 ///
 /// # Errors
 /// Where what is there is no number of 32 bits.
-pub(crate) fn short_if_any(
-    matches: &ArgMatches,
-    name: &str,
-) -> Result<Option<u32>, ParseIntError>
+pub(crate) fn short_if_any(matches: &ArgMatches, name: &str) -> Result<Option<u32>, ParseIntError>
     ensures { IfOk result (HasNumberIfAny (found_of matches.now) name.now) }
 {
     matches.try_get_one::<u32>(name)
@@ -38,10 +35,7 @@ pub(crate) fn short_if_any(
 ///
 /// # Errors
 /// Where what is there is no number of 64 bits.
-pub(crate) fn number_if_any(
-    matches: &ArgMatches,
-    name: &str,
-) -> Result<Option<u64>, ParseIntError>
+pub(crate) fn number_if_any(matches: &ArgMatches, name: &str) -> Result<Option<u64>, ParseIntError>
     ensures { IfOk result (HasNumberIfAny (found_of matches.now) name.now) }
 {
     matches.try_get_one::<u64>(name)
