@@ -51,6 +51,10 @@ pub fn close<W: Write + Drop, S: Write + Drop>(
         return Closed { out, save, lost };
     }
     let (save, file) = hand_on(save);
-    let lost = if file.is_err() { Some(Lost::File) } else { None };
+    let lost = if file.is_err() {
+        Some(Lost::File)
+    } else {
+        None
+    };
     Closed { out, save, lost }
 }
