@@ -47,7 +47,8 @@ where
     F: Hears,
     requires { IsInRange job.now }
     ensures performs { Performs job.now «module».now saved.now
-        (changed W.contents streams.old.out streams.new.out) (changed S.contents streams.old.save streams.new.save) result }
+        (changed W.contents streams.old.out streams.new.out)
+        (changed S.contents streams.old.save streams.new.save) result }
     ensures silent { IsPlain job.now → IsRefusal result
         → Stays streams.old.out streams.new.out × Stays streams.old.save streams.new.save }
     ensures unwanted { IsPlain job.now → makes_file job.now ≡ false → Stays streams.old.save streams.new.save }

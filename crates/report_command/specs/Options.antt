@@ -1,7 +1,9 @@
 -- Which field of a job is which argument of the command line: a line for each.
-use Rattle.std.specs.Prelude.{ℕ, ◌≡◌, ◌≢◌, ◌⊎◌, ◌||◌, ◌++◌, map, Bool, true, List, Option, Some, None, is_some, option_map, codes, IfSome, MatchOption}
+use Rattle.std.specs.Prelude.{ℕ, ◌≡◌, ◌≢◌, ◌⊎◌, ◌||◌, Bool, true, List, map, ◌++◌, codes}
+use Rattle.std.specs.Prelude.{Option, Some, None, is_some, option_map, IfSome, MatchOption}
 use Rattle.std.specs.Borrow.{Bor}
-use Rattle.clap.specs.Words.{first_value, rows_of, subcommand_name_of, subcommand_rows_of, HasMatchesOf, app_of, IsParsedFrom}
+use Rattle.clap.specs.Words.{first_value, rows_of, subcommand_name_of, subcommand_rows_of}
+use Rattle.clap.specs.Words.{HasMatchesOf, app_of, IsParsedFrom}
 use Rattle.clap.specs.declared.builder.command.Command.{Command}
 use Rattle.clap.specs.declared.parser.matches.ArgMatches.{ArgMatches}
 use Rattle.clap.specs.declared.parser.matches.Found.{Found}
@@ -77,7 +79,8 @@ AsksView f (Trace path) = HasText f (codes "trace") path
 abbrev pub AsksColor : Found → Color → Type 0
 AsksColor f Always = first_value f (codes "color") ≡ Some (codes "always")
 AsksColor f Never = first_value f (codes "color") ≡ Some (codes "never")
-AsksColor f Auto = (first_value f (codes "color") ≢ Some (codes "always")) × (first_value f (codes "color") ≢ Some (codes "never"))
+AsksColor f Auto =
+    (first_value f (codes "color") ≢ Some (codes "always")) × (first_value f (codes "color") ≢ Some (codes "never"))
 
 -- How a record is shown. Which lines and addresses a text `A-B` spells is read elsewhere.
 pub record AsksLook (f : Found) (look : Look) : Type 0 where
@@ -88,7 +91,8 @@ pub record AsksLook (f : Found) (look : Look) : Type 0 where
   pub color : AsksColor f look.color
 
 -- `show`
-pub record AsksShow (f : Found) (file saved : Bor (List ℕ)) (names : Option (Bor (List ℕ))) (look : Look) (view : View) : Type 0 where
+pub record AsksShow (f : Found) (file saved : Bor (List ℕ)) (names : Option (Bor (List ℕ))) (look : Look)
+    (view : View) : Type 0 where
   pub file_is : HasText f (codes "file") file
   pub saved_is : HasText f (codes "record") saved
   pub names_is : HasTextIfAny f (codes "names") names

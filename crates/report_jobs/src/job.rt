@@ -158,8 +158,8 @@ fn write_functions<W: Write>(out: &mut W, count: usize) -> io::Result<()>
 /// and writes its record where one is wanted.
 ///
 /// Answers 0 where all threads ended well and 1 for a trap or stop, both only of a run that was made and printed so; 2
-/// for a refused module, 3 only where no function can be called so, and 5 where memory, a thread or a stream failed. At 2
-/// and 3 nothing is written but to `err`, and where no record is wanted nothing to `save`.
+/// for a refused module, 3 only where no function can be called so, and 5 where memory, a thread or a stream failed. At
+/// 2 and 3 nothing is written but to `err`, and where no record is wanted nothing to `save`.
 pub fn run<R, W, E, S>(
     rt: &R,
     alloc: Global,

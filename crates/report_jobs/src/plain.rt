@@ -21,8 +21,8 @@ use std::thread::Threads;
 ///
 /// Answers the program's status: 0 where the module was accepted or all threads ended well, 1 for a trap or stop, 2 for
 /// a refused module, 3 for a refused run, 4 for a refused record, 5 where memory, a thread or a stream failed. A write
-/// to `err` that fails doesn't change it. At 2, 3 and 4 neither standard output nor the record's writer is written to or
-/// flushed, nor is that writer where no record is wanted.
+/// to `err` that fails doesn't change it. At 2, 3 and 4 neither standard output nor the record's writer is written to
+/// or flushed, nor is that writer where no record is wanted.
 pub fn perform_plain<R, W, E, S>(
     rt: &R,
     alloc: Global,
@@ -39,8 +39,10 @@ where
     requires range { IsInRange job.now }
     requires plain { IsPlain job.now }
     ensures performs { PerformsPlain job.now «module».now saved.now
-        (changed W.contents streams.old.out streams.new.out) (changed S.contents streams.old.save streams.new.save) result }
-    ensures silent { IsRefusal result → Stays streams.old.out streams.new.out × Stays streams.old.save streams.new.save }
+        (changed W.contents streams.old.out streams.new.out)
+        (changed S.contents streams.old.save streams.new.save) result }
+    ensures silent { IsRefusal result → Stays streams.old.out streams.new.out
+        × Stays streams.old.save streams.new.save }
     ensures unwanted { makes_file job.now ≡ false → Stays streams.old.save streams.new.save }
 {
     let Streams { out, err, save } = streams;

@@ -12,7 +12,8 @@ IsRecolored old new = (new.choice ≡ old.choice) × (new.width ≡ old.width)
 
 -- The same job, but for the look of a show.
 abbrev pub IsColored : Job → Job → Type 0
-IsColored (Show file saved names look view) new = (colored : Look) × (new ≡ Show file saved names colored view) × IsRecolored look colored
+IsColored (Show file saved names look view) new =
+    (colored : Look) × (new ≡ Show file saved names colored view) × IsRecolored look colored
 IsColored (Check file) new = new ≡ Check file
 IsColored (Run job) new = new ≡ Run job
 IsColored (Replay file saved dump) new = new ≡ Replay file saved dump

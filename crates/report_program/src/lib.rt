@@ -3,8 +3,8 @@
 //! reader went away.
 //!
 //! Proved: a job comes to what performs it only with its numbers in range, and as the words have it. A job ends with 0
-//! or 1 only where its streams got all that was written to their buffers, the lines before the file that it makes, which
-//! at another status gets nothing more. `read_front` gives the first bytes of a reader.
+//! or 1 only where its streams got all that was written to their buffers, the lines before the file that it makes,
+//! which at another status gets nothing more. `read_front` gives the first bytes of a reader.
 #![tactic(auto)]
 
 mod beside;
