@@ -2,8 +2,8 @@
 //!
 //! Proved: `record_run` and `run_on_words` are the headline; a record is of the run that was made. Of faults, one of
 //! the limit or of the call comes exactly where the limit or the call is wrong, whatever room there is.
-//! `record_request` and `run_request_on_words` do the same for a call that was found to be one. The gate is called before
-//! each turn of a run, and not at all where a fault is told.
+//! `record_request` and `run_request_on_words` do the same for a call that was found to be one. The gate is called
+//! before each turn of a run, and not at all where a fault is told.
 #![tactic(auto)]
 
 mod fitting;

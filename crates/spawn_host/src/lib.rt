@@ -3,8 +3,8 @@
 //!
 //! Proved: `run` is the headline over any memory of the trait; an export or arguments are refused only where they
 //! don't fit. "No thread" comes only where the module imports `thread-spawn`. Where there is no run, all seats are as
-//! they came, or all that thread 0 ever entered is that it leaves; and the gate wasn't called. Where there is one, it was
-//! called before each turn of each thread.
+//! they came, or all that thread 0 ever entered is that it leaves; and the gate wasn't called. Where there is one, it
+//! was called before each turn of each thread.
 #![tactic(auto)]
 
 mod call;

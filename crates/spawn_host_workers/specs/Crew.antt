@@ -57,7 +57,8 @@ idle_ends gate (seat ∷ seats) = idle_end gate seat ∷ idle_ends gate seats
 
 module _ {S T G : Type 0} (mem : OverMemory S) (gate : Ghosts G) (old : G) (meaning : T → Meaning) where
   -- The ends of the first thread and of the workers, in order.
-  pub record IsCrew (first : T) (seat : S) (threads : List T) (seats : List S) (ends : List (WorkerEnd S G)) : Type 0 where
+  pub record IsCrew (first : T) (seat : S) (threads : List T) (seats : List S) (ends : List (WorkerEnd S G))
+      : Type 0 where
     pub head : WorkerEnd S G
     pub others : List (WorkerEnd S G)
     pub parts : ends ≡ head ∷ others

@@ -46,7 +46,8 @@ module _ {T M S G : Type 0} (m : Ghosts M S) (gate : gates.Ghosts G) (memory : M
   SeatAttends thread thread' seat seat' old new event turn =
       (t : Running) (earlier : G) → WantsEvent (meaning thread) event t
       → gate.sees earlier (m.name seat) ((meaning thread).fuel - left_of t) old
-      → Steps gate (meaning thread).fuel (meaning thread).program m.LOSES m.opening (m.limit memory) (m.name seat) t turn
+      → Steps gate (meaning thread).fuel (meaning thread).program m.LOSES m.opening (m.limit memory) (m.name seat) t
+      turn
       (meaning thread').stands
       (watched m.seen m.lost seat earlier) (watched m.seen m.lost seat' new)
 
@@ -54,7 +55,8 @@ module _ {T M S G : Type 0} (m : Ghosts M S) (gate : gates.Ghosts G) (memory : M
   abbrev pub SeatSteps : T → T → S → S → G → G → Turn → Type 0
   SeatSteps thread thread' seat seat' old new turn =
       (t : Running) → (meaning thread).stands t → IsHere t
-      → Steps gate (meaning thread).fuel (meaning thread).program m.LOSES m.opening (m.limit memory) (m.name seat) t turn
+      → Steps gate (meaning thread).fuel (meaning thread).program m.LOSES m.opening (m.limit memory) (m.name seat) t
+      turn
       (meaning thread').stands
       (watched m.seen m.lost seat old) (watched m.seen m.lost seat' new)
 

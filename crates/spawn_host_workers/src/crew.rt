@@ -89,8 +89,8 @@ where
         move || -> WorkerEnd<M::Seat, G>
             requires new { entries_of (M.name seat) (M.seen seat) ≡ [] }
             requires begins { MayBeSpawned (T.meaning thread) }
-            ensures { EndsWork (over M.SharedMemory place.entry.now.memory.now) G.Gate place.entry.now.gate.now T.meaning
-                thread seat result }
+            ensures { EndsWork (over M.SharedMemory place.entry.now.memory.now) G.Gate place.entry.now.gate.now
+                T.meaning thread seat result }
         { work(place, thread, seat) },
     ) else {
         return Err(NoThread);
@@ -119,8 +119,8 @@ where
     requires begins { All (λ (t : T). MayBeSpawned (T.meaning t)) threads.items }
     requires empty { handles.items ≡ [] }
     requires room { vec_len seats ≤ vec_capacity handles }
-    ensures { IfOk result (λ all. AllThree (IsDuty place.now.memory.now place.now.gate.now) threads.items seats.items all.items
-        × (vec_len all ≡ vec_len seats)) }
+    ensures { IfOk result (λ all. AllThree (IsDuty place.now.memory.now place.now.gate.now) threads.items seats.items
+        all.items × (vec_len all ≡ vec_len seats)) }
 {
     let mut threads = threads.into_iter();
     for seat in seats {
@@ -245,7 +245,8 @@ fn lead<T: TakesTurns + Drop, M: SharedMemory, W: Wait + Drop, G: Gate, R: Wait>
 ) -> WorkerEnd<M::Seat, G>
     requires here { MayRun (T.meaning first) }
     requires free { IsFree (queue_after (M.seen seat)) (M.name seat) }
-    ensures { EndsFirst (over M.SharedMemory place.now.memory.now) G.Gate place.now.gate.now T.meaning first seat result }
+    ensures { EndsFirst (over M.SharedMemory place.now.memory.now) G.Gate place.now.gate.now T.meaning first seat
+        result }
 {
     let ThreadEnd {
         outcome,

@@ -229,7 +229,8 @@ where
     ensures alone { vec_len spawned ≡ 0 → IfErr result (IsAsTheyCame seats.items) }
     ensures composed { IfOk result (GivesRun M.SharedMemory memory.now T.meaning first spawned.items) }
     ensures unstarted { IfErr result (IsUnstarted M.SharedMemory memory.now seats.items) }
-    ensures gated { IfOk result (λ end. IsGated G.Gate T.meaning first spawned.items end.threads.items gate.old gate.new) }
+    ensures gated { IfOk result (λ end. IsGated G.Gate T.meaning first spawned.items end.threads.items gate.old
+        gate.new) }
     ensures uncalled { OnErr result (gate.new ≡ gate.old) }
 {
     let Ok(room) = reserve::<T, M, G>(alloc, spawned.len()) else {
@@ -247,11 +248,12 @@ where
         desk,
     } = deal(seats);
     let desk = Desk::open(rt, memory, desk);
+    let each = *gate;
     let place = Workplace {
         rt,
         memory,
         desk: &desk,
-        gate: &*gate,
+        gate: &each,
     };
     let crew = Crew {
         first,

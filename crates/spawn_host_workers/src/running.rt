@@ -35,7 +35,8 @@ fn advance<T: TakesTurns, G: Gate>(thread: &mut T, name: u32, gate: &mut G, give
     thread.turn(given)
 }
 
-/// Makes one try of the event that the thread wants, and gives it what comes of it. The gate was called before the event.
+/// Makes one try of the event that the thread wants, before which the gate was called, and gives the thread what comes
+/// of it.
 fn attend<T: TakesTurns, M: SharedMemory, W: Wait + Drop, G: Gate>(
     thread: &mut T,
     memory: &M,
@@ -115,8 +116,8 @@ fn steps_to_end<T: TakesTurns, M: SharedMemory, W: Wait + Drop, G: Gate, R: Wait
 /// A lost try and a full log are given to the thread too, which says what they cost: the tries that the seat lost are
 /// as many as the lost tries among the thread's steps, and each costs a unit. The gate is called before each turn, with
 /// the units that are spent: before a turn of the thread's own, before an event that it wants, before the reply, and
-/// before an answer. It isn't promised that this returns: a call of the desk may wait, and a thread of whose configuration nothing is
-/// defined never ends.
+/// before an answer. It isn't promised that this returns: a call of the desk may wait, and a thread of whose
+/// configuration nothing is defined never ends.
 pub fn run_thread<T: TakesTurns + Drop, M: SharedMemory, W: Wait + Drop, G: Gate, R: Wait>(
     rt: &R,
     mut thread: T,

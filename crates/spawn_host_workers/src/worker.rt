@@ -28,7 +28,8 @@ pub(crate) fn work<T: TakesTurns + Drop, M: SharedMemory, W: Wait + Drop, G: Gat
 ) -> WorkerEnd<M::Seat, G>
     requires new { entries_of (M.name seat) (M.seen seat) ≡ [] }
     requires begins { MayBeSpawned (T.meaning thread) }
-    ensures { EndsWork (over M.SharedMemory place.now.memory.now) G.Gate place.now.gate.now T.meaning thread seat result }
+    ensures { EndsWork (over M.SharedMemory place.now.memory.now) G.Gate place.now.gate.now T.meaning thread seat
+        result }
 {
     let memory = place.memory;
     let gate = *place.gate;
