@@ -1,5 +1,6 @@
 //! A run over the memory that records.
-ghost use Rattle.std.specs.Prelude.{◌≡◌, ◌≤◌, ◌+◌, ◌++◌, [], length, vec_len, vec_capacity, IfOk, OnOk, IfErr, OnErr};
+ghost use Rattle.std.specs.Prelude.{◌≡◌, ◌≤◌, ◌+◌, ◌++◌, [], length, vec_len, vec_capacity, IfOk, OnOk, IfErr};
+ghost use Rattle.std.specs.Prelude.{OnErr};
 ghost use Rattle.types.specs.declared.limits.TheConstants.{MOST_THREADS, MOST_LIMIT, MOST_FUEL};
 ghost use Rattle.spawn_host.specs.Runs.{opening_memory};
 ghost use Rattle.spawn_host.specs.Gates.{IsGatedCall, IsGatedRun};
@@ -160,8 +161,10 @@ where
 {
     check_limit(limit)?;
     show_module_fits(request.module());
-    let (parts, end) = over_new_memory(rt, alloc, request, limit, gate)?;
-    Ok((record_of(parts), end))
+    match over_new_memory(rt, alloc, request, limit, gate) {
+        Ok((parts, end)) => Ok((record_of(parts), end)),
+        Err(fault) => Err(fault),
+    }
 }
 
 /// Whether a log may take so many entries.

@@ -26,11 +26,11 @@ all_at P (y ∷ xs) (suc k) x all is = all_at P xs k x (All-tail P y xs all) is
 
 module _ {T G : Type 0} (meaning : T → Meaning) (gate : Ghosts G) (old new : G) (r : Requested) where
   -- of this program, and with this budget
-  as_requested : (thread : T) (n spent : ℕ) (t : Running) (report : ThreadReport) (now : G)
+  as_requested : (thread : T) (n : ℕ) (t : Running) (report : ThreadReport) (now : G)
       → (meaning thread).program ≡ program_of r.parts → (meaning thread).fuel ≡ r.fuel
       → PassesGate gate (meaning thread).program n t report.outcome report.spent (meaning thread).fuel old now
       → PassesGate gate (program_of r.parts) n t report.outcome report.spent r.fuel old now
-  as_requested thread n spent t report now program fuel h =
+  as_requested thread n t report now program fuel h =
       subst (λ (p : Program). PassesGate gate p n t report.outcome report.spent r.fuel old now) program
       (subst (λ (f : ℕ). PassesGate gate (meaning thread).program n t report.outcome report.spent f old now) fuel h)
 
@@ -41,7 +41,7 @@ module _ {T G : Type 0} (meaning : T → Meaning) (gate : Ghosts G) (old new : G
       let t : Running = Runs (At (start_of r.parts begins.takes.func_type begins.takes.body r.args)) r.fuel in (
         t,
         (begins.takes, refl),
-        as_requested first 0 0 t report now begins.call.program_is begins.call.fuel_is (h t begins.call.stands_so tt),
+        as_requested first 0 t report now begins.call.program_is begins.call.fuel_is (h t begins.call.stands_so tt),
       )
 
   spawned_passes : (args : List Value) (threads : List T) → AreSpawnable meaning r.parts args r.fuel threads → (k : ℕ) (thread : T)
@@ -50,12 +50,11 @@ module _ {T G : Type 0} (meaning : T → Meaning) (gate : Ghosts G) (old new : G
   spawned_passes args threads w k thread at None now h = h
   spawned_passes args threads w k thread at (Some report) now h =
       let call = all_at (IsCall meaning r.parts w.func_type w.body args r.fuel) threads k thread w.calls at in
-      let begun : Running = Runs (At (start_of r.parts w.func_type w.body (values.I32 (suc k) ∷ values.I32 h.0 ∷ []))) (meaning thread).fuel in
       let t : Running = Runs (At (start_of r.parts w.func_type w.body (values.I32 (suc k) ∷ values.I32 h.0 ∷ []))) r.fuel in
       let passed = h.1 w.func_type.params (start_of r.parts w.func_type w.body) call.begins_so in (
         t,
         (w.own, w.func_type, w.body, w.is_start, h.0, refl),
-        as_requested thread (suc k) 0 t report now call.program_is call.fuel_is
+        as_requested thread (suc k) t report now call.program_is call.fuel_is
             (subst (λ (f : ℕ). PassesGate gate (meaning thread).program (suc k)
             (Runs (At (start_of r.parts w.func_type w.body (values.I32 (suc k) ∷ values.I32 h.0 ∷ []))) f)
             report.outcome report.spent (meaning thread).fuel old now) call.fuel_is passed),

@@ -92,7 +92,7 @@ module _ (p : Program) (t : Running) (e : Event) (none : outcome_of t ≡ None) 
   -- and its answer
   module _ {G : Type 0} (gate : Ghosts G) (budget : ℕ) (loses : Bool) (opening_memory : Memory) (limit : Option ℕ) (n : ℕ)
       (before after : Watched G) (between replied : G) (wanted : gate.sees before.gate n (budget - left_of t) between)
-      (told : gate.sees between n (budget - left_of t) replied) (heard : gate.sees replied n (budget - left_of awaiting) after.gate) where
+      (replying : gate.sees between n (budget - left_of t) replied) (hearing : gate.sees replied n (budget - left_of awaiting) after.gate) where
     abbrev attends_answer : (answer : Answer) (middle : List Entry) (turn : Turn) (Stands : Running → Type 0)
         → SeesAct limit n (Made e reply) before.seen middle → SeesAct limit n (Heard answer) middle after.seen → after.lost ≡ before.lost
         → IsTurned p awaiting (given.Told answer) turn Stands → Attends gate budget p loses opening_memory limit n t turn Stands before after
@@ -105,9 +105,9 @@ module _ (p : Program) (t : Running) (e : Event) (none : outcome_of t ≡ None) 
           comes = comes_then loses opening_memory limit n gate budget p t awaiting done before asked_at after
               (comes_by loses opening_memory limit n gate budget p t awaiting (Acts (Made e reply)) before asked_at
               (λ start fuel. (want, open_now.takes reply opened)) sees_asked (omega arith)
-              (called_for gate.sees n (outcome_of t) _ before.gate replied none (between, wanted, (replied, told, refl))))
+              (called_for gate.sees n (outcome_of t) _ before.gate replied none (between, wanted, (replied, replying, refl))))
               (comes_by loses opening_memory limit n gate budget p awaiting done (Acts (Heard answer)) asked_at after
-              (λ start fuel. (open_now.awaits, refl)) sees_heard (omega (arith, tries)) (after.gate, heard, refl));
+              (λ start fuel. (open_now.awaits, refl)) sees_heard (omega (arith, tries)) (after.gate, hearing, refl));
           ended = ended_by p awaiting (given.Told answer) turn turned.answer;
         }
 
@@ -145,21 +145,21 @@ split_last sees n (first ∷ calls) units old new h =
 
 module _ {G : Type 0} (gate : Ghosts G) (budget : ℕ) (p : Program) (t : Running) (loses : Bool) (opening_memory : Memory) (limit : Option ℕ) (n : ℕ)
     (seen : List Entry) (lost : ℕ) where
-  abbrev at : G → Watched G
-  at x = record { seen = seen; lost = lost; gate = x }
+  abbrev watching : G → Watched G
+  watching x = record { seen = seen; lost = lost; gate = x }
 
   comes_own : (k : ℕ) (old new : G) → ((j : ℕ) → j < k → wants_of p (after_own p j t) ≡ Turns)
       → IsCalled gate.sees n (own_calls p budget k t) old new
-      → Comes gate budget p loses opening_memory limit n t (after_own p k t) (at old) (at new)
+      → Comes gate budget p loses opening_memory limit n t (after_own p k t) (watching old) (watching new)
   comes_own zero old new each called =
-      subst (λ x. Comes gate budget p loses opening_memory limit n t t (at old) (at x)) (sym called) (comes_none loses opening_memory limit n gate budget p t (at old))
+      subst (λ x. Comes gate budget p loses opening_memory limit n t t (watching old) (watching x)) (sym called) (comes_none loses opening_memory limit n gate budget p t (watching old))
   comes_own (suc k) old new each called =
       let x = after_own p k t in
       let parts = split_last gate.sees n (own_calls p budget k t) (budget - left_of x) old new called in
       let want = each k (omega arith) in
-      comes_then loses opening_memory limit n gate budget p t x (thread_goes (machine_of p) x) (at old) (at parts.0) (at new)
+      comes_then loses opening_memory limit n gate budget p t x (thread_goes (machine_of p) x) (watching old) (watching parts.0) (watching new)
       (comes_own k old parts.0 (λ j h. each j (omega arith)) parts.1)
-      (comes_by loses opening_memory limit n gate budget p x (thread_goes (machine_of p) x) Own (at parts.0) (at new) (λ start fuel. (want, refl)) refl (omega arith)
+      (comes_by loses opening_memory limit n gate budget p x (thread_goes (machine_of p) x) Own (watching parts.0) (watching new) (λ start fuel. (want, refl)) refl (omega arith)
       (called_for gate.sees n (outcome_of x) ((budget - left_of x) ∷ []) parts.0 new (going_on p x want) (new, parts.2, refl)))
 
   module _ (old new : G) where
@@ -175,7 +175,7 @@ module _ {G : Type 0} (gate : Ghosts G) (budget : ℕ) (p : Program) (t : Runnin
 
     pub steps_own : (turn : Turn) (Stands : Running → Type 0) → IsHere t
         → ((event : Event) → turn ≡ turns.Wants event → ⊥) → IsPaused p t turn (Stops turn Stands)
-        → Steps gate budget p loses opening_memory limit n t turn Stands (at old) (at new)
+        → Steps gate budget p loses opening_memory limit n t turn Stands (watching old) (watching new)
     steps_own turn Stands here other g = record {
       attends = record {
         now = after_own p g.turns t;
@@ -192,8 +192,8 @@ module _ {G : Type 0} (gate : Ghosts G) (budget : ℕ) (p : Program) (t : Runnin
     pub steps_then : (event : Event) (turn : Turn) (Stands Stands' : Running → Type 0) (after : Watched G) → IsHere t
         → (g : IsPaused p t (turns.Wants event) (Stops (turns.Wants event) Stands))
         → ((earlier : G) → gate.sees earlier n (budget - left_of (after_own p g.turns t)) new
-        → Steps gate budget p loses opening_memory limit n (after_own p g.turns t) turn Stands' (at earlier) after)
-        → Steps gate budget p loses opening_memory limit n t turn Stands' (at old) after
+        → Steps gate budget p loses opening_memory limit n (after_own p g.turns t) turn Stands' (watching earlier) after)
+        → Steps gate budget p loses opening_memory limit n t turn Stands' (watching old) after
     steps_then event turn Stands Stands' after here g attends =
         let x = after_own p g.turns t in
         let parts = split_last gate.sees n (own_calls p budget g.turns t) (budget - left_of x) old new g.after.1 in
@@ -202,7 +202,7 @@ module _ {G : Type 0} (gate : Ghosts G) (budget : ℕ) (p : Program) (t : Runnin
             now = h.attends.now;
             stands = h.attends.stands;
             here = h.attends.here;
-            comes = comes_then loses opening_memory limit n gate budget p t x h.attends.now (at old) (at parts.0) after
+            comes = comes_then loses opening_memory limit n gate budget p t x h.attends.now (watching old) (watching parts.0) after
                 (comes_own g.turns old parts.0 g.each parts.1) h.attends.comes;
             ended = h.attends.ended;
           };

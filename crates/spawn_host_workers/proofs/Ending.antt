@@ -109,8 +109,9 @@ module _ {S T G : Type 0} (mem : OverMemory S) (gate : Ghosts G) (old : G) (mean
       let same : passage_of (idle_end old s) ≡ x = cc is in subst (λ (y : Passage G). (y.report ≡ None) × (y.gate ≡ old)) same (refl, refl)
   idle (s ∷ seats) n (suc k) x is = idle seats n k x is
 
-none_there : {A : Type 0} (k : ℕ) → slice_get ([] {A = A}) k ≡ None
-none_there k = refl
+none_there : {A : Type 0} (xs : List A) (k : ℕ) → xs ≡ [] → slice_get xs k ≡ None
+none_there [] k e = refl
+none_there (x ∷ xs) k e = absurd (cc e)
 
 module _
     {S T G : Type 0} (mem : OverMemory S) (gate : Ghosts G) (old new : G) (meaning : T → Meaning) (first : T) (spawned : List T)
@@ -142,6 +143,7 @@ module _
       gated_by crew.head crew.others crew.parts crew.ended
       (worked mem gate old meaning (λ k. suc k) spawned work crew.others crew.worked (work_name mem.name mem.seen seats0 seat work desk places names fresh))
   gated_any (inr h) =
-      gated_by (IsAlone.head h.1) (idle_ends old work) (IsAlone.parts h.1) (IsAlone.ended h.1)
-      (λ k x is. subst (λ (l : List T). PassesOther gate meaning (suc k) (slice_get l k) x old) (sym h.0)
-      (subst (λ (o : Option T). PassesOther gate meaning (suc k) o x old) (sym (none_there k)) (idle mem gate old meaning work (suc k) k x is)))
+      let alone = h.1 in
+      gated_by alone.head (idle_ends old work) alone.parts alone.ended
+      (λ k x is. subst (λ (o : Option T). PassesOther gate meaning (suc k) o x old) (sym (none_there spawned k h.0))
+      (idle mem gate old meaning work (suc k) k x is))

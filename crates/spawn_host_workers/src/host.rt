@@ -7,7 +7,7 @@ ghost use Rattle.interp_trait.specs.Turns.{MayRun, MayBeSpawned};
 ghost use Rattle.spawn_host_workers.specs.OverMemory.{over};
 ghost use Rattle.spawn_host_workers.specs.Crew.{CountsSpawnable, EndsCrew, EndsAll, MayStart};
 ghost use Rattle.spawn_host_workers.specs.Composed.{reported, seats_of};
-ghost use Rattle.spawn_host_workers.specs.Gated.{Gathers, IsGated, passage_of};
+ghost use Rattle.spawn_host_workers.specs.Gated.{Gathers, GathersIf, IsGated, passage_of};
 ghost use Rattle.spawn_host_workers.specs.Unstarted.{IsAsTheyCame, IsUnstarted, LeavesUnrun};
 ghost use Rattle.spawn_host_workers.specs.Seats.{AreInOrder, AreLevel, AreNew, ComeHome, GivesRun};
 
@@ -161,14 +161,22 @@ fn level_all<M: SharedMemory>(memory: &M, hub: &mut M::Seat, seats: &mut Vec<M::
     level(memory, hub, seats.as_mut_slice());
 }
 
+/// Takes back the gate of a thread, if that one ran.
+fn gather_if<G: Gate>(report: Option<ThreadReport>, other: G, gate: &mut G)
+    ensures { GathersIf G.Gate report other gate.old gate.new }
+{
+    match report {
+        Some(_) => gate.gather(other),
+        None => {}
+    }
+}
+
 /// Takes back the gates of those that ran, in order.
 fn gather<S, G: Gate>(ends: &[WorkerEnd<S, G>], gate: &mut G)
     ensures { Gathers G.Gate (map passage_of ends.now) gate.old gate.new }
 {
     for end in ends {
-        if end.report.is_some() {
-            gate.gather(end.gate);
-        }
+        gather_if(end.report, end.gate, gate);
     }
 }
 

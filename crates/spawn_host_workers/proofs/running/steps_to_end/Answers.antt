@@ -1,6 +1,7 @@
+use Rattle.std.proofs.Common.{refl}
 use Rattle.spawn_host_workers.specs.Ends.{watched}
 use Rattle.interp_trait.specs.declared.turn.Turn.TheVariants.{Moved, Ended}
-use Rattle.spawn_host_workers.proofs.Attending.{attends_then, attends_moved}
+use Rattle.spawn_host_workers.proofs.Attending.{attends_none, attends_then, attends_moved}
 use Rattle.spawn_host_workers.proofs.Staying.{stays_free_on}
 use Rattle.spawn_host_workers.proofs.running.steps_to_end.Goals as goal
 
@@ -14,6 +15,20 @@ returns-in-Ended-clause-ended g c t stands here =
     (m.name c.args.seat.now) t Moved (Ended c.in-Ended.outcome) _ _
     (watched m.seen m.lost c.args.seat.now c.args.gate.now) (watched m.seen m.lost c.loop.seat c.loop.gate)
     (watched m.seen m.lost c.step.new.seat c.step.new.gate) (i.comes t stands here) (λ x s h. (stepped x s h).attends)
+
+pub loop-init : goal.loop-init
+loop-init g c =
+    let m = g.M.SharedMemory in
+    let first = g.T.TakesTurns.meaning c.args.thread.now in record {
+      stays = record {
+        stays = record { program = refl; fuel = refl };
+        same = record { name_is = refl; right_is = refl };
+        free = c.requires.free;
+      };
+      comes = λ t stands here.
+          attends_none g.G.Gate first.fuel first.program m.LOSES m.opening (m.limit c.args.memory.now) (m.name c.args.seat.now) t first.stands
+          (watched m.seen m.lost c.args.seat.now c.args.gate.now) stands here;
+    }
 
 pub loop-preserved : goal.loop-preserved
 loop-preserved g c =
