@@ -133,7 +133,10 @@ where
 {
     check_limit(limit)?;
     let request = Request::new(module, call)?;
-    record_request(rt, alloc, &request, limit, gate)
+    match record_request(rt, alloc, &request, limit, gate) {
+        Ok(recorded) => Ok(recorded),
+        Err(fault) => Err(fault),
+    }
 }
 
 /// The same of a call that can be made.

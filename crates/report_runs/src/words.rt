@@ -48,7 +48,10 @@ where
     ensures uncalled { OnErr result (gate.new ≡ gate.old) }
 {
     let request = Request::new(module, call)?;
-    run_request_on_words(rt, alloc, &request, gate)
+    match run_request_on_words(rt, alloc, &request, gate) {
+        Ok(end) => Ok(end),
+        Err(fault) => Err(fault),
+    }
 }
 
 /// The same of a call that can be made.

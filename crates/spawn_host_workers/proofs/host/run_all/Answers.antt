@@ -1,4 +1,4 @@
-use Rattle.std.proofs.Common.{arith, ap, ℕ, ◌≡◌, ◌≤◌, ◌<◌, ◌+◌, ◌∙◌, List, [], length, inl, inr, subst, vec_len, vec_capacity}
+use Rattle.std.proofs.Common.{arith, ap, ℕ, ◌≡◌, ◌≤◌, ◌<◌, ◌+◌, ◌∙◌, List, [], length, map, inl, inr, subst, vec_len, vec_capacity}
 use Rattle.std.specs.Global.{Vec}
 use Rattle.shared_memory.specs.History.{entries_of, of_queue}
 use Rattle.types.specs.declared.limits.TheConstants.{MOST_THREADS, DESK_NAME}
@@ -7,6 +7,8 @@ use Rattle.waiters_desk.specs.Calls.{Leaves}
 use Rattle.types.specs.declared.event.Entry.{Entry}
 use Rattle.spawn_host_workers.proofs.OneList.{Unpacked, IsDeskSeat, first_name, first_new, lead_may_ask, workers_new, desk_new}
 use Rattle.spawn_host_workers.specs.Crew.{CountsSpawnable}
+use Rattle.spawn_host_workers.specs.Gated.{Gathers, passage_of}
+use Rattle.spawn_host_workers.specs.declared.worker.WorkerEnd.{WorkerEnd}
 use Rattle.spawn_host_workers.proofs.Ending.{ends_length, composed_any, gated_any}
 use Rattle.spawn_host_workers.proofs.host.run_all.Given as given
 use Rattle.spawn_host_workers.proofs.host.run_all.Goals as goal
@@ -102,7 +104,9 @@ returns-in-Ok-run_crew-clause-gated g c =
     gated_any (over m c.args.memory.now) g.G.Gate c.args.gate.now c.gather.new.gate g.T.TakesTurns.meaning c.args.first c.args.spawned.items
     c.args.seats.items dealt.first dealt.desk dealt.workers.items c.in-Ok-run_crew.ends.items c.bring_home.result.threads.items
     (record { parts = c.deal-seat.ensures.parts; len = c.deal-seat.ensures.len }) c.requires.names c.requires.new
-    c.bring_home.ensures.threads c.gather.ensures c.in-Ok-run_crew.ensures.ends
+    c.bring_home.ensures.threads
+    (subst (λ (l : List (WorkerEnd _ _)). Gathers g.G.Gate (map passage_of l) c.args.gate.now c.gather.new.gate) c.as_slice.ensures.value c.gather.ensures)
+    c.in-Ok-run_crew.ensures.ends
 
 pub bring_home-requires-clause-right : goal.bring_home-requires-clause-right
 bring_home-requires-clause-right g c κs within = c.close-hub.ensures.right
