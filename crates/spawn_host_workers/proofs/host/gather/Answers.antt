@@ -6,8 +6,8 @@ use Rattle.spawn_host_workers.proofs.host.gather.Goals as goal
 
 pub loop-end-preserved : goal.loop-end-preserved
 loop-end-preserved g c =
-    gathers_more g.G.Gate c.args.ends.now c.loop-end.end-index _ c.args.gate.now c.loop-end.gate c.gather_if.new.gate c.loop-end-test.true
-    c.loop-end.invariant c.gather_if.ensures
+    gathers_more g.G.Gate c.args.ends.now c.loop-end.end-index c.end-item.result c.args.gate.now c.loop-end.gate c.gather_if.new.gate
+    c.loop-end-test.true c.end-item.is c.loop-end.invariant c.gather_if.ensures
 
 pub returns : goal.returns
 returns g c =
