@@ -1,0 +1,29 @@
+//! The data races of a history: pairs of accesses of two threads to a byte in common, one of them a write and one of
+//! them plain, or both atomic of different ranges, that nothing orders.
+//!
+//! Proved: `races_of` names only races, and of each race one with the same second entry, and a first one that makes the
+//! same access; it names none only where there is none.
+//!
+//! - `specs/Accesses.antt`: what an entry reads and writes; `specs/Order.antt`: which entries happen before which;
+//!   `specs/Races.antt`: what a race is.
+//! - `writers` finds of each atomic read the atomic write that it reads from, `calls` which spawn starts which thread
+//!   and which notifies wake whom; `sources` gathers of each entry those just before it in the order.
+//! - `clocks` gives each entry a clock: for each thread, before which place that thread's entries happen before it.
+//! - `found` compares each access with the last ones of each kind near it (`lasts`), by these clocks.
+#![tactic(auto)]
+
+mod access;
+mod calls;
+mod clocks;
+mod found;
+mod lasts;
+mod race;
+mod sources;
+#[cfg(test)]
+mod spelled;
+#[cfg(test)]
+mod tests;
+mod writers;
+
+pub use access::{Access, Kind};
+pub use race::{Race, Races, races_of};
