@@ -17,9 +17,11 @@ use Rattle.race_history.specs.Places.{IsAt, is_told, is_told_at, thread_at}
 use Rattle.race_history.specs.Order.{IsStartOf, IsWakeOf, Wakes}
 
 -- Whom a notify at this place wakes, of these sleepers.
+abbrev pub noting : ℕ → Sleeper → Woken
+noting place s = record { place = place; thread = s.thread }
+
 abbrev pub notified : List Sleeper → ℕ → ℕ → ℕ → List Woken
-notified sleepers addr count place =
-    map (λ (s : Sleeper). record { place = place; thread = s.thread }) (woken_at addr count sleepers)
+notified sleepers addr count place = map (noting place) (woken_at addr count sleepers)
 
 -- Who was woken and hasn't taken the answer yet, after an event of a thread, which may have ended out of bounds.
 abbrev pub noted_after : List Sleeper → ℕ → ℕ → Bool → Event → List Woken → List Woken
