@@ -2,7 +2,7 @@
 use Rattle.std.proofs.Common.{◌≡◌, ◌⊎◌, ◌<◌, ℕ, List, inl, inr, refl, sym, subst, arith}
 use Rattle.types.specs.declared.event.Entry.{Entry}
 use Rattle.race_history.specs.declared.access.Kind.{Kind}
-use Rattle.race_history.specs.Order.{IsBefore, IsEdge, along, further}
+use Rattle.race_history.specs.Order.{IsBefore, IsBefore.along, IsBefore.further, IsEdge}
 use Rattle.race_history.specs.Clocks.{IsUpTo}
 
 module _ (log : List Entry) (kinds : List Kind) where
@@ -15,22 +15,22 @@ module _ (log : List Entry) (kinds : List Kind) where
       ]
   ]
 
-  pub before_earlier : {i j : ℕ} → IsBefore log kinds i j → i < j
-  before_earlier (along {i} {j} e) = edge_earlier i j e
-  before_earlier (further {i} {j} {k} b e) =
-      let first : i < j = before_earlier b in
+  pub before_earlier : (i j : ℕ) → IsBefore log kinds i j → i < j
+  before_earlier i j (IsBefore.along e) = edge_earlier i j e
+  before_earlier i k (IsBefore.further {j = j} b e) =
+      let first : i < j = before_earlier i j b in
       let second : j < k = edge_earlier j k e in
       omega arith
 
   -- its last edge
-  pub last_edge : {i j : ℕ} → IsBefore log kinds i j → (k : ℕ) × (IsUpTo log kinds i k × IsEdge log kinds k j)
-  last_edge (along {i} {j} e) = (i, (inl refl, e))
-  last_edge (further {i} {j} {k} b e) = (j, (inr b, e))
+  pub last_edge : (i j : ℕ) → IsBefore log kinds i j → (k : ℕ) × (IsUpTo log kinds i k × IsEdge log kinds k j)
+  last_edge i j (IsBefore.along e) = (i, (inl refl, e))
+  last_edge i k (IsBefore.further {j = j} b e) = (j, (inr b, e))
 
   pub up_to_edge : (i k j : ℕ) → IsUpTo log kinds i k → IsEdge log kinds k j → IsBefore log kinds i j
   up_to_edge i k j up e = elim up [
-    | inl same ↦ subst (λ (n : ℕ). IsBefore log kinds n j) (sym same) (along e)
-    | inr b ↦ further b e
+    | inl same ↦ subst (λ (n : ℕ). IsBefore log kinds n j) (sym same) (IsBefore.along e)
+    | inr b ↦ IsBefore.further b e
   ]
 
   -- up to one is up to another

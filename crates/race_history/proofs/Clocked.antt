@@ -6,7 +6,7 @@ use Rattle.std.proofs.lemmas.List.{get_or_append_left, get_or_push, length-set, 
 use Rattle.types.specs.declared.event.Entry.{Entry}
 use Rattle.race_history.specs.declared.access.Kind.{Kind}
 use Rattle.race_history.specs.Places.{thread_at}
-use Rattle.race_history.specs.Order.{IsBefore, IsEdge, along}
+use Rattle.race_history.specs.Order.{IsBefore, IsBefore.along, IsEdge}
 use Rattle.race_history.specs.Sources.{AreSources}
 use Rattle.race_history.specs.Clocks.{AreClocks, IsClock, IsJoined, IsUpTo, greatest}
 use Rattle.race_history.proofs.Lists.{Contains-cons_cases, Contains-here, Contains-none, Contains-there}
@@ -73,7 +73,7 @@ module _ (log : List Entry) (kinds : List Kind) (threads place : ℕ) (clocks : 
         let at : get_or (set row (thread_at log place) (place + 1)) (thread_at log i) 0 ≡ place + 1 =
         ap (λ (k : ℕ). get_or (set row (thread_at log place) (place + 1)) k 0) same ∙ at_own in
         elim (cases_lt i place) [
-          | inl earlier ↦ inr (along (inl (record { earlier = earlier; within = within; same = same })))
+          | inl earlier ↦ inr (IsBefore.along (inl (record { earlier = earlier; within = within; same = same })))
           | inr le ↦ inl (omega arith)
         ]
     | inr other ↦
@@ -83,12 +83,12 @@ module _ (log : List Entry) (kinds : List Kind) (threads place : ℕ) (clocks : 
   before_counts : (i : ℕ) → i < length log → IsBefore log kinds i place → i < get_or (set row (thread_at log place) (place + 1)) (thread_at log i) 0
   before_counts i lt b = elim (cases_eq (thread_at log i) (thread_at log place)) [
     | inl same ↦
-        let earlier : i < place = before_earlier log kinds b in
+        let earlier : i < place = before_earlier log kinds i place b in
         let at : get_or (set row (thread_at log place) (place + 1)) (thread_at log i) 0 ≡ place + 1 =
         ap (λ (k : ℕ). get_or (set row (thread_at log place) (place + 1)) k 0) same ∙ at_own in
         omega arith
     | inr other ↦
-        let e = last_edge log kinds b in
+        let e = last_edge log kinds i place b in
         let k : ℕ = e.0 in
         let s = from.all k e.1.1 in
         subst (λ (m : ℕ). i < m) (sym (get_or-set_other row (thread_at log place) (thread_at log i) (place + 1) 0 other))

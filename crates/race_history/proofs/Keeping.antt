@@ -79,13 +79,16 @@ keeps_set lists k new x e lt put =
       others = λ j ne. get_or-set_other lists k j new [] (λ f. ne (f ∙ e));
     }
 
-empty_at : (n k : ℕ) → get_or (replicate n ([] {A = Last})) k [] ≡ []
+abbrev pub no_list : List Last
+no_list = []
+
+empty_at : (n k : ℕ) → get_or (replicate n no_list) k [] ≡ []
 empty_at zero k = refl
 empty_at (suc n) zero = refl
 empty_at (suc n) (suc k) = empty_at n k
 
 module _ (log : List Entry) (kinds : List Kind) where
-  pub lasts_none : (n : ℕ) → 0 < length (replicate n ([] {A = Last})) → AreLasts log kinds 0 (replicate n [])
+  pub lasts_none : (n : ℕ) → 0 < length (replicate n no_list) → AreLasts log kinds 0 (replicate n no_list)
   lasts_none n some = record {
     some = some;
     made = λ k x h. absurd (Contains-none x (subst (λ (l : List Last). Contains l x) (empty_at n k) h));

@@ -10,3 +10,4 @@ pub mod Before
 pub mod Gathering
 pub mod Clocked
 pub mod Racing
+pub mod Legal

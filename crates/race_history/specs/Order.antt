@@ -1,11 +1,11 @@
 -- Which entries of a history happen before which.
 --
--- The threads proposal orders the events of one thread (agent order), a spawn and a notify before what they let begin,
--- and an atomic write before each atomic read of the same range that reads from it (synchronizes-with); happens-before
--- is the transitive closure. So it is here. A read here reads from the last write before it, since a history is in the
--- order of one sequentially consistent memory. Here a link that crosses ranges of different size orders nothing, as
--- there, and a thread's first entry is ordered behind its spawn alone. This is finer than the proposal in one point:
--- a notify orders the waiter's answer also where the waiter saw nothing else of the notifier.
+-- As in the threads proposal ("Memory model"), it is the transitive closure of each thread's own order and of what
+-- synchronizes: an atomic write with an atomic read of exactly the same bytes that reads from it. A history is in the
+-- order of one sequentially consistent memory, so a read reads from the last write before it. Atomic accesses of
+-- different ranges order nothing, as there. Threads are the host's: here a spawn comes before all of its thread. A notify
+-- comes before the answer of each thread that it wakes, and orders nothing else; ECMAScript orders any two calls at one
+-- list of waiters, so where only such calls lie between two accesses, here they race.
 use Rattle.std.specs.Prelude.{ℕ, ◌≡◌, ◌⊎◌, ◌+◌, ◌<◌, true, false, List, length, take}
 use Rattle.types.specs.declared.event.Entry.{Entry}
 use Rattle.types.specs.declared.event.Event.{Event}
@@ -67,12 +67,11 @@ pub record Wakes (log : List Entry) (first second : ℕ) : Type 0 where
   pub told : is_told_at log second ≡ true
   pub next : (k : ℕ) → first < k → k < second → is_told_at log k ≡ true → thread_at log k ≡ thread_at log second → ⊥
 
-module _ (log : List Entry) (kinds : List Kind) where
-  abbrev pub IsEdge : ℕ → ℕ → Type 0
-  IsEdge first second =
-      IsOfOneThread log first second ⊎ Starts log first second ⊎ ReadsFrom log kinds first second ⊎ Wakes log first second
+abbrev pub IsEdge : List Entry → List Kind → ℕ → ℕ → Type 0
+IsEdge log kinds first second =
+    IsOfOneThread log first second ⊎ Starts log first second ⊎ ReadsFrom log kinds first second ⊎ Wakes log first second
 
-  -- Happens before: along edges, one or more.
-  pub data IsBefore : ℕ → ℕ → Type 0 where
-    along : {i j : ℕ} → IsEdge i j → IsBefore i j
-    further : {i j k : ℕ} → IsBefore i j → IsEdge j k → IsBefore i k
+-- Happens before: along edges, one or more.
+pub data IsBefore (log : List Entry) (kinds : List Kind) : ℕ → ℕ → Type 0 where
+  along : {i j : ℕ} → IsEdge log kinds i j → IsBefore log kinds i j
+  further : {i j k : ℕ} → IsBefore log kinds i j → IsEdge log kinds j k → IsBefore log kinds i k

@@ -38,7 +38,7 @@ fn value_of(reply: Reply) -> u64
 }
 
 /// The queue moves at an entry.
-fn enter(queue: &mut Queue, entry: &Entry)
+pub(crate) fn enter(queue: &mut Queue, entry: &Entry)
     requires { IsAllowed queue.old entry.now.thread entry.now.event }
     ensures { queue.new ≡ queue_step queue.old entry.now.thread entry.now.event entry.now.reply }
 {

@@ -1,7 +1,7 @@
 //! The data races of a history: pairs of accesses of two threads to a byte in common, one of them a write and one of
 //! them plain, or both atomic of different ranges, that nothing orders.
 //!
-//! Proved: `races_of` names only races, and of each race one with the same second entry, and a first one that makes the
+//! Stated, and not yet proved: `races_of` names only races, and of each race one with the same second entry, and a first one that makes the
 //! same access; it names none only where there is none.
 //!
 //! - `specs/Accesses.antt`: what an entry reads and writes; `specs/Order.antt`: which entries happen before which;
@@ -16,6 +16,7 @@ mod access;
 mod calls;
 mod clocks;
 mod found;
+mod history;
 mod lasts;
 mod race;
 mod sources;
@@ -26,4 +27,5 @@ mod tests;
 mod writers;
 
 pub use access::{Access, Kind};
+pub use history::is_history;
 pub use race::{Race, Races, races_of};

@@ -10,8 +10,12 @@ pub struct Spelled {
     pub kinds: Vec<Kind>,
 }
 
-fn digit(letter: u8) -> u64 {
-    u64::from(letter.wrapping_sub(b'0'))
+/// The digit at a place of a word, 0 behind its end.
+fn digit(letters: &[u8], place: usize) -> u8 {
+    match letters.get(place) {
+        Some(letter) => letter.wrapping_sub(b'0'),
+        None => 0,
+    }
 }
 
 /// The event of the letters behind the thread's number, and what it got. A capital letter is an atomic access.
@@ -37,14 +41,24 @@ fn event(letter: u8, addr: u64, width: u8) -> (Event, Reply) {
 }
 
 /// The history that words spell: each is a thread's digit, a letter, and for most letters two digits.
-pub fn spelled(alloc: Global, text: &str) -> Result<Spelled, AllocError> {
+pub fn history_of(alloc: Global, text: &str) -> Result<Spelled, AllocError> {
     let mut all = Spelled { log: Vec::new(alloc), kinds: Vec::new(alloc) };
     for word in text.split_ascii_whitespace() {
         let letters = word.as_bytes();
-        let at = |k: usize| letters.get(k).copied().unwrap_or(b'0');
-        let (event, reply) = event(at(1), digit(at(2)), digit(at(3)) as u8);
-        all.log.push(Entry { thread: digit(at(0)) as u32, event, reply })?;
-        all.kinds.push(if at(1) < b'a' { Kind::Atomic } else { Kind::Plain })?;
+        let Some(letter) = letters.get(1) else {
+            continue;
+        };
+        let (event, reply) = event(*letter, u64::from(digit(letters, 2)), digit(letters, 3));
+        all.log.push(Entry {
+            thread: u32::from(digit(letters, 0)),
+            event,
+            reply,
+        })?;
+        all.kinds.push(if *letter < b'a' {
+            Kind::Atomic
+        } else {
+            Kind::Plain
+        })?;
     }
     Ok(all)
 }

@@ -1,14 +1,14 @@
 //! Histories whose races are known.
-use crate::spelled::spelled;
-use crate::races_of;
+use crate::spelled::history_of;
+use crate::{is_history, races_of};
 use std::alloc::{AllocError, Global};
 use std::test::Fail;
 use test_cases::hold;
 
 /// Whether just these pairs are named, each by the digits of its two places.
 fn has(alloc: Global, text: &str, pairs: &str) -> Result<bool, AllocError> {
-    let history = spelled(alloc, text)?;
-    if history.kinds.len() != history.log.len() {
+    let history = history_of(alloc, text)?;
+    if history.kinds.len() != history.log.len() || !is_history(history.log.as_slice()) {
         return Ok(false);
     }
     let found = races_of(alloc, history.log.as_slice(), history.kinds.as_slice(), 100)?;
@@ -41,6 +41,11 @@ fn known_histories_have_their_races(rt: HostRuntime) -> Result<(), Fail> {
         ("another was woken", has(alloc, "0p 0t01 0p 0t02 1w84 2w84 0s04 0n81 0t01 1t00 1l04", "")?),
         ("read twice and written", has(alloc, "0p 0t01 0p 0t02 1l04 2l04 0s04", "46 56")?),
         ("out of bounds", has(alloc, "0p 0t01 0o04 1s04", "")?),
+        ("a lock by a wait", has(alloc, "0p 0t01 0c84 1d84 1w84 0s04 0S84 0n81 0t01 1t00 1c84 1l04", "")?),
+        ("read outside a lock", has(alloc, "0p 0t01 0c84 0s04 0S84 1l04 1c84 1l04", "35")?),
+        ("plain sequence lock", has(alloc, "0p 0t01 0r84 0s04 1L84 1l04 1L84 0r84", "35")?),
+        ("atomic sequence lock", has(alloc, "0p 0t01 0r84 0S04 1L84 1L04 1L84 0r84", "")?),
+        ("one half", has(alloc, "0p 0t01 0s44 0s84 1s84", "34")?),
         ("of one thread", has(alloc, "0s04 0l04 0r04", "")?),
     ])
 }
