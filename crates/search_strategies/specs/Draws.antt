@@ -1,5 +1,5 @@
 -- The numbers that a run draws.
-use Rattle.std.specs.Prelude.{ℕ, ◌*◌, ◌/◌, ◌^◌}
+use Rattle.std.specs.Prelude.{ℕ, ◌*◌, ◌/◌, ◌^◌, List, Option, Some, length}
 use Rattle.rand_pcg.specs.Lcg.{Lcg, started, increment_of}
 use Rattle.rand_pcg.specs.Pcg.{multiplier_64, pcg32}
 
@@ -14,3 +14,7 @@ number_below count g = (pcg32 g).0 * count / 2 ^ 32
 
 abbrev pub behind : Lcg → Lcg
 behind g = (pcg32 g).1
+
+-- Each of the threads that can go on alike.
+abbrev pub at_random : Lcg → List ℕ → Option ℕ × Lcg
+at_random g ready = (Some (number_below (length ready) g), behind g)

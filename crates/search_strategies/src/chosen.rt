@@ -1,32 +1,49 @@
 //! By choices.
-ghost use Rattle.std.specs.Prelude.{◌<◌, length};
+ghost use Rattle.std.specs.Prelude.{◌≡◌};
+ghost use Rattle.search_strategies.specs.Given.{chosen};
+ghost use Rattle.search_strategies.specs.Places.{ChoosesBy};
 
+use crate::places::place_within;
 use crate::strategy::Strategy;
+use std::marker::Model;
 use types::Entry;
 
 /// Takes choices one after another: each is a place among the threads that can go on, the first place where there is no
-/// such place, and behind the choices.
+/// such place, and behind the choices. Contracts see it as the choices that are left.
 #[derive(Drop)]
 pub struct Chosen<'a> {
     choices: &'a [usize],
-    /// How many of them were taken.
-    at: usize,
+}
+
+impl<'a> Model for Chosen<'a> {
+    ghost use Rattle.std.specs.Prelude.{ℕ, List};
+
+    ghost Value = { List ℕ };
+
+    ghost view = { λ c. c.choices.now };
 }
 
 impl<'a> Chosen<'a> {
     /// Before the first event.
-    pub fn new(choices: &'a [usize]) -> Chosen<'a> {
-        Chosen { choices, at: 0 }
+    pub fn new(choices: &'a [usize]) -> Chosen<'a>
+        ensures { result ≡ choices.now }
+    {
+        Chosen { choices }
     }
 }
 
 impl Strategy for Chosen<'_> {
+    ghost chooses = { ChoosesBy chosen };
+
+    ghost hears = { λ before entry after. after ≡ before };
+
     fn choose(&mut self, ready: &[u32]) -> Option<usize> {
-        let Some(place) = self.choices.get(self.at).copied() else {
+        let choices = self.choices;
+        let Some((choice, rest)) = choices.split_first() else {
             return Some(0);
         };
-        self.at += 1;
-        Some(if place < ready.len() { place } else { 0 })
+        self.choices = rest;
+        Some(place_within(*choice, ready.len()))
     }
 
     fn hear(&mut self, _entry: &Entry) {}

@@ -1,5 +1,7 @@
 //! The strategy of a drawn run.
-ghost use Rattle.std.specs.Prelude.{◌<◌};
+ghost use Rattle.std.specs.Prelude.{◌≡◌, ◌<◌};
+ghost use Rattle.search_strategies.specs.Places.{ChoosesBy};
+ghost use Rattle.search_strategies.specs.Runs.{strategy_of, drawn_choice, drawn_heard};
 
 use crate::pct::Pct;
 use crate::random::Random;
@@ -21,6 +23,7 @@ impl Drawn {
     /// least; a depth above 32 is 32.
     pub fn new(way: Way, seed: u64, run: u64, events: u32) -> Drawn
         requires { 0 < events }
+        ensures { result ≡ strategy_of way seed run events }
     {
         match way.of_run(run) {
             Way::Mix | Way::Random => Drawn::Random(Random::new(seed, run)),
@@ -33,6 +36,10 @@ impl Drawn {
 }
 
 impl Strategy for Drawn {
+    ghost chooses = { ChoosesBy drawn_choice };
+
+    ghost hears = { λ before entry after. after ≡ drawn_heard before entry.event };
+
     fn choose(&mut self, ready: &[u32]) -> Option<usize> {
         match self {
             Drawn::Random(random) => random.choose(ready),

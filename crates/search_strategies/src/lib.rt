@@ -1,11 +1,14 @@
 //! Who goes on after each entry of a run that one thread steps.
 //!
-//! Proved: a strategy answers a place among the threads that can go on. Which numbers a run draws, and the choice of
-//! `Random`, are functions of its seed and number.
+//! Proved: a strategy answers a place among the threads that can go on, and each but a watched one by a function of what
+//! it is. What the strategy of a drawn run is at its beginning is a function of seed and number.
 //!
-//! A strategy is asked before each event of a run, with the threads that can go on, and hears the event then. What it
-//! answers follows from what it was made of and from what it was asked and heard: so run number I of a seed is the same
-//! run on every machine. One that answers nobody gives the run up (`Watched`). `docs/PROFILE.md` says how each chooses.
+//! A strategy is asked before each event of a run, with the threads that can go on, and hears the event then. Its trait
+//! says by `chooses` and `hears` what it may answer and be then. Of each way these are functions, of the draws as of all
+//! else (`Draws`, the PCG generator's): `strategy_of` and `drawn_choice` for the ways of drawn runs (specs/Runs.antt),
+//! which are `at_random` (Draws.antt), `by_priority` (Priorities.antt) and `spin` (Spinning.antt); `chosen`, `rounds` and
+//! `along` for choices that are given (Given.antt). So run number I of a seed is the same run on every machine. One that
+//! answers nobody gives the run up (`Watched`). `docs/PROFILE.md` says how each chooses.
 #![tactic(auto)]
 
 mod along;
@@ -13,6 +16,7 @@ mod chosen;
 mod drawn;
 mod draws;
 mod pct;
+mod places;
 mod random;
 mod rounds;
 mod spin;

@@ -1,7 +1,7 @@
 //! Each thread alike.
-ghost use Rattle.std.specs.Prelude.{◌≡◌, ◌<◌, ◌≤◌, Some, length, IfSome};
-ghost use Rattle.types.specs.declared.limits.TheConstants.{MOST_THREADS};
-ghost use Rattle.search_strategies.specs.Draws.{draws_of, number_below, behind};
+ghost use Rattle.std.specs.Prelude.{◌≡◌};
+ghost use Rattle.search_strategies.specs.Draws.{draws_of, at_random};
+ghost use Rattle.search_strategies.specs.Places.{ChoosesBy};
 
 use crate::draws::Draws;
 use crate::strategy::Strategy;
@@ -34,13 +34,11 @@ impl Random {
 }
 
 impl Strategy for Random {
-    fn choose(&mut self, ready: &[u32]) -> Option<usize>
-        requires some { 0 < length ready.now }
-        requires few { length ready.now ≤ MOST_THREADS }
-        ensures place { IfSome result (λ place. place < length ready.now) }
-        ensures number { result ≡ Some (number_below (length ready.now) self.old) }
-        ensures next { self.new ≡ behind self.old }
-    {
+    ghost chooses = { ChoosesBy at_random };
+
+    ghost hears = { λ before entry after. after ≡ before };
+
+    fn choose(&mut self, ready: &[u32]) -> Option<usize> {
         Some(self.draws.below(ready.len() as u32) as usize)
     }
 

@@ -1,9 +1,14 @@
 //! One thread, until it reads a word again.
-ghost use Rattle.std.specs.Prelude.{◌<◌, length, IfSome};
+ghost use Rattle.std.specs.Prelude.{◌≡◌, ◌<◌, length, IfSome};
+ghost use Rattle.search_strategies.specs.Places.{ChoosesBy};
+ghost use Rattle.search_strategies.specs.Spinning.{spinning_of, spin, spin_heard};
+ghost use Rattle.search_strategies.specs.Spinning as specified;
 
 use crate::draws::Draws;
+use crate::places::place_of;
 use crate::strategy::Strategy;
 use arrayvec::ArrayVec;
+use std::marker::Model;
 use types::{Entry, Event};
 
 /// In one of so many events another thread is drawn, whatever the last one has read.
@@ -25,8 +30,18 @@ pub struct Spin {
     stays: bool,
 }
 
+impl Model for Spin {
+    ghost use Rattle.search_strategies.specs.Spinning.{Spinning};
+
+    ghost Value = { Spinning };
+
+    ghost view = { λ s. record { draws = s.draws; last = s.last; read = s.read.items; stays = s.stays } };
+}
+
 /// The address that an event reads.
-fn read_at(event: Event) -> Option<u64> {
+fn read_at(event: Event) -> Option<u64>
+    ensures { result ≡ specified.read_at event }
+{
     match event {
         Event::Load { addr, .. } | Event::Rmw { addr, .. } | Event::Cmpxchg { addr, .. } => {
             Some(addr)
@@ -37,7 +52,9 @@ fn read_at(event: Event) -> Option<u64> {
 
 impl Spin {
     /// Run number `run` of a seed.
-    pub fn new(seed: u64, run: u64) -> Spin {
+    pub fn new(seed: u64, run: u64) -> Spin
+        ensures { result ≡ spinning_of seed run }
+    {
         Spin {
             draws: Draws::new(seed, run),
             last: 0,
@@ -45,23 +62,21 @@ impl Spin {
             stays: false,
         }
     }
-
-    /// The place of the thread that made the last event, where it goes on.
-    fn stayed(&mut self, ready: &[u32]) -> Option<usize>
-        ensures { IfSome result (λ place. place < length ready.now) }
-    {
-        let is_drawn = self.draws.below(CHANCE) == 0;
-        if is_drawn || !self.stays {
-            return None;
-        }
-        let last = self.last;
-        ready.iter().position(|n| *n == last)
-    }
 }
 
 impl Strategy for Spin {
+    ghost chooses = { ChoosesBy spin };
+
+    ghost hears = { λ before entry after. after ≡ spin_heard before (specified.read_at entry.event) };
+
     fn choose(&mut self, ready: &[u32]) -> Option<usize> {
-        if let Some(place) = self.stayed(ready) {
+        let is_drawn = self.draws.below(CHANCE) == 0;
+        let stayed = if is_drawn || !self.stays {
+            None
+        } else {
+            place_of(ready, self.last)
+        };
+        if let Some(place) = stayed {
             return Some(place);
         }
         let place = self.draws.below(ready.len() as u32) as usize;

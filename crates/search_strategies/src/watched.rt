@@ -1,5 +1,5 @@
 //! A strategy that gives a run up.
-ghost use Rattle.std.specs.Prelude.{◌<◌, length, IfSome};
+ghost use Rattle.std.specs.Prelude.{◌≡◌, None, ◌⊎◌};
 
 use crate::strategy::Strategy;
 use types::Entry;
@@ -41,6 +41,11 @@ impl<'a, S, W> Watched<'a, S, W> {
 }
 
 impl<S: Strategy, W: Watch> Strategy for Watched<'_, S, W> {
+    ghost chooses = { λ before ready answer after.
+        ((before.left ≡ 0) × (answer ≡ None)) ⊎ S.chooses before.strategy ready answer after.strategy };
+
+    ghost hears = { λ before entry after. S.hears before.strategy entry after.strategy };
+
     fn choose(&mut self, ready: &[u32]) -> Option<usize> {
         if self.left == 0 {
             if self.watch.is_over() {
