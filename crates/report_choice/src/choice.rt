@@ -1,6 +1,9 @@
 //! What is chosen of a record.
 
-ghost use Rattle.std.specs.Prelude.{◌≤◌, ◌↔◌, IfSome, IsTrue};
+ghost use Rattle.std.specs.Prelude.{◌≡◌, ◌≤◌, ◌==◌, IfSome};
+ghost use Rattle.std.specs.List.{list_any};
+ghost use Rattle.report_choice.specs.Choices as specified;
+ghost use Rattle.report_choice.specs.Choices.{is_chosen, is_chosen_line, is_chosen_thread, is_chosen_address};
 
 use types::{Entry, Event, Question};
 
@@ -28,14 +31,14 @@ impl Span {
 
     /// Whether a number is among them.
     pub fn has(self, number: u64) -> bool
-        ensures { IsTrue result ↔ ((self.first ≤ number) × (number ≤ self.last)) }
+        ensures { result ≡ specified.has self number }
     {
         self.first <= number && number <= self.last
     }
 
     /// Whether two spans have a number in common.
     pub fn meets(self, other: Span) -> bool
-        ensures { IsTrue result ↔ ((self.first ≤ other.last) × (other.first ≤ self.last)) }
+        ensures { result ≡ specified.meets self other }
     {
         self.first <= other.last && other.first <= self.last
     }
@@ -52,14 +55,31 @@ pub struct Choice {
 
 impl Choice {
     /// Whether the entry on this line of the record is chosen.
-    pub fn has(&self, line: u64, entry: &Entry) -> bool {
-        let by_line = self.lines.is_none_or(|lines| lines.has(line));
-        let by_thread = self.threads.is_empty() || self.threads.contains(&entry.thread);
-        by_line && by_thread && self.has_address(entry.event)
+    pub fn has(&self, line: u64, entry: &Entry) -> bool
+        ensures { result ≡ is_chosen self.now line entry.now }
+    {
+        self.has_line(line) && self.has_thread(entry.thread) && self.has_address(entry.event)
+    }
+
+    fn has_line(&self, line: u64) -> bool
+        ensures { result ≡ is_chosen_line self.now.lines line }
+    {
+        match self.lines {
+            Some(lines) => lines.has(line),
+            None => true,
+        }
+    }
+
+    fn has_thread(&self, thread: u32) -> bool
+        ensures { result ≡ is_chosen_thread self.now.threads.items thread }
+    {
+        self.threads.is_empty() || is_among(self.threads.as_slice(), thread)
     }
 
     /// Whether the event touches one of the addresses.
-    fn has_address(&self, event: Event) -> bool {
+    fn has_address(&self, event: Event) -> bool
+        ensures { result ≡ is_chosen_address self.now.addrs event }
+    {
         match (self.addrs, touched(event)) {
             (None, _) => true,
             (Some(addrs), Some(span)) => addrs.meets(span),
@@ -68,8 +88,16 @@ impl Choice {
     }
 }
 
+fn is_among(threads: &[u32], thread: u32) -> bool
+    ensures { result ≡ list_any (λ n. n == thread) threads.now }
+{
+    threads.iter().any(|other| *other == thread)
+}
+
 /// The addresses of the bytes that an event touches, or at which it waits or wakes.
-fn touched(event: Event) -> Option<Span> {
+fn touched(event: Event) -> Option<Span>
+    ensures { result ≡ specified.touched event }
+{
     let (addr, width) = match event {
         Event::Load { addr, width, .. }
         | Event::Store { addr, width, .. }

@@ -1,7 +1,8 @@
 //! What is chosen on a command line: of a record, which entries are shown and how; of a search along drawn schedules,
 //! which runs are made and by which strategy, and what is looked for.
 //!
-//! Proved: a span has the numbers from its first to its last; which strategy draws a run of a mix.
+//! Proved: a span has the numbers from its first to its last; which entries are chosen, by their line, thread and
+//! addresses; which strategy draws a run of a mix.
 #![tactic(auto)]
 
 mod choice;

@@ -13,24 +13,24 @@ use std::test::Fail;
 use test_modules::TELLING;
 use validate::ValidModule;
 
-/// A name of function 1, by which a page's script would end.
+/// A name of function 1, by which a page's script would end, and a JSON string; and a control character.
 const NAMES: &[u8] = b"\
-\x00\x61\x73\x6d\x01\x00\x00\x00\x00\x13\x04name\x01\x0c\x01\x01\x09</script>";
+\x00\x61\x73\x6d\x01\x00\x00\x00\x00\x16\x04name\x01\x0f\x01\x01\x0c</script>\"\\\x07";
 
 const WHOLE: &str = r#"{"displayTimeUnit":"ns","traceEvents":
 [{"ph":"M","name":"process_name","ts":0,"pid":1,"tid":0,"args":{"name":"wathread"}}
 ,{"ph":"M","name":"thread_name","ts":0,"pid":1,"tid":0,"args":{"name":"t0"}}
 ,{"ph":"M","name":"thread_name","ts":0,"pid":1,"tid":1,"args":{"name":"t1"}}
-,{"ph":"X","name":"spawns t1 (arg 4294967295)","cat":"entry","ts":0,"dur":1,"pid":1,"tid":0,"args":{"line":6,"place":"\u003c/script>+0x3"}}
-,{"ph":"X","name":"spawned t1","cat":"entry","ts":1,"dur":1,"pid":1,"tid":0,"args":{"line":7,"place":"\u003c/script>+0x3"}}
+,{"ph":"X","name":"spawns t1 (arg 4294967295)","cat":"entry","ts":0,"dur":1,"pid":1,"tid":0,"args":{"line":6,"place":"\u003c/script>\"\\?+0x3"}}
+,{"ph":"X","name":"spawned t1","cat":"entry","ts":1,"dur":1,"pid":1,"tid":0,"args":{"line":7,"place":"\u003c/script>\"\\?+0x3"}}
 ,{"ph":"X","name":"sleeps on 8 while 0","cat":"entry","ts":2,"dur":3,"pid":1,"tid":1,"args":{"line":8,"place":"wasi_thread_start+0x8"}}
-,{"ph":"X","name":"notify 8, at most 1: wakes t1","cat":"entry","ts":3,"dur":1,"pid":1,"tid":0,"args":{"line":9,"place":"\u003c/script>+0xa"}}
-,{"ph":"X","name":"woke 1","cat":"entry","ts":4,"dur":1,"pid":1,"tid":0,"args":{"line":10,"place":"\u003c/script>+0xa"}}
+,{"ph":"X","name":"notify 8, at most 1: wakes t1","cat":"entry","ts":3,"dur":1,"pid":1,"tid":0,"args":{"line":9,"place":"\u003c/script>\"\\?+0xa"}}
+,{"ph":"X","name":"woke 1","cat":"entry","ts":4,"dur":1,"pid":1,"tid":0,"args":{"line":10,"place":"\u003c/script>\"\\?+0xa"}}
 ,{"ph":"X","name":"woken","cat":"entry","ts":5,"dur":1,"pid":1,"tid":1,"args":{"line":11,"place":"wasi_thread_start+0x8"}}
-,{"ph":"X","name":"ends: ok i32:1","cat":"entry","ts":6,"dur":1,"pid":1,"tid":0,"args":{"line":12,"place":"\u003c/script>+0xe"}}
+,{"ph":"X","name":"ends: ok i32:1","cat":"entry","ts":6,"dur":1,"pid":1,"tid":0,"args":{"line":12,"place":"\u003c/script>\"\\?+0xe"}}
 ,{"ph":"X","name":"ends: ok","cat":"entry","ts":7,"dur":1,"pid":1,"tid":1,"args":{"line":13,"place":"wasi_thread_start+0xd"}}
 ,{"ph":"X","name":"gone","cat":"entry","ts":8,"dur":1,"pid":1,"tid":1,"args":{"line":14,"place":"wasi_thread_start+0xd"}}
-,{"ph":"X","name":"gone","cat":"entry","ts":9,"dur":1,"pid":1,"tid":0,"args":{"line":15,"place":"\u003c/script>+0xe"}}
+,{"ph":"X","name":"gone","cat":"entry","ts":9,"dur":1,"pid":1,"tid":0,"args":{"line":15,"place":"\u003c/script>\"\\?+0xe"}}
 ,{"ph":"s","name":"wakes","cat":"flow","id":0,"ts":3,"pid":1,"tid":0}
 ,{"ph":"f","name":"wakes","cat":"flow","id":0,"bp":"e","ts":5,"pid":1,"tid":1}
 ,{"ph":"s","name":"spawns","cat":"flow","id":1,"ts":0,"pid":1,"tid":0}

@@ -1,5 +1,10 @@
 //! Questions to the desk and answers of it, in words.
 
+ghost use Rattle.std.specs.Prelude.{flat_map};
+ghost use Rattle.std.specs.Fmt.{WritesOnOk};
+ghost use Rattle.show_text.specs.Words.{question_text, wait_text, woken_text, wake_text, spawn_text};
+ghost use Rattle.show_text.specs.Words.{asleep_text, answer_text, told_text, waited_text};
+
 use crate::context::Context;
 use crate::woken::Wake;
 use crate::words::Words;
@@ -13,15 +18,21 @@ pub(crate) fn write_question<W: Write>(
     f: &mut Formatter<W>,
     question: Question,
     words: &Words,
-) -> fmt::Result {
+) -> fmt::Result
+    ensures { WritesOnOk W.write_str_gives f.old result (question_text words.now question) f.new }
+{
+    let reply = words.entry.reply;
     match question {
-        Question::Wait { .. } => write_wait(f, question, words.entry.reply),
+        Question::Wait {
+            addr,
+            expected,
+            timeout,
+            ..
+        } => write_wait(f, addr, expected, timeout, reply),
         Question::Notify { addr, count } => {
-            write!(f, "notify {addr}")?;
-            if count != u32::MAX {
-                write!(f, ", at most {count}")?;
-            }
-            write_woken(f, words)
+            let most = Most(count);
+            write!(f, "notify {addr}{most}")?;
+            write_woken(f, reply, words.woken)
         }
         Question::Spawn { arg } => write_spawn(f, arg, words.context),
         Question::Leave => match words.outcome {
@@ -31,55 +42,103 @@ pub(crate) fn write_question<W: Write>(
     }
 }
 
-fn write_wait<W: Write>(f: &mut Formatter<W>, question: Question, reply: Reply) -> fmt::Result {
-    let Question::Wait {
-        addr,
-        expected,
-        timeout,
-        ..
-    } = question
-    else {
-        return Ok(());
-    };
+fn write_wait<W: Write>(
+    f: &mut Formatter<W>,
+    addr: u64,
+    expected: u64,
+    timeout: i64,
+    reply: Reply,
+) -> fmt::Result
+    ensures { WritesOnOk W.write_str_gives f.old result (wait_text addr expected timeout reply) f.new }
+{
     match reply {
-        Reply::Value(loaded) if loaded != expected => {
-            write!(f, "wait {addr} while {expected}: has {loaded}")
-        }
-        Reply::Value(_) if timeout == 0 => {
-            write!(f, "wait {addr} while {expected}: no time to sleep")
-        }
-        Reply::Value(_) => {
-            write!(f, "sleeps on {addr} while {expected}")?;
-            if timeout > 0 {
-                write!(f, ", at most {timeout} ns")?;
-            }
-            Ok(())
-        }
+        Reply::Value(loaded) if loaded == expected => write_asleep(f, addr, expected, timeout),
+        Reply::Value(loaded) => write!(f, "wait {addr} while {expected}: has {loaded}"),
         _ => write!(f, "wait {addr} while {expected}: out of bounds"),
     }
 }
 
+/// What a wait does that finds the number that it expects.
+fn write_asleep<W: Write>(
+    f: &mut Formatter<W>,
+    addr: u64,
+    expected: u64,
+    timeout: i64,
+) -> fmt::Result
+    ensures { WritesOnOk W.write_str_gives f.old result (asleep_text addr expected timeout) f.new }
+{
+    if timeout == 0 {
+        return write!(f, "wait {addr} while {expected}: no time to sleep");
+    }
+    let limit = Limit(timeout);
+    write!(f, "sleeps on {addr} while {expected}{limit}")
+}
+
+/// How long one sleeps at most.
+#[derive(Clone, Copy)]
+struct Limit(i64);
+
+impl fmt::Display for Limit {
+    ghost use Rattle.std.specs.Prelude.{Some};
+    ghost use Rattle.show_text.specs.Words.{limit_text};
+
+    ghost output = { λ l. Some (limit_text l.0) };
+
+    fn fmt<W: Write>(&self, f: &mut Formatter<W>) -> fmt::Result {
+        let timeout = self.0;
+        if timeout > 0 {
+            return write!(f, ", at most {timeout} ns");
+        }
+        Ok(())
+    }
+}
+
+/// How many a notify wakes at most.
+#[derive(Clone, Copy)]
+struct Most(u32);
+
+impl fmt::Display for Most {
+    ghost use Rattle.std.specs.Prelude.{Some};
+    ghost use Rattle.show_text.specs.Words.{count_text};
+
+    ghost output = { λ m. Some (count_text m.0) };
+
+    fn fmt<W: Write>(&self, f: &mut Formatter<W>) -> fmt::Result {
+        let count = self.0;
+        if count == u32::MAX {
+            return Ok(());
+        }
+        write!(f, ", at most {count}")
+    }
+}
+
 /// Whom a notify woke.
-fn write_woken<W: Write>(f: &mut Formatter<W>, words: &Words) -> fmt::Result {
-    if words.entry.reply == Reply::OutOfBounds {
+fn write_woken<W: Write>(f: &mut Formatter<W>, reply: Reply, woken: &[Wake]) -> fmt::Result
+    ensures { WritesOnOk W.write_str_gives f.old result (woken_text reply woken.now) f.new }
+{
+    if reply == Reply::OutOfBounds {
         return f.write_str(": out of bounds");
     }
-    if words.woken.is_empty() {
+    if woken.is_empty() {
         return f.write_str(": wakes nobody");
     }
     f.write_str(": wakes")?;
-    for wake in words.woken {
-        write_one(f, wake)?;
+    write_threads(f, woken)
+}
+
+fn write_threads<W: Write>(f: &mut Formatter<W>, woken: &[Wake]) -> fmt::Result
+    ensures { WritesOnOk W.write_str_gives f.old result (flat_map wake_text woken.now) f.new }
+{
+    for wake in woken {
+        let thread = wake.thread;
+        write!(f, " t{thread}")?;
     }
     Ok(())
 }
 
-fn write_one<W: Write>(f: &mut Formatter<W>, wake: &Wake) -> fmt::Result {
-    let thread = wake.thread;
-    write!(f, " t{thread}")
-}
-
-fn write_spawn<W: Write>(f: &mut Formatter<W>, arg: u32, context: Context) -> fmt::Result {
+fn write_spawn<W: Write>(f: &mut Formatter<W>, arg: u32, context: Context) -> fmt::Result
+    ensures { WritesOnOk W.write_str_gives f.old result (spawn_text context arg) f.new }
+{
     match context {
         Context::Answered(Answer::Number(NO_THREAD)) => {
             write!(f, "spawns nobody: all threads are taken (arg {arg})")
@@ -93,24 +152,37 @@ pub(crate) fn write_answer<W: Write>(
     f: &mut Formatter<W>,
     answer: Answer,
     context: Context,
-) -> fmt::Result {
-    let number = match answer {
-        Answer::Number(number) => number,
-        Answer::ForGood => return f.write_str("asleep for good"),
-    };
-    match context {
-        Context::Asked(Question::Wait { .. }, _) => match number {
-            0 => f.write_str("woken"),
-            1 => f.write_str("goes on: another value"),
-            2 => f.write_str("times out"),
-            _ => write!(f, "told {number}"),
-        },
-        Context::Asked(Question::Notify { .. }, _) => write!(f, "woke {number}"),
-        Context::Asked(Question::Spawn { .. }, _) if number == NO_THREAD => {
-            f.write_str("spawned nobody")
-        }
-        Context::Asked(Question::Spawn { .. }, _) => write!(f, "spawned t{number}"),
-        Context::Asked(Question::Leave, _) => f.write_str("gone"),
+) -> fmt::Result
+    ensures { WritesOnOk W.write_str_gives f.old result (answer_text context answer) f.new }
+{
+    match (answer, context) {
+        (Answer::ForGood, _) => f.write_str("asleep for good"),
+        (Answer::Number(number), Context::Asked(question, _)) => write_told(f, question, number),
+        (Answer::Number(number), _) => write!(f, "told {number}"),
+    }
+}
+
+/// A number that is answered to a question.
+fn write_told<W: Write>(f: &mut Formatter<W>, question: Question, number: u32) -> fmt::Result
+    ensures { WritesOnOk W.write_str_gives f.old result (told_text question number) f.new }
+{
+    match question {
+        Question::Wait { .. } => write_waited(f, number),
+        Question::Notify { .. } => write!(f, "woke {number}"),
+        Question::Spawn { .. } if number == NO_THREAD => f.write_str("spawned nobody"),
+        Question::Spawn { .. } => write!(f, "spawned t{number}"),
+        Question::Leave => f.write_str("gone"),
+    }
+}
+
+/// How a wait ended.
+fn write_waited<W: Write>(f: &mut Formatter<W>, number: u32) -> fmt::Result
+    ensures { WritesOnOk W.write_str_gives f.old result (waited_text number) f.new }
+{
+    match number {
+        0 => f.write_str("woken"),
+        1 => f.write_str("goes on: another value"),
+        2 => f.write_str("times out"),
         _ => write!(f, "told {number}"),
     }
 }

@@ -1,6 +1,7 @@
 //! Entries of a record in words: what each says, and how a row is laid out.
 //!
-//! Proved: safe, and it ends, on every log.
+//! Proved: `Words` are the words of an entry, and a row has its line, its thread, its words and its place, in whatever
+//! columns and colors; a text without its control characters is what `Plain` writes.
 #![tactic(auto)]
 
 mod asks;

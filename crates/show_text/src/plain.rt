@@ -1,15 +1,29 @@
 //! Texts of anybody, for a terminal.
 
+ghost use Rattle.std.specs.Prelude.{◌≡◌};
+ghost use Rattle.show_text.specs.Plain as specified;
+
 use std::fmt::{self, Formatter, Write};
+
+fn plain_char(c: char) -> char
+    ensures { result ≡ specified.plain_char c }
+{
+    if c.is_control() { '?' } else { c }
+}
 
 /// A text without its control characters: each is written as `?`.
 #[derive(Clone, Copy, PartialEq, Eq)]
 pub struct Plain<'a>(pub &'a str);
 
 impl fmt::Display for Plain<'_> {
+    ghost use Rattle.std.specs.Prelude.{Some};
+    ghost use Rattle.show_text.specs.Plain.{plain_text};
+
+    ghost output = { λ p. Some (plain_text p.0.now) };
+
     fn fmt<W: Write>(&self, f: &mut Formatter<W>) -> fmt::Result {
         for c in self.0.chars() {
-            f.write_char(if c.is_control() { '?' } else { c })?;
+            f.write_char(plain_char(c))?;
         }
         Ok(())
     }

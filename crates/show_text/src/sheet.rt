@@ -1,6 +1,10 @@
 //! How a row is laid out: the line of the record, the words in their thread's column, and the place behind them.
 
+ghost use Rattle.std.specs.Prelude.{OnOk};
+ghost use Rattle.show_text.specs.Rows.{AddsRow};
+
 use std::alloc::AllocError;
+use std::fmt::{self, Formatter};
 use std::io::{self, Write};
 
 /// The columns of the number of a line, and what is before the first word of a thread.
@@ -45,6 +49,19 @@ pub struct Sheet {
     is_colored: bool,
 }
 
+/// How a row is laid out.
+#[derive(Clone, Copy)]
+struct Layout {
+    /// The blanks before the number of the line.
+    margin: usize,
+    /// Those before the words.
+    indent: usize,
+    /// Those before the place.
+    gap: usize,
+    /// The number of the color of the words.
+    style: usize,
+}
+
 impl Sheet {
     /// The columns of these threads in so many characters.
     pub fn new(threads: Vec<u32>, width: usize, is_colored: bool) -> Sheet {
@@ -68,7 +85,7 @@ impl Sheet {
             .unwrap_or(0)
     }
 
-    /// Writes a row.
+    /// Writes a row: the line of the record, the thread, the words of the entry, and where it was made.
     pub fn write_row<W: Write>(
         &self,
         out: &mut W,
@@ -76,48 +93,119 @@ impl Sheet {
         thread: u32,
         words: &str,
         place: &str,
-    ) -> Result<(), Unwritten> {
-        let column = self.column_of(thread);
-        let indent = column.saturating_mul(self.step).min(self.places);
-        write!(out, "{line:>7}  ")?;
-        write_blanks(out, indent)?;
-        if self.is_colored {
-            let color = 31 + column % 6;
-            write!(out, "\x1b[{color}mt{thread} {words}\x1b[0m")?;
-        } else {
-            write!(out, "t{thread} {words}")?;
-        }
-        self.write_place(out, indent.saturating_add(words.len()), thread, place)?;
-        out.write_all(b"\n")?;
+    ) -> Result<(), Unwritten>
+        ensures { OnOk result (AddsRow self.now.is_colored
+            (record { line = line; thread = thread; words = words.now; place = place.now })
+            (W.contents out.old) (W.contents out.new)) }
+    {
+        let is_colored = self.is_colored;
+        let at = self.layout(line, thread, words.len());
+        let (margin, indent) = (Blanks(at.margin), Blanks(at.indent));
+        let said = Said {
+            is_colored,
+            style: at.style,
+            thread,
+            words,
+        };
+        let place = Place {
+            is_colored,
+            gap: at.gap,
+            place,
+        };
+        write!(out, "{margin}{line}{indent}{said}{place}\n")?;
         Ok(())
     }
 
-    /// Writes the place behind words of a length and the name of their thread.
-    fn write_place<W: Write>(
-        &self,
-        out: &mut W,
-        used: usize,
-        thread: u32,
-        place: &str,
-    ) -> Result<(), Unwritten> {
-        if place.is_empty() {
-            return Ok(());
-        }
+    /// How a row is laid out whose words have so many bytes.
+    fn layout(&self, line: u64, thread: u32, words: usize) -> Layout {
+        let column = self.column_of(thread);
+        let indent = column.saturating_mul(self.step).min(self.places);
         let name = if thread < 10 { 3 } else { 4 };
-        let end = MARGIN.saturating_add(name).saturating_add(used);
-        write_blanks(out, self.places.saturating_sub(end).max(2))?;
-        if self.is_colored {
-            write!(out, "\x1b[2m{place}\x1b[0m")?;
-        } else {
-            write!(out, "{place}")?;
+        let used = MARGIN
+            .saturating_add(name)
+            .saturating_add(indent)
+            .saturating_add(words);
+        Layout {
+            margin: LINE.saturating_sub(digits_of(line)),
+            indent: indent.saturating_add(2),
+            gap: self.places.saturating_sub(used).max(2),
+            style: 31 + column % 6,
+        }
+    }
+}
+
+/// How many digits a number has.
+fn digits_of(number: u64) -> usize {
+    number.checked_ilog10().unwrap_or(0) as usize + 1
+}
+
+/// So many blanks.
+#[derive(Clone, Copy)]
+struct Blanks(usize);
+
+impl fmt::Display for Blanks {
+    ghost use Rattle.std.specs.Prelude.{Some};
+    ghost use Rattle.show_text.specs.Rows.{blanks};
+
+    ghost output = { λ b. Some (blanks b.0) };
+
+    fn fmt<W: fmt::Write>(&self, f: &mut Formatter<W>) -> fmt::Result {
+        for _ in 0..self.0 {
+            f.write_str(" ")?;
         }
         Ok(())
     }
 }
 
-fn write_blanks<W: Write>(out: &mut W, count: usize) -> io::Result<()> {
-    for _ in 0..count {
-        out.write_all(b" ")?;
+/// Who does what, in a color.
+#[derive(Clone, Copy)]
+struct Said<'a> {
+    is_colored: bool,
+    style: usize,
+    thread: u32,
+    words: &'a str,
+}
+
+impl fmt::Display for Said<'_> {
+    ghost use Rattle.std.specs.Prelude.{Some};
+    ghost use Rattle.show_text.specs.Rows.{styled, said};
+
+    ghost output = { λ s. Some (styled s.is_colored s.style (said s.thread s.words.now)) };
+
+    fn fmt<W: fmt::Write>(&self, f: &mut Formatter<W>) -> fmt::Result {
+        let (style, thread, words) = (self.style, self.thread, self.words);
+        if self.is_colored {
+            write!(f, "\x1b[{style}mt{thread} {words}\x1b[0m")
+        } else {
+            write!(f, "t{thread} {words}")
+        }
     }
-    Ok(())
+}
+
+/// The place behind the words, where it is known.
+#[derive(Clone, Copy)]
+struct Place<'a> {
+    is_colored: bool,
+    gap: usize,
+    place: &'a str,
+}
+
+impl fmt::Display for Place<'_> {
+    ghost use Rattle.std.specs.Prelude.{Some};
+    ghost use Rattle.show_text.specs.Rows.{place_text};
+
+    ghost output = { λ p. Some (place_text p.is_colored p.gap p.place.now) };
+
+    fn fmt<W: fmt::Write>(&self, f: &mut Formatter<W>) -> fmt::Result {
+        let (gap, place) = (Blanks(self.gap), self.place);
+        if place.is_empty() {
+            return Ok(());
+        }
+        if self.is_colored {
+            let faint = 2u8;
+            write!(f, "{gap}\x1b[{faint}m{place}\x1b[0m")
+        } else {
+            write!(f, "{gap}{place}")
+        }
+    }
 }

@@ -1,5 +1,10 @@
 //! An entry in words.
 
+ghost use Rattle.std.specs.Prelude.{◌≡◌, ◌*◌};
+ghost use Rattle.std.specs.Fmt.{WritesOnOk};
+ghost use Rattle.show_text.specs.Words as specified;
+ghost use Rattle.show_text.specs.Words.{load_text, store_text, stored_text, exchanged_text};
+
 use crate::asks::{write_answer, write_question};
 use crate::context::Context;
 use crate::woken::Wake;
@@ -22,59 +27,38 @@ pub struct Words<'a> {
 }
 
 impl fmt::Display for Words<'_> {
+    ghost use Rattle.std.specs.Prelude.{Some};
+    ghost use Rattle.show_text.specs.Words.{words_text};
+
+    ghost output = { λ w. Some (words_text w) };
+
     fn fmt<W: Write>(&self, f: &mut Formatter<W>) -> fmt::Result {
         let reply = self.entry.reply;
         match self.entry.event {
-            Event::Size => write!(f, "size = {}", Number(reply)),
-            Event::Grow(more) => write!(f, "grow +{more} = {}", Grown(reply)),
-            Event::Load { .. } | Event::Store { .. } => self.write_plain(f),
-            Event::Rmw { .. } | Event::Cmpxchg { .. } => self.write_exchange(f),
-            Event::Ask(question) => write_question(f, question, self),
-            Event::Told(answer) => write_answer(f, answer, self.context),
-        }
-    }
-}
-
-impl Words<'_> {
-    /// A load or a store.
-    fn write_plain<W: Write>(&self, f: &mut Formatter<W>) -> fmt::Result {
-        let reply = self.entry.reply;
-        if self.is_atomic {
-            f.write_str("atomic ")?;
-        }
-        match self.entry.event {
-            Event::Load { addr, width, .. } => {
-                write!(f, "load{} {addr} = {}", bits_of(width), Number(reply))
+            Event::Size => {
+                let size = Number(reply);
+                write!(f, "size = {size}")
             }
+            Event::Grow(more) => {
+                let before = Grown(reply);
+                write!(f, "grow +{more} = {before}")
+            }
+            Event::Load { addr, width, .. } => self.write_load(f, addr, width),
             Event::Store {
                 addr,
                 width,
                 value,
                 ..
-            } => {
-                write!(f, "store{} {addr} <- {value}", bits_of(width))?;
-                match (reply, self.before) {
-                    (Reply::OutOfBounds, _) => f.write_str(": out of bounds"),
-                    (_, Some(before)) if before != value => write!(f, " (had {before})"),
-                    _ => Ok(()),
-                }
-            }
-            _ => Ok(()),
-        }
-    }
-
-    /// A read-modify-write.
-    fn write_exchange<W: Write>(&self, f: &mut Formatter<W>) -> fmt::Result {
-        let reply = self.entry.reply;
-        match self.entry.event {
+            } => self.write_store(f, addr, width, value),
             Event::Rmw {
                 op,
                 addr,
                 width,
                 value,
             } => {
-                write!(f, "{}{} {addr} ", name_of(op), Bits(width))?;
-                write!(f, "{}{value} = {}", sign_of(op), Number(reply))
+                let (name, bits, sign) = (op_name(op), Bits(width), op_sign(op));
+                let got = Number(reply);
+                write!(f, "{name}{bits} {addr} {sign}{value} = {got}")
             }
             Event::Cmpxchg {
                 addr,
@@ -82,17 +66,78 @@ impl Words<'_> {
                 expected,
                 replacement,
             } => {
-                write!(f, "cmpxchg{} {addr} ", Bits(width))?;
-                write!(f, "{expected} -> {replacement}")?;
+                let bits = Bits(width);
+                write!(f, "cmpxchg{bits} {addr} {expected} -> {replacement}")?;
                 write_exchanged(f, reply, expected)
             }
-            _ => Ok(()),
+            Event::Ask(question) => write_question(f, question, self),
+            Event::Told(answer) => write_answer(f, answer, self.context),
         }
     }
 }
 
+impl Words<'_> {
+    fn write_load<W: Write>(&self, f: &mut Formatter<W>, addr: u64, width: u8) -> fmt::Result
+        ensures { WritesOnOk W.write_str_gives f.old result (load_text self.now addr width) f.new }
+    {
+        let (atomic, bits, got) = (
+            Atomic(self.is_atomic),
+            bits_of(width),
+            Number(self.entry.reply),
+        );
+        write!(f, "{atomic}load{bits} {addr} = {got}")
+    }
+
+    fn write_store<W: Write>(
+        &self,
+        f: &mut Formatter<W>,
+        addr: u64,
+        width: u8,
+        value: u64,
+    ) -> fmt::Result
+        ensures { WritesOnOk W.write_str_gives f.old result (store_text self.now addr width value) f.new }
+    {
+        let (atomic, bits) = (Atomic(self.is_atomic), bits_of(width));
+        write!(f, "{atomic}store{bits} {addr} <- {value}")?;
+        write_stored(f, self.entry.reply, value, self.before)
+    }
+}
+
+/// What a store got, and what it overwrote.
+fn write_stored<W: Write>(
+    f: &mut Formatter<W>,
+    reply: Reply,
+    value: u64,
+    before: Option<u64>,
+) -> fmt::Result
+    ensures { WritesOnOk W.write_str_gives f.old result (stored_text reply value before) f.new }
+{
+    match (reply, before) {
+        (Reply::OutOfBounds, _) => f.write_str(": out of bounds"),
+        (_, Some(before)) if before != value => write!(f, " (had {before})"),
+        _ => Ok(()),
+    }
+}
+
+/// What an access is called that is atomic.
+#[derive(Clone, Copy)]
+struct Atomic(bool);
+
+impl fmt::Display for Atomic {
+    ghost use Rattle.std.specs.Prelude.{Some};
+    ghost use Rattle.show_text.specs.Words.{atomic_text};
+
+    ghost output = { λ a. Some (atomic_text a.0) };
+
+    fn fmt<W: Write>(&self, f: &mut Formatter<W>) -> fmt::Result {
+        f.write_str(if self.0 { "atomic " } else { "" })
+    }
+}
+
 /// How many bits are in so many bytes.
-fn bits_of(width: u8) -> u32 {
+fn bits_of(width: u8) -> u32
+    ensures { result ≡ width * 8 }
+{
     u32::from(width) * 8
 }
 
@@ -101,6 +146,11 @@ fn bits_of(width: u8) -> u32 {
 pub(crate) struct Number(pub(crate) Reply);
 
 impl fmt::Display for Number {
+    ghost use Rattle.std.specs.Prelude.{Some};
+    ghost use Rattle.show_text.specs.Words.{reply_text};
+
+    ghost output = { λ n. Some (reply_text n.0) };
+
     fn fmt<W: Write>(&self, f: &mut Formatter<W>) -> fmt::Result {
         match self.0 {
             Reply::Value(number) => write!(f, "{number}"),
@@ -117,11 +167,15 @@ impl fmt::Display for Number {
 struct Grown(Reply);
 
 impl fmt::Display for Grown {
+    ghost use Rattle.std.specs.Prelude.{Some};
+    ghost use Rattle.show_text.specs.Words.{grown_text};
+
+    ghost output = { λ n. Some (grown_text n.0) };
+
     fn fmt<W: Write>(&self, f: &mut Formatter<W>) -> fmt::Result {
-        if self.0 == Reply::Value(4_294_967_295) {
-            f.write_str("refused")
-        } else {
-            write!(f, "{}", Number(self.0))
+        match self.0 {
+            Reply::Value(4_294_967_295) => f.write_str("refused"),
+            reply => Number(reply).fmt(f),
         }
     }
 }
@@ -131,15 +185,23 @@ impl fmt::Display for Grown {
 struct Bits(u8);
 
 impl fmt::Display for Bits {
+    ghost use Rattle.std.specs.Prelude.{Some};
+    ghost use Rattle.show_text.specs.Words.{bits_text};
+
+    ghost output = { λ n. Some (bits_text n.0) };
+
     fn fmt<W: Write>(&self, f: &mut Formatter<W>) -> fmt::Result {
         if self.0 == 4 {
             return Ok(());
         }
-        write!(f, "{}", bits_of(self.0))
+        let bits = bits_of(self.0);
+        write!(f, "{bits}")
     }
 }
 
-fn name_of(op: RmwOp) -> &'static str {
+fn op_name(op: RmwOp) -> &'static str
+    ensures { result.now ≡ specified.op_name op }
+{
     match op {
         RmwOp::Add => "add",
         RmwOp::Sub => "sub",
@@ -150,7 +212,9 @@ fn name_of(op: RmwOp) -> &'static str {
     }
 }
 
-fn sign_of(op: RmwOp) -> &'static str {
+fn op_sign(op: RmwOp) -> &'static str
+    ensures { result.now ≡ specified.op_sign op }
+{
     match op {
         RmwOp::Add => "+",
         RmwOp::Sub => "-",
@@ -161,7 +225,9 @@ fn sign_of(op: RmwOp) -> &'static str {
     }
 }
 
-fn write_exchanged<W: Write>(f: &mut Formatter<W>, reply: Reply, expected: u64) -> fmt::Result {
+fn write_exchanged<W: Write>(f: &mut Formatter<W>, reply: Reply, expected: u64) -> fmt::Result
+    ensures { WritesOnOk W.write_str_gives f.old result (exchanged_text reply expected) f.new }
+{
     match reply {
         Reply::Value(loaded) if loaded == expected => Ok(()),
         Reply::Value(loaded) => write!(f, ": has {loaded}"),
