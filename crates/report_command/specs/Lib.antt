@@ -3,3 +3,5 @@ pub mod Views
 pub mod Jobs
 pub mod FaultNumbers
 pub mod Results
+pub mod Found
+pub mod Options

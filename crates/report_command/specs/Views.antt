@@ -1,5 +1,5 @@
 -- What is made of a record.
-use Rattle.std.specs.Prelude.{◌≤◌, ◌≢◌, List, ℕ, Option, Some, None, IfSome}
+use Rattle.std.specs.Prelude.{◌≤◌, List, ℕ, Option, Some, None}
 use Rattle.std.specs.Borrow.{Bor}
 use Rattle.report_command.specs.declared.limits.TheConstants.{MOST_DUMP}
 use Rattle.report_command.specs.declared.show.View.{View}

@@ -1,9 +1,12 @@
 //! A call as the command line spells it.
 ghost use Rattle.std.specs.Prelude.{◌≤◌, IfOk, IfSome};
+ghost use Rattle.clap.specs.Words.{found_of};
 ghost use Rattle.types.specs.declared.limits.TheConstants.{MOST_FUEL};
+ghost use Rattle.report_command.specs.Options.{AsksCall};
 
 use crate::arguments::{Argument, Form, OPTION};
 use crate::limits::DEFAULT_FUEL;
+use crate::words::{number_of, texts_of};
 use clap::ArgMatches;
 use clap::builder::ValueParser;
 use std::alloc::{AllocError, Global};
@@ -48,28 +51,20 @@ pub(crate) const FUEL: Argument = Argument {
     ..OPTION
 };
 
-/// The arguments as they are written.
-fn args_of<'a>(alloc: Global, matches: &ArgMatches<'a>) -> Result<Vec<&'a str>, AllocError> {
-    match matches.get_strs("args") {
-        Some(texts) => Vec::from_slice(alloc, texts),
-        None => Ok(Vec::new(alloc)),
-    }
-}
-
 /// The call, where its name is there and its budget in range, as the parser sees to.
 pub(crate) fn call_of<'a>(
     alloc: Global,
     matches: &ArgMatches<'a>,
 ) -> Result<Option<CallWords<'a>>, AllocError>
-    ensures { IfOk result (λ call. IfSome call (λ words. words.fuel ≤ MOST_FUEL)) }
+    ensures range { IfOk result (λ call. IfSome call (λ words. words.fuel ≤ MOST_FUEL)) }
+    ensures asks { IfOk result (λ call. IfSome call (AsksCall (found_of matches.now))) }
 {
-    let (Some(invoke), Some(fuel)) = (matches.get_str("invoke"), matches.get_one::<u64>("fuel"))
-    else {
+    let (Some(invoke), Some(fuel)) = (matches.get_str("invoke"), number_of(matches, "fuel")) else {
         return Ok(None);
     };
     if fuel > MOST_FUEL {
         return Ok(None);
     }
-    let args = args_of(alloc, matches)?;
+    let args = texts_of(alloc, matches, "args")?;
     Ok(Some(CallWords { invoke, args, fuel }))
 }

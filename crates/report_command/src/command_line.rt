@@ -1,8 +1,11 @@
 //! The command line.
-ghost use Rattle.std.specs.Prelude.{◌≡◌, ◌≤◌, IfOk, IfSome, IsNone};
+ghost use Rattle.std.specs.Prelude.{◌≡◌, ◌≤◌, IfOk, IfSome, IsNone, codes};
+ghost use Rattle.clap.specs.Words.{found_of};
 ghost use Rattle.types.specs.declared.limits.TheConstants.{MOST_LIMIT};
 ghost use Rattle.report_command.specs.declared.limits.TheConstants.{MOST_DUMP};
 ghost use Rattle.report_command.specs.Jobs.{IsInRange, KeepsItsModule};
+ghost use Rattle.report_command.specs.Found.{HasNumber};
+ghost use Rattle.report_command.specs.Options.{AsksNamed, AsksReasons, IsOrderOf, IsAskedBy, IsJobOf, texts_in};
 ghost use Rattle.report_command.specs.FaultNumbers.{usage_number, IsWrong};
 
 use crate::arguments::{Argument, CommandRow, FLAG, Form, OPTION, command_of};
@@ -10,6 +13,7 @@ use crate::call::{ARGS, CallWords, FUEL, INVOKE, call_of};
 use crate::limits::{DEFAULT_DUMP, DEFAULT_LIMIT, MOST_DUMP};
 use crate::search::{SEARCH, Search, search_job, search_misuse};
 use crate::show::{SHOW, View, misread, show_job};
+use crate::words::short_of;
 use clap::builder::ValueParser;
 use clap::error::ErrorKind;
 use clap::{ArgMatches, Command, Error};
@@ -253,12 +257,11 @@ fn commands<'a>(alloc: Global) -> Result<Command<'a>, AllocError> {
 
 /// The limit of the log and the length of the dump, where they are there and in range, as the parser sees to.
 pub(crate) fn limit_and_dump_of(matches: &ArgMatches) -> Option<(u32, u32)>
-    ensures { IfSome result (λ n. (1 ≤ n.0) × (n.0 ≤ MOST_LIMIT) × (n.1 ≤ MOST_DUMP)) }
+    ensures range { IfSome result (λ n. (1 ≤ n.0) × (n.0 ≤ MOST_LIMIT) × (n.1 ≤ MOST_DUMP)) }
+    ensures limit { IfSome result (λ n. HasNumber (found_of matches.now) (codes "limit") n.0) }
+    ensures dump { IfSome result (λ n. HasNumber (found_of matches.now) (codes "dump") n.1) }
 {
-    let (Some(limit), Some(dump)) = (
-        matches.get_one::<u32>("limit"),
-        matches.get_one::<u32>("dump"),
-    ) else {
+    let (Some(limit), Some(dump)) = (short_of(matches, "limit"), short_of(matches, "dump")) else {
         return None;
     };
     if limit >= 1 && limit <= MOST_LIMIT && dump <= MOST_DUMP {
@@ -270,7 +273,8 @@ pub(crate) fn limit_and_dump_of(matches: &ArgMatches) -> Option<(u32, u32)>
 
 /// The job of `check`.
 fn check_job<'a>(matches: &ArgMatches<'a>) -> Option<Job<'a>>
-    ensures { IfSome result IsInRange }
+    ensures range { IfSome result IsInRange }
+    ensures asks { IfSome result (AsksNamed (codes "check") (found_of matches.now)) }
 {
     match matches.get_str("file") {
         Some(file) => Some(Job::Check { file }),
@@ -280,7 +284,8 @@ fn check_job<'a>(matches: &ArgMatches<'a>) -> Option<Job<'a>>
 
 /// The job of `run`.
 fn run_job<'a>(alloc: Global, matches: &ArgMatches<'a>) -> Result<Option<Job<'a>>, AllocError>
-    ensures { IfOk result (λ job. IfSome job IsInRange) }
+    ensures range { IfOk result (λ job. IfSome job IsInRange) }
+    ensures asks { IfOk result (λ job. IfSome job (AsksNamed (codes "run") (found_of matches.now))) }
 {
     let (Some(file), Some((limit, dump))) = (matches.get_str("file"), limit_and_dump_of(matches))
     else {
@@ -301,12 +306,13 @@ fn run_job<'a>(alloc: Global, matches: &ArgMatches<'a>) -> Result<Option<Job<'a>
 
 /// The job of `replay`, where its number is there and in range, as the parser sees to.
 fn replay_job<'a>(matches: &ArgMatches<'a>) -> Option<Job<'a>>
-    ensures { IfSome result IsInRange }
+    ensures range { IfSome result IsInRange }
+    ensures asks { IfSome result (AsksNamed (codes "replay") (found_of matches.now)) }
 {
     let (Some(file), Some(saved), Some(dump)) = (
         matches.get_str("file"),
         matches.get_str("record"),
-        matches.get_one::<u32>("dump"),
+        short_of(matches, "dump"),
     ) else {
         return None;
     };
@@ -323,14 +329,16 @@ fn job_of<'a>(
     name: &str,
     matches: &ArgMatches<'a>,
 ) -> Result<Option<Job<'a>>, AllocError>
-    ensures { IfOk result (λ job. IfSome job IsInRange) }
+    ensures range { IfOk result (λ job. IfSome job IsInRange) }
+    ensures asks { IfOk result (λ job. IfSome job (AsksNamed name.now (found_of matches.now))) }
 {
     match name {
+        "check" => Ok(check_job(matches)),
         "run" => run_job(alloc, matches),
         "replay" => Ok(replay_job(matches)),
         "show" => show_job(alloc, matches),
         "search" => search_job(alloc, matches),
-        _ => Ok(check_job(matches)),
+        _ => Ok(None),
     }
 }
 
@@ -534,7 +542,9 @@ pub struct Order<'a> {
 }
 
 /// Whether more is said of a refusal, by commands that have the option.
-fn explains(name: &str, matches: &ArgMatches) -> bool {
+fn explains(name: &str, matches: &ArgMatches) -> bool
+    ensures { AsksReasons name.now (found_of matches.now) result }
+{
     match name {
         "check" | "run" | "replay" => matches.get_flag("explain"),
         _ => false,
@@ -548,6 +558,7 @@ fn explains(name: &str, matches: &ArgMatches) -> bool {
 pub fn command<'a>(alloc: Global, words: &'a [&'a str]) -> Result<Job<'a>, Usage>
     ensures range { IfOk result IsInRange }
     ensures kept { IfOk result KeepsItsModule }
+    ensures asks { IfOk result (IsJobOf (texts_in words.now)) }
 {
     match asked(alloc, words) {
         Ok(asked) => Ok(asked.job),
@@ -559,6 +570,7 @@ pub fn command<'a>(alloc: Global, words: &'a [&'a str]) -> Result<Job<'a>, Usage
 fn order_of<'a>(alloc: Global, matches: &ArgMatches<'a>) -> Result<Order<'a>, Usage>
     ensures range { IfOk result (λ asked. IsInRange asked.job) }
     ensures kept { IfOk result (λ asked. KeepsItsModule asked.job) }
+    ensures asks { IfOk result (IsOrderOf matches.now) }
 {
     let Some((name, matches)) = matches.subcommand() else {
         return Err(misused(alloc, Misuse::Unreadable));
@@ -589,6 +601,7 @@ fn order_of<'a>(alloc: Global, matches: &ArgMatches<'a>) -> Result<Order<'a>, Us
 pub fn asked<'a>(alloc: Global, words: &'a [&'a str]) -> Result<Order<'a>, Usage>
     ensures range { IfOk result (λ asked. IsInRange asked.job) }
     ensures kept { IfOk result (λ asked. KeepsItsModule asked.job) }
+    ensures asks { IfOk result (IsAskedBy (texts_in words.now)) }
 {
     let matches = commands(alloc)?.try_get_matches_from(words)?;
     order_of(alloc, &matches)

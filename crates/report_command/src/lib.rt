@@ -1,7 +1,9 @@
 //! The command line as a job.
 //!
-//! Proved: a job's numbers are in their ranges; no run keeps a record in place of its module, or one of a memory of
-//! words. A result that is expected of a search is spelled whole.
+//! Proved: each field of a job is what `clap` found of the argument that it is (`specs/Options.antt`, a line for each),
+//! and its numbers are in their ranges. No run keeps a record in place of its module, or one of a memory of words. A
+//! result that is expected of a search is spelled whole. Which numbers `A-B` of lines and addresses spell, and what
+//! `clap` finds in words, cases say.
 #![tactic(auto)]
 
 mod arguments;
@@ -11,6 +13,7 @@ mod limits;
 mod lines;
 mod search;
 mod show;
+mod words;
 
 pub use call::CallWords;
 pub use command_line::{Job, Misuse, Order, RunJob, Usage, asked, command, misused};

@@ -1,5 +1,6 @@
 //! Words that are looked for in the lines of threads, and results that are expected.
 ghost use Rattle.std.specs.Prelude.{◌≡◌, true, IfOk, IfSome};
+ghost use Rattle.report_command.specs.Options.{IsFindOf};
 ghost use Rattle.report_command.specs.Results.{IsSpelledBy};
 
 use report_choice::Find;
@@ -105,7 +106,9 @@ pub(crate) fn standing_of(alloc: Global, words: &str) -> Result<Standing, AllocE
 }
 
 /// What a search through every order looks for by words of the lines in which it says what never ends.
-pub(crate) fn endless_of(words: &str) -> Option<Find<'static>> {
+pub(crate) fn endless_of(words: &str) -> Option<Find<'static>>
+    ensures { IfSome result (IsFindOf words.now) }
+{
     if "from which no run ends".contains(words) {
         return Some(Find::NoEnd);
     }

@@ -1,8 +1,12 @@
 //! The command line of a search.
-ghost use Rattle.std.specs.Prelude.{◌≤◌, IfOk, IfSome};
+ghost use Rattle.std.specs.Prelude.{◌≡◌, ◌≤◌, true, IfOk, IfSome, is_some, codes};
+ghost use Rattle.clap.specs.Words.{found_of, first_value};
 ghost use Rattle.report_command.specs.declared.limits.TheConstants.{MOST_STATES};
 ghost use Rattle.report_command.specs.Jobs.{IsInRange};
 ghost use Rattle.report_command.specs.Searches.{IsSoughtInRange};
+ghost use Rattle.report_command.specs.Found.{HasNumber, HasNumberOr, HasText, is_given};
+ghost use Rattle.report_command.specs.Options.{AsksAll, AsksFind, AsksNamed, AsksResult, AsksSought, AsksTarget};
+ghost use Rattle.report_command.specs.Options.{AsksEffort, IsWay, IsFindOf, stops_by};
 
 use crate::arguments::{Argument, CommandRow, FLAG, OPTION};
 use crate::call::{ARGS, CallWords, FUEL, INVOKE, call_of};
@@ -13,10 +17,12 @@ use crate::limits::{
     MOST_STATES,
 };
 use crate::lines::{Standing, endless_of, result_of, standing_of};
+use crate::words::{number_of, short_if_any};
 use clap::ArgMatches;
 use clap::builder::ValueParser;
 use report_choice::{Find, MOST_DEPTH, Sought, Target, Way};
 use std::alloc::{AllocError, Global};
+use types::Outcome;
 
 /// A search through runs of a function of a module.
 #[derive(Drop)]
@@ -241,7 +247,9 @@ pub(crate) static SEARCH: CommandRow = CommandRow {
 };
 
 /// The strategy that a word names: `mix`, `random`, `spin`, or `pct:` with a depth of 1 to 32.
-fn way_of(word: &str) -> Option<Way> {
+fn way_of(word: &str) -> Option<Way>
+    ensures { IfSome result (IsWay word.now) }
+{
     match word {
         "mix" => return Some(Way::Mix),
         "random" => return Some(Way::Random),
@@ -294,7 +302,9 @@ pub(crate) fn search_misuse(
 }
 
 /// What is looked for by words: where no line of a thread can have them, what a search through every order says.
-fn find_of<'a>(alloc: Global, words: &'a str, is_all: bool) -> Result<Find<'a>, AllocError> {
+fn find_of<'a>(alloc: Global, words: &'a str, is_all: bool) -> Result<Find<'a>, AllocError>
+    ensures { IfOk result (IsFindOf words.now) }
+{
     if is_all
         && standing_of(alloc, words)? == Standing::Nowhere
         && let Some(find) = endless_of(words)
@@ -304,30 +314,60 @@ fn find_of<'a>(alloc: Global, words: &'a str, is_all: bool) -> Result<Find<'a>, 
     Ok(Find::Words(words))
 }
 
-/// What is looked for: a trap or a stop, where nothing is said.
-fn target_of<'a>(alloc: Global, matches: &ArgMatches<'a>) -> Result<Target<'a>, AllocError> {
-    let expect = match matches.get_str("expect") {
-        Some(words) => result_of(alloc, words)?,
-        None => None,
+/// The result that is expected, if one is; `None` where what is there is none.
+fn expect_of(alloc: Global, matches: &ArgMatches) -> Result<Option<Option<Outcome>>, AllocError>
+    ensures { IfOk result (λ read. IfSome read (AsksResult (found_of matches.now))) }
+{
+    let Some(words) = matches.get_str("expect") else {
+        return Ok(Some(None));
     };
-    let find = match matches.get_str("find") {
-        Some(words) => find_of(alloc, words, matches.get_flag("all"))?,
-        None if expect.is_some() => Find::Nothing,
-        None => Find::Failure,
+    match result_of(alloc, words)? {
+        Some(outcome) => Ok(Some(Some(outcome))),
+        None => Ok(None),
+    }
+}
+
+/// What is looked for in the lines of threads: a trap or a stop, where nothing is said.
+fn sought_words_of<'a>(alloc: Global, matches: &ArgMatches<'a>) -> Result<Find<'a>, AllocError>
+    ensures { IfOk result (AsksFind (found_of matches.now)) }
+{
+    match matches.get_str("find") {
+        Some(words) => find_of(alloc, words, matches.get_flag("all")),
+        None => match matches.get_str("expect") {
+            Some(_) => Ok(Find::Nothing),
+            None => Ok(Find::Failure),
+        },
+    }
+}
+
+/// What is looked for; `None` where the result that is expected is none.
+fn target_of<'a>(alloc: Global, matches: &ArgMatches<'a>) -> Result<Option<Target<'a>>, AllocError>
+    ensures { IfOk result (λ target. IfSome target (AsksTarget (found_of matches.now))) }
+{
+    let Some(expect) = expect_of(alloc, matches)? else {
+        return Ok(None);
     };
-    Ok(Target { find, expect })
+    let find = sought_words_of(alloc, matches)?;
+    Ok(Some(Target { find, expect }))
 }
 
 /// Whether a search stops at the first run that is looked for: where it is said what that is, or what becomes of it.
-fn stops(matches: &ArgMatches) -> bool {
-    let is_said = matches.get_str("find").is_some() || matches.get_str("expect").is_some();
-    is_said || matches.get_str("record").is_some() || matches.get_flag("shrink")
+fn stops(matches: &ArgMatches, shrink: bool) -> bool
+    ensures { result ≡ stops_by (found_of matches.now) shrink }
+{
+    matches.get_str("find").is_some()
+        || matches.get_str("expect").is_some()
+        || matches.get_str("record").is_some()
+        || shrink
 }
 
 /// Which runs are drawn, where the numbers are there and in range, as the parser sees to, and the strategy is one; and
 /// what is looked for.
-fn sought_of<'a>(matches: &ArgMatches<'a>, target: Target<'a>) -> Option<Sought<'a>>
-    ensures { IfSome result IsSoughtInRange }
+fn sought_of<'a>(matches: &ArgMatches<'a>, target: Target<'a>, stops: bool) -> Option<Sought<'a>>
+    requires { AsksTarget (found_of matches.now) target }
+    ensures range { IfSome result IsSoughtInRange }
+    ensures asks { IfSome result (AsksSought (found_of matches.now)) }
+    ensures stops { IfSome result (λ s. s.stops ≡ stops) }
 {
     let Some(word) = matches.get_str("strategy") else {
         return None;
@@ -336,9 +376,9 @@ fn sought_of<'a>(matches: &ArgMatches<'a>, target: Target<'a>) -> Option<Sought<
         return None;
     };
     let (Some(runs), Some(from), Some(seed)) = (
-        matches.get_one::<u64>("runs"),
-        matches.get_one::<u64>("from"),
-        matches.get_one::<u64>("seed"),
+        number_of(matches, "runs"),
+        number_of(matches, "from"),
+        number_of(matches, "seed"),
     ) else {
         return None;
     };
@@ -353,19 +393,59 @@ fn sought_of<'a>(matches: &ArgMatches<'a>, target: Target<'a>) -> Option<Sought<
         limit,
         dump,
         target,
-        stops: stops(matches),
+        stops,
     })
 }
 
-/// How many states are met at most, where every order is gone through.
-fn all_of(matches: &ArgMatches) -> Option<u32>
-    ensures { IfSome result (λ states. (1 ≤ states) × (states ≤ MOST_STATES)) }
+/// The number of an argument, or where it isn't there the other one; `None` where what is there is no number.
+fn short_or(matches: &ArgMatches, name: &str, other: u32) -> Option<u32>
+    ensures { IfSome result (HasNumberOr (found_of matches.now) name.now other) }
+{
+    match short_if_any(matches, name) {
+        Ok(Some(number)) => Some(number),
+        Ok(None) => Some(other),
+        Err(_) => None,
+    }
+}
+
+/// How many states are met at most, where every order is gone through; `None` where their number can't be read.
+fn all_of(matches: &ArgMatches) -> Option<Option<u32>>
+    ensures range { IfSome result (λ all. IfSome all (λ states. (1 ≤ states) × (states ≤ MOST_STATES))) }
+    ensures asks { IfSome result (AsksAll (found_of matches.now)) }
 {
     if !matches.get_flag("all") {
-        return None;
+        return Some(None);
     }
-    let states = matches.get_one::<u32>("states").unwrap_or(DEFAULT_STATES);
-    Some(states.clamp(1, MOST_STATES))
+    match short_or(matches, "states", DEFAULT_STATES) {
+        Some(states) if states >= 1 && states <= MOST_STATES => Some(Some(states)),
+        _ => None,
+    }
+}
+
+/// How long a search takes, and that of smaller runs, and by how many threads.
+#[derive(Clone, Copy)]
+struct Effort {
+    shrink_time: u32,
+    time: Option<u32>,
+    jobs: Option<u32>,
+}
+
+/// That of the words; `None` where a number can't be read.
+fn effort_of(matches: &ArgMatches) -> Option<Effort>
+    ensures { IfSome result (λ e. AsksEffort (found_of matches.now) e.shrink_time e.time e.jobs) }
+{
+    let (Some(shrink_time), Ok(time), Ok(jobs)) = (
+        short_or(matches, "shrink-time", DEFAULT_SHRINK_SECONDS),
+        short_if_any(matches, "time"),
+        short_if_any(matches, "jobs"),
+    ) else {
+        return None;
+    };
+    Some(Effort {
+        shrink_time,
+        time,
+        jobs,
+    })
 }
 
 /// The job of `search`, where its numbers are there and in range, as the parser sees to, and its strategy is one.
@@ -373,26 +453,37 @@ pub(crate) fn search_job<'a>(
     alloc: Global,
     matches: &ArgMatches<'a>,
 ) -> Result<Option<Job<'a>>, AllocError>
-    ensures { IfOk result (λ job. IfSome job IsInRange) }
+    ensures range { IfOk result (λ job. IfSome job IsInRange) }
+    ensures asks { IfOk result (λ job. IfSome job (AsksNamed (codes "search") (found_of matches.now))) }
 {
-    let target = target_of(alloc, matches)?;
-    let (Some(file), Some(sought)) = (matches.get_str("file"), sought_of(matches, target)) else {
+    let Some(target) = target_of(alloc, matches)? else {
+        return Ok(None);
+    };
+    let shrink = matches.get_flag("shrink");
+    let sought = sought_of(matches, target, stops(matches, shrink));
+    let (Some(file), Some(sought)) = (matches.get_str("file"), sought) else {
+        return Ok(None);
+    };
+    let (Some(effort), Some(all)) = (effort_of(matches), all_of(matches)) else {
         return Ok(None);
     };
     let Some(call) = call_of(alloc, matches)? else {
         return Ok(None);
     };
+    let Effort {
+        shrink_time,
+        time,
+        jobs,
+    } = effort;
     Ok(Some(Job::Search(Search {
         file,
         call,
         sought,
-        shrink: matches.get_flag("shrink"),
-        shrink_time: matches
-            .get_one::<u32>("shrink-time")
-            .unwrap_or(DEFAULT_SHRINK_SECONDS),
-        time: matches.get_one::<u32>("time"),
-        jobs: matches.get_one::<u32>("jobs"),
-        all: all_of(matches),
+        shrink,
+        shrink_time,
+        time,
+        jobs,
+        all,
         until: matches.get_str("until"),
         save: matches.get_str("record"),
     })))

@@ -1,13 +1,18 @@
 //! The command `show`, and its job.
 
-ghost use Rattle.std.specs.Prelude.{◌≡◌, ◌≤◌, IfOk, IfSome};
-ghost use Rattle.report_command.specs.declared.limits.TheConstants.{MOST_DUMP};
+ghost use Rattle.std.specs.Prelude.{◌≡◌, ◌≤◌, IfOk, IfSome, is_some, codes};
+ghost use Rattle.clap.specs.Words.{found_of};
+ghost use Rattle.report_command.specs.declared.limits.TheConstants.{MOST_DUMP, NARROWEST, WIDEST};
 ghost use Rattle.report_command.specs.Jobs.{IsInRange};
 ghost use Rattle.report_command.specs.Views.{IsViewInRange, path_of};
+ghost use Rattle.report_command.specs.Found.{is_given};
+ghost use Rattle.report_command.specs.Options.{AsksBytes, AsksColor, AsksLook, AsksNamed, AsksShown, AsksView};
+ghost use Rattle.report_command.specs.Options.{IsBytes};
 
 use crate::arguments::{Argument, CommandRow, Form, OPTION};
 use crate::command_line::{FILE, Job, Misuse, RECORD};
 use crate::limits::{DEFAULT_WIDTH, MOST_DUMP, MOST_LINE, NARROWEST, WIDEST};
+use crate::words::{number_if_any, numbers_of, short_of};
 use clap::ArgMatches;
 use clap::builder::ValueParser;
 use report_choice::{Choice, Color, Look, Span};
@@ -50,7 +55,8 @@ impl<'a> View<'a> {
 
 /// An address and a number of bytes, of a text `A:N`.
 fn bytes_of(text: &str) -> Option<(u64, u32)>
-    ensures { IfSome result (λ bytes. bytes.1 ≤ MOST_DUMP) }
+    ensures range { IfSome result (λ bytes. bytes.1 ≤ MOST_DUMP) }
+    ensures spelled { IfSome result (λ bytes. IsBytes text.now bytes.0 bytes.1) }
 {
     let Some((addr, count)) = text.split_once(':') else {
         return None;
@@ -167,11 +173,16 @@ pub(crate) static SHOW: CommandRow = CommandRow {
     ],
 };
 
-/// The span in an argument, if that is given.
-fn span_of(matches: &ArgMatches, name: &str) -> Option<Span> {
+/// The span in an argument that may be left out; `None` where what is there is no span.
+fn span_of(matches: &ArgMatches, name: &str) -> Option<Option<Span>>
+    ensures { IfSome result (λ span. is_some span ≡ is_given (found_of matches.now) name.now) }
+{
     match matches.get_str(name) {
-        Some(text) => Span::read(text),
-        None => None,
+        Some(text) => match Span::read(text) {
+            Some(span) => Some(Some(span)),
+            None => None,
+        },
+        None => Some(None),
     }
 }
 
@@ -200,51 +211,80 @@ pub(crate) fn misread(name: &str, matches: &ArgMatches) -> Option<Misuse> {
     }
 }
 
-/// What is chosen of the record.
-fn choice_of(alloc: Global, matches: &ArgMatches) -> Result<Choice, AllocError> {
-    let mut threads = Vec::new(alloc);
-    for text in matches.get_strs("thread").unwrap_or(&[]) {
-        if let Ok(thread) = text.parse::<u32>() {
-            threads.push(thread)?;
-        }
+/// When threads have colors.
+fn color_of(matches: &ArgMatches) -> Color
+    ensures { AsksColor (found_of matches.now) result }
+{
+    match matches.get_str("color") {
+        Some("always") => Color::Always,
+        Some("never") => Color::Never,
+        _ => Color::Auto,
     }
-    Ok(Choice {
-        lines: span_of(matches, "lines"),
-        threads,
-        addrs: span_of(matches, "addr"),
-    })
 }
 
-/// The moment that is asked for, if one is.
-fn moment_of(matches: &ArgMatches) -> Option<At>
-    ensures { IfSome result (λ at. at.count ≤ MOST_DUMP) }
+/// How the record is shown; `None` where an argument can't be read.
+fn look_of(alloc: Global, matches: &ArgMatches) -> Result<Option<Look>, AllocError>
+    ensures width { IfOk result (λ look. IfSome look (λ l. (NARROWEST ≤ l.width) × (l.width ≤ WIDEST))) }
+    ensures asks { IfOk result (λ look. IfSome look (AsksLook (found_of matches.now))) }
 {
-    let Some(line) = matches.get_one::<u64>("at") else {
-        return None;
+    let (Some(lines), Some(addrs)) = (span_of(matches, "lines"), span_of(matches, "addr")) else {
+        return Ok(None);
     };
-    let bytes = match matches.get_str("dump") {
+    let Some(width) = short_of(matches, "width") else {
+        return Ok(None);
+    };
+    if width < NARROWEST || width > WIDEST {
+        return Ok(None);
+    }
+    let Some(threads) = numbers_of(alloc, matches, "thread")? else {
+        return Ok(None);
+    };
+    Ok(Some(Look {
+        choice: Choice {
+            lines,
+            threads,
+            addrs,
+        },
+        width: width as usize,
+        color: color_of(matches),
+    }))
+}
+
+/// The bytes that are shown of a moment, none where nobody asks; `None` where what is there can't be read.
+fn moment_bytes_of(matches: &ArgMatches) -> Option<(u64, u32)>
+    ensures range { IfSome result (λ bytes. bytes.1 ≤ MOST_DUMP) }
+    ensures asks { IfSome result (λ bytes. AsksBytes (found_of matches.now) bytes.0 bytes.1) }
+{
+    match matches.get_str("dump") {
         Some(text) => bytes_of(text),
         None => Some((0, 0)),
-    };
-    match bytes {
-        Some((addr, count)) => Some(At { line, addr, count }),
-        None => None,
     }
 }
 
-/// What is to be made of the record.
-fn view_of<'a>(matches: &ArgMatches<'a>) -> View<'a>
-    ensures { IsViewInRange result }
+/// What is to be made of the record, where it makes no file; `None` where an argument can't be read.
+fn shown_of<'a>(matches: &ArgMatches<'a>) -> Option<View<'a>>
+    ensures range { IfSome result IsViewInRange }
+    ensures asks { IfSome result (AsksShown (found_of matches.now)) }
 {
-    if let Some(path) = matches.get_str("html") {
-        return View::Page(path);
+    match number_if_any(matches, "at") {
+        Ok(Some(line)) => match moment_bytes_of(matches) {
+            Some((addr, count)) => Some(View::Moment(At { line, addr, count })),
+            None => None,
+        },
+        Ok(None) => Some(View::Rows),
+        Err(_) => None,
     }
-    if let Some(path) = matches.get_str("trace") {
-        return View::Trace(path);
-    }
-    match moment_of(matches) {
-        Some(at) => View::Moment(at),
-        None => View::Rows,
+}
+
+/// What is to be made of the record; `None` where an argument can't be read.
+fn view_of<'a>(matches: &ArgMatches<'a>) -> Option<View<'a>>
+    ensures range { IfSome result IsViewInRange }
+    ensures asks { IfSome result (AsksView (found_of matches.now)) }
+{
+    match (matches.get_str("html"), matches.get_str("trace")) {
+        (Some(path), _) => Some(View::Page(path)),
+        (None, Some(path)) => Some(View::Trace(path)),
+        (None, None) => shown_of(matches),
     }
 }
 
@@ -253,34 +293,22 @@ pub(crate) fn show_job<'a>(
     alloc: Global,
     matches: &ArgMatches<'a>,
 ) -> Result<Option<Job<'a>>, AllocError>
-    ensures { IfOk result (λ job. IfSome job IsInRange) }
+    ensures range { IfOk result (λ job. IfSome job IsInRange) }
+    ensures asks { IfOk result (λ job. IfSome job (AsksNamed (codes "show") (found_of matches.now))) }
 {
-    let (Some(file), Some(saved), Some(width)) = (
-        matches.get_str("file"),
-        matches.get_str("record"),
-        matches.get_one::<u32>("width"),
-    ) else {
+    let (Some(file), Some(saved)) = (matches.get_str("file"), matches.get_str("record")) else {
         return Ok(None);
     };
-    if width < NARROWEST || width > WIDEST {
+    let Some(view) = view_of(matches) else {
         return Ok(None);
-    }
-    let color = match matches.get_str("color") {
-        Some("always") => Color::Always,
-        Some("never") => Color::Never,
-        _ => Color::Auto,
     };
-    let names = matches.get_str("names");
-    let view = view_of(matches);
-    let look = Look {
-        choice: choice_of(alloc, matches)?,
-        width: width as usize,
-        color,
+    let Some(look) = look_of(alloc, matches)? else {
+        return Ok(None);
     };
     Ok(Some(Job::Show {
         file,
         saved,
-        names,
+        names: matches.get_str("names"),
         look,
         view,
     }))

@@ -1,0 +1,60 @@
+-- What the parser found of an argument: the texts under its name, as `clap` has them.
+use Rattle.std.specs.Prelude.{ℕ, ◌≡◌, ◌↔◌, Bool, true, false, List, [], map, codes}
+use Rattle.std.specs.Prelude.{Option, Some, None, is_some, option_map, unwrap_or}
+use Rattle.std.specs.Borrow.{Bor}
+use Rattle.std.specs.Str.Parse.{digits_value, without_leading_plus}
+use Rattle.clap.specs.Words.{first_value, one_text, matched_of, raw_values, typed_values}
+use Rattle.clap.specs.declared.parser.matches.Found.{Found}
+
+-- It isn't there.
+abbrev pub HasNo : Found → List ℕ → Type 0
+HasNo f name = first_value f name ≡ None
+
+-- It is.
+abbrev pub is_given : Found → List ℕ → Bool
+is_given f name = is_some (first_value f name)
+
+-- It is this text.
+abbrev pub HasText : Found → List ℕ → Bor (List ℕ) → Type 0
+HasText f name text = first_value f name ≡ Some text.now
+
+-- It is this text, or neither is there.
+abbrev pub HasTextIfAny : Found → List ℕ → Option (Bor (List ℕ)) → Type 0
+HasTextIfAny f name text = option_map (λ t. t.now) text ≡ first_value f name
+
+-- It is these texts.
+abbrev pub HasTexts : Found → List ℕ → List (Bor (List ℕ)) → Type 0
+HasTexts f name all = map (λ t. t.now) all ≡ unwrap_or (option_map raw_values (matched_of f name)) []
+
+-- The number that decimal digits write, behind a plus or none.
+abbrev pub number_in : List ℕ → ℕ
+number_in text = digits_value 10 (without_leading_plus text)
+
+abbrev pub number_found : Found → List ℕ → Option ℕ
+number_found f name = option_map number_in (one_text f name)
+
+-- It is this number.
+abbrev pub HasNumber : Found → List ℕ → ℕ → Type 0
+HasNumber f name n = number_found f name ≡ Some n
+
+-- It is this number, or neither is there.
+abbrev pub HasNumberIfAny : Found → List ℕ → Option ℕ → Type 0
+HasNumberIfAny f name n = number_found f name ≡ n
+
+-- It is this number, or where it isn't there the other one.
+abbrev pub HasNumberOr : Found → List ℕ → ℕ → ℕ → Type 0
+HasNumberOr f name other n = unwrap_or (number_found f name) other ≡ n
+
+-- It is these numbers.
+abbrev pub HasNumbers : Found → List ℕ → List ℕ → Type 0
+HasNumbers f name all = all ≡ map number_in (unwrap_or (option_map typed_values (matched_of f name)) [])
+
+-- A flag, which says `true` or `false`, and is false where it isn't there.
+pub record HasFlag (f : Found) (name : List ℕ) (is : Bool) : Type 0 where
+  pub missing : one_text f name ≡ None → is ≡ false
+  pub yes : one_text f name ≡ Some (codes "true") → is ≡ true
+  pub no : one_text f name ≡ Some (codes "false") → is ≡ false
+
+-- Whether it is this word.
+abbrev pub IsWord : Found → List ℕ → List ℕ → Bool → Type 0
+IsWord f name word is = (is ≡ true) ↔ (first_value f name ≡ Some word)

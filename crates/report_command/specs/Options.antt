@@ -1,0 +1,216 @@
+-- Which field of a job is which argument of the command line: a line for each.
+use Rattle.std.specs.Prelude.{ℕ, ◌≡◌, ◌≢◌, ◌⊎◌, ◌||◌, Bool, true, List, map, ◌++◌, codes}
+use Rattle.std.specs.Prelude.{Option, Some, None, is_some, option_map, IfSome, MatchOption}
+use Rattle.std.specs.Borrow.{Bor}
+use Rattle.clap.specs.Words.{first_value, rows_of, subcommand_name_of, subcommand_rows_of}
+use Rattle.clap.specs.Words.{HasMatchesOf, app_of, IsParsedFrom}
+use Rattle.clap.specs.declared.builder.command.Command.{Command}
+use Rattle.clap.specs.declared.parser.matches.ArgMatches.{ArgMatches}
+use Rattle.clap.specs.declared.parser.matches.Found.{Found}
+use Rattle.types.specs.declared.outcome.Outcome.{Outcome}
+use Rattle.report_choice.specs.declared.way.Way.{Way}
+use Rattle.report_choice.specs.declared.way.Way.TheVariants.{Mix, Random, Priorities, Spin}
+use Rattle.report_choice.specs.declared.choice.Color.{Color}
+use Rattle.report_choice.specs.declared.choice.Color.TheVariants.{Auto, Always, Never}
+use Rattle.report_choice.specs.declared.choice.Look.{Look}
+use Rattle.report_choice.specs.declared.sought.Find.{Find}
+use Rattle.report_choice.specs.declared.sought.Find.TheVariants.{Nothing, Failure, Words, NoEnd, ForEver}
+use Rattle.report_choice.specs.declared.sought.Target.{Target}
+use Rattle.report_choice.specs.declared.sought.Sought.{Sought}
+use Rattle.report_command.specs.declared.limits.TheConstants.{DEFAULT_STATES, DEFAULT_SHRINK_SECONDS}
+use Rattle.report_command.specs.declared.call.CallWords.{CallWords}
+use Rattle.report_command.specs.declared.command_line.RunJob.{RunJob}
+use Rattle.report_command.specs.declared.command_line.Job.{Job}
+use Rattle.report_command.specs.declared.command_line.Job.TheVariants as jobs
+use Rattle.report_command.specs.declared.command_line.Order.{Order}
+use Rattle.report_command.specs.declared.show.View.{View}
+use Rattle.report_command.specs.declared.show.View.TheVariants.{Rows, Moment, Page, Trace}
+use Rattle.report_command.specs.declared.search.Search.{Search}
+use Rattle.report_command.specs.Found.{HasNo, is_given, HasText, HasTextIfAny, HasTexts, number_in, HasFlag, IsWord}
+use Rattle.report_command.specs.Found.{HasNumber, HasNumberIfAny, HasNumberOr, HasNumbers}
+use Rattle.report_command.specs.Results.{IsSpelledBy}
+
+-- The call of a run and of a search.
+pub record AsksCall (f : Found) (call : CallWords) : Type 0 where
+  pub invoke : HasText f (codes "invoke") call.invoke
+  pub args : HasTexts f (codes "args") call.args.items
+  pub fuel : HasNumber f (codes "fuel") call.fuel
+
+-- `run`
+pub record AsksRun (f : Found) (job : RunJob) : Type 0 where
+  pub file : HasText f (codes "file") job.file
+  pub call : AsksCall f job.call
+  pub memory : IsWord f (codes "memory") (codes "words") job.on_words
+  pub limit : HasNumber f (codes "limit") job.limit
+  pub save : HasTextIfAny f (codes "record") job.save
+  pub dump : HasNumber f (codes "dump") job.dump
+
+-- `replay`
+pub record AsksReplay (f : Found) (file saved : Bor (List ℕ)) (dump : ℕ) : Type 0 where
+  pub file_is : HasText f (codes "file") file
+  pub saved_is : HasText f (codes "record") saved
+  pub dump_is : HasNumber f (codes "dump") dump
+
+-- The address and the number of a text `A:N`.
+abbrev pub IsBytes : List ℕ → ℕ → ℕ → Type 0
+IsBytes text addr count =
+    (first : List ℕ) × (last : List ℕ) × (text ≡ first ++ codes ":" ++ last) × (addr ≡ number_in first)
+    × (count ≡ number_in last)
+
+-- Those of `--dump A:N`, or none.
+abbrev pub AsksBytes : Found → ℕ → ℕ → Type 0
+AsksBytes f addr count =
+    MatchOption (first_value f (codes "dump")) ((addr ≡ 0) × (count ≡ 0)) (λ text. IsBytes text addr count)
+
+-- What is made of a record, where no file is.
+abbrev pub AsksShown : Found → View → Type 0
+AsksShown f Rows = HasNumberIfAny f (codes "at") None
+AsksShown f (Moment at) = HasNumber f (codes "at") at.line × AsksBytes f at.addr at.count
+AsksShown f (Page path) = ⊥
+AsksShown f (Trace path) = ⊥
+
+-- What is made of a record.
+abbrev pub AsksView : Found → View → Type 0
+AsksView f Rows = HasNo f (codes "html") × HasNo f (codes "trace") × HasNumberIfAny f (codes "at") None
+AsksView f (Moment at) = HasNumber f (codes "at") at.line × AsksBytes f at.addr at.count
+AsksView f (Page path) = HasText f (codes "html") path
+AsksView f (Trace path) = HasText f (codes "trace") path
+
+abbrev pub AsksColor : Found → Color → Type 0
+AsksColor f Always = first_value f (codes "color") ≡ Some (codes "always")
+AsksColor f Never = first_value f (codes "color") ≡ Some (codes "never")
+AsksColor f Auto =
+    (first_value f (codes "color") ≢ Some (codes "always")) × (first_value f (codes "color") ≢ Some (codes "never"))
+
+-- How a record is shown. Which lines and addresses a text `A-B` spells is read elsewhere.
+pub record AsksLook (f : Found) (look : Look) : Type 0 where
+  pub lines : is_some look.choice.lines ≡ is_given f (codes "lines")
+  pub threads : HasNumbers f (codes "thread") look.choice.threads.items
+  pub addrs : is_some look.choice.addrs ≡ is_given f (codes "addr")
+  pub width : HasNumber f (codes "width") look.width
+  pub color : AsksColor f look.color
+
+-- `show`
+pub record AsksShow (f : Found) (file saved : Bor (List ℕ)) (names : Option (Bor (List ℕ))) (look : Look)
+    (view : View) : Type 0 where
+  pub file_is : HasText f (codes "file") file
+  pub saved_is : HasText f (codes "record") saved
+  pub names_is : HasTextIfAny f (codes "names") names
+  pub look_is : AsksLook f look
+  pub view_is : AsksView f view
+
+-- The strategy that a word names.
+abbrev pub IsWay : List ℕ → Way → Type 0
+IsWay word Mix = word ≡ codes "mix"
+IsWay word Random = word ≡ codes "random"
+IsWay word Spin = word ≡ codes "spin"
+IsWay word (Priorities depth) = (digits : List ℕ) × (word ≡ codes "pct:" ++ digits) × (depth ≡ number_in digits)
+
+abbrev pub AsksWay : Found → Way → Type 0
+AsksWay f way = (word : List ℕ) × (first_value f (codes "strategy") ≡ Some word) × IsWay word way
+
+-- What is looked for by words; where none are given a trap or a stop, or nothing where a result is expected.
+abbrev pub AsksFind : Found → Find → Type 0
+AsksFind f (Words words) = HasText f (codes "find") words
+AsksFind f Nothing = HasNo f (codes "find") × (is_given f (codes "expect") ≡ true)
+AsksFind f Failure = HasNo f (codes "find") × HasNo f (codes "expect")
+AsksFind f NoEnd = is_given f (codes "find") ≡ true
+AsksFind f ForEver = is_given f (codes "find") ≡ true
+
+-- What is looked for by words that are given.
+abbrev pub IsFindOf : List ℕ → Find → Type 0
+IsFindOf words (Words text) = text.now ≡ words
+IsFindOf words Nothing = ⊥
+IsFindOf words Failure = ⊥
+IsFindOf words NoEnd = Unit {0}
+IsFindOf words ForEver = Unit {0}
+
+abbrev pub AsksResult : Found → Option Outcome → Type 0
+AsksResult f None = HasNo f (codes "expect")
+AsksResult f (Some result) = (words : List ℕ) × (first_value f (codes "expect") ≡ Some words) × IsSpelledBy words result
+
+pub record AsksTarget (f : Found) (target : Target) : Type 0 where
+  pub find : AsksFind f target.find
+  pub expect : AsksResult f target.expect
+
+-- A search stops at the first run that is looked for where it is said what that is, or what becomes of it.
+abbrev pub stops_by : Found → Bool → Bool
+stops_by f shrink = is_given f (codes "find") || is_given f (codes "expect") || is_given f (codes "record") || shrink
+
+-- Which runs a search makes.
+pub record AsksSought (f : Found) (s : Sought) : Type 0 where
+  pub way : AsksWay f s.way
+  pub seed : HasNumber f (codes "seed") s.seed
+  pub from : HasNumber f (codes "from") s.from
+  pub runs : HasNumber f (codes "runs") s.runs
+  pub limit : HasNumber f (codes "limit") s.limit
+  pub dump : HasNumber f (codes "dump") s.dump
+  pub target : AsksTarget f s.target
+
+-- How many states are met at most, where every order is gone through.
+abbrev pub AsksAll : Found → Option ℕ → Type 0
+AsksAll f all = HasFlag f (codes "all") (is_some all) × IfSome all (HasNumberOr f (codes "states") DEFAULT_STATES)
+
+-- For how long and by how many threads.
+pub record AsksEffort (f : Found) (shrink_time : ℕ) (time jobs : Option ℕ) : Type 0 where
+  pub shrink_time_is : HasNumberOr f (codes "shrink-time") DEFAULT_SHRINK_SECONDS shrink_time
+  pub time_is : HasNumberIfAny f (codes "time") time
+  pub jobs_is : HasNumberIfAny f (codes "jobs") jobs
+
+-- `search`
+pub record AsksSearch (f : Found) (s : Search) : Type 0 where
+  pub file : HasText f (codes "file") s.file
+  pub call : AsksCall f s.call
+  pub sought : AsksSought f s.sought
+  pub stops : s.sought.stops ≡ stops_by f s.shrink
+  pub shrink : HasFlag f (codes "shrink") s.shrink
+  pub effort : AsksEffort f s.shrink_time s.time s.jobs
+  pub all : AsksAll f s.all
+  pub until : HasTextIfAny f (codes "until") s.until
+  pub save : HasTextIfAny f (codes "record") s.save
+
+-- The job of a command.
+abbrev pub AsksJob : Found → Job → Type 0
+AsksJob f (jobs.Check file) = HasText f (codes "file") file
+AsksJob f (jobs.Run job) = AsksRun f job
+AsksJob f (jobs.Replay file saved dump) = AsksReplay f file saved dump
+AsksJob f (jobs.Show file saved names look view) = AsksShow f file saved names look view
+AsksJob f (jobs.Search s) = AsksSearch f s
+
+-- Its command.
+abbrev pub command_name : Job → List ℕ
+command_name (jobs.Check file) = codes "check"
+command_name (jobs.Run job) = codes "run"
+command_name (jobs.Replay file saved dump) = codes "replay"
+command_name (jobs.Show file saved names look view) = codes "show"
+command_name (jobs.Search s) = codes "search"
+
+abbrev pub AsksNamed : List ℕ → Found → Job → Type 0
+AsksNamed name f job = (command_name job ≡ name) × AsksJob f job
+
+-- Whether more is said of a refusal, by commands that have the option.
+abbrev pub AsksReasons : List ℕ → Found → Bool → Type 0
+AsksReasons name f explain =
+    ((name ≡ codes "check") ⊎ (name ≡ codes "run") ⊎ (name ≡ codes "replay")) → HasFlag f (codes "explain") explain
+
+-- What the parser found asks for: the command, and its arguments.
+pub record IsOrderOf (m : ArgMatches) (order : Order) : Type 0 where
+  pub found : Found
+  pub command : subcommand_name_of m ≡ Some (command_name order.job)
+  pub arguments : option_map (λ s. s.1) (subcommand_rows_of m) ≡ Some (rows_of found)
+  pub job : AsksJob found order.job
+  pub reasons : AsksReasons (command_name order.job) found order.explain
+
+-- What a command line that `clap` parses finds in the words asks for.
+pub record IsAskedBy (words : List (List ℕ)) (order : Order) : Type 0 where
+  pub command : Command
+  pub matches : ArgMatches
+  pub parsed : IsParsedFrom command matches
+  pub found : HasMatchesOf (app_of command) words matches
+  pub order_is : IsOrderOf matches order
+
+abbrev pub IsJobOf : List (List ℕ) → Job → Type 0
+IsJobOf words job = (order : Order) × (order.job ≡ job) × IsAskedBy words order
+
+abbrev pub texts_in : List (Bor (List ℕ)) → List (List ℕ)
+texts_in texts = map (λ text. text.now) texts
