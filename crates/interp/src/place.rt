@@ -12,11 +12,12 @@ pub struct CodePlace {
 
 impl Thread<'_> {
     ghost use Rattle.interp.specs.Threads.{StandsWith};
-    ghost use Rattle.interp.specs.Places.{IsAtPlace, HasCallers};
+    ghost use Rattle.interp.specs.Places.{IsAtPlace, IsStatePlace, HasCallers};
 
     /// Where the instruction stands that comes next in it; the one at which it ended, if it has.
     pub fn place(&self) -> CodePlace
-        ensures { StandsWith self.now (IsAtPlace self.now.parts.now result.function result.instr) }
+        ensures next { StandsWith self.now (IsAtPlace self.now.parts.now result.function result.instr) }
+        ensures last { IsStatePlace self.now.state result }
     {
         CodePlace {
             function: self.state.function,

@@ -2,7 +2,8 @@
 
 ghost use Rattle.interp_trait.specs.Turns.{Meaning, BeginsAlike, HasSpent, MayBeGiven, MayBeginWith, StartsWith};
 ghost use Rattle.interp_trait.specs.Turns.{StaysAs, MakesTurn};
-ghost use Rattle.interp_trait.specs.Turns.{MayRun, MakesOwnTurns};
+ghost use Rattle.interp_trait.specs.Turns.{MayRun};
+ghost use Rattle.interp_trait.specs.Calls.{MakesOwnTurns};
 
 use crate::gate::Gate;
 use types::{Answer, Event, Outcome, Reply, Value};
@@ -44,11 +45,11 @@ pub trait TakesTurns {
         ensures turned { MakesTurn (meaning self.old) given result (meaning self.new) };
 
     /// Makes turns of its own, one after the other, until it wants an event, awaits an answer or has ended, and says
-    /// which. The gate comes before each of them, and before the event that is wanted.
-    fn own_turns<G: Gate>(&mut self, name: u32, gate: &G) -> Turn
+    /// which. The gate is called before each of them, and before the event that is wanted.
+    fn own_turns<G: Gate>(&mut self, name: u32, gate: &mut G) -> Turn
         requires { MayRun (meaning self.old) }
         ensures stays { StaysAs (meaning self.old) (meaning self.new) }
-        ensures turned { MakesOwnTurns (meaning self.old) result (meaning self.new) };
+        ensures turned { MakesOwnTurns G.sees name (meaning self.old) result (meaning self.new) gate.old gate.new };
 
     /// Replaces the arguments before the first turn.
     fn set_args(&mut self, args: &[Value])

@@ -203,7 +203,7 @@ where
         args: &[],
         fuel: FUEL,
     };
-    match record_run(rt, alloc, valid, call, LIMIT, &OpenGate) {
+    match record_run(rt, alloc, valid, call, LIMIT, &mut OpenGate) {
         Ok((_, end)) => Ok(end),
         Err(fault) => Err(not_run(fault, address, addend)),
     }

@@ -14,7 +14,7 @@ use interp_trait::OpenGate;
 use replay_text::{Record, write_record};
 use report_command::{CallWords, RunJob};
 use report_lines::write_run;
-use report_runs::{Call, EndState, RecordRunFault, Refused, record_request, run_request_on_words};
+use report_runs::{Call, EndState, RecordRunFault, record_request, run_request_on_words};
 use spawn_host::{CallFault, Request, RunFault, own_function};
 use spawn_host_workers::StartFault;
 use std::alloc::{AllocError, Global};
@@ -68,11 +68,11 @@ impl From<RunFault> for Trouble {
     }
 }
 
-impl From<Refused<RecordRunFault, ()>> for Trouble {
-    ghost from_gives = { λ r e. e ≡ trouble_of_recording r.fault };
+impl From<RecordRunFault> for Trouble {
+    ghost from_gives = { λ f e. e ≡ trouble_of_recording f };
 
-    fn from(refused: Refused<RecordRunFault, ()>) -> Trouble {
-        match refused.fault {
+    fn from(fault: RecordRunFault) -> Trouble {
+        match fault {
             RecordRunFault::Run(fault) => Trouble::from(fault),
             RecordRunFault::Open(_) | RecordRunFault::NoMemory => Trouble::NoMemory,
         }
@@ -181,7 +181,7 @@ where
         (changed W.contents out.old out.new) saved status) }
     ensures trouble { IfErr result (IsTroubleOf request.now.parts job.now.call) }
 {
-    let end = run_request_on_words(rt, alloc, request, &OpenGate, ())?;
+    let end = run_request_on_words(rt, alloc, request, &mut OpenGate)?;
     print(out, &end, job.dump)
 }
 
@@ -205,7 +205,7 @@ where
         (changed S.contents save.old save.new)) }
     ensures trouble { IfErr result (IsTroubleOf request.now.parts job.now.call) }
 {
-    let (record, end) = record_request(rt, alloc, request, job.limit, &OpenGate, ())?;
+    let (record, end) = record_request(rt, alloc, request, job.limit, &mut OpenGate)?;
     let status = print_and_keep(&record, &end, job, out, save);
     drop(record);
     drop(end);

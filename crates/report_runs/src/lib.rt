@@ -2,8 +2,8 @@
 //!
 //! Proved: `record_run` and `run_on_words` are the headline; a record is of the run that was made. Of faults, one of
 //! the limit or of the call comes exactly where the limit or the call is wrong, whatever room there is.
-//! `record_request` and `run_request_on_words` do the same for a call that was found to be one, and give a ticket back
-//! with a fault, which a run uses up. That the ticket handed to the run is the caller's is in no clause.
+//! `record_request` and `run_request_on_words` do the same for a call that was found to be one. The gate is called
+//! before each turn of a run, and not at all where a fault is told.
 #![tactic(auto)]
 
 mod fitting;
@@ -13,5 +13,5 @@ mod words;
 
 pub use laws::the_log_is_the_history_that_all_seats_saw;
 pub use recording::{RecordRunFault, record_request, record_run};
-pub use spawn_host::{Call, EndState, Refused};
+pub use spawn_host::{Call, EndState};
 pub use words::{run_on_words, run_request_on_words};

@@ -1,7 +1,9 @@
 //! A run over the memory that records.
 ghost use Rattle.std.specs.Prelude.{◌≡◌, ◌≤◌, ◌+◌, ◌++◌, [], length, vec_len, vec_capacity, IfOk, OnOk, IfErr};
+ghost use Rattle.std.specs.Prelude.{OnErr};
 ghost use Rattle.types.specs.declared.limits.TheConstants.{MOST_THREADS, MOST_LIMIT, MOST_FUEL};
 ghost use Rattle.spawn_host.specs.Runs.{opening_memory};
+ghost use Rattle.spawn_host.specs.Gates.{IsGatedCall, IsGatedRun};
 ghost use Rattle.spawn_host_workers.specs.Unstarted.{fault_of};
 ghost use Rattle.replay.specs.Runs.{IsRunOf};
 ghost use Rattle.report_runs.specs.FaultNumbers.{record_run_fault_number};
@@ -19,7 +21,7 @@ use interp_trait::Gate;
 use locked_recorder::{LockedRecorder, Naming, Prepared};
 use replay_text::{Record, RecordParts, Version};
 use shared_memory_sequential::OpenFault;
-use spawn_host::{Call, CallFault, EndState, Refused, Request, RunFault, run_request};
+use spawn_host::{Call, CallFault, EndState, Request, RunFault, run_request};
 use spawn_host_workers::{StartFault, Unstarted};
 use std::alloc::{AllocError, Global};
 use std::marker::Brand;
@@ -109,28 +111,31 @@ struct Header {
 /// `Open` with `PastLimit` exactly where the limit is out of its range. Otherwise `Run` with `UnknownExport` exactly
 /// where no function of the module itself is exported under the name, and with `WrongArguments` exactly where one is,
 /// and the arguments don't fit it. Otherwise `NoMemory`, `Open` or `Run` where memory is refused, and `Run` with
-/// `NoThread` where the system starts no further thread. All come before the first turn.
+/// `NoThread` where the system starts no further thread. All come before the first turn, so the gate wasn't called.
 pub fn record_run<G, R>(
     rt: &R,
     alloc: Global,
     module: &ValidModule,
     call: Call,
     limit: u32,
-    gate: &G,
+    gate: &mut G,
 ) -> Result<(Record, EndState), RecordRunFault>
 where
-    G: Gate + Sync,
+    G: Gate + Send + Sync,
     R: Threads + Wait + Sync,
     requires fuel { call.fuel ≤ MOST_FUEL }
     ensures record { IfOk result (λ r. RecordsCall «module».now.parts call.entry limit r.0 r.1) }
     ensures run { IfOk result (λ r. IsRunOf «module».now.parts r.0 r.1) }
     ensures fault { IfErr result (IsRecordingFaultOf «module».now.parts call.entry limit) }
+    ensures gated { IfOk result (λ r. IsGatedCall G.Gate «module».now.parts call.entry r.1.threads.items gate.old
+        gate.new) }
+    ensures uncalled { OnErr result (gate.new ≡ gate.old) }
 {
     check_limit(limit)?;
     let request = Request::new(module, call)?;
-    match record_request(rt, alloc, &request, limit, gate, ()) {
+    match record_request(rt, alloc, &request, limit, gate) {
         Ok(recorded) => Ok(recorded),
-        Err(refused) => Err(refused.fault),
+        Err(fault) => Err(fault),
     }
 }
 
@@ -139,32 +144,29 @@ where
 /// # Errors
 /// `Open` with `PastLimit` exactly where the limit is out of its range. Otherwise `NoMemory`, `Open` or `Run` where
 /// memory is refused, and `Run` with `NoThread` where the system starts no further thread. All come before the first
-/// turn, and give the ticket back.
-pub fn record_request<G, R, K>(
+/// turn, so the gate wasn't called.
+pub fn record_request<G, R>(
     rt: &R,
     alloc: Global,
     request: &Request,
     limit: u32,
-    gate: &G,
-    ticket: K,
-) -> Result<(Record, EndState), Refused<RecordRunFault, K>>
+    gate: &mut G,
+) -> Result<(Record, EndState), RecordRunFault>
 where
-    G: Gate + Sync,
+    G: Gate + Send + Sync,
     R: Threads + Wait + Sync,
-    K: Drop,
     requires fuel { request.now.fuel ≤ MOST_FUEL }
     ensures record { IfOk result (λ r. RecordsRequest request.now limit r.0 r.1) }
     ensures run { IfOk result (λ r. IsRunOf request.now.parts r.0 r.1) }
-    ensures fault { IfErr result (λ refused. IsRecordingFaultOfRequest request.now limit refused.fault) }
-    ensures ticket { IfErr result (λ refused. refused.ticket ≡ ticket) }
+    ensures fault { IfErr result (IsRecordingFaultOfRequest request.now limit) }
+    ensures gated { IfOk result (λ r. IsGatedRun G.Gate request.now r.1.threads.items gate.old gate.new) }
+    ensures uncalled { OnErr result (gate.new ≡ gate.old) }
 {
-    if let Err(fault) = check_limit(limit) {
-        return Err(Refused { fault, ticket });
-    }
+    check_limit(limit)?;
     show_module_fits(request.module());
-    match over_new_memory(rt, alloc, request, limit, gate, ticket) {
+    match over_new_memory(rt, alloc, request, limit, gate) {
         Ok((parts, end)) => Ok((record_of(parts), end)),
-        Err(refused) => Err(refused),
+        Err(fault) => Err(fault),
     }
 }
 
@@ -195,37 +197,33 @@ fn record_of(parts: RecordParts) -> Record
 }
 
 /// The parts of the record, once there is a memory, and room for them.
-fn over_new_memory<G, R, K>(
+fn over_new_memory<G, R>(
     rt: &R,
     alloc: Global,
     request: &Request,
     limit: u32,
-    gate: &G,
-    ticket: K,
-) -> Result<(RecordParts, EndState), Refused<RecordRunFault, K>>
+    gate: &mut G,
+) -> Result<(RecordParts, EndState), RecordRunFault>
 where
-    G: Gate + Sync,
+    G: Gate + Send + Sync,
     R: Threads + Wait + Sync,
-    K: Drop,
     requires range { IsLogLimit limit }
     ensures made { IfOk result (λ r. RecordsRequest request.now limit r.0 r.1) }
-    ensures fault { IfErr result (λ refused. IsRecordingFaultOfRequest request.now limit refused.fault) }
-    ensures ticket { IfErr result (λ refused. refused.ticket ≡ ticket) }
+    ensures fault { IfErr result (IsRecordingFaultOfRequest request.now limit) }
+    ensures gated { IfOk result (λ r. IsGatedRun G.Gate request.now r.1.threads.items gate.old gate.new) }
+    ensures uncalled { OnErr result (gate.new ≡ gate.old) }
 {
     let Ok(header) = header_of(alloc, request, limit) else {
-        return Err(Refused {
-            fault: RecordRunFault::NoMemory,
-            ticket,
-        });
+        return Err(RecordRunFault::NoMemory);
     };
     let prepared = match prepare(alloc, request, limit) {
         Ok(prepared) => prepared,
         Err(fault) => {
             drop(header);
-            return Err(Refused { fault, ticket });
+            return Err(fault);
         }
     };
-    over_recorder::<Brand, _, _, _>(rt, alloc, request, prepared, header, gate, ticket)
+    over_recorder::<Brand, _, _>(rt, alloc, request, prepared, header, gate)
 }
 
 /// What a record says of the call, and room for its ends.
@@ -267,20 +265,18 @@ fn prepare(alloc: Global, request: &Request, limit: u32) -> Result<Prepared, Rec
 }
 
 /// The parts of the record, over a recorder whose type has been named.
-fn over_recorder<B, G, R, K>(
+fn over_recorder<B, G, R>(
     rt: &R,
     alloc: Global,
     request: &Request,
     prepared: Prepared,
     header: Header,
-    gate: &G,
-    ticket: K,
-) -> Result<(RecordParts, EndState), Refused<RecordRunFault, K>>
+    gate: &mut G,
+) -> Result<(RecordParts, EndState), RecordRunFault>
 where
     B: Naming + Send + Sync,
-    G: Gate + Sync,
+    G: Gate + Send + Sync,
     R: Threads + Wait + Sync,
-    K: Drop,
     requires table { prepared.table ≡ B.table }
     requires opening { prepared.opening ≡ B.opening }
     requires limit { prepared.limit ≡ B.limit }
@@ -291,22 +287,20 @@ where
     requires ends { header.ends.items ≡ [] }
     requires room { MOST_THREADS ≤ vec_capacity header.ends }
     ensures made { IfOk result (λ r. RecordsRequest request.now header.limit r.0 r.1) }
-    ensures fault { IfErr result (λ refused. IsRecordingFaultOfRequest request.now header.limit refused.fault) }
-    ensures ticket { IfErr result (λ refused. refused.ticket ≡ ticket) }
+    ensures fault { IfErr result (IsRecordingFaultOfRequest request.now header.limit) }
+    ensures gated { IfOk result (λ r. IsGatedRun G.Gate request.now r.1.threads.items gate.old gate.new) }
+    ensures uncalled { OnErr result (gate.new ≡ gate.old) }
 {
     let Ok((memory, seats)) = LockedRecorder::<B, &R>::open(alloc, rt, prepared) else {
         drop(header);
-        return Err(Refused {
-            fault: RecordRunFault::Open(OpenFault::NoMemory),
-            ticket,
-        });
+        return Err(RecordRunFault::Open(OpenFault::NoMemory));
     };
-    let end = match run_request(rt, alloc, request, &memory, seats, gate, ticket) {
+    let end = match run_request(rt, alloc, request, &memory, seats, gate) {
         Ok(end) => end,
-        Err(refused) => {
+        Err(unstarted) => {
             drop(memory);
             drop(header);
-            return Err(not_started(refused));
+            return Err(not_started(unstarted));
         }
     };
     let finished = memory.finish(end.seats);
@@ -340,17 +334,10 @@ where
 }
 
 /// What is told of threads that weren't started. Their seats, or thread 0's, are let go of.
-pub(crate) fn not_started<S: Drop, K>(
-    refused: Refused<Unstarted<S>, K>,
-) -> Refused<RecordRunFault, K>
-    ensures fault { result.fault ≡ faults.Run (run_faults.Start (fault_of refused.fault)) }
-    ensures ticket { result.ticket ≡ refused.ticket }
+pub(crate) fn not_started<S: Drop>(unstarted: Unstarted<S>) -> RecordRunFault
+    ensures { result ≡ faults.Run (run_faults.Start (fault_of unstarted)) }
 {
-    let Refused { fault, ticket } = refused;
-    Refused {
-        fault: RecordRunFault::Run(RunFault::Start(fault.fault())),
-        ticket,
-    }
+    RecordRunFault::Run(RunFault::Start(unstarted.fault()))
 }
 
 /// Copies the reports into the room that was kept for them.

@@ -1,8 +1,9 @@
 //! A run over the row of words.
-ghost use Rattle.std.specs.Prelude.{◌≡◌, ◌≤◌, ◌*◌, [], length, vec_capacity, IfOk, IfErr};
+ghost use Rattle.std.specs.Prelude.{◌≡◌, ◌≤◌, ◌*◌, [], length, vec_capacity, IfOk, IfErr, OnErr};
 ghost use Rattle.types.specs.declared.limits.TheConstants.{PAGE_SIZE};
 ghost use Rattle.spawn_host.specs.Runs.{opening_memory};
 ghost use Rattle.spawn_host.specs.RunEnds.{EndsRequestOnWords};
+ghost use Rattle.spawn_host.specs.Gates.{IsGatedCall, IsGatedRun};
 ghost use Rattle.report_runs.specs.Called.{EndsCallOnWords};
 ghost use Rattle.report_runs.specs.RunFaults.{IsWordsFaultOf, IsWordsFaultOfRequest};
 
@@ -10,7 +11,7 @@ use crate::fitting::show_memory_opens;
 use crate::recording::{RecordRunFault, not_started};
 use interp_trait::Gate;
 use shared_memory_sequential::OpenFault;
-use spawn_host::{Call, EndState, Refused, Request, RunFault, run_request};
+use spawn_host::{Call, EndState, Request, run_request};
 use std::alloc::Global;
 use std::marker::Brand;
 use std::sync::Wait;
@@ -29,24 +30,27 @@ use word_row::{ClosedRow, Naming, Prepared, WordRow};
 /// `Run` with `UnknownExport` exactly where no function of the module itself is exported under the name, and with
 /// `WrongArguments` exactly where one is, and the arguments don't fit it. Otherwise `NoMemory`, `Open` or `Run` where
 /// memory is refused, and `Run` with `NoThread` where the system starts no further thread. All come before the first
-/// turn: room for the final bytes is taken before it, and nothing afterwards.
+/// turn, so the gate wasn't called: room for the final bytes is taken before it, and nothing afterwards.
 pub fn run_on_words<G, R>(
     rt: &R,
     alloc: Global,
     module: &ValidModule,
     call: Call,
-    gate: &G,
+    gate: &mut G,
 ) -> Result<EndState, RecordRunFault>
 where
-    G: Gate + Sync,
+    G: Gate + Send + Sync,
     R: Threads + Wait + Sync,
     ensures end { IfOk result (EndsCallOnWords «module».now.parts call.entry) }
     ensures fault { IfErr result (IsWordsFaultOf «module».now.parts call.entry) }
+    ensures gated { IfOk result (λ end. IsGatedCall G.Gate «module».now.parts call.entry end.threads.items gate.old
+        gate.new) }
+    ensures uncalled { OnErr result (gate.new ≡ gate.old) }
 {
     let request = Request::new(module, call)?;
-    match run_request_on_words(rt, alloc, &request, gate, ()) {
+    match run_request_on_words(rt, alloc, &request, gate) {
         Ok(end) => Ok(end),
-        Err(refused) => Err(refused.fault),
+        Err(fault) => Err(fault),
     }
 }
 
@@ -54,74 +58,61 @@ where
 ///
 /// # Errors
 /// `NoMemory`, `Open` or `Run` where memory is refused, and `Run` with `NoThread` where the system starts no further
-/// thread. All come before the first turn, and give the ticket back: room for the final bytes is taken before it, and
+/// thread. All come before the first turn, so the gate wasn't called: room for the final bytes is taken before it, and
 /// nothing afterwards.
-pub fn run_request_on_words<G, R, K>(
+pub fn run_request_on_words<G, R>(
     rt: &R,
     alloc: Global,
     request: &Request,
-    gate: &G,
-    ticket: K,
-) -> Result<EndState, Refused<RecordRunFault, K>>
+    gate: &mut G,
+) -> Result<EndState, RecordRunFault>
 where
-    G: Gate + Sync,
+    G: Gate + Send + Sync,
     R: Threads + Wait + Sync,
-    K: Drop,
     ensures end { IfOk result (EndsRequestOnWords request.now) }
-    ensures fault { IfErr result (λ refused. IsWordsFaultOfRequest request.now refused.fault) }
-    ensures ticket { IfErr result (λ refused. refused.ticket ≡ ticket) }
+    ensures fault { IfErr result (IsWordsFaultOfRequest request.now) }
+    ensures gated { IfOk result (λ end. IsGatedRun G.Gate request.now end.threads.items gate.old gate.new) }
+    ensures uncalled { OnErr result (gate.new ≡ gate.old) }
 {
     let most = request.module().pages_max();
     let Ok(bytes) = Vec::with_capacity(alloc, PAGE_SIZE * most as usize) else {
-        return Err(Refused {
-            fault: RecordRunFault::NoMemory,
-            ticket,
-        });
+        return Err(RecordRunFault::NoMemory);
     };
     match prepare(alloc, request) {
-        Ok(prepared) => over_row::<Brand, _, _, _>(
-            rt, alloc, request, prepared, bytes, gate, ticket,
-        ),
-        Err(fault) => {
-            drop(bytes);
-            Err(Refused { fault, ticket })
-        }
+        Ok(prepared) => over_row::<Brand, _, _>(rt, alloc, request, prepared, bytes, gate),
+        Err(fault) => Err(fault),
     }
 }
 
 /// The end, over a row whose type has been named.
-fn over_row<B, G, R, K>(
+fn over_row<B, G, R>(
     rt: &R,
     alloc: Global,
     request: &Request,
     prepared: Prepared,
     mut bytes: Vec<u8>,
-    gate: &G,
-    ticket: K,
-) -> Result<EndState, Refused<RecordRunFault, K>>
+    gate: &mut G,
+) -> Result<EndState, RecordRunFault>
 where
     B: Naming + Send + Sync,
-    G: Gate + Sync,
+    G: Gate + Send + Sync,
     R: Threads + Wait + Sync,
-    K: Drop,
     requires table { prepared.table ≡ B.table }
     requires opening { prepared.opening ≡ B.opening }
     requires image { B.opening ≡ opening_memory request.now.parts }
     requires none { bytes.items ≡ [] }
     requires room { PAGE_SIZE * (opening_memory request.now.parts).max ≤ vec_capacity bytes }
     ensures end { IfOk result (EndsRequestOnWords request.now) }
-    ensures fault { IfErr result (λ refused. IsWordsFaultOfRequest request.now refused.fault) }
-    ensures ticket { IfErr result (λ refused. refused.ticket ≡ ticket) }
+    ensures fault { IfErr result (IsWordsFaultOfRequest request.now) }
+    ensures gated { IfOk result (λ end. IsGatedRun G.Gate request.now end.threads.items gate.old gate.new) }
+    ensures uncalled { OnErr result (gate.new ≡ gate.old) }
 {
     let Ok((memory, seats)) = WordRow::<B>::open(alloc, prepared) else {
-        return Err(Refused {
-            fault: RecordRunFault::Open(OpenFault::NoMemory),
-            ticket,
-        });
+        return Err(RecordRunFault::Open(OpenFault::NoMemory));
     };
-    let end = match run_request(rt, alloc, request, &memory, seats, gate, ticket) {
+    let end = match run_request(rt, alloc, request, &memory, seats, gate) {
         Ok(end) => end,
-        Err(refused) => return Err(not_started(refused)),
+        Err(unstarted) => return Err(not_started(unstarted)),
     };
     let closed = memory.close(end.seats);
     let pages = closed.pages();

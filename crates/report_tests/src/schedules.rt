@@ -50,7 +50,7 @@ fn record<R: Threads + Wait + Abort + Sync>(
 ) -> Result<Recorded, Fail> {
     let call = call_with(fuel);
     assert!(rt; call.fuel <= MOST_FUEL);
-    let (record, end) = record_run(rt, alloc, module, call, limit, &OpenGate)?;
+    let (record, end) = record_run(rt, alloc, module, call, limit, &mut OpenGate)?;
     Ok(Recorded {
         log: Vec::from_slice(alloc, record.parts().log.as_slice())?,
         end,

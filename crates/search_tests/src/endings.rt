@@ -94,7 +94,7 @@ fn is_met<R: Threads + Wait + Sync>(
         args: &[],
         fuel: FUEL,
     };
-    let Ok((_, end)) = record_run(rt, alloc, valid, call, LIMIT, &OpenGate) else {
+    let Ok((_, end)) = record_run(rt, alloc, valid, call, LIMIT, &mut OpenGate) else {
         return Ok(false);
     };
     let ending = ending_of(alloc, &end, 4)?;

@@ -82,10 +82,15 @@ pub record Came (b : Called) (x : State) (turn : Turn) (Stands : Running → Typ
   pub stands : Stands (Runs state (suc left))
   pub says : SaysWhy b.program (Runs state (suc left)) turn
 
-pub came : (b : Called) (p : Program) → p ≡ b.program → (x : State) (l : ℕ) (turn : Turn) (Stands : Running → Type 0) → IsPaused p (Runs x l) turn Stands
+-- whatever else is known of the turns
+pub only_stands : (p : Program) (t : Running) (turn : Turn) (Stands : Running → Type 0) (Also : ℕ → Running → Type 0)
+    → IsPaused p t turn (λ k now. Stands now × Also k now) → IsPaused p t turn (λ k. Stands)
+only_stands p t turn Stands Also q = record { turns = q.turns; each = q.each; after = q.after.0; answer = q.answer; wanted = q.wanted }
+
+pub came : (b : Called) (p : Program) → p ≡ b.program → (x : State) (l : ℕ) (turn : Turn) (Stands : Running → Type 0) → IsPaused p (Runs x l) turn (λ k. Stands)
     → ((t : Running) → Stands t → left_of t ≡ suc (left_of t - 1)) → Came b x turn Stands
 came b p same x l turn Stands paused some =
-    let q : IsPaused b.program (Runs x l) turn Stands = subst (λ z. IsPaused z (Runs x l) turn Stands) same paused in
+    let q : IsPaused b.program (Runs x l) turn (λ k. Stands) = subst (λ z. IsPaused z (Runs x l) turn (λ k. Stands)) same paused in
     let end : Running = after_own b.program q.turns (Runs x l) in
     let w = walked b q.turns x l (left_of end - 1) q.each (some end q.after) in
     let says : SaysWhy b.program (Runs w.state (suc (left_of end - 1))) turn = subst (λ z. SaysWhy b.program z turn) w.is q.answer in
@@ -113,10 +118,10 @@ spends b (suc l) (suc n) x each none =
     (ap left_of (first_own b.program n start) ∙ none) in
     record { last = k.last; comes = (sym (same_wants b x l) ∙ each 0 (omega arith), k.comes) }
 
-pub spent_all : (b : Called) (p : Program) → p ≡ b.program → (x : State) (l : ℕ) (turn : Turn) (Stands : Running → Type 0) → IsPaused p (Runs x l) turn Stands
+pub spent_all : (b : Called) (p : Program) → p ≡ b.program → (x : State) (l : ℕ) (turn : Turn) (Stands : Running → Type 0) → IsPaused p (Runs x l) turn (λ k. Stands)
     → ((t : Running) → Stands t → left_of t ≡ 0) → MakesTurns (system_of b) l (Going x)
 spent_all b p same x l turn Stands paused none =
-    let q : IsPaused b.program (Runs x l) turn Stands = subst (λ z. IsPaused z (Runs x l) turn Stands) same paused in
+    let q : IsPaused b.program (Runs x l) turn (λ k. Stands) = subst (λ z. IsPaused z (Runs x l) turn (λ k. Stands)) same paused in
     spends b l q.turns x q.each (none (after_own b.program q.turns (Runs x l)) q.after)
 
 -- and as many as it had but for one

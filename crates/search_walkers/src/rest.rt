@@ -24,7 +24,7 @@ pub(crate) fn rest(alloc: Global, thread: Thread) -> Result<Option<RestingThread
     ensures gives_up { IfOk result (λ o. o ≡ None → SpendsAll thread.entry) }
 {
     let mut thread = thread;
-    let turn = thread.own_turns(0, &OpenGate);
+    let turn = thread.own_turns(0, &mut OpenGate);
     if thread.spent() >= FUEL {
         return Ok(None);
     }

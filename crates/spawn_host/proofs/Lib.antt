@@ -2,3 +2,4 @@ pub mod Imported
 pub mod Calling
 pub mod Requested
 pub mod Together
+pub mod Gating

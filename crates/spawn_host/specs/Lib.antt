@@ -3,4 +3,5 @@ pub mod Requests
 pub mod Faults
 pub mod Threads
 pub mod Runs
+pub mod Gates
 pub mod RunEnds

@@ -3,8 +3,8 @@
 //!
 //! Proved: `run` is the headline over any memory of the trait; an export or arguments are refused only where they
 //! don't fit. "No thread" comes only where the module imports `thread-spawn`. Where there is no run, all seats are as
-//! they came, or all that thread 0 ever entered is that it leaves; and `run_request` gives back the ticket that a run
-//! uses up.
+//! they came, or all that thread 0 ever entered is that it leaves; and the gate wasn't called. Where there is one, it
+//! was called before each turn of each thread.
 #![tactic(auto)]
 
 mod call;
@@ -19,5 +19,5 @@ pub use call::Call;
 pub use end::EndState;
 pub use exports::{OwnFunction, own_function};
 pub use request::{CallFault, Request};
-pub use running::{Refused, RunFault, Unrun, run, run_request};
+pub use running::{RunFault, Unrun, run, run_request};
 pub use threads::{first_thread, spawnable_threads, thread_start};

@@ -1,10 +1,11 @@
 //! The run of a module.
-ghost use Rattle.std.specs.Prelude.{◌≡◌, ◌<◌, ℕ, true, [], IfOk, IfErr, slice_index_or, vec_len};
+ghost use Rattle.std.specs.Prelude.{◌≡◌, ◌<◌, ℕ, true, [], IfOk, IfErr, OnErr, slice_index_or, vec_len};
 ghost use Rattle.types.specs.declared.limits.TheConstants.{DESK_NAME, SEATS};
 ghost use Rattle.spawn_host_workers.specs.OverMemory.{over};
 ghost use Rattle.spawn_host_workers.specs.Unstarted.{IsUnstarted};
 ghost use Rattle.spawn_host.specs.Faults.{HasStartFault, IsFaultOf, IsUnrun, fault_of, run_fault_number};
 ghost use Rattle.spawn_host.specs.Runs.{opening_memory, IsRun, IsRunOfRequest};
+ghost use Rattle.spawn_host.specs.Gates.{IsGatedCall, IsGatedRun};
 ghost use Rattle.spawn_host.specs.declared.running.RunFault.TheVariants as faults;
 
 use crate::call::Call;
@@ -81,23 +82,16 @@ impl<S> Unrun<S> {
     }
 }
 
-/// A fault, with the ticket that a run would have used up.
-#[derive(PartialEq, Eq, Debug, Drop)]
-pub struct Refused<F, K> {
-    pub fault: F,
-    pub ticket: K,
-}
-
 /// Runs an exported function of a module with arguments, and the threads that are spawned meanwhile, each as a real
-/// thread over the memory. Each has the budget of the call.
+/// thread over the memory. Each has the budget of the call. The gate is called before each of their turns.
 ///
 /// The memory begins as the module's does. The 65 seats are those of a new memory, in order of their names, and the
 /// last has the queue right.
 ///
 /// # Errors
 /// `Call` where the call can't be made. Otherwise `Start` where memory is refused, or the system starts no further
-/// thread. All come before the first turn of a thread: the seats come back as they came, or where a thread is refused
-/// thread 0's seat, whose thread has left and entered nothing else.
+/// thread. All come before the first turn of a thread, so the gate wasn't called: the seats come back as they came, or
+/// where a thread is refused thread 0's seat, whose thread has left and entered nothing else.
 pub fn run<M, G, R>(
     rt: &R,
     alloc: Global,
@@ -105,11 +99,11 @@ pub fn run<M, G, R>(
     call: Call,
     memory: &M,
     seats: Vec<M::Seat>,
-    gate: &G,
+    gate: &mut G,
 ) -> Result<RunEnd<M::Seat>, Unrun<M::Seat>>
 where
     M: SharedMemory + Sync,
-    G: Gate + Sync,
+    G: Gate + Send + Sync,
     R: Threads + Wait + Sync,
     requires opening { M.opening ≡ opening_memory «module».now.parts }
     requires len { vec_len seats ≡ SEATS }
@@ -121,69 +115,36 @@ where
     ensures fault { IfErr result (λ unrun. IsFaultOf «module».now.parts call.entry.name.now call.entry.args.now
         (fault_of unrun)) }
     ensures unrun { IfErr result (IsUnrun M.SharedMemory memory.now seats.items) }
+    ensures gated { IfOk result (λ end. IsGatedCall G.Gate «module».now.parts call.entry end.threads.items gate.old
+        gate.new) }
+    ensures uncalled { OnErr result (gate.new ≡ gate.old) }
 {
     let request = match Request::new(module, call) {
         Ok(request) => request,
         Err(fault) => return Err(Unrun::Call(fault, seats)),
     };
-    match run_request(rt, alloc, &request, memory, seats, gate, ()) {
+    match run_request(rt, alloc, &request, memory, seats, gate) {
         Ok(end) => Ok(end),
-        Err(refused) => Err(Unrun::Start(refused.fault)),
+        Err(fault) => Err(Unrun::Start(fault)),
     }
 }
 
-/// The same, of a call that can be made. The ticket is anything: a run uses it up, and a fault gives it back. So who
-/// hands on a ticket of a type that it knows nothing of can answer no fault once the threads have run.
+/// The same, of a call that can be made.
 ///
 /// # Errors
 /// Where memory is refused, or the system starts no further thread, before the first turn of a thread: `NoMemory` with
 /// the seats as they came, or `NoThread` with thread 0's seat, whose thread has left and entered nothing else.
-pub fn run_request<M, G, R, K>(
+pub fn run_request<M, G, R>(
     rt: &R,
     alloc: Global,
     request: &Request,
     memory: &M,
     seats: Vec<M::Seat>,
-    gate: &G,
-    ticket: K,
-) -> Result<RunEnd<M::Seat>, Refused<Unstarted<M::Seat>, K>>
-where
-    M: SharedMemory + Sync,
-    G: Gate + Sync,
-    R: Threads + Wait + Sync,
-    K: Drop,
-    requires opening { M.opening ≡ opening_memory request.now.parts }
-    requires len { vec_len seats ≡ SEATS }
-    requires names { (k : ℕ) (d : M.Seat) → k < SEATS → M.name (slice_index_or seats.items k d) ≡ k }
-    requires new { (k : ℕ) (d : M.Seat) → k < SEATS → M.seen (slice_index_or seats.items k d) ≡ [] }
-    requires right { (d : M.Seat) → M.has_queue_right (slice_index_or seats.items DESK_NAME d) ≡ true }
-    ensures run { IfOk result (λ end. IsRunOfRequest request.now (over M.SharedMemory memory.now) end.threads.items
-        end.seats.items) }
-    ensures fault { IfErr result (λ refused. HasStartFault request.now refused.fault) }
-    ensures unstarted { IfErr result (λ refused. IsUnstarted M.SharedMemory memory.now seats.items refused.fault) }
-    ensures ticket { IfErr result (λ refused. refused.ticket ≡ ticket) }
-{
-    match start(rt, alloc, request, memory, seats, gate) {
-        Ok(end) => {
-            drop(ticket);
-            Ok(end)
-        }
-        Err(fault) => Err(Refused { fault, ticket }),
-    }
-}
-
-/// The threads of the request, from their starts to their ends.
-fn start<M, G, R>(
-    rt: &R,
-    alloc: Global,
-    request: &Request,
-    memory: &M,
-    seats: Vec<M::Seat>,
-    gate: &G,
+    gate: &mut G,
 ) -> Result<RunEnd<M::Seat>, Unstarted<M::Seat>>
 where
     M: SharedMemory + Sync,
-    G: Gate + Sync,
+    G: Gate + Send + Sync,
     R: Threads + Wait + Sync,
     requires opening { M.opening ≡ opening_memory request.now.parts }
     requires len { vec_len seats ≡ SEATS }
@@ -194,6 +155,8 @@ where
         end.seats.items) }
     ensures fault { IfErr result (HasStartFault request.now) }
     ensures unstarted { IfErr result (IsUnstarted M.SharedMemory memory.now seats.items) }
+    ensures gated { IfOk result (λ end. IsGatedRun G.Gate request.now end.threads.items gate.old gate.new) }
+    ensures uncalled { OnErr result (gate.new ≡ gate.old) }
 {
     let Ok(first) = first_thread(alloc, request) else {
         return Err(Unstarted::NoMemory(seats));

@@ -48,8 +48,12 @@ impl Meeting {
     }
 }
 
-impl Gate for Meeting {
-    fn at(&self, thread: u32, turn: u64) {
+impl Gate for &Meeting {
+    ghost sees = { λ old thread turn new. Unit {0} };
+
+    ghost gathers = { λ old other new. Unit {0} };
+
+    fn at(&mut self, thread: u32, turn: u64) {
         if thread > 4 || (thread == 0 && turn < SPAWNED) {
             return;
         }
@@ -60,6 +64,8 @@ impl Gate for Meeting {
         self.came.fetch_add(flag, Ordering::SeqCst);
         self.wait(flag);
     }
+
+    fn gather(&mut self, _other: &Meeting) {}
 }
 
 /// Modules that spawn four threads, and how the threads end.

@@ -73,8 +73,12 @@ impl Holding {
     }
 }
 
-impl Gate for Holding {
-    fn at(&self, thread: u32, turn: u64) {
+impl Gate for &Holding {
+    ghost sees = { λ old thread turn new. Unit {0} };
+
+    ghost gathers = { λ old other new. Unit {0} };
+
+    fn at(&mut self, thread: u32, turn: u64) {
         for watched in &self.holds {
             let sign = watched.hold.sign;
             if sign.thread == thread && sign.spent <= turn {
@@ -87,4 +91,6 @@ impl Gate for Holding {
             }
         }
     }
+
+    fn gather(&mut self, _other: &Holding) {}
 }

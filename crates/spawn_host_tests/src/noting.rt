@@ -56,12 +56,18 @@ impl Noting {
     }
 }
 
-impl Gate for Noting {
-    fn at(&self, thread: u32, turn: u64) {
+impl Gate for &Noting {
+    ghost sees = { λ old thread turn new. Unit {0} };
+
+    ghost gathers = { λ old other new. Unit {0} };
+
+    fn at(&mut self, thread: u32, turn: u64) {
         let place = self.count.fetch_add(1, Ordering::SeqCst) as usize;
         if let (Some(name), Some(units)) = (self.threads.get(place), self.units.get(place)) {
             name.store(u64::from(thread), Ordering::SeqCst);
             units.store(turn, Ordering::SeqCst);
         }
     }
+
+    fn gather(&mut self, _other: &Noting) {}
 }

@@ -79,18 +79,19 @@ fn comes_to(
 }
 
 /// A run over the recorder. Its record is replayed, and has to come to the same end.
-fn run_recorded<G: Gate + Sync, R: Threads + Wait + Sync>(
+fn run_recorded<G: Gate + Send + Sync, R: Threads + Wait + Sync>(
     rt: &R,
     alloc: Global,
     valid: &ValidModule,
     call: Call,
     limit: u32,
-    gate: &G,
+    gate: G,
 ) -> Result<EndState, Trouble> {
     if call.fuel > MOST_FUEL {
         return Err(Trouble::Fuel);
     }
-    let (record, end) = record_run(rt, alloc, valid, call, limit, gate)?;
+    let mut gate = gate;
+    let (record, end) = record_run(rt, alloc, valid, call, limit, &mut gate)?;
     if comes_to(alloc, valid, &record, &end)? {
         Ok(end)
     } else {
@@ -99,24 +100,25 @@ fn run_recorded<G: Gate + Sync, R: Threads + Wait + Sync>(
 }
 
 /// A run over the row of words.
-fn run_plain<G: Gate + Sync, R: Threads + Wait + Sync>(
+fn run_plain<G: Gate + Send + Sync, R: Threads + Wait + Sync>(
     rt: &R,
     alloc: Global,
     valid: &ValidModule,
     call: Call,
-    gate: &G,
+    gate: G,
 ) -> Result<EndState, Trouble> {
-    Ok(run_on_words(rt, alloc, valid, call, gate)?)
+    let mut gate = gate;
+    Ok(run_on_words(rt, alloc, valid, call, &mut gate)?)
 }
 
 /// Runs a module's function behind a gate.
-pub(crate) fn run_valid<G: Gate + Sync, R: Threads + Wait + Sync>(
+pub(crate) fn run_valid<G: Gate + Send + Sync, R: Threads + Wait + Sync>(
     rt: &R,
     alloc: Global,
     valid: &ValidModule,
     call: Call,
     memory: Memory,
-    gate: &G,
+    gate: G,
 ) -> Result<EndState, Trouble> {
     match memory {
         Memory::Locked { limit } => run_recorded(rt, alloc, valid, call, limit, gate),
@@ -125,14 +127,14 @@ pub(crate) fn run_valid<G: Gate + Sync, R: Threads + Wait + Sync>(
 }
 
 /// Runs the function `f` of a module behind a gate. What was recorded is replayed, and has to come to the same end.
-pub(crate) fn run<G: Gate + Sync, R: Threads + Wait + Sync>(
+pub(crate) fn run<G: Gate + Send + Sync, R: Threads + Wait + Sync>(
     rt: &R,
     alloc: Global,
     module: &[u8],
     args: &[Value],
     fuel: u64,
     memory: Memory,
-    gate: &G,
+    gate: G,
 ) -> Result<EndState, Trouble> {
     let valid = load(alloc, module)?;
     let call = Call {

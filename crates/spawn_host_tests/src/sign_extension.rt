@@ -73,7 +73,7 @@ fn extends_signs(rt: HostRuntime) -> Result<(), Fail> {
         let bytes = module.bytes(rt.alloc())?;
         let wanted = [(Outcome::Done(Some(example.gives)), Some(3))];
         for memory in BOTH {
-            let end = run(&rt, rt.alloc(), &bytes, &[], FUEL, memory, &OpenGate)?;
+            let end = run(&rt, rt.alloc(), &bytes, &[], FUEL, memory, OpenGate)?;
             assert!(rt; has_ends(&end, &wanted), "{end:?}");
         }
     }

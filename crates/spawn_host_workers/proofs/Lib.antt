@@ -14,3 +14,4 @@ pub mod Paying
 pub mod Attending
 pub mod Leaving
 pub mod Staying
+pub mod Gathering

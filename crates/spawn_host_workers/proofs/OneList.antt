@@ -23,6 +23,7 @@ use Rattle.schedule.specs.Machine.{Thread.Runs}
 use Rattle.interp_machine.specs.State.{At}
 use Rattle.interp_machine.specs.Program.{Program}
 use Rattle.interp_trait.specs.Turns.{Running, Meaning, IsHere}
+use Rattle.interp_trait.specs.declared.gate.Gate.{Ghosts}
 use Rattle.spawn_host_workers.specs.Ends.{RunsOut}
 use Rattle.spawn_host_workers.specs.declared.worker.WorkerEnd.{WorkerEnd}
 use Rattle.spawn_host_workers.specs.OverMemory.{OverMemory}
@@ -60,11 +61,11 @@ three_at R (x ∷ xs) (y ∷ ys) [] k d e f h lt = absurd h
 three_at R (x ∷ xs) (y ∷ ys) (z ∷ zs) zero d e f h lt = h.0
 three_at R (x ∷ xs) (y ∷ ys) (z ∷ zs) (suc k) d e f h lt = three_at R xs ys zs k d e f h.1 (omega (arith, lt))
 
-seats_length : {S : Type 0} (ends : List (WorkerEnd S)) → length (seats_of ends) ≡ length ends
+seats_length : {S G : Type 0} (ends : List (WorkerEnd S G)) → length (seats_of ends) ≡ length ends
 seats_length [] = refl
 seats_length (e ∷ ends) = ap suc (seats_length ends)
 
-seats_at : {S : Type 0} (ends : List (WorkerEnd S)) (k : ℕ) (d : S) (e : WorkerEnd S) → k < length ends
+seats_at : {S G : Type 0} (ends : List (WorkerEnd S G)) (k : ℕ) (d : S) (e : WorkerEnd S G) → k < length ends
     → get_or (seats_of ends) k d ≡ WorkerEnd.seat (get_or ends k e)
 seats_at [] k d e lt = absurd (omega (arith, lt))
 seats_at (x ∷ ends) zero d e lt = refl
@@ -93,11 +94,11 @@ placed_zero : (k : ℕ) (o : Option ThreadReport) → Placed 0 (suc k) o → Pla
 placed_zero k None h = omega arith
 placed_zero k (Some report) h = absurd (omega (arith, h))
 
-record Counts {S : Type 0} (ends : List (WorkerEnd S)) (c : ℕ) : Type 0 where
+record Counts {S G : Type 0} (ends : List (WorkerEnd S G)) (c : ℕ) : Type 0 where
   count : length (reported ends) ≡ c
-  each : (k : ℕ) (d : ThreadReport) (e : WorkerEnd S) → k < c → WorkerEnd.report (get_or ends k e) ≡ Some (get_or (reported ends) k d)
+  each : (k : ℕ) (d : ThreadReport) (e : WorkerEnd S G) → k < c → WorkerEnd.report (get_or ends k e) ≡ Some (get_or (reported ends) k d)
 
-counts_one : {S : Type 0} (x : WorkerEnd S) (ends : List (WorkerEnd S)) (c : ℕ) (o : Option ThreadReport)
+counts_one : {S G : Type 0} (x : WorkerEnd S G) (ends : List (WorkerEnd S G)) (c : ℕ) (o : Option ThreadReport)
     → x.report ≡ o → Placed (suc c) 0 o → Counts ends c → Counts (x ∷ ends) (suc c)
 counts_one x ends c None is placed h = absurd (omega (arith, placed))
 counts_one x ends c (Some report) is placed h =
@@ -111,7 +112,7 @@ counts_one x ends c (Some report) is placed h =
     at zero d e lt list = is ∙ ap (λ l. Some (get_or l 0 d)) (sym list)
     at (suc k) d e lt list = h.each k d e (omega (arith, lt)) ∙ ap (λ l. Some (get_or l (suc k) d)) (sym list)
 
-counts_none : {S : Type 0} (x : WorkerEnd S) (ends : List (WorkerEnd S)) (o : Option ThreadReport) → x.report ≡ o
+counts_none : {S G : Type 0} (x : WorkerEnd S G) (ends : List (WorkerEnd S G)) (o : Option ThreadReport) → x.report ≡ o
     → Placed 0 0 o → Counts ends 0 → Counts (x ∷ ends) 0
 counts_none x ends None is placed h = record {
   count = ap (λ o. length (with_report o (reported ends))) is ∙ h.count;
@@ -119,7 +120,7 @@ counts_none x ends None is placed h = record {
 }
 counts_none x ends (Some report) is placed h = absurd (omega (arith, placed))
 
-counts : {S : Type 0} (ends : List (WorkerEnd S)) (c : ℕ) (e : WorkerEnd S)
+counts : {S G : Type 0} (ends : List (WorkerEnd S G)) (c : ℕ) (e : WorkerEnd S G)
     → ((k : ℕ) → k < length ends → Placed c k (WorkerEnd.report (get_or ends k e))) → c ≤ length ends → Counts ends c
 counts [] zero e h le = record { count = refl; each = λ k d f lt. absurd (omega (arith, lt)) }
 counts [] (suc c) e h le = absurd (omega (arith, le))
@@ -270,11 +271,11 @@ first_case loses opening limit meaning first (Some report) others before last hi
 )
 
 module _
-    {S T : Type 0} (mem : OverMemory S) (right : S → Bool) (meaning : T → Meaning) (first : T) (spawned : List T)
-    (seats0 : List S) (seat desk : S) (work : List S) (hub : S) (ends : List (WorkerEnd S)) (threads : List ThreadReport) (all : List S)
+    {S T G : Type 0} (mem : OverMemory S) (gate : Ghosts G) (old : G) (right : S → Bool) (meaning : T → Meaning) (first : T) (spawned : List T)
+    (seats0 : List S) (seat desk : S) (work : List S) (hub : S) (ends : List (WorkerEnd S G)) (threads : List ThreadReport) (all : List S)
     (parts : seats0 ≡ (seat ∷ work) ++ desk ∷ []) (len : length work ≡ MOST_SPAWNED)
     (names : (k : ℕ) (d : S) → k < SEATS → mem.name (get_or seats0 k d) ≡ k) (fresh : (k : ℕ) (d : S) → k < SEATS → mem.seen (get_or seats0 k d) ≡ [])
-    (crew : IsCrew mem meaning first seat spawned work ends)
+    (crew : IsCrew mem gate old meaning first seat spawned work ends)
     (threads_are : threads ≡ reported ends) (hub' : S) (home home' : List S) (home_is : home ≡ seats_of ends)
     (all_are : all ≡ home' ++ hub' ∷ []) (level : Level mem.opening mem.name right mem.seen hub hub' home home')
     (legal : IsQueueLegal (mem.seen hub)) (hub_name : mem.name hub ≡ DESK_NAME) (hub_silent : entries_of DESK_NAME (mem.seen hub) ≡ []) where
@@ -282,10 +283,10 @@ module _
   history = mem.seen hub'
 
   len_others : length crew.others ≡ MOST_SPAWNED
-  len_others = three_lengths (EndsWork mem meaning) spawned work crew.others crew.worked ∙ len
+  len_others = three_lengths (EndsWork mem gate old meaning) spawned work crew.others crew.worked ∙ len
 
   home_parts : home ≡ WorkerEnd.seat crew.head ∷ seats_of crew.others
-  home_parts = home_is ∙ ap (λ (l : List (WorkerEnd S)). seats_of l) crew.parts
+  home_parts = home_is ∙ ap (λ (l : List (WorkerEnd S G)). seats_of l) crew.parts
 
   len_home : length home ≡ MOST_THREADS
   len_home = ap length home_parts ∙ ap suc (seats_length crew.others ∙ len_others)
@@ -306,9 +307,9 @@ module _
   work_fresh k lt = work_new mem.name mem.seen seats0 seat work desk places names fresh k desk (omega (arith, len, lt))
 
   worker : (k : ℕ) (e : T) → k < MOST_SPAWNED
-      → EndsWork mem meaning (get_or spawned k e) (get_or work k desk)
+      → EndsWork mem gate old meaning (get_or spawned k e) (get_or work k desk)
       (get_or crew.others k crew.head)
-  worker k e lt = three_at (EndsWork mem meaning) spawned work crew.others k e desk crew.head crew.worked (omega (arith, len, lt))
+  worker k e lt = three_at (EndsWork mem gate old meaning) spawned work crew.others k e desk crew.head crew.worked (omega (arith, len, lt))
 
   end_seat : (k : ℕ) → k < MOST_SPAWNED → get_or home (suc k) desk ≡ WorkerEnd.seat (get_or crew.others k crew.head)
   end_seat k lt = ap (λ l. get_or l (suc k) desk) home_parts ∙ seats_at crew.others k desk crew.head (omega (arith, len_others, lt))
@@ -357,7 +358,7 @@ module _
       (omega (arith, few, len_others))
 
   threads_list : threads ≡ with_report (WorkerEnd.report crew.head) (reported crew.others)
-  threads_list = threads_are ∙ ap (λ (l : List (WorkerEnd S)). reported l) crew.parts
+  threads_list = threads_are ∙ ap (λ (l : List (WorkerEnd S G)). reported l) crew.parts
 
   head_case : LeadsTo mem.loses mem.opening mem.limit meaning first (with_report (WorkerEnd.report crew.head) (reported crew.others)) history
       × (length (with_report (WorkerEnd.report crew.head) (reported crew.others)) ≡ suc (length (reported crew.others)))
@@ -421,7 +422,7 @@ module _
     works = works;
   }
 
-pub crew_length : {S T : Type 0} (mem : OverMemory S) (meaning : T → Meaning) (first : T) (seat : S) (spawned : List T)
-    (work : List S) (ends : List (WorkerEnd S)) → IsCrew mem meaning first seat spawned work ends → length ends ≡ suc (length work)
-crew_length mem meaning first seat spawned work ends crew =
-    ap length crew.parts ∙ ap suc (three_lengths (EndsWork mem meaning) spawned work crew.others crew.worked)
+pub crew_length : {S T G : Type 0} (mem : OverMemory S) (gate : Ghosts G) (old : G) (meaning : T → Meaning) (first : T) (seat : S) (spawned : List T)
+    (work : List S) (ends : List (WorkerEnd S G)) → IsCrew mem gate old meaning first seat spawned work ends → length ends ≡ suc (length work)
+crew_length mem gate old meaning first seat spawned work ends crew =
+    ap length crew.parts ∙ ap suc (three_lengths (EndsWork mem gate old meaning) spawned work crew.others crew.worked)

@@ -27,11 +27,11 @@ abbrev pub with_report : Option ThreadReport → List ThreadReport → List Thre
 with_report None reports = reports
 with_report (Some report) reports = report ∷ reports
 
-abbrev pub reported : {S : Type 0} → List (WorkerEnd S) → List ThreadReport
+abbrev pub reported : {S G : Type 0} → List (WorkerEnd S G) → List ThreadReport
 reported [] = []
 reported (end ∷ ends) = with_report end.report (reported ends)
 
-abbrev pub seats_of : {S : Type 0} → List (WorkerEnd S) → List S
+abbrev pub seats_of : {S G : Type 0} → List (WorkerEnd S G) → List S
 seats_of [] = []
 seats_of (end ∷ ends) = end.seat ∷ seats_of ends
 

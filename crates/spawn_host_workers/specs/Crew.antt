@@ -14,6 +14,8 @@ use Rattle.spawn_host_workers.specs.declared.worker.WorkerEnd.{WorkerEnd}
 use Rattle.spawn_host_workers.specs.declared.crew.Crew.{Crew}
 use Rattle.spawn_host_workers.specs.Pairs.{AllThree}
 use Rattle.spawn_host_workers.specs.OverMemory.{OverMemory}
+use Rattle.interp_trait.specs.declared.gate.Gate.{Ghosts}
+use Rattle.spawn_host_workers.specs.Gated.{PassesFirst}
 use Rattle.spawn_host_workers.specs.Works.{EndsWork}
 
 -- What a crew begins with: a first thread with its seat, others that weren't spawned yet, and seats for those that are
@@ -38,47 +40,46 @@ abbrev pub WorksFirst : Bool → Memory → Option ℕ → ℕ → Meaning → O
 WorksFirst loses opening limit n m None before after = ⊥
 WorksFirst loses opening limit n m (Some report) before after = RunsFirst loses opening limit n m report before after
 
-pub record EndsFirst {S T : Type 0} (mem : OverMemory S) (meaning : T
-    → Meaning) (thread : T) (seat : S) (end : WorkerEnd S) : Type 0 where
+pub record EndsFirst {S T G : Type 0} (mem : OverMemory S) (gate : Ghosts G) (old : G) (meaning : T
+    → Meaning) (thread : T) (seat : S) (end : WorkerEnd S G) : Type 0 where
   pub name_is : mem.name end.seat ≡ mem.name seat
   pub works : WorksFirst mem.loses mem.opening mem.limit (mem.name seat) (meaning thread) end.report (mem.seen seat)
       (mem.seen end.seat)
+  pub gated : PassesFirst gate (mem.name seat) (meaning thread) end.report old end.gate
 
--- The ends of the first thread and of the workers, in order.
-pub record IsCrew {S T : Type 0} (mem : OverMemory S) (meaning : T → Meaning) (first : T) (seat : S) (threads : List T)
-    (seats : List S)
-    (ends : List (WorkerEnd S)) : Type 0 where
-  pub head : WorkerEnd S
-  pub others : List (WorkerEnd S)
-  pub parts : ends ≡ head ∷ others
-  pub ended : EndsFirst mem meaning first seat head
-  pub worked : AllThree (EndsWork mem meaning) threads seats others
+-- The end of a worker whose thread can't be spawned: its seat and its gate come back as they are.
+abbrev pub idle_end : {S G : Type 0} → G → S → WorkerEnd S G
+idle_end gate seat = record { report = None; seat = seat; gate = gate }
 
-abbrev pub EndsCrew : {S T : Type 0} → OverMemory S → (T → Meaning) → Crew T S → List (WorkerEnd S) → Type 0
-EndsCrew mem meaning crew ends = IsCrew mem meaning crew.first crew.seat crew.threads.items crew.seats.items ends
+abbrev pub idle_ends : {S G : Type 0} → G → List S → List (WorkerEnd S G)
+idle_ends gate [] = []
+idle_ends gate (seat ∷ seats) = idle_end gate seat ∷ idle_ends gate seats
 
--- The end of a worker whose thread can't be spawned: its seat comes back as it is.
-abbrev pub idle_end : {S : Type 0} → S → WorkerEnd S
-idle_end seat = record { report = None; seat = seat }
+module _ {S T G : Type 0} (mem : OverMemory S) (gate : Ghosts G) (old : G) (meaning : T → Meaning) where
+  -- The ends of the first thread and of the workers, in order.
+  pub record IsCrew (first : T) (seat : S) (threads : List T) (seats : List S) (ends : List (WorkerEnd S G))
+      : Type 0 where
+    pub head : WorkerEnd S G
+    pub others : List (WorkerEnd S G)
+    pub parts : ends ≡ head ∷ others
+    pub ended : EndsFirst mem gate old meaning first seat head
+    pub worked : AllThree (EndsWork mem gate old meaning) threads seats others
 
-abbrev pub idle_ends : {S : Type 0} → List S → List (WorkerEnd S)
-idle_ends [] = []
-idle_ends (seat ∷ seats) = idle_end seat ∷ idle_ends seats
+  abbrev pub EndsCrew : Crew T S → List (WorkerEnd S G) → Type 0
+  EndsCrew crew ends = IsCrew crew.first crew.seat crew.threads.items crew.seats.items ends
 
--- The end of the first thread, and the seats of others, none of which can be spawned.
-pub record IsAlone {S T : Type 0} (mem : OverMemory S) (meaning : T → Meaning) (first : T) (seat : S) (seats : List S)
-    (ends : List (WorkerEnd S)) : Type 0 where
-  pub head : WorkerEnd S
-  pub parts : ends ≡ head ∷ idle_ends seats
-  pub ended : EndsFirst mem meaning first seat head
+  -- The end of the first thread, and the seats of others, none of which can be spawned.
+  pub record IsAlone (first : T) (seat : S) (seats : List S) (ends : List (WorkerEnd S G)) : Type 0 where
+    pub head : WorkerEnd S G
+    pub parts : ends ≡ head ∷ idle_ends old seats
+    pub ended : EndsFirst mem gate old meaning first seat head
 
-abbrev pub EndsAlone : {S T : Type 0} → OverMemory S → (T → Meaning) → Crew T S → List (WorkerEnd S) → Type 0
-EndsAlone mem meaning crew ends = IsAlone mem meaning crew.first crew.seat crew.seats.items ends
+  abbrev pub EndsAlone : Crew T S → List (WorkerEnd S G) → Type 0
+  EndsAlone crew ends = IsAlone crew.first crew.seat crew.seats.items ends
 
--- The ends of a crew, or of a first thread beside which there's none.
-abbrev pub EndsAll : {S T : Type 0} → OverMemory S → (T → Meaning) → Crew T S → List (WorkerEnd S) → Type 0
-EndsAll mem meaning crew ends =
-    EndsCrew mem meaning crew ends ⊎ ((crew.threads.items ≡ []) × EndsAlone mem meaning crew ends)
+  -- The ends of a crew, or of a first thread beside which there's none.
+  abbrev pub EndsAll : Crew T S → List (WorkerEnd S G) → Type 0
+  EndsAll crew ends = EndsCrew crew ends ⊎ ((crew.threads.items ≡ []) × EndsAlone crew ends)
 
 -- So many threads can be spawned: all that a run can have, or none, where the program imports no function.
 abbrev pub CountsSpawnable : Meaning → ℕ → Type 0

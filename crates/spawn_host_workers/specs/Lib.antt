@@ -5,6 +5,7 @@ pub mod Pairs
 pub mod Crew
 pub mod Duties
 pub mod Composed
+pub mod Gated
 pub mod Ends
 pub mod Serving
 pub mod Seats

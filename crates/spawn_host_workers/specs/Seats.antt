@@ -1,5 +1,5 @@
 -- What the calls of a run do, said of threads, of a memory and of its seats.
-use Rattle.std.specs.Prelude.{ℕ, ◌≡◌, ◌<◌, List, [], ◌∷◌, ◌++◌, slice_index_or}
+use Rattle.std.specs.Prelude.{ℕ, ◌≡◌, ◌<◌, ◌-◌, List, [], ◌∷◌, ◌++◌, slice_index_or}
 use Rattle.types.specs.declared.event.Event.{Event}
 use Rattle.types.specs.declared.outcome.Outcome.{Outcome}
 use Rattle.types.specs.declared.limits.TheConstants.{SEATS}
@@ -7,7 +7,8 @@ use Rattle.shared_memory.specs.declared.memory.SharedMemory.{Ghosts}
 use Rattle.shared_memory.specs.Seats.{IsSameSeat}
 use Rattle.shared_memory.specs.WaitQueue.{IsFree}
 use Rattle.shared_memory.specs.History.{queue_after}
-use Rattle.interp_trait.specs.Turns.{Running, Meaning, IsHere, WantsEvent, StaysAs}
+use Rattle.interp_trait.specs.Turns.{Running, Meaning, IsHere, WantsEvent, StaysAs, left_of}
+use Rattle.interp_trait.specs.declared.gate.Gate as gates
 use Rattle.interp_trait.specs.declared.turn.Turn.{Turn}
 use Rattle.interp_trait.specs.declared.turn.Turn.TheVariants.{Ended}
 use Rattle.spawn_host_workers.specs.declared.serving.Served.{Served}
@@ -38,34 +39,43 @@ pub record StaysFree {T M S : Type 0} (m : Ghosts M S) (meaning : T → Meaning)
   pub same : IsSameSeat m seat seat'
   pub free : IsFree (queue_after (m.seen seat')) (m.name seat)
 
--- From each state for which it stood where it wants the event, the thread has made a step.
-abbrev pub SeatAttends : {T M S : Type 0} → Ghosts M S → M → (T → Meaning) → T → T → S → S → Event → Turn → Type 0
-SeatAttends m memory meaning thread thread' seat seat' event turn =
-    (t : Running) → WantsEvent (meaning thread) event t
-    → Steps (meaning thread).program m.LOSES m.opening (m.limit memory) (m.name seat) t turn (meaning thread').stands
-    (watched m.seen m.lost seat) (watched m.seen m.lost seat')
+module _ {T M S G : Type 0} (m : Ghosts M S) (gate : gates.Ghosts G) (memory : M) (meaning : T → Meaning) where
+  -- From each state for which it stood where it wants the event, the thread has made a step. The gate was called before
+  -- the event.
+  abbrev pub SeatAttends : T → T → S → S → G → G → Event → Turn → Type 0
+  SeatAttends thread thread' seat seat' old new event turn =
+      (t : Running) (earlier : G) → WantsEvent (meaning thread) event t
+      → gate.sees earlier (m.name seat) ((meaning thread).fuel - left_of t) old
+      → Steps gate (meaning thread).fuel (meaning thread).program m.LOSES m.opening (m.limit memory) (m.name seat) t
+      turn
+      (meaning thread').stands
+      (watched m.seen m.lost seat earlier) (watched m.seen m.lost seat' new)
 
--- From each state for which it stood, it has.
-abbrev pub SeatSteps : {T M S : Type 0} → Ghosts M S → M → (T → Meaning) → T → T → S → S → Turn → Type 0
-SeatSteps m memory meaning thread thread' seat seat' turn =
-    (t : Running) → (meaning thread).stands t → IsHere t
-    → Steps (meaning thread).program m.LOSES m.opening (m.limit memory) (m.name seat) t turn (meaning thread').stands
-    (watched m.seen m.lost seat) (watched m.seen m.lost seat')
+  -- From each state for which it stood, it has.
+  abbrev pub SeatSteps : T → T → S → S → G → G → Turn → Type 0
+  SeatSteps thread thread' seat seat' old new turn =
+      (t : Running) → (meaning thread).stands t → IsHere t
+      → Steps gate (meaning thread).fuel (meaning thread).program m.LOSES m.opening (m.limit memory) (m.name seat) t
+      turn
+      (meaning thread').stands
+      (watched m.seen m.lost seat old) (watched m.seen m.lost seat' new)
 
--- It has ended, in a state for which it stands now, by however many steps.
-abbrev pub SeatEnds : {T M S : Type 0} → Ghosts M S → M → (T → Meaning) → T → T → S → S → Outcome → Type 0
-SeatEnds m memory meaning thread thread' seat seat' outcome =
-    (t : Running) → (meaning thread).stands t → IsHere t
-    → Attends (meaning thread).program m.LOSES m.opening (m.limit memory) (m.name seat) t (Ended outcome)
-    (meaning thread').stands
-    (watched m.seen m.lost seat) (watched m.seen m.lost seat')
+  -- It has ended, in a state for which it stands now, by however many steps.
+  abbrev pub SeatEnds : T → T → S → S → G → G → Outcome → Type 0
+  SeatEnds thread thread' seat seat' old new outcome =
+      (t : Running) → (meaning thread).stands t → IsHere t
+      → Attends gate (meaning thread).fuel (meaning thread).program m.LOSES m.opening (m.limit memory) (m.name seat) t
+      (Ended outcome)
+      (meaning thread').stands
+      (watched m.seen m.lost seat old) (watched m.seen m.lost seat' new)
 
--- It has run to its end, and left.
-abbrev pub SeatRunsOut : {T M S : Type 0} → Ghosts M S → M → (T → Meaning) → T → S → ThreadEnd S → Type 0
-SeatRunsOut m memory meaning thread seat end =
-    (t : Running) → (meaning thread).stands t → IsHere t
-    → RunsOutTrying (meaning thread).program m.LOSES m.opening (m.limit memory) (m.name seat) t end.outcome end.spent
-    (meaning thread).fuel (watched m.seen m.lost seat) (watched m.seen m.lost end.seat)
+  -- It has run to its end, and left.
+  abbrev pub SeatRunsOut : T → S → G → ThreadEnd S G → Type 0
+  SeatRunsOut thread seat old end =
+      (t : Running) → (meaning thread).stands t → IsHere t
+      → RunsOutTrying gate (meaning thread).program m.LOSES m.opening (m.limit memory) (m.name seat) t end.outcome
+      end.spent
+      (meaning thread).fuel (watched m.seen m.lost seat old) (watched m.seen m.lost end.seat end.gate)
 
 -- After i seats have met the hub; and after all have, twice.
 abbrev pub HasMet : {M S : Type 0} → Ghosts M S → S → S → List S → List S → ℕ → Type 0

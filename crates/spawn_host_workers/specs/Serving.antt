@@ -16,6 +16,7 @@ use Rattle.schedule.specs.System.{Act.Made, Act.Heard, Step, Step.Lost, Step.Ful
 use Rattle.interp_machine.specs.Program.{Program}
 use Rattle.schedule_threads.specs.Seeing.{Sees, SeesAct}
 use Rattle.interp_trait.specs.Turns.{Running, outcome_of, left_of, wants_of, IsHere}
+use Rattle.interp_trait.specs.declared.gate.Gate.{Ghosts}
 use Rattle.interp_trait.specs.declared.turn.Turn.{Turn}
 use Rattle.interp_trait.specs.declared.turn.Turn.TheVariants as turns
 use Rattle.spawn_host_workers.specs.declared.serving.Served.{Served}
@@ -76,14 +77,14 @@ lost_by (served.Replied reply) lost = lost_after reply lost
 lost_by _ lost = lost
 
 -- The thread has come from one state to another, for which it stands now.
-pub record Attends (p : Program) (loses : Bool) (opening : Memory) (limit : Option ℕ) (n : ℕ) (first : Running)
-    (turn : Turn)
+pub record Attends {G : Type 0} (gate : Ghosts G) (budget : ℕ) (p : Program) (loses : Bool) (opening : Memory)
+    (limit : Option ℕ) (n : ℕ) (first : Running) (turn : Turn)
     (Stands : Running → Type 0)
-    (before after : Watched) : Type 0 where
+    (before after : Watched G) : Type 0 where
   pub now : Running
   pub stands : Stands now
   pub here : IsHere now
-  pub comes : Comes p loses opening limit n first now before after
+  pub comes : Comes gate budget p loses opening limit n first now before after
   pub ended : IsEndOf turn now
 
 -- A step costs units, unless the thread has ended by it, or awaits an answer that nothing brings.
@@ -94,9 +95,9 @@ IsPaid p first turns.Awaits now = (left_of now < left_of first) ⊎ (wants_of p 
 IsPaid p first (turns.Ended outcome) now = Unit {0}
 
 -- The thread has made a step: it hasn't stayed as it was.
-pub record Steps (p : Program) (loses : Bool) (opening : Memory) (limit : Option ℕ) (n : ℕ) (first : Running)
-    (turn : Turn)
+pub record Steps {G : Type 0} (gate : Ghosts G) (budget : ℕ) (p : Program) (loses : Bool) (opening : Memory)
+    (limit : Option ℕ) (n : ℕ) (first : Running) (turn : Turn)
     (Stands : Running → Type 0)
-    (before after : Watched) : Type 0 where
-  pub attends : Attends p loses opening limit n first turn Stands before after
+    (before after : Watched G) : Type 0 where
+  pub attends : Attends gate budget p loses opening limit n first turn Stands before after
   pub paid : IsPaid p first turn attends.now

@@ -14,7 +14,9 @@ use Rattle.interp_machine.specs.State.{At}
 use Rattle.interp_trait.specs.Turns.{Meaning}
 use Rattle.spawn_host_workers.specs.Ends.{IsLast, RunsOut}
 use Rattle.spawn_host_workers.specs.declared.worker.WorkerEnd.{WorkerEnd}
+use Rattle.interp_trait.specs.declared.gate.Gate.{Ghosts}
 use Rattle.spawn_host_workers.specs.OverMemory.{OverMemory}
+use Rattle.spawn_host_workers.specs.Gated.{PassesSpawned}
 
 -- Thread n was spawned, and ran from its start to its end: the arguments are its number and the one that it was spawned
 -- with.
@@ -35,9 +37,10 @@ abbrev pub Works : Bool → Memory → Option ℕ → ℕ → Meaning → Option
 Works loses opening limit n m None before after = NeverBegins opening n before after
 Works loses opening limit n m (Some report) before after = RunsSpawned loses opening limit n m report before after
 
--- A worker's end, over seats and threads of any type.
-pub record EndsWork {S T : Type 0} (mem : OverMemory S) (meaning : T
-    → Meaning) (thread : T) (seat : S) (end : WorkerEnd S) : Type 0 where
+-- A worker's end, over seats, threads and gates of any type.
+pub record EndsWork {S T G : Type 0} (mem : OverMemory S) (gate : Ghosts G) (old : G) (meaning : T
+    → Meaning) (thread : T) (seat : S) (end : WorkerEnd S G) : Type 0 where
   pub name_is : mem.name end.seat ≡ mem.name seat
   pub works : Works mem.loses mem.opening mem.limit (mem.name seat) (meaning thread) end.report (mem.seen seat)
       (mem.seen end.seat)
+  pub gated : PassesSpawned gate (mem.name seat) (meaning thread) end.report old end.gate

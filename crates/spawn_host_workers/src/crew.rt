@@ -44,14 +44,16 @@ pub(crate) struct Crew<T, S> {
 
 /// What a worker promises.
 #[derive(Drop)]
-pub(crate) struct Duty<T: TakesTurns, M: SharedMemory> {
+pub(crate) struct Duty<T: TakesTurns, M: SharedMemory, G: Gate> {
     memory: Snapshot<M>,
     seat: Snapshot<M::Seat>,
     thread: Snapshot<T>,
+    gate: Snapshot<G>,
 }
 
-impl<T: TakesTurns, M: SharedMemory> Promise<WorkerEnd<M::Seat>> for Duty<T, M> {
-    ghost kept_by = { λ p r. EndsWork (over M.SharedMemory p.memory.value) T.meaning p.thread.value p.seat.value r };
+impl<T: TakesTurns, M: SharedMemory, G: Gate> Promise<WorkerEnd<M::Seat, G>> for Duty<T, M, G> {
+    ghost kept_by = { λ p r. EndsWork (over M.SharedMemory p.memory.value) G.Gate p.gate.value T.meaning p.thread.value
+        p.seat.value r };
 }
 
 /// The system started no further thread.
@@ -64,29 +66,31 @@ fn start_worker<'s, E, T, M, W, G, R>(
     place: &'s Workplace<'s, M, W, G, R>,
     thread: T,
     seat: M::Seat,
-) -> Result<PromisedHandle<WorkerEnd<M::Seat>, Duty<T, M>>, NoThread>
+) -> Result<PromisedHandle<WorkerEnd<M::Seat, G>, Duty<T, M, G>>, NoThread>
 where
     T: TakesTurns + Send + Drop + 's,
     M: SharedMemory + Sync,
     M::Seat: 's,
     W: Wait + Drop + Sync,
-    G: Gate + Sync,
+    G: Gate + Send + Sync,
     R: Wait + Sync,
     requires new { entries_of (M.name seat) (M.seen seat) ≡ [] }
     requires begins { MayBeSpawned (T.meaning thread) }
-    ensures { IfOk result (λ handle. IsDuty place.now.memory.now thread seat handle) }
+    ensures { IfOk result (λ handle. IsDuty place.now.memory.now place.now.gate.now thread seat handle) }
 {
     let duty = Duty {
         memory: Snapshot::of(place.memory),
         seat: Snapshot::of(&seat),
         thread: Snapshot::of(&thread),
+        gate: Snapshot::of(place.gate),
     };
     let Ok(handle) = scope.spawn_with(
         duty,
-        move || -> WorkerEnd<M::Seat>
+        move || -> WorkerEnd<M::Seat, G>
             requires new { entries_of (M.name seat) (M.seen seat) ≡ [] }
             requires begins { MayBeSpawned (T.meaning thread) }
-            ensures { EndsWork (over M.SharedMemory place.entry.now.memory.now) T.meaning thread seat result }
+            ensures { EndsWork (over M.SharedMemory place.entry.now.memory.now) G.Gate place.entry.now.gate.now
+                T.meaning thread seat result }
         { work(place, thread, seat) },
     ) else {
         return Err(NoThread);
@@ -101,22 +105,22 @@ fn start_workers<'s, E, T, M, W, G, R>(
     place: &'s Workplace<'s, M, W, G, R>,
     threads: Vec<T>,
     seats: Vec<M::Seat>,
-    mut handles: Vec<PromisedHandle<WorkerEnd<M::Seat>, Duty<T, M>>>,
-) -> Result<Vec<PromisedHandle<WorkerEnd<M::Seat>, Duty<T, M>>>, NoThread>
+    mut handles: Vec<PromisedHandle<WorkerEnd<M::Seat, G>, Duty<T, M, G>>>,
+) -> Result<Vec<PromisedHandle<WorkerEnd<M::Seat, G>, Duty<T, M, G>>>, NoThread>
 where
     T: TakesTurns + Send + Drop + 's,
     M: SharedMemory + Sync,
     M::Seat: 's,
     W: Wait + Drop + Sync,
-    G: Gate + Sync,
+    G: Gate + Send + Sync,
     R: Wait + Sync,
     requires len { vec_len threads ≡ vec_len seats }
     requires new { All (λ (s : M.Seat). entries_of (M.name s) (M.seen s) ≡ []) seats.items }
     requires begins { All (λ (t : T). MayBeSpawned (T.meaning t)) threads.items }
     requires empty { handles.items ≡ [] }
     requires room { vec_len seats ≤ vec_capacity handles }
-    ensures { IfOk result (λ all. AllThree (IsDuty place.now.memory.now) threads.items seats.items all.items
-        × (vec_len all ≡ vec_len seats)) }
+    ensures { IfOk result (λ all. AllThree (IsDuty place.now.memory.now place.now.gate.now) threads.items seats.items
+        all.items × (vec_len all ≡ vec_len seats)) }
 {
     let mut threads = threads.into_iter();
     for seat in seats {
@@ -132,13 +136,13 @@ where
 }
 
 /// Joins the workers, in order.
-fn join_all<T: TakesTurns, M: SharedMemory, R: Threads>(
+fn join_all<T: TakesTurns, M: SharedMemory, G: Gate, R: Threads>(
     rt: &R,
-    handles: Vec<PromisedHandle<WorkerEnd<M::Seat>, Duty<T, M>>>,
-    ends: &mut Vec<WorkerEnd<M::Seat>>,
+    handles: Vec<PromisedHandle<WorkerEnd<M::Seat, G>, Duty<T, M, G>>>,
+    ends: &mut Vec<WorkerEnd<M::Seat, G>>,
 )
     requires room { vec_len ends.old + vec_len handles ≤ vec_capacity ends.old }
-    ensures { Joined (IsDone M.SharedMemory T.meaning) handles.items ends.old.items ends.new.items }
+    ensures { Joined (IsDone M.SharedMemory G.Gate T.meaning) handles.items ends.old.items ends.new.items }
 {
     for handle in handles {
         ends.push_reserved(handle.join(rt));
@@ -153,22 +157,23 @@ pub(crate) fn lead_crew<'s, E, T, M, W, G, R>(
     scope: &Scope<'s, E>,
     place: &'s Workplace<'s, M, W, G, R>,
     crew: Crew<T, M::Seat>,
-    handles: Vec<PromisedHandle<WorkerEnd<M::Seat>, Duty<T, M>>>,
-    mut ends: Vec<WorkerEnd<M::Seat>>,
-) -> Result<Vec<WorkerEnd<M::Seat>>, M::Seat>
+    handles: Vec<PromisedHandle<WorkerEnd<M::Seat, G>, Duty<T, M, G>>>,
+    mut ends: Vec<WorkerEnd<M::Seat, G>>,
+) -> Result<Vec<WorkerEnd<M::Seat, G>>, M::Seat>
 where
     T: TakesTurns + Send + Drop + 's,
     M: SharedMemory + Sync,
     M::Seat: 's,
     W: Wait + Drop + Sync,
-    G: Gate + Sync,
+    G: Gate + Send + Sync,
     R: Threads + Wait + Sync,
     requires start { MayStart M.name M.seen T.meaning crew }
     requires len { vec_len crew.threads ≡ vec_len crew.seats }
     requires none { (handles.items ≡ []) × (vec_len crew.seats ≤ vec_capacity handles) }
     requires empty { ends.items ≡ [] }
     requires room { MOST_THREADS ≤ vec_capacity ends }
-    ensures ends { IfOk result (λ all. EndsCrew (over M.SharedMemory place.now.memory.now) T.meaning crew all.items) }
+    ensures ends { IfOk result (λ all. EndsCrew (over M.SharedMemory place.now.memory.now) G.Gate place.now.gate.now
+        T.meaning crew all.items) }
     ensures left { IfErr result (LeavesUnrun M.SharedMemory place.now.memory.now crew.seat) }
 {
     let Crew {
@@ -190,12 +195,16 @@ where
 }
 
 /// Puts seats behind the ends, of workers whose threads can't be spawned.
-fn leave_idle<S: Drop>(seats: Vec<S>, ends: &mut Vec<WorkerEnd<S>>)
+fn leave_idle<S: Drop, G: Gate>(seats: Vec<S>, gate: G, ends: &mut Vec<WorkerEnd<S, G>>)
     requires room { vec_len ends.old + vec_len seats ≤ vec_capacity ends.old }
-    ensures { ends.new.items ≡ ends.old.items ++ idle_ends seats.items }
+    ensures { ends.new.items ≡ ends.old.items ++ idle_ends gate seats.items }
 {
     for seat in seats {
-        ends.push_reserved(WorkerEnd { report: None, seat });
+        ends.push_reserved(WorkerEnd {
+            report: None,
+            seat,
+            gate,
+        });
     }
 }
 
@@ -203,8 +212,8 @@ fn leave_idle<S: Drop>(seats: Vec<S>, ends: &mut Vec<WorkerEnd<S>>)
 pub(crate) fn lead_alone<T, M, W, G, R>(
     place: &Workplace<M, W, G, R>,
     crew: Crew<T, M::Seat>,
-    mut ends: Vec<WorkerEnd<M::Seat>>,
-) -> Vec<WorkerEnd<M::Seat>>
+    mut ends: Vec<WorkerEnd<M::Seat, G>>,
+) -> Vec<WorkerEnd<M::Seat, G>>
 where
     T: TakesTurns + Drop,
     M: SharedMemory,
@@ -214,7 +223,8 @@ where
     requires start { MayStart M.name M.seen T.meaning crew }
     requires empty { ends.items ≡ [] }
     requires room { MOST_THREADS ≤ vec_capacity ends }
-    ensures { EndsAlone (over M.SharedMemory place.now.memory.now) T.meaning crew result.items }
+    ensures { EndsAlone (over M.SharedMemory place.now.memory.now) G.Gate place.now.gate.now T.meaning crew
+        result.items }
 {
     let Crew {
         first,
@@ -223,7 +233,7 @@ where
         seats,
     } = crew;
     ends.push_reserved(lead(place, first, seat));
-    leave_idle(seats, &mut ends);
+    leave_idle(seats, *place.gate, &mut ends);
     ends
 }
 
@@ -232,16 +242,25 @@ fn lead<T: TakesTurns + Drop, M: SharedMemory, W: Wait + Drop, G: Gate, R: Wait>
     place: &Workplace<M, W, G, R>,
     first: T,
     seat: M::Seat,
-) -> WorkerEnd<M::Seat>
+) -> WorkerEnd<M::Seat, G>
     requires here { MayRun (T.meaning first) }
     requires free { IsFree (queue_after (M.seen seat)) (M.name seat) }
-    ensures { EndsFirst (over M.SharedMemory place.now.memory.now) T.meaning first seat result }
+    ensures { EndsFirst (over M.SharedMemory place.now.memory.now) G.Gate place.now.gate.now T.meaning first seat
+        result }
 {
     let ThreadEnd {
         outcome,
         seat,
         spent,
-    } = run_thread(place.rt, first, place.memory, seat, place.desk, place.gate);
+        gate,
+    } = run_thread(
+        place.rt,
+        first,
+        place.memory,
+        seat,
+        place.desk,
+        *place.gate,
+    );
     let report = Some(ThreadReport { outcome, spent });
-    WorkerEnd { report, seat }
+    WorkerEnd { report, seat, gate }
 }

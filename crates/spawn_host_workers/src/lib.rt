@@ -3,8 +3,8 @@
 //!
 //! Proved: where `run_all` answers, all 65 seats have seen one legal list, and each report is of a run with its
 //! entries. Where it answers a fault, all seats are as they came, or all that thread 0 ever entered is that it leaves.
-//! `run_thread` runs any thread that makes turns: its units are its budget, and as many of its steps are lost
-//! tries as its seat lost.
+//! `run_thread` runs any thread that makes turns: its units are its budget, as many of its steps are lost tries as its
+//! seat lost, and the gate is called before each of its turns.
 #![tactic(auto)]
 
 mod crew;

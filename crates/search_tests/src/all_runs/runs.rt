@@ -100,7 +100,7 @@ fn locked<R: Threads + Wait + Sync>(
     valid: &ValidModule,
     gone: &Gone,
 ) -> Result<Ending, Fail> {
-    let (_, end) = record_run(rt, alloc, valid, call_of(gone), LIMIT, &OpenGate)?;
+    let (_, end) = record_run(rt, alloc, valid, call_of(gone), LIMIT, &mut OpenGate)?;
     Ok(ending_of(alloc, &end, DUMP)?)
 }
 
@@ -111,7 +111,7 @@ fn on_words<R: Threads + Wait + Sync>(
     valid: &ValidModule,
     gone: &Gone,
 ) -> Result<Ending, Fail> {
-    let end = run_on_words(rt, alloc, valid, call_of(gone), &OpenGate)?;
+    let end = run_on_words(rt, alloc, valid, call_of(gone), &mut OpenGate)?;
     Ok(ending_of(alloc, &end, DUMP)?)
 }
 

@@ -6,7 +6,7 @@ use Rattle.interp_trait.specs.Turns.{Running, left_of}
 use Rattle.interp.specs.Kept.{RunsBy}
 use Rattle.interp.specs.Threads.{StandsFor}
 use Rattle.search_threads.specs.Unlimited.{Unlimited.Going}
-use Rattle.search_walkers.proofs.Walking.{came, spent_all, is_at, says_end, says_none}
+use Rattle.search_walkers.proofs.Walking.{only_stands, came, spent_all, is_at, says_end, says_none}
 use Rattle.search_walkers.proofs.rest.rest.Goals as goal
 
 pub own_turns-turn-requires : goal.own_turns-turn-requires
@@ -21,7 +21,7 @@ returns-then-spent-ge-FUEL-clause-gives_up c _ = λ w b x left of by s.
     let budget = c.requires.fuel in
     let high = c.if-spent-ge-FUEL.true in omega (arith, spent, same, budget, high) in
     spent_all b (program_of c.args.thread.parts.now) (ap program_of by.parts ∙ sym of) x left _ (StandsFor n)
-    (c.own_turns-turn.ensures.turned (Runs x left) s tt) none
+    (only_stands _ (Runs x left) _ (StandsFor n) _ (c.own_turns-turn.ensures.turned (Runs x left) s tt)) none
 
 pub returns-in-Ended-clause-rests : goal.returns-in-Ended-clause-rests
 returns-in-Ended-clause-rests c = λ w b x left of by s.
@@ -32,7 +32,7 @@ returns-in-Ended-clause-rests c = λ w b x left of by s.
     let budget = c.requires.fuel in
     let low = c.if-spent-ge-FUEL.false in omega (arith, spent, same, budget, low) in
     let k = came b (program_of c.args.thread.parts.now) (ap program_of by.parts ∙ sym of) x left _ (StandsFor n)
-    (c.own_turns-turn.ensures.turned (Runs x left) s tt) some in
+    (only_stands _ (Runs x left) _ (StandsFor n) _ (c.own_turns-turn.ensures.turned (Runs x left) s tt)) some in
     record {
       rested = Going k.state;
       settles = k.settles;
@@ -48,7 +48,7 @@ returns-clause-rests c = λ w b x left of by s.
     let budget = c.requires.fuel in
     let low = c.if-spent-ge-FUEL.false in omega (arith, spent, same, budget, low) in
     let k = came b (program_of c.args.thread.parts.now) (ap program_of by.parts ∙ sym of) x left _ (StandsFor n)
-    (c.own_turns-turn.ensures.turned (Runs x left) s tt) some in
+    (only_stands _ (Runs x left) _ (StandsFor n) _ (c.own_turns-turn.ensures.turned (Runs x left) s tt)) some in
     let at = is_at k.state (says_none b.program k.state (suc k.left) _ k.says c.in_default.not-Ended) in
     let st : StandsFor n (Runs (At at.0) (suc k.left)) = subst (λ y. StandsFor n (Runs y (suc k.left))) at.1 k.stands in
     let runs_by : RunsBy w n = record {

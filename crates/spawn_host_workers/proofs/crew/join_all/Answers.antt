@@ -10,7 +10,7 @@ loop-handle-init g c =
     let t = g.T.TakesTurns in
     let gives = c.into_iter-handle-iterator.ensures.into_iter_gives in record {
       room = search rules;
-      joined = rw (gives.0) (joined_none (IsDone m t.meaning) (vec_items c.args.handles) (vec_items c.args.ends.now));
+      joined = rw (gives.0) (joined_none (IsDone m g.G.Gate t.meaning) (vec_items c.args.handles) (vec_items c.args.ends.now));
     }
 
 pub loop-handle-preserved : goal.loop-handle-preserved
@@ -21,7 +21,7 @@ loop-handle-preserved g c =
     let step = c.in-Some.ensures.steps in record {
       room = search rules;
       joined = rw (c.push_reserved.ensures.items)
-          (joined_more (IsDone m t.meaning) (vec_items c.args.handles)
+          (joined_more (IsDone m g.G.Gate t.meaning) (vec_items c.args.handles)
           (vec_items c.args.ends.now)
           (vec_items c.loop-handle.ends) (into_iter_items c.loop-handle.handle-iterator) (into_iter_items c.next.new.self)
           c.in-Some.handle c.join.result i.joined step.0 c.join.ensures);
@@ -32,5 +32,5 @@ returns g c =
     let m = g.M.SharedMemory in
     let t = g.T.TakesTurns in
     let rest = c.loop-handle.handle-iterator.rest in
-    joined_all (IsDone m t.meaning) (vec_items c.args.handles) (vec_items c.args.ends.now) (vec_items c.loop-handle.ends) rest.items
+    joined_all (IsDone m g.G.Gate t.meaning) (vec_items c.args.handles) (vec_items c.args.ends.now) (vec_items c.loop-handle.ends) rest.items
     c.loop-handle.invariant.joined (none_of rest.items (sym rest.ok.0 ∙ c.in-None.ensures.steps.0))

@@ -9,6 +9,6 @@ invariant-loop-handle g l =
     let m = g.M.SharedMemory in
     let t = g.T.TakesTurns in record {
       room : vec_len l.ends + into_iter_len l.handle-iterator ≤ vec_capacity l.ends;
-      joined : JoinedSoFar (IsDone m t.meaning) (vec_items l.fn.handles)
+      joined : JoinedSoFar (IsDone m g.G.Gate t.meaning) (vec_items l.fn.handles)
           (vec_items l.initial.ends) (vec_items l.ends) (into_iter_items l.handle-iterator);
     }

@@ -7,7 +7,7 @@ returns-clause-ends g c =
     let m = g.M.SharedMemory in
     let t = g.T.TakesTurns in
     let crew = c.args.crew in
-    crew_of m t.meaning c.args.place.now.memory.now crew.first crew.seat crew.threads.items crew.seats.items
+    crew_of m g.G.Gate c.args.place.now.gate.now t.meaning c.args.place.now.memory.now crew.first crew.seat crew.threads.items crew.seats.items
     c.in-Ok.handles.items c.lead.result _ _ c.lead.ensures
     (first_there _ _ c.lead.result c.push_reserved.ensures.items c.requires.empty)
     c.in-Ok.ensures.0 c.join_all.ensures

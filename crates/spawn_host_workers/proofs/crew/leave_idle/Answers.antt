@@ -14,7 +14,7 @@ pub loop-seat-preserved : goal.loop-seat-preserved
 loop-seat-preserved g c =
     let i = c.loop-seat.invariant in
     let step = c.in-Some.ensures.steps in record {
-      ends = moved _ _ _ _ _ c.push_reserved.ensures.items (ap (λ l. vec_items c.loop-seat.ends ++ idle_ends l) (sym step.0) ∙ i.ends);
+      ends = moved _ _ _ _ _ c.push_reserved.ensures.items (ap (λ l. vec_items c.loop-seat.ends ++ idle_ends c.args.gate l) (sym step.0) ∙ i.ends);
       room = search rules;
     }
 
@@ -22,4 +22,4 @@ pub returns : goal.returns
 returns g c =
     let rest = c.loop-seat.seat-iterator.rest in
     let none = none_of rest.items (sym rest.ok.0 ∙ c.in-None.ensures.steps.0) in
-    all_moved _ _ _ (ap idle_ends none) c.loop-seat.invariant.ends
+    all_moved _ _ _ (ap (λ l. idle_ends c.args.gate l) none) c.loop-seat.invariant.ends

@@ -16,7 +16,7 @@ loop-seat-init g c =
       new = subst (λ w. All (λ s. entries_of (m.name s) (m.seen s) ≡ []) w) (sym gives.0) c.requires.new;
       begins = subst (λ w. All (λ t. MayBeSpawned (g.T.TakesTurns.meaning t)) w) (sym c.into_iter-threads.ensures.rest) c.requires.begins;
       duties = rw (c.into_iter-threads.ensures.rest, gives.0, c.requires.empty)
-          (so_far_none (IsDuty c.args.place.now.memory.now) (vec_items c.args.threads) (vec_items c.args.seats));
+          (so_far_none (IsDuty c.args.place.now.memory.now c.args.place.now.gate.now) (vec_items c.args.threads) (vec_items c.args.seats));
     }
 
 pub start_worker-requires-clause-new : goal.start_worker-requires-clause-new
@@ -44,7 +44,7 @@ loop-seat-preserved g c =
       begins = all_rest (λ t. MayBeSpawned (g.T.TakesTurns.meaning t)) (into_iter_items c.loop-seat.threads) (into_iter_items c.next-in-loop-seat.new.self)
           c.in-Some-next.thread i.begins next.0;
       duties = rw (c.push_reserved.ensures.items)
-          (so_far_more (IsDuty c.args.place.now.memory.now) (vec_items c.args.threads) (vec_items c.args.seats)
+          (so_far_more (IsDuty c.args.place.now.memory.now c.args.place.now.gate.now) (vec_items c.args.threads) (vec_items c.args.seats)
           (vec_items c.loop-seat.handles) (into_iter_items c.loop-seat.threads) (into_iter_items c.next-in-loop-seat.new.self)
           (into_iter_items c.loop-seat.seat-iterator) (into_iter_items c.next.new.self)
           c.in-Some-next.thread c.in-Some.seat c.in-Ok.handle i.duties next.0 step.0
@@ -57,7 +57,7 @@ returns g c =
     let threads = c.loop-seat.threads.rest in
     let i = c.loop-seat.invariant in
     let none = c.in-None.ensures.steps.0 in (
-      so_far_all (IsDuty c.args.place.now.memory.now) (vec_items c.args.threads) (vec_items c.args.seats) (vec_items c.loop-seat.handles)
+      so_far_all (IsDuty c.args.place.now.memory.now c.args.place.now.gate.now) (vec_items c.args.threads) (vec_items c.args.seats) (vec_items c.loop-seat.handles)
           threads.items seats.items i.duties
           (none_of threads.items (sym threads.ok.0 ∙ (i.same ∙ none))) (none_of seats.items (sym seats.ok.0 ∙ none)),
       omega (arith, i.len, none),

@@ -14,6 +14,6 @@ invariant-loop-seat g l =
       same : into_iter_len l.threads ≡ into_iter_len l.seat-iterator;
       new : All (λ s. entries_of (m.name s) (m.seen s) ≡ []) (into_iter_items l.seat-iterator);
       begins : All (λ t. MayBeSpawned (g.T.TakesTurns.meaning t)) (into_iter_items l.threads);
-      duties : SoFar (IsDuty l.place.memory.now) (vec_items l.fn.threads) (vec_items l.fn.seats) (vec_items l.handles)
+      duties : SoFar (IsDuty l.place.memory.now l.place.gate.now) (vec_items l.fn.threads) (vec_items l.fn.seats) (vec_items l.handles)
           (into_iter_items l.threads) (into_iter_items l.seat-iterator);
     }

@@ -1,4 +1,4 @@
-use Rattle.std.proofs.Common.{arith, ap, ℕ, ◌≡◌, ◌≤◌, ◌<◌, ◌+◌, ◌∙◌, List, [], length, inl, inr, subst, vec_len, vec_capacity}
+use Rattle.std.proofs.Common.{arith, ap, ℕ, ◌≡◌, ◌≤◌, ◌<◌, ◌+◌, ◌∙◌, List, [], length, map, inl, inr, subst, vec_len, vec_capacity}
 use Rattle.std.specs.Global.{Vec}
 use Rattle.shared_memory.specs.History.{entries_of, of_queue}
 use Rattle.types.specs.declared.limits.TheConstants.{MOST_THREADS, DESK_NAME}
@@ -7,7 +7,9 @@ use Rattle.waiters_desk.specs.Calls.{Leaves}
 use Rattle.types.specs.declared.event.Entry.{Entry}
 use Rattle.spawn_host_workers.proofs.OneList.{Unpacked, IsDeskSeat, first_name, first_new, lead_may_ask, workers_new, desk_new}
 use Rattle.spawn_host_workers.specs.Crew.{CountsSpawnable}
-use Rattle.spawn_host_workers.proofs.Ending.{ends_length, composed_any}
+use Rattle.spawn_host_workers.specs.Gated.{Gathers, passage_of}
+use Rattle.spawn_host_workers.specs.declared.worker.WorkerEnd.{WorkerEnd}
+use Rattle.spawn_host_workers.proofs.Ending.{ends_length, composed_any, gated_any}
 use Rattle.spawn_host_workers.proofs.host.run_all.Given as given
 use Rattle.spawn_host_workers.proofs.host.run_all.Goals as goal
 use Rattle.spawn_host_workers.proofs.host.run_all.Goals.{After-deal-seat}
@@ -75,7 +77,7 @@ bring_home-requires-clause-room g c κs within =
     let m = g.M.SharedMemory in
     let t = g.T.TakesTurns in
     let ends = c.in-Ok-run_crew.ends in
-    let count = ends_length (over m c.args.memory.now) t.meaning c.args.first c.deal-seat.result.first c.args.spawned.items
+    let count = ends_length (over m c.args.memory.now) g.G.Gate c.args.gate.now t.meaning c.args.first c.deal-seat.result.first c.args.spawned.items
     c.deal-seat.result.workers.items ends.items c.in-Ok-run_crew.ensures.ends in
     let here : vec_len ends ≡ MOST_THREADS = omega (arith, count, ends.ok.0, c.deal-seat.ensures.len) in (
       room_for ends c.in-Ok.room.reports MOST_THREADS here c.in-Ok.ensures.reports.0 c.in-Ok.ensures.reports.1,
@@ -88,12 +90,23 @@ returns-in-Ok-run_crew-clause-composed g c =
     let t = g.T.TakesTurns in
     let end = c.bring_home.result in
     let level = c.bring_home.ensures.seats in
-    composed_any (over m c.args.memory.now) m.has_queue_right t.meaning c.args.first c.args.spawned.items c.requires.here
+    composed_any (over m c.args.memory.now) g.G.Gate c.args.gate.now m.has_queue_right t.meaning c.args.first c.args.spawned.items c.requires.here
     c.args.seats.items c.deal-seat.result.first c.deal-seat.result.desk c.deal-seat.result.workers.items c.close-hub.result
     c.in-Ok-run_crew.ends.items end.threads.items end.seats.items
     c.deal-seat.ensures.parts c.deal-seat.ensures.len c.requires.names c.requires.new c.bring_home.ensures.threads level.0
     level.1 level.2 level.3 c.close-hub.ensures.legal c.close-hub.ensures.name c.close-hub.ensures.silent
     (subst (λ (n : ℕ). CountsSpawnable (t.meaning c.args.first) n) c.args.spawned.ok.0 c.requires.count) c.in-Ok-run_crew.ensures.ends
+
+pub returns-in-Ok-run_crew-clause-gated : goal.returns-in-Ok-run_crew-clause-gated
+returns-in-Ok-run_crew-clause-gated g c =
+    let m = g.M.SharedMemory in
+    let dealt = c.deal-seat.result in
+    gated_any (over m c.args.memory.now) g.G.Gate c.args.gate.now c.gather.new.gate g.T.TakesTurns.meaning c.args.first c.args.spawned.items
+    c.args.seats.items dealt.first dealt.desk dealt.workers.items c.in-Ok-run_crew.ends.items c.bring_home.result.threads.items
+    (record { parts = c.deal-seat.ensures.parts; len = c.deal-seat.ensures.len }) c.requires.names c.requires.new
+    c.bring_home.ensures.threads
+    (subst (λ (l : List (WorkerEnd _ _)). Gathers g.G.Gate (map passage_of l) c.args.gate.now c.gather.new.gate) c.as_slice.ensures.value c.gather.ensures)
+    c.in-Ok-run_crew.ensures.ends
 
 pub bring_home-requires-clause-right : goal.bring_home-requires-clause-right
 bring_home-requires-clause-right g c κs within = c.close-hub.ensures.right

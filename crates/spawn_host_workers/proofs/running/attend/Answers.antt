@@ -17,9 +17,7 @@ advance-requires-in-Answered-2 g c =
     let did = c.in-Answered.ensures.served in
     let first = c.advance-in-Answered.ensures.turned w.0 w.1.0 (w.1.1, c.args.event, w.1.2) in
     record {
-      given = may_be_told p m.LOSES m.opening (m.limit c.args.memory.now)
-          (m.name c.args.seat.now) w.0 c.args.event w.1.1 w.1.2 (watched m.seen m.lost c.args.seat.now) (watched m.seen m.lost c.serve.new.seat)
-          did.reply did.opened _ _ first _ c.advance-in-Answered.ensures.stays.program c.in-Answered.answer;
+      given = may_be_told p w.0 c.args.event w.1.1 w.1.2 did.reply did.opened _ _ first _ c.advance-in-Answered.ensures.stays.program c.in-Answered.answer;
     }
 
 pub advance-requires-in-Open-2 : goal.advance-requires-in-Open-2
@@ -30,65 +28,71 @@ advance-requires-in-Open-2 g c =
     let did = c.in-Open.ensures.served in
     let first = c.advance-in-Open.ensures.turned w.0 w.1.0 (w.1.1, c.args.event, w.1.2) in
     record {
-      given = may_be_told p m.LOSES m.opening (m.limit c.args.memory.now)
-          (m.name c.args.seat.now) w.0 c.args.event w.1.1 w.1.2 (watched m.seen m.lost c.args.seat.now) (watched m.seen m.lost c.serve.new.seat)
-          did.reply did.opened _ _ first _ c.advance-in-Open.ensures.stays.program c.collect-answer.result;
+      given = may_be_told p w.0 c.args.event w.1.1 w.1.2 did.reply did.opened _ _ first _ c.advance-in-Open.ensures.stays.program c.collect-answer.result;
     }
 
 pub returns-in-Replied-clause-attended : goal.returns-in-Replied-clause-attended
-returns-in-Replied-clause-attended g c t wanted =
+returns-in-Replied-clause-attended g c t earlier wanted saw =
     let stands = wanted.0 in
     let none = wanted.1 in
     let want = wanted.2 in
     let m = g.M.SharedMemory in
-    let p = (g.T.TakesTurns.meaning c.args.thread.now).program in
+    let meaning = g.T.TakesTurns.meaning c.args.thread.now in
     let did = c.in-Replied.ensures.served in
-    steps_reply p m.LOSES m.opening (m.limit c.args.memory.now)
-    (m.name c.args.seat.now) t c.args.event none want (watched m.seen m.lost c.args.seat.now)
-    (watched m.seen m.lost c.serve.new.seat) c.in-Replied.reply c.advance.result
-    _ did.0 did.1 c.in-Replied.ensures.tries
+    let called = rw (c.name-name.ensures) at c.advance.ensures.called in
+    steps_reply g.G.Gate meaning.fuel meaning.program m.LOSES m.opening (m.limit c.args.memory.now)
+    (m.name c.args.seat.now) t c.args.event none want (watched m.seen m.lost c.args.seat.now earlier)
+    (watched m.seen m.lost c.serve.new.seat c.advance.new.gate) c.args.gate.now saw c.in-Replied.reply c.advance.result
+    _ did.0 did.1 c.in-Replied.ensures.tries (called t stands)
     (c.advance.ensures.turned t stands (none, c.args.event, want))
 
 pub returns-in-Answered-clause-attended : goal.returns-in-Answered-clause-attended
-returns-in-Answered-clause-attended g c t wanted =
+returns-in-Answered-clause-attended g c t earlier wanted saw =
     let stands = wanted.0 in
     let none = wanted.1 in
     let want = wanted.2 in
     let m = g.M.SharedMemory in
     let limit = m.limit c.args.memory.now in
     let n = m.name c.args.seat.now in
-    let p = (g.T.TakesTurns.meaning c.args.thread.now).program in
-    let before = watched m.seen m.lost c.args.seat.now in
-    let after = watched m.seen m.lost c.serve.new.seat in
+    let meaning = g.T.TakesTurns.meaning c.args.thread.now in
+    let p = meaning.program in
     let did = c.in-Answered.ensures.served in
     let first = c.advance-in-Answered.ensures.turned t stands (none, c.args.event, want) in
-    let waits = awaiting_stands p m.LOSES m.opening limit n t c.args.event none want before after did.reply did.opened _ _ first in
-    let told = awaiting_given p m.LOSES m.opening limit n t c.args.event none want before after did.reply did.opened _ _ first c.in-Answered.answer in
+    let waits = awaiting_stands p t c.args.event none want did.reply did.opened _ _ first in
+    let told = awaiting_given p t c.args.event none want did.reply did.opened _ _ first c.in-Answered.answer in
     let second = rw (c.advance-in-Answered.ensures.stays.program) at c.advance-in-Answered-2.ensures.turned in
-    steps_answer p m.LOSES m.opening limit n t c.args.event none want before after did.reply did.opened _ _ first
+    let replied = rw (c.name-name.ensures) at c.advance-in-Answered.ensures.called in
+    let heard = rw (c.name-name.ensures, c.advance-in-Answered.ensures.stays.fuel) at c.advance-in-Answered-2.ensures.called in
+    steps_answer p t c.args.event none want did.reply did.opened _ _ first g.G.Gate meaning.fuel m.LOSES m.opening limit n
+    (watched m.seen m.lost c.args.seat.now earlier) (watched m.seen m.lost c.serve.new.seat c.advance-in-Answered-2.new.gate)
+    c.args.gate.now c.advance-in-Answered.new.gate saw (replied t stands) (heard _ waits)
     c.in-Answered.answer did.middle c.advance-in-Answered-2.result _ did.asked did.heard c.in-Answered.ensures.tries
     (second _ waits told)
 
 pub returns-in-Open-clause-attended : goal.returns-in-Open-clause-attended
-returns-in-Open-clause-attended g c t wanted =
+returns-in-Open-clause-attended g c t earlier wanted saw =
     let stands = wanted.0 in
     let none = wanted.1 in
     let want = wanted.2 in
     let m = g.M.SharedMemory in
     let limit = m.limit c.args.memory.now in
     let n = m.name c.args.seat.now in
-    let p = (g.T.TakesTurns.meaning c.args.thread.now).program in
-    let before = watched m.seen m.lost c.args.seat.now in
+    let meaning = g.T.TakesTurns.meaning c.args.thread.now in
+    let p = meaning.program in
     let middle = m.seen c.serve.new.seat in
-    let after = watched m.seen m.lost c.collect-answer.new.seat in
+    let after = watched m.seen m.lost c.collect-answer.new.seat c.advance-in-Open-2.new.gate in
     let answer = c.collect-answer.result in
     let did = c.in-Open.ensures.served in
     let collected = rw (c.serve.ensures.same.name_is) at c.collect-answer.ensures.collected in
     let first = c.advance-in-Open.ensures.turned t stands (none, c.args.event, want) in
-    let waits = awaiting_stands p m.LOSES m.opening limit n t c.args.event none want before after did.reply did.opened _ _ first in
-    let told = awaiting_given p m.LOSES m.opening limit n t c.args.event none want before after did.reply did.opened _ _ first answer in
+    let waits = awaiting_stands p t c.args.event none want did.reply did.opened _ _ first in
+    let told = awaiting_given p t c.args.event none want did.reply did.opened _ _ first answer in
     let second = rw (c.advance-in-Open.ensures.stays.program) at c.advance-in-Open-2.ensures.turned in
-    steps_answer p m.LOSES m.opening limit n t c.args.event none want before after did.reply did.opened _ _ first answer
+    let replied = rw (c.name-name.ensures) at c.advance-in-Open.ensures.called in
+    let heard = rw (c.name-name.ensures, c.advance-in-Open.ensures.stays.fuel) at c.advance-in-Open-2.ensures.called in
+    steps_answer p t c.args.event none want did.reply did.opened _ _ first g.G.Gate meaning.fuel m.LOSES m.opening limit n
+    (watched m.seen m.lost c.args.seat.now earlier) after
+    c.args.gate.now c.advance-in-Open.new.gate saw (replied t stands) (heard _ waits) answer
     middle c.advance-in-Open-2.result _ did.asked
     (sees_collected m.opening limit n answer middle after.seen collected.enters)
     (c.collect-answer.ensures.stays.lost_is ∙ c.in-Open.ensures.tries) (second _ waits told)

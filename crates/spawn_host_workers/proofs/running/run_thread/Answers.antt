@@ -1,5 +1,5 @@
 use Rattle.spawn_host_workers.specs.Ends.{watched}
-use Rattle.std.proofs.Common.{◌∙◌}
+use Rattle.std.proofs.Common.{refl, ◌∙◌}
 use Rattle.spawn_host_workers.proofs.Leaving.{runs_out}
 use Rattle.spawn_host_workers.proofs.running.run_thread.Goals as goal
 
@@ -8,11 +8,11 @@ returns-clause-ran g c t stands here =
     let m = g.M.SharedMemory in
     let ran = c.steps_to_end-outcome in
     let left = rw (ran.ensures.stays.same.name_is) at c.end.ensures.left in
-    runs_out (g.T.TakesTurns.meaning c.args.thread).program m.LOSES m.opening (m.limit c.args.memory.now)
-    (m.name c.args.seat) ran.result t _ c.spent-spent.result
-    (g.T.TakesTurns.meaning c.args.thread).fuel
-    (watched m.seen m.lost c.args.seat) (watched m.seen m.lost ran.new.seat) (watched m.seen m.lost c.end.new.seat)
-    (ran.ensures.ended t stands here) left c.end.ensures.stays.lost_is (λ x s. c.spent-spent.ensures x s ∙ ran.ensures.stays.stays.fuel)
+    runs_out g.G.Gate (g.T.TakesTurns.meaning c.args.thread).fuel (g.T.TakesTurns.meaning c.args.thread).program m.LOSES m.opening
+    (m.limit c.args.memory.now) (m.name c.args.seat) ran.result t _ c.spent-spent.result
+    (watched m.seen m.lost c.args.seat c.args.gate) (watched m.seen m.lost ran.new.seat ran.new.gate)
+    (watched m.seen m.lost c.end.new.seat ran.new.gate)
+    (ran.ensures.ended t stands here) left c.end.ensures.stays.lost_is refl (λ x s. c.spent-spent.ensures x s ∙ ran.ensures.stays.stays.fuel)
 
 pub end-requires-clause-free : goal.end-requires-clause-free
 end-requires-clause-free g c κs within =

@@ -14,5 +14,6 @@ invariant-loop g l =
       stays : StaysFree m g.T.TakesTurns.meaning l.initial.thread l.thread l.initial.seat l.seat;
       comes :
           (t : Running) → first.stands t → IsHere t
-          → Attends first.program m.LOSES m.opening (m.limit l.memory) n t Moved now.stands (watched m.seen m.lost l.initial.seat) (watched m.seen m.lost l.seat);
+          → Attends g.G.Gate first.fuel first.program m.LOSES m.opening (m.limit l.memory) n t Moved now.stands
+          (watched m.seen m.lost l.initial.seat l.initial.gate) (watched m.seen m.lost l.seat l.gate);
     }

@@ -7,7 +7,8 @@ use Rattle.spawn_host_workers.specs.OverMemory.{over}
 use Rattle.spawn_host_workers.specs.Crew.{CountsSpawnable}
 use Rattle.spawn_host.proofs.Together.{any_result}
 use Rattle.spawn_host.proofs.Requested.{start_fault, counted, spawned_begin}
-use Rattle.spawn_host.proofs.running.start.Goals as goal
+use Rattle.spawn_host.proofs.Gating.{gated_result}
+use Rattle.spawn_host.proofs.running.run_request.Goals as goal
 
 pub run_all-requires-clause-here : goal.run_all-requires-clause-here
 run_all-requires-clause-here g c κs within =
@@ -35,3 +36,8 @@ returns-clause-fault g c =
     let others = c.in-Ok-other_threads.others in
     start_fault meaning_in c.args.request.now others.items c.args.seats.items c.run_all.result c.in-Ok-other_threads.ensures
     (λ none. c.run_all.ensures.alone (others.ok.0 ∙ none))
+
+pub returns-clause-gated : goal.returns-clause-gated
+returns-clause-gated g c =
+    gated_result meaning_in g.G.Gate c.args.gate.now c.run_all.new.gate c.args.request.now c.in-Ok.first c.in-Ok-other_threads.others.items
+    c.in-Ok.ensures c.in-Ok-other_threads.ensures c.run_all.result c.run_all.ensures.gated
