@@ -253,14 +253,7 @@ fn lead<T: TakesTurns + Drop, M: SharedMemory, W: Wait + Drop, G: Gate, R: Wait>
         seat,
         spent,
         gate,
-    } = run_thread(
-        place.rt,
-        first,
-        place.memory,
-        seat,
-        place.desk,
-        *place.gate,
-    );
+    } = run_thread(place.rt, first, place.memory, seat, place.desk, *place.gate);
     let report = Some(ThreadReport { outcome, spent });
     WorkerEnd { report, seat, gate }
 }
