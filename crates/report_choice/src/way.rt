@@ -2,8 +2,6 @@
 ghost use Rattle.std.specs.Prelude.{◌≡◌};
 ghost use Rattle.report_choice.specs.Ways.{way_of};
 
-use std::fmt;
-
 /// The largest depth.
 pub const MOST_DEPTH: u32 = 32;
 
@@ -39,18 +37,6 @@ impl Way {
         match self {
             Way::Mix => MIX[(run % 6) as usize],
             Way::Random | Way::Priorities(_) | Way::Spin => self,
-        }
-    }
-}
-
-/// As on the command line.
-impl fmt::Display for Way {
-    fn fmt<W: fmt::Write>(&self, f: &mut fmt::Formatter<W>) -> fmt::Result {
-        match self {
-            Way::Mix => f.write_str("mix"),
-            Way::Random => f.write_str("random"),
-            Way::Priorities(depth) => write!(f, "pct:{depth}"),
-            Way::Spin => f.write_str("spin"),
         }
     }
 }
