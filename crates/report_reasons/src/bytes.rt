@@ -37,7 +37,7 @@ fn add_front(out: &mut String, bytes: &[u8]) -> Result<(), AllocError> {
     let words = if bytes.is_empty() {
         "the file is empty"
     } else if is_text(bytes) {
-        "the file is a text: `wat2wasm` makes a module of one in the text format"
+        "the file is a text, and no module: `wat2wasm` makes one of the text format, `wathread-cc` of C"
     } else if bytes.starts_with(b"\x7fELF") {
         "the file is a program or an object for this machine; clang: --target=wasm32"
     } else if bytes.starts_with(b"\x00asm\x0d\x00\x01\x00") {

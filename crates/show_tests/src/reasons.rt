@@ -25,7 +25,7 @@ static MODULES: [Case; 14] = [
     },
     Case {
         bytes: b"(module\n  (func))\n",
-        lines: "the file is a text: `wat2wasm` makes a module of one in the text format\n",
+        lines: "the file is a text, and no module: `wat2wasm` makes one of the text format, `wathread-cc` of C\n",
     },
     Case {
         bytes: b"\x7fELF\x02\x01\x01\x00\x00\x00",
