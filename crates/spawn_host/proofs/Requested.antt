@@ -1,6 +1,6 @@
 -- Calls that can be made, and runs of them.
-use Rattle.std.proofs.Common.{◌≡◌, ℕ, zero, suc, ◌<◌, All, List, length, map, Some, refl, sym, subst, ap, ◌∙◌}
-use Rattle.std.proofs.Common.{◌⊎◌, inl, inr, arith, get_or}
+use Rattle.std.proofs.Common.{◌≡◌, ℕ, zero, suc, ◌<◌, All, List, length, map, refl, sym, subst, ap, ◌∙◌}
+use Rattle.std.proofs.Common.{inl, inr, arith, get_or}
 use Rattle.std.specs.Global.{Vec}
 use Rattle.std.specs.Prelude.{Result, Ok, Err, IfOk, IfErr}
 use Rattle.std.proofs.lemmas.Option.{slice_get_within}

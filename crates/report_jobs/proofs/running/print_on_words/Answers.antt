@@ -8,7 +8,7 @@ pub returns-in_err-end-clause-trouble : goal.returns-in_err-end-clause-trouble
 returns-in_err-end-clause-trouble g c =
     let p = err_from_is_err_and c.from_residual.result c.from_residual.ensures.1 in
     let r = c.args.request.now in
-    rw (p.1, p.2) (of_words r.parts _ _ r (c.in_err-end.field-0.0).fault c.in_err-end.ensures.fault)
+    rw (p.1, p.2) (of_words r.parts _ _ r c.in_err-end.field-0.0 c.in_err-end.ensures.fault)
 
 pub returns-clause-made : goal.returns-clause-made
 returns-clause-made g c =

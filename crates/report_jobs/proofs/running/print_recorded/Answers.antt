@@ -13,7 +13,7 @@ pub returns-in_err-record-clause-trouble : goal.returns-in_err-record-clause-tro
 returns-in_err-record-clause-trouble g c =
     let p = err_from_is_err_and c.from_residual.result c.from_residual.ensures.1 in
     let r = c.args.request.now in
-    rw (p.1, p.2) (of_recording r.parts _ _ r c.args.job.now.limit (c.in_err-record.field-0.0).fault c.in_err-record.ensures.fault)
+    rw (p.1, p.2) (of_recording r.parts _ _ r c.args.job.now.limit c.in_err-record.field-0.0 c.in_err-record.ensures.fault)
 
 pub returns-clause-made : goal.returns-clause-made
 returns-clause-made g c =

@@ -1,4 +1,4 @@
-use Rattle.std.proofs.Common.{inl, inr, refl, subst, sym}
+use Rattle.std.proofs.Common.{inr, refl, subst, sym}
 use Rattle.types.specs.declared.parts.Parts.{Parts}
 use Rattle.interp.specs.Threads.{meaning_in}
 use Rattle.spawn_host.specs.Entries.{StartsThreads}
