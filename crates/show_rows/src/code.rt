@@ -1,6 +1,9 @@
 //! What is known of a module's code: where its instructions are, what its functions are called, and their lines of
 //! source.
 
+ghost use Rattle.std.specs.Prelude.{◌≡◌};
+ghost use Rattle.show_rows.specs.Listing as specified;
+
 use crate::spot::Spot;
 use binary_wire::ReadFault;
 use interp::CodePlace;
@@ -101,7 +104,9 @@ impl<'m, 'n> CodeMap<'m, 'n> {
     }
 
     /// Whether the instruction at a place is an atomic one.
-    pub fn is_atomic(&self, place: CodePlace) -> bool {
+    pub fn is_atomic(&self, place: CodePlace) -> bool
+        ensures { result ≡ specified.is_atomic self.now.parts.now place }
+    {
         let Some(body) = self.parts.bodies.as_slice().get(place.function) else {
             return false;
         };

@@ -1,5 +1,8 @@
 //! The rows of a record, one below the other.
 
+ghost use Rattle.std.specs.Prelude.{◌≡◌};
+ghost use Rattle.show_rows.specs.Listing.{line_at, row_at, is_atomic_row};
+
 use crate::Row;
 use crate::code::CodeMap;
 use interp::CodePlace;
@@ -45,7 +48,9 @@ impl Story {
 
 impl Shown<'_, '_, '_, '_, '_> {
     /// The line of the record that has the entry at a place.
-    pub fn line_of(&self, at: usize) -> u64 {
+    pub fn line_of(&self, at: usize) -> u64
+        ensures { result ≡ line_at self.now at }
+    {
         let first = self.record.version.header_lines() + 1;
         (first as u64).saturating_add(at as u64)
     }
@@ -63,14 +68,40 @@ impl Shown<'_, '_, '_, '_, '_> {
 
     /// The entry at a place in words.
     pub fn words_at<'s>(&self, story: &'s Story, at: usize, entry: &Entry) -> Words<'s> {
-        let row = self.rows.get(at).copied().flatten();
+        let row = self.row_at(at);
         Words {
             entry: *entry,
             context: story.contexts.get(at).copied().unwrap_or(Context::Alone),
-            is_atomic: row.is_some_and(|row| self.code.is_atomic(row.place)),
+            is_atomic: self.is_atomic(row),
             before: row.and_then(|row| row.before),
             woken: story.woken_at(at),
             outcome: self.outcome_of(entry),
+        }
+    }
+
+    /// The row of the entry at a place.
+    fn row_at(&self, at: usize) -> Option<Row>
+        ensures { result ≡ row_at self.now at }
+    {
+        match self.rows.get(at) {
+            Some(row) => *row,
+            None => None,
+        }
+    }
+
+    /// Whether the entry at a place was made by an atomic instruction.
+    pub fn is_atomic_at(&self, at: usize) -> bool
+        ensures { result ≡ is_atomic_row self.now (row_at self.now at) }
+    {
+        self.is_atomic(self.row_at(at))
+    }
+
+    fn is_atomic(&self, row: Option<Row>) -> bool
+        ensures { result ≡ is_atomic_row self.now row }
+    {
+        match row {
+            Some(row) => self.code.is_atomic(row.place),
+            None => false,
         }
     }
 
