@@ -27,22 +27,79 @@ fn event(letter: u8, addr: u64, width: u8) -> (Event, Reply) {
     let reach = addr.wrapping_add(u64::from(width));
     match letter {
         b'l' | b'L' => (Event::Load { addr, width, reach }, Reply::Value(0)),
-        b's' | b'S' => (Event::Store { addr, width, reach, value: 0 }, Reply::Done),
-        b'r' => (Event::Rmw { op: RmwOp::Add, addr, width, value: 1 }, Reply::Value(0)),
-        b'c' => (Event::Cmpxchg { addr, width, expected: 0, replacement: 1 }, Reply::Value(0)),
-        b'd' => (Event::Cmpxchg { addr, width, expected: 0, replacement: 1 }, Reply::Value(1)),
-        b'w' => (Event::Ask(Question::Wait { addr, width, expected: 0, timeout: -1 }), Reply::Value(0)),
-        b'n' => (Event::Ask(Question::Notify { addr, count: u32::from(width) }), Reply::Done),
+        b's' | b'S' => (
+            Event::Store {
+                addr,
+                width,
+                reach,
+                value: 0,
+            },
+            Reply::Done,
+        ),
+        b'r' => (
+            Event::Rmw {
+                op: RmwOp::Add,
+                addr,
+                width,
+                value: 1,
+            },
+            Reply::Value(0),
+        ),
+        b'c' => (
+            Event::Cmpxchg {
+                addr,
+                width,
+                expected: 0,
+                replacement: 1,
+            },
+            Reply::Value(0),
+        ),
+        b'd' => (
+            Event::Cmpxchg {
+                addr,
+                width,
+                expected: 0,
+                replacement: 1,
+            },
+            Reply::Value(1),
+        ),
+        b'w' => (
+            Event::Ask(Question::Wait {
+                addr,
+                width,
+                expected: 0,
+                timeout: -1,
+            }),
+            Reply::Value(0),
+        ),
+        b'n' => (
+            Event::Ask(Question::Notify {
+                addr,
+                count: u32::from(width),
+            }),
+            Reply::Done,
+        ),
         b'p' => (Event::Ask(Question::Spawn { arg: 0 }), Reply::Done),
         b'e' => (Event::Ask(Question::Leave), Reply::Done),
-        b'o' => (Event::Store { addr, width, reach, value: 0 }, Reply::OutOfBounds),
+        b'o' => (
+            Event::Store {
+                addr,
+                width,
+                reach,
+                value: 0,
+            },
+            Reply::OutOfBounds,
+        ),
         _ => (Event::Told(Answer::Number(u32::from(width))), Reply::Done),
     }
 }
 
 /// The history that words spell: each is a thread's digit, a letter, and for most letters two digits.
 pub(crate) fn history_of(alloc: Global, text: &str) -> Result<Spelled, AllocError> {
-    let mut all = Spelled { log: Vec::new(alloc), kinds: Vec::new(alloc) };
+    let mut all = Spelled {
+        log: Vec::new(alloc),
+        kinds: Vec::new(alloc),
+    };
     for word in text.split_ascii_whitespace() {
         let letters = word.as_bytes();
         let Some(letter) = letters.get(1) else {

@@ -19,10 +19,10 @@ fn write_entry<W: Write>(
     let entry = &shown.record.log.as_slice()[at];
     let (thread, line) = (entry.thread, shown.line_of(at));
     let words = shown.words_at(story, at, entry).to_string(alloc)?;
-    let place = shown.place_text(alloc, story, at)?;
     write!(out, "t{thread} {words} on line {line}")?;
-    if !place.is_empty() {
-        write!(out, ", {place}")?;
+    if let Some(place) = shown.place_at(story, at) {
+        let spot = shown.code.spot(place);
+        write!(out, ", {spot}")?;
     }
     Ok(())
 }
