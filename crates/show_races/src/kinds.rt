@@ -1,6 +1,6 @@
 //! By which instructions entries were made.
 
-ghost use Rattle.std.specs.Prelude.{◌≡◌, ◌<◌, length, IfOk};
+ghost use Rattle.std.specs.Prelude.{◌≡◌, IfOk};
 ghost use Rattle.show_races.specs.Kinds.{kind_at, kinds_shown};
 
 use race_history::Kind;
@@ -9,7 +9,7 @@ use std::alloc::{AllocError, Global};
 
 /// The kind of the entry at a place.
 fn kind_at(shown: Shown, at: usize) -> Kind
-    ensures { result ≡ kind_at shown at }
+    ensures { result ≡ kind_at shown.entry at }
 {
     if shown.is_atomic_at(at) {
         Kind::Atomic
@@ -23,7 +23,7 @@ fn kind_at(shown: Shown, at: usize) -> Kind
 /// # Errors
 /// Where memory is refused.
 pub fn kinds_of(alloc: Global, shown: Shown) -> Result<Vec<Kind>, AllocError>
-    ensures { IfOk result (λ kinds. kinds.items ≡ kinds_shown shown) }
+    ensures { IfOk result (λ kinds. kinds.items ≡ kinds_shown shown.entry) }
 {
     let mut kinds = Vec::new(alloc);
     for at in 0..shown.record.log.as_slice().len() {

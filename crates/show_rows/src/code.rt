@@ -1,7 +1,7 @@
 //! What is known of a module's code: where its instructions are, what its functions are called, and their lines of
 //! source.
 
-ghost use Rattle.std.specs.Prelude.{◌≡◌};
+ghost use Rattle.std.specs.Prelude.{◌≡◌, IfOk};
 ghost use Rattle.show_rows.specs.Listing as specified;
 
 use crate::spot::Spot;
@@ -62,7 +62,9 @@ impl<'m, 'n> CodeMap<'m, 'n> {
         parts: &'m Parts,
         bytes: &[u8],
         names: &'n [u8],
-    ) -> Result<CodeMap<'m, 'n>, AllocError> {
+    ) -> Result<CodeMap<'m, 'n>, AllocError>
+        ensures { IfOk result (λ c. c.parts.now ≡ parts.now) }
+    {
         Ok(CodeMap {
             parts,
             bodies: bodies_of(alloc, bytes)?,
