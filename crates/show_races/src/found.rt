@@ -62,7 +62,7 @@ fn is_known(shown: Shown, story: &Story, known: &[Race], race: Race) -> bool
 }
 
 /// Of these races those that were made at other places of the code than each one before, `most` at most.
-fn firsts(
+fn find_firsts(
     alloc: Global,
     shown: Shown,
     story: &Story,
@@ -114,7 +114,7 @@ pub fn races_shown(
     let kinds = kinds_of(alloc, shown)?;
     let log = shown.record.log.as_slice();
     let all = races_of(alloc, log, kinds.as_slice(), MOST_PAIRS)?;
-    let told = firsts(alloc, shown, story, all.pairs.as_slice(), most)?;
+    let told = find_firsts(alloc, shown, story, all.pairs.as_slice(), most)?;
     Ok(Races {
         kinds,
         pairs: told.pairs,

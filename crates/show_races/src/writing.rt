@@ -1,5 +1,8 @@
 //! Races as text.
 
+ghost use Rattle.std.specs.Prelude.{◌<◌, All, length};
+ghost use Rattle.show_races.specs.Told.{IsWithin};
+
 use crate::found::Races;
 use crate::release::next_atomic_write;
 use race_history::{Kind, Race};
@@ -15,7 +18,9 @@ fn write_entry<W: Write>(
     story: &Story,
     at: usize,
     out: &mut W,
-) -> Result<(), Unwritten> {
+) -> Result<(), Unwritten>
+    requires { at < length shown.record.now.log }
+{
     let entry = &shown.record.log.as_slice()[at];
     let (thread, line) = (entry.thread, shown.line_of(at));
     let words = shown.words_at(story, at, entry).to_string(alloc)?;
@@ -38,7 +43,10 @@ fn write_order<W: Write>(
     kinds: &[Kind],
     race: Race,
     out: &mut W,
-) -> Result<(), Unwritten> {
+) -> Result<(), Unwritten>
+    requires first { race.first < length shown.record.now.log }
+    requires second { race.second < length shown.record.now.log }
+{
     let log = shown.record.log.as_slice();
     let (first, second) = (log[race.first].thread, log[race.second].thread);
     write!(
@@ -66,7 +74,10 @@ fn write_race<W: Write>(
     kinds: &[Kind],
     race: Race,
     out: &mut W,
-) -> Result<(), Unwritten> {
+) -> Result<(), Unwritten>
+    requires first { race.first < length shown.record.now.log }
+    requires second { race.second < length shown.record.now.log }
+{
     let name = if is_mixed(kinds, race) {
         "mixed"
     } else {
@@ -90,7 +101,9 @@ pub fn write_races<W: Write>(
     story: &Story,
     races: &Races,
     out: &mut W,
-) -> Result<(), Unwritten> {
+) -> Result<(), Unwritten>
+    requires { All (IsWithin shown.record.now.log) races.now.pairs.items }
+{
     for race in races.pairs.iter() {
         write_race(alloc, shown, story, races.kinds.as_slice(), *race, out)?;
     }

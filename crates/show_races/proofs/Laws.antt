@@ -1,0 +1,45 @@
+-- What is found of the races of a run, from what is told of all of them.
+use Rattle.std.proofs.Common.{ℕ, zero, suc, ◌≡◌, ◌≤◌, ◌<◌, ◌+◌, Bool, true, false, List, [], ◌∷◌, ◌++◌, All, Contains, length, get_or, ap, refl, subst, arith}
+use Rattle.std.proofs.lemmas.List.Elements.{All-append, All-contains, All-cons, All-nil, Contains-get_or}
+use Rattle.std.proofs.lemmas.List.{length-append}
+use Rattle.types.specs.declared.event.Entry.{Entry}
+use Rattle.race_history.specs.declared.access.Kind.{Kind}
+use Rattle.race_history.specs.declared.race.Race.{Race}
+use Rattle.race_history.specs.Races.{AreRaces, HasEach, IsCut}
+use Rattle.show_rows.specs.declared.listing.Shown.{Shown}
+use Rattle.show_races.specs.Kinds.{kind_at, kinds_before}
+use Rattle.show_races.specs.Told.{HasNoRace}
+
+-- each entry has a kind
+pub kinds_length : (shown : Shown) (n : ℕ) → length (kinds_before shown n) ≡ n
+kinds_length shown zero = refl
+kinds_length shown (suc n) = omega (arith, kinds_length shown n, length-append (kinds_before shown n) (kind_at shown n ∷ []))
+
+-- one more of them is told
+pub one_more : (all told : List Race) (at : ℕ) (d : Race) → at < length all → All (Contains all) told
+    → All (Contains all) (told ++ get_or all at d ∷ [])
+one_more all told at d within known = All-append (Contains all) told (get_or all at d ∷ []) known
+    (All-cons (Contains all) (get_or all at d) [] (Contains-get_or all at d within) (All-nil (Contains all)))
+
+pub one_longer : (told : List Race) (x : Race) → length (told ++ x ∷ []) ≡ length told + 1
+one_longer told x = length-append told (x ∷ [])
+
+-- what is known of a log and its kinds is known of the same ones by another name
+pub carried : (P : List Entry → List Kind → Type 0) (l m : List Entry) (j k : List Kind) → l ≡ m → j ≡ k → P l j → P m k
+carried P l m j k same alike p = subst (P m) alike (subst (λ (x : List Entry). P x j) same p)
+
+module _ (log : List Entry) (kinds : List Kind) where
+  -- some of the races are races
+  pub some_races : (all told : List Race) → AreRaces log kinds all → All (Contains all) told → AreRaces log kinds told
+  some_races all told races from r has = races r (All-contains (Contains all) told r from has)
+
+  -- where none is told though there is room for one, there is none
+  pub no_race : (all told : List Race) (is_cut : Bool) (most : ℕ) → 1 ≤ most
+      → (is_cut ≡ false → HasEach log kinds all) → (is_cut ≡ true → IsCut log kinds all most)
+      → (1 ≤ length all → 1 ≤ length told) → told ≡ [] → HasNoRace log kinds
+  no_race [] told false most room each cut some is first second a b racing =
+      absurd (omega (arith, (each refl first second a b racing).named.1))
+  no_race [] told true most room each cut some is first second a b racing =
+      absurd (omega (arith, room, (cut refl).full))
+  no_race (r ∷ all) told is_cut most room each cut some is first second a b racing =
+      absurd (omega (arith, some (omega arith), ap length is))

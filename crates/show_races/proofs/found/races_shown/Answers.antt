@@ -1,0 +1,36 @@
+use Rattle.std.proofs.Common.{◌≡◌, ◌≤◌, ◌∙◌, Bool, List, [], length, All, Contains, subst, sym, ap, arith}
+use Rattle.types.specs.declared.event.Entry.{Entry}
+use Rattle.race_history.specs.declared.access.Kind.{Kind}
+use Rattle.race_history.specs.declared.race.Race.{Race}
+use Rattle.race_history.specs.Races.{AreRaces, HasEach, IsCut}
+use Rattle.show_races.specs.Kinds.{kinds_shown}
+use Rattle.show_races.proofs.Laws.{carried, kinds_length, no_race, some_races}
+use Rattle.show_races.proofs.found.races_shown.Goals as goal
+
+pub races_of-requires-clause-kinds : goal.races_of-requires-clause-kinds
+races_of-requires-clause-kinds c =
+    ap (λ (l : List Kind). length l) (c.as_slice.ensures.value ∙ c.in_ok-kinds.ensures)
+    ∙ (kinds_length c.args.shown (length c.args.shown.record.now.log) ∙ ap (λ (l : List Entry). length l) (sym c.as_slice-log.ensures))
+
+pub returns-clause-races : goal.returns-clause-races
+returns-clause-races c =
+    let all = c.in_ok-all.all.pairs.items in
+    let told = c.in_ok-told.told.pairs.items in
+    let log = c.args.shown.record.now.log in
+    let kinds = kinds_shown c.args.shown in
+    let alike = c.as_slice.ensures.value ∙ c.in_ok-kinds.ensures in
+    some_races log kinds all told
+    (carried (λ l k. AreRaces l k all) c.as_slice-log.result.now log c.as_slice.result.now kinds c.as_slice-log.ensures alike c.in_ok-all.ensures.races)
+    (subst (λ (l : List Race). All (Contains l) told) c.as_slice-2.ensures.value c.in_ok-told.ensures.from)
+
+pub returns-clause-none : goal.returns-clause-none
+returns-clause-none c =
+    let all = c.in_ok-all.all.pairs.items in
+    let told = c.in_ok-told.told.pairs.items in
+    let log = c.args.shown.record.now.log in
+    let kinds = kinds_shown c.args.shown in
+    let alike = c.as_slice.ensures.value ∙ c.in_ok-kinds.ensures in
+    no_race log kinds all told c.in_ok-all.all.is_cut 1000000 (omega arith)
+    (λ whole. carried (λ l k. HasEach l k all) c.as_slice-log.result.now log c.as_slice.result.now kinds c.as_slice-log.ensures alike (c.in_ok-all.ensures.each whole))
+    (λ cut. carried (λ l k. IsCut l k all 1000000) c.as_slice-log.result.now log c.as_slice.result.now kinds c.as_slice-log.ensures alike (c.in_ok-all.ensures.cut cut))
+    (subst (λ (l : List Race). 1 ≤ length l → 1 ≤ length told) c.as_slice-2.ensures.value c.in_ok-told.ensures.some)
