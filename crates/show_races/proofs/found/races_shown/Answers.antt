@@ -1,4 +1,4 @@
-use Rattle.std.proofs.Common.{◌≡◌, ◌≤◌, ◌∙◌, Bool, List, [], length, All, Contains, subst, sym, ap, arith}
+use Rattle.std.proofs.Common.{◌≤◌, ◌∙◌, List, length, All, Contains, subst, sym, ap, arith}
 use Rattle.types.specs.declared.event.Entry.{Entry}
 use Rattle.race_history.specs.declared.access.Kind.{Kind}
 use Rattle.race_history.specs.declared.race.Race.{Race}
