@@ -8,6 +8,7 @@
 
 mod beside;
 mod copied;
+mod early;
 mod input;
 mod order;
 mod reading;
@@ -18,6 +19,7 @@ mod task;
 mod telling;
 
 pub use copied::Copied;
+pub use early::keep_early;
 pub use input::Input;
 pub use order::{order_of, words_of};
 pub use reading::{Unread, read_front, read_module, read_saved};

@@ -134,7 +134,7 @@ pub fn shrunk<F: Hears>(
     ensures ending { IfOk result (λ small. HaveOneEnding dump made.end small.end) }
     ensures size { IfOk result (λ small. IsNoLarger (size_in small.record) (size_in made.record)) }
 {
-    follower.found();
+    follower.found(&made.record);
     let watch = follower.watch();
     let short = without_spins(alloc, &made.record)?;
     let (mut best, _) = better(alloc, request, limit, dump, &watch, made, &short)?;
