@@ -73,11 +73,14 @@ module _ {S : Type 0} (meaning : S → Meaning) where
       here : IsLed first q first q
       on : (c : Course S) (p : Q) (d : Course S) (r : Q) → IsLed first q c p → IsNamed c p d r → IsLed first q d r
 
-    -- So it went on to where the strategy, asked of the threads that can go on, named nobody.
-    pub record IsGivenUp (first : Course S) (q r : Q) : Type 0 where
+    -- So it went on to where the strategy was asked of the threads that can go on. It named nobody; or it named one,
+    -- and then it may give the run up.
+    pub record IsGivenUp (may_end : Q → Type 0) (first : Course S) (q r : Q) : Type 0 where
       pub course : Course S
       pub before : Q
       pub led : IsLed first q course before
       pub ready : List ℕ
       pub each : IsEachReady course.walk.stage ready
-      pub chosen : chooses before ready None r
+      pub answer : Option ℕ
+      pub chosen : chooses before ready answer r
+      pub gives_up : (answer ≡ None) ⊎ may_end r

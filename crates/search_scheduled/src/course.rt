@@ -1,5 +1,5 @@
 //! A walk with the log that it makes.
-ghost use Rattle.std.specs.Prelude.{◌≡◌, ◌≢◌, ◌≤◌, ◌+◌, ◌⊎◌, [], length, OnOk, IfOk, IfErr, IfSome};
+ghost use Rattle.std.specs.Prelude.{◌≡◌, ◌≤◌, ◌+◌, ◌⊎◌, [], length, OnOk, IfOk, IfErr, IfSome};
 ghost use Rattle.types.specs.declared.limits.TheConstants.{MOST_THREADS, PAST_LIMIT};
 ghost use Rattle.search_scheduled.specs.Courses.{BeginsCourse, IsOnARun, StaysOnItsRuns};
 ghost use Rattle.search_scheduled.specs.Courses.{IsEachReady, GoesOn, IsLed, IsGivenUp, Hears};
@@ -99,15 +99,14 @@ impl<T: TakesTurns> Course<T> {
     /// A thread that can go on makes its turns of its own, and then its event, whose entry is given.
     ///
     /// # Errors
-    /// `NoEntry` where it can't go on, or makes none; `NoMemory`.
-    fn step(&mut self, n: u32) -> Result<Entry, CourseFault>
+    /// `NoEntry` where it can't go on, or makes none; `GivenUp` where the strategy gives the run up meanwhile;
+    /// `NoMemory`.
+    fn step<S: Strategy>(&mut self, n: u32, strategy: &S) -> Result<Entry, CourseFault>
         requires { IsOnARun T.meaning self.old }
         ensures goes { IfOk result (λ e. GoesOn T.meaning n e self.old self.new) }
-        ensures fault { IfErr result (λ fault. fault ≢ faults.GivenUp) }
+        ensures over { IfErr result (λ fault. fault ≡ faults.GivenUp → S.may_end strategy.now) }
     {
-        let Some(turn) = settle_going(&mut self.walk, n, self.fuel) else {
-            return Err(CourseFault::NoEntry);
-        };
+        let turn = settle_going(&mut self.walk, n, self.fuel, strategy)?;
         let Some(entry) = go_on(&mut self.walk, n, turn, self.log.len(), self.limit) else {
             return Err(CourseFault::NoEntry);
         };
@@ -120,12 +119,12 @@ impl<T: TakesTurns> Course<T> {
     ///
     /// # Errors
     /// As of `step`.
-    fn advance(&mut self, n: u32) -> Result<Entry, CourseFault>
+    fn advance<S: Strategy>(&mut self, n: u32, strategy: &S) -> Result<Entry, CourseFault>
         requires { IsOnARun T.meaning self.old }
         ensures goes { IfOk result (λ e. GoesOn T.meaning n e self.old self.new) }
-        ensures fault { IfErr result (λ fault. fault ≢ faults.GivenUp) }
+        ensures over { IfErr result (λ fault. fault ≡ faults.GivenUp → S.may_end strategy.now) }
     {
-        let entry = self.step(n)?;
+        let entry = self.step(n, strategy)?;
         if let Event::Ask(_) = entry.event {
             self.hear_all()?;
         }
@@ -151,7 +150,8 @@ impl<T: TakesTurns> Course<T> {
     /// too where the log has 192 entries more than its limit, which no run comes to.
     ///
     /// # Errors
-    /// `NoMemory`; `GivenUp` where the strategy names nobody; and `NoEntry`, after which the course stands nowhere.
+    /// `NoMemory`; `GivenUp` where the strategy names nobody, or gives the run up while a thread makes turns of its own;
+    /// and `NoEntry`, after which the course stands nowhere.
     pub fn go<S: Strategy>(&mut self, strategy: &mut S) -> Result<(), CourseFault>
         requires { IsOnARun T.meaning self.old }
         ensures runs { OnOk result (StaysOnItsRuns T.meaning self.old self.new) }
@@ -160,7 +160,7 @@ impl<T: TakesTurns> Course<T> {
         ensures ends { OnOk result (IsEachReady T.meaning self.new.walk.stage []
             ⊎ (self.old.limit + PAST_LIMIT ≤ length self.new.log.items)) }
         ensures given_up { IfErr result (λ fault. fault ≡ faults.GivenUp
-            → IsGivenUp T.meaning S.chooses S.hears self.old strategy.old strategy.new) }
+            → IsGivenUp T.meaning S.chooses S.hears S.may_end self.old strategy.old strategy.new) }
     {
         let most = self.limit as usize + PAST_LIMIT;
         for _ in 0..most {
@@ -171,7 +171,7 @@ impl<T: TakesTurns> Course<T> {
             let Some(place) = strategy.choose(&ready) else {
                 return Err(CourseFault::GivenUp);
             };
-            let entry = self.advance(ready[place])?;
+            let entry = self.advance(ready[place], strategy)?;
             strategy.hear(&entry);
         }
         Ok(())

@@ -17,7 +17,7 @@ loop-preserved g c =
     let place = c.in-Some.place in
     let e = c.in_ok-entry.entry in
     let goes = subst (λ (l : List ℕ). GoesOn m (get_or l place 0) e c.loop.self c.advance.new.self) c.deref-in-loop.ensures.0
-        c.in_ok-entry.ensures.goes in
+    c.in_ok-entry.ensures.goes in
     let named : IsNamed m g.S.Strategy.chooses g.S.Strategy.hears c.loop.self c.loop.strategy c.advance.new.self c.hear.new.self = record {
       ready = c.ready-ready.result.items;
       each = c.ready-ready.ensures.each;

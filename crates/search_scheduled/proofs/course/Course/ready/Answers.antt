@@ -10,13 +10,13 @@ loop-n-preserved g c =
     let inv = c.loop-n.invariant in
     elim c.if-is_going.branch [
       | then-is_going w ↦ rw (w.ready-is, w.push.ensures.items) (
-          omega (arith, inv.0, length-append c.loop-n.ready.items (c.loop-n.n ∷ [])),
-          one_more m stage c.loop-n.n c.loop-n.ready.items inv.1 (c.is_going.ensures.going w.if-is_going.true),
-        )
+        omega (arith, inv.0, length-append c.loop-n.ready.items (c.loop-n.n ∷ [])),
+        one_more m stage c.loop-n.n c.loop-n.ready.items inv.1 (c.is_going.ensures.going w.if-is_going.true),
+      )
       | else-is_going w ↦ rw w.ready-is (
-          omega (arith, inv.0),
-          none_more m stage c.loop-n.n c.loop-n.ready.items inv.1 (c.is_going.ensures.gone w.if-is_going.false),
-        )
+        omega (arith, inv.0),
+        none_more m stage c.loop-n.n c.loop-n.ready.items inv.1 (c.is_going.ensures.gone w.if-is_going.false),
+      )
     ]
 
 pub returns-clause-each : goal.returns-clause-each

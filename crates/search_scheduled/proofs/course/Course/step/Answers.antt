@@ -14,17 +14,17 @@ pub returns-clause-goes : goal.returns-clause-goes
 returns-clause-goes g c =
     let m = g.T.TakesTurns.meaning in
     let old = c.args.self.now in
-    let e = c.in-Some-go_on.entry in
+    let e = c.in-Some.entry in
     let new : Course g.row.T.Denot = record { walk = c.go_on.new.walk; log = c.push.new.self; fuel = old.fuel; limit = old.limit } in
     record {
       runs = λ r came.
           let s = stands_at m r old came in
-          let taken = c.in-Some-go_on.ensures.taken e refl s (c.in-Some.ensures.settled c.in-Some.turn refl s came.walk.standing)
+          let taken = c.in-Some.ensures.taken e refl s (c.in_ok-turn.ensures.settled s came.walk.standing)
           (sym c.settle_going.ensures.memory) in
           came_on m r old new came e
           (subst (λ (k : ℕ). WalkTakes m s old.limit k e.thread (act_of e) c.go_on.new.walk) (c.len.ensures ∙ len_is old.log) taken)
           (c.go_on.ensures.count ∙ c.settle_going.ensures.count) c.in_ok-push.ensures.items refl refl;
-      thread = c.in-Some-go_on.ensures.thread;
+      thread = c.in-Some.ensures.thread;
       answers = [];
       log = c.in_ok-push.ensures.items;
     }
