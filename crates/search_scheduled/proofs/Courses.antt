@@ -6,7 +6,7 @@ use Rattle.interp_trait.specs.Turns.{Meaning}
 use Rattle.replay_walk.specs.Standing.{Standing}
 use Rattle.replay_walk.specs.Walked.{Run, standing_in, WalkTakes, WalkCame}
 use Rattle.replay_walk.proofs.Along.{walked_on}
-use Rattle.search_scheduled.specs.Courses.{CameAlong, StaysOnItsRuns, Hears, GoesOn}
+use Rattle.search_scheduled.specs.Courses.{CameAlong, Hears, GoesOn}
 use Rattle.search_scheduled.specs.declared.course.Course.{Course}
 
 module _ {S : Type 0} (meaning : S → Meaning) where

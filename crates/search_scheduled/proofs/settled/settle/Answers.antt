@@ -5,17 +5,20 @@ use Rattle.interp_trait.specs.declared.turn.Given.TheVariants as given
 use Rattle.replay_walk.proofs.Turning.{goes_on, settles, settles_last}
 use Rattle.search_scheduled.proofs.settled.settle.Goals as goal
 
-pub returns-in_default : goal.returns-in_default
-returns-in_default g c = record {
-  stays = record { program = c.turn.ensures.stays.program ∙ c.loop-made.invariant.program; fuel = c.turn.ensures.stays.fuel ∙ c.loop-made.invariant.fuel };
-  settled = λ t stands here.
-      let going = c.loop-made.invariant.going t stands here in
-      settles (g.T.TakesTurns.meaning c.args.thread.now).program t (g.T.TakesTurns.meaning c.loop-made.thread).stands
-      (g.T.TakesTurns.meaning c.turn.new.self).stands c.loop-made.counter
-      (c.args.fuel - c.spent.result) c.turn.result
-      (λ moved. c.in_default.not-Moved moved) going
-      (subst (λ (p : Program). IsTurned p going.now given.Nothing c.turn.result (g.T.TakesTurns.meaning c.turn.new.self).stands) c.loop-made.invariant.program
-      (c.turn.ensures.turned going.now going.stands tt));
+pub returns-in_default-clause-settled : goal.returns-in_default-clause-settled
+returns-in_default-clause-settled g c = λ t stands here.
+    let going = c.loop-made.invariant.going t stands here in
+    settles (g.T.TakesTurns.meaning c.args.thread.now).program t (g.T.TakesTurns.meaning c.loop-made.thread).stands
+    (g.T.TakesTurns.meaning c.turn.new.self).stands c.loop-made.made
+    (c.args.fuel - c.spent.result) c.turn.result
+    (λ moved. c.in_default.not-Moved moved) going
+    (subst (λ (p : Program). IsTurned p going.now given.Nothing c.turn.result (g.T.TakesTurns.meaning c.turn.new.self).stands) c.loop-made.invariant.program
+    (c.turn.ensures.turned going.now going.stands tt))
+
+pub returns-in_default-clause-stays : goal.returns-in_default-clause-stays
+returns-in_default-clause-stays g c = record {
+  program = c.turn.ensures.stays.program ∙ c.loop-made.invariant.program;
+  fuel = c.turn.ensures.stays.fuel ∙ c.loop-made.invariant.fuel;
 }
 
 pub loop-made-preserved : goal.loop-made-preserved
@@ -25,7 +28,7 @@ loop-made-preserved g c = record {
   going = λ t stands here.
       let going = c.loop-made.invariant.going t stands here in
       goes_on (g.T.TakesTurns.meaning c.args.thread.now).program t (g.T.TakesTurns.meaning c.loop-made.thread).stands
-      (g.T.TakesTurns.meaning c.turn.new.self).stands c.loop-made.counter
+      (g.T.TakesTurns.meaning c.turn.new.self).stands c.loop-made.made
       (c.args.fuel - c.spent.result) c.turn.result
       c.in-Moved.is going
       (subst (λ (p : Program). IsTurned p going.now given.Nothing c.turn.result (g.T.TakesTurns.meaning c.turn.new.self).stands) c.loop-made.invariant.program
@@ -35,9 +38,9 @@ loop-made-preserved g c = record {
 pub returns-clause-settled : goal.returns-clause-settled
 returns-clause-settled g c = λ t stands here.
     let going = c.loop-made.invariant.going t stands here in
-    let all : c.loop-made.counter ≡ c.args.fuel - c.spent.result = omega arith in
+    let all : c.loop-made.made ≡ c.args.fuel - c.spent.result = omega arith in
     settles_last (g.T.TakesTurns.meaning c.args.thread.now).program t (g.T.TakesTurns.meaning c.loop-made.thread).stands
-    (g.T.TakesTurns.meaning c.turn-2.new.self).stands c.loop-made.counter
+    (g.T.TakesTurns.meaning c.turn-2.new.self).stands c.loop-made.made
     (c.args.fuel - c.spent.result) c.turn-2.result all going
     (subst (λ (p : Program). IsTurned p going.now given.Nothing c.turn-2.result (g.T.TakesTurns.meaning c.turn-2.new.self).stands) c.loop-made.invariant.program
     (c.turn-2.ensures.turned going.now going.stands tt))

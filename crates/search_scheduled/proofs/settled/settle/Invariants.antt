@@ -8,5 +8,5 @@ invariant-loop-made g l = record {
   program : (g.T.TakesTurns.meaning l.thread).program ≡ (g.T.TakesTurns.meaning l.initial.thread).program;
   fuel : (g.T.TakesTurns.meaning l.thread).fuel ≡ (g.T.TakesTurns.meaning l.initial.thread).fuel;
   going : (t : Running) → (g.T.TakesTurns.meaning l.initial.thread).stands t → IsHere t
-      → Going (g.T.TakesTurns.meaning l.initial.thread).program t (g.T.TakesTurns.meaning l.thread).stands l.counter l.left;
+      → Going (g.T.TakesTurns.meaning l.initial.thread).program t (g.T.TakesTurns.meaning l.thread).stands l.made l.left;
 }

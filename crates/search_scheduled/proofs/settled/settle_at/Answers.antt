@@ -18,8 +18,8 @@ pub returns-clause-settled : goal.returns-clause-settled
 returns-clause-settled g c =
     let m = g.T.TakesTurns.meaning in let threads = c.args.threads.now in let now = c.settle.new.thread in
     IfSome_then c.settle.result c.settle.ensures.settled (λ turn h.
-      at_place threads c.args.n c.index-threads-n.result (λ x. SettlesAt m x turn threads c.args.n (slice_set threads c.args.n now))
-      (record { replaced = stayed m threads c.args.n _ now c.settle.ensures.stays; settled = h }))
+    at_place threads c.args.n c.index-threads-n.result (λ x. SettlesAt m x turn threads c.args.n (slice_set threads c.args.n now))
+    (record { replaced = stayed m threads c.args.n _ now c.settle.ensures.stays; settled = h }))
 
 pub returns-clause-count : goal.returns-clause-count
 returns-clause-count g c = length-set c.args.threads.now c.args.n c.settle.new.thread

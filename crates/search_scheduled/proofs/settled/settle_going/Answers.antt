@@ -1,4 +1,4 @@
-use Rattle.std.proofs.Common.{◌≡◌, ◌∙◌}
+use Rattle.std.proofs.Common.{◌∙◌}
 use Rattle.std.proofs.lemmas.List.{take_at}
 use Rattle.replay_walk.proofs.Settled.{within, ready, settled}
 use Rattle.search_scheduled.proofs.Settling.{settles_on}

@@ -1,4 +1,5 @@
-use Rattle.std.proofs.Common.{◌≡◌, ℕ, List, Option, Some, None, get_or, subst, arith}
+use Rattle.std.proofs.Common.{ℕ, List, Some, None, get_or, refl, inl, inr, subst, arith}
+use Rattle.std.proofs.lemmas.Result.{err_from_is_err_and}
 use Rattle.search_scheduled.specs.Courses.{GoesOn, IsNamed}
 use Rattle.search_scheduled.specs.Courses.IsLed.{here, on}
 use Rattle.search_scheduled.proofs.Courses.{longer}
@@ -41,6 +42,24 @@ returns-in_default-clause-given_up g c = λ same. record {
   led = c.loop.invariant.1;
   ready = c.ready-ready.result.items;
   each = c.ready-ready.ensures.each;
+  answer = None;
   chosen = subst (λ (l : List ℕ). g.S.Strategy.chooses c.loop.strategy l None c.choose.new.self) c.deref.ensures.0
       c.in_default.ensures.chosen;
+  gives_up = inl refl;
 }
+
+pub returns-in_err-entry-clause-given_up : goal.returns-in_err-entry-clause-given_up
+returns-in_err-entry-clause-given_up g c =
+    let m = g.T.TakesTurns.meaning in
+    let p = err_from_is_err_and c.from_residual.result c.from_residual.ensures.1 in
+    rw (p.1, p.2) (λ same. record {
+      course = c.loop.self;
+      before = c.loop.strategy;
+      led = c.loop.invariant.1;
+      ready = c.ready-ready.result.items;
+      each = c.ready-ready.ensures.each;
+      answer = Some c.in-Some.place;
+      chosen = subst (λ (l : List ℕ). g.S.Strategy.chooses c.loop.strategy l (Some c.in-Some.place) c.choose.new.self) c.deref.ensures.0
+          c.in-Some.ensures.chosen;
+      gives_up = inr (c.in_err-entry.ensures.over same);
+    })
