@@ -194,6 +194,23 @@ impl<'m, 'a> RunMaker<'m, 'a> {
         }
     }
 
+    /// The same, which can be given up only where no end is wished yet.
+    fn found_by<W: Watch>(
+        &self,
+        alloc: Global,
+        watch: &W,
+        run: u64,
+        wish: Wish,
+    ) -> Result<Found, SearchFault>
+        ensures found { IfOk result (λ found. IsFoundIn self.now found.made) }
+        ensures number { IfOk result (λ found. found.run ≡ run) }
+    {
+        match wish {
+            Wish::GoOn => self.found(alloc, watch, run),
+            Wish::End => self.found(alloc, &(), run),
+        }
+    }
+
     /// Why no further run is made where the run of this number ended as is looked for: it is made once more. Where it is
     /// given up then, since the follower wishes an end by now, it was told to.
     fn halt_at<F: Hears>(
@@ -209,11 +226,7 @@ impl<'m, 'a> RunMaker<'m, 'a> {
         ensures made { IfOk result (λ halt. halt ≢ Halt.AllMade) }
         ensures told { IfOk result (λ halt. halt ≡ Halt.Told → F.wish follower.new ≡ Wish.End) }
     {
-        let found = match wish {
-            Wish::GoOn => self.found(alloc, watch, run),
-            Wish::End => self.found(alloc, &(), run),
-        };
-        match found {
+        match self.found_by(alloc, watch, run, wish) {
             Ok(found) => return Ok(Halt::Found(found)),
             Err(SearchFault::GivenUp) => {}
             Err(fault) => return Err(fault),

@@ -49,7 +49,7 @@ fn without_rounds(alloc: Global, moments: &[Numbered]) -> Result<Vec<Numbered>, 
     let mut counts = HashMap::new(alloc);
     for moment in moments {
         let count = counts.get(&moment.number).copied().unwrap_or(kept.len());
-        while kept.len() > count {
+        for _ in count..kept.len() {
             if let Some(dropped) = kept.pop() {
                 counts.remove(&dropped.number);
             }
