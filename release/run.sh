@@ -1,6 +1,7 @@
 #!/bin/bash
 # Runs the program. At Ctrl-C a search ends and prints what it met so far, by its option --until; at another one it is
-# killed. Arguments, the folder, the three streams and the exit status are passed on.
+# said what is awaited, and at a third one it is killed. Arguments, the folder, the three streams and the exit status are
+# passed on.
 #
 # The launcher reads this. Where it is installed as bin/wathread, the program is ../libexec/wathread/wathread.
 
@@ -20,16 +21,23 @@ kill_search() {
     exit "$1"
 }
 
-# The first time makes the file at which the search ends, and then kills it.
+# The first time makes the file at which the search ends, the second time says what is awaited, and then kills it.
 end_search() {
-    [ ! -e "$room/end" ] || kill_search 130
-    woken=1
-    : >"$room/end"
+    woken=1 told=$((told + 1))
+    case $told in
+        1) : >"$room/end" ;;
+        2)
+            [ ! -t 2 ] || printf '\r\033[K' >&2
+            echo "wathread: the search was told to end; awaited are the step that it makes, and what it prints then;" \
+                "another Ctrl-C kills it" >&2
+            ;;
+        *) kill_search 130 ;;
+    esac
 }
 
 # Runs a search, which doesn't get Ctrl-C itself, and exits with its status. It ends if this shell does.
 search() {
-    local program=$1 room='' searching='' woken='' status tether=()
+    local program=$1 room='' searching='' woken='' told=0 status tether=()
     shift
     { : <&0 && room=$(mktemp -dt wathread.XXXXXX); } 2>/dev/null || exec "$program" "$@"
     trap 'rm -rf "$room"' EXIT

@@ -1,10 +1,12 @@
 -- What is printed of a search of drawn runs.
-use Rattle.std.specs.Prelude.{ℕ, List}
+use Rattle.std.specs.Prelude.{ℕ, Bool, true, false, List, [], ◌++◌, codes}
 use Rattle.std.specs.List.{flat_map}
+use Rattle.std.specs.Fmt.{decimal}
 use Rattle.report_choice.specs.declared.sought.Sought.{Sought}
 use Rattle.report_choice.specs.Ways.{way_of}
 use Rattle.search_finds.specs.declared.met.Met.{Met}
 use Rattle.search_finds.specs.declared.met.Table.{Table}
+use Rattle.search_finds.specs.declared.size.Size.{Size}
 use Rattle.report_lines.specs.Drawn.{met_line}
 
 -- The lines of the table: of each ending how often it was met in how many runs, in which first and how that was drawn.
@@ -14,3 +16,13 @@ table_line s runs met =
 
 abbrev pub table_lines : Sought → Table → List ℕ
 table_lines s table = flat_map (table_line s table.runs) table.met.items
+
+-- How large a run was that was shrunk, and how large it is.
+abbrev pub sizes_line : Size → Size → List ℕ
+sizes_line was is =
+    decimal was.entries ++ codes " entries, " ++ decimal was.switches ++ codes " switches -> " ++ decimal is.entries
+    ++ codes " entries, " ++ decimal is.switches ++ codes " switches\n"
+
+abbrev pub sizes_if : Bool → Size → Size → List ℕ
+sizes_if true was is = sizes_line was is
+sizes_if false was is = []

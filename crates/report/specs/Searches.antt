@@ -20,7 +20,10 @@ use Rattle.search_endings.specs.Endings.{Ending}
 use Rattle.search_modules.specs.Endings.{HasEveryEnding, AllCanEndSo}
 use Rattle.search_modules.specs.Liveness.{CanStillEnd, HasFairRun, CountsStates, SaysWhereAll}
 use Rattle.search_modules.specs.Returned.{IsCall}
-use Rattle.search_finds.specs.Finds.{EndsAsLookedFor, IsLookedFor}
+use Rattle.search_scheduled.specs.declared.running.MadeRun.{MadeRun}
+use Rattle.search_finds.specs.Finds.{IsFind, EndsAsLookedFor, IsLookedFor}
+use Rattle.search_finds.specs.Sizes.{size_in}
+use Rattle.search_finds.specs.declared.size.Size.{Size}
 use Rattle.search_finds.specs.Noted.{AreNoted}
 use Rattle.search_finds.specs.declared.met.Table.{Table}
 use Rattle.report_choice.specs.declared.sought.Find.{Find}
@@ -32,7 +35,8 @@ use Rattle.report_jobs.specs.Arguments.{AreSpelled, texts_in}
 use Rattle.report_jobs.specs.Asked.{IsAskedBy}
 use Rattle.report_jobs.specs.Prints.{WriterChange, KeepsRecord}
 use Rattle.report.specs.Complete.{complete_lines, threads_end_well, all_end_well}
-use Rattle.report.specs.Drawn.{table_lines}
+use Rattle.report.specs.Drawn.{table_lines, sizes_if}
+use Rattle.report_lines.specs.Lines.{end_lines}
 use Rattle.report_jobs.specs.declared.running.Trouble.{Trouble}
 use Rattle.report_jobs.specs.declared.running.Trouble.TheVariants as troubles
 
@@ -47,6 +51,16 @@ pub record IsFindKept (m : Parts) (s : Search) (save : WriterChange) : Type 0 wh
   pub of_call : IsOfCall m s.call.invoke.now args s.call.fuel s.sought.limit record_is
   pub ends : EndsAsLookedFor s.sought s.sought.dump end
   pub kept : KeepsRecord (is_some s.save) save record_is
+
+-- A run by the call. Its lines were printed, behind its size as it was and is, where it was shrunk; and the record that
+-- was written, where one is wanted, is its own.
+pub record TellsOfOne (q : Requested) (s : Search) (out save : WriterChange) : Type 0 where
+  pub made : MadeRun
+  pub find : IsFind q s.sought.limit made
+  pub was : Size
+  pub lines : Appends out.old out.new (sizes_if s.shrink was (size_in made.record)
+      ++ end_lines made.end.threads.items made.end.pages s.sought.dump made.end.bytes.items)
+  pub kept : KeepsRecord (is_some s.save) save made.record
 
 -- By this runs that never end are found.
 abbrev pub IsEndless : Find → Type 0

@@ -5,7 +5,12 @@ ghost use Rattle.search_finds.specs.Finds.{IsFind, EndsAsLookedFor};
 ghost use Rattle.report_command.specs.Searches.{IsSearchInRange};
 ghost use Rattle.report_jobs.specs.Asked.{IsAskedBy};
 ghost use Rattle.report_jobs.specs.Troubles.{IsTroubleOf};
-ghost use Rattle.report.specs.Searches.{Finds, Grows, IsDrawn, IsFindKept, IsOfSystem, IsPrintedOf, IsWellAt, PrintsDrawn};
+ghost use Rattle.std.specs.Io.KnownBytes.{Appends};
+ghost use Rattle.replay_forms.specs.Texts.{Wrote};
+ghost use Rattle.search_finds.specs.Sizes.{size_in};
+ghost use Rattle.report.specs.Drawn.{sizes_line, sizes_if};
+ghost use Rattle.report.specs.Searches.{Finds, Grows, IsDrawn, IsFindKept, IsOfSystem, IsPrintedOf, IsWellAt};
+ghost use Rattle.report.specs.Searches.{PrintsDrawn, TellsOfOne};
 ghost use Rattle.report_jobs.specs.Prints.{changed};
 ghost use Rattle.report_jobs.specs.declared.running.Trouble.TheVariants as troubles;
 
@@ -40,7 +45,7 @@ fn jobs_of<R: Threads>(rt: &R, search: &Search) -> usize {
 
 /// What became of the size of a run.
 fn write_sizes<W: Write>(out: &mut W, before: Size, after: Size) -> io::Result<()>
-    ensures { IfOk result (λ _. Grows (changed W.contents out.old out.new)) }
+    ensures { Wrote W.contents out.old out.new result (sizes_line before after) }
 {
     write!(
         out,
@@ -146,7 +151,8 @@ fn shrunk_if_asked<F: Hears, W: Write>(
     requires { IsFind request.now search.now.sought.limit found }
     ensures run { IfOk result (IsFind request.now search.now.sought.limit) }
     ensures ending { IfOk result (λ made. HaveOneEnding search.now.sought.dump found.end made.end) }
-    ensures grows { IfOk result (λ _. Grows (changed W.contents out.old out.new)) }
+    ensures sizes { IfOk result (λ made. Appends (W.contents out.old) (W.contents out.new)
+        (sizes_if search.now.shrink (size_in found.record) (size_in made.record))) }
     ensures trouble { IfErr result IsOfSystem }
 {
     if !search.shrink {
@@ -177,6 +183,8 @@ pub(crate) fn tell_made<F: Hears, W: Write, S: Write>(
     requires asked { IsAskedBy search.now.call request.now }
     requires ends { EndsAsLookedFor search.now.sought search.now.sought.dump made.end }
     ensures kept { IfOk result (λ _. IsFindKept request.now.parts search.now (changed S.contents save.old save.new)) }
+    ensures one { IfOk result (λ _. TellsOfOne request.now search.now (changed W.contents out.old out.new)
+        (changed S.contents save.old save.new)) }
     ensures grows { IfOk result (λ _. Grows (changed W.contents out.old out.new)) }
     ensures trouble { IfErr result IsOfSystem }
 {

@@ -81,8 +81,6 @@ impl Hears for Wishes {
         self.wish
     }
 
-    fn found(&mut self) {}
-
     fn tried(&mut self, _tries: u32, _size: Size) -> Wish {
         self.wish
     }

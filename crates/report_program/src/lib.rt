@@ -10,6 +10,7 @@
 mod beside;
 mod closing;
 mod copied;
+mod early;
 mod input;
 mod order;
 mod reading;
@@ -21,6 +22,7 @@ mod telling;
 
 pub use closing::{Closed, Lost, close};
 pub use copied::Copied;
+pub use early::keep_early;
 pub use input::Input;
 pub use order::{order_of, words_of};
 pub use reading::{Unread, read_front, read_module, read_saved};

@@ -85,6 +85,11 @@ impl SavePlace {
         let path = fs::canonicalize(rt, path)?.into_string();
         of_file(rt, path, Some(found.permissions()))
     }
+
+    /// Whether it is no file, and takes what is written as it is written.
+    pub(crate) fn is_stream(&self) -> bool {
+        matches!(self.target, Target::Stream { .. })
+    }
 }
 
 /// A record that is being written, from the first write on.

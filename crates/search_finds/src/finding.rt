@@ -1,5 +1,5 @@
 //! The first run with an ending that is looked for.
-ghost use Rattle.std.specs.Prelude.{◌≡◌, ◌+◌, ◌<◌, ◌≤◌, ◌^◌, true, All, IfOk, OnOk, OnSome, IfSome, IfNone, IsTrue};
+ghost use Rattle.std.specs.Prelude.{◌≡◌, ◌≢◌, ◌+◌, ◌<◌, ◌≤◌, ◌^◌, true, All, IfOk, OnOk, OnSome, IfSome, IfNone, IsTrue};
 ghost use Rattle.search_finds.specs.Finds.{IsFound, AreMet, EndsAsLookedFor, HasNoneLookedFor};
 ghost use Rattle.search_finds.specs.Noted.{AreNoted};
 ghost use Rattle.search_finds.specs.Searching.{IsMadeIn, IsMetIn, IsFoundIn, AreSparesIn};
@@ -46,13 +46,13 @@ pub struct SearchResult {
 }
 
 /// Who makes runs: so many threads, each of which gives a run up where that is to be seen.
-struct Crew<'a, R, W> {
+struct Crew<'a, 'w, R, W> {
     rt: &'a R,
     jobs: usize,
-    watch: &'a W,
+    watch: &'w W,
 }
 
-impl<R, W> Drop for Crew<'_, R, W> {
+impl<R, W> Drop for Crew<'_, '_, R, W> {
     fn drop(self) {
         let Crew {
             rt: _,
@@ -64,17 +64,46 @@ impl<R, W> Drop for Crew<'_, R, W> {
 
 /// How many entries the run has in which a thread goes on as long as it can: among so many lie the points at which
 /// priorities change.
-fn plain_entries(alloc: Global, request: &Request, sought: &Sought) -> Result<u32, SearchFault>
+fn plain_entries<W: Watch>(
+    alloc: Global,
+    request: &Request,
+    sought: &Sought,
+    watch: &W,
+) -> Result<u32, SearchFault>
     ensures { IfOk result (λ entries. 0 < entries) }
 {
     match sought.way {
         Way::Random | Way::Spin => Ok(1),
         Way::Priorities(_) | Way::Mix => {
-            let plain = run_along(alloc, request, sought.limit, &mut Along::new(&[]))?;
+            let mut along = Watched::new(Along::new(&[]), watch);
+            let plain = run_along(alloc, request, sought.limit, &mut along)?;
             let entries = plain.record.parts().log.as_slice().len();
             Ok((entries.min(1_000_000) as u32).max(1))
         }
     }
+}
+
+/// The same, whether or not runs are given up; none where the follower wishes an end then.
+fn entries_unless_told<F: Hears>(
+    alloc: Global,
+    request: &Request,
+    sought: &Sought,
+    watch: &F::Watch,
+    follower: &mut F,
+) -> Result<Option<u32>, SearchFault>
+    ensures some { IfOk result (λ entries. IfSome entries (λ count. 0 < count)) }
+    ensures told { IfOk result (λ entries. IfNone entries (F.wish follower.new ≡ Wish.End)) }
+{
+    match plain_entries(alloc, request, sought, watch) {
+        Ok(entries) => return Ok(Some(entries)),
+        Err(SearchFault::GivenUp) => {}
+        Err(fault) => return Err(fault),
+    }
+    if let Wish::End = follower.given_up() {
+        return Ok(None);
+    }
+    let entries = plain_entries(alloc, request, sought, &())?;
+    Ok(Some(entries))
 }
 
 impl<'m, 'a> RunMaker<'m, 'a> {
@@ -124,18 +153,18 @@ impl<'m, 'a> RunMaker<'m, 'a> {
     }
 
     /// Makes the run of this number, with threads of its own.
-    fn run_anew(&self, alloc: Global, run: u64) -> Result<MadeRun, SearchFault>
+    fn run_anew<W: Watch>(&self, alloc: Global, watch: &W, run: u64) -> Result<MadeRun, SearchFault>
         ensures { IfOk result (IsMadeIn self.now) }
     {
         let mut spares = Spares::new(alloc);
-        self.run(alloc, &(), run, &mut spares)
+        self.run(alloc, watch, run, &mut spares)
     }
 
     /// The ending of the run of this number, with threads of its own.
     fn ending_anew(&self, alloc: Global, run: u64) -> Result<Ending, SearchFault>
         ensures { IfOk result (IsMetIn self.now) }
     {
-        let made = self.run_anew(alloc, run)?;
+        let made = self.run_anew(alloc, &(), run)?;
         let ending = ending_of(alloc, &made.end, self.sought.dump)?;
         Ok(ending)
     }
@@ -152,17 +181,61 @@ impl<'m, 'a> RunMaker<'m, 'a> {
     /// Makes the run of this number, which was made before and ended as is looked for.
     ///
     /// # Errors
-    /// `NoEnd` where it ends otherwise now, which none does.
-    fn found(&self, alloc: Global, run: u64) -> Result<Found, SearchFault>
+    /// `NoEnd` where it ends otherwise now, which none does; `GivenUp`.
+    fn found<W: Watch>(&self, alloc: Global, watch: &W, run: u64) -> Result<Found, SearchFault>
         ensures found { IfOk result (λ found. IsFoundIn self.now found.made) }
         ensures number { IfOk result (λ found. found.run ≡ run) }
     {
-        let made = self.run_anew(alloc, run)?;
+        let made = self.run_anew(alloc, watch, run)?;
         if self.is_sought(alloc, &made.end)? {
             Ok(Found { run, made })
         } else {
             Err(SearchFault::NoEnd)
         }
+    }
+
+    /// The same, which can be given up only where no end is wished yet.
+    fn found_by<W: Watch>(
+        &self,
+        alloc: Global,
+        watch: &W,
+        run: u64,
+        wish: Wish,
+    ) -> Result<Found, SearchFault>
+        ensures found { IfOk result (λ found. IsFoundIn self.now found.made) }
+        ensures number { IfOk result (λ found. found.run ≡ run) }
+    {
+        match wish {
+            Wish::GoOn => self.found(alloc, watch, run),
+            Wish::End => self.found(alloc, &(), run),
+        }
+    }
+
+    /// Why no further run is made where the run of this number ended as is looked for: it is made once more. Where it is
+    /// given up then, since the follower wishes an end by now, it was told to.
+    fn halt_at<F: Hears>(
+        &self,
+        alloc: Global,
+        watch: &F::Watch,
+        run: u64,
+        wish: Wish,
+        follower: &mut F,
+    ) -> Result<Halt, SearchFault>
+        ensures found { IfOk result (λ halt. IfFound halt (λ f. IsFoundIn self.now f.made)) }
+        ensures number { IfOk result (λ halt. IfFound halt (λ f. f.run ≡ run)) }
+        ensures made { IfOk result (λ halt. halt ≢ Halt.AllMade) }
+        ensures told { IfOk result (λ halt. halt ≡ Halt.Told → F.wish follower.new ≡ Wish.End) }
+    {
+        match self.found_by(alloc, watch, run, wish) {
+            Ok(found) => return Ok(Halt::Found(found)),
+            Err(SearchFault::GivenUp) => {}
+            Err(fault) => return Err(fault),
+        }
+        if let Wish::End = follower.given_up() {
+            return Ok(Halt::Told);
+        }
+        let found = self.found(alloc, &(), run)?;
+        Ok(Halt::Found(found))
     }
 
     /// The endings of runs in a row, the last first: of all of them, or where one is given up of those before it.
@@ -303,13 +376,59 @@ impl<'m, 'a> RunMaker<'m, 'a> {
         let ending = self.ending_anew(alloc, run)?;
         Ok(Some(ending))
     }
+
+    /// Makes the runs and notes their endings, up to the first that is looked for, where the search stops there, or
+    /// behind which the follower tells it to end.
+    fn first<R: Threads + Sync, F: Hears>(
+        &self,
+        alloc: Global,
+        crew: &Crew<R, F::Watch>,
+        follower: &mut F,
+    ) -> Result<SearchResult, SearchFault>
+        requires { self.now.sought.now.from + self.now.sought.now.runs < 2 ^ 64 }
+        ensures met { IfOk result (λ s. AreMet self.now.request.now self.now.sought.now s.table) }
+        ensures noted { IfOk result (λ s. AreNoted self.now.request.now self.now.sought.now s.table) }
+        ensures found { IfOk result (λ s. IfFound s.halt (λ f. IsFoundIn self.now f.made)) }
+        ensures number { IfOk result
+            (λ s. IfFound s.halt (λ f. f.run + 1 ≡ self.now.sought.now.from + s.table.runs)) }
+        ensures all_made { IfOk result (λ s. s.halt ≡ Halt.AllMade → s.table.runs ≡ self.now.sought.now.runs) }
+        ensures none { IfOk result (λ s. s.halt ≡ Halt.AllMade → IsTrue self.now.sought.now.stops
+            → HasNoneLookedFor self.now.sought.now s.table) }
+        ensures told { IfOk result (λ s. s.halt ≡ Halt.Told → F.wish follower.new ≡ Wish.End) }
+    {
+        let sought = self.sought;
+        let mut table = Table::new(alloc);
+        let mut ahead = Vec::new(alloc);
+        let end = sought.from + sought.runs;
+        for run in sought.from..end {
+            let left = end - run;
+            let next = self.noted_next(alloc, crew, run, left, &mut ahead, follower)?;
+            let Some(ending) = next else {
+                let halt = Halt::Told;
+                return Ok(SearchResult { table, halt });
+            };
+            let is_sought = is_looked_for(alloc, sought, &ending)?;
+            table.note(run, ending)?;
+            let wish = follower.runs(table.runs, table.met.len());
+            if is_sought && sought.stops {
+                let halt = self.halt_at(alloc, crew.watch, run, wish, follower)?;
+                return Ok(SearchResult { table, halt });
+            }
+            if let Wish::End = wish {
+                let halt = Halt::Told;
+                return Ok(SearchResult { table, halt });
+            }
+        }
+        let halt = Halt::AllMade;
+        Ok(SearchResult { table, halt })
+    }
 }
 
 /// Makes the runs of a call that is requested in the order of their numbers, by so many threads, and notes the ending
 /// of each; up to the first that is looked for, where the search stops there, or behind which the follower tells it to
-/// end. Run number I of a seed is the same run, whoever makes it, and so is what is found. The follower hears of each
-/// how many were made, with how many endings; and where a run is given up since there is something to be seen, it is
-/// asked.
+/// end. Run number I of a seed is the same run, whoever makes it, and so is what is found, which is made once more by
+/// itself. The follower hears of each how many were made, with how many endings; and where a run is given up since there
+/// is something to be seen, it is asked.
 ///
 /// The table has the endings of runs of the module by the call, in a row from the first on, each noted. What is found
 /// is such a run, the last of them: it ends as is looked for. Where nothing is found, all runs were made, and, where
@@ -335,39 +454,23 @@ pub fn first_found<R: Threads + Sync, F: Hears>(
         → HasNoneLookedFor sought.now s.table) }
     ensures told { IfOk result (λ s. s.halt ≡ Halt.Told → F.wish follower.new ≡ Wish.End) }
 {
+    let watch = follower.watch();
+    let told = entries_unless_told(alloc, request, sought, &watch, follower)?;
+    let Some(entries) = told else {
+        let table = Table::new(alloc);
+        let halt = Halt::Told;
+        return Ok(SearchResult { table, halt });
+    };
     let search = RunMaker {
         request,
         sought,
-        entries: plain_entries(alloc, request, sought)?,
+        entries,
     };
-    let watch = follower.watch();
     let crew = Crew {
         rt,
         jobs,
         watch: &watch,
     };
-    let mut table = Table::new(alloc);
-    let mut ahead = Vec::new(alloc);
-    let end = sought.from + sought.runs;
-    for run in sought.from..end {
-        let left = end - run;
-        let next = search.noted_next(alloc, &crew, run, left, &mut ahead, follower)?;
-        let Some(ending) = next else {
-            let halt = Halt::Told;
-            return Ok(SearchResult { table, halt });
-        };
-        let is_sought = is_looked_for(alloc, sought, &ending)?;
-        table.note(run, ending)?;
-        let wish = follower.runs(table.runs, table.met.len());
-        if is_sought && sought.stops {
-            let halt = Halt::Found(search.found(alloc, run)?);
-            return Ok(SearchResult { table, halt });
-        }
-        if let Wish::End = wish {
-            let halt = Halt::Told;
-            return Ok(SearchResult { table, halt });
-        }
-    }
-    let halt = Halt::AllMade;
-    Ok(SearchResult { table, halt })
+    let searched = search.first(alloc, &crew, follower)?;
+    Ok(searched)
 }

@@ -2,6 +2,7 @@
 ghost use Rattle.std.specs.Prelude.{◌≡◌};
 
 use crate::size::Size;
+use replay_text::Record;
 use search_reach::{Follows, Wish};
 use search_strategies::Watch;
 
@@ -20,8 +21,8 @@ pub trait Hears: Follows {
     fn given_up(&mut self) -> Wish
         ensures { result ≡ Self.wish self.new };
 
-    /// A run was found, and smaller ones are tried next.
-    fn found(&mut self);
+    /// A run was found, which has this record, and smaller ones are tried next. Without a body nobody hears of it.
+    fn found(&mut self, _record: &Record) {}
 
     /// So many smaller ones were tried, and the smallest has this size.
     fn tried(&mut self, tries: u32, size: Size) -> Wish
@@ -39,8 +40,6 @@ impl Hears for () {
     fn given_up(&mut self) -> Wish {
         Wish::GoOn
     }
-
-    fn found(&mut self) {}
 
     fn tried(&mut self, _tries: u32, _size: Size) -> Wish {
         Wish::GoOn

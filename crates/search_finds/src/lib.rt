@@ -10,8 +10,9 @@
 //! - `Table` counts the endings that were met (`search_endings::Ending`).
 //! - `first_found` makes them one by one and notes their endings, up to the first that is looked for, or until it is
 //!   told to end; `Halt` says which.
-//! - `shrunk` leaves out the rounds of waits in loops, and then tries parts of that run's schedule; a run that ends
-//!   alike with fewer switches, or with as many and fewer entries, takes its place.
+//! - `shrunk` leaves out the rounds of waits in loops, found by moments in which the run is the same (`Moments`), and
+//!   then tries parts of that run's schedule; a run that ends alike with fewer switches, or with as many and fewer
+//!   entries, takes its place. So nothing rests on how what is left out was found.
 //! - `run_to` follows choices to an ending: it answers a run only where that ends so.
 //! - `Hears` follows a search on its way, and gives what runs look at in their middle (`search_strategies::Watch`).
 //!
@@ -25,6 +26,8 @@ mod following;
 mod hears;
 mod leading;
 mod met;
+mod moments;
+mod rounds;
 mod search;
 mod shrinking;
 mod size;

@@ -6,6 +6,7 @@ ghost use Rattle.search_finds.specs.Sizes.{size_in, IsSmaller, IsNoLarger};
 
 use crate::have_one_ending;
 use crate::hears::Hears;
+use crate::rounds::{moments_of, without_own_repeats, without_repeats};
 use crate::size::{schedule_of, size_of};
 use crate::spins::without_spins;
 use search_reach::Wish;
@@ -114,6 +115,31 @@ fn stretches_of(alloc: Global, made: &MadeRun) -> Result<usize, AllocError> {
     Ok(stretches(&schedule_of(alloc, &made.record)?))
 }
 
+/// Of a run a smaller one that ends alike, without what lies between two moments in which all is the same, or all that is
+/// one thread's; and without rounds in which a thread saw what it saw in the round before.
+#[tactic(auto, using(crate::proofs::Alike::alike_itself, crate::proofs::Alike::alike_on))]
+fn without_waits<W: Watch>(
+    alloc: Global,
+    request: &Request,
+    limit: u32,
+    dump: u32,
+    watch: &W,
+    made: MadeRun,
+) -> Result<MadeRun, SearchFault>
+    requires { IsFind request.now limit made }
+    ensures run { IfOk result (IsFind request.now limit) }
+    ensures ending { IfOk result (λ small. HaveOneEnding dump made.end small.end) }
+    ensures size { IfOk result (λ small. IsNoLarger (size_in small.record) (size_in made.record)) }
+{
+    let short = without_repeats(alloc, &moments_of(alloc, request.module(), &made)?)?;
+    let (made, _) = better(alloc, request, limit, dump, watch, made, &short)?;
+    let short = without_own_repeats(alloc, &moments_of(alloc, request.module(), &made)?)?;
+    let (made, _) = better(alloc, request, limit, dump, watch, made, &short)?;
+    let short = without_spins(alloc, &made.record)?;
+    let (made, _) = better(alloc, request, limit, dump, watch, made, &short)?;
+    Ok(made)
+}
+
 /// Of a run a smaller one that ends alike, found by leaving out parts of its schedule: first the rounds of waits in
 /// loops, then halves, and single stretches last (delta debugging); in 10,000 runs at most, and as long as the follower
 /// doesn't wish an end.
@@ -134,10 +160,9 @@ pub fn shrunk<F: Hears>(
     ensures ending { IfOk result (λ small. HaveOneEnding dump made.end small.end) }
     ensures size { IfOk result (λ small. IsNoLarger (size_in small.record) (size_in made.record)) }
 {
-    follower.found();
+    follower.found(&made.record);
     let watch = follower.watch();
-    let short = without_spins(alloc, &made.record)?;
-    let (mut best, _) = better(alloc, request, limit, dump, &watch, made, &short)?;
+    let mut best = without_waits(alloc, request, limit, dump, &watch, made)?;
     let all = stretches_of(alloc, &best)?;
     let mut cut = Cut {
         at: 0,

@@ -5,3 +5,4 @@ pub mod Settling
 pub mod Answering
 pub mod Leaving
 pub mod Courses
+pub mod Ready

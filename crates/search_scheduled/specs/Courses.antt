@@ -1,10 +1,13 @@
 -- A walk with the log that it made.
-use Rattle.std.specs.Prelude.{ℕ, ◌≡◌, List}
+use Rattle.std.specs.Prelude.{ℕ, ◌≡◌, ◌⊎◌, ◌<◌, List, ◌∷◌, ◌++◌, Option, Some, None, All, Contains, slice_index}
+use Rattle.types.specs.declared.event.Entry.{Entry}
 use Rattle.types.specs.declared.limits.TheConstants.{MOST_THREADS}
 use Rattle.shared_memory.specs.Memory.{Memory}
 use Rattle.interp_trait.specs.Turns.{Meaning}
 use Rattle.spawn_host.specs.declared.end.EndState.{EndState}
 use Rattle.replay_text.specs.declared.parts.RecordParts.{RecordParts}
+use Rattle.replay_walk.specs.Standing.{MayBeTaken, HasGoneIfFree}
+use Rattle.replay_walk.specs.declared.stage.Stage.{Stage}
 use Rattle.replay_walk.specs.Walked.{Run, IsReady, WalkCame, start}
 use Rattle.search_scheduled.specs.Headers.{Concludes}
 use Rattle.search_scheduled.specs.declared.course.Course.{Course}
@@ -32,3 +35,52 @@ module _ {S : Type 0} (meaning : S → Meaning) where
   abbrev pub ConcludesRuns : Course S → RecordParts → RecordParts → EndState → Type 0
   ConcludesRuns c header record_is end = (r : Run) → CameAlong r c → r.threads ≡ header.threads
       → r.budget ≡ header.fuel → r.limit ≡ header.limit → Concludes (start r) record_is end
+
+  -- These are the threads that can go on: each may be taken, and each other one that was started has left, if it doesn't
+  -- wait.
+  pub record IsEachReady (stage : Stage) (ready : List ℕ) : Type 0 where
+    pub can : All (MayBeTaken meaning stage) ready
+    pub others : (n : ℕ) → n < stage.started → n < MOST_THREADS → (Contains ready n → ⊥) → HasGoneIfFree meaning stage n
+
+  -- Threads take answers that are due to them.
+  pub record Hears (before after : Course S) : Type 0 where
+    pub runs : StaysOnItsRuns before after
+    pub answers : List Entry
+    pub log : after.log.items ≡ before.log.items ++ answers
+
+  -- Thread n makes an entry, and all take the answers that are due then.
+  pub record GoesOn (n : ℕ) (e : Entry) (before after : Course S) : Type 0 where
+    pub runs : StaysOnItsRuns before after
+    pub thread : e.thread ≡ n
+    pub answers : List Entry
+    pub log : after.log.items ≡ before.log.items ++ e ∷ answers
+
+  module _ {Q : Type 0} (chooses : Q → List ℕ → Option ℕ → Q → Type 0) (hears : Q → Entry → Q → Type 0) where
+    -- A strategy that is asked of the threads that can go on names one; that one goes on, and the strategy hears its
+    -- entry.
+    pub record IsNamed (before : Course S) (q : Q) (after : Course S) (q' : Q) : Type 0 where
+      pub ready : List ℕ
+      pub each : IsEachReady before.walk.stage ready
+      pub place : ℕ
+      pub asked : Q
+      pub chosen : chooses q ready (Some place) asked
+      pub entry : Entry
+      pub goes : GoesOn (slice_index ready place) entry before after
+      pub heard : hears asked entry q'
+
+    -- So it went on, event by event.
+    pub data IsLed (first : Course S) (q : Q) : Course S → Q → Type 0 where
+      here : IsLed first q first q
+      on : (c : Course S) (p : Q) (d : Course S) (r : Q) → IsLed first q c p → IsNamed c p d r → IsLed first q d r
+
+    -- So it went on to where the strategy was asked of the threads that can go on. It named nobody; or it named one,
+    -- and then it may give the run up.
+    pub record IsGivenUp (may_end : Q → Type 0) (first : Course S) (q r : Q) : Type 0 where
+      pub course : Course S
+      pub before : Q
+      pub led : IsLed first q course before
+      pub ready : List ℕ
+      pub each : IsEachReady course.walk.stage ready
+      pub answer : Option ℕ
+      pub chosen : chooses before ready answer r
+      pub gives_up : (answer ≡ None) ⊎ may_end r

@@ -49,10 +49,9 @@ module _ {S : Type 0} (meaning : S → Meaning) where
   abbrev pub StandsOnFuel : Walk S → ℕ → Type 0
   StandsOnFuel w fuel = (s : Standing) × WalkStands meaning s w × (s.budget ≡ fuel)
 
-  -- Where a turn is given, a thread has settled with it, wherever the walk stood.
-  abbrev pub SettlesIfGoing : ℕ → Walk S → Option Turn → Walk S → Type 0
-  SettlesIfGoing n before o after = (turn : Turn) → o ≡ Some turn → (s : Standing) → WalkStands meaning s before
-      → SettlesOn s n turn after
+  -- A thread has settled with a turn, wherever the walk stood.
+  abbrev pub SettlesWhereGoing : ℕ → Walk S → Turn → Walk S → Type 0
+  SettlesWhereGoing n before turn after = (s : Standing) → WalkStands meaning s before → SettlesOn s n turn after
 
   -- Somewhere a thread may leave with an outcome; wherever it may, it has done so, by an entry.
   abbrev pub IsToLeave : ℕ → Outcome → Walk S → Type 0

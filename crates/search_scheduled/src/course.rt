@@ -1,7 +1,9 @@
 //! A walk with the log that it makes.
-ghost use Rattle.std.specs.Prelude.{◌≤◌, length, OnOk};
-ghost use Rattle.types.specs.declared.limits.TheConstants.{MOST_THREADS};
+ghost use Rattle.std.specs.Prelude.{◌≡◌, ◌≤◌, ◌+◌, ◌⊎◌, [], length, OnOk, IfOk, IfErr, IfSome};
+ghost use Rattle.types.specs.declared.limits.TheConstants.{MOST_THREADS, PAST_LIMIT};
 ghost use Rattle.search_scheduled.specs.Courses.{BeginsCourse, IsOnARun, StaysOnItsRuns};
+ghost use Rattle.search_scheduled.specs.Courses.{IsEachReady, GoesOn, IsLed, IsGivenUp, Hears};
+ghost use Rattle.search_scheduled.specs.declared.course.CourseFault.TheVariants as faults;
 
 use crate::hearing::hear;
 use crate::making::go_on;
@@ -30,6 +32,8 @@ pub enum CourseFault {
 }
 
 impl<T: Drop> From<AllocFailed<T>> for CourseFault {
+    ghost from_gives = { λ _ e. e ≡ faults.NoMemory };
+
     fn from(_: AllocFailed<T>) -> CourseFault {
         CourseFault::NoMemory
     }
@@ -67,7 +71,8 @@ impl<T: TakesTurns> Course<T> {
     /// A thread takes the answer that is due to it, if one is.
     fn hear(&mut self, n: u32) -> Result<(), CourseFault>
         requires { IsOnARun T.meaning self.old }
-        ensures { OnOk result (StaysOnItsRuns T.meaning self.old self.new) }
+        ensures heard { OnOk result (Hears T.meaning self.old self.new) }
+        ensures fault { IfErr result (λ fault. fault ≡ faults.NoMemory) }
     {
         if let Some(answer) = hear(&mut self.walk, n) {
             self.log.push(Entry {
@@ -82,7 +87,8 @@ impl<T: TakesTurns> Course<T> {
     /// All threads take the answers that are due to them.
     fn hear_all(&mut self) -> Result<(), CourseFault>
         requires { IsOnARun T.meaning self.old }
-        ensures { OnOk result (StaysOnItsRuns T.meaning self.old self.new) }
+        ensures heard { OnOk result (Hears T.meaning self.old self.new) }
+        ensures fault { IfErr result (λ fault. fault ≡ faults.NoMemory) }
     {
         for n in 0..self.walk.stage.started {
             self.hear(n)?;
@@ -90,43 +96,45 @@ impl<T: TakesTurns> Course<T> {
         Ok(())
     }
 
-    /// A thread makes its turns of its own, and then its event, whose entry is given. One that can't go on makes none.
-    fn step(&mut self, n: u32) -> Result<Option<Entry>, CourseFault>
+    /// A thread that can go on makes its turns of its own, and then its event, whose entry is given.
+    ///
+    /// # Errors
+    /// `NoEntry` where it can't go on, or makes none; `GivenUp` where the strategy gives the run up meanwhile;
+    /// `NoMemory`.
+    fn step<S: Strategy>(&mut self, n: u32, strategy: &S) -> Result<Entry, CourseFault>
         requires { IsOnARun T.meaning self.old }
-        ensures { OnOk result (StaysOnItsRuns T.meaning self.old self.new) }
+        ensures goes { IfOk result (λ e. GoesOn T.meaning n e self.old self.new) }
+        ensures over { IfErr result (λ fault. fault ≡ faults.GivenUp → S.may_end strategy.now) }
     {
-        let Some(turn) = settle_going(&mut self.walk, n, self.fuel) else {
-            return Ok(None);
-        };
+        let turn = settle_going(&mut self.walk, n, self.fuel, strategy)?;
         let Some(entry) = go_on(&mut self.walk, n, turn, self.log.len(), self.limit) else {
             return Err(CourseFault::NoEntry);
         };
         self.log.push(entry)?;
-        Ok(Some(entry))
+        Ok(entry)
     }
 
-    /// A thread makes its next event, if it can go on, and its entry is given. All threads take the answers that are
-    /// due by it.
-    fn advance(&mut self, n: u32) -> Result<Option<Entry>, CourseFault>
+    /// A thread that can go on makes its next event, and its entry is given. All threads take the answers that are due
+    /// by it.
+    ///
+    /// # Errors
+    /// As of `step`.
+    fn advance<S: Strategy>(&mut self, n: u32, strategy: &S) -> Result<Entry, CourseFault>
         requires { IsOnARun T.meaning self.old }
-        ensures { OnOk result (StaysOnItsRuns T.meaning self.old self.new) }
+        ensures goes { IfOk result (λ e. GoesOn T.meaning n e self.old self.new) }
+        ensures over { IfErr result (λ fault. fault ≡ faults.GivenUp → S.may_end strategy.now) }
     {
-        let made = self.step(n)?;
-        if let Some(
-            Entry {
-                event: Event::Ask(_),
-                ..
-            },
-        ) = made
-        {
+        let entry = self.step(n, strategy)?;
+        if let Event::Ask(_) = entry.event {
             self.hear_all()?;
         }
-        Ok(made)
+        Ok(entry)
     }
 
     /// The threads that can go on, in order.
     fn ready(&self) -> ArrayVec<u32, MOST_THREADS>
-        ensures { length result.items ≤ MOST_THREADS }
+        ensures few { length result.items ≤ MOST_THREADS }
+        ensures each { IsEachReady T.meaning self.now.walk.stage result.items }
     {
         let mut ready = ArrayVec::new();
         let most = self.walk.stage.started.min(MOST_THREADS as u32);
@@ -138,13 +146,21 @@ impl<T: TakesTurns> Course<T> {
         ready
     }
 
-    /// Goes on until nobody can: before each event the strategy says who makes it, and hears the entry then.
+    /// Goes on until nobody can: before each event the strategy says who makes it, and hears the entry then. It stops
+    /// too where the log has 192 entries more than its limit, which no run comes to.
     ///
     /// # Errors
-    /// `NoMemory`; `GivenUp` where the strategy names nobody; and `NoEntry`, after which the course stands nowhere.
+    /// `NoMemory`; `GivenUp` where the strategy names nobody, or gives the run up while a thread makes turns of its own;
+    /// and `NoEntry`, after which the course stands nowhere.
     pub fn go<S: Strategy>(&mut self, strategy: &mut S) -> Result<(), CourseFault>
         requires { IsOnARun T.meaning self.old }
-        ensures { OnOk result (StaysOnItsRuns T.meaning self.old self.new) }
+        ensures runs { OnOk result (StaysOnItsRuns T.meaning self.old self.new) }
+        ensures led { OnOk result
+            (IsLed T.meaning S.chooses S.hears self.old strategy.old self.new strategy.new) }
+        ensures ends { OnOk result (IsEachReady T.meaning self.new.walk.stage []
+            ⊎ (self.old.limit + PAST_LIMIT ≤ length self.new.log.items)) }
+        ensures given_up { IfErr result (λ fault. fault ≡ faults.GivenUp
+            → IsGivenUp T.meaning S.chooses S.hears S.may_end self.old strategy.old strategy.new) }
     {
         let most = self.limit as usize + PAST_LIMIT;
         for _ in 0..most {
@@ -155,9 +171,8 @@ impl<T: TakesTurns> Course<T> {
             let Some(place) = strategy.choose(&ready) else {
                 return Err(CourseFault::GivenUp);
             };
-            if let Some(entry) = self.advance(ready[place])? {
-                strategy.hear(&entry);
-            }
+            let entry = self.advance(ready[place], strategy)?;
+            strategy.hear(&entry);
         }
         Ok(())
     }

@@ -1,5 +1,5 @@
 //! What a thread does that has made its turns of its own: it leaves, or makes the event that it wants.
-ghost use Rattle.std.specs.Prelude.{◌≡◌, ℕ, length};
+ghost use Rattle.std.specs.Prelude.{◌≡◌, ℕ, length, IfSome};
 ghost use Rattle.types.specs.declared.event.Event.TheVariants as events;
 ghost use Rattle.types.specs.declared.event.Question.TheVariants.{Leave, Spawn};
 ghost use Rattle.types.specs.declared.event.Reply.TheVariants.{Done};
@@ -84,6 +84,7 @@ pub(crate) fn go_on<T: TakesTurns>(
     requires { IsToGoOn T.meaning n turn walk.old }
     ensures count { length walk.new.threads.items ≡ length walk.old.threads.items }
     ensures taken { TakesNext T.meaning n turn limit at walk.old result walk.new }
+    ensures thread { IfSome result (λ e. e.thread ≡ n) }
 {
     match turn {
         Turn::Ended(outcome) => Some(leave(walk, n, outcome)),

@@ -20,7 +20,7 @@ impl Watch for () {
 }
 
 /// Goes on by a strategy as long as it isn't time to end: that is asked before the first event and each 1000th behind
-/// it.
+/// it, and in the middle of turns of a thread's own.
 #[derive(Drop)]
 pub struct Watched<'a, S, W> {
     strategy: S,
@@ -46,6 +46,8 @@ impl<S: Strategy, W: Watch> Strategy for Watched<'_, S, W> {
 
     ghost hears = { λ before entry after. S.hears before.strategy entry after.strategy };
 
+    ghost may_end = { λ _. Unit {0} };
+
     fn choose(&mut self, ready: &[u32]) -> Option<usize> {
         if self.left == 0 {
             if self.watch.is_over() {
@@ -59,5 +61,9 @@ impl<S: Strategy, W: Watch> Strategy for Watched<'_, S, W> {
 
     fn hear(&mut self, entry: &Entry) {
         self.strategy.hear(entry);
+    }
+
+    fn is_over(&self) -> bool {
+        self.watch.is_over()
     }
 }

@@ -56,8 +56,6 @@ impl Hears for Few {
         self.wish
     }
 
-    fn found(&mut self) {}
-
     fn tried(&mut self, _tries: u32, _size: Size) -> Wish {
         self.wish
     }

@@ -1,6 +1,8 @@
 //! How far a search came, on one line of a terminal, and whether it is told to end.
 
+use replay_text::Record;
 use report_command::Search;
+use report_program::keep_early;
 use search_finds::{Hears, Size};
 use search_reach::{Follows, Wish};
 use search_strategies::Watch;
@@ -59,6 +61,8 @@ pub(crate) struct Progress<'a> {
     /// When the search began and when it was last time for a line and a look; none where there is neither.
     times: Option<(Instant, Instant)>,
     until: Until<'a>,
+    /// Where the record of a run that is found goes, where one is wanted.
+    save: Option<&'a str>,
     /// For how long smaller runs are looked for.
     shrink: Duration,
     /// Whether lines are written.
@@ -95,6 +99,7 @@ impl<'a> Progress<'a> {
                 path: search.and_then(|search| search.until),
                 time,
             },
+            save: search.and_then(|search| search.save),
             shrink: Duration::from_secs(u64::from(shrink)),
             is_shown,
             is_written: false,
@@ -183,8 +188,11 @@ impl<'a> Hears for Progress<'a> {
         self.wish
     }
 
-    /// Smaller runs are looked for as long as was asked for.
-    fn found(&mut self) {
+    /// Its record is at its place from now on, and smaller runs are looked for as long as was asked for.
+    fn found(&mut self, record: &Record) {
+        if let Some(path) = self.save {
+            let _ = keep_early(self.rt, path, record);
+        }
         if let Ok(now) = Instant::now(self.rt) {
             let left = match self.until.time {
                 Some((began, most)) => most.saturating_sub(now.duration_since(began)),

@@ -1,7 +1,9 @@
 use Rattle.std.proofs.Common.{ℕ, List, ◌∙◌, subst}
 use Rattle.search_scheduled.specs.Headers.{IsOfCall}
 use Rattle.report.proofs.Searched.{ends_alike}
-use Rattle.report.proofs.Growing.{grows_then, keeps_then}
+use Rattle.replay_forms.proofs.Written.{appends_then}
+use Rattle.search_finds.specs.Sizes.{size_in}
+use Rattle.report.proofs.Growing.{grows_then, keeps_append}
 use Rattle.report.proofs.searching.tell_made.Goals as goal
 
 pub returns-clause-kept : goal.returns-clause-kept
@@ -28,5 +30,19 @@ returns-clause-grows g c =
     let contents = g.W.Write.contents in
     let before = contents c.args.out.now in
     let between = contents c.shrunk_if_asked.new.out in
-    let sizes = keeps_then before (contents c.flush.new.self) between c.in_ok-flush.ensures.bytes c.in_ok-kept.ensures.grows in
-    grows_then before between (contents c.print.new.out) _ sizes c.in_ok-print.ensures.prints.lines
+    let sizes = keeps_append before (contents c.flush.new.self) between _ c.in_ok-flush.ensures.bytes c.in_ok-kept.ensures.sizes in
+    grows_then before between (contents c.print.new.out) _ (_, sizes) c.in_ok-print.ensures.prints.lines
+
+pub returns-clause-one : goal.returns-clause-one
+returns-clause-one g c =
+    let contents = g.W.Write.contents in
+    let before = contents c.args.out.now in
+    let between = contents c.shrunk_if_asked.new.out in
+    let sizes = keeps_append before (contents c.flush.new.self) between _ c.in_ok-flush.ensures.bytes c.in_ok-kept.ensures.sizes in
+    record {
+      made = c.in_ok-kept.kept;
+      find = c.in_ok-kept.ensures.run;
+      was = size_in c.args.made.«record»;
+      lines = appends_then before between (contents c.print.new.out) _ _ sizes c.in_ok-print.ensures.prints.lines;
+      kept = λ wanted. c.in_ok-keep.ensures.kept (c.is_some.ensures ∙ wanted);
+    }

@@ -19,7 +19,7 @@ returns-in-Ok-clause-run g c =
     let h = c.in_ok-header.header in
     let of_call = c.in_ok-header.ensures in
     let b = c.in_ok-course.ensures.begun h of_call in
-    let came = c.in_ok-go.ensures b.run b.came in
+    let came = c.in_ok-go.ensures.runs b.run b.came in
     let end = c.in_ok-parts.field-0.end in
     let pages = subst (λ (p : Parts). HasPagesWithin MOST_PAGES p) c.module-module.ensures c.show_pages_fit.ensures in
     subst (λ (r : RecordParts). IsRunOf m r end) (sym c.in-Ok.ensures.ok.0)
@@ -33,7 +33,7 @@ returns-in-Ok-clause-spares g c =
     let h = c.in_ok-header.header in
     let of_call = c.in_ok-header.ensures in
     let b = c.in_ok-course.ensures.begun h of_call in
-    let came = c.in_ok-go.ensures b.run b.came in
+    let came = c.in_ok-go.ensures.runs b.run b.came in
     let takes_back = rw c.module-module.ensures at c.in_ok-take_back.ensures in
     takes_back q.fuel c.in_ok-course.ensures.spares
     (λ starts. unused_are_spares meaning_in m b.run q.fuel b.program (b.budget ∙ of_call.fuel) (b.worker starts) _ (c.in_ok-parts.ensures.unused b.run came))

@@ -1,4 +1,4 @@
-use Rattle.std.proofs.Common.{◌≡◌, ◌∙◌}
+use Rattle.std.proofs.Common.{◌∙◌}
 use Rattle.std.proofs.lemmas.List.{take_at}
 use Rattle.replay_walk.proofs.Settled.{within, ready, settled}
 use Rattle.search_scheduled.proofs.Settling.{settles_on}
@@ -20,13 +20,12 @@ settle_at-requires-clause-here g c =
     ready g.T.TakesTurns.meaning s w.threads.items w.stage.queue w.stage.started w.stage.ends st c.args.n going
     c.deref_mut.result.now c.deref_mut.ensures.value c.args.fuel budget
 
-pub returns-clause-settled : goal.returns-clause-settled
-returns-clause-settled g c = λ turn is s st.
+pub returns-in-Some-clause-settled : goal.returns-in-Some-clause-settled
+returns-in-Some-clause-settled g c = λ s st.
     let w = c.args.walk.now in
     let going = c.is_going.ensures.going c.if-not-is_going.false s w.threads.items st in
     let d = settled g.T.TakesTurns.meaning s w.threads.items w.stage.queue w.stage.started w.stage.ends st c.args.n going
-    c.deref_mut.result.now c.deref_mut.ensures.value c.settle_at.result c.settle_at.new.threads c.settle_at.ensures.settled in
-    let same : c.settle_at.result ≡ turn = cc is in
-    settles_on g.T.TakesTurns.meaning s c.args.n c.settle_at.result turn same _ c.settle_at.new.threads
+    c.deref_mut.result.now c.deref_mut.ensures.value c.in-Some.turn c.settle_at.new.threads c.in-Some.ensures.settled in
+    settles_on g.T.TakesTurns.meaning s c.args.n c.in-Some.turn _ c.settle_at.new.threads
     (take_at c.settle_at.new.threads _ w.threads.len (c.settle_at.ensures.count ∙ c.deref_mut.ensures.len))
     d.thread d.on d.settles d.says

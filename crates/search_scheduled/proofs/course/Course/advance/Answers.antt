@@ -1,4 +1,10 @@
+use Rattle.search_scheduled.proofs.Courses.{goes_heard}
 use Rattle.search_scheduled.proofs.course.Course.advance.Goals as goal
 
 pub hear_all-requires : goal.hear_all-requires
-hear_all-requires g c = (c.requires.0, c.in_ok-made.ensures c.requires.0 c.requires.1)
+hear_all-requires g c = (c.requires.0, c.in_ok-entry.ensures.goes.runs c.requires.0 c.requires.1)
+
+pub returns-in_ok-hear_all-clause-goes : goal.returns-in_ok-hear_all-clause-goes
+returns-in_ok-hear_all-clause-goes g c =
+    goes_heard g.T.TakesTurns.meaning c.args.n c.in_ok-entry.entry c.args.self.now c.step.new.self c.hear_all.new.self
+    c.in_ok-entry.ensures.goes c.in_ok-hear_all.ensures.heard

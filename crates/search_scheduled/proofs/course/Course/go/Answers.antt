@@ -1,4 +1,65 @@
+use Rattle.std.proofs.Common.{ℕ, List, Some, None, get_or, refl, inl, inr, subst, arith}
+use Rattle.std.proofs.lemmas.Result.{err_from_is_err_and}
+use Rattle.search_scheduled.specs.Courses.{GoesOn, IsNamed}
+use Rattle.search_scheduled.specs.Courses.IsLed.{here, on}
+use Rattle.search_scheduled.proofs.Courses.{longer}
 use Rattle.search_scheduled.proofs.course.Course.go.Goals as goal
 
+pub loop-init : goal.loop-init
+loop-init g c = (λ r came. came, here, omega arith)
+
 pub advance-requires : goal.advance-requires
-advance-requires g c = (c.requires.0, c.loop.invariant c.requires.0 c.requires.1)
+advance-requires g c = (c.requires.0, c.loop.invariant.0 c.requires.0 c.requires.1)
+
+pub loop-preserved : goal.loop-preserved
+loop-preserved g c =
+    let m = g.T.TakesTurns.meaning in
+    let inv = c.loop.invariant in
+    let place = c.in-Some.place in
+    let e = c.in_ok-entry.entry in
+    let goes = subst (λ (l : List ℕ). GoesOn m (get_or l place 0) e c.loop.self c.advance.new.self) c.deref-in-loop.ensures.0
+    c.in_ok-entry.ensures.goes in
+    let named : IsNamed m g.S.Strategy.chooses g.S.Strategy.hears c.loop.self c.loop.strategy c.advance.new.self c.hear.new.self = record {
+      ready = c.ready-ready.result.items;
+      each = c.ready-ready.ensures.each;
+      place = place;
+      asked = c.choose.new.self;
+      chosen = subst (λ (l : List ℕ). g.S.Strategy.chooses c.loop.strategy l (Some place) c.choose.new.self) c.deref.ensures.0
+          c.in-Some.ensures.chosen;
+      entry = e;
+      goes = goes;
+      heard = c.hear.ensures;
+    } in (
+      λ r came. goes.runs r (inv.0 r came),
+      on c.loop.self c.loop.strategy c.advance.new.self c.hear.new.self inv.1 named,
+      omega (arith, inv.2, longer m _ e c.loop.self c.advance.new.self goes),
+    )
+
+pub returns-in_default-clause-given_up : goal.returns-in_default-clause-given_up
+returns-in_default-clause-given_up g c = λ same. record {
+  course = c.loop.self;
+  before = c.loop.strategy;
+  led = c.loop.invariant.1;
+  ready = c.ready-ready.result.items;
+  each = c.ready-ready.ensures.each;
+  answer = None;
+  chosen = subst (λ (l : List ℕ). g.S.Strategy.chooses c.loop.strategy l None c.choose.new.self) c.deref.ensures.0
+      c.in_default.ensures.chosen;
+  gives_up = inl refl;
+}
+
+pub returns-in_err-entry-clause-given_up : goal.returns-in_err-entry-clause-given_up
+returns-in_err-entry-clause-given_up g c =
+    let m = g.T.TakesTurns.meaning in
+    let p = err_from_is_err_and c.from_residual.result c.from_residual.ensures.1 in
+    rw (p.1, p.2) (λ same. record {
+      course = c.loop.self;
+      before = c.loop.strategy;
+      led = c.loop.invariant.1;
+      ready = c.ready-ready.result.items;
+      each = c.ready-ready.ensures.each;
+      answer = Some c.in-Some.place;
+      chosen = subst (λ (l : List ℕ). g.S.Strategy.chooses c.loop.strategy l (Some c.in-Some.place) c.choose.new.self) c.deref.ensures.0
+          c.in-Some.ensures.chosen;
+      gives_up = inr (c.in_err-entry.ensures.over same);
+    })

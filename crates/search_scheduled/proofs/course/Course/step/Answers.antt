@@ -1,4 +1,4 @@
-use Rattle.std.proofs.Common.{◌≡◌, ℕ, vec_len, length, refl, sym, ◌∙◌, subst, arith}
+use Rattle.std.proofs.Common.{◌≡◌, ℕ, vec_len, length, [], refl, sym, ◌∙◌, subst, arith}
 use Rattle.std.specs.Global.{Vec}
 use Rattle.types.specs.declared.event.Entry.{Entry}
 use Rattle.schedule_threads.specs.Shared.{act_of}
@@ -10,15 +10,21 @@ use Rattle.search_scheduled.proofs.course.Course.step.Goals as goal
 len_is : (v : Vec Entry) → vec_len v ≡ length v.items
 len_is v = omega (arith, v.ok)
 
-pub returns : goal.returns
-returns g c = λ r came.
+pub returns-clause-goes : goal.returns-clause-goes
+returns-clause-goes g c =
     let m = g.T.TakesTurns.meaning in
     let old = c.args.self.now in
-    let e = c.in-Some-go_on.entry in
-    let s = stands_at m r old came in
-    let taken = c.in-Some-go_on.ensures.taken e refl s (c.in-Some.ensures.settled c.in-Some.turn refl s came.walk.standing)
-    (sym c.settle_going.ensures.memory) in
+    let e = c.in-Some.entry in
     let new : Course g.row.T.Denot = record { walk = c.go_on.new.walk; log = c.push.new.self; fuel = old.fuel; limit = old.limit } in
-    came_on m r old new came e
-    (subst (λ (k : ℕ). WalkTakes m s old.limit k e.thread (act_of e) c.go_on.new.walk) (c.len.ensures ∙ len_is old.log) taken)
-    (c.go_on.ensures.count ∙ c.settle_going.ensures.count) c.in_ok-push.ensures.items refl refl
+    record {
+      runs = λ r came.
+          let s = stands_at m r old came in
+          let taken = c.in-Some.ensures.taken e refl s (c.in_ok-turn.ensures.settled s came.walk.standing)
+          (sym c.settle_going.ensures.memory) in
+          came_on m r old new came e
+          (subst (λ (k : ℕ). WalkTakes m s old.limit k e.thread (act_of e) c.go_on.new.walk) (c.len.ensures ∙ len_is old.log) taken)
+          (c.go_on.ensures.count ∙ c.settle_going.ensures.count) c.in_ok-push.ensures.items refl refl;
+      thread = c.in-Some.ensures.thread;
+      answers = [];
+      log = c.in_ok-push.ensures.items;
+    }
