@@ -17,11 +17,12 @@ table_line s runs met =
 abbrev pub table_lines : Sought → Table → List ℕ
 table_lines s table = flat_map (table_line s table.runs) table.met.items
 
--- How large a run was that was shrunk, and how large it is.
+-- How large a run is; and how large one was that was shrunk, and is.
+abbrev pub size_text : Size → List ℕ
+size_text size = decimal size.entries ++ codes " entries, " ++ decimal size.switches ++ codes " switches"
+
 abbrev pub sizes_line : Size → Size → List ℕ
-sizes_line was is =
-    decimal was.entries ++ codes " entries, " ++ decimal was.switches ++ codes " switches -> " ++ decimal is.entries
-    ++ codes " entries, " ++ decimal is.switches ++ codes " switches\n"
+sizes_line was is = size_text was ++ codes " -> " ++ size_text is ++ codes "\n"
 
 abbrev pub sizes_if : Bool → Size → Size → List ℕ
 sizes_if true was is = sizes_line was is

@@ -8,7 +8,7 @@ ghost use Rattle.report_jobs.specs.Troubles.{IsTroubleOf};
 ghost use Rattle.std.specs.Io.KnownBytes.{Appends};
 ghost use Rattle.replay_forms.specs.Texts.{Wrote};
 ghost use Rattle.search_finds.specs.Sizes.{size_in};
-ghost use Rattle.report.specs.Drawn.{sizes_line, sizes_if};
+ghost use Rattle.report.specs.Drawn.{size_text, sizes_line, sizes_if};
 ghost use Rattle.report.specs.Searches.{Finds, Grows, IsDrawn, IsFindKept, IsOfSystem, IsPrintedOf, IsWellAt};
 ghost use Rattle.report.specs.Searches.{PrintsDrawn, TellsOfOne};
 ghost use Rattle.report_jobs.specs.Prints.{changed};
@@ -43,15 +43,22 @@ fn jobs_of<R: Threads>(rt: &R, search: &Search) -> usize {
     }
 }
 
+/// How large a run is.
+fn write_size<W: Write>(out: &mut W, size: Size) -> io::Result<()>
+    ensures { Wrote W.contents out.old out.new result (size_text size) }
+{
+    let Size { switches, entries } = size;
+    write!(out, "{entries} entries, {switches} switches")
+}
+
 /// What became of the size of a run.
 fn write_sizes<W: Write>(out: &mut W, before: Size, after: Size) -> io::Result<()>
     ensures { Wrote W.contents out.old out.new result (sizes_line before after) }
 {
-    write!(
-        out,
-        "{} entries, {} switches -> {} entries, {} switches\n",
-        before.entries, before.switches, after.entries, after.switches
-    )
+    write_size(out, before)?;
+    write!(out, " -> ")?;
+    write_size(out, after)?;
+    write!(out, "\n")
 }
 
 /// What is said behind the table of a search that found nothing: that it was told to end, where it was, and what is

@@ -141,8 +141,8 @@ fn without_waits<W: Watch>(
 }
 
 /// Of a run a smaller one that ends alike, found by leaving out parts of its schedule: first the rounds of waits in
-/// loops, then halves, and single stretches last (delta debugging); in 10,000 runs at most, and as long as the follower
-/// doesn't wish an end.
+/// loops, then halves, and single stretches last (delta debugging), and such rounds once more; in 10,000 runs at most,
+/// and as long as the follower doesn't wish an end.
 ///
 /// # Errors
 /// As of `run_along`.
@@ -183,6 +183,7 @@ pub fn shrunk<F: Hears>(
         }
         if cut.at >= all {
             if cut.count == 1 && !is_better {
+                let best = without_waits(alloc, request, limit, dump, &watch, best)?;
                 return Ok(best);
             }
             cut = Cut {
