@@ -7,6 +7,7 @@ use Rattle.report_command.specs.declared.search.Search.{Search}
 use Rattle.report_jobs.specs.Prints.{WriterChange}
 use Rattle.report_jobs.specs.Jobs.{IsNoValidModule, IsNoRecordOf, IsRecordOf, HasNoSuchCall}
 use Rattle.report_jobs.specs.Plain.{PerformsPlain}
+use Rattle.report.specs.Raced.{OfModule, IsRaceFree, IsRacy}
 use Rattle.report.specs.Searches.{HasSearched}
 
 -- What the status of a show says: 0 of a record of a run, 2 of a refused module, 4 of a record of no run. 5 is that
@@ -20,8 +21,8 @@ pub record Shows (bytes saved : List ℕ) (status : ℕ) : Type 0 where
 -- What that of races says: 0 of a record of a run in which no accesses race, 1 of one in which some do, and 2, 4 and 5 as of
 -- a show.
 pub record TellsRaces (bytes saved : List ℕ) (status : ℕ) : Type 0 where
-  pub none : status ≡ 0 → IsRecordOf bytes saved × HasNoRace bytes saved
-  pub some : status ≡ 1 → IsRecordOf bytes saved × HasRace bytes saved
+  pub free : status ≡ 0 → OfModule IsRaceFree bytes saved
+  pub racy : status ≡ 1 → OfModule IsRacy bytes saved
   pub refused : status ≡ 2 → IsNoValidModule bytes
   pub unfit : status ≡ 4 → IsNoRecordOf bytes saved
   pub statuses : (status ≤ 2) ⊎ (status ≡ 4) ⊎ (status ≡ 5)

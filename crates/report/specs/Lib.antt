@@ -1,4 +1,5 @@
 pub mod Jobs
+pub mod Raced
 pub mod Complete
 pub mod Drawn
 pub mod Searches

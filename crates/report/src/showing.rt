@@ -4,6 +4,7 @@ ghost use Rattle.types.specs.declared.parts.Parts.{Parts};
 ghost use Rattle.spawn_host.specs.declared.end.EndState.{EndState};
 ghost use Rattle.replay.specs.Runs.{IsRunOf, ShowsNoRun};
 ghost use Rattle.report_jobs.specs.Jobs.{IsNoRecordOf, IsNoValidModule, IsUnfit, IsRecordOf, IsOfRun};
+ghost use Rattle.report.specs.Raced.{AreRowsOf, IsSeen};
 
 use replay::{ReplayFault, replay_watched};
 use replay_text::{Record, RecordFault, RecordParts, read_record};
@@ -11,8 +12,7 @@ use report_command::{At, Look, View};
 use report_jobs::{Streams, Unfit, load, misfit, refuse, reject};
 use show_events::{write_page, write_trace};
 use show_moments::{Bytes, Moment, write_moment};
-use show_races::{races_shown, write_races};
-use show_rows::{CodeMap, Row, Rows, Shown, Story, write_rows};
+use show_rows::{CodeMap, Row, Rows, Shown, write_rows};
 use show_text::Unwritten;
 use std::alloc::Global;
 use std::io::Write;
@@ -74,9 +74,9 @@ fn show_to<W: Write, E: Write>(
 
 /// The bytes of a module, and those that have the names of its functions and the lines of its source.
 #[derive(Clone, Copy)]
-struct CodeBytes<'a> {
-    module: &'a [u8],
-    names: &'a [u8],
+pub(crate) struct CodeBytes<'a> {
+    pub module: &'a [u8],
+    pub names: &'a [u8],
 }
 
 /// Shows the entries of the record whose text `saved` is.
@@ -117,7 +117,7 @@ fn print_seen<W: Write>(
 }
 
 /// What rows that weren't written say of the record: nothing.
-fn unfit_of(unwritten: Unwritten) -> Unfit
+pub(crate) fn unfit_of(unwritten: Unwritten) -> Unfit
     ensures { (m : Parts) (saved : List ℕ) → IsUnfit m saved result }
 {
     match unwritten {
@@ -128,13 +128,14 @@ fn unfit_of(unwritten: Unwritten) -> Unfit
 
 /// A record of a run, and where each of its entries was made.
 #[derive(Drop)]
-struct SeenRun {
-    record: Record,
-    rows: Vec<Option<Row>>,
+pub(crate) struct SeenRun {
+    pub record: Record,
+    pub rows: Vec<Option<Row>>,
 }
 
 /// Replays the record whose text the bytes are, and sees where its entries are made.
-fn rows_of(alloc: Global, module: &ValidModule, saved: &[u8]) -> Result<SeenRun, Unfit>
+pub(crate) fn rows_of(alloc: Global, module: &ValidModule, saved: &[u8]) -> Result<SeenRun, Unfit>
+    ensures seen { IfOk result (λ s. IsSeen «module».now.parts saved.now s.«record» s.rows.items) }
     ensures shown { IfOk result (λ _. IsOfRun «module».now.parts saved.now) }
     ensures unfit { IfErr result (λ unfit. IsUnfit «module».now.parts saved.now unfit) }
 {
@@ -155,7 +156,8 @@ fn watched(
     module: &ValidModule,
     record: &Record,
 ) -> Result<Vec<Option<Row>>, ReplayFault>
-    ensures run { IfOk result (λ _. (end : EndState) × IsRunOf «module».now.parts «record».now end) }
+    ensures run { IfOk result (λ rows. (end : EndState) × IsRunOf «module».now.parts «record».now end
+        × AreRowsOf «module».now.parts «record».now end rows.items) }
     ensures none { IfErr result (λ fault. ShowsNoRun «module».now.parts «record».now fault) }
 {
     let mut rows = match Rows::new(alloc, record.parts().log.as_slice()) {
@@ -232,66 +234,4 @@ fn print_moment<W: Write>(
         code,
     };
     write_moment(alloc, module, shown, &moment, out)
-}
-
-/// Tells the races of the run whose record's text `saved` is, `most` at most. `names` are the bytes that have the names
-/// of functions and the lines of source, as for `show_saved`.
-///
-/// Answers 0 where the record is of a run of the module in which no two accesses race, 1 where some do, 4 only where the
-/// bytes are the text of no record of a run of it, 2 for a refused module, and 5 where memory or a stream failed.
-pub fn races_saved<W: Write, E: Write, S: Write>(
-    alloc: Global,
-    module: &[u8],
-    names: &[u8],
-    saved: &[u8],
-    most: u32,
-    streams: &mut Streams<W, E, S>,
-) -> u8 {
-    let Streams { out, err, .. } = streams;
-    let valid = match load(alloc, module) {
-        Ok(valid) => valid,
-        Err(refusal) => return refuse(err, refusal),
-    };
-    match races_of_record(alloc, &valid, CodeBytes { module, names }, saved, most, out) {
-        Ok(true) => 1,
-        Ok(false) => 0,
-        Err(unfit) => reject(err, unfit),
-    }
-}
-
-/// Tells the races of the run whose record's text `saved` is, and answers whether there are any.
-fn races_of_record<W: Write>(
-    alloc: Global,
-    module: &ValidModule,
-    code: CodeBytes,
-    saved: &[u8],
-    most: u32,
-    out: &mut W,
-) -> Result<bool, Unfit> {
-    let seen = rows_of(alloc, module, saved)?;
-    match print_races(alloc, module, &seen, code, most, out) {
-        Ok(is_racing) => Ok(is_racing),
-        Err(unwritten) => Err(unfit_of(unwritten)),
-    }
-}
-
-/// Writes the races of a run, and answers whether there are any.
-fn print_races<W: Write>(
-    alloc: Global,
-    module: &ValidModule,
-    seen: &SeenRun,
-    code: CodeBytes,
-    most: u32,
-    out: &mut W,
-) -> Result<bool, Unwritten> {
-    let code = CodeMap::read(alloc, module.parts(), code.module, code.names)?;
-    let shown = Shown {
-        record: seen.record.parts(),
-        rows: seen.rows.as_slice(),
-        code: &code,
-    };
-    let story = Story::new(alloc, shown.record.log.as_slice())?;
-    let races = races_shown(alloc, shown, &story, most as usize)?;
-    write_races(alloc, shown, &story, &races, out)?;
-    Ok(!races.pairs.is_empty())
 }

@@ -8,7 +8,7 @@ use Rattle.race_history.specs.declared.race.Race.{Race}
 use Rattle.race_history.specs.Races.{AreRaces, HasEach, IsCut}
 use Rattle.show_rows.specs.declared.listing.Shown.{Shown}
 use Rattle.show_races.specs.Kinds.{kind_at, kinds_before}
-use Rattle.show_races.specs.Told.{HasNoRace}
+use Rattle.show_races.specs.Told.{HasNoRace, IsWithin}
 
 -- each entry has a kind
 pub kinds_length : (shown : Shown) (n : ℕ) → length (kinds_before shown n) ≡ n
@@ -32,6 +32,12 @@ module _ (log : List Entry) (kinds : List Kind) where
   -- some of the races are races
   pub some_races : (all told : List Race) → AreRaces log kinds all → All (Contains all) told → AreRaces log kinds told
   some_races all told races from r has = races r (All-contains (Contains all) told r from has)
+
+  -- both entries of a race are entries of the log
+  pub races_within : (told : List Race) → AreRaces log kinds told → All (IsWithin log) told
+  races_within told races k d lt =
+      let race = (races (get_or told k d) (Contains-get_or told k d lt)).racing in
+      (race.made.entered.within, race.met.entered.within)
 
   -- where none is told though there is room for one, there is none
   pub no_race : (all told : List Race) (is_cut : Bool) (most : ℕ) → 1 ≤ most

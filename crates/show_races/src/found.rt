@@ -5,7 +5,7 @@ ghost use Rattle.shared_memory.specs.History.{AreEntries};
 ghost use Rattle.shared_memory.specs.Legal.{IsQueueLegal};
 ghost use Rattle.race_history.specs.Races.{AreRaces};
 ghost use Rattle.show_races.specs.Kinds.{kinds_shown};
-ghost use Rattle.show_races.specs.Told.{HasNoRace};
+ghost use Rattle.show_races.specs.Told.{HasNoRace, IsWithin};
 
 use crate::kinds::kinds_of;
 use interp::CodePlace;
@@ -110,6 +110,7 @@ pub fn races_shown(
     ensures races { IfOk result (λ r. AreRaces shown.entry.record.now.log (kinds_shown shown.entry) r.pairs.items) }
     ensures none { IfOk result (λ r. r.pairs.items ≡ [] → HasNoRace shown.entry.record.now.log (kinds_shown shown.entry)) }
     ensures few { IfOk result (λ r. length r.pairs.items ≤ most) }
+    ensures within { IfOk result (λ r. All (IsWithin shown.entry.record.now.log) r.pairs.items) }
 {
     let kinds = kinds_of(alloc, shown)?;
     let log = shown.record.log.as_slice();

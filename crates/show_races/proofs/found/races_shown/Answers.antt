@@ -4,7 +4,7 @@ use Rattle.race_history.specs.declared.access.Kind.{Kind}
 use Rattle.race_history.specs.declared.race.Race.{Race}
 use Rattle.race_history.specs.Races.{AreRaces, HasEach, IsCut}
 use Rattle.show_races.specs.Kinds.{kinds_shown}
-use Rattle.show_races.proofs.Laws.{carried, kinds_length, no_race, some_races}
+use Rattle.show_races.proofs.Laws.{carried, kinds_length, no_race, races_within, some_races}
 use Rattle.show_races.proofs.found.races_shown.Goals as goal
 
 pub races_of-requires-clause-kinds : goal.races_of-requires-clause-kinds
@@ -34,3 +34,6 @@ returns-clause-none c =
     (λ whole. carried (λ l k. HasEach l k all) c.as_slice-log.result.now log c.as_slice.result.now kinds c.as_slice-log.ensures alike (c.in_ok-all.ensures.each whole))
     (λ cut. carried (λ l k. IsCut l k all 1000000) c.as_slice-log.result.now log c.as_slice.result.now kinds c.as_slice-log.ensures alike (c.in_ok-all.ensures.cut cut))
     (subst (λ (l : List Race). 1 ≤ length l → 1 ≤ length told) c.as_slice-2.ensures.value c.in_ok-told.ensures.some)
+
+pub returns-clause-within : goal.returns-clause-within
+returns-clause-within c = races_within c.args.shown.record.now.log (kinds_shown c.args.shown) c.in_ok-told.told.pairs.items (returns-clause-races c)

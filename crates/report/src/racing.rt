@@ -1,0 +1,95 @@
+//! The races of a recorded run by the program: what is printed, or why there is nothing to print.
+ghost use Rattle.std.specs.Prelude.{◌≡◌, ◌≤◌, ◌⊎◌, IfOk, IfErr};
+ghost use Rattle.report_jobs.specs.Jobs.{IsNoRecordOf, IsNoValidModule, IsUnfit};
+ghost use Rattle.report.specs.Raced.{IsRaceFree, IsRacy, OfModule, Says, SaysOf, kinds_of};
+
+use crate::showing::{CodeBytes, SeenRun, rows_of, unfit_of};
+use race_history::is_history;
+use report_jobs::{Streams, Unfit, load, refuse, reject};
+use show_races::{races_shown, write_races};
+use show_rows::{CodeMap, Shown, Story};
+use show_text::Unwritten;
+use std::alloc::Global;
+use std::io::Write;
+use validate_module::ValidModule;
+
+/// Tells the races of the run whose record's text `saved` is, `most` at most. `names` are the bytes that have the names
+/// of functions and the lines of source, as for `show_saved`.
+///
+/// Answers 0 only where the record is of a run of the module in which no two accesses race, 1 only of one in which some
+/// do, 4 only where the bytes are the text of no record of a run of it, 2 for a refused module, and 5 where memory or a
+/// stream failed.
+pub fn races_saved<W: Write, E: Write, S: Write>(
+    alloc: Global,
+    module: &[u8],
+    names: &[u8],
+    saved: &[u8],
+    most: u32,
+    streams: &mut Streams<W, E, S>,
+) -> u8
+    requires { 1 ≤ most }
+    ensures free { result ≡ 0 → OfModule IsRaceFree «module».now saved.now }
+    ensures racy { result ≡ 1 → OfModule IsRacy «module».now saved.now }
+    ensures refused { result ≡ 2 → IsNoValidModule «module».now }
+    ensures none { result ≡ 4 → IsNoRecordOf «module».now saved.now }
+    ensures status { (result ≤ 2) ⊎ (result ≡ 4) ⊎ (result ≡ 5) }
+{
+    let Streams { out, err, .. } = streams;
+    let valid = match load(alloc, module) {
+        Ok(valid) => valid,
+        Err(refusal) => return refuse(err, refusal),
+    };
+    match tell_races(alloc, &valid, CodeBytes { module, names }, saved, most, out) {
+        Ok(true) => 1,
+        Ok(false) => 0,
+        Err(unfit) => reject(err, unfit),
+    }
+}
+
+/// Tells the races of the run whose record's text `saved` is, and answers whether there are any.
+fn tell_races<W: Write>(
+    alloc: Global,
+    module: &ValidModule,
+    code: CodeBytes,
+    saved: &[u8],
+    most: u32,
+    out: &mut W,
+) -> Result<bool, Unfit>
+    requires { 1 ≤ most }
+    ensures races { IfOk result (SaysOf «module».now.parts saved.now) }
+    ensures unfit { IfErr result (λ unfit. IsUnfit «module».now.parts saved.now unfit) }
+{
+    let seen = rows_of(alloc, module, saved)?;
+    match write_seen(alloc, module, &seen, code, most, out) {
+        Ok(is_racy) => Ok(is_racy),
+        Err(unwritten) => Err(unfit_of(unwritten)),
+    }
+}
+
+/// Writes the races of a run, and answers whether there are any. A log of more threads than 64 is none of `races_of`'s.
+fn write_seen<W: Write>(
+    alloc: Global,
+    module: &ValidModule,
+    seen: &SeenRun,
+    code: CodeBytes,
+    most: u32,
+    out: &mut W,
+) -> Result<bool, Unwritten>
+    requires { 1 ≤ most }
+    ensures { IfOk result (Says seen.now.«record».log (kinds_of «module».now.parts seen.now.«record» seen.now.rows.items)) }
+{
+    let code = CodeMap::read(alloc, module.parts(), code.module, code.names)?;
+    let shown = Shown {
+        record: seen.record.parts(),
+        rows: seen.rows.as_slice(),
+        code: &code,
+    };
+    let log = shown.record.log.as_slice();
+    if !is_history(log) {
+        return Err(Unwritten::NoMemory);
+    }
+    let story = Story::new(alloc, log)?;
+    let races = races_shown(alloc, shown, &story, most as usize)?;
+    write_races(alloc, shown, &story, &races, out)?;
+    Ok(races.pairs.len() >= 1)
+}
