@@ -4,3 +4,4 @@ mod Asking
 mod Sure
 mod Growing
 mod Printed
+pub mod Told

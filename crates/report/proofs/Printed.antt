@@ -1,8 +1,7 @@
 -- What is printed of a search, where its first lines were written, and then some text.
-use Rattle.std.proofs.Common.{ℕ, ◌≡◌, List, [], ◌++◌, Option, refl}
+use Rattle.std.proofs.Common.{ℕ, ◌≡◌, List, [], Option, refl}
 use Rattle.std.specs.Prelude.{false}
 use Rattle.std.specs.Io.KnownBytes.{Appends}
-use Rattle.std.proofs.KnownBytes.{Appends-nil}
 use Rattle.replay_forms.proofs.Written.{appends_then}
 use Rattle.spawn_host.specs.Requests.{Requested}
 use Rattle.search_endings.specs.Endings.{Ending}

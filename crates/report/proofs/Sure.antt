@@ -1,5 +1,5 @@
 -- Where it is said that every state can end and that every fair run does, the threads of the call are sure to end.
-use Rattle.std.proofs.Common.{◌≡◌, ℕ, List, Option, Some, None, refl, subst}
+use Rattle.std.proofs.Common.{◌≡◌, ℕ, Option, Some, None, refl, subst}
 use Rattle.std.specs.Option.{MatchOption}
 use Rattle.spawn_host.specs.Requests.{Requested}
 use Rattle.search_reach.specs.declared.liveness.Liveness.{Liveness}

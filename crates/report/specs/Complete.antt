@@ -4,7 +4,6 @@ use Rattle.std.specs.List.{list_all}
 use Rattle.search_reach.specs.declared.ending.Ended.{Ended}
 use Rattle.search_reach.specs.declared.search.Verdict.{Verdict}
 use Rattle.search_reach.specs.declared.search.Verdict.TheVariants as verdicts
-use Rattle.search_reach.specs.declared.liveness.FairCycle as cycles
 use Rattle.search_reach.specs.declared.liveness.FairRuns.{FairRuns}
 use Rattle.search_reach.specs.declared.liveness.FairRuns.TheVariants.{AllEnd, GoOn, Unknown}
 use Rattle.search_reach.specs.declared.liveness.Liveness.{Liveness}

@@ -1,5 +1,5 @@
 -- What is said of the races of a record's run.
-use Rattle.std.specs.Prelude.{ℕ, ◌≡◌, Bool, true, false, List, length, replicate, Option, Some, None, Ok}
+use Rattle.std.specs.Prelude.{ℕ, ◌≡◌, Bool, true, false, List, length, replicate, Option, None, Ok}
 use Rattle.types.specs.declared.parts.Parts.{Parts}
 use Rattle.validate_typing.specs.Validity.{IsValid}
 use Rattle.binary.specs.Grammar.{IsModuleText}

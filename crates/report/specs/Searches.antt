@@ -1,5 +1,5 @@
 -- What is kept of a search.
-use Rattle.std.specs.Prelude.{ℕ, ◌≡◌, ◌≢◌, ◌≤◌, ◌⊎◌, All, Bool, List, [], ◌++◌, false, true, Some, is_none, is_some}
+use Rattle.std.specs.Prelude.{ℕ, ◌≡◌, ◌≢◌, ◌≤◌, ◌⊎◌, All, List, [], ◌++◌, false, true, Some, is_none, is_some}
 use Rattle.std.specs.Io.KnownBytes.{Appends}
 use Rattle.types.specs.declared.value.Value.{Value}
 use Rattle.types.specs.declared.parts.Parts.{Parts}

@@ -34,7 +34,7 @@ fn color_on(color: Color, is_terminal: bool) -> Color {
 fn colored<'a>(job: Job<'a>, is_terminal: bool) -> Job<'a>
     requires { IsInRange job }
     ensures range { IsInRange result }
-    ensures same { IsColored job result }
+    ensures same { IsColored job.entry result }
 {
     match job {
         Job::Show {

@@ -4,14 +4,14 @@ use Rattle.report.proofs.job.perform.Goals as goal
 
 pub perform_plain-requires-clause-plain : goal.perform_plain-requires-clause-plain
 perform_plain-requires-clause-plain g c κs within =
-    is_plain c.args.job.now c.in_default.not-Show c.in_default.not-Search
+    is_plain c.args.job.now c.in_default.not-Show c.in_default.not-Races c.in_default.not-Search
 
 pub returns-in_default-clause-performs : goal.returns-in_default-clause-performs
 returns-in_default-clause-performs g c =
     let job = c.args.job.now in
     performs job c.args.module.now c.args.saved.now (changed g.W.Write.contents c.args.streams.now.out c.perform_plain.new.streams.out)
     (changed g.S.Write.contents c.args.streams.now.save c.perform_plain.new.streams.save) c.perform_plain.result
-    (is_plain job c.in_default.not-Show c.in_default.not-Search) c.perform_plain.ensures.performs
+    (is_plain job c.in_default.not-Show c.in_default.not-Races c.in_default.not-Search) c.perform_plain.ensures.performs
 
 pub returns-in-Show-clause-performs : goal.returns-in-Show-clause-performs
 returns-in-Show-clause-performs g c =
@@ -20,6 +20,16 @@ returns-in-Show-clause-performs g c =
       refused = c.show_saved.ensures.refused;
       none = c.show_saved.ensures.none;
       statuses = c.show_saved.ensures.status;
+    })
+
+pub returns-in-Races-clause-performs : goal.returns-in-Races-clause-performs
+returns-in-Races-clause-performs g c =
+    rw c.in-Races.is (record {
+      free = c.races_saved.ensures.free;
+      racy = c.races_saved.ensures.racy;
+      refused = c.races_saved.ensures.refused;
+      unfit = c.races_saved.ensures.none;
+      statuses = c.races_saved.ensures.status;
     })
 
 pub returns-in-Search-clause-performs : goal.returns-in-Search-clause-performs

@@ -1,5 +1,4 @@
-use Rattle.std.proofs.Common.{ℕ, ◌≡◌, ◌∙◌, true, IfOk, IfErr, sym, subst}
-use Rattle.std.specs.Prelude.{is_none}
+use Rattle.std.proofs.Common.{ℕ, ◌∙◌, IfOk, sym, subst}
 use Rattle.std.proofs.lemmas.Result.{IfErr-weaker, IfOk-weaker}
 use Rattle.types.specs.declared.parts.Parts.{Parts}
 use Rattle.report_jobs.specs.Arguments.{texts_in}
