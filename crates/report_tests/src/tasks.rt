@@ -32,7 +32,7 @@ fn ends(
     let out = held(alloc, b"lines of a job", rooms.0)?;
     let save = held(alloc, b"what it keeps", rooms.1)?;
     let closed = close(status, out, save);
-    let file = &b"what it keeps"[..kept];
+    let file = b"what it keeps".get(..kept).unwrap_or(b"");
     Ok(closed.lost == lost && closed.out.has_front(b"lines of a job") && closed.save.has(file))
 }
 
