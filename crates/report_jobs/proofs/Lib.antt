@@ -4,3 +4,4 @@ pub mod Spelled
 pub mod Calls
 pub mod Printed
 pub mod Asking
+pub mod Silent

@@ -4,3 +4,4 @@ pub mod Asked
 pub mod Prints
 pub mod Troubles
 pub mod Plain
+pub mod Silence

@@ -1,5 +1,5 @@
 //! Checks, runs and replays of a module's bytes: what is printed, and with which status they end.
-ghost use Rattle.std.specs.Prelude.{◌≡◌, ◌≤◌, ◌⊎◌, length, IfOk, IfErr, OnOk};
+ghost use Rattle.std.specs.Prelude.{◌≡◌, ◌≤◌, ◌⊎◌, false, length, is_some, IfOk, IfErr, OnOk};
 ghost use Rattle.std.specs.Io.KnownBytes.{Appends};
 ghost use Rattle.report_lines.specs.Lines.{functions_line};
 ghost use Rattle.types.specs.declared.limits.TheConstants.{MOST_FUEL};
@@ -7,6 +7,7 @@ ghost use Rattle.report_jobs.specs.Jobs.{IsAccepted, IsAcceptedAs, HasRun, HasNo
 ghost use Rattle.report_jobs.specs.Jobs.{IsRefused};
 ghost use Rattle.report_jobs.specs.Jobs.{IsNoValidModule, IsStatusOfRefusal, IsStatusOfUnfit};
 ghost use Rattle.report_jobs.specs.Prints.{changed};
+ghost use Rattle.report_jobs.specs.Silence.{IsRefusal, Stays, refusal_status, trouble_status, unfit_status};
 ghost use Rattle.report_jobs.specs.declared.loading.Refusal.{Refusal};
 ghost use Rattle.report_jobs.specs.Troubles.{IsStatusOfTrouble};
 
@@ -38,6 +39,7 @@ const FAULT: u8 = 5;
 pub fn check<W: Write, E: Write>(alloc: Global, bytes: &[u8], out: &mut W, err: &mut E) -> u8
     ensures accepted { result ≡ 0 → IsAccepted bytes.now (W.contents out.old) (W.contents out.new) }
     ensures refused { result ≡ 2 → IsNoValidModule bytes.now }
+    ensures silent { result ≡ 2 → Stays out.old out.new }
     ensures status { (result ≡ 0) ⊎ (result ≡ 2) ⊎ (result ≡ 5) }
 {
     match functions_in(alloc, bytes) {
@@ -85,6 +87,7 @@ fn accept<W: Write, E: Write>(functions: usize, out: &mut W, err: &mut E) -> u8
 /// Says why a module was refused, and answers the status: 2, or 5 where memory ran out.
 pub fn refuse<E: Write>(err: &mut E, refusal: Refusal) -> u8
     ensures status { (result ≡ 2) ⊎ (result ≡ 5) }
+    ensures number { result ≡ refusal_status refusal }
     ensures refused { IsStatusOfRefusal refusal result }
 {
     match refusal {
@@ -96,6 +99,7 @@ pub fn refuse<E: Write>(err: &mut E, refusal: Refusal) -> u8
 /// Says why bytes are no module's text, and answers the status.
 fn refuse_text<E: Write>(err: &mut E, fault: ReadFault) -> u8
     ensures status { (result ≡ 2) ⊎ (result ≡ 5) }
+    ensures number { result ≡ refusal_status (Refusal.Read fault) }
     ensures refused { IsStatusOfRefusal (Refusal.Read fault) result }
 {
     match fault {
@@ -114,6 +118,7 @@ fn refuse_text<E: Write>(err: &mut E, fault: ReadFault) -> u8
 /// Says why a module isn't valid, and answers the status.
 fn refuse_module<E: Write>(err: &mut E, fault: ValidFault) -> u8
     ensures status { (result ≡ 2) ⊎ (result ≡ 5) }
+    ensures number { result ≡ refusal_status (Refusal.Validity fault) }
     ensures refused { IsStatusOfRefusal (Refusal.Validity fault) result }
 {
     match fault {
@@ -153,7 +158,8 @@ fn write_functions<W: Write>(out: &mut W, count: usize) -> io::Result<()>
 /// and writes its record where one is wanted.
 ///
 /// Answers 0 where all threads ended well and 1 for a trap or stop, both only of a run that was made and printed so; 2
-/// for a refused module, 3 only where no function can be called so, and 5 where memory, a thread or a stream failed.
+/// for a refused module, 3 only where no function can be called so, and 5 where memory, a thread or a stream failed. At
+/// 2 and 3 nothing is written but to `err`, and where no record is wanted nothing to `save`.
 pub fn run<R, W, E, S>(
     rt: &R,
     alloc: Global,
@@ -173,6 +179,8 @@ where
         (changed S.contents save.old save.new) result }
     ensures refused { result ≡ 2 → IsNoValidModule «module».now }
     ensures cannot { result ≡ 3 → HasNoSuchCall «module».now job.now.call }
+    ensures silent { IsRefusal result → Stays out.old out.new × Stays save.old save.new }
+    ensures unwanted { is_some job.now.save ≡ false → Stays save.old save.new }
     ensures status { (result ≤ 3) ⊎ (result ≡ 5) }
 {
     let valid = match load(alloc, module) {
@@ -189,7 +197,8 @@ where
 /// the first `dump` bytes of the memory.
 ///
 /// Answers 0 or 1 only where the record is of a run of the module and its lines were written, 4 only where the bytes
-/// are the text of no record of a run of it, 2 for a refused module, and 5 where memory or a stream failed.
+/// are the text of no record of a run of it, 2 for a refused module, and 5 where memory or a stream failed. At 2 and 4
+/// nothing is written but to `err`.
 pub fn replay_saved<W: Write, E: Write>(
     alloc: Global,
     module: &[u8],
@@ -202,6 +211,7 @@ pub fn replay_saved<W: Write, E: Write>(
         → IsReplayed «module».now saved.now dump (W.contents out.old) (W.contents out.new) result }
     ensures refused { result ≡ 2 → IsNoValidModule «module».now }
     ensures none { result ≡ 4 → IsNoRecordOf «module».now saved.now }
+    ensures silent { IsRefusal result → Stays out.old out.new }
     ensures status { (result ≤ 2) ⊎ (result ≡ 4) ⊎ (result ≡ 5) }
 {
     let valid = match load(alloc, module) {
@@ -217,6 +227,7 @@ pub fn replay_saved<W: Write, E: Write>(
 /// Says why a record was refused, or why its lines couldn't be written, and answers the status.
 pub fn reject<E: Write>(err: &mut E, unfit: Unfit) -> u8
     ensures status { (result ≡ 4) ⊎ (result ≡ 5) }
+    ensures number { result ≡ unfit_status unfit }
     ensures unfit { IsStatusOfUnfit unfit result }
 {
     match unfit {
@@ -242,6 +253,7 @@ pub fn reject<E: Write>(err: &mut E, unfit: Unfit) -> u8
 /// Says why there was no run, or why its lines or its record couldn't be written, and answers the status.
 pub fn complain<E: Write>(err: &mut E, trouble: Trouble, path: Option<&str>) -> u8
     ensures status { (result ≡ 3) ⊎ (result ≡ 5) }
+    ensures number { result ≡ trouble_status trouble }
     ensures refused { IsStatusOfTrouble trouble result }
 {
     match trouble {

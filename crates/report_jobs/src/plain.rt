@@ -1,7 +1,9 @@
 //! The plain jobs of the command line: a check, a run and a replay.
+ghost use Rattle.std.specs.Prelude.{◌≡◌, false};
 ghost use Rattle.report_command.specs.Jobs.{IsInRange};
 ghost use Rattle.report_jobs.specs.Plain.{IsPlain, PerformsPlain};
 ghost use Rattle.report_jobs.specs.Prints.{changed};
+ghost use Rattle.report_jobs.specs.Silence.{IsRefusal, Stays, makes_file};
 
 use crate::job::{check, replay_saved, run};
 use crate::streams::Streams;
@@ -19,7 +21,8 @@ use std::thread::Threads;
 ///
 /// Answers the program's status: 0 where the module was accepted or all threads ended well, 1 for a trap or stop, 2 for
 /// a refused module, 3 for a refused run, 4 for a refused record, 5 where memory, a thread or a stream failed. A write
-/// to `err` that fails doesn't change it.
+/// to `err` that fails doesn't change it. At 2, 3 and 4 neither standard output nor the record's writer is written to
+/// or flushed, nor is that writer where no record is wanted.
 pub fn perform_plain<R, W, E, S>(
     rt: &R,
     alloc: Global,
@@ -35,8 +38,12 @@ where
     S: Write,
     requires range { IsInRange job.now }
     requires plain { IsPlain job.now }
-    ensures { PerformsPlain job.now «module».now saved.now (changed W.contents streams.old.out streams.new.out)
+    ensures performs { PerformsPlain job.now «module».now saved.now
+        (changed W.contents streams.old.out streams.new.out)
         (changed S.contents streams.old.save streams.new.save) result }
+    ensures silent { IsRefusal result → Stays streams.old.out streams.new.out
+        × Stays streams.old.save streams.new.save }
+    ensures unwanted { makes_file job.now ≡ false → Stays streams.old.save streams.new.save }
 {
     let Streams { out, err, save } = streams;
     match job {

@@ -3,6 +3,7 @@ ghost use Rattle.std.specs.Prelude.{IfOk, IfErr};
 ghost use Rattle.replay_text.specs.Text.{IsRecord};
 ghost use Rattle.report_jobs.specs.Jobs.{PrintsReplay, PrintsReplayOf, IsUnfit, IsUnfitFor, IsUnfitTextOf};
 ghost use Rattle.report_jobs.specs.Prints.{changed};
+ghost use Rattle.report_jobs.specs.Silence.{LeavesOut, Stays};
 
 use crate::running::print;
 use replay::{ReplayFault, replay};
@@ -36,6 +37,7 @@ pub(crate) fn replay_record<W: Write>(
     ensures prints { IfOk result (PrintsReplay «module».now.parts saved.now dump (W.contents out.old)
         (W.contents out.new)) }
     ensures unfit { IfErr result (IsUnfit «module».now.parts saved.now) }
+    ensures silent { IfErr result (λ e. LeavesOut e (Stays out.old out.new)) }
 {
     match read_record(alloc, saved) {
         Ok(record) => {
@@ -60,6 +62,7 @@ fn print_replay<W: Write>(
     ensures prints { IfOk result
         (PrintsReplayOf «module».now.parts recorded.now dump (changed W.contents out.old out.new)) }
     ensures unfit { IfErr result (IsUnfitTextOf «module».now.parts recorded.now) }
+    ensures silent { IfErr result (λ e. LeavesOut e (Stays out.old out.new)) }
 {
     match replay(alloc, module, recorded) {
         Ok(end) => match print(out, &end, dump) {

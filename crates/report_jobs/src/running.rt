@@ -1,10 +1,11 @@
 //! Runs of modules by the program: over which memory, and what is printed.
-ghost use Rattle.std.specs.Prelude.{◌≡◌, ◌≤◌, ◌⊎◌, true, false, map, is_some, IfOk, IfErr, OnOk};
+ghost use Rattle.std.specs.Prelude.{◌≡◌, ◌≤◌, ◌⊎◌, true, false, map, is_some, IfOk, IfErr, IsOk, OnOk};
 ghost use Rattle.std.specs.Io.KnownBytes.{Appends};
 ghost use Rattle.types.specs.declared.limits.TheConstants.{MOST_FUEL};
 ghost use Rattle.validate_typing.specs.Validity.{HasDistinctNames};
 ghost use Rattle.report_jobs.specs.Asked.{IsAskedBy};
 ghost use Rattle.report_jobs.specs.Prints.{WriterChange, changed, Prints, PrintsRun, PrintsAndKeeps, KeepsRecord};
+ghost use Rattle.report_jobs.specs.Silence.{Leaves, Stays};
 ghost use Rattle.report_jobs.specs.Troubles.{IsTroubleOf, IsUnwritten, AreArgumentsOf, trouble_of};
 ghost use Rattle.report_jobs.specs.Troubles.{trouble_of_recording};
 ghost use Rattle.report_jobs.specs.declared.running.Trouble.TheVariants as troubles;
@@ -154,6 +155,8 @@ where
     ensures made { IfOk result (PrintsRun «module».now.parts job.now (changed W.contents out.old out.new)
         (changed S.contents save.old save.new)) }
     ensures trouble { IfErr result (IsTroubleOf «module».now.parts job.now.call) }
+    ensures silent { IfErr result (λ e. Leaves e (Stays out.old out.new) (Stays save.old save.new)) }
+    ensures unwanted { is_some job.now.save ≡ false → Stays save.old save.new }
 {
     let args = args_of(alloc, module, &job.call)?;
     let request = request_of(module, &job.call, &args);
@@ -180,6 +183,7 @@ where
     ensures made { IfOk result (λ status. (saved : WriterChange) → PrintsRun request.now.parts job.now
         (changed W.contents out.old out.new) saved status) }
     ensures trouble { IfErr result (IsTroubleOf request.now.parts job.now.call) }
+    ensures silent { IfErr result (λ e. Leaves e (Stays out.old out.new) (Unit {0})) }
 {
     let end = run_request_on_words(rt, alloc, request, &mut OpenGate)?;
     print(out, &end, job.dump)
@@ -204,6 +208,8 @@ where
     ensures made { IfOk result (PrintsRun request.now.parts job.now (changed W.contents out.old out.new)
         (changed S.contents save.old save.new)) }
     ensures trouble { IfErr result (IsTroubleOf request.now.parts job.now.call) }
+    ensures silent { IfErr result (λ e. Leaves e (Stays out.old out.new) (Stays save.old save.new)) }
+    ensures unwanted { is_some job.now.save ≡ false → Stays save.old save.new }
 {
     let (record, end) = record_request(rt, alloc, request, job.limit, &mut OpenGate)?;
     let status = print_and_keep(&record, &end, job, out, save);
@@ -223,6 +229,8 @@ fn print_and_keep<W: Write, S: Write>(
     ensures made { IfOk result (PrintsAndKeeps job.now recorded.now end.now
         (changed W.contents out.old out.new) (changed S.contents save.old save.new)) }
     ensures trouble { IfErr result IsUnwritten }
+    ensures silent { IfErr result (λ e. Leaves e (Stays out.old out.new) (Stays save.old save.new)) }
+    ensures unwanted { is_some job.now.save ≡ false → Stays save.old save.new }
 {
     let status = print(out, end, job.dump)?;
     keep(recorded, job.save.is_some(), save)?;
@@ -240,16 +248,19 @@ pub fn print<W: Write>(out: &mut W, end: &EndState, dump: u32) -> Result<u8, Tro
     }
 }
 
-/// Writes a record to its file, where it is wanted.
+/// Writes a record to its file, where it is wanted; where it isn't the file's writer stays as it is. What a buffer
+/// holds back of it is handed on by whoever made the buffer.
 pub fn keep<S: Write>(record: &Record, is_wanted: bool, save: &mut S) -> Result<(), Trouble>
     ensures kept { OnOk result (KeepsRecord is_wanted (changed S.contents save.old save.new) «record».now) }
     ensures save { IfErr result (λ trouble. trouble ≡ troubles.Save) }
+    ensures unwanted { is_wanted ≡ false → Stays save.old save.new }
+    ensures sure { is_wanted ≡ false → IsOk result }
 {
     if !is_wanted {
         return Ok(());
     }
-    if write_record(record, save).is_err() || save.flush().is_err() {
-        return Err(Trouble::Save);
+    match write_record(record, save) {
+        Ok(()) => Ok(()),
+        Err(_) => Err(Trouble::Save),
     }
-    Ok(())
 }

@@ -2,6 +2,8 @@
 
 ghost use Rattle.std.specs.Prelude.{IfOk};
 ghost use Rattle.report_command.specs.Jobs.{IsInRange};
+ghost use Rattle.report_command.specs.Options.{texts_in};
+ghost use Rattle.report_program.specs.Coloring.{IsColored, IsColoredOrderOf};
 
 use report_command::{Color, Job, Look, Misuse, Order, Usage, asked, misused};
 use std::env;
@@ -31,7 +33,8 @@ fn color_on(color: Color, is_terminal: bool) -> Color {
 /// The job, with colors as standard output takes them.
 fn colored<'a>(job: Job<'a>, is_terminal: bool) -> Job<'a>
     requires { IsInRange job }
-    ensures { IsInRange result }
+    ensures range { IsInRange result }
+    ensures same { IsColored job result }
 {
     match job {
         Job::Show {
@@ -69,7 +72,8 @@ fn colored<'a>(job: Job<'a>, is_terminal: bool) -> Job<'a>
 /// # Errors
 /// As those of `report_command::asked`.
 pub fn order_of<'a>(rt: &HostRuntime, words: &'a [&'a str]) -> Result<Order<'a>, Usage>
-    ensures { IfOk result (λ order. IsInRange order.job) }
+    ensures range { IfOk result (λ order. IsInRange order.job) }
+    ensures asks { IfOk result (IsColoredOrderOf (texts_in words.now)) }
 {
     match asked(rt.alloc(), words) {
         Ok(Order { job, explain }) => Ok(Order {

@@ -1,9 +1,10 @@
 //! A job with its files and streams.
 
+use crate::closing::{Closed, Lost, close};
 use crate::copied::Copied;
 use crate::input::{Input, read};
 use crate::stop::Stop;
-use crate::telling::{tell, tell_file_fault};
+use crate::telling::{tell, tell_file_fault, tell_output_fault};
 use crate::{Noted, SavePlace, SavedFile, is_one_file};
 use report_command::{Job, Misuse, RunJob, Search, misused};
 use report_jobs::Streams;
@@ -151,15 +152,26 @@ pub fn open_task<'a, W: Write + Drop>(
 }
 
 impl<W: Write + Drop> Task<'_, W> {
-    /// Says what went wrong, and keeps the file that the job made, if it came to a status with which there is one.
-    /// Answers the status.
+    /// Hands on what the job wrote, says what went wrong, and keeps the file that it made, if it came to a status with
+    /// which there is one. Answers the status: the job's, or 5 where a stream didn't get all.
     pub fn end(self, rt: &HostRuntime, job: &Job, status: u8) -> u8 {
         let Task { streams, .. } = self;
         let Streams { out, err, save } = streams;
-        if !out.get_ref().stream().is_closed() {
+        let Closed { out, save, lost } = close(status, out, save);
+        let is_closed = out.stream().is_closed();
+        if !is_closed {
             tell(rt, &err);
         }
-        let (save, _) = save.into_parts();
-        finish(rt, job, status, save)
+        match lost {
+            None => finish(rt, job, status, save),
+            Some(Lost::Lines) => {
+                save.give_up();
+                tell_output_fault(rt, is_closed)
+            }
+            Some(Lost::File) => {
+                save.give_up();
+                tell_file_fault(rt, record_of(job).unwrap_or(""))
+            }
+        }
     }
 }

@@ -37,7 +37,7 @@ pub(crate) fn tell_file_fault(rt: &HostRuntime, path: &str) -> u8 {
 }
 
 /// Says that standard output failed, unless nobody is left to read it, and answers the status.
-fn tell_output_fault(rt: &HostRuntime, is_closed: bool) -> u8 {
+pub(crate) fn tell_output_fault(rt: &HostRuntime, is_closed: bool) -> u8 {
     if !is_closed {
         tell(rt, b"file fault: standard output\n");
     }

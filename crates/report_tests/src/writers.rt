@@ -39,14 +39,14 @@ fn adding(alloc: Global) -> RunJob<'static>
 
 /// A writer that takes so many bytes, at most so many of them at once, and then answers an error.
 #[derive(Drop)]
-struct Narrow {
+pub(crate) struct Narrow {
     room: usize,
     at_once: usize,
     taken: Vec<u8>,
 }
 
 impl Narrow {
-    fn new(alloc: Global, room: usize, at_once: usize) -> Narrow {
+    pub(crate) fn new(alloc: Global, room: usize, at_once: usize) -> Narrow {
         Narrow {
             room,
             at_once,
@@ -55,8 +55,13 @@ impl Narrow {
     }
 
     /// Whether it took the front of the text for which it has room.
-    fn has_front(&self, text: &[u8]) -> bool {
+    pub(crate) fn has_front(&self, text: &[u8]) -> bool {
         Some(self.taken.as_slice()) == text.get(..self.room.min(text.len()))
+    }
+
+    /// Whether it took this text.
+    pub(crate) fn has(&self, text: &[u8]) -> bool {
+        self.taken.as_slice() == text
     }
 }
 

@@ -6,15 +6,15 @@ pub perform_plain-requires-clause-plain : goal.perform_plain-requires-clause-pla
 perform_plain-requires-clause-plain g c κs within =
     is_plain c.args.job.now c.in_default.not-Show c.in_default.not-Search
 
-pub returns-in_default : goal.returns-in_default
-returns-in_default g c =
+pub returns-in_default-clause-performs : goal.returns-in_default-clause-performs
+returns-in_default-clause-performs g c =
     let job = c.args.job.now in
     performs job c.args.module.now c.args.saved.now (changed g.W.Write.contents c.args.streams.now.out c.perform_plain.new.streams.out)
     (changed g.S.Write.contents c.args.streams.now.save c.perform_plain.new.streams.save) c.perform_plain.result
-    (is_plain job c.in_default.not-Show c.in_default.not-Search) c.perform_plain.ensures
+    (is_plain job c.in_default.not-Show c.in_default.not-Search) c.perform_plain.ensures.performs
 
-pub returns-in-Show : goal.returns-in-Show
-returns-in-Show g c =
+pub returns-in-Show-clause-performs : goal.returns-in-Show-clause-performs
+returns-in-Show-clause-performs g c =
     rw c.in-Show.is (record {
       shown = c.show_saved.ensures.shown;
       refused = c.show_saved.ensures.refused;
@@ -22,8 +22,8 @@ returns-in-Show g c =
       statuses = c.show_saved.ensures.status;
     })
 
-pub returns-in-Search : goal.returns-in-Search
-returns-in-Search g c =
+pub returns-in-Search-clause-performs : goal.returns-in-Search-clause-performs
+returns-in-Search-clause-performs g c =
     rw c.in-Search.is (record {
       made = c.search.ensures.made;
       refused = c.search.ensures.refused;

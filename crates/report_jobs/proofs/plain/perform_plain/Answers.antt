@@ -1,7 +1,7 @@
 use Rattle.report_jobs.proofs.plain.perform_plain.Goals as goal
 
-pub returns-in-Run : goal.returns-in-Run
-returns-in-Run g c =
+pub returns-in-Run-clause-performs : goal.returns-in-Run-clause-performs
+returns-in-Run-clause-performs g c =
     rw c.in-Run.is (record {
       made = c.run.ensures.made;
       refused = c.run.ensures.refused;
@@ -9,8 +9,8 @@ returns-in-Run g c =
       statuses = c.run.ensures.status;
     })
 
-pub returns-in-Replay : goal.returns-in-Replay
-returns-in-Replay g c =
+pub returns-in-Replay-clause-performs : goal.returns-in-Replay-clause-performs
+returns-in-Replay-clause-performs g c =
     rw c.in-Replay.is (record {
       replayed = c.replay_saved.ensures.replayed;
       refused = c.replay_saved.ensures.refused;

@@ -1,0 +1,54 @@
+-- What a job that is refused leaves as it was, by the fault that refuses it.
+use Rattle.std.proofs.Common.{◌≡◌, ◌≤◌, ℕ, arith}
+use Rattle.std.specs.Prelude.{IfErr, Result, Ok, Err}
+use Rattle.report_jobs.specs.declared.replaying.Unfit.{Unfit}
+use Rattle.report_jobs.specs.declared.replaying.Unfit.TheVariants as unfits
+use Rattle.report_jobs.specs.declared.running.Trouble.{Trouble}
+use Rattle.report_jobs.specs.declared.running.Trouble.TheVariants as troubles
+use Rattle.report_jobs.specs.Silence.{Leaves, LeavesOut, IsRefusal, trouble_status, unfit_status}
+
+module _ (A B : Type 0) where
+  -- the troubles of a refusal leave both
+  pub of_trouble : (t : Trouble) (n : ℕ) → n ≡ trouble_status t → Leaves t A B → IsRefusal n → A × B
+  of_trouble (troubles.Call fault) n is left low = left
+  of_trouble troubles.NoThread n is left low = left
+  of_trouble troubles.NoMemory n is left low = left
+  of_trouble troubles.Output n is left low = absurd (omega (arith, is, low.1))
+  of_trouble troubles.Save n is left low = absurd (omega (arith, is, low.1))
+
+  -- a trouble leaves what stays
+  pub of_all : (t : Trouble) → A → B → Leaves t A B
+  of_all (troubles.Call fault) a b = (a, b)
+  of_all troubles.NoThread a b = (a, b)
+  of_all troubles.NoMemory a b = (a, b)
+  of_all troubles.Output a b = b
+  of_all troubles.Save a b = tt
+
+  -- so it does where nothing was known of the second
+  pub of_first : (t : Trouble) → Leaves t A (Unit {0}) → B → Leaves t A B
+  of_first (troubles.Call fault) left b = (left.0, b)
+  of_first troubles.NoThread left b = (left.0, b)
+  of_first troubles.NoMemory left b = (left.0, b)
+  of_first troubles.Output left b = b
+  of_first troubles.Save left b = tt
+
+  pub of_err : (r : Result ℕ Trouble) → A → B → IfErr r (λ t. Leaves t A B)
+  of_err (Ok status) a b = tt
+  of_err (Err t) a b = of_all t a b
+
+  pub of_first_err : (r : Result ℕ Trouble) → IfErr r (λ t. Leaves t A (Unit {0})) → B → IfErr r (λ t. Leaves t A B)
+  of_first_err (Ok status) left b = tt
+  of_first_err (Err t) left b = of_first t left b
+
+module _ (A : Type 0) where
+  pub of_unfit : (u : Unfit) (n : ℕ) → n ≡ unfit_status u → LeavesOut u A → IsRefusal n → A
+  of_unfit (unfits.Unread fault) n is left low = left
+  of_unfit (unfits.Misfit fault) n is left low = left
+  of_unfit unfits.NoMemory n is left low = left
+  of_unfit unfits.Output n is left low = absurd (omega (arith, is, low.1))
+
+  pub of_all_out : (u : Unfit) → A → LeavesOut u A
+  of_all_out (unfits.Unread fault) a = a
+  of_all_out (unfits.Misfit fault) a = a
+  of_all_out unfits.NoMemory a = a
+  of_all_out unfits.Output a = tt

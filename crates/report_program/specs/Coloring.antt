@@ -1,0 +1,27 @@
+-- What a command line asks for, with colors as standard output takes them.
+use Rattle.std.specs.Prelude.{ℕ, ◌≡◌, List}
+use Rattle.report_choice.specs.declared.choice.Look.{Look}
+use Rattle.report_command.specs.declared.command_line.Job.{Job}
+use Rattle.report_command.specs.declared.command_line.Job.TheVariants.{Check, Run, Replay, Show, Search}
+use Rattle.report_command.specs.declared.command_line.Order.{Order}
+use Rattle.report_command.specs.Options.{IsAskedBy}
+
+-- A look that differs in nothing but when threads have colors.
+abbrev pub IsRecolored : Look → Look → Type 0
+IsRecolored old new = (new.choice ≡ old.choice) × (new.width ≡ old.width)
+
+-- The same job, but for the look of a show.
+abbrev pub IsColored : Job → Job → Type 0
+IsColored (Show file saved names look view) new =
+    (colored : Look) × (new ≡ Show file saved names colored view) × IsRecolored look colored
+IsColored (Check file) new = new ≡ Check file
+IsColored (Run job) new = new ≡ Run job
+IsColored (Replay file saved dump) new = new ≡ Replay file saved dump
+IsColored (Search s) new = new ≡ Search s
+
+-- What the words ask for, but for colors.
+pub record IsColoredOrderOf (words : List (List ℕ)) (new : Order) : Type 0 where
+  pub order : Order
+  pub asked : IsAskedBy words order
+  pub explain : new.explain ≡ order.explain
+  pub job : IsColored order.job new.job

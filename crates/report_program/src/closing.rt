@@ -1,0 +1,60 @@
+//! The streams of a job that was done: what they hold back is handed on, or it is known that it wasn't.
+ghost use Rattle.std.specs.Prelude.{◌≡◌, ◌≤◌, ◌<◌, OnOk, None, Some};
+ghost use Rattle.report_program.specs.Closing.{HasAll, HasNoMore};
+ghost use Rattle.report_program.specs.declared.closing.Lost.TheVariants.{Lines};
+
+use std::io::{self, BufWriter, Write};
+
+/// Which stream didn't get all that was written to its buffer.
+#[derive(Clone, Copy, PartialEq, Eq, Debug)]
+pub enum Lost {
+    /// Standard output.
+    Lines,
+    /// The file that the job makes.
+    File,
+}
+
+/// What is left of a job's streams.
+#[derive(Drop)]
+pub struct Closed<W, S> {
+    pub out: W,
+    pub save: S,
+    pub lost: Option<Lost>,
+}
+
+/// The stream behind a buffer, and whether it got all that was written to that.
+fn hand_on<W: Write + Drop>(buffer: BufWriter<W>) -> (W, io::Result<()>)
+    ensures { OnOk result.1 (HasAll W.contents buffer result.0) }
+{
+    let mut buffer = buffer;
+    let flushed = buffer.flush();
+    let (stream, _) = buffer.into_parts();
+    (stream, flushed)
+}
+
+/// Hands on the lines of a job that came to this status, and behind them what it wrote to the file that it makes; of a
+/// job that made none, which has a status above 1, the file gets nothing more.
+pub fn close<W: Write + Drop, S: Write + Drop>(
+    status: u8,
+    out: BufWriter<W>,
+    save: BufWriter<S>,
+) -> Closed<W, S>
+    ensures lines { status ≤ 1 → result.lost ≡ None → HasAll W.contents out result.out }
+    ensures file { status ≤ 1 → result.lost ≡ None → HasAll S.contents save result.save }
+    ensures refused { 1 < status → HasNoMore save result.save }
+    ensures behind { result.lost ≡ Some Lines → HasNoMore save result.save }
+{
+    let (out, lines) = hand_on(out);
+    if status > 1 || lines.is_err() {
+        let (save, _) = save.into_parts();
+        let lost = if status > 1 { None } else { Some(Lost::Lines) };
+        return Closed { out, save, lost };
+    }
+    let (save, file) = hand_on(save);
+    let lost = if file.is_err() {
+        Some(Lost::File)
+    } else {
+        None
+    };
+    Closed { out, save, lost }
+}

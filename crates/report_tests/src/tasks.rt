@@ -1,0 +1,167 @@
+//! What a job's streams get when it ends, which files it leaves, and which it reads.
+
+use crate::room::{count_in, make_room, path_in};
+use crate::writers::Narrow;
+use report_command::{CallWords, Job, RunJob, command};
+use report_program::{Lost, close, open_task};
+use std::alloc::Global;
+use std::fs;
+use std::io::{self, BufWriter, Write};
+use std::os::unix::fs::symlink;
+use std::path::PathBuf;
+use std::test::Fail;
+use test_cases::hold;
+use test_modules::ATOMIC_ADD;
+
+/// A buffer in which a text is held back, before a writer with so much room.
+fn held(alloc: Global, text: &[u8], room: usize) -> io::Result<BufWriter<Narrow>> {
+    let mut buffer = BufWriter::with_capacity(alloc, 64, Narrow::new(alloc, room, 7))?;
+    buffer.write_all(text)?;
+    Ok(buffer)
+}
+
+/// Ends a job of this status that wrote both texts, before writers with so much room. Answers whether this is lost, and
+/// the file got so many bytes.
+fn ends(
+    alloc: Global,
+    status: u8,
+    rooms: (usize, usize),
+    lost: Option<Lost>,
+    kept: usize,
+) -> io::Result<bool> {
+    let out = held(alloc, b"lines of a job", rooms.0)?;
+    let save = held(alloc, b"what it keeps", rooms.1)?;
+    let closed = close(status, out, save);
+    let file = &b"what it keeps"[..kept];
+    Ok(
+        closed.lost == lost
+            && closed.out.has_front(b"lines of a job")
+            && closed.save.has(file),
+    )
+}
+
+#[test]
+fn what_is_held_back_gets_out_or_is_lost(rt: HostRuntime) -> Result<(), Fail> {
+    let alloc = rt.alloc();
+    hold(&[
+        ("all gets out", ends(alloc, 0, (64, 64), None, 13)?),
+        ("at status 1 too", ends(alloc, 1, (64, 64), None, 13)?),
+        (
+            "no room for the lines",
+            ends(alloc, 0, (13, 64), Some(Lost::Lines), 0)?,
+        ),
+        (
+            "no room for the file",
+            ends(alloc, 0, (64, 12), Some(Lost::File), 12)?,
+        ),
+        ("a refusal keeps nothing", ends(alloc, 4, (64, 64), None, 0)?),
+    ])
+}
+
+/// A run of the module at a path, with its record at another one.
+fn running<'a>(alloc: Global, file: &'a str, save: &'a str) -> Job<'a> {
+    Job::Run(RunJob {
+        file,
+        call: CallWords {
+            invoke: "f",
+            args: Vec::new(alloc),
+            fuel: 1000,
+        },
+        on_words: false,
+        limit: 1000,
+        save: Some(save),
+        dump: 0,
+    })
+}
+
+/// Ends a run with this status that wrote a record, where standard output has so much room. Answers the status, if it
+/// was begun.
+fn end_with(rt: &HostRuntime, job: &Job, status: u8, room: usize) -> Result<u8, Fail> {
+    let stdout = Narrow::new(rt.alloc(), room, 64);
+    let mut task = match open_task(rt, stdout, job, false) {
+        Ok(task) => task,
+        Err(status) => return Ok(status),
+    };
+    task.streams.out.write_all(b"lines")?;
+    task.streams.save.write_all(b"a record")?;
+    Ok(task.end(rt, job, status))
+}
+
+/// Whether the record is there, with its text, beside the module.
+fn is_kept(rt: &HostRuntime, room: &PathBuf, path: &str) -> Result<bool, Fail> {
+    match fs::read_to_string(rt, path) {
+        Ok(text) => Ok(text.as_str() == "a record" && count_in(rt, room)? == 2),
+        Err(_) => Ok(false),
+    }
+}
+
+/// Ends runs in a room with a module.
+fn end_all(rt: &HostRuntime, room: &PathBuf, file: &str, path: &str) -> Result<(), Fail> {
+    let job = running(rt.alloc(), file, path);
+    hold(&[
+        ("a refusal", end_with(rt, &job, 4, 64)? == 4),
+        ("it leaves no record", count_in(rt, room)? == 1),
+        ("no room for the lines", end_with(rt, &job, 0, 4)? == 5),
+        ("they leave no record", count_in(rt, room)? == 1),
+        ("a trap", end_with(rt, &job, 1, 64)? == 1),
+        ("its record", is_kept(rt, room, path)?),
+    ])
+}
+
+#[test]
+fn a_record_is_kept_where_the_lines_are_out(rt: HostRuntime) -> Result<(), Fail> {
+    let room = make_room(&rt, "tasks")?;
+    let file = path_in(&rt, &room, "a.wasm")?;
+    let path = path_in(&rt, &room, "a.record")?;
+    fs::write(&rt, file.as_str(), ATOMIC_ADD)?;
+    end_all(&rt, &room, &file, &path)?;
+    Ok(fs::remove_dir_all(&rt, room.as_path())?)
+}
+
+/// The status of a run whose record would go to a link to its module.
+fn status_of_link(rt: &HostRuntime, file: &str, link: &str) -> Result<u8, Fail> {
+    symlink(rt, file, link)?;
+    let job = running(rt.alloc(), file, link);
+    end_with(rt, &job, 0, 64)
+}
+
+#[test]
+fn a_link_to_the_module_takes_no_record(rt: HostRuntime) -> Result<(), Fail> {
+    let room = make_room(&rt, "module-link")?;
+    let file = path_in(&rt, &room, "a.wasm")?;
+    let link = path_in(&rt, &room, "a.link")?;
+    fs::write(&rt, file.as_str(), ATOMIC_ADD)?;
+    let status = status_of_link(&rt, &file, &link)?;
+    let stays = fs::read(&rt, file.as_str())?.as_slice() == ATOMIC_ADD;
+    hold(&[("the status", status == 3), ("the module stays", stays)])?;
+    Ok(fs::remove_dir_all(&rt, room.as_path())?)
+}
+
+/// Whether a show reads the names of a file, and has none where no file is named.
+fn reads_names(rt: &HostRuntime, file: &str, names: &str) -> Result<bool, Fail> {
+    let with = ["wathread", "show", file, file, "--names", names];
+    let without = ["wathread", "show", file, file];
+    let (Ok(named), Ok(plain)) = (command(rt.alloc(), &with), command(rt.alloc(), &without)) else {
+        return Ok(false);
+    };
+    let stdout = || Narrow::new(rt.alloc(), 64, 64);
+    let (Ok(named), Ok(plain)) = (
+        open_task(rt, stdout(), &named, false),
+        open_task(rt, stdout(), &plain, false),
+    ) else {
+        return Ok(false);
+    };
+    let found = named.input.names.as_deref() == Some(b"names".as_slice());
+    Ok(found && plain.input.names.is_none())
+}
+
+#[test]
+fn a_show_reads_the_file_that_has_the_names(rt: HostRuntime) -> Result<(), Fail> {
+    let room = make_room(&rt, "names")?;
+    let file = path_in(&rt, &room, "a.wasm")?;
+    let names = path_in(&rt, &room, "b.wasm")?;
+    fs::write(&rt, file.as_str(), ATOMIC_ADD)?;
+    fs::write(&rt, names.as_str(), "names")?;
+    hold(&[("the names", reads_names(&rt, &file, &names)?)])?;
+    Ok(fs::remove_dir_all(&rt, room.as_path())?)
+}
