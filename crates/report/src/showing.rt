@@ -1,5 +1,6 @@
 //! The entries of a record by the program, in words: what is printed, or why there is nothing to print.
-ghost use Rattle.std.specs.Prelude.{◌≡◌, ◌⊎◌, ℕ, List, IfOk, IfErr};
+ghost use Rattle.std.specs.Prelude.{◌≡◌, ◌⊎◌, ℕ, List, IsSome, IsNone, IfOk, IfErr};
+ghost use Rattle.report_command.specs.Views.{path_of};
 ghost use Rattle.types.specs.declared.parts.Parts.{Parts};
 ghost use Rattle.spawn_host.specs.declared.end.EndState.{EndState};
 ghost use Rattle.replay.specs.Runs.{IsRunOf, ShowsNoRun};
@@ -37,13 +38,15 @@ pub fn show_saved<W: Write, E: Write, S: Write>(
     ensures refused { result ≡ 2 → IsNoValidModule «module».now }
     ensures none { result ≡ 4 → IsNoRecordOf «module».now saved.now }
     ensures status { (result ≡ 0) ⊎ (result ≡ 2) ⊎ (result ≡ 4) ⊎ (result ≡ 5) }
+    ensures own_file { IsSome (path_of view) → streams.new.out ≡ streams.old.out }
+    ensures no_file { IsNone (path_of view) → streams.new.save ≡ streams.old.save }
 {
     let Streams { out, err, save } = streams;
     let code = CodeBytes { module, names };
-    if view.path().is_some() {
-        return show_to(alloc, code, saved, look, view, save, err);
+    match view.path() {
+        Some(_) => show_to(alloc, code, saved, look, view, save, err),
+        None => show_to(alloc, code, saved, look, view, out, err),
     }
-    show_to(alloc, code, saved, look, view, out, err)
 }
 
 /// The same on one of the streams.

@@ -27,7 +27,7 @@ pub struct OpenFunction<'a> {
 }
 
 /// A copy.
-fn copied<T: Copy>(alloc: Global, items: &[T]) -> Result<Vec<T>, AllocError>
+pub(crate) fn copied<T: Copy>(alloc: Global, items: &[T]) -> Result<Vec<T>, AllocError>
     ensures { IfOk result (λ v. v.items ≡ items.now) }
 {
     let mut all = Vec::with_capacity(alloc, items.len())?;
@@ -44,10 +44,11 @@ pub(crate) fn standing_of(alloc: Global, thread: &Thread) -> Result<ThreadSnapsh
 {
     let open = thread.callers();
     let callers = copied(alloc, open)?;
+    let kept = thread.keep(alloc)?;
     Ok(ThreadSnapshot {
         place: thread.place(),
         callers,
-        kept: thread.keep(alloc)?,
+        kept,
     })
 }
 

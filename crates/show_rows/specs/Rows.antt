@@ -1,6 +1,10 @@
--- What a row says of a thread.
-use Rattle.std.specs.Prelude.{ℕ, ◌≡◌, ◌<◌, length, Some}
+-- What a row says of a thread, and which rows are made.
+use Rattle.std.specs.Prelude.{ℕ, ◌≡◌, ◌∷◌, zero, suc, List, Option, Some, None, slice_set}
 use Rattle.std.specs.List.{slice_get}
+use Rattle.types.specs.declared.event.Event.{Event}
+use Rattle.types.specs.declared.event.Event.TheVariants.{Ask}
+use Rattle.types.specs.declared.event.Question.TheVariants.{Leave}
+use Rattle.types.specs.declared.event.Entry.{Entry}
 use Rattle.schedule.specs.Machine.{Thread.Runs}
 use Rattle.interp_machine.specs.Config.{Config}
 use Rattle.interp_machine.specs.State.{At}
@@ -17,10 +21,49 @@ StandsThere thread row =
     (c : Config) (left : ℕ) → StandsFor thread (Runs (At c) left)
     → IsAtPlace thread.parts.now row.place.function row.place.instr c
 
--- What rows make of what they see of a walk: how far it came; and the row of the entry that comes next is where the
--- thread stands that wants its event.
+-- The rows are those before but for this one, which is where the thread stands. Behind the last one there is none.
+abbrev pub SetsRow : Thread → ℕ → List (Option Row) → List (Option Row) → Type 0
+SetsRow thread at old new = (row : Row) × StandsThere thread row × (new ≡ slice_set old at (Some row))
+
+-- Of the thread with a number, if there is one.
+abbrev pub SetsRowOf : Option Thread → ℕ → List (Option Row) → List (Option Row) → Type 0
+SetsRowOf None at old new = new ≡ old
+SetsRowOf (Some thread) at old new = SetsRow thread at old new
+
+-- An entry has a row where its thread stands among these; where there is no entry nothing changes.
+abbrev pub SeesThread : List Thread → Option Entry → ℕ → List (Option Row) → List (Option Row) → Type 0
+SeesThread threads None at old new = new ≡ old
+SeesThread threads (Some entry) at old new = SetsRowOf (slice_get threads entry.thread) at old new
+
+-- A leave has its row where its thread has ended, and no other entry is seen from behind.
+abbrev pub SeesLeft : List Thread → Option Entry → Event → ℕ → List (Option Row) → List (Option Row) → Type 0
+SeesLeft threads entry (Ask Leave) at old new = SeesThread threads entry at old new
+SeesLeft threads entry event at old new = new ≡ old
+
+abbrev pub SeesBehind : List Thread → Option Entry → ℕ → List (Option Row) → List (Option Row) → Type 0
+SeesBehind threads None at old new = new ≡ old
+SeesBehind threads (Some entry) at old new = SeesLeft threads (Some entry) entry.event at old new
+
+abbrev pub SeesLast : List Thread → List Entry → ℕ → List (Option Row) → List (Option Row) → Type 0
+SeesLast threads log zero old new = new ≡ old
+SeesLast threads log (suc last) old new = SeesBehind threads (slice_get log last) last old new
+
+-- Behind so many entries: the next entry is seen where its thread is, and the last one if it is a leave.
+pub record SeesRound (old : Rows) (entries : ℕ) (threads : List Thread) (new : Rows) : Type 0 where
+  pub log : new.log ≡ old.log
+  pub came : new.came ≡ entries
+  pub between : List (Option Row)
+  pub next : SeesThread threads (slice_get old.log.now entries) entries old.rows.items between
+  pub last : SeesLast threads old.log.now entries between new.rows.items
+
+-- The row of the entry that comes next is where the thread stands that wants its event; the others stay.
+pub record SeesWanted (old : Rows) (thread : Thread) (new : Rows) : Type 0 where
+  pub log : new.log ≡ old.log
+  pub came : new.came ≡ old.came
+  pub sets : SetsRow thread old.came old.rows.items new.rows.items
+
+-- What rows make of what they see of a walk.
 abbrev pub RowsSee : Rows → Sight Thread → Rows → Type 0
-RowsSee old (Came entries walk) new = new.came ≡ entries
+RowsSee old (Came entries walk) new = SeesRound old entries walk.threads.items new
 RowsSee old (Settled n turn) new = new ≡ old
-RowsSee old (Wanted entry thread memory) new = old.came < length old.rows.items
-    → (row : Row) × (slice_get new.rows.items old.came ≡ Some (Some row)) × StandsThere thread row
+RowsSee old (Wanted entry thread memory) new = SeesWanted old thread new

@@ -1,9 +1,8 @@
 //! A row for each entry of a log.
 
-ghost use Rattle.std.specs.Prelude.{◌≡◌, ◌<◌, length, replicate, Some, None, IfOk};
+ghost use Rattle.std.specs.Prelude.{◌≡◌, length, replicate, None, IfOk};
 ghost use Rattle.std.specs.List.{slice_get};
-ghost use Rattle.show_rows.specs.declared.rows.Row.{Row};
-ghost use Rattle.show_rows.specs.Rows.{StandsThere};
+ghost use Rattle.show_rows.specs.Rows.{StandsThere, SetsRow, SeesThread, SeesLast, SeesRound, SeesWanted};
 
 use interp::{CodePlace, Thread};
 use interp_trait::Turn;
@@ -73,20 +72,38 @@ fn number_before(bytes: &[u8], event: Event) -> Option<u64> {
     Some(number)
 }
 
-impl Rows<'_> {
-    /// Gives the entry of this number a row: where its thread stands.
-    fn see(&mut self, at: usize, threads: &[Thread])
-        ensures { self.new.came ≡ self.old.came }
+/// Gives the entry of this number a row: where its thread stands.
+fn see(rows: &mut [Option<Row>], log: &[Entry], at: usize, threads: &[Thread])
+    ensures { SeesThread threads.now (slice_get log.now at) at rows.old rows.new }
+{
+    let Some(entry) = log.get(at) else {
+        return;
+    };
+    let Some(thread) = threads.get(entry.thread as usize) else {
+        return;
+    };
+    set_row(rows, at, thread, None);
+}
+
+/// Sets the row of this number, if there is one, to where the thread stands.
+fn set_row(rows: &mut [Option<Row>], at: usize, thread: &Thread, before: Option<u64>)
+    ensures { SetsRow thread.now at rows.old rows.new }
+{
+    let row = row_of(thread, before);
+    if let Some(place) = rows.get_mut(at) {
+        *place = Some(row);
+    }
+}
+
+/// Gives the last of so many entries a row, if it is a leave: where its thread has ended.
+fn see_last(rows: &mut [Option<Row>], log: &[Entry], entries: usize, threads: &[Thread])
+    ensures { SeesLast threads.now log.now entries rows.old rows.new }
+{
+    if let Some(last) = entries.checked_sub(1)
+        && let Some(entry) = log.get(last)
+        && let Event::Ask(Question::Leave) = entry.event
     {
-        let Some(entry) = self.log.get(at) else {
-            return;
-        };
-        let Some(thread) = threads.get(entry.thread as usize) else {
-            return;
-        };
-        if let Some(row) = self.rows.get_mut(at) {
-            *row = Some(row_of(thread, None));
-        }
+        see(rows, log, last, threads);
     }
 }
 
@@ -97,26 +114,18 @@ impl<'a, 'm> Watch<Thread<'m>> for Rows<'a> {
 
     /// An answer that is heard stands where the thread stood before it, and a leave where the thread ended.
     fn came(&mut self, entries: usize, walk: &Walk<Thread<'m>>)
-        ensures { self.new.came ≡ entries }
+        ensures { SeesRound self.old entries walk.now.threads.items self.new }
     {
         self.came = entries;
-        self.see(entries, &walk.threads);
-        if let Some(last) = entries.checked_sub(1)
-            && let Some(entry) = self.log.get(last)
-            && entry.event == Event::Ask(Question::Leave)
-        {
-            self.see(last, &walk.threads);
-        }
+        see(&mut self.rows, self.log, entries, &walk.threads);
+        see_last(&mut self.rows, self.log, entries, &walk.threads);
     }
 
     fn event(&mut self, entry: &Entry, thread: &Thread<'m>, memory: &OneMemory)
-        // The row of the entry that comes next is where the thread stands that wants it.
-        ensures { self.old.came < length self.old.rows.items → (row : Row)
-            × (slice_get self.new.rows.items self.old.came ≡ Some (Some row)) × StandsThere thread.now row }
+        ensures { SeesWanted self.old thread.now self.new }
     {
-        if let Some(row) = self.rows.get_mut(self.came) {
-            *row = Some(row_of(thread, number_before(memory.bytes(), entry.event)));
-        }
+        let before = number_before(memory.bytes(), entry.event);
+        set_row(&mut self.rows, self.came, thread, before);
     }
 
     fn settled(&mut self, _thread: u32, _turn: Turn)
