@@ -33,11 +33,7 @@ fn ends(
     let save = held(alloc, b"what it keeps", rooms.1)?;
     let closed = close(status, out, save);
     let file = &b"what it keeps"[..kept];
-    Ok(
-        closed.lost == lost
-            && closed.out.has_front(b"lines of a job")
-            && closed.save.has(file),
-    )
+    Ok(closed.lost == lost && closed.out.has_front(b"lines of a job") && closed.save.has(file))
 }
 
 #[test]
@@ -54,7 +50,10 @@ fn what_is_held_back_gets_out_or_is_lost(rt: HostRuntime) -> Result<(), Fail> {
             "no room for the file",
             ends(alloc, 0, (64, 12), Some(Lost::File), 12)?,
         ),
-        ("a refusal keeps nothing", ends(alloc, 4, (64, 64), None, 0)?),
+        (
+            "a refusal keeps nothing",
+            ends(alloc, 4, (64, 64), None, 0)?,
+        ),
     ])
 }
 
