@@ -17,6 +17,15 @@ pub record Shows (bytes saved : List ℕ) (status : ℕ) : Type 0 where
   pub none : status ≡ 4 → IsNoRecordOf bytes saved
   pub statuses : (status ≡ 0) ⊎ (status ≡ 2) ⊎ (status ≡ 4) ⊎ (status ≡ 5)
 
+-- What that of races says: 0 of a record of a run in which no accesses race, 1 of one in which some do, and 2, 4 and 5 as of
+-- a show.
+pub record TellsRaces (bytes saved : List ℕ) (status : ℕ) : Type 0 where
+  pub none : status ≡ 0 → IsRecordOf bytes saved × HasNoRace bytes saved
+  pub some : status ≡ 1 → IsRecordOf bytes saved × HasRace bytes saved
+  pub refused : status ≡ 2 → IsNoValidModule bytes
+  pub unfit : status ≡ 4 → IsNoRecordOf bytes saved
+  pub statuses : (status ≤ 2) ⊎ (status ≡ 4) ⊎ (status ≡ 5)
+
 -- What that of a search says: 0 and 1 of runs that were made, 2 of a refused module, 3 of a call that can't be made. 5
 -- is that memory or a stream failed.
 pub record Searches (bytes : List ℕ) (s : Search) (out save : WriterChange) (status : ℕ) : Type 0 where
@@ -28,5 +37,6 @@ pub record Searches (bytes : List ℕ) (s : Search) (out save : WriterChange) (s
 -- What the status of a job says: of one that is no show and no search, what it says of a plain job.
 abbrev pub Performs : Job → List ℕ → List ℕ → WriterChange → WriterChange → ℕ → Type 0
 Performs (Show file record_path names look at) bytes saved out save status = Shows bytes saved status
+Performs (jobs.Races job) bytes saved out save status = TellsRaces bytes saved status
 Performs (jobs.Search s) bytes saved out save status = Searches bytes s out save status
 Performs job bytes saved out save status = PerformsPlain job bytes saved out save status

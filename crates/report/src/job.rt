@@ -9,7 +9,7 @@ ghost use Rattle.report_jobs.specs.Silence.{IsRefusal, Stays, makes_file};
 ghost use Rattle.report.specs.Searches.{HasSearched};
 ghost use Rattle.report.specs.Jobs.{Performs};
 
-use crate::{search_module, show_saved};
+use crate::{races_saved, search_module, show_saved};
 use report_command::{Job, Search};
 use report_jobs::{Streams, complain, load, perform_plain, refuse};
 use search_finds::Hears;
@@ -60,6 +60,7 @@ where
         Job::Show { look, view, .. } => {
             show_saved(alloc, module, module, saved, look, *view, streams)
         }
+        Job::Races(asked) => races_saved(alloc, module, module, saved, asked.most, streams),
         Job::Search(asked) => search(rt, alloc, asked, module, streams, follower),
         _ => perform_plain(rt, alloc, job, module, saved, streams),
     }

@@ -23,4 +23,4 @@ pub use report_command::{Job, Usage, command};
 pub use report_jobs::{Refusal, Streams, check, load, replay_saved};
 pub use report_runs::{Call, EndState, RecordRunFault, record_run, run_on_words};
 pub use searching::search_module;
-pub use showing::show_saved;
+pub use showing::{races_saved, show_saved};

@@ -12,7 +12,8 @@ use report_command::{At, Look, View};
 use report_jobs::{Streams, Unfit, load, misfit, refuse, reject};
 use show_events::{write_page, write_trace};
 use show_moments::{Bytes, Moment, write_moment};
-use show_rows::{CodeMap, Row, Rows, Shown, write_rows};
+use show_races::{races_shown, write_races};
+use show_rows::{CodeMap, Row, Rows, Shown, Story, write_rows};
 use show_text::Unwritten;
 use std::alloc::Global;
 use std::io::Write;
@@ -234,4 +235,66 @@ fn print_moment<W: Write>(
         code,
     };
     write_moment(alloc, module, shown, &moment, out)
+}
+
+/// Tells the races of the run whose record's text `saved` is, `most` at most. `names` are the bytes that have the names
+/// of functions and the lines of source, as for `show_saved`.
+///
+/// Answers 0 where the record is of a run of the module in which no two accesses race, 1 where some do, 4 only where the
+/// bytes are the text of no record of a run of it, 2 for a refused module, and 5 where memory or a stream failed.
+pub fn races_saved<W: Write, E: Write, S: Write>(
+    alloc: Global,
+    module: &[u8],
+    names: &[u8],
+    saved: &[u8],
+    most: u32,
+    streams: &mut Streams<W, E, S>,
+) -> u8 {
+    let Streams { out, err, .. } = streams;
+    let valid = match load(alloc, module) {
+        Ok(valid) => valid,
+        Err(refusal) => return refuse(err, refusal),
+    };
+    match races_of_record(alloc, &valid, CodeBytes { module, names }, saved, most, out) {
+        Ok(true) => 1,
+        Ok(false) => 0,
+        Err(unfit) => reject(err, unfit),
+    }
+}
+
+/// Tells the races of the run whose record's text `saved` is, and answers whether there are any.
+fn races_of_record<W: Write>(
+    alloc: Global,
+    module: &ValidModule,
+    code: CodeBytes,
+    saved: &[u8],
+    most: u32,
+    out: &mut W,
+) -> Result<bool, Unfit> {
+    let seen = rows_of(alloc, module, saved)?;
+    match print_races(alloc, module, &seen, code, most, out) {
+        Ok(is_racing) => Ok(is_racing),
+        Err(unwritten) => Err(unfit_of(unwritten)),
+    }
+}
+
+/// Writes the races of a run, and answers whether there are any.
+fn print_races<W: Write>(
+    alloc: Global,
+    module: &ValidModule,
+    seen: &SeenRun,
+    code: CodeBytes,
+    most: u32,
+    out: &mut W,
+) -> Result<bool, Unwritten> {
+    let code = CodeMap::read(alloc, module.parts(), code.module, code.names)?;
+    let shown = Shown {
+        record: seen.record.parts(),
+        rows: seen.rows.as_slice(),
+        code: &code,
+    };
+    let story = Story::new(alloc, shown.record.log.as_slice())?;
+    let races = races_shown(alloc, shown, &story, most as usize)?;
+    write_races(alloc, shown, &story, &races, out)?;
+    Ok(!races.pairs.is_empty())
 }

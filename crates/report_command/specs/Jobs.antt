@@ -1,9 +1,9 @@
 -- The jobs of the command line.
 use Rattle.std.specs.Prelude.{◌≤◌, ◌≢◌, IfSome, false, ◌≡◌}
 use Rattle.types.specs.declared.limits.TheConstants.{MOST_LIMIT, MOST_FUEL}
-use Rattle.report_command.specs.declared.limits.TheConstants.{MOST_DUMP, NARROWEST, WIDEST}
+use Rattle.report_command.specs.declared.limits.TheConstants.{MOST_DUMP, MOST_RACES, NARROWEST, WIDEST}
 use Rattle.report_command.specs.declared.command_line.Job.{Job}
-use Rattle.report_command.specs.declared.command_line.Job.TheVariants.{Check, Run, Replay, Show, Search}
+use Rattle.report_command.specs.declared.command_line.Job.TheVariants.{Check, Run, Replay, Show, Races, Search}
 use Rattle.report_command.specs.Searches.{IsSearchInRange, SearchKeepsItsModule}
 use Rattle.report_command.specs.Views.{IsViewInRange, path_of}
 
@@ -13,6 +13,7 @@ IsInRange (Check file) = Unit {0}
 IsInRange (Run job) = (job.call.fuel ≤ MOST_FUEL) × (1 ≤ job.limit) × (job.limit ≤ MOST_LIMIT) × (job.dump ≤ MOST_DUMP)
 IsInRange (Replay file saved dump) = dump ≤ MOST_DUMP
 IsInRange (Show file saved names look view) = (NARROWEST ≤ look.width) × (look.width ≤ WIDEST) × IsViewInRange view
+IsInRange (Races job) = (1 ≤ job.most) × (job.most ≤ MOST_RACES)
 IsInRange (Search s) = IsSearchInRange s
 
 -- A job keeps no record at the path of its module, and none of a memory of words; and makes no file at the path of one
@@ -23,4 +24,5 @@ KeepsItsModule (Run job) = IfSome job.save (λ path. (path.now ≢ job.file.now)
 KeepsItsModule (Replay file saved dump) = Unit {0}
 KeepsItsModule (Show file saved names look view) = IfSome (path_of view) (λ path. (path.now ≢ file.now)
     × (path.now ≢ saved.now))
+KeepsItsModule (Races job) = Unit {0}
 KeepsItsModule (Search s) = SearchKeepsItsModule s

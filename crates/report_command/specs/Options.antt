@@ -23,6 +23,7 @@ use Rattle.report_command.specs.declared.command_line.RunJob.{RunJob}
 use Rattle.report_command.specs.declared.command_line.Job.{Job}
 use Rattle.report_command.specs.declared.command_line.Job.TheVariants as jobs
 use Rattle.report_command.specs.declared.command_line.Order.{Order}
+use Rattle.report_command.specs.declared.races.RacesJob.{RacesJob}
 use Rattle.report_command.specs.declared.show.View.{View}
 use Rattle.report_command.specs.declared.show.View.TheVariants.{Rows, Moment, Page, Trace}
 use Rattle.report_command.specs.declared.search.Search.{Search}
@@ -98,6 +99,13 @@ pub record AsksShow (f : Found) (file saved : Bor (List ℕ)) (names : Option (B
   pub names_is : HasTextIfAny f (codes "names") names
   pub look_is : AsksLook f look
   pub view_is : AsksView f view
+
+-- `races`
+pub record AsksRaces (f : Found) (job : RacesJob) : Type 0 where
+  pub file_is : HasText f (codes "file") job.file
+  pub saved_is : HasText f (codes "record") job.saved
+  pub names_is : HasTextIfAny f (codes "names") job.names
+  pub most_is : HasNumber f (codes "most") job.most
 
 -- The strategy that a word names.
 abbrev pub IsWay : List ℕ → Way → Type 0
@@ -175,6 +183,7 @@ AsksJob f (jobs.Check file) = HasText f (codes "file") file
 AsksJob f (jobs.Run job) = AsksRun f job
 AsksJob f (jobs.Replay file saved dump) = AsksReplay f file saved dump
 AsksJob f (jobs.Show file saved names look view) = AsksShow f file saved names look view
+AsksJob f (jobs.Races job) = AsksRaces f job
 AsksJob f (jobs.Search s) = AsksSearch f s
 
 -- Its command.
@@ -183,6 +192,7 @@ command_name (jobs.Check file) = codes "check"
 command_name (jobs.Run job) = codes "run"
 command_name (jobs.Replay file saved dump) = codes "replay"
 command_name (jobs.Show file saved names look view) = codes "show"
+command_name (jobs.Races job) = codes "races"
 command_name (jobs.Search s) = codes "search"
 
 abbrev pub AsksNamed : List ℕ → Found → Job → Type 0

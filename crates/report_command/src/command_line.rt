@@ -11,6 +11,7 @@ ghost use Rattle.report_command.specs.FaultNumbers.{usage_number, IsWrong};
 use crate::arguments::{Argument, CommandRow, FLAG, Form, OPTION, command_of};
 use crate::call::{ARGS, CallWords, FUEL, INVOKE, call_of};
 use crate::limits::{DEFAULT_DUMP, DEFAULT_LIMIT, MOST_DUMP};
+use crate::races::{RACES, RacesJob, races_job};
 use crate::search::{SEARCH, Search, search_job, search_misuse};
 use crate::show::{SHOW, View, misread, show_job};
 use crate::words::short_of;
@@ -69,6 +70,8 @@ pub enum Job<'a> {
         /// What is made of the record.
         view: View<'a>,
     },
+    /// Tell the races of a record's run.
+    Races(RacesJob<'a>),
     /// Run a function of a module again and again along schedules that are drawn, and print how the runs end.
     Search(Search<'a>),
 }
@@ -211,15 +214,17 @@ enum CommandName {
     Run,
     Replay,
     Show,
+    Races,
     Search,
 }
 
 /// All of them, in the order of the help.
-static COMMAND_NAMES: [CommandName; 5] = [
+static COMMAND_NAMES: [CommandName; 6] = [
     CommandName::Check,
     CommandName::Run,
     CommandName::Replay,
     CommandName::Show,
+    CommandName::Races,
     CommandName::Search,
 ];
 
@@ -231,6 +236,7 @@ impl CommandName {
             CommandName::Run => &RUN,
             CommandName::Replay => &REPLAY,
             CommandName::Show => &SHOW,
+            CommandName::Races => &RACES,
             CommandName::Search => &SEARCH,
         }
     }
@@ -337,6 +343,7 @@ fn job_of<'a>(
         "run" => run_job(alloc, matches),
         "replay" => Ok(replay_job(matches)),
         "show" => show_job(alloc, matches),
+        "races" => Ok(races_job(matches)),
         "search" => search_job(alloc, matches),
         _ => Ok(None),
     }

@@ -11,12 +11,14 @@ mod call;
 mod command_line;
 mod limits;
 mod lines;
+mod races;
 mod search;
 mod show;
 mod words;
 
 pub use call::CallWords;
 pub use command_line::{Job, Misuse, Order, RunJob, Usage, asked, command, misused};
+pub use races::RacesJob;
 pub use report_choice::{Color, Find, Look, Sought, Target, Way};
 pub use search::Search;
 pub use show::{At, View};

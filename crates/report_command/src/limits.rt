@@ -24,6 +24,9 @@ pub(crate) const DEFAULT_SHRINK_SECONDS: u32 = 10;
 /// The highest number of a line of a record before which threads and memory are shown.
 pub(crate) const MOST_LINE: u64 = 2_000_000;
 
+/// The most races that are told.
+pub const MOST_RACES: u32 = 10_000;
+
 /// How many characters a row has room for, at least and at most.
 pub const NARROWEST: u32 = 40;
 
@@ -52,6 +55,9 @@ pub(crate) const DEFAULT_SEED: &str = "1";
 
 /// How many states a search through every order of entries meets at most.
 pub(crate) const DEFAULT_STATES: u32 = 1_000_000;
+
+/// How many races are told at most.
+pub(crate) const DEFAULT_RACES: &str = "10";
 
 /// How many characters a row has room for.
 pub(crate) const DEFAULT_WIDTH: &str = "120";

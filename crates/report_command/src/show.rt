@@ -134,7 +134,7 @@ const ADDRESSES: Argument = Argument {
 };
 
 /// Another build for names and lines.
-const NAMES: Argument = Argument {
+pub(crate) const NAMES: Argument = Argument {
     name: "names",
     value: "FILE2",
     help: "Names and lines of source from a build of the same code, as one with -g",

@@ -12,6 +12,7 @@ IsPlain (Check file) = Unit {0}
 IsPlain (Run job) = Unit {0}
 IsPlain (Replay file record_path dump) = Unit {0}
 IsPlain (Show file record_path names look at) = ⊥
+IsPlain (jobs.Races job) = ⊥
 IsPlain (jobs.Search s) = ⊥
 
 -- What the status of a plain job says.
@@ -20,4 +21,5 @@ PerformsPlain (Check file) bytes saved out save status = Checks bytes out status
 PerformsPlain (Run job) bytes saved out save status = Runs bytes job out save status
 PerformsPlain (Replay file record_path dump) bytes saved out save status = Replays bytes saved dump out status
 PerformsPlain (Show file record_path names look at) bytes saved out save status = Unit {0}
+PerformsPlain (jobs.Races job) bytes saved out save status = Unit {0}
 PerformsPlain (jobs.Search s) bytes saved out save status = Unit {0}

@@ -64,4 +64,5 @@ makes_file (jobs.Run job) = is_some job.save
 makes_file (jobs.Check file) = false
 makes_file (jobs.Replay file saved dump) = false
 makes_file (jobs.Show file saved names look view) = false
+makes_file (jobs.Races job) = false
 makes_file (jobs.Search s) = is_some s.save

@@ -50,6 +50,6 @@ where
         Job::Check { .. } => check(alloc, module, out, err),
         Job::Run(asked) => run(rt, alloc, asked, module, out, err, save),
         Job::Replay { dump, .. } => replay_saved(alloc, module, saved, *dump, out, err),
-        Job::Show { .. } | Job::Search(_) => unreachable!(),
+        Job::Show { .. } | Job::Races(_) | Job::Search(_) => unreachable!(),
     }
 }

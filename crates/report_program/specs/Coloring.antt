@@ -2,7 +2,7 @@
 use Rattle.std.specs.Prelude.{ℕ, ◌≡◌, List}
 use Rattle.report_choice.specs.declared.choice.Look.{Look}
 use Rattle.report_command.specs.declared.command_line.Job.{Job}
-use Rattle.report_command.specs.declared.command_line.Job.TheVariants.{Check, Run, Replay, Show, Search}
+use Rattle.report_command.specs.declared.command_line.Job.TheVariants.{Check, Run, Replay, Show, Races, Search}
 use Rattle.report_command.specs.declared.command_line.Order.{Order}
 use Rattle.report_command.specs.Options.{IsAskedBy}
 
@@ -17,6 +17,7 @@ IsColored (Show file saved names look view) new =
 IsColored (Check file) new = new ≡ Check file
 IsColored (Run job) new = new ≡ Run job
 IsColored (Replay file saved dump) new = new ≡ Replay file saved dump
+IsColored (Races job) new = new ≡ Races job
 IsColored (Search s) new = new ≡ Search s
 
 -- What the words ask for, but for colors.

@@ -2,7 +2,7 @@
 
 use crate::stop::Stop;
 use crate::{Unread, read_module, read_saved};
-use report_command::{Job, RunJob, Search};
+use report_command::{Job, RacesJob, RunJob, Search};
 
 /// What a job reads: a module, a record where one is replayed or shown, and the file that has the names, where it is
 /// another one.
@@ -30,19 +30,25 @@ pub(crate) fn read<'a>(rt: &HostRuntime, job: &Job<'a>) -> Result<Input, Stop<'a
     | Job::Run(RunJob { file, .. })
     | Job::Replay { file, .. }
     | Job::Show { file, .. }
+    | Job::Races(RacesJob { file, .. })
     | Job::Search(Search { file, .. })) = job;
     let module = bytes_of(file, read_module(rt, file))?;
     let saved = match job {
         Job::Check { .. } | Job::Run(_) | Job::Search(_) => Vec::new(rt.alloc()),
-        Job::Replay { saved, .. } | Job::Show { saved, .. } => {
-            bytes_of(saved, read_saved(rt, saved))?
-        }
+        Job::Replay { saved, .. } | Job::Show { saved, .. } | Job::Races(RacesJob { saved, .. }) =>
+            { bytes_of(saved, read_saved(rt, saved))? }
     };
     let names = match job {
         Job::Show {
             names: Some(path),
             ..
-        } => Some(bytes_of(path, read_module(rt, path))?),
+        }
+        | Job::Races(
+            RacesJob {
+                names: Some(path),
+                ..
+            },
+        ) => Some(bytes_of(path, read_module(rt, path))?),
         _ => None,
     };
     Ok(Input {

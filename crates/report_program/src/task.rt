@@ -31,7 +31,7 @@ pub struct Task<'a, W: Write + Drop> {
 /// The path of the file that a job makes, a record, a page or a trace, or none.
 fn record_of<'a>(job: &Job<'a>) -> Option<&'a str> {
     match job {
-        Job::Check { .. } | Job::Replay { .. } => None,
+        Job::Check { .. } | Job::Replay { .. } | Job::Races(_) => None,
         Job::Show { view, .. } => view.path(),
         Job::Run(RunJob { save, .. }) | Job::Search(Search { save, .. }) => *save,
     }

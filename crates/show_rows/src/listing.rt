@@ -103,6 +103,13 @@ impl Shown<'_, '_, '_, '_, '_> {
         }
     }
 
+    /// Whether the entry at a place was made by an atomic instruction.
+    pub fn is_atomic_at(&self, at: usize) -> bool
+        ensures { result ≡ is_atomic_row self.now (row_at self.now at) }
+    {
+        self.is_atomic(self.row_at(at))
+    }
+
     fn is_atomic(&self, row: Option<Row>) -> bool
         ensures { result ≡ is_atomic_row self.now row }
     {
