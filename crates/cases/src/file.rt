@@ -11,7 +11,11 @@ use test_cases::{Stop, Tally, cases, read_file};
 fn tell_key(rt: &HostRuntime, subject: Subject, file: &str, text: &str, tally: &mut Tally) {
     let unknown = match subject {
         Subject::Runs => unknown_key(text),
-        Subject::Modules | Subject::Lines | Subject::Records | Subject::Mutants => None,
+        Subject::Modules
+        | Subject::Lines
+        | Subject::Histories
+        | Subject::Records
+        | Subject::Mutants => None,
     };
     if let Some(key) = unknown {
         let _ = println!(rt; "{file}: there is no key {key}");
@@ -39,6 +43,7 @@ fn try_text<'a, R: Threads + Wait + Sync>(
 fn tell_count(rt: &HostRuntime, subject: Subject, file: &str, count: usize, tried: u64) {
     let _ = match subject {
         Subject::Modules | Subject::Lines => println!(rt; "{file}: {count} cases"),
+        Subject::Histories => println!(rt; "{file}: {count} cases, {tried} histories"),
         Subject::Records => println!(rt; "{file}: {count} cases, {tried} texts"),
         Subject::Runs => println!(rt; "{file}: {count} cases, {tried} command lines"),
         Subject::Mutants => println!(rt; "{file}: {count} cases, {tried} mutants"),

@@ -1,14 +1,14 @@
 //! Tries the cases of files. Prints each that comes out otherwise than its file wants, and then a line for each file:
-//! how many cases it has, and of records how many texts were read, of runs how many command lines were done, of mutants
-//! how many were tried.
+//! how many cases it has, how many histories there were, of records how many texts were read, of runs how many command
+//! lines were done, of mutants how many were tried.
 //!
 //! ```text
 //! cases modules numbers.cases sections.cases runs waits.cases
 //! ```
 //!
-//! A word that is a subject (`modules`, `lines`, `records`, `runs` or `mutants`) says of what the cases are of the
-//! files behind it. Each other word is a file of cases. The files, and those that cases name, lie in the folder where
-//! the program runs.
+//! A word that is a subject (`modules`, `lines`, `histories`, `records`, `runs` or `mutants`) says of what the cases
+//! are of the files behind it. Each other word is a file of cases. The files, and those that cases name, lie in the
+//! folder where the program runs.
 #![tactic(auto)]
 
 mod file;

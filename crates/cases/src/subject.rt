@@ -7,6 +7,8 @@ pub(crate) enum Subject {
     Modules,
     /// Lines of source, names and places of a module.
     Lines,
+    /// Histories and their races.
+    Histories,
     /// Texts of records.
     Records,
     /// Command lines of the program.
@@ -21,6 +23,7 @@ impl Subject {
         match word {
             "modules" => Some(Subject::Modules),
             "lines" => Some(Subject::Lines),
+            "histories" => Some(Subject::Histories),
             "records" => Some(Subject::Records),
             "runs" => Some(Subject::Runs),
             "mutants" => Some(Subject::Mutants),

@@ -62,6 +62,7 @@ pub(crate) fn try_case<'a, R: Threads + Wait + Sync>(
     match subject {
         Subject::Modules => Ok(try_module(rt, file, case, tally)?),
         Subject::Lines => try_lines(rt, file, case, tally),
+        Subject::Histories => Ok(race_history_cases::try_case(rt, case, tally)?),
         Subject::Records => replay_text_cases::try_case(rt, case, tally),
         Subject::Runs => report_cases::try_case(rt, threads, file, case, tally),
         Subject::Mutants => report_jobs_cases::try_case(rt, threads, case, tally),

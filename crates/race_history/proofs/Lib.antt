@@ -1,0 +1,13 @@
+pub mod Lists
+pub mod Places
+pub mod Words
+pub mod Keeping
+pub mod Latest
+pub mod Reading
+pub mod Waking
+pub mod Starting
+pub mod Before
+pub mod Gathering
+pub mod Clocked
+pub mod Racing
+pub mod Legal

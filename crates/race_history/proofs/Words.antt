@@ -1,0 +1,148 @@
+-- The tests of two accesses say what they are to say.
+use Rattle.std.proofs.Common.{◌≡◌, ◌∙◌, ◌<◌, ◌≤◌, ◌+◌, ◌-◌, ◌/◌, ◌%◌, ◌==◌, ◌&&◌, ◌||◌, ℕ, Bool, true, not, inl, inr, sym, ap, arith}
+use Rattle.std.proofs.Math.Bool.{beq}
+use Rattle.std.specs.Cmp.{booleans_Decides}
+use Rattle.std.specs.Prelude.{nat_le, nat_lt}
+use Rattle.std.proofs.lemmas.Bool.{and_from, and_parts, both_ways, cases_lt, cond-false, cond-true, eq-eqb, eqb-true, false_from_ne_true, le-leb, lt-leb, lt-ltb, ltb-true, ne_eqb, not-true, not_from_false, or_cases, or_left, or_right}
+use Rattle.race_history.specs.declared.access.Access.{Access}
+use Rattle.race_history.specs.Accesses.{AreMatched, Meet}
+use Rattle.race_history.specs.Lasts.{IsInWord}
+use Rattle.race_history.specs.Races.{Conflict}
+use Rattle.race_history.specs.Tests.{are_matched, conflicts, is_same, touches}
+
+same_fields : (a b : Access) → a.thread ≡ b.thread → a.addr ≡ b.addr → a.width ≡ b.width → a.reads ≡ b.reads → a.writes ≡ b.writes
+    → a.atomic ≡ b.atomic → a ≡ b
+same_fields a b thread addr width reads writes atomic =
+    let of : ℕ → ℕ → ℕ → Bool → Bool → Bool → Access =
+    λ n k w r s t. record { thread = n; addr = k; width = w; reads = r; writes = s; atomic = t } in
+    ap (λ (n : ℕ). of n a.addr a.width a.reads a.writes a.atomic) thread
+    ∙ (ap (λ (k : ℕ). of b.thread k a.width a.reads a.writes a.atomic) addr
+    ∙ (ap (λ (w : ℕ). of b.thread b.addr w a.reads a.writes a.atomic) width
+    ∙ (ap (λ (r : Bool). of b.thread b.addr b.width r a.writes a.atomic) reads
+    ∙ (ap (λ (s : Bool). of b.thread b.addr b.width b.reads s a.atomic) writes
+    ∙ ap (λ (t : Bool). of b.thread b.addr b.width b.reads b.writes t) atomic))))
+
+module _ (a b : Access) where
+  pub same_from : is_same a b ≡ true → a ≡ b
+  same_from t =
+      let thread : Bool = a.thread == b.thread in
+      let addr : Bool = a.addr == b.addr in
+      let width : Bool = a.width == b.width in
+      let reads : Bool = beq a.reads b.reads in
+      let writes : Bool = beq a.writes b.writes in
+      let atomic : Bool = beq a.atomic b.atomic in
+      let p = and_parts (thread && addr && width && reads && writes) atomic t in
+      let q = and_parts (thread && addr && width && reads) writes p.0 in
+      let r = and_parts (thread && addr && width) reads q.0 in
+      let s = and_parts (thread && addr) width r.0 in
+      let u = and_parts thread addr s.0 in
+      same_fields a b (eqb-true a.thread b.thread u.0) (eqb-true a.addr b.addr u.1) (eqb-true a.width b.width s.1)
+      ((booleans_Decides a.reads b.reads).0 r.1) ((booleans_Decides a.writes b.writes).0 q.1)
+      ((booleans_Decides a.atomic b.atomic).0 p.1)
+
+  pub same_to : a ≡ b → is_same a b ≡ true
+  same_to e =
+      let thread : Bool = a.thread == b.thread in
+      let addr : Bool = a.addr == b.addr in
+      let width : Bool = a.width == b.width in
+      let reads : Bool = beq a.reads b.reads in
+      let writes : Bool = beq a.writes b.writes in
+      let atomic : Bool = beq a.atomic b.atomic in
+      and_from (thread && addr && width && reads && writes) atomic
+      (and_from (thread && addr && width && reads) writes
+      (and_from (thread && addr && width) reads
+      (and_from (thread && addr) width
+      (and_from thread addr (eq-eqb a.thread b.thread (ap (λ (z : Access). z.thread) e)) (eq-eqb a.addr b.addr (ap (λ (z : Access). z.addr) e)))
+      (eq-eqb a.width b.width (ap (λ (z : Access). z.width) e)))
+      ((booleans_Decides a.reads b.reads).1 (ap (λ (z : Access). z.reads) e)))
+      ((booleans_Decides a.writes b.writes).1 (ap (λ (z : Access). z.writes) e)))
+      ((booleans_Decides a.atomic b.atomic).1 (ap (λ (z : Access). z.atomic) e))
+
+  pub matched_from : are_matched a b ≡ true → AreMatched a b
+  matched_from t =
+      let p = and_parts (a.atomic && b.atomic && (a.addr == b.addr)) (a.width == b.width) t in
+      let q = and_parts (a.atomic && b.atomic) (a.addr == b.addr) p.0 in
+      let r = and_parts a.atomic b.atomic q.0 in
+      record { first = r.0; second = r.1; addr = eqb-true a.addr b.addr q.1; width = eqb-true a.width b.width p.1 }
+
+  pub matched_to : AreMatched a b → are_matched a b ≡ true
+  matched_to h =
+      and_from (a.atomic && b.atomic && (a.addr == b.addr)) (a.width == b.width)
+      (and_from (a.atomic && b.atomic) (a.addr == b.addr) (and_from a.atomic b.atomic h.first h.second) (eq-eqb a.addr b.addr h.addr))
+      (eq-eqb a.width b.width h.width)
+
+  pub touches_to : Meet a b → touches a b ≡ true
+  touches_to m =
+      let byte : ℕ = m.0 in
+      let a0 : a.addr ≤ byte = m.1.0.0 in
+      let a1 : byte < a.addr + a.width = m.1.0.1 in
+      let b0 : b.addr ≤ byte = m.1.1.0 in
+      let b1 : byte < b.addr + b.width = m.1.1.1 in
+      let x : Bool = nat_lt (b.addr - a.addr) a.width in
+      let y : Bool = nat_lt (a.addr - b.addr) b.width in
+      elim (cases_lt b.addr a.addr) [
+        | inl lt ↦ cond-false (nat_le a.addr b.addr) x y (lt-leb a.addr b.addr lt) ∙ lt-ltb (a.addr - b.addr) b.width (omega arith)
+        | inr le ↦ cond-true (nat_le a.addr b.addr) x y (le-leb a.addr b.addr le) ∙ lt-ltb (b.addr - a.addr) a.width (omega arith)
+      ]
+
+  module _ (wa : IsInWord a) (wb : IsInWord b) where
+    pub touches_from : touches a b ≡ true → Meet a b
+    touches_from t =
+        let x : Bool = nat_lt (b.addr - a.addr) a.width in
+        let y : Bool = nat_lt (a.addr - b.addr) b.width in
+        let some_a : 1 ≤ a.width = wa.some in
+        let some_b : 1 ≤ b.width = wb.some in
+        elim (cases_lt b.addr a.addr) [
+          | inl lt ↦
+              let d : a.addr - b.addr < b.width =
+              ltb-true (a.addr - b.addr) b.width (sym (cond-false (nat_le a.addr b.addr) x y (lt-leb a.addr b.addr lt)) ∙ t) in
+              (a.addr, ((omega arith, omega arith), (omega arith, omega arith)))
+          | inr le ↦
+              let d : b.addr - a.addr < a.width =
+              ltb-true (b.addr - a.addr) a.width (sym (cond-true (nat_le a.addr b.addr) x y (le-leb a.addr b.addr le)) ∙ t) in
+              (b.addr, ((omega arith, omega arith), (omega arith, omega arith)))
+        ]
+
+    -- accesses that touch a byte in common are in one word
+    pub one_word : Meet a b → a.addr / 8 ≡ b.addr / 8
+    one_word m =
+        let byte : ℕ = m.0 in
+        let a0 : a.addr ≤ byte = m.1.0.0 in
+        let a1 : byte < a.addr + a.width = m.1.0.1 in
+        let b0 : b.addr ≤ byte = m.1.1.0 in
+        let b1 : byte < b.addr + b.width = m.1.1.1 in
+        let fits_a : a.addr % 8 + a.width ≤ 8 = wa.one_word in
+        let fits_b : b.addr % 8 + b.width ≤ 8 = wb.one_word in
+        omega arith
+
+    pub conflict_from : conflicts a b ≡ true → Conflict a b
+    conflict_from t =
+        let apart : Bool = not (a.thread == b.thread) in
+        let write : Bool = a.writes || b.writes in
+        let p = and_parts (apart && touches a b && write) (not (are_matched a b)) t in
+        let q = and_parts (apart && touches a b) write p.0 in
+        let r = and_parts apart (touches a b) q.0 in
+        record {
+          threads = λ e. both_ways (a.thread == b.thread) (not-true (a.thread == b.thread) r.0) (eq-eqb a.thread b.thread e);
+          meet = touches_from r.1;
+          write = or_cases a.writes b.writes q.1;
+          unmatched = λ m. both_ways (are_matched a b) (not-true (are_matched a b) p.1) (matched_to m);
+        }
+
+  pub conflict_to : Conflict a b → conflicts a b ≡ true
+  conflict_to h =
+      let apart : Bool = not (a.thread == b.thread) in
+      let write : Bool = a.writes || b.writes in
+      let w : write ≡ true = elim h.write [ inl x ↦ or_left a.writes b.writes x | inr y ↦ or_right a.writes b.writes y ] in
+      and_from (apart && touches a b && write) (not (are_matched a b))
+      (and_from (apart && touches a b) write
+      (and_from apart (touches a b) (not_from_false (a.thread == b.thread) (ne_eqb a.thread b.thread h.threads)) (touches_to h.meet)) w)
+      (not_from_false (are_matched a b) (false_from_ne_true (are_matched a b) (λ t. h.unmatched (matched_from t))))
+
+-- whoever is matched touches the same bytes
+pub matched_meet : (a b : Access) → IsInWord a → AreMatched a b → Meet a b
+matched_meet a b wa h =
+    let some : 1 ≤ a.width = wa.some in
+    let addr : a.addr ≡ b.addr = h.addr in
+    let width : a.width ≡ b.width = h.width in
+    (a.addr, ((omega arith, omega arith), (omega arith, omega arith)))

@@ -1,0 +1,11 @@
+pub mod Accesses
+pub mod Tests
+pub mod Places
+pub mod Order
+pub mod Races
+pub mod Lasts
+pub mod Writers
+pub mod Calls
+pub mod Sources
+pub mod Clocks
+pub mod Found

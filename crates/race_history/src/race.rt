@@ -1,0 +1,60 @@
+//! The races of a history.
+ghost use Rattle.std.specs.Prelude.{◌≡◌, ◌≤◌, IfOk, length, true, false};
+ghost use Rattle.shared_memory.specs.History.{AreEntries};
+ghost use Rattle.shared_memory.specs.Legal.{IsQueueLegal};
+ghost use Rattle.race_history.specs.Races.{AreInOrder, AreRaces, HasEach, IsCut};
+
+use crate::access::Kind;
+use crate::calls::find_calls;
+use crate::clocks::{count_threads, make_clocks};
+use crate::found::find_races;
+use crate::sources::find_sources;
+use crate::writers::find_writers;
+use std::alloc::{AllocError, Global};
+use types::Entry;
+
+/// Two entries that race, by their places in the history. The first comes before the second.
+#[derive(Clone, Copy, PartialEq, Eq, Debug)]
+pub struct Race {
+    pub first: usize,
+    pub second: usize,
+}
+
+/// Races of a history, by the second entry, and those of one second entry by the first.
+#[derive(Drop)]
+pub struct Races {
+    pub pairs: Vec<Race>,
+    /// There is at least one more.
+    pub is_cut: bool,
+}
+
+/// The races of a history whose entries were made by instructions of these kinds, `most` at most.
+///
+/// Not each pair is named: of the earlier entries that race with one and make the same access (one thread, the same
+/// bytes, reads or writes, of one kind) the last. The history is one of a run (`is_history`): its calls are those that
+/// the wait queue allows.
+///
+/// # Errors
+/// Where memory is refused.
+pub fn races_of(
+    alloc: Global,
+    log: &[Entry],
+    kinds: &[Kind],
+    most: usize,
+) -> Result<Races, AllocError>
+    requires kinds { length kinds.now ≡ length log.now }
+    requires entries { AreEntries log.now }
+    requires legal { IsQueueLegal log.now }
+    ensures races { IfOk result (λ r. AreRaces log.now kinds.now r.pairs.items) }
+    ensures in_order { IfOk result (λ r. AreInOrder r.pairs.items) }
+    ensures each { IfOk result (λ r. r.is_cut ≡ false → HasEach log.now kinds.now r.pairs.items) }
+    ensures few { IfOk result (λ r. length r.pairs.items ≤ most) }
+    ensures cut { IfOk result (λ r. r.is_cut ≡ true → IsCut log.now kinds.now r.pairs.items most) }
+{
+    let threads = count_threads(log);
+    let writers = find_writers(alloc, log, kinds)?;
+    let calls = find_calls(alloc, log)?;
+    let sources = find_sources(alloc, log, kinds, writers.as_slice(), &calls, threads)?;
+    let clocks = make_clocks(alloc, log, kinds, sources.as_slice(), threads)?;
+    find_races(alloc, log, kinds, clocks.as_slice(), threads, most)
+}
