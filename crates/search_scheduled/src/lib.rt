@@ -1,7 +1,8 @@
 //! One run of a module by one thread, along a strategy: its record, and what it left.
 //!
 //! Proved: `run_along` answers a record only with the end of a run that it is of, whatever the strategy. A thread that
-//! sleeps, or that an answer is due to, makes no turn.
+//! sleeps, or that an answer is due to, makes no turn. `Course::go` has the thread go on that the strategy names, entry
+//! by entry, and stops only where nobody can go on or the log is full; it is given up only by the strategy.
 //!
 //! - `threads_of` and `opening` make what a run begins with, as a replay does.
 //! - `Course` is a walk, and the log that it has made (`CameAlong`, specs/Courses.antt): each entry is what the thread
