@@ -43,8 +43,6 @@ static _Atomic int last_start;
 static _Atomic uint64_t ends[MOST_THREADS];
 enum { RUNS, ENDED };
 
-static _Atomic int *end_of(int thread) { return (_Atomic int *)&ends[thread] + 1; }
-
 static int start(enum type type, void *function, void *arg) {
     int place = ++last_start;
     if (place > __wathread_most())
@@ -68,13 +66,13 @@ void __wathread_begin(int thread, int place) {
         ((void (*)(int))function)(arg);
     }
     ends[thread] = (uint64_t)ENDED << 32 | result;
-    notify_all(end_of(thread));
+    notify_all(&ends[thread]);
 }
 
 static uint32_t result_of(int thread) {
     uint64_t end;
     while (!(end = ends[thread]))
-        wait_while(end_of(thread), RUNS);
+        wait_while(&ends[thread], RUNS);
     return end;
 }
 
