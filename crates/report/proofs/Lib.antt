@@ -4,4 +4,5 @@ mod Asking
 mod Sure
 mod Growing
 mod Printed
+mod Counted
 pub mod Told

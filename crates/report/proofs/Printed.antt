@@ -1,47 +1,99 @@
--- What is printed of a search, where its first lines were written, and then some text.
-use Rattle.std.proofs.Common.{ℕ, ◌≡◌, List, [], Option, refl}
-use Rattle.std.specs.Prelude.{false}
+-- What is printed of a search, where its first lines were written, and then what is told.
+use Rattle.std.proofs.Common.{ℕ, ◌≡◌, ◌≢◌, ◌≤◌, ◌+◌, ◌⊎◌, ◌↔◌, List, [], ◌++◌, All, Option, refl, sym, subst, inl, inr, ◌∙◌}
+use Rattle.std.specs.Prelude.{false, true}
 use Rattle.std.specs.Io.KnownBytes.{Appends}
+use Rattle.std.proofs.KnownBytes.{Appends-nil}
 use Rattle.replay_forms.proofs.Written.{appends_then}
 use Rattle.spawn_host.specs.Requests.{Requested}
 use Rattle.search_endings.specs.Endings.{Ending}
 use Rattle.search_reach.specs.declared.ending.Ended.{Ended}
+use Rattle.search_reach.specs.declared.liveness.FairCycle.{FairCycle}
+use Rattle.search_reach.specs.declared.liveness.Liveness.{Liveness}
+use Rattle.search_finds.specs.Finds.{IsLookedFor}
 use Rattle.search_finds.specs.Noted.{AreNoted}
 use Rattle.search_finds.specs.declared.met.Table.{Table}
+use Rattle.report_choice.specs.declared.sought.Sought.{Sought}
+use Rattle.report_choice.specs.declared.sought.Target.{Target}
 use Rattle.report_command.specs.declared.search.Search.{Search}
 use Rattle.report_jobs.specs.Asked.{IsAskedBy}
-use Rattle.report_jobs.specs.Prints.{change}
-use Rattle.report.specs.Complete.{complete_lines}
-use Rattle.report.specs.Drawn.{table_lines}
-use Rattle.report.specs.Searches.{IsAllWell, IsCompleteOf, PrintsAll, PrintsDrawn}
+use Rattle.report_jobs.specs.Prints.{WriterChange, change}
+use Rattle.report_lines.specs.Drawn.{cut_line}
+use Rattle.report.specs.Complete.{complete_lines, AreAllWell, EndsForSure}
+use Rattle.report.specs.Drawn.{table_lines, cut_in}
+use Rattle.report.specs.Endless.{GoesRound, HasNoEnd, HasNoEndless}
+use Rattle.report.specs.Prints.{IsFirstSought, IsToldBehind, PrintsAll, PrintsDrawn, Tells, TellsNothing, TellsOfLast, TellsOfNone, TellsOfRun}
+use Rattle.report.specs.Searches.{IsCompleteOf}
 
-module _ (r : Requested) (s : Search) (asked : IsAskedBy s.call r) (before between after : Option (List ℕ)) (status : ℕ) where
-  module _ (most : ℕ) (all : Ended Ending) (complete : IsCompleteOf r s.sought.dump all)
-      (lines : Appends before between (complete_lines most all)) where
-    pub prints_all : (told : List ℕ) → Appends between after told → (status ≡ 0 → told ≡ []) → (s.sought.stops ≡ false → told ≡ [])
-        → PrintsAll r.parts s most (change before after) status
-    prints_all told behind well untold = record {
-      request = r;
-      parts_are = refl;
-      asked = asked;
-      all = all;
-      complete = complete;
-      told = told;
-      lines = appends_then before between after (complete_lines most all) told lines behind;
-      well = well;
-      untold = untold;
-    }
+-- what is told behind a text
+pub told_behind : (Says : List ℕ → Type 0) (a b c : Option (List ℕ)) (x : List ℕ) → Appends a b x → Tells (change b c) Says
+    → (text : List ℕ) × Appends a c (x ++ text) × Says text
+told_behind Says a b c x p t = (t.0, (appends_then a b c x t.0 p t.1.0, t.1.1))
 
-  pub prints_drawn : (table : Table) → AreNoted r s.sought table → Appends before between (table_lines s.sought table)
-      → (told : List ℕ) × Appends between after told → (status ≡ 0 → IsAllWell s.sought table)
-      → PrintsDrawn r.parts s (change before after) status
-  prints_drawn table noted lines behind well = record {
+-- another first line
+pub told_after : (q : Requested) (s : Search) (e : Ending) (save : WriterChange) (head : List ℕ) (a b c : Option (List ℕ)) → Appends a b head
+    → Tells (change b c) (λ text. TellsOfRun q s e [] text save) → Tells (change a c) (λ text. TellsOfRun q s e head text save)
+told_after q s e save head a b c p t =
+    let one = t.1.1 in
+    (head ++ t.0, (appends_then a b c head t.0 p t.1.0, record {
+      made = one.made;
+      find = one.find;
+      ends = one.ends;
+      was = one.was;
+      text_is = cc one.text_is;
+      kept = one.kept;
+    }))
+
+-- that a first one is looked for, and none is, can't both be
+pub first_is_sought : (s : Sought) (endings : List Ending) (number : ℕ) (e : Ending) → IsFirstSought s endings number e
+    → All (λ x. IsLookedFor s x → ⊥) endings → ⊥
+first_is_sought s endings number e first none =
+    none _ e first.within (subst (IsLookedFor s) (sym first.there) first.sought)
+
+-- where all is well nothing endless is known
+no_end : (t : Target) (l : Liveness) → EndsForSure l → HasNoEnd t l → ⊥
+no_end t l sure stuck = stuck.1 sure.none
+
+no_round : (t : Target) (l : Liveness) (c : FairCycle) → EndsForSure l → GoesRound t l c → ⊥
+no_round t l c sure round = let fair = sure.fair in let goes = round.1 in absurd cc
+
+pub well_has_none : (s : Sought) (t : Target) (all : Ended Ending) → AreAllWell s all → HasNoEndless t all.liveness
+well_has_none s t all well l is =
+    let there = well.live.1.0 in
+    let same : well.live.0 ≡ l = cc in
+    let sure : EndsForSure l = subst EndsForSure same well.live.1.1 in
+    (no_end t l sure, λ c. no_round t l c sure)
+
+module _ (r : Requested) (s : Search) (asked : IsAskedBy s.call r) (save : WriterChange) (status : ℕ)
+    (before between after : Option (List ℕ)) where
+  pub prints_all : (most : ℕ) (all : Ended Ending) → IsCompleteOf r s.sought.dump all
+      → Appends before between (complete_lines most all) → (status ≡ 0) ↔ AreAllWell s.sought all → status ≤ 1
+      → Tells (change between after) (λ text. IsToldBehind r s all text save)
+      → PrintsAll r.parts s most (change before after) save status
+  prints_all most all complete lines well statuses told = record {
+    request = r;
+    parts_are = refl;
+    asked = asked;
+    all = all;
+    complete = complete;
+    told = told.0;
+    lines = appends_then before between after (complete_lines most all) told.0 lines told.1.0;
+    says = told.1.1;
+    well = well;
+    statuses = statuses;
+  }
+
+  pub prints_drawn : (cut : Option (List ℕ)) (table : Table) → AreNoted r s.sought table
+      → Appends before between (table_lines s.sought table) → Appends between cut (cut_line (cut_in table) s.sought.limit)
+      → Tells (change cut after) (λ text. ((status ≡ 1) × TellsOfLast r s table text save) ⊎ TellsOfNone s table text save status)
+      → PrintsDrawn r.parts s (change before after) save status
+  prints_drawn cut table noted rows cuts told = record {
     request = r;
     parts_are = refl;
     asked = asked;
     table = table;
     noted = noted;
-    told = behind.0;
-    lines = appends_then before between after (table_lines s.sought table) behind.0 lines behind.1;
-    well = well;
+    told = told.0;
+    lines = appends_then before between after (table_lines s.sought table) _ rows
+        (appends_then between cut after (cut_line (cut_in table) s.sought.limit) told.0 cuts told.1.0);
+    says = told.1.1;
   }

@@ -11,12 +11,14 @@ use Rattle.report.specs.Complete.{EndsForSure}
 use Rattle.report.specs.Searches.{IsSureToEnd}
 
 pub sure : (q : Requested) (dump states : ℕ) (verdict : Verdict) (o : Option Liveness) → verdict ≡ verdicts.All
-    → ((l : Liveness) → o ≡ Some l → EndsForSure l)
+    → (l : Liveness) × (o ≡ Some l) × EndsForSure l
     → MatchOption o (verdict ≡ verdicts.All → ⊥) (λ l. (verdict ≡ verdicts.All) × SaysOfCall q dump states l)
     → IsSureToEnd q.parts q.name q.args dump
 sure q dump states verdict None is_all well none = absurd (none is_all)
 sure q dump states verdict (Some l) is_all well says =
-    let so = well l refl in
+    let there = well.1.0 in
+    let same : well.0 ≡ l = cc in
+    let so : EndsForSure l = subst EndsForSure same well.1.1 in
     let s = says.1 in
     record {
       called = called s.searched;

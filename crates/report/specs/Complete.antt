@@ -58,4 +58,4 @@ pub record AreAllWell (s : Sought) (all : Ended Ending) : Type 0 where
   pub some : all.endings.keys ≢ []
   pub well : all_end_well all.endings.keys ≡ true
   pub unsought : All (λ e. IsLookedFor s e → ⊥) all.endings.keys
-  pub live : (l : Liveness) → all.liveness ≡ Some l → EndsForSure l
+  pub live : (l : Liveness) × (all.liveness ≡ Some l) × EndsForSure l

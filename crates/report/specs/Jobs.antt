@@ -8,7 +8,7 @@ use Rattle.report_jobs.specs.Prints.{WriterChange}
 use Rattle.report_jobs.specs.Jobs.{IsNoValidModule, IsNoRecordOf, IsRecordOf, HasNoSuchCall}
 use Rattle.report_jobs.specs.Plain.{PerformsPlain}
 use Rattle.report.specs.Raced.{OfModule, IsRaceFree, IsRacy}
-use Rattle.report.specs.Searches.{HasSearched}
+use Rattle.report.specs.Prints.{HasSearched}
 
 -- What the status of a show says: 0 of a record of a run, 2 of a refused module, 4 of a record of no run. 5 is that
 -- memory or a stream failed.

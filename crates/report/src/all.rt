@@ -1,9 +1,13 @@
 //! Every order of the entries of a call: what is printed, and the record of what was found.
-ghost use Rattle.std.specs.Prelude.{◌≡◌, ◌≤◌, All, Some, None, is_some, true, IfOk, IfErr, IfSome};
+ghost use Rattle.std.specs.Prelude.{◌≡◌, ◌≤◌, ◌⊎◌, All, Some, None, is_some, true, IfOk, IfErr, IfSome, IfNone, MatchOption};
+ghost use Rattle.replay_forms.specs.Texts.{Wrote};
 ghost use Rattle.search_finds.specs.Finds.{IsLookedFor};
 ghost use Rattle.report_jobs.specs.Asked.{IsAskedBy};
-ghost use Rattle.report.specs.Searches.{Finds, FindsEndless, IsCompleteOf, KeepsNoneOrFind, KeepsNoneOrEndless};
-ghost use Rattle.report.specs.Searches.{Grows, IsOfSystem, IsWellAt, PrintsAll};
+ghost use Rattle.report.specs.Endless as specified;
+ghost use Rattle.report.specs.Endless.{FindsEndless, HasNoEndless, IsKnown, IsKnownIn, HasNoEnd, GoesRound, endless_line};
+ghost use Rattle.report.specs.Prints.{IsFirstSought, PrintsAll, Tells, TellsOfEndless, TellsOfOne};
+ghost use Rattle.report.specs.Searches.{Finds, IsCompleteOf, KeepsNoneOrFind, KeepsNoneOrEndless};
+ghost use Rattle.report.specs.Searches.{IsOfSystem, IsWellAt};
 ghost use Rattle.report_jobs.specs.Prints.{changed};
 
 use crate::complete::{Complete, are_well, write_complete};
@@ -28,12 +32,13 @@ struct SoughtEnding<'a> {
     choices: &'a [usize],
 }
 
-/// A run that never ends: the choices to where it is sure of that, and those of the round that it goes then, if it goes
-/// one.
+/// A run that never ends, by choices.
 #[derive(Clone, Copy)]
-struct EndlessRun<'a> {
-    path: &'a [usize],
-    round: &'a [usize],
+pub(crate) enum EndlessRun<'a> {
+    /// To where no run ends.
+    ToNoEnd(&'a [usize]),
+    /// To where it goes round, and once round.
+    Round(&'a [usize], &'a [usize]),
 }
 
 /// Goes through every order of the entries of a call.
@@ -56,7 +61,8 @@ fn first_sought<'a>(
     all: &'a Complete,
     sought: &Sought,
 ) -> Result<Option<SoughtEnding<'a>>, AllocError>
-    ensures first { IfOk result (λ o. IfSome o (λ first. IsLookedFor sought.now first.ending.now)) }
+    ensures first { IfOk result (λ o. IfSome o (λ first.
+        IsFirstSought sought.now all.now.endings.keys first.number first.ending.now)) }
     ensures none { IfOk result (λ o. o ≡ None → All (λ e. IsLookedFor sought.now e → ⊥) all.now.endings.keys) }
 {
     let endings = all.endings.as_slice();
@@ -90,7 +96,8 @@ fn tell_sought<F: Hears, W: Write, S: Write>(
     requires sought { IsLookedFor search.now.sought first.ending.now }
     ensures told { IfOk result
         (λ _. KeepsNoneOrFind request.now.parts search.now (changed S.contents save.old save.new)) }
-    ensures grows { IfOk result (λ _. Grows (changed W.contents out.old out.new)) }
+    ensures tells { IfOk result (λ _. Tells (changed W.contents out.old out.new) (λ text.
+        TellsOfOne request.now search.now first.number first.ending.now text (changed S.contents save.old save.new))) }
     ensures trouble { IfErr result IsOfSystem }
 {
     let SoughtEnding {
@@ -115,52 +122,95 @@ fn tell_sought<F: Hears, W: Write, S: Write>(
     }
 }
 
+/// Whether by this runs are found that come to where none ends.
+fn finds_no_end(find: Find) -> bool
+    ensures { result ≡ specified.finds_no_end find.entry }
+{
+    matches!(find, Find::Failure | Find::NoEnd)
+}
+
+/// Whether by this those are found that go round for ever.
+fn finds_for_ever(find: Find) -> bool
+    ensures { result ≡ specified.finds_for_ever find.entry }
+{
+    matches!(find, Find::Failure | Find::ForEver)
+}
+
 /// Whether a run to where none ends is looked for: where nothing is said, where its words are, and where a result is
 /// expected, to which it doesn't come.
-fn finds_no_end(target: Target) -> bool
-    ensures { result ≡ true → FindsEndless target.entry }
+fn looks_for_no_end(target: Target) -> bool
+    ensures { result ≡ specified.looks_for_no_end target.entry }
 {
-    target.expect.is_some() || matches!(target.find, Find::Failure | Find::NoEnd)
+    target.expect.is_some() || finds_no_end(target.find)
 }
 
 /// Whether one that goes round for ever is.
-fn finds_for_ever(target: Target) -> bool
-    ensures { result ≡ true → FindsEndless target.entry }
+fn looks_for_ever(target: Target) -> bool
+    ensures { result ≡ specified.looks_for_ever target.entry }
 {
-    target.expect.is_some() || matches!(target.find, Find::Failure | Find::ForEver)
+    target.expect.is_some() || finds_for_ever(target.find)
 }
 
 /// The run that never ends, where one is looked for: to the first state from which no run ends, or else round a cycle
 /// of a fair run.
-fn endless_run<'a>(liveness: &'a Liveness, target: Target) -> Option<EndlessRun<'a>>
-    ensures { IfSome result (λ _. FindsEndless target.entry) }
+fn endless_of<'a>(liveness: &'a Liveness, target: Target) -> Option<EndlessRun<'a>>
+    ensures none { IfNone result ((HasNoEnd target.entry liveness.now → ⊥)
+        × ((c : _) → GoesRound target.entry liveness.now c → ⊥)) }
+    ensures some { IfSome result (IsKnownIn target.entry liveness.now) }
 {
-    if finds_no_end(target) && !liveness.endless.is_empty() {
-        return Some(EndlessRun {
-            path: liveness.path.as_slice(),
-            round: &[],
-        });
+    if looks_for_no_end(target) && !liveness.endless.is_empty() {
+        return Some(EndlessRun::ToNoEnd(liveness.path.as_slice()));
     }
-    if !finds_for_ever(target) {
+    if !looks_for_ever(target) {
         return None;
     }
     match &liveness.fair_runs {
-        FairRuns::GoOn(cycle) => Some(EndlessRun {
-            path: cycle.path.as_slice(),
-            round: cycle.walk.as_slice(),
-        }),
+        FairRuns::GoOn(cycle) => {
+            let (path, round) = (cycle.path.as_slice(), cycle.walk.as_slice());
+            Some(EndlessRun::Round(path, round))
+        }
         _ => None,
     }
 }
 
-/// The line of a run that never ends: after how many entries none does, or it goes round for ever.
-fn write_endless<W: Write>(out: &mut W, entries: usize, is_stuck: bool) -> io::Result<()>
-    ensures { IfOk result (λ _. Grows (changed W.contents out.old out.new)) }
+/// The same, where it is known what never ends.
+fn endless_run<'a>(liveness: &'a Option<Liveness>, target: Target) -> Option<EndlessRun<'a>>
+    ensures none { IfNone result (HasNoEndless target.entry liveness.now) }
+    ensures some { IfSome result (IsKnown target.entry liveness.now) }
 {
-    if is_stuck {
-        write_no_end(out, entries)
-    } else {
-        write_for_ever(out, entries)
+    match liveness {
+        Some(liveness) => endless_of(liveness, target),
+        None => None,
+    }
+}
+
+impl EndlessRun<'_> {
+    /// The choices to where it is sure never to end.
+    fn path(&self) -> &[usize]
+        ensures { result.now ≡ specified.path_of self.now }
+    {
+        match self {
+            EndlessRun::ToNoEnd(path) => path,
+            EndlessRun::Round(path, _) => path,
+        }
+    }
+
+    /// The choices of the round that it goes then, if it goes one.
+    fn round(&self) -> &[usize] {
+        match self {
+            EndlessRun::ToNoEnd(_) => &[],
+            EndlessRun::Round(_, round) => round,
+        }
+    }
+}
+
+/// The line of a run that never ends: after how many entries none does, or it goes round for ever.
+fn write_endless<W: Write>(out: &mut W, run: &EndlessRun, entries: usize) -> io::Result<()>
+    ensures { Wrote W.contents out.old out.new result (endless_line run.now entries) }
+{
+    match run {
+        EndlessRun::ToNoEnd(_) => write_no_end(out, entries),
+        EndlessRun::Round(_, _) => write_for_ever(out, entries),
     }
 }
 
@@ -169,7 +219,7 @@ fn tell_endless<W: Write, S: Write>(
     alloc: Global,
     request: &Request,
     search: &Search,
-    endless: EndlessRun,
+    run: &EndlessRun,
     out: &mut W,
     save: &mut S,
 ) -> Result<(), Trouble>
@@ -178,43 +228,19 @@ fn tell_endless<W: Write, S: Write>(
     requires sought { FindsEndless search.now.sought.target }
     ensures kept { IfOk result
         (λ _. KeepsNoneOrEndless request.now.parts search.now (changed S.contents save.old save.new)) }
-    ensures grows { IfOk result (λ _. Grows (changed W.contents out.old out.new)) }
+    ensures tells { IfOk result (λ _. Tells (changed W.contents out.old out.new)
+        (λ text. TellsOfEndless request.now search.now run.now text (changed S.contents save.old save.new))) }
     ensures trouble { IfErr result IsOfSystem }
 {
-    let EndlessRun { path, round } = endless;
     let Sought { limit, dump, .. } = search.sought;
-    let made = match run_round(alloc, request, limit, path, round) {
+    let made = match run_round(alloc, request, limit, run.path(), run.round()) {
         Ok(made) => made,
         Err(fault) => return Err(no_memory(fault)),
     };
-    let entries = entries_leading(&made.record, path.len());
-    write_endless(out, entries, round.is_empty())?;
+    let entries = entries_leading(&made.record, run.path().len());
+    write_endless(out, run, entries)?;
     print(out, &made.end, dump)?;
     keep(&made.record, search.save.is_some(), save)?;
-    Ok(())
-}
-
-/// Tells of a run that never ends, where one is looked for.
-fn tell_if_endless<W: Write, S: Write>(
-    alloc: Global,
-    request: &Request,
-    search: &Search,
-    all: &Complete,
-    out: &mut W,
-    save: &mut S,
-) -> Result<(), Trouble>
-    requires asked { IsAskedBy search.now.call request.now }
-    requires every_order { is_some search.now.all ≡ true }
-    ensures kept { IfOk result
-        (λ _. KeepsNoneOrEndless request.now.parts search.now (changed S.contents save.old save.new)) }
-    ensures grows { IfOk result (λ _. Grows (changed W.contents out.old out.new)) }
-    ensures trouble { IfErr result IsOfSystem }
-{
-    if let Some(liveness) = &all.liveness
-        && let Some(endless) = endless_run(liveness, search.sought.target)
-    {
-        tell_endless(alloc, request, search, endless, out, save)?;
-    }
     Ok(())
 }
 
@@ -235,7 +261,8 @@ pub(crate) fn search_all_orders<F: Hears, W: Write, S: Write>(
     requires every_order { search.now.all ≡ Some most }
     ensures finds { IfOk result (Finds request.now.parts search.now (changed S.contents save.old save.new)) }
     ensures prints { IfOk result
-        (PrintsAll request.now.parts search.now most (changed W.contents out.old out.new)) }
+        (PrintsAll request.now.parts search.now most (changed W.contents out.old out.new)
+            (changed S.contents save.old save.new)) }
     ensures well { IfOk result (IsWellAt request.now.parts search.now) }
     ensures trouble { IfErr result IsOfSystem }
 {
@@ -257,6 +284,8 @@ pub(crate) fn search_all_orders<F: Hears, W: Write, S: Write>(
     if !stops {
         return Ok(1);
     }
-    tell_if_endless(alloc, request, search, &all, out, save)?;
+    if let Some(run) = endless_run(&all.liveness, search.sought.target) {
+        tell_endless(alloc, request, search, &run, out, save)?;
+    }
     Ok(1)
 }

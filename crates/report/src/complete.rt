@@ -88,7 +88,7 @@ fn ends_for_sure(liveness: &Liveness) -> bool
 /// does. Where no run ends there is no ending.
 pub(crate) fn are_well(all: &Complete, sought: &Sought) -> bool
     requires { All (λ e. IsLookedFor sought.now e → ⊥) all.now.endings.keys }
-    ensures { result ≡ true → AreAllWell sought.now all.now }
+    ensures { (result ≡ true) ↔ AreAllWell sought.now all.now }
 {
     let endings = all.endings.as_slice();
     let is_all = matches!(all.verdict, Verdict::All);

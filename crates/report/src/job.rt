@@ -6,7 +6,7 @@ ghost use Rattle.report_jobs.specs.Jobs.{HasNoSuchCall, IsNoValidModule};
 ghost use Rattle.report_jobs.specs.Plain.{IsPlain};
 ghost use Rattle.report_jobs.specs.Prints.{changed};
 ghost use Rattle.report_jobs.specs.Silence.{IsRefusal, Stays, makes_file};
-ghost use Rattle.report.specs.Searches.{HasSearched};
+ghost use Rattle.report.specs.Prints.{HasSearched};
 ghost use Rattle.report.specs.Jobs.{Performs};
 
 use crate::{races_saved, search_module, show_saved};

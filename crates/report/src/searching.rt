@@ -1,5 +1,5 @@
 //! Searches by the program: what is printed, and the record of what was found.
-ghost use Rattle.std.specs.Prelude.{◌≡◌, ◌≤◌, ◌<◌, ◌+◌, ◌^◌, ℕ, List, map, IfOk, IfErr, true, is_some};
+ghost use Rattle.std.specs.Prelude.{◌≡◌, ◌≤◌, ◌<◌, ◌+◌, ◌^◌, ℕ, List, [], map, IfOk, IfErr, true, is_some};
 ghost use Rattle.search_finds.specs.Endings.{HaveOneEnding};
 ghost use Rattle.search_finds.specs.Finds.{IsFind, EndsAsLookedFor};
 ghost use Rattle.report_command.specs.Searches.{IsSearchInRange};
@@ -7,10 +7,12 @@ ghost use Rattle.report_jobs.specs.Asked.{IsAskedBy};
 ghost use Rattle.report_jobs.specs.Troubles.{IsTroubleOf};
 ghost use Rattle.std.specs.Io.KnownBytes.{Appends};
 ghost use Rattle.replay_forms.specs.Texts.{Wrote};
+ghost use Rattle.report_lines.specs.Found.{found_run_line};
+ghost use Rattle.search_finds.specs.Endings.{ending_left};
 ghost use Rattle.search_finds.specs.Sizes.{size_in};
-ghost use Rattle.report.specs.Drawn.{size_text, sizes_line, sizes_if};
-ghost use Rattle.report.specs.Searches.{Finds, Grows, IsDrawn, IsFindKept, IsOfSystem, IsPrintedOf, IsWellAt};
-ghost use Rattle.report.specs.Searches.{PrintsDrawn, TellsOfOne};
+ghost use Rattle.report.specs.Drawn.{size_text, sizes_line, sizes_if, behind_text};
+ghost use Rattle.report.specs.Searches.{Finds, IsFindKept, IsOfSystem, IsWellAt};
+ghost use Rattle.report.specs.Prints.{IsDrawn, IsPrintedOf, PrintsDrawn, Tells, TellsOfRun, TellsOfTable};
 ghost use Rattle.report_jobs.specs.Prints.{changed};
 ghost use Rattle.report_jobs.specs.declared.running.Trouble.TheVariants as troubles;
 
@@ -69,13 +71,31 @@ fn write_behind<W: Write>(
     table: &Table,
     is_told: bool,
 ) -> io::Result<()>
-    ensures { IfOk result (λ _. Grows (changed W.contents out.old out.new)) }
+    ensures { Wrote W.contents out.old out.new result (behind_text is_told sought.now table.now) }
 {
-    if !is_told {
-        return write_unseen_of(out, sought, table);
+    if is_told {
+        write_stopped(out, table.runs, sought.runs)?;
     }
-    write_stopped(out, table.runs, sought.runs)?;
     write_unseen_of(out, sought, table)
+}
+
+/// Tells of a search that found nothing, behind its table, and answers the status: 0 where all is well, and else 1.
+fn tell_none<W: Write>(
+    alloc: Global,
+    sought: &Sought,
+    table: &Table,
+    is_told: bool,
+    out: &mut W,
+) -> Result<u8, Trouble>
+    ensures tells { IfOk result (λ status. Tells (changed W.contents out.old out.new)
+        (λ text. TellsOfTable sought.now table.now is_told text status)) }
+    ensures trouble { IfErr result IsOfSystem }
+{
+    write_behind(out, sought, table, is_told)?;
+    if is_all_well(alloc, sought, table)? {
+        return Ok(0);
+    }
+    Ok(1)
 }
 
 /// Makes the runs that a search asks for, prints the table of their endings, and of a run that was found its lines, or
@@ -93,7 +113,8 @@ fn search_drawn<R: Threads + Sync, F: Hears, W: Write, S: Write>(
     requires range { IsSearchInRange search.now }
     requires asked { IsAskedBy search.now.call request.now }
     ensures finds { IfOk result (Finds request.now.parts search.now (changed S.contents save.old save.new)) }
-    ensures prints { IfOk result (PrintsDrawn request.now.parts search.now (changed W.contents out.old out.new)) }
+    ensures prints { IfOk result (PrintsDrawn request.now.parts search.now (changed W.contents out.old out.new)
+        (changed S.contents save.old save.new)) }
     ensures trouble { IfErr result IsOfSystem }
 {
     let jobs = jobs_of(rt, search);
@@ -105,19 +126,14 @@ fn search_drawn<R: Threads + Sync, F: Hears, W: Write, S: Write>(
     follower.end();
     write_table(out, &search.sought, &table)?;
     write_cut_of(out, &search.sought, &table)?;
-    let is_told = match halt {
+    match halt {
         Halt::Found(found) => {
             tell_found(alloc, request, search, found, follower, out, save)?;
-            return Ok(1);
+            Ok(1)
         }
-        Halt::AllMade => false,
-        Halt::Told => true,
-    };
-    write_behind(out, &search.sought, &table, is_told)?;
-    if is_all_well(alloc, &search.sought, &table)? {
-        return Ok(0);
+        Halt::AllMade => tell_none(alloc, &search.sought, &table, false, out),
+        Halt::Told => tell_none(alloc, &search.sought, &table, true, out),
     }
-    Ok(1)
 }
 
 /// Searches as is asked for: through drawn runs, or through every order of entries. Answers the status.
@@ -133,9 +149,10 @@ pub fn search_module<R: Threads + Sync, F: Hears, W: Write, S: Write>(
     requires { IsSearchInRange search.now }
     ensures finds { IfOk result (Finds «module».now.parts search.now (changed S.contents save.old save.new)) }
     ensures well { IfOk result (IsWellAt «module».now.parts search.now) }
-    ensures drawn { IfOk result (IsDrawn «module».now.parts search.now (changed W.contents out.old out.new)) }
-    ensures prints { IfOk result
-        (IsPrintedOf «module».now.parts search.now (changed W.contents out.old out.new)) }
+    ensures drawn { IfOk result (IsDrawn «module».now.parts search.now (changed W.contents out.old out.new)
+        (changed S.contents save.old save.new)) }
+    ensures prints { IfOk result (IsPrintedOf «module».now.parts search.now (changed W.contents out.old out.new)
+        (changed S.contents save.old save.new)) }
     ensures trouble { IfErr result (IsTroubleOf «module».now.parts search.now.call) }
 {
     let args = args_of(alloc, module, &search.call)?;
@@ -190,9 +207,8 @@ pub(crate) fn tell_made<F: Hears, W: Write, S: Write>(
     requires asked { IsAskedBy search.now.call request.now }
     requires ends { EndsAsLookedFor search.now.sought search.now.sought.dump made.end }
     ensures kept { IfOk result (λ _. IsFindKept request.now.parts search.now (changed S.contents save.old save.new)) }
-    ensures one { IfOk result (λ _. TellsOfOne request.now search.now (changed W.contents out.old out.new)
-        (changed S.contents save.old save.new)) }
-    ensures grows { IfOk result (λ _. Grows (changed W.contents out.old out.new)) }
+    ensures tells { IfOk result (λ _. Tells (changed W.contents out.old out.new) (λ text. TellsOfRun request.now search.now
+        (ending_left search.now.sought.dump made.end) [] text (changed S.contents save.old save.new))) }
     ensures trouble { IfErr result IsOfSystem }
 {
     out.flush()?;
@@ -216,7 +232,9 @@ fn tell_found<F: Hears, W: Write, S: Write>(
     requires asked { IsAskedBy search.now.call request.now }
     requires ends { EndsAsLookedFor search.now.sought search.now.sought.dump found.made.end }
     ensures kept { IfOk result (λ _. IsFindKept request.now.parts search.now (changed S.contents save.old save.new)) }
-    ensures grows { IfOk result (λ _. Grows (changed W.contents out.old out.new)) }
+    ensures tells { IfOk result (λ _. Tells (changed W.contents out.old out.new) (λ text. TellsOfRun request.now search.now
+        (ending_left search.now.sought.dump found.made.end) (found_run_line found.run) text
+        (changed S.contents save.old save.new))) }
     ensures trouble { IfErr result IsOfSystem }
 {
     let Found { run, made } = found;

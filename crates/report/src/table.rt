@@ -1,9 +1,10 @@
 //! The table of a search of drawn runs, and what it says of runs that weren't made.
-ghost use Rattle.std.specs.Prelude.{◌≡◌, ◌==◌, count_by, true, IfOk};
+ghost use Rattle.std.specs.Prelude.{◌≡◌, ◌↔◌, ◌<◌, ◌^◌, true, IfOk};
 ghost use Rattle.replay_forms.specs.Texts.{Wrote};
-ghost use Rattle.report_jobs.specs.Prints.{changed};
-ghost use Rattle.report.specs.Drawn.{table_line, table_lines};
-ghost use Rattle.report.specs.Searches.{Grows, IsAllWell};
+ghost use Rattle.report_lines.specs.Drawn.{cut_line};
+ghost use Rattle.report.specs.Drawn as specified;
+ghost use Rattle.report.specs.Drawn.{table_line, table_lines, cut_in, singles_in, late_in, unseen_text};
+ghost use Rattle.report.specs.Prints.{IsAllWell};
 
 use crate::complete::has_ended_well;
 use report_command::Sought;
@@ -39,7 +40,7 @@ pub(crate) fn write_table<W: Write>(out: &mut W, sought: &Sought, table: &Table)
 
 /// Whether a run was made, in each ending of the table all threads ended well, and none is looked for.
 pub(crate) fn is_all_well(alloc: Global, sought: &Sought, table: &Table) -> Result<bool, AllocError>
-    ensures { IfOk result (λ is. (is ≡ true) → IsAllWell sought.now table.now) }
+    ensures { IfOk result (λ is. (is ≡ true) ↔ IsAllWell sought.now table.now) }
 {
     if table.runs == 0 {
         return Ok(false);
@@ -52,20 +53,29 @@ pub(crate) fn is_all_well(alloc: Global, sought: &Sought, table: &Table) -> Resu
     Ok(true)
 }
 
-/// Whether a run that ended so was cut: a thread found the log full.
-fn is_cut(met: &Met) -> bool {
-    met.ending
-        .outcomes()
-        .iter()
-        .any(|outcome| *outcome == Outcome::Stop(Stop::RecordFull))
+/// Whether a thread found the log full.
+fn found_it_full(outcome: Outcome) -> bool
+    ensures { result ≡ specified.found_it_full outcome }
+{
+    matches!(outcome, Outcome::Stop(Stop::RecordFull))
+}
+
+/// Whether a run that ended so was cut.
+fn is_cut(ending: &Ending) -> bool
+    ensures { result ≡ specified.is_cut ending.now }
+{
+    ending.outcomes().iter().any(|outcome| found_it_full(*outcome))
 }
 
 /// How many runs of a table were cut.
-fn cut_of(table: &Table) -> u64 {
+fn cut_of(table: &Table) -> u64
+    requires { cut_in table.now < 2 ^ 64 }
+    ensures { result ≡ cut_in table.now }
+{
     let mut cut = 0u64;
     for met in table.met.iter() {
-        if is_cut(met) {
-            cut = cut.saturating_add(met.times);
+        if is_cut(&met.ending) {
+            cut += met.times;
         }
     }
     cut
@@ -73,33 +83,45 @@ fn cut_of(table: &Table) -> u64 {
 
 /// The line of runs that were cut at the end of their log, where there are some.
 pub(crate) fn write_cut_of<W: Write>(out: &mut W, sought: &Sought, table: &Table) -> io::Result<()>
-    ensures { IfOk result (λ _. Grows (changed W.contents out.old out.new)) }
+    requires { cut_in table.now < 2 ^ 64 }
+    ensures { Wrote W.contents out.old out.new result (cut_line (cut_in table.now) sought.now.limit) }
 {
     write_cut(out, cut_of(table), sought.limit)
 }
 
 /// How many endings of a table were met in one run alone.
 fn singles_of(table: &Table) -> usize
-    ensures { result ≡ count_by (λ m. m.times == 1) table.now.met.items }
+    ensures { result ≡ singles_in table.now }
 {
     table.met.iter().filter(|met| met.times == 1).count()
 }
 
 /// How many endings of a table were met first in the last half of its runs.
-fn late_of(sought: &Sought, table: &Table) -> usize {
-    let half = sought.from.saturating_add(table.runs / 2);
-    table.met.iter().filter(|met| half <= met.first).count()
+fn late_of(sought: &Sought, table: &Table) -> usize
+    ensures { result ≡ late_in sought.now table.now }
+{
+    let half = table.runs / 2;
+    let from = sought.from;
+    table
+        .met
+        .iter()
+        .filter(|met| half <= met.first.saturating_sub(from))
+        .count()
 }
 
-/// The line of what is unseen: how many endings there are, how many were new in the last half of the runs, and with
-/// which chance a further run ends as none did (the share of the runs whose ending no other run has; Good-Turing).
+/// The line of what is unseen, where runs were made: how many endings there are, how many were new in the last half of
+/// the runs, and with which chance a further run ends as none did (the share of the runs whose ending no other run has;
+/// Good-Turing).
 pub(crate) fn write_unseen_of<W: Write>(
     out: &mut W,
     sought: &Sought,
     table: &Table,
 ) -> io::Result<()>
-    ensures { IfOk result (λ _. Grows (changed W.contents out.old out.new)) }
+    ensures { Wrote W.contents out.old out.new result (unseen_text sought.now table.now) }
 {
+    if table.runs == 0 {
+        return Ok(());
+    }
     let endings = table.met.len();
     let late = late_of(sought, table);
     write_unseen(out, endings, late, singles_of(table), table.runs)

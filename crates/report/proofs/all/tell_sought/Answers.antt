@@ -1,20 +1,34 @@
-use Rattle.std.proofs.Common.{subst}
-use Rattle.search_finds.specs.Finds.{IsLookedFor}
+use Rattle.std.proofs.Common.{List, inl, inr, refl, subst}
 use Rattle.std.proofs.lemmas.Result.{IfOk-weaker}
-use Rattle.report_jobs.specs.Prints.{change}
-use Rattle.report.specs.Searches.{Grows}
-use Rattle.report.proofs.Growing.{then_grows}
+use Rattle.search_finds.specs.Finds.{IsLookedFor}
+use Rattle.search_finds.specs.Endings.{ending_left}
+use Rattle.search_endings.specs.Endings.{Ending}
+use Rattle.report_jobs.specs.Prints.{change, changed}
+use Rattle.report_lines.specs.Found.{found_ending_line}
+use Rattle.report.specs.Prints.{Tells, TellsOfOne, TellsOfRun}
+use Rattle.report.proofs.Printed.{told_after}
 use Rattle.report.proofs.all.tell_sought.Goals as goal
 
 pub tell_made-requires-clause-ends : goal.tell_made-requires-clause-ends
 tell_made-requires-clause-ends g c κs within =
     subst (IsLookedFor c.args.search.now.sought) (rw c.in-Some.is at c.in-Ok.ensures.ending) c.requires.sought
 
-pub returns-in_ok-write_found_ending-in-Some-clause-grows : goal.returns-in_ok-write_found_ending-in-Some-clause-grows
-returns-in_ok-write_found_ending-in-Some-clause-grows g c =
+pub returns-in_ok-write_found_ending-in-Some-clause-tells : goal.returns-in_ok-write_found_ending-in-Some-clause-tells
+returns-in_ok-write_found_ending-in-Some-clause-tells g c =
     let contents = g.W.Write.contents in
     let before = contents c.args.out.now in
     let between = contents c.write_found_ending.new.out in
     let after = contents c.tell_made.new.out in
-    IfOk-weaker c.tell_made.result (λ _. Grows (change between after)) (λ _. Grows (change before after))
-    (λ _ grows. then_grows before between after _ c.in_ok-write_found_ending-in-Some.ensures grows) c.tell_made.ensures.grows
+    let q = c.args.request.now in
+    let s = c.args.search.now in
+    let first = c.args.first in
+    let save = changed g.S.Write.contents c.args.save.now c.tell_made.new.save in
+    let head = found_ending_line first.number in
+    let e = ending_left s.sought.dump c.in-Some.made.end in
+    let same : first.ending.now ≡ e = rw c.in-Some.is at c.in-Ok.ensures.ending in
+    IfOk-weaker c.tell_made.result (λ _. Tells (change between after) (λ text. TellsOfRun q s e [] text save))
+    (λ _. Tells (change before after) (λ text. TellsOfOne q s first.number first.ending.now text save))
+    (λ _ tells.
+      let told = told_after q s e save head before between after c.in_ok-write_found_ending-in-Some.ensures tells in
+      (told.0, (told.1.0, inl (subst (λ (x : Ending). TellsOfRun q s x head told.0 save) (sym same) told.1.1))))
+    c.tell_made.ensures.tells

@@ -4,7 +4,8 @@ use Rattle.types.specs.declared.parts.Parts.{Parts}
 use Rattle.report_jobs.specs.Arguments.{texts_in}
 use Rattle.report_jobs.specs.Prints.{changed}
 use Rattle.report_jobs.specs.Troubles.{IsTroubleOf}
-use Rattle.report.specs.Searches.{Finds, IsDrawn, IsOfSystem, IsPrintedOf, IsWellAt, PrintsAll, PrintsDrawn}
+use Rattle.report.specs.Prints.{IsDrawn, IsPrintedOf, PrintsAll, PrintsDrawn}
+use Rattle.report.specs.Searches.{Finds, IsOfSystem, IsWellAt}
 use Rattle.report.proofs.Asking.{of_system}
 use Rattle.report.proofs.searching.search_module.Goals as goal
 
@@ -40,8 +41,9 @@ returns-clause-drawn g c =
     let r = c.request_of-request.result.parts in
     let s = c.args.search.now in
     let out = changed g.W.Write.contents c.args.out.now c.search_drawn.new.out in
-    IfOk-weaker c.search_drawn.result (PrintsDrawn r s out) (IsDrawn m s out)
-    (λ status so _. subst (λ (parts : Parts). PrintsDrawn parts s out status) c.request_of-request.ensures.parts so)
+    let save = changed g.S.Write.contents c.args.save.now c.search_drawn.new.save in
+    IfOk-weaker c.search_drawn.result (PrintsDrawn r s out save) (IsDrawn m s out save)
+    (λ status so _. subst (λ (parts : Parts). PrintsDrawn parts s out save status) c.request_of-request.ensures.parts so)
     c.search_drawn.ensures.prints
 
 pub returns-clause-trouble : goal.returns-clause-trouble
@@ -57,7 +59,8 @@ returns-in-Some-clause-prints g c =
     let r = c.request_of-request.result.parts in
     let s = c.args.search.now in
     let out = changed g.W.Write.contents c.args.out.now c.search_all_orders.new.out in
-    IfOk-weaker c.search_all_orders.result (PrintsAll r s c.in-Some.most out) (IsPrintedOf m s out)
-    (λ status so most is. subst (λ (n : ℕ). PrintsAll m s n out status) (cc (sym c.in-Some.is ∙ is))
-    (subst (λ (p : Parts). PrintsAll p s c.in-Some.most out status) c.request_of-request.ensures.parts so))
+    let save = changed g.S.Write.contents c.args.save.now c.search_all_orders.new.save in
+    IfOk-weaker c.search_all_orders.result (PrintsAll r s c.in-Some.most out save) (IsPrintedOf m s out save)
+    (λ status so most is. subst (λ (n : ℕ). PrintsAll m s n out save status) (cc (sym c.in-Some.is ∙ is))
+    (subst (λ (p : Parts). PrintsAll p s c.in-Some.most out save status) c.request_of-request.ensures.parts so))
     c.search_all_orders.ensures.prints

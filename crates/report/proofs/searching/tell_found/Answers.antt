@@ -1,14 +1,23 @@
 use Rattle.std.proofs.lemmas.Result.{IfOk-weaker}
-use Rattle.report_jobs.specs.Prints.{change}
-use Rattle.report.specs.Searches.{Grows}
-use Rattle.report.proofs.Growing.{then_grows}
+use Rattle.search_finds.specs.Endings.{ending_left}
+use Rattle.report_jobs.specs.Prints.{change, changed}
+use Rattle.report_lines.specs.Found.{found_run_line}
+use Rattle.report.specs.Prints.{Tells, TellsOfRun}
+use Rattle.report.proofs.Printed.{told_after}
 use Rattle.report.proofs.searching.tell_found.Goals as goal
 
-pub returns-clause-grows : goal.returns-clause-grows
-returns-clause-grows g c =
+pub returns-clause-tells : goal.returns-clause-tells
+returns-clause-tells g c =
     let contents = g.W.Write.contents in
     let before = contents c.args.out.now in
     let between = contents c.write_found_run.new.out in
     let after = contents c.tell_made.new.out in
-    IfOk-weaker c.tell_made.result (λ _. Grows (change between after)) (λ _. Grows (change before after))
-    (λ _ grows. then_grows before between after _ c.in_ok-write_found_run.ensures grows) c.tell_made.ensures.grows
+    let q = c.args.request.now in
+    let s = c.args.search.now in
+    let found = c.args.found in
+    let save = changed g.S.Write.contents c.args.save.now c.tell_made.new.save in
+    let e = ending_left s.sought.dump found.made.end in
+    let head = found_run_line found.run in
+    IfOk-weaker c.tell_made.result (λ _. Tells (change between after) (λ text. TellsOfRun q s e [] text save))
+    (λ _. Tells (change before after) (λ text. TellsOfRun q s e head text save))
+    (λ _. told_after q s e save head before between after c.in_ok-write_found_run.ensures) c.tell_made.ensures.tells

@@ -1,9 +1,9 @@
-use Rattle.std.proofs.Common.{ℕ, List, ◌∙◌, subst}
+use Rattle.std.proofs.Common.{ℕ, List, ◌∙◌, refl, sym, subst}
 use Rattle.search_scheduled.specs.Headers.{IsOfCall}
 use Rattle.report.proofs.Searched.{ends_alike}
 use Rattle.replay_forms.proofs.Written.{appends_then}
 use Rattle.search_finds.specs.Sizes.{size_in}
-use Rattle.report.proofs.Growing.{grows_then, keeps_append}
+use Rattle.report.proofs.Growing.{keeps_append}
 use Rattle.report.proofs.searching.tell_made.Goals as goal
 
 pub returns-clause-kept : goal.returns-clause-kept
@@ -25,24 +25,17 @@ returns-clause-kept g c =
       kept = λ wanted. c.in_ok-keep.ensures.kept (c.is_some.ensures ∙ wanted);
     }
 
-pub returns-clause-grows : goal.returns-clause-grows
-returns-clause-grows g c =
+pub returns-clause-tells : goal.returns-clause-tells
+returns-clause-tells g c =
     let contents = g.W.Write.contents in
     let before = contents c.args.out.now in
     let between = contents c.shrunk_if_asked.new.out in
     let sizes = keeps_append before (contents c.flush.new.self) between _ c.in_ok-flush.ensures.bytes c.in_ok-kept.ensures.sizes in
-    grows_then before between (contents c.print.new.out) _ (_, sizes) c.in_ok-print.ensures.prints.lines
-
-pub returns-clause-one : goal.returns-clause-one
-returns-clause-one g c =
-    let contents = g.W.Write.contents in
-    let before = contents c.args.out.now in
-    let between = contents c.shrunk_if_asked.new.out in
-    let sizes = keeps_append before (contents c.flush.new.self) between _ c.in_ok-flush.ensures.bytes c.in_ok-kept.ensures.sizes in
-    record {
+    (_, (appends_then before between (contents c.print.new.out) _ _ sizes c.in_ok-print.ensures.prints.lines, record {
       made = c.in_ok-kept.kept;
       find = c.in_ok-kept.ensures.run;
+      ends = sym c.in_ok-kept.ensures.ending;
       was = size_in c.args.made.«record»;
-      lines = appends_then before between (contents c.print.new.out) _ _ sizes c.in_ok-print.ensures.prints.lines;
+      text_is = refl;
       kept = λ wanted. c.in_ok-keep.ensures.kept (c.is_some.ensures ∙ wanted);
-    }
+    }))

@@ -1,0 +1,168 @@
+-- What is printed of a search, and what is written of what it found.
+use Rattle.std.specs.Prelude.{ℕ, ◌≡◌, ◌≢◌, ◌≤◌, ◌<◌, ◌+◌, ◌-◌, ◌⊎◌, ◌↔◌, All, Bool, List, [], ◌++◌, length, take, true, false}
+use Rattle.std.specs.Prelude.{Some, is_none, is_some, slice_index_or}
+use Rattle.std.specs.Io.KnownBytes.{Appends}
+use Rattle.types.specs.declared.parts.Parts.{Parts}
+use Rattle.validate_typing.specs.Validity.{IsValid}
+use Rattle.binary.specs.Grammar.{IsModuleText}
+use Rattle.spawn_host.specs.Requests.{Requested}
+use Rattle.search_reach.specs.declared.ending.Ended.{Ended}
+use Rattle.search_endings.specs.Endings.{Ending}
+use Rattle.search_scheduled.specs.declared.running.MadeRun.{MadeRun}
+use Rattle.search_finds.specs.Endings.{ending_left}
+use Rattle.search_finds.specs.Finds.{IsFind, IsLookedFor, HasNoneLookedFor}
+use Rattle.search_finds.specs.Leading.{LeadsTo}
+use Rattle.search_finds.specs.Noted.{AreNoted}
+use Rattle.search_finds.specs.Sizes.{size_in}
+use Rattle.search_finds.specs.declared.met.Table.{Table}
+use Rattle.search_finds.specs.declared.size.Size.{Size}
+use Rattle.report_choice.specs.declared.sought.Sought.{Sought}
+use Rattle.report_command.specs.declared.search.Search.{Search}
+use Rattle.report_lines.specs.Drawn.{cut_line}
+use Rattle.report_lines.specs.Found.{found_run_line, found_ending_line, without_run_line}
+use Rattle.report_lines.specs.Lines.{end_lines}
+use Rattle.report_jobs.specs.Asked.{IsAskedBy}
+use Rattle.report_jobs.specs.Prints.{WriterChange, KeepsRecord}
+use Rattle.report.specs.Complete.{complete_lines, threads_end_well, AreAllWell}
+use Rattle.report.specs.Drawn.{table_lines, cut_in, behind_text, sizes_if}
+use Rattle.report.specs.Endless.{HasNoEndless, IsKnown, endless_line, path_of}
+use Rattle.report.specs.Searches.{Finds, IsCompleteOf, IsWellAt}
+use Rattle.report.specs.declared.all.EndlessRun.{EndlessRun}
+
+-- A text that says so was written behind what stood there.
+abbrev pub Tells : WriterChange → (List ℕ → Type 0) → Type 0
+Tells out Says = (text : List ℕ) × Appends out.old out.new text × Says text
+
+-- The lines of a run.
+abbrev pub run_lines : Search → MadeRun → List ℕ
+run_lines s made = end_lines made.end.threads.items made.end.pages s.sought.dump made.end.bytes.items
+
+-- A run by the call that ends so is told of: a line first, its size as it was and is, where it was shrunk, and its own
+-- lines; and the record that was written, where one is wanted, is its own.
+pub record TellsOfRun (q : Requested) (s : Search) (ending : Ending) (head text : List ℕ) (save : WriterChange) : Type 0 where
+  pub made : MadeRun
+  pub find : IsFind q s.sought.limit made
+  pub ends : ending_left s.sought.dump made.end ≡ ending
+  pub was : Size
+  pub text_is : text ≡ head ++ (sizes_if s.shrink was (size_in made.record) ++ run_lines s made)
+  pub kept : KeepsRecord (is_some s.save) save made.record
+
+-- Of drawn runs the last that was made was found.
+pub record TellsOfLast (q : Requested) (s : Search) (table : Table) (text : List ℕ) (save : WriterChange) : Type 0 where
+  pub run : ℕ
+  pub is_last : run + 1 ≡ s.sought.from + table.runs
+  pub ending : Ending
+  pub sought : IsLookedFor s.sought ending
+  pub tells : TellsOfRun q s ending (found_run_line run) text save
+
+-- Runs were made; in each ending of the table all threads ended well, and none is looked for.
+pub record IsAllWell (s : Sought) (table : Table) : Type 0 where
+  pub some : table.runs ≢ 0
+  pub well : All (λ met. (threads_end_well met.ending ≡ true) × (IsLookedFor s met.ending → ⊥)) table.met.items
+
+-- Where none was found what is unseen is said, and that the search was told to end, where it was. The status is 0 where
+-- all is well, and else 1.
+pub record TellsOfTable (s : Sought) (table : Table) (is_told : Bool) (text : List ℕ) (status : ℕ) : Type 0 where
+  pub text_is : text ≡ behind_text is_told s table
+  pub well : (status ≡ 0) ↔ IsAllWell s table
+  pub statuses : status ≤ 1
+
+-- None was found: all were made, and none is looked for, where the search stops at such a one; or it was told to end.
+pub record TellsOfNone (s : Search) (table : Table) (text : List ℕ) (save : WriterChange) (status : ℕ) : Type 0 where
+  pub is_told : Bool
+  pub all_made : is_told ≡ false → table.runs ≡ s.sought.runs
+  pub none : is_told ≡ false → s.sought.stops ≡ true → HasNoneLookedFor s.sought table
+  pub tells : TellsOfTable s.sought table is_told text status
+  pub kept : save.new ≡ save.old
+
+-- What was written are the lines of a table of runs of the module by the call that was asked for, each of which was
+-- noted in it; how many of them were cut; and what is said of the one that was found, or of none.
+pub record PrintsDrawn (m : Parts) (s : Search) (out save : WriterChange) (status : ℕ) : Type 0 where
+  pub request : Requested
+  pub parts_are : request.parts ≡ m
+  pub asked : IsAskedBy s.call request
+  pub table : Table
+  pub noted : AreNoted request s.sought table
+  pub told : List ℕ
+  pub lines : Appends out.old out.new (table_lines s.sought table ++ (cut_line (cut_in table) s.sought.limit ++ told))
+  pub says : ((status ≡ 1) × TellsOfLast request s table told save) ⊎ TellsOfNone s table told save status
+
+-- The first ending of a list that is looked for, by its number from 1 on.
+pub record IsFirstSought (s : Sought) (endings : List Ending) (number : ℕ) (ending : Ending) : Type 0 where
+  pub some : number ≢ 0
+  pub within : number - 1 < length endings
+  pub there : slice_index_or endings (number - 1) ending ≡ ending
+  pub sought : IsLookedFor s ending
+  pub before : All (λ e. IsLookedFor s e → ⊥) (take (number - 1) endings)
+
+-- Of all endings that one is told of, by a run, or that no run was made for it.
+abbrev pub TellsOfOne : Requested → Search → ℕ → Ending → List ℕ → WriterChange → Type 0
+TellsOfOne q s number ending text save =
+    TellsOfRun q s ending (found_ending_line number) text save ⊎ ((text ≡ without_run_line number) × (save.new ≡ save.old))
+
+pub record TellsOfFirst (q : Requested) (s : Search) (all : Ended Ending) (text : List ℕ) (save : WriterChange) : Type 0 where
+  pub number : ℕ
+  pub ending : Ending
+  pub is_first : IsFirstSought s.sought all.endings.keys number ending
+  pub tells : TellsOfOne q s number ending text save
+
+-- Where none is, a run by the call that never ends: after how many entries it is sure not to, and its lines; and the
+-- record that was written, where one is wanted, is its own.
+pub record TellsOfEndless (q : Requested) (s : Search) (run : EndlessRun) (text : List ℕ) (save : WriterChange) : Type 0 where
+  pub made : MadeRun
+  pub find : IsFind q s.sought.limit made
+  pub entries : ℕ
+  pub leads : LeadsTo made.record.log (path_of run) entries
+  pub text_is : text ≡ endless_line run entries ++ run_lines s made
+  pub kept : KeepsRecord (is_some s.save) save made.record
+
+pub record TellsOfKnown (q : Requested) (s : Search) (all : Ended Ending) (text : List ℕ) (save : WriterChange) : Type 0 where
+  pub run : EndlessRun
+  pub known : IsKnown s.sought.target all.liveness run
+  pub unsought : All (λ e. IsLookedFor s.sought e → ⊥) all.endings.keys
+  pub tells : TellsOfEndless q s run text save
+
+-- Nothing is told, where the search doesn't stop at what is looked for, or there is none.
+pub record TellsNothing (s : Search) (all : Ended Ending) (text : List ℕ) (save : WriterChange) : Type 0 where
+  pub text_is : text ≡ []
+  pub kept : save.new ≡ save.old
+  pub unsought : s.sought.stops ≡ true → All (λ e. IsLookedFor s.sought e → ⊥) all.endings.keys
+  pub endless : s.sought.stops ≡ true → HasNoEndless s.sought.target all.liveness
+
+-- What is told behind the lines of a search through every order of entries. Where it doesn't stop, nothing.
+abbrev pub IsToldBehind : Requested → Search → Ended Ending → List ℕ → WriterChange → Type 0
+IsToldBehind q s all text save =
+    TellsNothing s all text save
+    ⊎ ((s.sought.stops ≡ true) × (TellsOfFirst q s all text save ⊎ TellsOfKnown q s all text save))
+
+-- What was written are the lines of what was found of all runs of the module by the call that was asked for, and what is
+-- told behind them. The status is 0 where all is well, and else 1.
+pub record PrintsAll (m : Parts) (s : Search) (most : ℕ) (out save : WriterChange) (status : ℕ) : Type 0 where
+  pub request : Requested
+  pub parts_are : request.parts ≡ m
+  pub asked : IsAskedBy s.call request
+  pub all : Ended Ending
+  pub complete : IsCompleteOf request s.sought.dump all
+  pub told : List ℕ
+  pub lines : Appends out.old out.new (complete_lines most all ++ told)
+  pub says : IsToldBehind request s all told save
+  pub well : (status ≡ 0) ↔ AreAllWell s.sought all
+  pub statuses : status ≤ 1
+
+-- What is printed of a search of drawn runs.
+abbrev pub IsDrawn : Parts → Search → WriterChange → WriterChange → ℕ → Type 0
+IsDrawn m s out save status = is_none s.all ≡ true → PrintsDrawn m s out save status
+
+-- What is printed of a search through every order of entries.
+abbrev pub IsPrintedOf : Parts → Search → WriterChange → WriterChange → ℕ → Type 0
+IsPrintedOf m s out save status = (most : ℕ) → s.all ≡ Some most → PrintsAll m s most out save status
+
+-- The bytes are a valid module's text, and its runs were searched.
+pub record HasSearched (bytes : List ℕ) (s : Search) (out save : WriterChange) (status : ℕ) : Type 0 where
+  pub parts : Parts
+  pub text : IsModuleText bytes parts
+  pub valid : IsValid parts
+  pub finds : Finds parts s save status
+  pub well : IsWellAt parts s status
+  pub drawn : IsDrawn parts s out save status
+  pub prints : IsPrintedOf parts s out save status
