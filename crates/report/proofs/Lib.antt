@@ -5,4 +5,5 @@ mod Sure
 mod Growing
 mod Printed
 mod Counted
+mod Silent
 pub mod Told

@@ -5,3 +5,4 @@ pub mod Drawn
 pub mod Endless
 pub mod Searches
 pub mod Prints
+pub mod Silent

@@ -1,5 +1,5 @@
 //! Every order of the entries of a call: what is printed, and the record of what was found.
-ghost use Rattle.std.specs.Prelude.{◌≡◌, ◌≤◌, ◌⊎◌, All, Some, None, is_some, true, IfOk, IfErr, IfSome, IfNone, MatchOption};
+ghost use Rattle.std.specs.Prelude.{◌≡◌, ◌≤◌, ◌⊎◌, All, Some, None, is_some, true, false, IfOk, IfErr, IfSome, IfNone, MatchOption};
 ghost use Rattle.replay_forms.specs.Texts.{Wrote};
 ghost use Rattle.search_finds.specs.Finds.{IsLookedFor};
 ghost use Rattle.report_jobs.specs.Asked.{IsAskedBy};
@@ -9,6 +9,7 @@ ghost use Rattle.report.specs.Prints.{IsFirstSought, PrintsAll, Tells, TellsOfEn
 ghost use Rattle.report.specs.Searches.{Finds, IsCompleteOf, KeepsNoneOrFind, KeepsNoneOrEndless};
 ghost use Rattle.report.specs.Searches.{IsOfSystem, IsWellAt};
 ghost use Rattle.report_jobs.specs.Prints.{changed};
+ghost use Rattle.report_jobs.specs.Silence.{Stays};
 
 use crate::complete::{Complete, are_well, write_complete};
 use crate::searching::{no_memory, tell_made};
@@ -98,6 +99,7 @@ fn tell_sought<F: Hears, W: Write, S: Write>(
         (λ _. KeepsNoneOrFind request.now.parts search.now (changed S.contents save.old save.new)) }
     ensures tells { IfOk result (λ _. Tells (changed W.contents out.old out.new) (λ text.
         TellsOfOne request.now search.now first.number first.ending.now text (changed S.contents save.old save.new))) }
+    ensures unwanted { is_some search.now.save ≡ false → Stays save.old save.new }
     ensures trouble { IfErr result IsOfSystem }
 {
     let SoughtEnding {
@@ -230,6 +232,7 @@ fn tell_endless<W: Write, S: Write>(
         (λ _. KeepsNoneOrEndless request.now.parts search.now (changed S.contents save.old save.new)) }
     ensures tells { IfOk result (λ _. Tells (changed W.contents out.old out.new)
         (λ text. TellsOfEndless request.now search.now run.now text (changed S.contents save.old save.new))) }
+    ensures unwanted { is_some search.now.save ≡ false → Stays save.old save.new }
     ensures trouble { IfErr result IsOfSystem }
 {
     let Sought { limit, dump, .. } = search.sought;
@@ -264,6 +267,7 @@ pub(crate) fn search_all_orders<F: Hears, W: Write, S: Write>(
         (PrintsAll request.now.parts search.now most (changed W.contents out.old out.new)
             (changed S.contents save.old save.new)) }
     ensures well { IfOk result (IsWellAt request.now.parts search.now) }
+    ensures unwanted { is_some search.now.save ≡ false → Stays save.old save.new }
     ensures trouble { IfErr result IsOfSystem }
 {
     let all = all_of(alloc, request, most, search.sought.dump, follower)?;

@@ -1,13 +1,13 @@
 //! What the program does: each job of its command line.
-ghost use Rattle.std.specs.Prelude.{◌≡◌, ◌≤◌, ◌⊎◌, false};
+ghost use Rattle.std.specs.Prelude.{◌≡◌, ◌≤◌, ◌⊎◌, false, is_some};
 ghost use Rattle.report_command.specs.Jobs.{IsInRange};
 ghost use Rattle.report_command.specs.Searches.{IsSearchInRange};
 ghost use Rattle.report_jobs.specs.Jobs.{HasNoSuchCall, IsNoValidModule};
-ghost use Rattle.report_jobs.specs.Plain.{IsPlain};
 ghost use Rattle.report_jobs.specs.Prints.{changed};
-ghost use Rattle.report_jobs.specs.Silence.{IsRefusal, Stays, makes_file};
+ghost use Rattle.report_jobs.specs.Silence.{IsRefusal, Stays};
 ghost use Rattle.report.specs.Prints.{HasSearched};
 ghost use Rattle.report.specs.Jobs.{Performs};
+ghost use Rattle.report.specs.Silent.{writes_file};
 
 use crate::{races_saved, search_module, show_saved};
 use report_command::{Job, Search};
@@ -52,9 +52,8 @@ where
     ensures performs { Performs job.now «module».now saved.now
         (changed W.contents streams.old.out streams.new.out)
         (changed S.contents streams.old.save streams.new.save) result }
-    ensures silent { IsPlain job.now → IsRefusal result
-        → Stays streams.old.out streams.new.out × Stays streams.old.save streams.new.save }
-    ensures unwanted { IsPlain job.now → makes_file job.now ≡ false → Stays streams.old.save streams.new.save }
+    ensures silent { IsRefusal result → Stays streams.old.out streams.new.out × Stays streams.old.save streams.new.save }
+    ensures unwanted { writes_file job.now ≡ false → Stays streams.old.save streams.new.save }
 {
     match job {
         Job::Show { look, view, .. } => {
@@ -85,7 +84,8 @@ where
     ensures made { result ≤ 1 → HasSearched «module».now asked.now (changed W.contents streams.old.out streams.new.out)
         (changed S.contents streams.old.save streams.new.save) result }
     ensures refused { result ≡ 2 → IsNoValidModule «module».now }
-    ensures silent { result ≡ 2 → Stays streams.old.out streams.new.out × Stays streams.old.save streams.new.save }
+    ensures silent { IsRefusal result → Stays streams.old.out streams.new.out × Stays streams.old.save streams.new.save }
+    ensures unwanted { is_some asked.now.save ≡ false → Stays streams.old.save streams.new.save }
     ensures cannot { result ≡ 3 → HasNoSuchCall «module».now asked.now.call }
     ensures status { (result ≤ 3) ⊎ (result ≡ 5) }
 {

@@ -1,6 +1,8 @@
 //! The races of a recorded run by the program: what is printed, or why there is nothing to print.
 ghost use Rattle.std.specs.Prelude.{◌≡◌, ◌≤◌, ◌⊎◌, IfOk, IfErr};
 ghost use Rattle.report_jobs.specs.Jobs.{IsNoRecordOf, IsNoValidModule, IsUnfit};
+ghost use Rattle.report_jobs.specs.Silence.{IsRefusal, Stays};
+ghost use Rattle.report.specs.Silent.{IfRefusedRecord};
 ghost use Rattle.report.specs.Raced.{IsRaceFree, IsRacy, OfModule, Says, SaysOf, kinds_of};
 
 use crate::showing::{CodeBytes, SeenRun, rows_of, unfit_of};
@@ -18,7 +20,7 @@ use validate_module::ValidModule;
 ///
 /// Answers 0 only where the record is of a run of the module in which no two accesses race, 1 only of one in which some
 /// do, 4 only where the bytes are the text of no record of a run of it, 2 for a refused module, and 5 where memory or a
-/// stream failed.
+/// stream failed. At 2 and 4 nothing is written but to `err`.
 pub fn races_saved<W: Write, E: Write, S: Write>(
     alloc: Global,
     module: &[u8],
@@ -33,6 +35,8 @@ pub fn races_saved<W: Write, E: Write, S: Write>(
     ensures refused { result ≡ 2 → IsNoValidModule «module».now }
     ensures none { result ≡ 4 → IsNoRecordOf «module».now saved.now }
     ensures status { (result ≤ 2) ⊎ (result ≡ 4) ⊎ (result ≡ 5) }
+    ensures silent { IsRefusal result → Stays streams.old.out streams.new.out }
+    ensures unwanted { Stays streams.old.save streams.new.save }
 {
     let Streams { out, err, .. } = streams;
     let valid = match load(alloc, module) {
@@ -58,6 +62,7 @@ fn tell_races<W: Write>(
     requires { 1 ≤ most }
     ensures races { IfOk result (SaysOf «module».now.parts saved.now) }
     ensures unfit { IfErr result (λ unfit. IsUnfit «module».now.parts saved.now unfit) }
+    ensures silent { IfErr result (λ unfit. IfRefusedRecord unfit (Stays out.old out.new)) }
 {
     let seen = rows_of(alloc, module, saved)?;
     match write_seen(alloc, module, &seen, code, most, out) {

@@ -1,5 +1,5 @@
 //! Searches by the program: what is printed, and the record of what was found.
-ghost use Rattle.std.specs.Prelude.{◌≡◌, ◌≤◌, ◌<◌, ◌+◌, ◌^◌, ℕ, List, [], map, IfOk, IfErr, true, is_some};
+ghost use Rattle.std.specs.Prelude.{◌≡◌, ◌≤◌, ◌<◌, ◌+◌, ◌^◌, ℕ, List, [], map, IfOk, IfErr, true, false, is_some};
 ghost use Rattle.search_finds.specs.Endings.{HaveOneEnding};
 ghost use Rattle.search_finds.specs.Finds.{IsFind, EndsAsLookedFor};
 ghost use Rattle.report_command.specs.Searches.{IsSearchInRange};
@@ -14,6 +14,8 @@ ghost use Rattle.report.specs.Drawn.{size_text, sizes_line, sizes_if, behind_tex
 ghost use Rattle.report.specs.Searches.{Finds, IsFindKept, IsOfSystem, IsWellAt};
 ghost use Rattle.report.specs.Prints.{IsDrawn, IsPrintedOf, PrintsDrawn, Tells, TellsOfRun, TellsOfTable};
 ghost use Rattle.report_jobs.specs.Prints.{changed};
+ghost use Rattle.report_jobs.specs.Silence.{Stays};
+ghost use Rattle.report.specs.Silent.{IfRefusedCall};
 ghost use Rattle.report_jobs.specs.declared.running.Trouble.TheVariants as troubles;
 
 use crate::all::search_all_orders;
@@ -115,6 +117,7 @@ fn search_drawn<R: Threads + Sync, F: Hears, W: Write, S: Write>(
     ensures finds { IfOk result (Finds request.now.parts search.now (changed S.contents save.old save.new)) }
     ensures prints { IfOk result (PrintsDrawn request.now.parts search.now (changed W.contents out.old out.new)
         (changed S.contents save.old save.new)) }
+    ensures unwanted { is_some search.now.save ≡ false → Stays save.old save.new }
     ensures trouble { IfErr result IsOfSystem }
 {
     let jobs = jobs_of(rt, search);
@@ -154,6 +157,8 @@ pub fn search_module<R: Threads + Sync, F: Hears, W: Write, S: Write>(
     ensures prints { IfOk result (IsPrintedOf «module».now.parts search.now (changed W.contents out.old out.new)
         (changed S.contents save.old save.new)) }
     ensures trouble { IfErr result (IsTroubleOf «module».now.parts search.now.call) }
+    ensures silent { IfErr result (λ e. IfRefusedCall e (Stays out.old out.new × Stays save.old save.new)) }
+    ensures unwanted { is_some search.now.save ≡ false → Stays save.old save.new }
 {
     let args = args_of(alloc, module, &search.call)?;
     let request = request_of(module, &search.call, &args);
@@ -209,6 +214,7 @@ pub(crate) fn tell_made<F: Hears, W: Write, S: Write>(
     ensures kept { IfOk result (λ _. IsFindKept request.now.parts search.now (changed S.contents save.old save.new)) }
     ensures tells { IfOk result (λ _. Tells (changed W.contents out.old out.new) (λ text. TellsOfRun request.now search.now
         (ending_left search.now.sought.dump made.end) [] text (changed S.contents save.old save.new))) }
+    ensures unwanted { is_some search.now.save ≡ false → Stays save.old save.new }
     ensures trouble { IfErr result IsOfSystem }
 {
     out.flush()?;
@@ -235,6 +241,7 @@ fn tell_found<F: Hears, W: Write, S: Write>(
     ensures tells { IfOk result (λ _. Tells (changed W.contents out.old out.new) (λ text. TellsOfRun request.now search.now
         (ending_left search.now.sought.dump found.made.end) (found_run_line found.run) text
         (changed S.contents save.old save.new))) }
+    ensures unwanted { is_some search.now.save ≡ false → Stays save.old save.new }
     ensures trouble { IfErr result IsOfSystem }
 {
     let Found { run, made } = found;

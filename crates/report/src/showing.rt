@@ -1,10 +1,13 @@
 //! The entries of a record by the program, in words: what is printed, or why there is nothing to print.
-ghost use Rattle.std.specs.Prelude.{◌≡◌, ◌⊎◌, ℕ, List, IfOk, IfErr};
+ghost use Rattle.std.specs.Prelude.{◌≡◌, ◌⊎◌, ℕ, List, IfOk, IfErr, is_some, false};
 ghost use Rattle.types.specs.declared.parts.Parts.{Parts};
 ghost use Rattle.spawn_host.specs.declared.end.EndState.{EndState};
 ghost use Rattle.replay.specs.Runs.{IsRunOf, ShowsNoRun};
 ghost use Rattle.report_jobs.specs.Jobs.{IsNoRecordOf, IsNoValidModule, IsUnfit, IsRecordOf, IsOfRun};
+ghost use Rattle.report_command.specs.Views.{path_of};
+ghost use Rattle.report_jobs.specs.Silence.{IsRefusal, Stays};
 ghost use Rattle.report.specs.Raced.{AreRowsOf, IsSeen};
+ghost use Rattle.report.specs.Silent.{IfRefusedRecord, IsNoRefusal};
 
 use replay::{ReplayFault, replay_watched};
 use replay_text::{Record, RecordFault, RecordParts, read_record};
@@ -24,7 +27,8 @@ use validate_module::ValidModule;
 /// rows. A page and a trace are the file that it makes.
 ///
 /// Answers 0 only where the record is of a run of the module, 4 only where the bytes are the text of no record of a run
-/// of it, 2 for a refused module, and 5 where memory or a stream failed.
+/// of it, 2 for a refused module, and 5 where memory or a stream failed. At 2 and 4 nothing is written but to `err`, and
+/// where no page and no trace is asked for the file's writer stays as it is.
 pub fn show_saved<W: Write, E: Write, S: Write>(
     alloc: Global,
     module: &[u8],
@@ -38,6 +42,8 @@ pub fn show_saved<W: Write, E: Write, S: Write>(
     ensures refused { result ≡ 2 → IsNoValidModule «module».now }
     ensures none { result ≡ 4 → IsNoRecordOf «module».now saved.now }
     ensures status { (result ≡ 0) ⊎ (result ≡ 2) ⊎ (result ≡ 4) ⊎ (result ≡ 5) }
+    ensures silent { IsRefusal result → Stays streams.old.out streams.new.out × Stays streams.old.save streams.new.save }
+    ensures unwanted { is_some (path_of view) ≡ false → Stays streams.old.save streams.new.save }
 {
     let Streams { out, err, save } = streams;
     let code = CodeBytes { module, names };
@@ -61,6 +67,7 @@ fn show_to<W: Write, E: Write>(
     ensures refused { result ≡ 2 → IsNoValidModule code.entry.«module».now }
     ensures none { result ≡ 4 → IsNoRecordOf code.entry.«module».now saved.now }
     ensures status { (result ≡ 0) ⊎ (result ≡ 2) ⊎ (result ≡ 4) ⊎ (result ≡ 5) }
+    ensures silent { IsRefusal result → Stays out.old out.new }
 {
     let valid = match load(alloc, code.module) {
         Ok(valid) => valid,
@@ -91,6 +98,7 @@ fn show_record<W: Write>(
 ) -> Result<(), Unfit>
     ensures shown { IfOk result (λ _. IsOfRun «module».now.parts saved.now) }
     ensures unfit { IfErr result (λ unfit. IsUnfit «module».now.parts saved.now unfit) }
+    ensures silent { IfErr result (λ unfit. IfRefusedRecord unfit (Stays out.old out.new)) }
 {
     let seen = rows_of(alloc, module, saved)?;
     match print_seen(alloc, module, &seen, code, look, view, out) {
@@ -118,7 +126,8 @@ fn print_seen<W: Write>(
 
 /// What rows that weren't written say of the record: nothing.
 pub(crate) fn unfit_of(unwritten: Unwritten) -> Unfit
-    ensures { (m : Parts) (saved : List ℕ) → IsUnfit m saved result }
+    ensures unfit { (m : Parts) (saved : List ℕ) → IsUnfit m saved result }
+    ensures no_refusal { IsNoRefusal result }
 {
     match unwritten {
         Unwritten::NoMemory => Unfit::NoMemory,

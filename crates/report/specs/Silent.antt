@@ -1,0 +1,40 @@
+-- What stays as it was, where a call or a record is refused.
+use Rattle.std.specs.Prelude.{Bool, false, is_some}
+use Rattle.report_command.specs.declared.command_line.Job.{Job}
+use Rattle.report_command.specs.declared.command_line.Job.TheVariants.{Show}
+use Rattle.report_command.specs.declared.command_line.Job.TheVariants as jobs
+use Rattle.report_command.specs.Views.{path_of}
+use Rattle.report_jobs.specs.Silence.{makes_file}
+use Rattle.report_jobs.specs.declared.replaying.Unfit.{Unfit}
+use Rattle.report_jobs.specs.declared.replaying.Unfit.TheVariants as unfits
+use Rattle.report_jobs.specs.declared.running.Trouble.{Trouble}
+use Rattle.report_jobs.specs.declared.running.Trouble.TheVariants as troubles
+
+-- This holds where the call can't be made.
+abbrev pub IfRefusedCall : Trouble → Type 0 → Type 0
+IfRefusedCall (troubles.Call fault) P = P
+IfRefusedCall troubles.NoThread P = Unit {0}
+IfRefusedCall troubles.NoMemory P = Unit {0}
+IfRefusedCall troubles.Output P = Unit {0}
+IfRefusedCall troubles.Save P = Unit {0}
+
+-- This holds where the record is refused.
+abbrev pub IfRefusedRecord : Unfit → Type 0 → Type 0
+IfRefusedRecord (unfits.Unread fault) P = P
+IfRefusedRecord (unfits.Misfit fault) P = P
+IfRefusedRecord unfits.NoMemory P = Unit {0}
+IfRefusedRecord unfits.Output P = Unit {0}
+
+-- It isn't refused: memory or the stream failed.
+abbrev pub IsNoRefusal : Unfit → Type 0
+IsNoRefusal (unfits.Unread fault) = ⊥
+IsNoRefusal (unfits.Misfit fault) = ⊥
+IsNoRefusal unfits.NoMemory = Unit {0}
+IsNoRefusal unfits.Output = Unit {0}
+
+-- A file is made by the job: a record, a page or a trace.
+abbrev pub writes_file : Job → Bool
+writes_file (Show file record_path names look view) = is_some (path_of view)
+writes_file (jobs.Races job) = false
+writes_file (jobs.Search s) = is_some s.save
+writes_file job = makes_file job
