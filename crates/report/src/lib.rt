@@ -2,13 +2,15 @@
 //! entries of a record in words, as rows, a moment, a page or a trace; `searching` and `all` searches through runs of a
 //! module, drawn ones and every order of the entries.
 //!
-//! Proved: what each status of a job says, and what a search prints first; of a show nothing of what it prints. 0 of a
-//! show: the record is of a run of the module. 0 or 1 of a search: the bytes spell a valid module; and nothing was
-//! written to the record's writer, or the status is 1 and what was written, where a record is wanted, is that of a run
-//! by the call, which ends as is looked for or never. The lines of a search begin with those of a table, in which as
-//! many runs of the call were noted as it says; or of a search through every order with those of what it found of all
-//! runs. 0 of a search: runs of the call were made, or can end; in each all threads ended well, and it isn't looked
-//! for; and of every order, they are sure to end. `load` gives the module that the bytes spell.
+//! Proved: what each status of a job says, that nothing is written where one is refused, and what a search prints and
+//! keeps, to the byte but for what its runs are; of a show nothing of what it prints. 0 of a show: the record is of a
+//! run of the module. 0 or 1 of a search: the bytes spell a valid module. The lines of drawn runs are those of a table,
+//! in which as many runs of the call were noted as it says, how many of them were cut, and what is unseen, or of the
+//! last one, which was found, its number, its sizes and its lines; those of every order are what was found of all runs,
+//! and the lines of a run to the first ending that is looked for, or of one that never ends. The record that is written,
+//! where one is wanted, is that run's, by the call. 0 of a search, exactly: runs of the call were made, or can end; in
+//! each all threads ended well, and it isn't looked for; and of every order, they are sure to end. `load` gives the
+//! module that the bytes spell.
 #![tactic(auto)]
 
 mod all;
