@@ -5,5 +5,6 @@ mod Sure
 mod Growing
 mod Printed
 mod Counted
+mod Sought
 mod Silent
 pub mod Told

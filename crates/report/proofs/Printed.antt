@@ -1,8 +1,6 @@
 -- What is printed of a search, where its first lines were written, and then what is told.
-use Rattle.std.proofs.Common.{ℕ, ◌≡◌, ◌≢◌, ◌≤◌, ◌+◌, ◌⊎◌, ◌↔◌, List, [], ◌++◌, All, Option, refl, sym, subst, inl, inr, ◌∙◌}
-use Rattle.std.specs.Prelude.{false, true}
+use Rattle.std.proofs.Common.{ℕ, ◌≡◌, ◌≤◌, ◌⊎◌, ◌↔◌, List, [], ◌++◌, All, Option, refl, sym, subst}
 use Rattle.std.specs.Io.KnownBytes.{Appends}
-use Rattle.std.proofs.KnownBytes.{Appends-nil}
 use Rattle.replay_forms.proofs.Written.{appends_then}
 use Rattle.spawn_host.specs.Requests.{Requested}
 use Rattle.search_endings.specs.Endings.{Ending}
@@ -21,27 +19,30 @@ use Rattle.report_lines.specs.Drawn.{cut_line}
 use Rattle.report.specs.Complete.{complete_lines, AreAllWell, EndsForSure}
 use Rattle.report.specs.Drawn.{table_lines, cut_in}
 use Rattle.report.specs.Endless.{GoesRound, HasNoEnd, HasNoEndless}
-use Rattle.report.specs.Prints.{IsFirstSought, IsToldBehind, PrintsAll, PrintsDrawn, Tells, TellsNothing, TellsOfLast, TellsOfNone, TellsOfRun}
+use Rattle.report.specs.Prints.{IsFirstSought, IsToldBehind, PrintsAll, PrintsDrawn, Tells, TellsOfLast, TellsOfNone, TellsOfRun}
 use Rattle.report.specs.Searches.{IsCompleteOf}
 
 -- what is told behind a text
 pub told_behind : (Says : List ℕ → Type 0) (a b c : Option (List ℕ)) (x : List ℕ) → Appends a b x → Tells (change b c) Says
     → (text : List ℕ) × Appends a c (x ++ text) × Says text
-told_behind Says a b c x p t = (t.0, (appends_then a b c x t.0 p t.1.0, t.1.1))
+told_behind Says a b c x p t = (t.0, appends_then a b c x t.0 p t.1, t.2)
 
 -- another first line
 pub told_after : (q : Requested) (s : Search) (e : Ending) (save : WriterChange) (head : List ℕ) (a b c : Option (List ℕ)) → Appends a b head
     → Tells (change b c) (λ text. TellsOfRun q s e [] text save) → Tells (change a c) (λ text. TellsOfRun q s e head text save)
 told_after q s e save head a b c p t =
-    let one = t.1.1 in
-    (head ++ t.0, (appends_then a b c head t.0 p t.1.0, record {
-      made = one.made;
-      find = one.find;
-      ends = one.ends;
-      was = one.was;
-      text_is = cc one.text_is;
-      kept = one.kept;
-    }))
+    let one = t.2 in (
+      head ++ t.0,
+      appends_then a b c head t.0 p t.1,
+      record {
+        made = one.made;
+        find = one.find;
+        ends = one.ends;
+        was = one.was;
+        text_is = cc one.text_is;
+        kept = one.kept;
+      },
+    )
 
 -- that a first one is looked for, and none is, can't both be
 pub first_is_sought : (s : Sought) (endings : List Ending) (number : ℕ) (e : Ending) → IsFirstSought s endings number e
@@ -58,9 +59,9 @@ no_round t l c sure round = let fair = sure.fair in let goes = round.1 in absurd
 
 pub well_has_none : (s : Sought) (t : Target) (all : Ended Ending) → AreAllWell s all → HasNoEndless t all.liveness
 well_has_none s t all well l is =
-    let there = well.live.1.0 in
-    let same : well.live.0 ≡ l = cc in
-    let sure : EndsForSure l = subst EndsForSure same well.live.1.1 in
+    let there = well.sure.live.1 in
+    let same : well.sure.live.0 ≡ l = cc in
+    let sure : EndsForSure l = subst EndsForSure same well.sure.live.2 in
     (no_end t l sure, λ c. no_round t l c sure)
 
 module _ (r : Requested) (s : Search) (asked : IsAskedBy s.call r) (save : WriterChange) (status : ℕ)
@@ -76,8 +77,8 @@ module _ (r : Requested) (s : Search) (asked : IsAskedBy s.call r) (save : Write
     all = all;
     complete = complete;
     told = told.0;
-    lines = appends_then before between after (complete_lines most all) told.0 lines told.1.0;
-    says = told.1.1;
+    lines = appends_then before between after (complete_lines most all) told.0 lines told.1;
+    says = told.2;
     well = well;
     statuses = statuses;
   }
@@ -94,6 +95,6 @@ module _ (r : Requested) (s : Search) (asked : IsAskedBy s.call r) (save : Write
     noted = noted;
     told = told.0;
     lines = appends_then before between after (table_lines s.sought table) _ rows
-        (appends_then between cut after (cut_line (cut_in table) s.sought.limit) told.0 cuts told.1.0);
-    says = told.1.1;
+        (appends_then between cut after (cut_line (cut_in table) s.sought.limit) told.0 cuts told.1);
+    says = told.2;
   }

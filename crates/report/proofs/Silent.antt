@@ -1,6 +1,5 @@
 -- What stays, by the fault that refuses.
-use Rattle.std.proofs.Common.{◌≡◌, ◌≤◌, ℕ, arith}
-use Rattle.std.specs.Prelude.{IfErr, Result, Ok, Err}
+use Rattle.std.proofs.Common.{◌≡◌, ℕ, arith}
 use Rattle.report_jobs.specs.Silence.{IsRefusal, trouble_status, unfit_status}
 use Rattle.report_jobs.specs.declared.replaying.Unfit.{Unfit}
 use Rattle.report_jobs.specs.declared.replaying.Unfit.TheVariants as unfits

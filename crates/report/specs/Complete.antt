@@ -51,11 +51,15 @@ pub record EndsForSure (l : Liveness) : Type 0 where
   pub none : l.endless.items ≡ []
   pub fair : l.fair_runs ≡ AllEnd
 
+-- These are all endings, every state can end, and every fair run does.
+pub record IsSure (all : Ended Ending) : Type 0 where
+  pub are_all : all.verdict ≡ verdicts.All
+  pub live : (l : Liveness) × (all.liveness ≡ Some l) × EndsForSure l
+
 -- These are all endings, there is one, in each all threads ended well and none is looked for; every state can end, and
 -- every fair run does.
 pub record AreAllWell (s : Sought) (all : Ended Ending) : Type 0 where
-  pub are_all : all.verdict ≡ verdicts.All
+  pub sure : IsSure all
   pub some : all.endings.keys ≢ []
   pub well : all_end_well all.endings.keys ≡ true
   pub unsought : All (λ e. IsLookedFor s e → ⊥) all.endings.keys
-  pub live : (l : Liveness) × (all.liveness ≡ Some l) × EndsForSure l

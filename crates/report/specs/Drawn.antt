@@ -12,7 +12,7 @@ use Rattle.report_choice.specs.Ways.{way_of}
 use Rattle.search_finds.specs.declared.met.Met.{Met}
 use Rattle.search_finds.specs.declared.met.Table.{Table}
 use Rattle.search_finds.specs.declared.size.Size.{Size}
-use Rattle.report_lines.specs.Drawn.{met_line, cut_line, stopped_line, unseen_line}
+use Rattle.report_lines.specs.Drawn.{met_line, stopped_line, unseen_line}
 
 -- The lines of the table: of each ending how often it was met in how many runs, in which first and how that was drawn.
 abbrev pub table_line : Sought → ℕ → Met → List ℕ

@@ -1,5 +1,5 @@
 -- Runs that never end, of a search through every order of entries: which are looked for, and what is told of one.
-use Rattle.std.specs.Prelude.{ℕ, ◌≡◌, ◌≢◌, ◌⊎◌, ◌||◌, Bool, false, true, List, [], Option, Some, None, is_some}
+use Rattle.std.specs.Prelude.{ℕ, ◌≡◌, ◌≢◌, ◌⊎◌, ◌||◌, Bool, false, true, List, [], Option, Some, is_some}
 use Rattle.search_reach.specs.declared.liveness.FairCycle.{FairCycle}
 use Rattle.search_reach.specs.declared.liveness.FairRuns.TheVariants.{GoOn}
 use Rattle.search_reach.specs.declared.liveness.Liveness.{Liveness}

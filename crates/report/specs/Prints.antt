@@ -112,7 +112,7 @@ pub record TellsOfEndless (q : Requested) (s : Search) (run : EndlessRun) (text 
   pub made : MadeRun
   pub find : IsFind q s.sought.limit made
   pub entries : ℕ
-  pub leads : LeadsTo made.record.log (path_of run) entries
+  pub leads : LeadsTo made.record.log (length (path_of run)) entries
   pub text_is : text ≡ endless_line run entries ++ run_lines s made
   pub kept : KeepsRecord (is_some s.save) save made.record
 

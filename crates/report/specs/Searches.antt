@@ -1,10 +1,8 @@
 -- What is kept of a search.
-use Rattle.std.specs.Prelude.{ℕ, ◌≡◌, ◌≢◌, ◌≤◌, ◌⊎◌, All, List, [], ◌++◌, false, true, Some, is_none, is_some}
+use Rattle.std.specs.Prelude.{ℕ, ◌≡◌, ◌≢◌, ◌≤◌, ◌⊎◌, All, List, [], true, is_some}
 use Rattle.std.specs.Io.KnownBytes.{Appends}
 use Rattle.types.specs.declared.value.Value.{Value}
 use Rattle.types.specs.declared.parts.Parts.{Parts}
-use Rattle.validate_typing.specs.Validity.{IsValid}
-use Rattle.binary.specs.Grammar.{IsModuleText}
 use Rattle.replay_text.specs.declared.parts.RecordParts.{RecordParts}
 use Rattle.spawn_host.specs.declared.end.EndState.{EndState}
 use Rattle.replay.specs.Runs.{IsRunOf}
@@ -20,19 +18,9 @@ use Rattle.search_endings.specs.Endings.{Ending}
 use Rattle.search_modules.specs.Endings.{HasEveryEnding, AllCanEndSo}
 use Rattle.search_modules.specs.Liveness.{CanStillEnd, HasFairRun, CountsStates, SaysWhereAll}
 use Rattle.search_modules.specs.Returned.{IsCall}
-use Rattle.search_scheduled.specs.declared.running.MadeRun.{MadeRun}
-use Rattle.search_finds.specs.Finds.{IsFind, EndsAsLookedFor, IsLookedFor}
-use Rattle.search_finds.specs.Sizes.{size_in}
-use Rattle.search_finds.specs.declared.size.Size.{Size}
-use Rattle.search_finds.specs.Noted.{AreNoted}
-use Rattle.search_finds.specs.declared.met.Table.{Table}
-use Rattle.report_choice.specs.declared.sought.Find.{Find}
-use Rattle.report_choice.specs.declared.sought.Find.TheVariants as finds
-use Rattle.report_choice.specs.declared.sought.Sought.{Sought}
-use Rattle.report_choice.specs.declared.sought.Target.{Target}
+use Rattle.search_finds.specs.Finds.{EndsAsLookedFor, IsLookedFor}
 use Rattle.report_command.specs.declared.search.Search.{Search}
 use Rattle.report_jobs.specs.Arguments.{AreSpelled, texts_in}
-use Rattle.report_jobs.specs.Asked.{IsAskedBy}
 use Rattle.report_jobs.specs.Prints.{WriterChange, KeepsRecord}
 use Rattle.report.specs.Complete.{all_end_well}
 use Rattle.report.specs.Endless.{FindsEndless}

@@ -1,5 +1,5 @@
 //! Every order of the entries of a call: what is printed, and the record of what was found.
-ghost use Rattle.std.specs.Prelude.{◌≡◌, ◌≤◌, ◌⊎◌, All, Some, None, is_some, true, false, IfOk, IfErr, IfSome, IfNone, MatchOption};
+ghost use Rattle.std.specs.Prelude.{◌≡◌, ◌≤◌, ◌⊎◌, ◌↔◌, All, Some, None, is_some, true, false, IfOk, IfErr, IfSome, IfNone, MatchOption};
 ghost use Rattle.replay_forms.specs.Texts.{Wrote};
 ghost use Rattle.search_finds.specs.Finds.{IsLookedFor};
 ghost use Rattle.report_jobs.specs.Asked.{IsAskedBy};
@@ -98,7 +98,7 @@ fn tell_sought<F: Hears, W: Write, S: Write>(
     ensures told { IfOk result
         (λ _. KeepsNoneOrFind request.now.parts search.now (changed S.contents save.old save.new)) }
     ensures tells { IfOk result (λ _. Tells (changed W.contents out.old out.new) (λ text.
-        TellsOfOne request.now search.now first.number first.ending.now text (changed S.contents save.old save.new))) }
+        TellsOfOne request.now search.now first.entry.number first.entry.ending.now text (changed S.contents save.old save.new))) }
     ensures unwanted { is_some search.now.save ≡ false → Stays save.old save.new }
     ensures trouble { IfErr result IsOfSystem }
 {
@@ -153,6 +153,13 @@ fn looks_for_ever(target: Target) -> bool
     target.expect.is_some() || finds_for_ever(target.find)
 }
 
+/// Whether runs to where none ends are looked for, and there is one.
+fn has_no_end(liveness: &Liveness, target: Target) -> bool
+    ensures { (result ≡ true) ↔ HasNoEnd target.entry liveness.now }
+{
+    looks_for_no_end(target) && !liveness.endless.is_empty()
+}
+
 /// The run that never ends, where one is looked for: to the first state from which no run ends, or else round a cycle
 /// of a fair run.
 fn endless_of<'a>(liveness: &'a Liveness, target: Target) -> Option<EndlessRun<'a>>
@@ -160,7 +167,7 @@ fn endless_of<'a>(liveness: &'a Liveness, target: Target) -> Option<EndlessRun<'
         × ((c : _) → GoesRound target.entry liveness.now c → ⊥)) }
     ensures some { IfSome result (IsKnownIn target.entry liveness.now) }
 {
-    if looks_for_no_end(target) && !liveness.endless.is_empty() {
+    if has_no_end(liveness, target) {
         return Some(EndlessRun::ToNoEnd(liveness.path.as_slice()));
     }
     if !looks_for_ever(target) {
@@ -265,7 +272,7 @@ pub(crate) fn search_all_orders<F: Hears, W: Write, S: Write>(
     ensures finds { IfOk result (Finds request.now.parts search.now (changed S.contents save.old save.new)) }
     ensures prints { IfOk result
         (PrintsAll request.now.parts search.now most (changed W.contents out.old out.new)
-            (changed S.contents save.old save.new)) }
+        (changed S.contents save.old save.new)) }
     ensures well { IfOk result (IsWellAt request.now.parts search.now) }
     ensures unwanted { is_some search.now.save ≡ false → Stays save.old save.new }
     ensures trouble { IfErr result IsOfSystem }
@@ -288,8 +295,11 @@ pub(crate) fn search_all_orders<F: Hears, W: Write, S: Write>(
     if !stops {
         return Ok(1);
     }
-    if let Some(run) = endless_run(&all.liveness, search.sought.target) {
-        tell_endless(alloc, request, search, &run, out, save)?;
+    match endless_run(&all.liveness, search.sought.target) {
+        Some(run) => {
+            tell_endless(alloc, request, search, &run, out, save)?;
+            Ok(1)
+        }
+        None => Ok(1),
     }
-    Ok(1)
 }

@@ -3,7 +3,7 @@ ghost use Rattle.std.specs.Prelude.{◌≡◌, ◌↔◌, true, All, length};
 ghost use Rattle.replay_forms.specs.Texts.{Wrote};
 ghost use Rattle.search_finds.specs.Finds.{IsLookedFor};
 ghost use Rattle.report.specs.Complete.{fair_runs_line, liveness_lines, verdict_line, complete_lines};
-ghost use Rattle.report.specs.Complete.{threads_end_well, all_end_well, EndsForSure, AreAllWell};
+ghost use Rattle.report.specs.Complete.{threads_end_well, all_end_well, EndsForSure, IsSure, AreAllWell};
 
 use report_command::Sought;
 use report_lines::{
@@ -84,6 +84,19 @@ fn ends_for_sure(liveness: &Liveness) -> bool
     liveness.endless.is_empty() && matches!(liveness.fair_runs, FairRuns::AllEnd)
 }
 
+/// Whether the endings are all, every state can end, and every fair run does.
+fn is_sure(all: &Complete) -> bool
+    ensures { (result ≡ true) ↔ IsSure all.now }
+{
+    let Verdict::All = all.verdict else {
+        return false;
+    };
+    match &all.liveness {
+        Some(liveness) => ends_for_sure(liveness),
+        None => false,
+    }
+}
+
 /// Whether the endings are all, there is one, in each all threads ended well, every state can end, and every fair run
 /// does. Where no run ends there is no ending.
 pub(crate) fn are_well(all: &Complete, sought: &Sought) -> bool
@@ -91,10 +104,8 @@ pub(crate) fn are_well(all: &Complete, sought: &Sought) -> bool
     ensures { (result ≡ true) ↔ AreAllWell sought.now all.now }
 {
     let endings = all.endings.as_slice();
-    let is_all = matches!(all.verdict, Verdict::All);
-    let is_live = all
-        .liveness
-        .as_ref()
-        .is_some_and(|liveness| ends_for_sure(liveness));
-    is_all && is_live && !endings.is_empty() && all_ended_well(endings)
+    if !is_sure(all) || endings.is_empty() {
+        return false;
+    }
+    all_ended_well(endings)
 }

@@ -43,7 +43,7 @@ pub fn show_saved<W: Write, E: Write, S: Write>(
     ensures none { result ≡ 4 → IsNoRecordOf «module».now saved.now }
     ensures status { (result ≡ 0) ⊎ (result ≡ 2) ⊎ (result ≡ 4) ⊎ (result ≡ 5) }
     ensures silent { IsRefusal result → Stays streams.old.out streams.new.out × Stays streams.old.save streams.new.save }
-    ensures unwanted { is_some (path_of view) ≡ false → Stays streams.old.save streams.new.save }
+    ensures unwanted { is_some (path_of view.entry) ≡ false → Stays streams.old.save streams.new.save }
 {
     let Streams { out, err, save } = streams;
     let code = CodeBytes { module, names };

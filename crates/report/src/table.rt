@@ -1,5 +1,5 @@
 //! The table of a search of drawn runs, and what it says of runs that weren't made.
-ghost use Rattle.std.specs.Prelude.{◌≡◌, ◌↔◌, ◌<◌, ◌^◌, true, IfOk};
+ghost use Rattle.std.specs.Prelude.{◌≡◌, ◌↔◌, ◌<◌, ◌≤◌, ◌^◌, true, IfOk};
 ghost use Rattle.replay_forms.specs.Texts.{Wrote};
 ghost use Rattle.report_lines.specs.Drawn.{cut_line};
 ghost use Rattle.report.specs.Drawn as specified;
@@ -9,6 +9,7 @@ ghost use Rattle.report.specs.Prints.{IsAllWell};
 use crate::complete::has_ended_well;
 use report_command::Sought;
 use report_lines::{Often, write_cut, write_met, write_unseen};
+use search_endings::Ending;
 use search_finds::{Met, Table, is_looked_for};
 use std::alloc::{AllocError, Global};
 use std::io::{self, Write};
@@ -64,7 +65,17 @@ fn found_it_full(outcome: Outcome) -> bool
 fn is_cut(ending: &Ending) -> bool
     ensures { result ≡ specified.is_cut ending.now }
 {
-    ending.outcomes().iter().any(|outcome| found_it_full(*outcome))
+    ending
+        .outcomes()
+        .iter()
+        .any(|outcome| found_it_full(*outcome))
+}
+
+/// The runs of a table are counted in 64 bits. It does nothing else.
+fn show_runs_fit(table: &Table)
+    ensures { table.now.runs < 2 ^ 64 }
+{
+    let _runs = table.runs;
 }
 
 /// How many runs of a table were cut.
@@ -83,9 +94,10 @@ fn cut_of(table: &Table) -> u64
 
 /// The line of runs that were cut at the end of their log, where there are some.
 pub(crate) fn write_cut_of<W: Write>(out: &mut W, sought: &Sought, table: &Table) -> io::Result<()>
-    requires { cut_in table.now < 2 ^ 64 }
+    requires { cut_in table.now ≤ table.now.runs }
     ensures { Wrote W.contents out.old out.new result (cut_line (cut_in table.now) sought.now.limit) }
 {
+    show_runs_fit(table);
     write_cut(out, cut_of(table), sought.limit)
 }
 

@@ -1,6 +1,7 @@
-use Rattle.std.proofs.Common.{ℕ, List, ◌∙◌, inr, refl, subst}
+use Rattle.std.proofs.Common.{ℕ, List, length, ◌∙◌, inr, refl, subst}
 use Rattle.search_scheduled.specs.Headers.{IsOfCall}
 use Rattle.replay_forms.proofs.Written.{appends_then}
+use Rattle.search_finds.specs.Leading.{LeadsTo}
 use Rattle.report.specs.Endless.{endless_line}
 use Rattle.report.proofs.all.tell_endless.Goals as goal
 
@@ -26,14 +27,19 @@ returns-clause-kept g c =
 
 pub returns-clause-tells : goal.returns-clause-tells
 returns-clause-tells g c =
+    let made = c.in-Ok.made in
     let contents = g.W.Write.contents in
-    let line = endless_line c.args.run.now c.entries_leading-entries.result in
-    (_, (appends_then (contents c.args.out.now) (contents c.write_endless.new.out) (contents c.print.new.out) line _
-    c.in_ok-write_endless.ensures c.in_ok-print.ensures.prints.lines, record {
-      made = c.in-Ok.made;
-      find = c.in-Ok.ensures;
-      entries = c.entries_leading-entries.result;
-      leads = c.entries_leading-entries.ensures;
-      text_is = refl;
-      kept = λ wanted. c.in_ok-keep.ensures.kept (c.is_some.ensures ∙ wanted);
-    }))
+    let line = endless_line c.args.run.now c.entries_leading-entries.result in (
+      _,
+      appends_then (contents c.args.out.now) (contents c.write_endless.new.out) (contents c.print.new.out) line _
+          c.in_ok-write_endless.ensures c.in_ok-print.ensures.prints.lines,
+      record {
+        made = c.in-Ok.made;
+        find = c.in-Ok.ensures;
+        entries = c.entries_leading-entries.result;
+        leads = subst (λ (path : List ℕ). LeadsTo made.«record».log (length path) c.entries_leading-entries.result) c.path-2.ensures
+            c.entries_leading-entries.ensures;
+        text_is = refl;
+        kept = λ wanted. c.in_ok-keep.ensures.kept (c.is_some.ensures ∙ wanted);
+      },
+    )

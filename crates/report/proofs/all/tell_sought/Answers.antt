@@ -1,4 +1,4 @@
-use Rattle.std.proofs.Common.{List, inl, inr, refl, subst}
+use Rattle.std.proofs.Common.{◌≡◌, [], inl, sym, subst}
 use Rattle.std.proofs.lemmas.Result.{IfOk-weaker}
 use Rattle.search_finds.specs.Finds.{IsLookedFor}
 use Rattle.search_finds.specs.Endings.{ending_left}
@@ -29,6 +29,6 @@ returns-in_ok-write_found_ending-in-Some-clause-tells g c =
     IfOk-weaker c.tell_made.result (λ _. Tells (change between after) (λ text. TellsOfRun q s e [] text save))
     (λ _. Tells (change before after) (λ text. TellsOfOne q s first.number first.ending.now text save))
     (λ _ tells.
-      let told = told_after q s e save head before between after c.in_ok-write_found_ending-in-Some.ensures tells in
-      (told.0, (told.1.0, inl (subst (λ (x : Ending). TellsOfRun q s x head told.0 save) (sym same) told.1.1))))
+    let told = told_after q s e save head before between after c.in_ok-write_found_ending-in-Some.ensures tells in
+    (told.0, told.1, inl (subst (λ (x : Ending). TellsOfRun q s x head told.0 save) (sym same) told.2)))
     c.tell_made.ensures.tells

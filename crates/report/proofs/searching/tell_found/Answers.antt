@@ -1,3 +1,4 @@
+use Rattle.std.proofs.Common.{[]}
 use Rattle.std.proofs.lemmas.Result.{IfOk-weaker}
 use Rattle.search_finds.specs.Endings.{ending_left}
 use Rattle.report_jobs.specs.Prints.{change, changed}

@@ -30,12 +30,15 @@ returns-clause-tells g c =
     let contents = g.W.Write.contents in
     let before = contents c.args.out.now in
     let between = contents c.shrunk_if_asked.new.out in
-    let sizes = keeps_append before (contents c.flush.new.self) between _ c.in_ok-flush.ensures.bytes c.in_ok-kept.ensures.sizes in
-    (_, (appends_then before between (contents c.print.new.out) _ _ sizes c.in_ok-print.ensures.prints.lines, record {
-      made = c.in_ok-kept.kept;
-      find = c.in_ok-kept.ensures.run;
-      ends = sym c.in_ok-kept.ensures.ending;
-      was = size_in c.args.made.«record»;
-      text_is = refl;
-      kept = λ wanted. c.in_ok-keep.ensures.kept (c.is_some.ensures ∙ wanted);
-    }))
+    let sizes = keeps_append before (contents c.flush.new.self) between _ c.in_ok-flush.ensures.bytes c.in_ok-kept.ensures.sizes in (
+      _,
+      appends_then before between (contents c.print.new.out) _ _ sizes c.in_ok-print.ensures.prints.lines,
+      record {
+        made = c.in_ok-kept.kept;
+        find = c.in_ok-kept.ensures.run;
+        ends = sym c.in_ok-kept.ensures.ending;
+        was = size_in c.args.made.«record»;
+        text_is = refl;
+        kept = λ wanted. c.in_ok-keep.ensures.kept (c.is_some.ensures ∙ wanted);
+      },
+    )
