@@ -2,9 +2,10 @@
 //! front of one that is read, and a record that takes the place of one once all of it is there; of streams one whose
 //! reader went away.
 //!
-//! Proved: a job comes to what performs it only with its numbers in range, and as the words have it. A job ends with 0
-//! or 1 only where its streams got all that was written to their buffers, the lines before the file that it makes,
-//! which at another status gets nothing more. `read_front` gives the first bytes of a reader.
+//! Proved: a job comes to what performs it only with its numbers in range, and as the words have it. Of a job that came
+//! to 0 or 1 `close` says that nothing is lost only where the streams got all that was written to their buffers, the
+//! lines before the file that it makes; that file gets nothing more at another status, or where lines were lost.
+//! `read_front` gives the first bytes of a reader. That `Task::end` answers by what `close` says is tested.
 #![tactic(auto)]
 
 mod beside;
