@@ -62,11 +62,11 @@ module _ (log : List Entry) (n : ℕ) (m : Entry) (is : slice_get log n ≡ Some
     | inl same ↦ let of_n : IsOf log t n (Ask h.question) = subst (λ (k : ℕ). IsOf log t k (Ask h.question)) same h.asks in
         absurd (none (thread_here t (Ask h.question) of_n) (subst IsCall (sym (event_here t (Ask h.question) of_n)) tt))
     | inr apart ↦ record {
-        before = omega (arith, h.before, apart);
-        question = h.question;
-        asks = h.asks;
-        quiet = λ at e lo hi. h.quiet at e lo (omega arith);
-      }
+      before = omega (arith, h.before, apart);
+      question = h.question;
+      asks = h.asks;
+      quiet = λ at e lo hi. h.quiet at e lo (omega arith);
+    }
   ]
 
   open_keeps : (t : ℕ) (o : Option ℕ) → (m.thread ≡ t → IsCall m.event → ⊥) → IsOpenAt log t n o → IsOpenAt log t (n + 1) o
@@ -156,9 +156,9 @@ module _ (log : List Entry) (n : ℕ) (m : Entry) (is : slice_get log n ≡ Some
     only t p r x y = elim (cases_lt p r) [
       | inl lt ↦ absurd (x.quiet r (Ask y.question) lt y.before y.asks tt)
       | inr le ↦ elim (cases_eq p r) [
-          | inl same ↦ same
-          | inr apart ↦ absurd (y.quiet p (Ask x.question) (omega (arith, le, apart)) x.before x.asks tt)
-        ]
+        | inl same ↦ same
+        | inr apart ↦ absurd (y.quiet p (Ask x.question) (omega (arith, le, apart)) x.before x.asks tt)
+      ]
     ]
 
     pub told_some : (a : Answer) (q : Question) (p : ℕ) (contexts : List Context) → m.event ≡ Told a → m.thread < threads
@@ -183,9 +183,9 @@ module _ (log : List Entry) (n : ℕ) (m : Entry) (is : slice_get log n ≡ Some
                       let e : Answered a ≡ c = same_Some (Answered a) c (sym (set_same contexts p (Answered a) (omega (arith, n_in, long, before))) ∙ subst (λ (k : ℕ). slice_get first k ≡ Some c) same is_first) in
                       subst (IsContext log threads (n + 1) at) e (m.thread, n, q, within, omega arith, subst (λ (k : ℕ). IsAnswered log m.thread k n q a) (sym same) answered)
                   | inr other ↦ context_keeps at c (λ t asked r b lt h2 place. elim place [
-                      | inl here_asked ↦ other (here_asked ∙ only m.thread asked p (subst (λ (k : ℕ). IsOpen log k n asked) (sym (thread_here t (Told b) h2.tells)) (was_open t asked r b h2)) opened)
-                      | inr here_told ↦ apart here_told
-                    ]) (h.each at c (sym (set_other contexts p at (Answered a) other) ∙ is_first))
+                    | inl here_asked ↦ other (here_asked ∙ only m.thread asked p (subst (λ (k : ℕ). IsOpen log k n asked) (sym (thread_here t (Told b) h2.tells)) (was_open t asked r b h2)) opened)
+                    | inr here_told ↦ apart here_told
+                  ]) (h.each at c (sym (set_other contexts p at (Answered a) other) ∙ is_first))
                 ])
           ];
         }
