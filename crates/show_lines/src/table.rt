@@ -1,6 +1,6 @@
 //! The table of lines of a module.
 
-ghost use Rattle.std.specs.Prelude.{◌≡◌, find, codes};
+ghost use Rattle.std.specs.Prelude.{◌≡◌, [], find, codes, IfOk};
 ghost use Rattle.show_lines.specs.Lines.{holds};
 ghost use Rattle.show_lines.specs.Sections.{IsCustomOrEmpty};
 
@@ -57,7 +57,10 @@ pub struct DebugSections<'a> {
 fn custom_or_empty<'a>(bytes: &'a [u8], name: &[u8]) -> &'a [u8]
     ensures { IsCustomOrEmpty bytes.now name.now result.now }
 {
-    custom_section(bytes, name).unwrap_or(&[])
+    match custom_section(bytes, name) {
+        Some(contents) => contents,
+        None => &[],
+    }
 }
 
 impl<'a> DebugSections<'a> {
@@ -75,12 +78,18 @@ impl<'a> DebugSections<'a> {
     }
 }
 
-/// The lines of a module's code, as far as they can be read. A unit that can't be read has those that were read of it.
+/// The lines of a module's code, as far as they can be read; none where there is no section of them. A unit that can't
+/// be read has those that were read of it.
 pub fn read_lines<'a>(
     alloc: Global,
     sections: DebugSections<'a>,
-) -> Result<LineTable<'a>, AllocError> {
+) -> Result<LineTable<'a>, AllocError>
+    ensures { sections.entry.lines.now ≡ [] → IfOk result (λ table. table.ranges.items ≡ []) }
+{
     let mut ranges = Vec::new(alloc);
+    if sections.lines.is_empty() {
+        return Ok(LineTable { ranges });
+    }
     let mut cursor = Cursor::new(sections.lines);
     // Each unit takes a byte at least.
     for _ in 0..cursor.len() {

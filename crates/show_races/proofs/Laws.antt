@@ -1,11 +1,15 @@
 -- What is found of the races of a run, from what is told of all of them.
-use Rattle.std.proofs.Common.{ℕ, zero, suc, ◌≡◌, ◌≤◌, ◌<◌, ◌+◌, Bool, true, false, List, [], ◌∷◌, ◌++◌, All, Contains, length, get_or, ap, refl, subst, arith}
-use Rattle.std.proofs.lemmas.List.Elements.{All-append, All-contains, All-cons, All-nil, Contains-get_or}
+use Rattle.std.proofs.Common.{ℕ, zero, suc, ◌≡◌, ◌∙◌, ◌≤◌, ◌<◌, ◌+◌, Bool, true, false, List, [], ◌∷◌, ◌++◌, All, Contains, length, get_or, inl, inr, ap, refl, sym, subst, arith}
+use Rattle.std.proofs.lemmas.Bool.{cases_lt}
+use Rattle.std.proofs.lemmas.List.Elements.{All-contains, Contains-get_or}
 use Rattle.std.proofs.lemmas.List.{length-append}
 use Rattle.types.specs.declared.event.Entry.{Entry}
 use Rattle.race_history.specs.declared.access.Kind.{Kind}
 use Rattle.race_history.specs.declared.race.Race.{Race}
-use Rattle.race_history.specs.Races.{AreRaces, HasEach, IsCut}
+use Rattle.race_history.specs.declared.access.Access.{Access}
+use Rattle.race_history.specs.Places.{IsAccess}
+use Rattle.race_history.specs.Races.{AreRaces, HasEach, IsCut, IsLastRace}
+use Rattle.race_history.proofs.Places.{IsAccess-same}
 use Rattle.show_rows.specs.declared.listing.Shown.{Shown}
 use Rattle.show_races.specs.Kinds.{kind_at, kinds_before}
 use Rattle.show_races.specs.Told.{HasNoRace, IsWithin}
@@ -14,12 +18,6 @@ use Rattle.show_races.specs.Told.{HasNoRace, IsWithin}
 pub kinds_length : (shown : Shown) (n : ℕ) → length (kinds_before shown n) ≡ n
 kinds_length shown zero = refl
 kinds_length shown (suc n) = omega (arith, kinds_length shown n, length-append (kinds_before shown n) (kind_at shown n ∷ []))
-
--- one more of them is told
-pub one_more : (all told : List Race) (at : ℕ) (d : Race) → at < length all → All (Contains all) told
-    → All (Contains all) (told ++ get_or all at d ∷ [])
-one_more all told at d within known = All-append (Contains all) told (get_or all at d ∷ []) known
-    (All-cons (Contains all) (get_or all at d) [] (Contains-get_or all at d within) (All-nil (Contains all)))
 
 pub one_longer : (told : List Race) (x : Race) → length (told ++ x ∷ []) ≡ length told + 1
 one_longer told x = length-append told (x ∷ [])
@@ -49,3 +47,27 @@ module _ (log : List Entry) (kinds : List Kind) where
       absurd (omega (arith, room, (cut refl).full))
   no_race (r ∷ all) told is_cut most room each cut some is first second a b racing =
       absurd (omega (arith, some (omega arith), ap length is))
+
+  -- a race is that of its second entry with the last one that makes the same access as its first
+  one_last : (r s : Race) (m : IsLastRace log kinds r) (t : IsLastRace log kinds s) → IsAccess log kinds r.first t.a
+      → r.second ≡ s.second → r ≡ s
+  one_last r s m t made met =
+      let same : m.a ≡ t.a = IsAccess-same log kinds r.first m.a t.a m.racing.made made in
+      let here : r.first < r.second = m.racing.earlier in
+      let there : s.first < s.second = t.racing.earlier in
+      elim (cases_lt r.first s.first) [
+        | inl before ↦ absurd (m.last s.first before (omega (arith, there, met)) (subst (λ (a : Access). IsAccess log kinds s.first a) (sym same) t.racing.made))
+        | inr ge ↦ elim (cases_lt s.first r.first) [
+          | inl after ↦ absurd (t.last r.first after (omega (arith, here, met)) made)
+          | inr le ↦
+              let e : r.first ≡ s.first = omega arith in
+              ap (λ (k : ℕ). record { first = k; second = r.second }) e ∙ ap (λ (k : ℕ). record { first = s.first; second = k }) met
+        ]
+      ]
+
+  -- where each race is named, those that could be are
+  pub named_it : (all : List Race) → AreRaces log kinds all → HasEach log kinds all → (r : Race) → IsLastRace log kinds r → Contains all r
+  named_it all races each r t =
+      let n = each r.first r.second t.a t.b t.racing in
+      subst (Contains all) (one_last (record { first = n.first; second = r.second }) r
+      (races (record { first = n.first; second = r.second }) n.named) t n.made refl) n.named

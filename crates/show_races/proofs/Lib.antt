@@ -1,1 +1,5 @@
+pub mod Alike
+pub mod Firsts
 pub mod Laws
+pub mod Telling
+pub mod Texts

@@ -1,10 +1,19 @@
 -- What is told of the races of a recorded run.
-use Rattle.std.specs.Prelude.{ℕ, ◌<◌, List, length}
+use Rattle.std.specs.Prelude.{ℕ, ◌≡◌, ◌⊎◌, ◌<◌, ◌==◌, ◌&&◌, Bool, true, false, Option, Some, None, List, length, AllPairs, Contains}
+use Rattle.std.specs.Prelude.{slice_index_or}
 use Rattle.types.specs.declared.event.Entry.{Entry}
+use Rattle.interp.specs.declared.place.CodePlace.{CodePlace}
 use Rattle.race_history.specs.declared.access.Access.{Access}
 use Rattle.race_history.specs.declared.access.Kind.{Kind}
 use Rattle.race_history.specs.declared.race.Race.{Race}
-use Rattle.race_history.specs.Races.{AreRacing}
+use Rattle.race_history.specs.Places.{IsAccess}
+use Rattle.race_history.specs.Races.{AreRacing, IsLastRace, IsEarlier, IsCut}
+use Rattle.show_rows.specs.declared.listing.Shown.{Shown}
+use Rattle.show_rows.specs.declared.listing.Story.{Story}
+use Rattle.show_rows.specs.Listing.{place_of}
+use Rattle.show_races.specs.declared.found.Places.{Places}
+use Rattle.show_races.specs.declared.found.TheConstants.{MOST_PAIRS}
+use Rattle.show_races.specs.Kinds.{kinds_shown}
 
 -- No two entries race.
 abbrev pub HasNoRace : List Entry → List Kind → Type 0
@@ -13,3 +22,72 @@ HasNoRace log kinds = (first second : ℕ) (a b : Access) → AreRacing log kind
 -- Both entries of a pair are entries of the log.
 abbrev pub IsWithin : List Entry → Race → Type 0
 IsWithin log r = (r.first < length log) × (r.second < length log)
+
+-- Where in the code the two entries of a race were made.
+abbrev pub places_of : Shown → Story → Race → Places
+places_of shown story r = record { first = place_of shown story r.first; second = place_of shown story r.second }
+
+abbrev pub is_same : Option CodePlace → Option CodePlace → Bool
+is_same None None = true
+is_same (Some a) (Some b) = (a.function == b.function) && (a.instr == b.instr)
+is_same a b = false
+
+abbrev pub is_alike : Places → Places → Bool
+is_alike a b = is_same a.first b.first && is_same a.second b.second
+
+abbrev pub AreAlike : Shown → Story → Race → Race → Type 0
+AreAlike shown story r s = places_of shown story r ≡ places_of shown story s
+
+-- One of these was made at the same two places.
+abbrev pub IsTold : Shown → Story → List Race → Race → Type 0
+IsTold shown story told r = (s : Race) × Contains told s × AreAlike shown story s r
+
+-- No two of them were made at the same two places.
+abbrev pub AreApart : Shown → Story → List Race → Type 0
+AreApart shown story told = AllPairs (λ r s. AreAlike shown story r s → ⊥) told
+
+-- A race among all that was made at other places than each one before it.
+pub record IsFirstAmong (shown : Shown) (story : Story) (all : List Race) (r : Race) : Type 0 where
+  pub at : ℕ
+  pub within : at < length all
+  pub is : slice_index_or all at r ≡ r
+  pub first : (k : ℕ) → k < at → AreAlike shown story (slice_index_or all k r) r → ⊥
+
+-- Just so many are told, and one of all was made at other places.
+pub record IsLeftOut (shown : Shown) (story : Story) (all told : List Race) (most : ℕ) : Type 0 where
+  pub full : length told ≡ most
+  pub other : Race
+  pub among : Contains all other
+  pub untold : IsTold shown story told other → ⊥
+
+abbrev pub IsLastShown : Shown → Race → Type 0
+IsLastShown shown r = IsLastRace shown.record.now.log (kinds_shown shown) r
+
+-- Of the races at the same two places it is the first.
+abbrev pub IsFirstThere : Shown → Story → Race → Type 0
+IsFirstThere shown story r =
+    (s : Race) → IsLastShown shown s → AreAlike shown story s r → (r ≡ s) ⊎ IsEarlier r s
+
+-- Of a race: with the last entry that makes the same access as its first one, and the same second one, it is told.
+pub record IsToldOf (shown : Shown) (story : Story) (told : List Race) (a : Access) (second : ℕ) : Type 0 where
+  pub race : Race
+  pub last : IsLastShown shown race
+  pub made : IsAccess shown.record.now.log (kinds_shown shown) race.first a
+  pub met : race.second ≡ second
+  pub is_told : IsTold shown story told race
+
+-- Each race of the run is told, at its two places in the code.
+abbrev pub TellsEach : Shown → Story → List Race → Type 0
+TellsEach shown story told = (first second : ℕ) (a b : Access)
+    → AreRacing shown.record.now.log (kinds_shown shown) first second a b → IsToldOf shown story told a second
+
+-- Just so many are told, and a race is left out that was made at other places.
+pub record IsMore (shown : Shown) (story : Story) (told : List Race) (most : ℕ) : Type 0 where
+  pub full : length told ≡ most
+  pub other : Race
+  pub races : IsLastShown shown other
+  pub untold : IsTold shown story told other → ⊥
+
+-- There are more races than are looked at.
+abbrev pub AreMany : Shown → Type 0
+AreMany shown = (looked : List Race) × IsCut shown.record.now.log (kinds_shown shown) looked MOST_PAIRS

@@ -1,11 +1,13 @@
 //! The races of a record, each pair of places in the code once.
 
-ghost use Rattle.std.specs.Prelude.{◌≡◌, ◌≤◌, [], All, Contains, IfOk, length, true};
+ghost use Rattle.std.specs.Prelude.{◌≡◌, ◌≤◌, ◌⊎◌, ◌||◌, [], All, IfOk, length, true, false};
 ghost use Rattle.shared_memory.specs.History.{AreEntries};
 ghost use Rattle.shared_memory.specs.Legal.{IsQueueLegal};
-ghost use Rattle.race_history.specs.Races.{AreRaces};
+ghost use Rattle.race_history.specs.Races.{AreInOrder, AreRaces};
 ghost use Rattle.show_races.specs.Kinds.{kinds_shown};
-ghost use Rattle.show_races.specs.Told.{HasNoRace, IsWithin};
+ghost use Rattle.show_races.specs.Told as told;
+ghost use Rattle.show_races.specs.Told.{AreMany, AreApart, HasNoRace, IsFirstAmong, IsFirstThere, IsLeftOut, IsMore};
+ghost use Rattle.show_races.specs.Told.{IsTold, IsWithin, TellsEach};
 
 use crate::kinds::kinds_of;
 use interp::CodePlace;
@@ -23,7 +25,7 @@ pub struct Races {
     pub kinds: Vec<Kind>,
     /// In the order of their second entries. No two were made at the same two places of the code.
     pub pairs: Vec<Race>,
-    /// There may be more.
+    /// There are more, or more than are looked at.
     pub is_cut: bool,
 }
 
@@ -35,13 +37,32 @@ struct Firsts {
 }
 
 /// Where the two entries of a race were made.
-#[derive(Clone, Copy, PartialEq, Eq)]
+#[derive(Clone, Copy)]
 struct Places {
     first: Option<CodePlace>,
     second: Option<CodePlace>,
 }
 
-fn places_of(shown: Shown, story: &Story, race: Race) -> Places {
+/// Whether two places are the same, or neither is known.
+fn is_same(a: Option<CodePlace>, b: Option<CodePlace>) -> bool
+    ensures { result ≡ told.is_same a b }
+{
+    match (a, b) {
+        (Some(a), Some(b)) => a.function == b.function && a.instr == b.instr,
+        (None, None) => true,
+        _ => false,
+    }
+}
+
+fn is_alike(a: Places, b: Places) -> bool
+    ensures { result ≡ told.is_alike a b }
+{
+    is_same(a.first, b.first) && is_same(a.second, b.second)
+}
+
+fn places_of(shown: Shown, story: &Story, race: Race) -> Places
+    ensures { result ≡ told.places_of shown.entry story.now race }
+{
     Places {
         first: shown.place_at(story, race.first),
         second: shown.place_at(story, race.second),
@@ -50,11 +71,12 @@ fn places_of(shown: Shown, story: &Story, race: Race) -> Places {
 
 /// Whether one of these races was made at the same two places.
 fn is_known(shown: Shown, story: &Story, known: &[Race], race: Race) -> bool
-    ensures { result ≡ true → 1 ≤ length known.now }
+    ensures told { result ≡ true → IsTold shown.entry story.now known.now race }
+    ensures untold { result ≡ false → IsTold shown.entry story.now known.now race → ⊥ }
 {
     let places = places_of(shown, story, race);
-    for other in known {
-        if places_of(shown, story, *other) == places {
+    for at in 0..known.len() {
+        if is_alike(places_of(shown, story, known[at]), places) {
             return true;
         }
     }
@@ -69,9 +91,11 @@ fn find_firsts(
     all: &[Race],
     most: usize,
 ) -> Result<Firsts, AllocError>
-    requires { 1 ≤ most }
-    ensures from { IfOk result (λ r. All (Contains all.now) r.pairs.items) }
-    ensures some { IfOk result (λ r. 1 ≤ length all.now → 1 ≤ length r.pairs.items) }
+    ensures from { IfOk result (λ r. All (IsFirstAmong shown.entry story.now all.now) r.pairs.items) }
+    ensures in_order { IfOk result (λ r. AreInOrder all.now → AreInOrder r.pairs.items) }
+    ensures once { IfOk result (λ r. AreApart shown.entry story.now r.pairs.items) }
+    ensures each { IfOk result (λ r. r.is_cut ≡ false → All (IsTold shown.entry story.now r.pairs.items) all.now) }
+    ensures cut { IfOk result (λ r. r.is_cut ≡ true → IsLeftOut shown.entry story.now all.now r.pairs.items most) }
     ensures few { IfOk result (λ r. length r.pairs.items ≤ most) }
 {
     let mut pairs = Vec::new(alloc);
@@ -93,6 +117,12 @@ fn find_firsts(
     })
 }
 
+fn either(a: bool, b: bool) -> bool
+    ensures { result ≡ (a || b) }
+{
+    a || b
+}
+
 /// The races of a record's run, `most` at most: of those that were made at the same two places of the code the first.
 ///
 /// # Errors
@@ -108,7 +138,14 @@ pub fn races_shown(
     requires some { 1 ≤ most }
     ensures kinds { IfOk result (λ r. r.kinds.items ≡ kinds_shown shown.entry) }
     ensures races { IfOk result (λ r. AreRaces shown.entry.record.now.log (kinds_shown shown.entry) r.pairs.items) }
-    ensures none { IfOk result (λ r. r.pairs.items ≡ [] → HasNoRace shown.entry.record.now.log (kinds_shown shown.entry)) }
+    ensures in_order { IfOk result (λ r. AreInOrder r.pairs.items) }
+    ensures once { IfOk result (λ r. AreApart shown.entry story.now r.pairs.items) }
+    ensures firsts { IfOk result (λ r. All (IsFirstThere shown.entry story.now) r.pairs.items) }
+    ensures each { IfOk result (λ r. r.is_cut ≡ false → TellsEach shown.entry story.now r.pairs.items) }
+    ensures cut { IfOk result (λ r. r.is_cut ≡ true
+        → IsMore shown.entry story.now r.pairs.items most ⊎ AreMany shown.entry) }
+    ensures none { IfOk result (λ r. r.pairs.items ≡ []
+        → HasNoRace shown.entry.record.now.log (kinds_shown shown.entry)) }
     ensures few { IfOk result (λ r. length r.pairs.items ≤ most) }
     ensures within { IfOk result (λ r. All (IsWithin shown.entry.record.now.log) r.pairs.items) }
 {
@@ -119,6 +156,6 @@ pub fn races_shown(
     Ok(Races {
         kinds,
         pairs: told.pairs,
-        is_cut: all.is_cut || told.is_cut,
+        is_cut: either(all.is_cut, told.is_cut),
     })
 }

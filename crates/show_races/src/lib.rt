@@ -1,7 +1,9 @@
-//! The races of a recorded run in words: which two entries race, where in the module they were made, and what would have
-//! ordered them.
+//! The races of a recorded run in words: which two entries race, where in the module they were made, and what would
+//! have ordered them.
 //!
-//! Proved: `races_shown` names only races, and none only where there is none; `write_races` writes a paragraph for each.
+//! Proved: `races_shown` tells each race of the run, of those at the same two places in the code the first, each once,
+//! unless it says that there are more, which is so then; `write_races` writes a paragraph for each, with the lines, the
+//! threads, the words and the places of its two entries.
 #![tactic(auto)]
 
 mod found;

@@ -1,19 +1,37 @@
 //! What would order the first entry of a race.
 
+ghost use Rattle.std.specs.Prelude.{◌≡◌, ◌<◌, length};
+ghost use Rattle.show_races.specs.Written as written;
+ghost use Rattle.show_races.specs.Written.{IsNextWrite};
+
 use race_history::{Kind, access_of};
 use types::Entry;
 
-/// The place of the next atomic write of the thread whose entry is at `first`, if it makes one.
-pub(crate) fn next_atomic_write(log: &[Entry], kinds: &[Kind], first: usize) -> Option<usize> {
-    let thread = log.get(first)?.thread;
+/// Whether the entry at a place is an atomic write of this thread.
+fn is_atomic_write(log: &[Entry], kinds: &[Kind], thread: u32, at: usize) -> bool
+    ensures { result ≡ written.is_atomic_write log.now kinds.now thread at }
+{
+    let (Some(entry), Some(kind)) = (log.get(at), kinds.get(at)) else {
+        return false;
+    };
+    match access_of(entry, *kind) {
+        Some(access) => access.thread == thread && access.atomic && access.writes,
+        None => false,
+    }
+}
+
+/// The place of a thread's next atomic write behind a place, if it makes one.
+pub(crate) fn next_atomic_write(
+    log: &[Entry],
+    kinds: &[Kind],
+    thread: u32,
+    first: usize,
+) -> Option<usize>
+    requires { first < length log.now }
+    ensures { IsNextWrite log.now kinds.now thread first result }
+{
     for at in first + 1..log.len() {
-        let entry = &log[at];
-        if entry.thread == thread
-            && let Some(kind) = kinds.get(at)
-            && let Some(access) = access_of(entry, *kind)
-            && access.atomic
-            && access.writes
-        {
+        if is_atomic_write(log, kinds, thread, at) {
             return Some(at);
         }
     }

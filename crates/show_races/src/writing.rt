@@ -1,97 +1,155 @@
 //! Races as text.
 
-ghost use Rattle.std.specs.Prelude.{◌<◌, All, length};
+ghost use Rattle.std.specs.Prelude.{◌≡◌, ◌<◌, All, IfOk, OnOk, length, string_bytes};
 ghost use Rattle.show_races.specs.Told.{IsWithin};
+ghost use Rattle.show_races.specs.Written.{IsEntryText, IsOrderText, SaysRace, TellsRaces, name_text};
 
 use crate::found::Races;
 use crate::release::next_atomic_write;
 use race_history::{Kind, Race};
 use show_rows::{Shown, Story};
 use show_text::Unwritten;
-use std::alloc::Global;
+use std::alloc::{AllocError, Global};
+use std::fmt::{self, Formatter};
 use std::io::Write;
 
-/// Writes an entry: its thread, its words, its line of the record and where it was made, as far as that is known.
-fn write_entry<W: Write>(
-    alloc: Global,
-    shown: Shown,
-    story: &Story,
-    at: usize,
-    out: &mut W,
-) -> Result<(), Unwritten>
+/// A place behind an entry, where it is known.
+#[derive(Clone, Copy)]
+struct Behind<'a>(&'a str);
+
+impl fmt::Display for Behind<'_> {
+    ghost use Rattle.std.specs.Prelude.{Some};
+    ghost use Rattle.show_races.specs.Written.{behind};
+
+    ghost output = { λ b. Some (behind b.0.now) };
+
+    fn fmt<W: fmt::Write>(&self, f: &mut Formatter<W>) -> fmt::Result {
+        let place = self.0;
+        if place.is_empty() {
+            return Ok(());
+        }
+        write!(f, ", {place}")
+    }
+}
+
+/// An entry: its thread, its words, its line of the record and where it was made, as far as that is known.
+fn entry_text(alloc: Global, shown: Shown, story: &Story, at: usize) -> Result<String, AllocError>
     requires { at < length shown.record.now.log }
+    ensures { IfOk result (λ text. IsEntryText shown.entry story.now at (string_bytes text)) }
 {
     let entry = &shown.record.log.as_slice()[at];
     let (thread, line) = (entry.thread, shown.line_of(at));
     let words = shown.words_at(story, at, entry).to_string(alloc)?;
-    write!(out, "t{thread} {words} on line {line}")?;
-    if let Some(place) = shown.place_at(story, at) {
-        let spot = shown.code.spot(place);
-        write!(out, ", {spot}")?;
+    let place = shown.place_text(alloc, story, at)?;
+    let behind = Behind(place.as_str());
+    let text = format!(in alloc; "t{thread} {words} on line {line}{behind}")?;
+    Ok(text)
+}
+
+/// What a race is called: two atomic accesses race where they are of other bytes.
+fn name_of(kinds: &[Kind], race: Race) -> &'static str
+    ensures { result.now ≡ name_text kinds.now race }
+{
+    match (kinds.get(race.first), kinds.get(race.second)) {
+        (Some(Kind::Atomic), Some(Kind::Atomic)) => "mixed",
+        _ => "race",
     }
-    Ok(())
 }
 
-/// Whether both entries are atomic.
-fn is_mixed(kinds: &[Kind], race: Race) -> bool {
-    kinds.get(race.first) == Some(&Kind::Atomic) && kinds.get(race.second) == Some(&Kind::Atomic)
+/// That nothing leads from a write to a thread, where the write is before the second entry.
+#[derive(Clone, Copy)]
+struct Leads {
+    is_between: bool,
+    second: u32,
 }
 
-/// Writes what would have ordered the first entry before the second.
-fn write_order<W: Write>(
-    shown: Shown,
-    kinds: &[Kind],
-    race: Race,
-    out: &mut W,
-) -> Result<(), Unwritten>
+impl fmt::Display for Leads {
+    ghost use Rattle.std.specs.Prelude.{Some};
+    ghost use Rattle.show_races.specs.Written.{leads_text};
+
+    ghost output = { λ l. Some (leads_text l.is_between l.second) };
+
+    fn fmt<W: fmt::Write>(&self, f: &mut Formatter<W>) -> fmt::Result {
+        let second = self.second;
+        if self.is_between {
+            write!(f, ", and nothing leads from it to t{second}")
+        } else {
+            Ok(())
+        }
+    }
+}
+
+/// What would have ordered the first entry before the second.
+fn order_text(alloc: Global, shown: Shown, kinds: &[Kind], race: Race) -> Result<String, AllocError>
     requires first { race.first < length shown.record.now.log }
     requires second { race.second < length shown.record.now.log }
+    ensures { IfOk result (λ text. IsOrderText shown.entry kinds.now race (string_bytes text)) }
 {
     let log = shown.record.log.as_slice();
     let (first, second) = (log[race.first].thread, log[race.second].thread);
-    write!(
-        out,
-        "  nothing between them orders t{first} before t{second}: t{first}"
-    )?;
-    let Some(write) = next_atomic_write(log, kinds, race.first) else {
-        write!(out, " makes no atomic write behind it\n")?;
-        return Ok(());
+    let Some(write) = next_atomic_write(log, kinds, first, race.first) else {
+        let none = format!(in alloc;
+            "  nothing between them orders t{first} before t{second}: t{first} makes no atomic write behind it"
+        )?;
+        return Ok(none);
+    };
+    let leads = Leads {
+        is_between: write < race.second,
+        second,
     };
     let line = shown.line_of(write);
-    write!(out, "'s next atomic write is on line {line}")?;
-    if write < race.second {
-        write!(out, ", and nothing leads from it to t{second}")?;
-    }
-    write!(out, "\n")?;
-    Ok(())
+    let some = format!(in alloc;
+        "  nothing between them orders t{first} before t{second}: t{first}'s next atomic write is on line {line}{leads}"
+    )?;
+    Ok(some)
 }
 
-/// Writes a race: its two entries, and what would have ordered them.
-fn write_race<W: Write>(
+/// A race: its two entries, and what would have ordered them.
+fn race_text(
     alloc: Global,
     shown: Shown,
     story: &Story,
     kinds: &[Kind],
     race: Race,
-    out: &mut W,
-) -> Result<(), Unwritten>
-    requires first { race.first < length shown.record.now.log }
-    requires second { race.second < length shown.record.now.log }
+) -> Result<String, AllocError>
+    requires { IsWithin shown.record.now.log race }
+    ensures { IfOk result (λ text. SaysRace shown.entry story.now kinds.now race (string_bytes text)) }
 {
-    let name = if is_mixed(kinds, race) {
-        "mixed"
-    } else {
-        "race"
-    };
-    write!(out, "{name}: ")?;
-    write_entry(alloc, shown, story, race.first, out)?;
-    write!(out, "; ")?;
-    write_entry(alloc, shown, story, race.second, out)?;
-    write!(out, "\n")?;
-    write_order(shown, kinds, race, out)
+    let name = name_of(kinds, race);
+    let one = entry_text(alloc, shown, story, race.first)?;
+    let other = entry_text(alloc, shown, story, race.second)?;
+    let order = order_text(alloc, shown, kinds, race)?;
+    let text = format!(in alloc; "{name}: {one}; {other}\n{order}\n")?;
+    Ok(text)
 }
 
-/// Writes the races of a record's run, or that there is none.
+/// Whether these are all, where that isn't clear.
+#[derive(Clone, Copy)]
+struct End {
+    is_cut: bool,
+    count: usize,
+}
+
+impl fmt::Display for End {
+    ghost use Rattle.std.specs.Prelude.{Some};
+    ghost use Rattle.show_races.specs.Written.{end_text};
+
+    ghost output = { λ e. Some (end_text e.is_cut e.count) };
+
+    fn fmt<W: fmt::Write>(&self, f: &mut Formatter<W>) -> fmt::Result {
+        let count = self.count;
+        if self.is_cut {
+            write!(f, "not all: more than {count}, by `--most`\n")
+        } else if count == 0 {
+            f.write_str("no race\n")
+        } else {
+            Ok(())
+        }
+    }
+}
+
+/// Writes the races of a record's run, a paragraph each, or that there is none; and where some are left out, that these
+/// are not all.
 ///
 /// # Errors
 /// Where memory is refused, or the stream fails.
@@ -103,16 +161,19 @@ pub fn write_races<W: Write>(
     out: &mut W,
 ) -> Result<(), Unwritten>
     requires { All (IsWithin shown.record.now.log) races.now.pairs.items }
+    ensures { OnOk result (TellsRaces shown.entry story.now races.now (W.contents out.old) (W.contents out.new)) }
 {
-    for race in races.pairs.iter() {
-        write_race(alloc, shown, story, races.kinds.as_slice(), *race, out)?;
+    let pairs = races.pairs.as_slice();
+    let kinds = races.kinds.as_slice();
+    for at in 0..pairs.len() {
+        let text = race_text(alloc, shown, story, kinds, pairs[at])?;
+        write!(out, "{text}")?;
     }
-    let count = races.pairs.len();
-    if races.is_cut {
-        write!(out, "not all: more than {count}, by `--most`\n")?;
-    } else if count == 0 {
-        write!(out, "no race\n")?;
-    }
+    let end = End {
+        is_cut: races.is_cut,
+        count: pairs.len(),
+    };
+    write!(out, "{end}")?;
     out.flush()?;
     Ok(())
 }

@@ -1,0 +1,4 @@
+pub mod Chosen
+mod Read
+pub mod Saying
+pub mod Zipped

@@ -1,18 +1,43 @@
--- What the rows of a record say of its entries.
-use Rattle.std.specs.Prelude.{ℕ, ◌+◌, ◌-◌, ◌^◌, min, Bool, true, false, List, Option, Some, None, option_and_then}
-use Rattle.std.specs.List.{slice_get}
-use Rattle.types.specs.declared.instr.Instr.{Instr}
-use Rattle.types.specs.declared.instr.Instr.TheVariants.{Plain}
-use Rattle.types.specs.declared.instr.PlainInstr.TheVariants.{Atomic}
+-- What is written of a record: a row for each entry that is chosen.
+use Rattle.std.specs.Prelude.{ℕ, ◌≡◌, ◌+◌, ◌-◌, ◌^◌, min, Bool, false, List, [], ◌∷◌, length, map, filter}
+use Rattle.std.specs.Prelude.{Option, Some, None, option_map, option_and_then, unwrap_or}
+use Rattle.std.specs.List.{slice_get, enumerate_from}
+use Rattle.std.specs.Io.KnownBytes.{Keeps}
+use Rattle.types.specs.declared.event.Event.{Event}
+use Rattle.types.specs.declared.event.Event.TheVariants.{Ask}
+use Rattle.types.specs.declared.event.Question.TheVariants.{Leave}
+use Rattle.types.specs.declared.event.Entry.{Entry}
+use Rattle.types.specs.declared.outcome.Outcome.{Outcome}
+use Rattle.types.specs.declared.outcome.ThreadReport.{ThreadReport}
 use Rattle.types.specs.declared.parts.Parts.{Parts}
+use Rattle.types.specs.declared.limits.TheConstants.{MOST_THREADS}
 use Rattle.interp.specs.declared.place.CodePlace.{CodePlace}
 use Rattle.replay_text.specs.Versions.{header_count}
+use Rattle.report_choice.specs.declared.choice.Look.{Look}
+use Rattle.report_choice.specs.Choices.{is_chosen}
+use Rattle.show_text.specs.declared.context.Context.{Context}
+use Rattle.show_text.specs.declared.context.Context.TheVariants.{Alone, Asked}
+use Rattle.show_text.specs.declared.words.Words.{Words}
+use Rattle.show_text.specs.Contexts.{AreContexts}
+use Rattle.show_text.specs.Words.{words_text}
+use Rattle.show_text.specs.Rows.{RowText, AddsRow}
 use Rattle.show_rows.specs.declared.rows.Row.{Row}
+use Rattle.show_rows.specs.declared.spot.Spot.{Spot}
+use Rattle.show_rows.specs.declared.code.CodeMap.{CodeMap}
 use Rattle.show_rows.specs.declared.listing.Shown.{Shown}
+use Rattle.show_rows.specs.declared.listing.Story.{Story}
+use Rattle.show_rows.specs.Spots.{IsSpotOf, is_atomic, spot_text}
 
 -- The line of the record that has the entry at a place.
 abbrev pub line_at : Shown → ℕ → ℕ
 line_at shown at = min (header_count shown.record.now.version + 1 + at) (2 ^ 64 - 1)
+
+abbrev pub is_shown : Shown → Look → ℕ × Entry → Bool
+is_shown shown look x = is_chosen look.choice (line_at shown x.0) x.1
+
+-- The places of the entries of the log that are chosen, in order.
+abbrev pub chosen : Shown → Look → List ℕ
+chosen shown look = map (λ x. x.0) (filter (is_shown shown look) (enumerate_from 0 shown.record.now.log))
 
 abbrev pub row_in : List (Option Row) → ℕ → Option Row
 row_in rows at = option_and_then (λ row. row) (slice_get rows at)
@@ -20,14 +45,25 @@ row_in rows at = option_and_then (λ row. row) (slice_get rows at)
 abbrev pub row_at : Shown → ℕ → Option Row
 row_at shown at = row_in shown.rows.now at
 
-abbrev pub is_atomic_instr : Option Instr → Bool
-is_atomic_instr (Some (Plain (Atomic op arg))) = true
-is_atomic_instr other = false
+abbrev pub context_at : Story → ℕ → Context
+context_at story at = unwrap_or (slice_get story.contexts.items at) Alone
 
--- The instruction at a place is an atomic one.
-abbrev pub is_atomic : Parts → CodePlace → Bool
-is_atomic m place =
-    is_atomic_instr (option_and_then (λ body. slice_get body.code place.instr) (slice_get m.bodies place.function))
+-- An answer was made where its question was asked.
+abbrev pub made_at : Context → ℕ → ℕ
+made_at (Asked question asked) at = asked
+made_at context at = at
+
+-- Where an entry was made, as the rows have it.
+abbrev pub place_of : Shown → Story → ℕ → Option CodePlace
+place_of shown story at = option_map (λ row. row.place) (row_at shown (made_at (context_at story at) at))
+
+abbrev pub outcome_by : Event → Option ThreadReport → Option Outcome
+outcome_by (Ask Leave) report = option_map (λ r. r.outcome) report
+outcome_by event report = None
+
+-- How the thread of a leave has ended.
+abbrev pub outcome_of : Shown → Entry → Option Outcome
+outcome_of shown entry = outcome_by entry.event (slice_get shown.record.now.ends entry.thread)
 
 abbrev pub is_atomic_in : Parts → Option Row → Bool
 is_atomic_in m None = false
@@ -35,3 +71,47 @@ is_atomic_in m (Some row) = is_atomic m row.place
 
 abbrev pub is_atomic_row : Shown → Option Row → Bool
 is_atomic_row shown row = is_atomic_in shown.code.now.parts.now row
+
+-- The words of the entry at a place: of this entry, with what the log and the rows say of it.
+pub record AreWordsOf (shown : Shown) (story : Story) (at : ℕ) (made : Entry) (w : Words) : Type 0 where
+  pub entry : w.entry ≡ made
+  pub context : w.context ≡ context_at story at
+  pub atomic : w.is_atomic ≡ is_atomic_row shown (row_at shown at)
+  pub before : w.before ≡ option_and_then (λ row. row.before) (row_at shown at)
+  pub outcome : w.outcome ≡ outcome_of shown made
+
+-- The text of a place, or none.
+abbrev pub IsPlaceText : CodeMap → Option CodePlace → List ℕ → Type 0
+IsPlaceText code None text = text ≡ []
+IsPlaceText code (Some place) text = (s : Spot) × IsSpotOf code place s × (text ≡ spot_text s)
+
+-- A row says of the entry at a place: its line, its thread, its words and where it was made.
+pub record Says (shown : Shown) (story : Story) (at : ℕ) (row : RowText) : Type 0 where
+  pub made : Entry
+  pub stands : slice_get shown.record.now.log at ≡ Some made
+  pub line : row.line ≡ line_at shown at
+  pub thread : row.thread ≡ made.thread
+  pub said : Words
+  pub words_of : AreWordsOf shown story at made said
+  pub words : row.words ≡ words_text said
+  pub place : IsPlaceText shown.code.now (place_of shown story at) row.place
+
+-- What is written is a row that says so of the entry at a place.
+abbrev pub AddsEntry : Shown → Story → ℕ → Option (List ℕ) → Option (List ℕ) → Type 0
+AddsEntry shown story at old new =
+    (is_colored : Bool) × (row : RowText) × Says shown story at row × AddsRow is_colored row old new
+
+-- What is written is a row for each of these places, in order, and nothing else.
+abbrev pub AddsEntries : Shown → Story → List ℕ → Option (List ℕ) → Option (List ℕ) → Type 0
+AddsEntries shown story [] old new = Keeps old new
+AddsEntries shown story (at ∷ places) old new = (middle : Option (List ℕ))
+    × AddsEntry shown story at old middle × AddsEntries shown story places middle new
+
+-- The story is that of a log.
+abbrev pub IsStoryOf : List Entry → Story → Type 0
+IsStoryOf log story = AreContexts log MOST_THREADS (length log) story.contexts.items
+
+-- A row for each entry that is chosen, by what the log says.
+abbrev pub WritesRows : Shown → Look → Option (List ℕ) → Option (List ℕ) → Type 0
+WritesRows shown look old new = (story : Story) × IsStoryOf shown.record.now.log story
+    × AddsEntries shown story (chosen shown look) old new

@@ -1,8 +1,10 @@
 //! What is known of a module's code: where its instructions are, what its functions are called, and their lines of
 //! source.
 
-ghost use Rattle.std.specs.Prelude.{◌≡◌, IfOk};
-ghost use Rattle.show_rows.specs.Listing as specified;
+ghost use Rattle.std.specs.Prelude.{◌≡◌, ◌^◌, ◌-◌, min, count_by, option_map, IfOk};
+ghost use Rattle.show_places.specs.Names.{IsNames};
+ghost use Rattle.show_rows.specs.Spots as specified;
+ghost use Rattle.show_rows.specs.Spots.{IsSpotOf, AreBodies, is_function_import, range_at};
 
 use crate::spot::Spot;
 use binary_wire::ReadFault;
@@ -27,18 +29,22 @@ pub struct CodeMap<'m, 'n> {
 }
 
 /// The places of the instructions in a module's bytes; none where they can't be read.
-fn bodies_of(alloc: Global, bytes: &[u8]) -> Result<Sequence<BodyPlaces>, AllocError> {
+fn bodies_of(alloc: Global, bytes: &[u8]) -> Result<Sequence<BodyPlaces>, AllocError>
+    ensures { IfOk result (AreBodies bytes.now) }
+{
     let Some(code) = section_of(bytes, 10) else {
         return Ok(Sequence::from_vec(Vec::new(alloc)));
     };
     match code_places(alloc, code.contents) {
         Ok(bodies) => Ok(bodies),
         Err(ReadFault::OutOfMemory) => Err(AllocError),
-        Err(_) => Ok(Sequence::from_vec(Vec::new(alloc))),
+        Err(ReadFault::Malformed { .. }) => Ok(Sequence::from_vec(Vec::new(alloc))),
     }
 }
 
-fn count_functions(imports: &[Import]) -> u32 {
+fn count_functions(imports: &[Import]) -> u32
+    ensures { result ≡ min (count_by is_function_import imports.now) (2 ^ 32 - 1) }
+{
     let mut count = 0u32;
     for import in imports {
         if let ImportDesc::Func(_) = import.desc {
@@ -49,7 +55,9 @@ fn count_functions(imports: &[Import]) -> u32 {
 }
 
 /// The offset of the instruction at a place, from the start of the code section's contents.
-fn offset_of(bodies: &[BodyPlaces], place: CodePlace) -> Option<usize> {
+fn offset_of(bodies: &[BodyPlaces], place: CodePlace) -> Option<usize>
+    ensures { result ≡ specified.offset_of bodies.now place }
+{
     let body = bodies.get(place.function)?;
     body.instrs.as_slice().get(place.instr).copied()
 }
@@ -63,7 +71,11 @@ impl<'m, 'n> CodeMap<'m, 'n> {
         bytes: &[u8],
         names: &'n [u8],
     ) -> Result<CodeMap<'m, 'n>, AllocError>
-        ensures { IfOk result (λ c. c.parts.now ≡ parts.now) }
+        ensures parts { IfOk result (λ c. c.parts.now ≡ parts.now) }
+        ensures imported { IfOk result (λ c. c.imported ≡ min (count_by is_function_import parts.now.imports) (2 ^ 32 - 1)) }
+        ensures names { IfOk result (λ c. IsNames names.now c.names) }
+        ensures bodies { IfOk result (λ c. AreBodies bytes.now c.bodies) }
+        ensures named_bodies { IfOk result (λ c. AreBodies names.now c.named_bodies) }
     {
         Ok(CodeMap {
             parts,
@@ -76,7 +88,9 @@ impl<'m, 'n> CodeMap<'m, 'n> {
     }
 
     /// The place as it is printed.
-    pub fn spot(&self, place: CodePlace) -> Spot<'_> {
+    pub fn spot(&self, place: CodePlace) -> Spot<'_>
+        ensures { IsSpotOf self.now place result }
+    {
         let own = u32::try_from(place.function).unwrap_or(u32::MAX);
         let index = own.saturating_add(self.imported);
         Spot {
@@ -87,14 +101,18 @@ impl<'m, 'n> CodeMap<'m, 'n> {
     }
 
     /// How far behind the start of its body the instruction is.
-    fn offset_in_body(&self, place: CodePlace) -> Option<usize> {
+    fn offset_in_body(&self, place: CodePlace) -> Option<usize>
+        ensures { result ≡ specified.offset_in_body self.now.bodies place }
+    {
         let body = self.bodies.as_slice().get(place.function)?;
-        let offset = offset_of(self.bodies.as_slice(), place)?;
+        let offset = body.instrs.as_slice().get(place.instr)?;
         Some(offset.saturating_sub(body.start))
     }
 
     /// The file and line of source, where both files have as many instructions in the function.
-    fn source_of(&self, place: CodePlace) -> Option<(&str, u64)> {
+    fn source_of(&self, place: CodePlace) -> Option<(&str, u64)>
+        ensures { result ≡ option_map (λ r. (r.file, r.line)) (range_at self.now place) }
+    {
         let own = self.bodies.as_slice().get(place.function)?;
         let named = self.named_bodies.as_slice().get(place.function)?;
         if own.instrs.len() != named.instrs.len() {

@@ -1,7 +1,8 @@
 //! The rows of a record as text: each entry in words, and the place in the module where it was made, which is seen by a
 //! replay as it goes along the record's log.
 //!
-//! Proved: the row of an event is where the thread stands that wants it.
+//! Proved: a row is written for each entry that is chosen, in order, with its line, its thread, its words and its place;
+//! the row of an event is where the thread stands that wants it.
 #![tactic(auto)]
 
 mod code;
@@ -10,6 +11,6 @@ mod rows;
 mod spot;
 
 pub use code::CodeMap;
-pub use listing::{Shown, Story, write_rows};
+pub use listing::{Shown, Story, chosen_entries, write_rows};
 pub use rows::{Row, Rows};
 pub use spot::Spot;

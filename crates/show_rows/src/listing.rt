@@ -1,7 +1,8 @@
 //! The rows of a record, one below the other.
 
-ghost use Rattle.std.specs.Prelude.{◌≡◌};
-ghost use Rattle.show_rows.specs.Listing.{line_at, row_at, is_atomic_row};
+ghost use Rattle.std.specs.Prelude.{◌≡◌, ◌<◌, [], ◌∷◌, ◌++◌, cond, length, string_bytes, IfOk, OnOk, All, option_and_then};
+ghost use Rattle.show_rows.specs.Listing.{line_at, chosen, row_at, context_at, place_of, outcome_of, is_atomic_row};
+ghost use Rattle.show_rows.specs.Listing.{IsStoryOf, AreWordsOf, IsPlaceText, AddsEntry, AddsEntries, WritesRows};
 
 use crate::Row;
 use crate::code::CodeMap;
@@ -10,7 +11,6 @@ use replay_text::RecordParts;
 use report_choice::{Color, Look};
 use show_text::{Context, Sheet, Unwritten, Wake, Words, all_wakes, contexts};
 use std::alloc::{AllocError, Global};
-use std::fmt::Write as _;
 use std::io::Write;
 use types::{Entry, Event, MOST_THREADS, Outcome, Question};
 
@@ -32,10 +32,22 @@ pub struct Story {
 
 impl Story {
     /// What a log says, whatever it is.
-    pub fn new(alloc: Global, log: &[Entry]) -> Result<Story, AllocError> {
+    pub fn new(alloc: Global, log: &[Entry]) -> Result<Story, AllocError>
+        ensures { IfOk result (IsStoryOf log.now) }
+    {
         let contexts = contexts(alloc, log, MOST_THREADS)?;
         let wakes = all_wakes(alloc, log, &contexts)?;
         Ok(Story { contexts, wakes })
+    }
+
+    /// The context of the entry at a place.
+    pub fn context_at(&self, at: usize) -> Context
+        ensures { result ≡ context_at self.now at }
+    {
+        match self.contexts.get(at) {
+            Some(context) => *context,
+            None => Context::Alone,
+        }
     }
 
     /// Whom the notify at a place woke.
@@ -56,7 +68,9 @@ impl Shown<'_, '_, '_, '_, '_> {
     }
 
     /// How the thread of a leave has ended.
-    fn outcome_of(&self, entry: &Entry) -> Option<Outcome> {
+    fn outcome_of(&self, entry: &Entry) -> Option<Outcome>
+        ensures { result ≡ outcome_of self.now entry.now }
+    {
         match entry.event {
             Event::Ask(Question::Leave) => {
                 let report = self.record.ends.as_slice().get(entry.thread as usize)?;
@@ -67,13 +81,15 @@ impl Shown<'_, '_, '_, '_, '_> {
     }
 
     /// The entry at a place in words.
-    pub fn words_at<'s>(&self, story: &'s Story, at: usize, entry: &Entry) -> Words<'s> {
+    pub fn words_at<'s>(&self, story: &'s Story, at: usize, entry: &Entry) -> Words<'s>
+        ensures { AreWordsOf self.now story.now at entry.now result }
+    {
         let row = self.row_at(at);
         Words {
             entry: *entry,
-            context: story.contexts.get(at).copied().unwrap_or(Context::Alone),
+            context: story.context_at(at),
             is_atomic: self.is_atomic(row),
-            before: row.and_then(|row| row.before),
+            before: before_of(row),
             woken: story.woken_at(at),
             outcome: self.outcome_of(entry),
         }
@@ -106,13 +122,27 @@ impl Shown<'_, '_, '_, '_, '_> {
     }
 
     /// Where the entry at a place was made: an answer where its question was asked.
-    pub fn place_at(&self, story: &Story, at: usize) -> Option<CodePlace> {
-        let made = match story.contexts.get(at) {
-            Some(Context::Asked(_, asked)) => *asked,
+    pub fn place_at(&self, story: &Story, at: usize) -> Option<CodePlace>
+        ensures { result ≡ place_of self.now story.now at }
+    {
+        let made = match story.context_at(at) {
+            Context::Asked(_, asked) => asked,
             _ => at,
         };
-        let row = self.rows.get(made).copied().flatten()?;
-        Some(row.place)
+        match self.row_at(made) {
+            Some(row) => Some(row.place),
+            None => None,
+        }
+    }
+
+    /// The text of the place where the entry at a place was made; empty where that isn't known.
+    pub fn place_text(&self, alloc: Global, story: &Story, at: usize) -> Result<String, AllocError>
+        ensures { IfOk result (λ text. IsPlaceText self.now.code.now (place_of self.now story.now at) (string_bytes text)) }
+    {
+        match self.place_at(story, at) {
+            Some(place) => self.code.spot(place).to_string(alloc),
+            None => Ok(String::new(alloc)),
+        }
     }
 
     /// The threads that have an entry which is chosen, in the order of their numbers.
@@ -128,34 +158,96 @@ impl Shown<'_, '_, '_, '_, '_> {
     }
 }
 
-/// Writes the rows of the entries that are chosen.
+fn before_of(row: Option<Row>) -> Option<u64>
+    ensures { result ≡ option_and_then (λ row. row.before) row }
+{
+    match row {
+        Some(row) => row.before,
+        None => None,
+    }
+}
+
+/// Adds a place, if it is chosen.
+fn add_place(places: &mut Vec<usize>, is_chosen: bool, at: usize) -> Result<(), AllocError>
+    ensures { OnOk result (places.new.items ≡ places.old.items ++ cond is_chosen (at ∷ []) []) }
+{
+    if is_chosen {
+        places.push(at)?;
+    }
+    Ok(())
+}
+
+/// The places in the log of the entries that are chosen, in order.
+pub fn chosen_entries(alloc: Global, shown: Shown, look: &Look) -> Result<Vec<usize>, AllocError>
+    ensures which { IfOk result (λ places. places.items ≡ chosen shown.entry look.now) }
+    ensures within { IfOk result (λ places. All (λ at. at < length shown.entry.record.now.log) places.items) }
+{
+    let log = shown.record.log.as_slice();
+    let mut chosen = Vec::new(alloc);
+    for at in 0..log.len() {
+        let is_chosen = look.choice.has(shown.line_of(at), &log[at]);
+        add_place(&mut chosen, is_chosen, at)?;
+    }
+    Ok(chosen)
+}
+
+/// Writes the rows of the entries that are chosen, in their order: of each the line of the record, its thread, its words
+/// and where it was made.
 pub fn write_rows<W: Write>(
     alloc: Global,
     shown: Shown,
     look: &Look,
     out: &mut W,
-) -> Result<(), Unwritten> {
-    let log = shown.record.log.as_slice();
-    let story = Story::new(alloc, log)?;
-    let is_colored = look.color == Color::Always;
-    let sheet = Sheet::new(shown.threads(alloc, look)?, look.width, is_colored);
-    let mut words = String::new(alloc);
-    let mut place = String::new(alloc);
-    for (at, entry) in log.iter().enumerate() {
-        let line = shown.line_of(at);
-        if !look.choice.has(line, entry) {
-            continue;
-        }
-        words.clear();
-        place.clear();
-        let said = shown.words_at(&story, at, entry);
-        write!(words, "{said}")?;
-        if let Some(made) = shown.place_at(&story, at) {
-            let spot = shown.code.spot(made);
-            write!(place, "{spot}")?;
-        }
-        sheet.write_row(out, line, entry.thread, words.as_str(), place.as_str())?;
-    }
+) -> Result<(), Unwritten>
+    ensures { OnOk result (WritesRows shown.entry look.now (W.contents out.old) (W.contents out.new)) }
+{
+    let story = Story::new(alloc, shown.record.log.as_slice())?;
+    let chosen = chosen_entries(alloc, shown, look)?;
+    let sheet = Sheet::new(
+        shown.threads(alloc, look)?,
+        look.width,
+        look.color == Color::Always,
+    );
+    write_entries(alloc, shown, &story, &sheet, chosen.as_slice(), out)?;
     out.flush()?;
+    Ok(())
+}
+
+/// Writes the rows of the entries at these places.
+#[tactic(auto, using(crate::proofs::Chosen::keeps_same))]
+fn write_entries<W: Write>(
+    alloc: Global,
+    shown: Shown,
+    story: &Story,
+    sheet: &Sheet,
+    places: &[usize],
+    out: &mut W,
+) -> Result<(), Unwritten>
+    requires { All (λ at. at < length shown.record.now.log) places.now }
+    ensures { OnOk result (AddsEntries shown.entry story.now places.now (W.contents out.old) (W.contents out.new)) }
+{
+    for place in 0..places.len() {
+        write_entry(alloc, shown, story, sheet, places[place], out)?;
+    }
+    Ok(())
+}
+
+/// Writes the row of the entry at a place.
+fn write_entry<W: Write>(
+    alloc: Global,
+    shown: Shown,
+    story: &Story,
+    sheet: &Sheet,
+    at: usize,
+    out: &mut W,
+) -> Result<(), Unwritten>
+    requires { at < length shown.record.now.log }
+    ensures { OnOk result (AddsEntry shown.entry story.now at (W.contents out.old) (W.contents out.new)) }
+{
+    let entry = &shown.record.log.as_slice()[at];
+    let words = shown.words_at(story, at, entry).to_string(alloc)?;
+    let place = shown.place_text(alloc, story, at)?;
+    let line = shown.line_of(at);
+    sheet.write_row(out, line, entry.thread, words.as_str(), place.as_str())?;
     Ok(())
 }

@@ -1,5 +1,8 @@
 //! A place in a module, as it is printed.
 
+ghost use Rattle.std.specs.Fmt.{WritesOnOk};
+ghost use Rattle.show_rows.specs.Spots.{name_text};
+
 use show_places::FunctionName;
 use show_text::Plain;
 use std::fmt::{self, Formatter, Write};
@@ -14,22 +17,33 @@ pub struct Spot<'a> {
 }
 
 impl fmt::Display for Spot<'_> {
+    ghost use Rattle.std.specs.Prelude.{Some};
+    ghost use Rattle.show_rows.specs.Spots.{spot_text};
+
+    ghost output = { λ s. Some (spot_text s) };
+
     /// As `enqueue+0x2f queue.c:20`.
     fn fmt<W: Write>(&self, f: &mut Formatter<W>) -> fmt::Result {
-        match self.name {
-            FunctionName::Named(name) | FunctionName::Exported(name) => {
-                let name = Plain(name);
-                write!(f, "{name}")?;
-            }
-            FunctionName::Numbered(index) => write!(f, "func {index}")?,
-        }
+        write_name(f, self.name)?;
         if let Some(offset) = self.offset {
-            write!(f, "+{offset:#x}")?;
+            write!(f, "+0x{offset:x}")?;
         }
         if let Some((file, line)) = self.source {
             let file = Plain(file);
             write!(f, " {file}:{line}")?;
         }
         Ok(())
+    }
+}
+
+fn write_name<W: Write>(f: &mut Formatter<W>, name: FunctionName) -> fmt::Result
+    ensures { WritesOnOk W.write_str_gives f.old result (name_text name.entry) f.new }
+{
+    match name {
+        FunctionName::Named(name) | FunctionName::Exported(name) => {
+            let name = Plain(name);
+            write!(f, "{name}")
+        }
+        FunctionName::Numbered(index) => write!(f, "func {index}"),
     }
 }

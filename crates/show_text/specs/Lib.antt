@@ -1,3 +1,4 @@
+pub mod Contexts
 pub mod Plain
 pub mod Rows
 pub mod Words

@@ -1,5 +1,9 @@
-use Rattle.std.proofs.Common.{◌≤◌, All, Contains, length}
+use Rattle.std.proofs.Common.{◌≤◌, length}
+use Rattle.show_races.proofs.Firsts.{AreFirsts}
 use Rattle.show_races.proofs.found.find_firsts.Given as goal
 
 abbrev pub invariant-loop-at : goal.invariant-loop-at
-invariant-loop-at l = All (Contains l.all) l.pairs.items × (1 ≤ l.at → 1 ≤ length l.pairs.items) × (length l.pairs.items ≤ l.most)
+invariant-loop-at l = record {
+  firsts : AreFirsts l.shown l.story l.all l.at l.pairs.items;
+  few : length l.pairs.items ≤ l.most;
+}

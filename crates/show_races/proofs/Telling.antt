@@ -1,0 +1,94 @@
+-- What is told of a race.
+use Rattle.std.proofs.Common.{◌≡◌, ◌∙◌, ◌<◌, nat_lt, ℕ, List, ◌++◌, Option, Some, length, get_or, refl, sym, ap, subst, codes}
+use Rattle.std.specs.Fmt.{decimal}
+use Rattle.std.specs.List.{AllZip, concat, slice_get}
+use Rattle.std.specs.Io.KnownBytes.{Appends}
+use Rattle.std.proofs.lemmas.Option.{same_Some, slice_get-get_or}
+use Rattle.types.specs.declared.event.Entry.{Entry}
+use Rattle.race_history.specs.declared.access.Kind.{Kind}
+use Rattle.race_history.specs.declared.race.Race.{Race}
+use Rattle.show_text.specs.declared.words.Words.{Words}
+use Rattle.show_text.specs.Words.{words_text}
+use Rattle.show_rows.specs.declared.listing.Shown.{Shown}
+use Rattle.show_rows.specs.declared.listing.Story.{Story}
+use Rattle.show_rows.specs.Listing.{line_at, place_of, AreWordsOf, IsPlaceText}
+use Rattle.show_rows.proofs.Saying.{says_of}
+use Rattle.show_races.specs.declared.found.Races.{Races}
+use Rattle.show_races.specs.Written.{behind, end_text, entry_text, leads_text, name_text, order_text, IsEntryText, IsNextWrite, IsOrderText, SaysRace, TellsRaces}
+
+pub entry_says : (shown : Shown) (story : Story) (at : ℕ) (log : List Entry) (d : Entry) (said : Words) (words place text : List ℕ) (line : ℕ)
+    → log ≡ shown.record.now.log → at < length shown.record.now.log → AreWordsOf shown story at (get_or log at d) said
+    → line ≡ line_at shown at → words ≡ words_text said → IsPlaceText shown.code.now (place_of shown story at) place
+    → text ≡ codes "t" ++ (decimal (get_or log at d).thread ++ (codes " " ++ (words ++ (codes " on line " ++ (decimal line ++ behind place)))))
+    → IsEntryText shown story at text
+entry_says shown story at log d said words place text line same within of line_is words_are place_is is = (
+  record { line = line; thread = (get_or log at d).thread; words = words; place = place },
+  says_of shown story at log d said (record { line = line; thread = (get_or log at d).thread; words = words; place = place })
+      same within of line_is refl words_are place_is,
+  is,
+)
+
+stands : (log whole : List Entry) (at : ℕ) (d : Entry) → log ≡ whole → at < length whole → slice_get whole at ≡ Some (get_or log at d)
+stands log whole at d same within = subst (λ (l : List Entry). slice_get l at ≡ Some (get_or log at d)) same
+    (slice_get-get_or log at d (subst (λ (l : List Entry). at < length l) (sym same) within))
+
+pub order_of : (shown : Shown) (kinds : List Kind) (r : Race) (log : List Entry) (d e : Entry) (next : Option ℕ) (text : List ℕ)
+    → log ≡ shown.record.now.log → r.first < length shown.record.now.log → r.second < length shown.record.now.log
+    → IsNextWrite log kinds (get_or log r.first d).thread r.first next
+    → text ≡ order_text shown r (get_or log r.first d).thread (get_or log r.second e).thread next → IsOrderText shown kinds r text
+order_of shown kinds r log d e next text same first second is_next is = (
+  get_or log r.first d,
+  get_or log r.second e,
+  stands log shown.record.now.log r.first d same first,
+  stands log shown.record.now.log r.second e same second,
+  next,
+  subst (λ (l : List Entry). IsNextWrite l kinds (get_or log r.first d).thread r.first next) same is_next,
+  is,
+)
+
+pub some_order : (shown : Shown) (kinds : List Kind) (r : Race) (log : List Entry) (d e : Entry) (at line : ℕ) (text : List ℕ)
+    → log ≡ shown.record.now.log → r.first < length shown.record.now.log → r.second < length shown.record.now.log
+    → IsNextWrite log kinds (get_or log r.first d).thread r.first (Some at) → line ≡ line_at shown at
+    → text ≡ codes "  nothing between them orders t" ++ (decimal (get_or log r.first d).thread ++ (codes " before t"
+    ++ (decimal (get_or log r.second e).thread ++ (codes ": t" ++ (decimal (get_or log r.first d).thread
+    ++ (codes "'s next atomic write is on line " ++ (decimal line ++ leads_text (nat_lt at r.second) (get_or log r.second e).thread)))))))
+    → IsOrderText shown kinds r text
+some_order shown kinds r log d e at line text same first second is_next line_is is =
+    order_of shown kinds r log d e (Some at) text same first second is_next (is
+    ∙ ap (λ (n : ℕ). codes "  nothing between them orders t" ++ (decimal (get_or log r.first d).thread ++ (codes " before t"
+    ++ (decimal (get_or log r.second e).thread ++ (codes ": t" ++ (decimal (get_or log r.first d).thread
+    ++ (codes "'s next atomic write is on line " ++ (decimal n ++ leads_text (nat_lt at r.second) (get_or log r.second e).thread)))))))) line_is)
+
+-- Of all races, by the slices that were gone through.
+pub told_all : (shown : Shown) (story : Story) (races : Races) (kinds : List Kind) (pairs : List Race) (a d : Option (List ℕ))
+    → kinds ≡ races.kinds.items → pairs ≡ races.pairs.items
+    → ((texts : List (List ℕ)) × AllZip (SaysRace shown story kinds) pairs texts × Appends a d (concat texts ++ end_text races.is_cut (length pairs)))
+    → TellsRaces shown story races a d
+told_all shown story races kinds pairs a d same alike told =
+    subst (λ (ks : List Kind). (texts : List (List ℕ)) × AllZip (SaysRace shown story ks) races.pairs.items texts
+    × Appends a d (concat texts ++ end_text races.is_cut (length races.pairs.items))) same
+    (subst (λ (ps : List Race). (texts : List (List ℕ)) × AllZip (SaysRace shown story kinds) ps texts
+    × Appends a d (concat texts ++ end_text races.is_cut (length ps))) alike told)
+
+pub race_says : (shown : Shown) (story : Story) (kinds : List Kind) (r : Race) (name one other order text : List ℕ)
+    → name ≡ name_text kinds r → IsEntryText shown story r.first one → IsEntryText shown story r.second other → IsOrderText shown kinds r order
+    → text ≡ name ++ (codes ": " ++ (one ++ (codes "; " ++ (other ++ (codes "\n" ++ (order ++ codes "\n"))))))
+    → SaysRace shown story kinds r text
+race_says shown story kinds r name one other order text named (row, says, one_is) (row2, says2, other_is) (a, b, at_a, at_b, next, is_next, order_is) is =
+    let first : a.thread ≡ row.thread = ap (λ (x : Entry). x.thread) (same_Some a says.made (sym at_a ∙ says.stands)) ∙ sym says.thread in
+    let second : b.thread ≡ row2.thread = ap (λ (x : Entry). x.thread) (same_Some b says2.made (sym at_b ∙ says2.stands)) ∙ sym says2.thread in
+    let ordered : order ≡ order_text shown r row.thread row2.thread next =
+    order_is ∙ (ap (λ (n : ℕ). order_text shown r n b.thread next) first ∙ ap (λ (n : ℕ). order_text shown r row.thread n next) second) in
+    record {
+      one = row;
+      one_is = says;
+      other = row2;
+      other_is = says2;
+      next = next;
+      next_is = subst (λ (n : ℕ). IsNextWrite shown.record.now.log kinds n r.first next) first is_next;
+      is = is
+          ∙ (ap (λ (x : List ℕ). x ++ (codes ": " ++ (one ++ (codes "; " ++ (other ++ (codes "\n" ++ (order ++ codes "\n"))))))) named
+          ∙ (ap (λ (x : List ℕ). name_text kinds r ++ (codes ": " ++ (x ++ (codes "; " ++ (other ++ (codes "\n" ++ (order ++ codes "\n"))))))) one_is
+          ∙ (ap (λ (x : List ℕ). name_text kinds r ++ (codes ": " ++ (entry_text row ++ (codes "; " ++ (x ++ (codes "\n" ++ (order ++ codes "\n"))))))) other_is
+          ∙ ap (λ (x : List ℕ). name_text kinds r ++ (codes ": " ++ (entry_text row ++ (codes "; " ++ (entry_text row2 ++ (codes "\n" ++ (x ++ codes "\n"))))))) ordered)));
+    }

@@ -1,0 +1,99 @@
+-- What is written of races.
+use Rattle.std.specs.Prelude.{ℕ, ◌≡◌, ◌<◌, ◌==◌, ◌&&◌, nat_lt, if◌then◌else◌, Bool, true, false}
+use Rattle.std.specs.Prelude.{List, [], ◌∷◌, ◌++◌, codes, length, Option, Some, None, option_and_then}
+use Rattle.std.specs.List.{slice_get, AllZip, concat}
+use Rattle.std.specs.Fmt.{decimal}
+use Rattle.std.specs.Io.KnownBytes.{Appends}
+use Rattle.types.specs.declared.event.Entry.{Entry}
+use Rattle.race_history.specs.declared.access.Access.{Access}
+use Rattle.race_history.specs.declared.access.Kind.{Kind}
+use Rattle.race_history.specs.declared.access.Kind.TheVariants.{Plain, Atomic}
+use Rattle.race_history.specs.declared.race.Race.{Race}
+use Rattle.race_history.specs.Accesses.{access_of}
+use Rattle.show_text.specs.Rows.{RowText}
+use Rattle.show_rows.specs.declared.listing.Shown.{Shown}
+use Rattle.show_rows.specs.declared.listing.Story.{Story}
+use Rattle.show_rows.specs.Listing.{line_at, Says}
+use Rattle.show_races.specs.declared.found.Races.{Races}
+
+-- A place that isn't known leaves nothing.
+abbrev pub behind : List ℕ → List ℕ
+behind [] = []
+behind (b ∷ place) = codes ", " ++ (b ∷ place)
+
+-- An entry: its thread, its words, its line of the record, and where it was made.
+abbrev pub entry_text : RowText → List ℕ
+entry_text row = codes "t" ++ (decimal row.thread ++ (codes " " ++ (row.words ++ (codes " on line "
+    ++ (decimal row.line ++ behind row.place)))))
+
+abbrev pub IsEntryText : Shown → Story → ℕ → List ℕ → Type 0
+IsEntryText shown story at text = (row : RowText) × Says shown story at row × (text ≡ entry_text row)
+
+abbrev pub access_at : List Entry → List Kind → ℕ → Option Access
+access_at log kinds at =
+    option_and_then (λ made. option_and_then (access_of made) (slice_get kinds at)) (slice_get log at)
+
+abbrev pub writes_atomically : ℕ → Option Access → Bool
+writes_atomically thread None = false
+writes_atomically thread (Some a) = (a.thread == thread) && (a.atomic && a.writes)
+
+-- The entry at a place is an atomic write of this thread.
+abbrev pub is_atomic_write : List Entry → List Kind → ℕ → ℕ → Bool
+is_atomic_write log kinds thread at = writes_atomically thread (access_at log kinds at)
+
+-- The next one behind a place, if there is one.
+abbrev pub IsNextWrite : List Entry → List Kind → ℕ → ℕ → Option ℕ → Type 0
+IsNextWrite log kinds thread first None = (k : ℕ) → first < k → is_atomic_write log kinds thread k ≡ false
+IsNextWrite log kinds thread first (Some at) = (first < at) × (is_atomic_write log kinds thread at ≡ true)
+    × ((k : ℕ) → first < k → k < at → is_atomic_write log kinds thread k ≡ false)
+
+-- Nothing leads from a write before the second entry to its thread.
+abbrev pub leads_text : Bool → ℕ → List ℕ
+leads_text is_between second = if is_between then codes ", and nothing leads from it to t" ++ decimal second else []
+
+abbrev pub write_text : Shown → Race → ℕ → Option ℕ → List ℕ
+write_text shown r second None = codes " makes no atomic write behind it"
+write_text shown r second (Some at) = codes "'s next atomic write is on line " ++ (decimal (line_at shown at)
+    ++ leads_text (nat_lt at r.second) second)
+
+-- What would have ordered the first entry before the second, by their threads.
+abbrev pub order_text : Shown → Race → ℕ → ℕ → Option ℕ → List ℕ
+order_text shown r first second next = codes "  nothing between them orders t" ++ (decimal first ++ (codes " before t"
+    ++ (decimal second ++ (codes ": t" ++ (decimal first ++ write_text shown r second next)))))
+
+-- It is that text, of the threads of the two entries.
+abbrev pub IsOrderText : Shown → List Kind → Race → List ℕ → Type 0
+IsOrderText shown kinds r text = (first second : Entry) × (slice_get shown.record.now.log r.first ≡ Some first)
+    × (slice_get shown.record.now.log r.second ≡ Some second) × (next : Option ℕ)
+    × IsNextWrite shown.record.now.log kinds first.thread r.first next
+    × (text ≡ order_text shown r first.thread second.thread next)
+
+-- Two atomic accesses race where they are of other bytes.
+abbrev pub name_of : Option Kind → Option Kind → List ℕ
+name_of (Some Atomic) (Some Atomic) = codes "mixed"
+name_of first second = codes "race"
+
+abbrev pub name_text : List Kind → Race → List ℕ
+name_text kinds r = name_of (slice_get kinds r.first) (slice_get kinds r.second)
+
+-- A race: its two entries, and what would have ordered them.
+pub record SaysRace (shown : Shown) (story : Story) (kinds : List Kind) (r : Race) (text : List ℕ) : Type 0 where
+  pub one : RowText
+  pub one_is : Says shown story r.first one
+  pub other : RowText
+  pub other_is : Says shown story r.second other
+  pub next : Option ℕ
+  pub next_is : IsNextWrite shown.record.now.log kinds one.thread r.first next
+  pub is : text ≡ name_text kinds r ++ (codes ": " ++ (entry_text one ++ (codes "; " ++ (entry_text other
+      ++ (codes "\n" ++ (order_text shown r one.thread other.thread next ++ codes "\n"))))))
+
+-- Whether that are all, where that isn't clear.
+abbrev pub end_text : Bool → ℕ → List ℕ
+end_text is_cut count = if is_cut then codes "not all: more than " ++ (decimal count ++ codes ", by `--most`\n")
+    else if count == 0 then codes "no race\n" else []
+
+-- What is written is a paragraph for each race, in order, and whether that are all.
+abbrev pub TellsRaces : Shown → Story → Races → Option (List ℕ) → Option (List ℕ) → Type 0
+TellsRaces shown story races old new = (texts : List (List ℕ))
+    × AllZip (SaysRace shown story races.kinds.items) races.pairs.items texts
+    × Appends old new (concat texts ++ end_text races.is_cut (length races.pairs.items))

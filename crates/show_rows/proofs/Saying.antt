@@ -1,0 +1,28 @@
+-- What a row says of an entry.
+use Rattle.std.proofs.Common.{◌≡◌, ◌∙◌, ◌<◌, ℕ, List, Some, length, get_or, refl, sym, ap, subst}
+use Rattle.std.specs.List.{slice_get}
+use Rattle.std.proofs.lemmas.Option.{slice_get-get_or}
+use Rattle.types.specs.declared.event.Entry.{Entry}
+use Rattle.show_text.specs.declared.words.Words.{Words}
+use Rattle.show_text.specs.Words.{words_text}
+use Rattle.show_text.specs.Rows.{RowText}
+use Rattle.show_rows.specs.declared.listing.Shown.{Shown}
+use Rattle.show_rows.specs.declared.listing.Story.{Story}
+use Rattle.show_rows.specs.Listing.{line_at, place_of, AreWordsOf, IsPlaceText, Says}
+
+-- It says so of the entry that a log has there, which is the record's.
+pub says_of : (shown : Shown) (story : Story) (at : ℕ) (log : List Entry) (d : Entry) (said : Words) (row : RowText)
+    → log ≡ shown.record.now.log → at < length shown.record.now.log → AreWordsOf shown story at (get_or log at d) said
+    → row.line ≡ line_at shown at → row.thread ≡ (get_or log at d).thread → row.words ≡ words_text said
+    → IsPlaceText shown.code.now (place_of shown story at) row.place → Says shown story at row
+says_of shown story at log d said row same within of line thread words place = record {
+  made = get_or log at d;
+  stands = subst (λ (l : List Entry). slice_get l at ≡ Some (get_or log at d)) same
+      (slice_get-get_or log at d (subst (λ (l : List Entry). at < length l) (sym same) within));
+  line = line;
+  thread = thread;
+  said = said;
+  words_of = of;
+  words = words;
+  place = place;
+}

@@ -1,0 +1,7 @@
+use Rattle.std.proofs.Common.{get_or, refl}
+use Rattle.show_rows.proofs.Chosen.{entries_next}
+use Rattle.show_rows.proofs.listing.write_entries.Goals as goal
+
+pub loop-place-preserved : goal.loop-place-preserved
+loop-place-preserved g c = entries_next _ _ c.args.places.now c.loop-place.place 0 (get_or c.args.places.now c.loop-place.place 0)
+    c.loop-place-test.true refl _ _ _ c.loop-place.invariant c.in_ok-write_entry.ensures

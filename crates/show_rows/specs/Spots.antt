@@ -1,0 +1,98 @@
+-- A place in a module's code, as it is printed.
+use Rattle.std.specs.Prelude.{ℕ, ◌≡◌, ◌⊎◌, ◌+◌, ◌-◌, ◌^◌, ◌==◌, min, Bool, true, false, if◌then◌else◌, List, [], ◌++◌, codes}
+use Rattle.std.specs.Prelude.{length, drop, find, Result, Ok, Err, Option, Some, None, option_map, option_and_then}
+use Rattle.std.specs.List.{slice_get}
+use Rattle.std.specs.Fmt.{decimal, radix_digits}
+use Rattle.types.specs.declared.parts.Parts.{Parts}
+use Rattle.types.specs.declared.parts.Import.{Import}
+use Rattle.types.specs.declared.parts.ImportDesc.{ImportDesc}
+use Rattle.types.specs.declared.parts.ImportDesc.TheVariants.{Func}
+use Rattle.binary_wire.specs.declared.fault.Refusal.{Refusal}
+use Rattle.binary_wire.specs.Faults.{input}
+use Rattle.types.specs.declared.instr.Instr.{Instr}
+use Rattle.types.specs.declared.instr.Instr.TheVariants.{Plain}
+use Rattle.types.specs.declared.instr.PlainInstr.TheVariants.{Atomic}
+use Rattle.interp.specs.declared.place.CodePlace.{CodePlace}
+use Rattle.show_places.specs.declared.bodies.BodyPlaces.{BodyPlaces}
+use Rattle.show_places.specs.declared.names.FunctionName.{FunctionName}
+use Rattle.show_places.specs.declared.names.FunctionName.TheVariants as called
+use Rattle.show_places.specs.Bodies.{bodies_in}
+use Rattle.show_places.specs.Names.{IsCalled}
+use Rattle.show_places.specs.Sections.{Part, HasFirst, HasNone}
+use Rattle.show_lines.specs.declared.table.Range.{Range}
+use Rattle.show_lines.specs.Lines.{holds}
+use Rattle.show_text.specs.Plain.{plain_text}
+use Rattle.show_rows.specs.declared.spot.Spot.{Spot}
+use Rattle.show_rows.specs.declared.code.CodeMap.{CodeMap}
+
+abbrev pub name_text : FunctionName → List ℕ
+name_text (called.Named name) = plain_text name.now
+name_text (called.Exported name) = plain_text name.now
+name_text (called.Numbered index) = codes "func " ++ decimal index
+
+abbrev pub offset_text : Option ℕ → List ℕ
+offset_text None = codes ""
+offset_text (Some offset) = codes "+0x" ++ radix_digits 16 false offset
+
+abbrev pub line_text : List ℕ → ℕ → List ℕ
+line_text file line = codes " " ++ plain_text file ++ codes ":" ++ decimal line
+
+abbrev pub source_text : {S : Type 0} → (S → List ℕ) → Option (S × ℕ) → List ℕ
+source_text text None = codes ""
+source_text text (Some source) = line_text (text source.0) source.1
+
+abbrev pub spot_text : Spot → List ℕ
+spot_text s = name_text s.name ++ offset_text s.offset ++ source_text (λ file. file.now) s.source
+
+-- The index of a function of the module itself, behind those that are imported.
+abbrev pub index_of : ℕ → ℕ → ℕ
+index_of imported function = min (min function (2 ^ 32 - 1) + imported) (2 ^ 32 - 1)
+
+abbrev pub offset_of : List BodyPlaces → CodePlace → Option ℕ
+offset_of bodies place = option_and_then (λ body. slice_get body.instrs place.instr) (slice_get bodies place.function)
+
+-- How far behind the start of its body an instruction is.
+abbrev pub offset_in_body : List BodyPlaces → CodePlace → Option ℕ
+offset_in_body bodies place = option_and_then (λ body. option_map (λ offset. offset - body.start)
+    (slice_get body.instrs place.instr)) (slice_get bodies place.function)
+
+abbrev pub has_as_many : Option BodyPlaces → Option BodyPlaces → Bool
+has_as_many (Some a) (Some b) = length a.instrs == length b.instrs
+has_as_many a b = false
+
+-- The lines of an instruction, where both files have as many in its function.
+abbrev pub range_at : CodeMap → CodePlace → Option Range
+range_at code place = if has_as_many (slice_get code.bodies place.function) (slice_get code.named_bodies place.function)
+    then option_and_then (λ offset. find (holds offset) code.lines.ranges.items) (offset_of code.named_bodies place)
+    else None
+
+-- The function's name, how far the instruction is behind the start of its body, and the file and the line.
+pub record IsSpotOf (code : CodeMap) (place : CodePlace) (s : Spot) : Type 0 where
+  pub name : IsCalled code.names code.parts.now.exports (index_of code.imported place.function) s.name
+  pub offset : s.offset ≡ offset_in_body code.bodies place
+  pub source : s.source ≡ option_map (λ r. (r.file, r.line)) (range_at code place)
+
+abbrev pub is_atomic_instr : Option Instr → Bool
+is_atomic_instr (Some (Plain (Atomic op arg))) = true
+is_atomic_instr other = false
+
+-- The instruction at a place is an atomic one.
+abbrev pub is_atomic : Parts → CodePlace → Bool
+is_atomic m place =
+    is_atomic_instr (option_and_then (λ body. slice_get body.code place.instr) (slice_get m.bodies place.function))
+
+abbrev pub is_function : ImportDesc → Bool
+is_function (Func type) = true
+is_function other = false
+
+-- The bodies that a module's bytes have in their code section; none where there is no such section, or none can be read.
+abbrev pub AreBodiesIn : List ℕ → List BodyPlaces → Result (List BodyPlaces × List ℕ) Refusal → Type 0
+AreBodiesIn contents bodies (Ok read) = bodies ≡ read.0
+AreBodiesIn contents bodies (Err refusal) = bodies ≡ []
+
+abbrev pub AreBodies : List ℕ → List BodyPlaces → Type 0
+AreBodies bytes bodies = ((x : Part) × HasFirst (λ p. p.0 ≡ 10) (input bytes) (drop 8 bytes) x
+    × AreBodiesIn x.2 bodies (bodies_in x.2)) ⊎ (HasNone (λ p. p.0 ≡ 10) (input bytes) (drop 8 bytes) × (bodies ≡ []))
+
+abbrev pub is_function_import : Import → Bool
+is_function_import i = is_function i.desc
