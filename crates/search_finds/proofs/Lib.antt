@@ -1,3 +1,5 @@
 mod Alike
-mod Popped
+mod InRow
+mod Led
+mod Pieces
 pub mod Noting

@@ -22,12 +22,6 @@ pub record IsFind (q : Requested) (limit : ℕ) (made : MadeRun) : Type 0 where
   pub run : IsRunOf q.parts made.record made.end
   pub of_call : IsOfRequest q limit made.record
 
--- It is the ending of such a run.
-pub record IsMetEnding (q : Requested) (limit dump : ℕ) (e : Ending) : Type 0 where
-  pub made : MadeRun
-  pub find : IsFind q limit made
-  pub ending : e ≡ ending_left dump made.end
-
 -- Some thread trapped or was stopped.
 abbrev pub HasFailure : List Outcome → Type 0
 HasFailure outcomes = list_all is_done outcomes ≡ false
@@ -59,10 +53,6 @@ EndsAsLookedFor s dump end = IsLookedFor s (ending_left dump end)
 -- A run by the call that ends as is looked for.
 abbrev pub IsFound : Requested → Sought → MadeRun → Type 0
 IsFound q s made = IsFind q s.limit made × EndsAsLookedFor s s.dump made.end
-
--- Each ending of the table is that of a run by the call.
-abbrev pub AreMet : Requested → Sought → Table → Type 0
-AreMet q s table = All (λ met. IsMetEnding q s.limit s.dump met.ending) table.met.items
 
 -- None of them is looked for.
 abbrev pub HasNoneLookedFor : Sought → Table → Type 0

@@ -1,4 +1,6 @@
 pub mod Finds
+pub mod Drawing
+pub mod Shares
 pub mod Noted
 pub mod Searching
 pub mod Halts

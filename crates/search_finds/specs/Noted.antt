@@ -4,7 +4,7 @@ use Rattle.spawn_host.specs.Requests.{Requested}
 use Rattle.search_endings.specs.Endings.{Ending}
 use Rattle.report_choice.specs.declared.sought.Sought.{Sought}
 use Rattle.search_finds.specs.declared.met.Table.{Table}
-use Rattle.search_finds.specs.Finds.{IsMetEnding}
+use Rattle.search_finds.specs.Drawing.{AreOfRuns, IsMetEnding}
 use Rattle.search_finds.specs.Tables.{IsNoted}
 
 -- It has these endings, noted one after another: of runs with numbers in a row, from the first on.
@@ -13,9 +13,13 @@ pub data IsTableOf (first : ℕ) : List Ending → Table → Type 0 where
   more : (es : List Ending) (e : Ending) (is_new : Bool) (old new : Table) → IsTableOf first es old
       → IsNoted (first + length es) e is_new old new → IsTableOf first (es ++ e ∷ []) new
 
--- It has the endings of runs by the call, as many as it says.
+-- Each ending of the table is that of the run by the call that its row names.
+abbrev pub AreMet : Requested → Sought → Table → Type 0
+AreMet q s table = All (λ met. IsMetEnding q s met.first met.ending) table.met.items
+
+-- It has the endings of the runs of the search, one after another, as many as it says.
 pub record AreNoted (q : Requested) (s : Sought) (table : Table) : Type 0 where
   pub endings : List Ending
   pub noted : IsTableOf s.from endings table
-  pub met : All (IsMetEnding q s.limit s.dump) endings
+  pub met : AreOfRuns q s s.from endings
   pub count : length endings ≡ table.runs

@@ -1,10 +1,14 @@
 //! The first run with an ending that is looked for.
-ghost use Rattle.std.specs.Prelude.{◌≡◌, ◌≢◌, ◌+◌, ◌<◌, ◌≤◌, ◌^◌, true, All, IfOk, OnOk, OnSome, IfSome, IfNone, IsTrue};
-ghost use Rattle.search_finds.specs.Finds.{IsFound, AreMet, EndsAsLookedFor, HasNoneLookedFor};
-ghost use Rattle.search_finds.specs.Noted.{AreNoted};
-ghost use Rattle.search_finds.specs.Searching.{IsMadeIn, IsMetIn, IsFoundIn, AreSparesIn};
+ghost use Rattle.std.specs.Prelude.{◌≡◌, ◌≢◌, ◌+◌, ◌<◌, ◌≤◌, ◌^◌, true, length};
+ghost use Rattle.std.specs.Prelude.{IfOk, OnOk, OnSome, IfSome, IfNone, IsTrue};
+ghost use Rattle.search_finds.specs.Drawing.{HasPointsAmong, IsPlainRun, IsRunOfNumber};
+ghost use Rattle.search_finds.specs.Finds.{IsFound, EndsAsLookedFor, HasNoneLookedFor};
+ghost use Rattle.search_finds.specs.Noted.{AreMet, AreNoted};
+ghost use Rattle.search_finds.specs.Searching.{IsMadeIn, IsMetIn, IsFoundIn, AreMetIn, ArePiecesIn};
+ghost use Rattle.search_finds.specs.Searching.{AreSparesIn, first_of};
 ghost use Rattle.search_finds.specs.Halts.{IfFound};
 
+use crate::ahead::Ahead;
 use crate::hears::Hears;
 use crate::search::RunMaker;
 use crate::{Table, ending_of, is_looked_for};
@@ -62,24 +66,36 @@ impl<R, W> Drop for Crew<'_, '_, R, W> {
     }
 }
 
-/// How many entries the run has in which a thread goes on as long as it can: among so many lie the points at which
-/// priorities change.
+/// How many entries the run has in which a thread goes on as long as it can, 1 to 1,000,000.
 fn plain_entries<W: Watch>(
+    alloc: Global,
+    request: &Request,
+    limit: u32,
+    watch: &W,
+) -> Result<u32, SearchFault>
+    ensures some { IfOk result (λ entries. 0 < entries) }
+    ensures plain { IfOk result (IsPlainRun request.now limit) }
+{
+    let mut along = Watched::new(Along::new(&[]), watch);
+    let plain = run_along(alloc, request, limit, &mut along)?;
+    let entries = plain.record.parts().log.as_slice().len();
+    Ok((entries.min(1_000_000) as u32).max(1))
+}
+
+/// Among how many entries the points lie at which priorities change: those of that run, where a way has such points.
+fn entries_of<W: Watch>(
     alloc: Global,
     request: &Request,
     sought: &Sought,
     watch: &W,
 ) -> Result<u32, SearchFault>
-    ensures { IfOk result (λ entries. 0 < entries) }
+    ensures some { IfOk result (λ entries. 0 < entries) }
+    ensures points { IfOk result (HasPointsAmong request.now sought.now.limit sought.now.way) }
 {
     match sought.way {
         Way::Random | Way::Spin => Ok(1),
-        Way::Priorities(_) | Way::Mix => {
-            let mut along = Watched::new(Along::new(&[]), watch);
-            let plain = run_along(alloc, request, sought.limit, &mut along)?;
-            let entries = plain.record.parts().log.as_slice().len();
-            Ok((entries.min(1_000_000) as u32).max(1))
-        }
+        Way::Priorities(_) => plain_entries(alloc, request, sought.limit, watch),
+        Way::Mix => plain_entries(alloc, request, sought.limit, watch),
     }
 }
 
@@ -92,9 +108,11 @@ fn entries_unless_told<F: Hears>(
     follower: &mut F,
 ) -> Result<Option<u32>, SearchFault>
     ensures some { IfOk result (λ entries. IfSome entries (λ count. 0 < count)) }
+    ensures points { IfOk result
+        (λ entries. IfSome entries (HasPointsAmong request.now sought.now.limit sought.now.way)) }
     ensures told { IfOk result (λ entries. IfNone entries (F.wish follower.new ≡ Wish.End)) }
 {
-    match plain_entries(alloc, request, sought, watch) {
+    match entries_of(alloc, request, sought, watch) {
         Ok(entries) => return Ok(Some(entries)),
         Err(SearchFault::GivenUp) => {}
         Err(fault) => return Err(fault),
@@ -102,12 +120,12 @@ fn entries_unless_told<F: Hears>(
     if let Wish::End = follower.given_up() {
         return Ok(None);
     }
-    let entries = plain_entries(alloc, request, sought, &())?;
+    let entries = entries_of(alloc, request, sought, &())?;
     Ok(Some(entries))
 }
 
 impl<'m, 'a> RunMaker<'m, 'a> {
-    /// Makes a run of this number, with the threads that the runs before it didn't start.
+    /// Makes the run of this number, with the threads that the runs before it didn't start.
     fn run<W: Watch>(
         &self,
         alloc: Global,
@@ -116,7 +134,7 @@ impl<'m, 'a> RunMaker<'m, 'a> {
         spares: &mut Spares<'m>,
     ) -> Result<MadeRun, SearchFault>
         requires { AreSparesIn self.now spares.old }
-        ensures find { IfOk result (IsMadeIn self.now) }
+        ensures made { IfOk result (IsMadeIn self.now run) }
         ensures spares { OnOk result (AreSparesIn self.now spares.new) }
     {
         let Sought {
@@ -140,7 +158,7 @@ impl<'m, 'a> RunMaker<'m, 'a> {
         spares: &mut Spares<'m>,
     ) -> Result<Option<Ending>, SearchFault>
         requires { AreSparesIn self.now spares.old }
-        ensures met { IfOk result (λ ending. IfSome ending (IsMetIn self.now)) }
+        ensures met { IfOk result (λ ending. IfSome ending (IsMetIn self.now run)) }
         ensures spares { IfOk result (λ ending. OnSome ending (AreSparesIn self.now spares.new)) }
     {
         let made = match self.run(alloc, watch, run, spares) {
@@ -154,7 +172,7 @@ impl<'m, 'a> RunMaker<'m, 'a> {
 
     /// Makes the run of this number, with threads of its own.
     fn run_anew<W: Watch>(&self, alloc: Global, watch: &W, run: u64) -> Result<MadeRun, SearchFault>
-        ensures { IfOk result (IsMadeIn self.now) }
+        ensures { IfOk result (IsMadeIn self.now run) }
     {
         let mut spares = Spares::new(alloc);
         self.run(alloc, watch, run, &mut spares)
@@ -162,7 +180,7 @@ impl<'m, 'a> RunMaker<'m, 'a> {
 
     /// The ending of the run of this number, with threads of its own.
     fn ending_anew(&self, alloc: Global, run: u64) -> Result<Ending, SearchFault>
-        ensures { IfOk result (IsMetIn self.now) }
+        ensures { IfOk result (IsMetIn self.now run) }
     {
         let made = self.run_anew(alloc, &(), run)?;
         let ending = ending_of(alloc, &made.end, self.sought.dump)?;
@@ -184,6 +202,7 @@ impl<'m, 'a> RunMaker<'m, 'a> {
     /// `NoEnd` where it ends otherwise now, which none does; `GivenUp`.
     fn found<W: Watch>(&self, alloc: Global, watch: &W, run: u64) -> Result<Found, SearchFault>
         ensures found { IfOk result (λ found. IsFoundIn self.now found.made) }
+        ensures drawn { IfOk result (λ found. IsMadeIn self.now run found.made) }
         ensures number { IfOk result (λ found. found.run ≡ run) }
     {
         let made = self.run_anew(alloc, watch, run)?;
@@ -203,6 +222,7 @@ impl<'m, 'a> RunMaker<'m, 'a> {
         wish: Wish,
     ) -> Result<Found, SearchFault>
         ensures found { IfOk result (λ found. IsFoundIn self.now found.made) }
+        ensures drawn { IfOk result (λ found. IsMadeIn self.now run found.made) }
         ensures number { IfOk result (λ found. found.run ≡ run) }
     {
         match wish {
@@ -222,6 +242,7 @@ impl<'m, 'a> RunMaker<'m, 'a> {
         follower: &mut F,
     ) -> Result<Halt, SearchFault>
         ensures found { IfOk result (λ halt. IfFound halt (λ f. IsFoundIn self.now f.made)) }
+        ensures drawn { IfOk result (λ halt. IfFound halt (λ f. IsMadeIn self.now f.run f.made)) }
         ensures number { IfOk result (λ halt. IfFound halt (λ f. f.run ≡ run)) }
         ensures made { IfOk result (λ halt. halt ≢ Halt.AllMade) }
         ensures told { IfOk result (λ halt. halt ≡ Halt.Told → F.wish follower.new ≡ Wish.End) }
@@ -246,12 +267,13 @@ impl<'m, 'a> RunMaker<'m, 'a> {
         from: u64,
         count: usize,
     ) -> Result<Vec<Ending>, SearchFault>
-        ensures { IfOk result (λ endings. All (IsMetIn self.now) endings.items) }
+        requires { from + count < 2 ^ 64 }
+        ensures { IfOk result (λ endings. AreMetIn self.now from endings.items) }
     {
         let mut endings = Vec::new(alloc);
         let mut spares = Spares::new(alloc);
         for n in 0..count {
-            let run = from.saturating_add(n as u64);
+            let run = from + n as u64;
             let Some(ending) = self.ending(alloc, watch, run, &mut spares)? else {
                 return Ok(endings);
             };
@@ -260,50 +282,65 @@ impl<'m, 'a> RunMaker<'m, 'a> {
         Ok(endings)
     }
 
-    /// Drops the endings of later runs, where those before them aren't whole.
-    fn drop_later(&self, endings: &mut Vec<Ending>, is_whole: bool)
-        requires { All (IsMetIn self.now) endings.old.items }
-        ensures { All (IsMetIn self.now) endings.new.items }
+    /// Drops the endings of later runs, where of those before them fewer were made than were wanted.
+    fn drop_later(&self, endings: &mut Vec<Ending>, first: u64, made: usize, wanted: u64)
+        requires { AreMetIn self.now (first + wanted) endings.old.items }
+        ensures { AreMetIn self.now (first + made) endings.new.items }
     {
-        if !is_whole {
+        if made as u64 != wanted {
             endings.clear();
         }
     }
 
-    /// Puts the endings of the last piece, if there is one, behind those of later runs, and takes it away. Where it
+    /// The endings of the runs that a job makes ahead, the last first: of all of them, or where one is given up of those
+    /// before it.
+    fn endings_of<W: Watch>(
+        &self,
+        alloc: Global,
+        watch: &W,
+        ahead: Ahead,
+        job: usize,
+    ) -> Result<Vec<Ending>, SearchFault>
+        requires { job + 1 < 2 ^ 64 }
+        ensures { IfOk result (λ endings. AreMetIn self.now (first_of ahead job) endings.items) }
+    {
+        self.endings(alloc, watch, ahead.first(job), ahead.wanted(job) as usize)
+    }
+
+    /// Puts the endings of the last piece, which is a job's, behind those of later runs, and takes it away. Where it
     /// hasn't as many as were wanted, the later ones are dropped.
     fn add(
         &self,
         endings: &mut Vec<Ending>,
         pieces: &mut Vec<Result<Vec<Ending>, SearchFault>>,
-        wanted: usize,
+        ahead: Ahead,
+        job: usize,
     ) -> Result<(), SearchFault>
-        requires endings { All (IsMetIn self.now) endings.old.items }
-        requires pieces { All (λ piece. IfOk piece (λ made. All (IsMetIn self.now) made.items)) pieces.old.items }
-        ensures endings { OnOk result (All (IsMetIn self.now) endings.new.items) }
-        ensures pieces { OnOk result (All (λ piece. IfOk piece (λ made. All (IsMetIn self.now) made.items))
-            pieces.new.items) }
+        requires last { length pieces.old.items ≡ job + 1 }
+        requires room { job + 1 < 2 ^ 64 }
+        requires endings { AreMetIn self.now (first_of ahead (job + 1)) endings.old.items }
+        requires pieces { ArePiecesIn self.now ahead pieces.old.items }
+        ensures last { OnOk result (length pieces.new.items ≡ job) }
+        ensures endings { OnOk result (AreMetIn self.now (first_of ahead job) endings.new.items) }
+        ensures pieces { OnOk result (ArePiecesIn self.now ahead pieces.new.items) }
     {
         let Some(piece) = pieces.pop() else {
             return Ok(());
         };
         let mut made = piece?;
-        self.drop_later(endings, made.len() >= wanted);
+        self.drop_later(endings, ahead.first(job), made.len(), ahead.wanted(job));
         endings.append(&mut made)?;
         Ok(())
     }
 
-    /// The endings of runs in a row, the last first, up to one that is given up. Each job makes as many of them as
-    /// another, or fewer.
+    /// The endings of runs that are made ahead, the last first, up to one that is given up.
     fn endings_by<R: Threads + Sync, W: Watch + Sync>(
         &self,
         alloc: Global,
         crew: &Crew<R, W>,
-        piece: u64,
-        from: u64,
-        count: u64,
+        ahead: Ahead,
     ) -> Result<Vec<Ending>, SearchFault>
-        ensures { IfOk result (λ endings. All (IsMetIn self.now) endings.items) }
+        ensures { IfOk result (λ endings. AreMetIn self.now ahead.from endings.items) }
     {
         let (rt, jobs, watch) = (crew.rt, crew.jobs, crew.watch);
         let mut pieces = map_indices(
@@ -311,18 +348,13 @@ impl<'m, 'a> RunMaker<'m, 'a> {
             alloc,
             jobs,
             &|job: usize| -> Result<Vec<Ending>, SearchFault>
-                ensures { IfOk result (λ endings. All (IsMetIn self.entry.now) endings.items) }
-            {
-                let first = (job as u64).saturating_mul(piece);
-                let wanted = count.saturating_sub(first).min(piece);
-                self.endings(alloc, watch, from.saturating_add(first), wanted as usize)
-            },
+                requires { job + 1 < 2 ^ 64 }
+                ensures { IfOk result (λ endings. AreMetIn self.entry.now (first_of ahead job) endings.items) }
+            { self.endings_of(alloc, watch, ahead, job) },
         )?;
         let mut endings = Vec::new(alloc);
         for job in (0..jobs).rev() {
-            let first = (job as u64).saturating_mul(piece);
-            let wanted = count.saturating_sub(first).min(piece);
-            self.add(&mut endings, &mut pieces, wanted as usize)?;
+            self.add(&mut endings, &mut pieces, ahead, job)?;
         }
         Ok(endings)
     }
@@ -337,9 +369,10 @@ impl<'m, 'a> RunMaker<'m, 'a> {
         left: u64,
         ahead: &mut Vec<Ending>,
     ) -> Result<Option<Ending>, SearchFault>
-        requires { All (IsMetIn self.now) ahead.old.items }
-        ensures met { IfOk result (λ ending. IfSome ending (IsMetIn self.now)) }
-        ensures ahead { OnOk result (All (IsMetIn self.now) ahead.new.items) }
+        requires room { run + left < 2 ^ 64 }
+        requires ahead { AreMetIn self.now run ahead.old.items }
+        ensures met { IfOk result (λ ending. IfSome ending (IsMetIn self.now run)) }
+        ensures ahead { OnOk result (AreMetIn self.now (run + 1) ahead.new.items) }
     {
         if let Some(ending) = ahead.pop() {
             return Ok(Some(ending));
@@ -347,7 +380,12 @@ impl<'m, 'a> RunMaker<'m, 'a> {
         let made = run.saturating_sub(self.sought.from);
         let share = made / (crew.jobs as u64).max(1);
         let piece = (share / 2).saturating_add(1).min(PIECE);
-        *ahead = self.endings_by(alloc, crew, piece, run, left)?;
+        let more = Ahead {
+            from: run,
+            count: left,
+            piece,
+        };
+        *ahead = self.endings_by(alloc, crew, more)?;
         Ok(ahead.pop())
     }
 
@@ -362,9 +400,10 @@ impl<'m, 'a> RunMaker<'m, 'a> {
         ahead: &mut Vec<Ending>,
         follower: &mut F,
     ) -> Result<Option<Ending>, SearchFault>
-        requires { All (IsMetIn self.now) ahead.old.items }
-        ensures met { IfOk result (λ ending. IfSome ending (IsMetIn self.now)) }
-        ensures ahead { OnOk result (All (IsMetIn self.now) ahead.new.items) }
+        requires room { run + left < 2 ^ 64 }
+        requires ahead { AreMetIn self.now run ahead.old.items }
+        ensures met { IfOk result (λ ending. IfSome ending (IsMetIn self.now run)) }
+        ensures ahead { OnOk result (AreMetIn self.now (run + 1) ahead.new.items) }
         ensures told { IfOk result (λ ending. IfNone ending (F.wish follower.new ≡ Wish.End)) }
     {
         if let Some(ending) = self.next_ending(alloc, crew, run, left, ahead)? {
@@ -385,10 +424,13 @@ impl<'m, 'a> RunMaker<'m, 'a> {
         crew: &Crew<R, F::Watch>,
         follower: &mut F,
     ) -> Result<SearchResult, SearchFault>
-        requires { self.now.sought.now.from + self.now.sought.now.runs < 2 ^ 64 }
+        requires few { self.now.sought.now.from + self.now.sought.now.runs < 2 ^ 64 }
+        requires points { HasPointsAmong self.now.request.now self.now.sought.now.limit self.now.sought.now.way
+            self.now.entries }
         ensures met { IfOk result (λ s. AreMet self.now.request.now self.now.sought.now s.table) }
         ensures noted { IfOk result (λ s. AreNoted self.now.request.now self.now.sought.now s.table) }
         ensures found { IfOk result (λ s. IfFound s.halt (λ f. IsFoundIn self.now f.made)) }
+        ensures drawn { IfOk result (λ s. IfFound s.halt (λ f. IsMadeIn self.now f.run f.made)) }
         ensures number { IfOk result
             (λ s. IfFound s.halt (λ f. f.run + 1 ≡ self.now.sought.now.from + s.table.runs)) }
         ensures all_made { IfOk result (λ s. s.halt ≡ Halt.AllMade → s.table.runs ≡ self.now.sought.now.runs) }
@@ -430,8 +472,8 @@ impl<'m, 'a> RunMaker<'m, 'a> {
 /// itself. The follower hears of each how many were made, with how many endings; and where a run is given up since there
 /// is something to be seen, it is asked.
 ///
-/// The table has the endings of runs of the module by the call, in a row from the first on, each noted. What is found
-/// is such a run, the last of them: it ends as is looked for. Where nothing is found, all runs were made, and, where
+/// The table has the endings of the runs of these numbers, in a row from the first on, each noted. What is found is the
+/// last of them: it ends as is looked for. Where nothing is found, all runs were made, and, where
 /// the search stops, none is looked for; or the follower's last wish is that it ends.
 ///
 /// # Errors
@@ -448,6 +490,7 @@ pub fn first_found<R: Threads + Sync, F: Hears>(
     ensures met { IfOk result (λ s. AreMet request.now sought.now s.table) }
     ensures noted { IfOk result (λ s. AreNoted request.now sought.now s.table) }
     ensures found { IfOk result (λ s. IfFound s.halt (λ f. IsFound request.now sought.now f.made)) }
+    ensures drawn { IfOk result (λ s. IfFound s.halt (λ f. IsRunOfNumber request.now sought.now f.run f.made)) }
     ensures number { IfOk result (λ s. IfFound s.halt (λ f. f.run + 1 ≡ sought.now.from + s.table.runs)) }
     ensures all_made { IfOk result (λ s. s.halt ≡ Halt.AllMade → s.table.runs ≡ sought.now.runs) }
     ensures none { IfOk result (λ s. s.halt ≡ Halt.AllMade → IsTrue sought.now.stops

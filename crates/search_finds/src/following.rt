@@ -1,5 +1,7 @@
 //! The run to an ending, and one that goes round and round.
-ghost use Rattle.std.specs.Prelude.{◌≡◌, IfOk, IfSome};
+ghost use Rattle.std.specs.Prelude.{◌≡◌, IfOk, IfNone, IfSome};
+ghost use Rattle.search_strategies.specs.Given.{chosen, rounds};
+ghost use Rattle.search_finds.specs.Drawing.{GoesAlong, LeadToOther, unheard};
 ghost use Rattle.search_finds.specs.Endings.{ending_left};
 ghost use Rattle.search_finds.specs.Finds.{IsFind};
 
@@ -23,7 +25,9 @@ pub fn run_to(
     ending: &Ending,
 ) -> Result<Option<MadeRun>, SearchFault>
     ensures find { IfOk result (λ o. IfSome o (IsFind request.now limit)) }
+    ensures along { IfOk result (λ o. IfSome o (GoesAlong chosen unheard request.now limit choices.now)) }
     ensures ending { IfOk result (λ o. IfSome o (λ made. ending.now ≡ ending_left dump made.end)) }
+    ensures none { IfOk result (λ o. IfNone o (LeadToOther request.now limit dump choices.now ending.now)) }
 {
     let made = run_along(alloc, request, limit, &mut Chosen::new(choices))?;
     let end = ending_of(alloc, &made.end, dump)?;
@@ -46,7 +50,9 @@ pub fn run_round(
     path: &[usize],
     round: &[usize],
 ) -> Result<MadeRun, SearchFault>
-    ensures { IfOk result (IsFind request.now limit) }
+    ensures find { IfOk result (IsFind request.now limit) }
+    ensures along { IfOk result (GoesAlong rounds unheard request.now limit
+        (record { path = path.now; round = round.now; turn = 0; last = 0 })) }
 {
     run_along(alloc, request, limit, &mut Rounds::new(path, round))
 }

@@ -1,9 +1,10 @@
 //! Searching: many runs of a module along schedules that are drawn, the first with an ending that is looked for, and of
 //! that one a run with few switches of threads.
 //!
-//! Proved: a find is a run of the module by the call that ends as is looked for; each ending of a table is one of such
-//! a run, and as many were noted, one after another, as the table says. Where none is found, all runs that were asked
-//! for were made, and none is looked for, where a search stops at the first; or the follower's last wish was to end.
+//! Proved: the run of a number is the run of the module by the call along the strategy that is drawn of the seed and
+//! that number. A find is the run of its number, which ends as is looked for; the endings of a table are those of the
+//! runs of its numbers, noted one after another, as many as it says. Where none is found, all runs that were asked for
+//! were made, and none is looked for, where a search stops at the first; or the follower's last wish was to end.
 //! The size of a run is exact, and `shrunk` answers a run by the same call that ends alike and is no larger.
 //!
 //! - `report_choice::Sought` says which runs are made, and what is looked for; `is_looked_for` whether an ending is.
@@ -13,13 +14,15 @@
 //! - `shrunk` leaves out the rounds of waits in loops, found by moments in which the run is the same (`Moments`), and
 //!   then tries parts of that run's schedule; a run that ends alike with fewer switches, or with as many and fewer
 //!   entries, takes its place. So nothing rests on how what is left out was found.
-//! - `run_to` follows choices to an ending: it answers a run only where that ends so.
+//! - `run_to` follows choices to an ending: it answers their run only where that ends so, and none only where it ends
+//!   otherwise.
 //! - `Hears` follows a search on its way, and gives what runs look at in their middle (`search_strategies::Watch`).
 //!
 //! All runs are `search_scheduled::run_along`'s: so what is found, and what becomes of it, is a run of the module
-//! (`IsFind`, specs/Finds.antt).
+//! (`IsFind`, specs/Finds.antt), and which run that is follows from the strategy (`IsRunOfNumber`, specs/Drawing.antt).
 #![tactic(auto)]
 
+mod ahead;
 mod ending;
 mod finding;
 mod following;

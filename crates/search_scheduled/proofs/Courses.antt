@@ -6,7 +6,7 @@ use Rattle.interp_trait.specs.Turns.{Meaning}
 use Rattle.replay_walk.specs.Standing.{Standing}
 use Rattle.replay_walk.specs.Walked.{Run, standing_in, WalkTakes, WalkCame}
 use Rattle.replay_walk.proofs.Along.{walked_on}
-use Rattle.search_scheduled.specs.Courses.{CameAlong, Hears, GoesOn}
+use Rattle.search_scheduled.specs.Courses.{CameAlong, GoesOn}
 use Rattle.search_scheduled.specs.declared.course.Course.{Course}
 
 module _ {S : Type 0} (meaning : S → Meaning) where
@@ -25,25 +25,6 @@ module _ {S : Type 0} (meaning : S → Meaning) where
         count (subst (λ (k : ℕ). WalkTakes meaning (stands_at r c came) k (length c.log.items) e.thread (act_of e) c'.walk) (sym came.limit) taken));
     budget = came.budget ∙ sym fuel;
     limit = came.limit ∙ sym limit;
-  }
-
-  -- answers that are taken one after another, and behind an entry
-  pub heard_none : (c : Course S) → Hears meaning c c
-  heard_none c = record { runs = λ r came. came; answers = []; log = sym (append-nil c.log.items) }
-
-  pub heard_more : (a b c : Course S) → Hears meaning a b → Hears meaning b c → Hears meaning a c
-  heard_more a b c x y = record {
-    runs = λ r came. y.runs r (x.runs r came);
-    answers = x.answers ++ y.answers;
-    log = y.log ∙ (ap (λ (l : List Entry). l ++ y.answers) x.log ∙ append_assoc a.log.items x.answers y.answers);
-  }
-
-  pub goes_heard : (n : ℕ) (e : Entry) (a b c : Course S) → GoesOn meaning n e a b → Hears meaning b c → GoesOn meaning n e a c
-  goes_heard n e a b c x y = record {
-    runs = λ r came. y.runs r (x.runs r came);
-    thread = x.thread;
-    answers = x.answers ++ y.answers;
-    log = y.log ∙ (ap (λ (l : List Entry). l ++ y.answers) x.log ∙ append_assoc a.log.items (e ∷ x.answers) y.answers);
   }
 
   -- an entry makes the log longer

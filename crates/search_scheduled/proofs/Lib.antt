@@ -5,4 +5,7 @@ pub mod Settling
 pub mod Answering
 pub mod Leaving
 pub mod Courses
+pub mod Ascending
+pub mod Answers
+pub mod Parts
 pub mod Ready

@@ -1,8 +1,12 @@
 -- A walk with the log that it made.
-use Rattle.std.specs.Prelude.{ℕ, ◌≡◌, ◌⊎◌, ◌<◌, List, ◌∷◌, ◌++◌, Option, Some, None, All, Contains, slice_index}
+use Rattle.std.specs.Prelude.{ℕ, ◌≡◌, ◌⊎◌, ◌<◌, List, [], ◌∷◌, ◌++◌, Option, Some, None, All, Contains, map, slice_index}
+use Rattle.types.specs.declared.event.Answer.{Answer}
 use Rattle.types.specs.declared.event.Entry.{Entry}
+use Rattle.types.specs.declared.event.Event.TheVariants.{Told}
+use Rattle.types.specs.declared.event.Reply.TheVariants.{Done}
 use Rattle.types.specs.declared.limits.TheConstants.{MOST_THREADS}
 use Rattle.shared_memory.specs.Memory.{Memory}
+use Rattle.shared_memory.specs.WaitQueue.{answer_due}
 use Rattle.interp_trait.specs.Turns.{Meaning}
 use Rattle.spawn_host.specs.declared.end.EndState.{EndState}
 use Rattle.replay_text.specs.declared.parts.RecordParts.{RecordParts}
@@ -10,7 +14,26 @@ use Rattle.replay_walk.specs.Standing.{MayBeTaken, HasGoneIfFree}
 use Rattle.replay_walk.specs.declared.stage.Stage.{Stage}
 use Rattle.replay_walk.specs.Walked.{Run, IsReady, WalkCame, start}
 use Rattle.search_scheduled.specs.Headers.{Concludes}
+use Rattle.search_scheduled.specs.Settled.{KeepsStage, TakesDue}
 use Rattle.search_scheduled.specs.declared.course.Course.{Course}
+
+-- Numbers in ascending order.
+abbrev pub AreAscending : List ℕ → Type 0
+AreAscending [] = Unit {0}
+AreAscending (n ∷ ns) = All (λ m. n < m) ns × AreAscending ns
+
+-- A thread takes an answer, by this entry.
+abbrev pub IsAnswerBy : ℕ → Entry → Type 0
+IsAnswerBy n e = (answer : Answer) × (e ≡ record { thread = n; event = Told answer; reply = Done })
+
+-- Answers that threads take, in the order of their numbers.
+pub record AreAnswers (answers : List Entry) : Type 0 where
+  pub each : All (λ e. IsAnswerBy e.thread e) answers
+  pub order : AreAscending (map (λ e. e.thread) answers)
+
+-- To no thread an answer is due.
+abbrev pub HasNoneDue : {S : Type 0} → Course S → Type 0
+HasNoneDue c = (n : ℕ) → answer_due c.walk.stage.queue n ≡ None
 
 module _ {S : Type 0} (meaning : S → Meaning) where
   -- Its walk came along its log, in a run with its budget and its limit.
@@ -26,7 +49,7 @@ module _ {S : Type 0} (meaning : S → Meaning) where
   abbrev pub StaysOnItsRuns : Course S → Course S → Type 0
   StaysOnItsRuns before after = (r : Run) → CameAlong r before → CameAlong r after
 
-  -- Threads and a memory with which a run begins make a course on that run.
+  -- Threads and a memory with which a run begins make a course at the beginning of that run.
   abbrev pub BeginsCourse : List S → Memory → ℕ → ℕ → Course S → Type 0
   BeginsCourse threads memory fuel limit c = (r : Run) → IsReady meaning r threads memory → r.threads ≡ MOST_THREADS
       → r.budget ≡ fuel → r.limit ≡ limit → CameAlong r c
@@ -36,24 +59,44 @@ module _ {S : Type 0} (meaning : S → Meaning) where
   ConcludesRuns c header record_is end = (r : Run) → CameAlong r c → r.threads ≡ header.threads
       → r.budget ≡ header.fuel → r.limit ≡ header.limit → Concludes (start r) record_is end
 
-  -- These are the threads that can go on: each may be taken, and each other one that was started has left, if it doesn't
-  -- wait.
+  -- These are the threads that can go on, in the order of their numbers: each may be taken, and each other one that was
+  -- started has left, if it doesn't wait.
   pub record IsEachReady (stage : Stage) (ready : List ℕ) : Type 0 where
+    pub order : AreAscending ready
     pub can : All (MayBeTaken meaning stage) ready
     pub others : (n : ℕ) → n < stage.started → n < MOST_THREADS → (Contains ready n → ⊥) → HasGoneIfFree meaning stage n
 
-  -- Threads take answers that are due to them.
+  -- Thread n takes the answer that is due to it, if one is.
+  pub record HearsAt (n : ℕ) (before after : Course S) : Type 0 where
+    pub runs : StaysOnItsRuns before after
+    pub answers : List Entry
+    pub own : (answers ≡ []) ⊎ ((e : Entry) × IsAnswerBy n e × (answers ≡ e ∷ []))
+    pub log : after.log.items ≡ before.log.items ++ answers
+    pub queue : TakesDue n before.walk.stage.queue after.walk.stage.queue
+
+  -- All threads take the answers that are due to them.
   pub record Hears (before after : Course S) : Type 0 where
     pub runs : StaysOnItsRuns before after
     pub answers : List Entry
+    pub taken : AreAnswers answers
     pub log : after.log.items ≡ before.log.items ++ answers
+    pub none : HasNoneDue after
 
   -- Thread n makes an entry, and all take the answers that are due then.
   pub record GoesOn (n : ℕ) (e : Entry) (before after : Course S) : Type 0 where
     pub runs : StaysOnItsRuns before after
     pub thread : e.thread ≡ n
     pub answers : List Entry
+    pub taken : AreAnswers answers
     pub log : after.log.items ≡ before.log.items ++ e ∷ answers
+    pub none : HasNoneDue before → HasNoneDue after
+
+  -- Thread n makes an entry. Only by a question the queue becomes another.
+  pub record Steps (n : ℕ) (e : Entry) (before after : Course S) : Type 0 where
+    pub runs : StaysOnItsRuns before after
+    pub thread : e.thread ≡ n
+    pub log : after.log.items ≡ before.log.items ++ e ∷ []
+    pub stage : KeepsStage e.event before.walk.stage after.walk.stage
 
   module _ {Q : Type 0} (chooses : Q → List ℕ → Option ℕ → Q → Type 0) (hears : Q → Entry → Q → Type 0) where
     -- A strategy that is asked of the threads that can go on names one; that one goes on, and the strategy hears its

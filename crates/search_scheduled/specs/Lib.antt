@@ -2,3 +2,5 @@ pub mod Headers
 pub mod SpareThreads
 pub mod Settled
 pub mod Courses
+pub mod Led
+pub mod Faults

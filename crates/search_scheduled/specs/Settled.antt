@@ -1,5 +1,5 @@
 -- A walk of which one thread has made its turns of its own.
-use Rattle.std.specs.Prelude.{ℕ, ◌≡◌, List, length, Option, Some, None}
+use Rattle.std.specs.Prelude.{ℕ, ◌≡◌, ◌≢◌, List, length, Option, Some, None}
 use Rattle.types.specs.declared.event.Event.{Event}
 use Rattle.types.specs.declared.event.Event.TheVariants as events
 use Rattle.types.specs.declared.event.Question.TheVariants.{Leave}
@@ -9,6 +9,7 @@ use Rattle.types.specs.declared.event.Answer.{Answer}
 use Rattle.types.specs.declared.event.Entry.{Entry}
 use Rattle.types.specs.declared.outcome.Outcome.{Outcome}
 use Rattle.shared_memory.specs.Memory.{Memory}
+use Rattle.shared_memory.specs.WaitQueue.{WaitQueue, answer_due}
 use Rattle.schedule.specs.System.{Want.Calls}
 use Rattle.schedule_threads.specs.Shared.{act_of}
 use Rattle.interp_trait.specs.Turns.{Running, Meaning, IsHere, left_of, outcome_of, wants_of}
@@ -92,6 +93,16 @@ module _ {S : Type 0} (meaning : S → Meaning) where
 
   abbrev pub TakesDueAnswer : ℕ → Walk S → Option Answer → Walk S → Type 0
   TakesDueAnswer n before o after = (answer : Answer) → o ≡ Some answer → TakesAnswer meaning before after n answer
+
+-- Of the answers that are due one thread's is taken, if it has one.
+pub record TakesDue (n : ℕ) (before after : WaitQueue) : Type 0 where
+  pub taken : answer_due after n ≡ None
+  pub others : (m : ℕ) → m ≢ n → answer_due after m ≡ answer_due before m
+
+-- An event that is no question changes nothing that threads ask of one another.
+abbrev pub KeepsStage : Event → Stage → Stage → Type 0
+KeepsStage (events.Ask question) before after = Unit {0}
+KeepsStage event before after = after ≡ before
 
 -- A walk is the same.
 abbrev pub IsSameWalk : {S : Type 0} → Walk S → Walk S → Type 0

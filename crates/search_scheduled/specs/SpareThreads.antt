@@ -1,5 +1,5 @@
 -- The threads that runs didn't start, and the runs that begin with them.
-use Rattle.std.specs.Prelude.{ℕ, ◌≡◌, List, OnOk}
+use Rattle.std.specs.Prelude.{ℕ, ◌≡◌, List, [], OnOk}
 use Rattle.std.specs.List.{All}
 use Rattle.std.specs.declared.result.Result.{Result}
 use Rattle.types.specs.declared.parts.Parts.{Parts}
@@ -31,6 +31,7 @@ module _ {T : Type 0} (meaning : T → Meaning) where
     pub run : Run
     pub same : start run ≡ start_of_record m r beginning
     pub came : CameAlong meaning run c
+    pub log : c.log.items ≡ []
     pub most : run.threads ≡ r.threads
     pub budget : run.budget ≡ r.fuel
     pub limit : run.limit ≡ r.limit

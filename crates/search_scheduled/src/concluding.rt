@@ -1,5 +1,5 @@
 //! What a course has come to.
-ghost use Rattle.std.specs.Prelude.{◌≡◌, drop, IfOk};
+ghost use Rattle.std.specs.Prelude.{◌≡◌, ◌≢◌, drop, IfErr, IfOk};
 ghost use Rattle.search_scheduled.specs.Courses.{ConcludesRuns};
 ghost use Rattle.search_scheduled.specs.Headers.{HasHeaderOf};
 ghost use Rattle.search_scheduled.specs.SpareThreads.{LeavesUnused};
@@ -23,7 +23,9 @@ pub(crate) struct Concluded<T> {
 }
 
 /// How the threads of a walk have ended that were started, in order.
-fn ends_of<T: TakesTurns>(alloc: Global, walk: &Walk<T>) -> Result<Vec<ThreadReport>, SearchFault> {
+fn ends_of<T: TakesTurns>(alloc: Global, walk: &Walk<T>) -> Result<Vec<ThreadReport>, SearchFault>
+    ensures { IfErr result (λ fault. fault ≢ SearchFault.GivenUp) }
+{
     let mut ends = Vec::new(alloc);
     for n in 0..walk.stage.started as usize {
         let (Some(Some(outcome)), Some(thread)) = (walk.stage.ends.get(n), walk.threads.get(n))
@@ -60,8 +62,10 @@ pub(crate) fn conclude<T: TakesTurns + Drop>(
     header: RecordParts,
 ) -> Result<Concluded<T>, SearchFault>
     ensures header { IfOk result (λ c. HasHeaderOf header c.parts) }
+    ensures log { IfOk result (λ c. c.parts.log ≡ course.log.items) }
     ensures concludes { IfOk result (λ c. ConcludesRuns T.meaning course header c.parts c.end) }
     ensures unused { IfOk result (λ c. LeavesUnused T.meaning course c.unused.items) }
+    ensures fault { IfErr result (λ fault. fault ≢ SearchFault.GivenUp) }
 {
     let ends = ends_of(alloc, &course.walk)?;
     let threads = Vec::from_slice(alloc, &ends)?;

@@ -2,7 +2,7 @@
 ghost use Rattle.std.specs.Prelude.{◌≡◌, ◌≤◌, ◌+◌, ◌⊎◌, [], length, OnOk, IfOk, IfErr, IfSome};
 ghost use Rattle.types.specs.declared.limits.TheConstants.{MOST_THREADS, PAST_LIMIT};
 ghost use Rattle.search_scheduled.specs.Courses.{BeginsCourse, IsOnARun, StaysOnItsRuns};
-ghost use Rattle.search_scheduled.specs.Courses.{IsEachReady, GoesOn, IsLed, IsGivenUp, Hears};
+ghost use Rattle.search_scheduled.specs.Courses.{IsEachReady, GoesOn, IsLed, IsGivenUp, Hears, HearsAt, Steps};
 ghost use Rattle.search_scheduled.specs.declared.course.CourseFault.TheVariants as faults;
 
 use crate::hearing::hear;
@@ -58,7 +58,9 @@ impl<T: TakesTurns> Course<T> {
         fuel: u64,
         limit: u32,
     ) -> Course<T>
-        ensures { BeginsCourse T.meaning threads.items memory fuel limit result }
+        ensures begins { BeginsCourse T.meaning threads.items memory fuel limit result }
+        ensures log { result.log.items ≡ [] }
+        ensures limit { result.limit ≡ limit }
     {
         Course {
             walk: Walk::new(threads, memory, MOST_THREADS as u32),
@@ -71,7 +73,7 @@ impl<T: TakesTurns> Course<T> {
     /// A thread takes the answer that is due to it, if one is.
     fn hear(&mut self, n: u32) -> Result<(), CourseFault>
         requires { IsOnARun T.meaning self.old }
-        ensures heard { OnOk result (Hears T.meaning self.old self.new) }
+        ensures heard { OnOk result (HearsAt T.meaning n self.old self.new) }
         ensures fault { IfErr result (λ fault. fault ≡ faults.NoMemory) }
     {
         if let Some(answer) = hear(&mut self.walk, n) {
@@ -103,7 +105,7 @@ impl<T: TakesTurns> Course<T> {
     /// `NoMemory`.
     fn step<S: Strategy>(&mut self, n: u32, strategy: &S) -> Result<Entry, CourseFault>
         requires { IsOnARun T.meaning self.old }
-        ensures goes { IfOk result (λ e. GoesOn T.meaning n e self.old self.new) }
+        ensures goes { IfOk result (λ e. Steps T.meaning n e self.old self.new) }
         ensures over { IfErr result (λ fault. fault ≡ faults.GivenUp → S.may_end strategy.now) }
     {
         let turn = settle_going(&mut self.walk, n, self.fuel, strategy)?;

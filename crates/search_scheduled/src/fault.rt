@@ -1,6 +1,7 @@
 //! Why there is no run.
 ghost use Rattle.std.specs.Prelude.{◌≡◌};
 ghost use Rattle.search_scheduled.specs.declared.fault.SearchFault.TheVariants.{NoMemory};
+ghost use Rattle.search_scheduled.specs.Faults.{fault_of};
 
 use crate::CourseFault;
 use std::alloc::{AllocError, AllocFailed};
@@ -37,6 +38,8 @@ impl<T: Drop> From<AllocFailed<T>> for SearchFault {
 }
 
 impl From<CourseFault> for SearchFault {
+    ghost from_gives = { λ fault e. e ≡ fault_of fault };
+
     fn from(fault: CourseFault) -> SearchFault {
         match fault {
             CourseFault::NoMemory => SearchFault::NoMemory,

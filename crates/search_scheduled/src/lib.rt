@@ -1,7 +1,8 @@
 //! One run of a module by one thread, along a strategy: its record, and what it left.
 //!
-//! Proved: `run_along` answers a record only with the end of a run that it is of, whatever the strategy. A thread that
-//! sleeps, or that an answer is due to, makes no turn.
+//! Proved: `run_along` answers a record only with the end of a run that it is of, and that run is the one through which
+//! the strategy leads from the call on; it is given up only where the strategy gives it up. A thread that sleeps, or
+//! that an answer is due to, makes no turn.
 //!
 //! - `threads_of` and `opening` make what a run begins with, as a replay does.
 //! - `Course` is a walk, and the log that it has made (`CameAlong`, specs/Courses.antt): each entry is what the thread
@@ -12,7 +13,9 @@
 //!   then, its leave or its event).
 //! - `conclude` reads the ends off the walk, compares each with where the walk stands as a replay does, and makes the
 //!   record's parts.
-//! - `run_along` puts it together. Whatever the strategy, the record is of a run of the module (`IsRunOf`).
+//! - `run_along` puts it together. Whatever the strategy, the record is of a run of the module (`IsRunOf`), and its log
+//!   that of a course which the strategy led to its end (`IsLedRun`, specs/Led.antt): before each entry it is asked of
+//!   the threads that can go on, in order, one goes on as it says, and all take the answers that are due then.
 #![tactic(auto)]
 
 mod concluding;

@@ -8,7 +8,7 @@ ghost use Rattle.shared_memory.specs.Memory.{reply_of, state_after};
 ghost use Rattle.shared_memory.specs.Events.{IsEvent};
 ghost use Rattle.replay_walk.specs.Standing.{IsToMakeOn};
 ghost use Rattle.search_scheduled.specs.Settled.{IsToGoOn, IsToLeave, IsToMakeEvent, StageMade, StandsMade};
-ghost use Rattle.search_scheduled.specs.Settled.{TakesLeave, TakesNext};
+ghost use Rattle.search_scheduled.specs.Settled.{KeepsStage, TakesLeave, TakesNext};
 
 use interp_trait::{Given, TakesTurns, Turn};
 use replay_walk::{Stage, Walk, turn_at};
@@ -45,6 +45,7 @@ fn make_in<T: TakesTurns>(
     ensures memory { memory.new ≡ state_after memory.old event }
     ensures reply { result ≡ reply_of memory.old event }
     ensures made { StageMade T.meaning threads.old stage.old memory.old n event result threads.new stage.new }
+    ensures kept { KeepsStage event stage.old stage.new }
 {
     let reply = memory.step(&event);
     turn_at(threads, n as usize, Given::Reply(reply));
@@ -62,6 +63,7 @@ fn make<T: TakesTurns>(walk: &mut Walk<T>, n: u32, event: Event) -> Reply
     ensures memory { walk.new.memory ≡ state_after walk.old.memory event }
     ensures reply { result ≡ reply_of walk.old.memory event }
     ensures made { StandsMade T.meaning n event result walk.old walk.new }
+    ensures kept { KeepsStage event walk.old.stage walk.new.stage }
 {
     make_in(
         &mut walk.stage,
@@ -85,6 +87,7 @@ pub(crate) fn go_on<T: TakesTurns>(
     ensures count { length walk.new.threads.items ≡ length walk.old.threads.items }
     ensures taken { TakesNext T.meaning n turn limit at walk.old result walk.new }
     ensures thread { IfSome result (λ e. e.thread ≡ n) }
+    ensures kept { IfSome result (λ e. KeepsStage e.event walk.old.stage walk.new.stage) }
 {
     match turn {
         Turn::Ended(outcome) => Some(leave(walk, n, outcome)),

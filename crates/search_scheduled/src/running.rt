@@ -1,11 +1,12 @@
 //! A run of a module along a strategy.
-ghost use Rattle.std.specs.Prelude.{IfOk, OnOk};
+ghost use Rattle.std.specs.Prelude.{◌≡◌, IfErr, IfOk, OnOk};
 ghost use Rattle.types.specs.declared.limits.TheConstants.{MOST_PAGES};
 ghost use Rattle.validate_typing.specs.Validity.{HasDistinctNames};
 ghost use Rattle.validate_module.specs.Pages.{HasPagesWithin};
 ghost use Rattle.interp.specs.Threads.{meaning_in};
 ghost use Rattle.replay.specs.Runs.{IsRunOf};
 ghost use Rattle.search_scheduled.specs.Headers.{IsOfRequest};
+ghost use Rattle.search_scheduled.specs.Led.{IsGivenUpRun, IsLedRun};
 ghost use Rattle.search_scheduled.specs.SpareThreads.{HasBegunFor, HoldsSpares};
 
 use crate::Course;
@@ -65,8 +66,8 @@ fn header_of(alloc: Global, request: &Request, limit: u32) -> Result<RecordParts
 /// can go on. A thread takes an answer as soon as that is due. The limit is 1 to 1,000,000 entries, and the fuel of the
 /// call 0 to 1,000,000,000,000 units.
 ///
-/// Whatever the strategy, the record is of a run of the module that ends so. It is of version 2, and says that there
-/// may be 64 threads and 256 pages.
+/// The record is of a run of the module that ends so, and its log is the one to which the strategy leads. It is of
+/// version 2, and says that there may be 64 threads and 256 pages.
 ///
 /// # Errors
 /// `NoEnd` where a number is out of its range, `GivenUp` where the strategy gives the run up, `NoMemory`.
@@ -78,6 +79,10 @@ pub fn run_along<S: Strategy>(
 ) -> Result<MadeRun, SearchFault>
     ensures header { IfOk result (λ made. IsOfRequest request.now limit made.record) }
     ensures run { IfOk result (λ made. IsRunOf request.now.parts made.record made.end) }
+    ensures led { IfOk result (λ made.
+        IsLedRun S.chooses S.hears request.now limit strategy.old strategy.new made.record) }
+    ensures given_up { IfErr result (λ fault. fault ≡ SearchFault.GivenUp
+        → IsGivenUpRun S.chooses S.hears request.now limit S.may_end strategy.old strategy.new) }
 {
     run_with_spares(alloc, request, limit, strategy, &mut Spares::new(alloc))
 }
@@ -91,6 +96,8 @@ fn course_of<'m>(
 ) -> Result<Course<Thread<'m>>, SearchFault>
     requires spares { HoldsSpares request.now.parts request.now.fuel spares.old }
     ensures begun { IfOk result (HasBegunFor meaning_in request.now limit) }
+    ensures limit { IfOk result (λ course. course.limit ≡ limit) }
+    ensures fault { IfErr result (λ fault. fault ≡ SearchFault.NoMemory) }
     ensures spares { OnOk result (HoldsSpares request.now.parts request.now.fuel spares.new) }
 {
     let module = request.module();
@@ -115,6 +122,10 @@ pub fn run_with_spares<'m, S: Strategy>(
     requires spares { HoldsSpares request.now.parts request.now.fuel spares.old }
     ensures header { IfOk result (λ made. IsOfRequest request.now limit made.record) }
     ensures run { IfOk result (λ made. IsRunOf request.now.parts made.record made.end) }
+    ensures led { IfOk result (λ made.
+        IsLedRun S.chooses S.hears request.now limit strategy.old strategy.new made.record) }
+    ensures given_up { IfErr result (λ fault. fault ≡ SearchFault.GivenUp
+        → IsGivenUpRun S.chooses S.hears request.now limit S.may_end strategy.old strategy.new) }
     ensures spares { OnOk result (HoldsSpares request.now.parts request.now.fuel spares.new) }
 {
     let module = request.module();

@@ -1,5 +1,5 @@
 //! What a run begins with: its threads before their first turn, and the memory.
-ghost use Rattle.std.specs.Prelude.{◌≡◌, ℕ, [], length, IfOk, OnOk};
+ghost use Rattle.std.specs.Prelude.{◌≡◌, ℕ, [], length, IfErr, IfOk, OnOk};
 ghost use Rattle.types.specs.declared.parts.Parts.{Parts};
 ghost use Rattle.types.specs.declared.limits.TheConstants.{MOST_SPAWNED};
 ghost use Rattle.interp.specs.Threads.{meaning_in};
@@ -107,7 +107,8 @@ pub(crate) fn threads_of<'m>(
 
 /// The memory of a module before the first instruction.
 pub(crate) fn opening(alloc: Global, module: &ValidModule) -> Result<OneMemory, SearchFault>
-    ensures { IfOk result (λ memory. memory ≡ opening_memory «module».now.parts) }
+    ensures memory { IfOk result (λ memory. memory ≡ opening_memory «module».now.parts) }
+    ensures fault { IfErr result (λ fault. fault ≡ SearchFault.NoMemory) }
 {
     let image = module.image(alloc)?;
     match OneMemory::open(alloc, &image, module.pages_max()) {

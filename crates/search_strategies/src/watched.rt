@@ -30,8 +30,10 @@ pub struct Watched<'a, S, W> {
 }
 
 impl<'a, S, W> Watched<'a, S, W> {
-    /// Before the first event.
-    pub fn new(strategy: S, watch: &'a W) -> Watched<'a, S, W> {
+    /// Before the first event, with this strategy.
+    pub fn new(strategy: S, watch: &'a W) -> Watched<'a, S, W>
+        ensures { result.strategy ≡ strategy }
+    {
         Watched {
             strategy,
             watch,

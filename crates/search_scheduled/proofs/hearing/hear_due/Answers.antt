@@ -4,6 +4,7 @@ use Rattle.shared_memory.specs.WaitQueue.{WaitQueue, answer_due}
 use Rattle.interp_trait.specs.declared.turn.Given.TheVariants as given
 use Rattle.replay_walk.specs.Standing.{IsToldOn, IsTurnedAt}
 use Rattle.replay_walk.proofs.Told.{gone_on, awaits_at, within_at, turned_on}
+use Rattle.search_scheduled.proofs.Answers.{takes_due}
 use Rattle.search_scheduled.proofs.hearing.hear_due.Goals as goal
 
 pub turn_at-requires-clause-within : goal.turn_at-requires-clause-within
@@ -41,3 +42,11 @@ returns-in-Some-clause-told g c = λ answer is s st.
     (sym c.in_ok-answer.ensures.after)
     (gone_on g.T.TakesTurns.meaning s c.args.threads.now stage.queue stage.started stage.ends st c.args.n answer
     due c.in-Some.field-0 c.in-Some.is)
+
+pub returns-in-None-clause-queue : goal.returns-in-None-clause-queue
+returns-in-None-clause-queue g c =
+    takes_due c.args.n (Some c.in_ok-answer.answer) c.args.stage.now.queue _ c.in_ok-answer.ensures.answer c.in_ok-answer.ensures.after
+
+pub returns-in-Some-clause-queue : goal.returns-in-Some-clause-queue
+returns-in-Some-clause-queue g c =
+    takes_due c.args.n (Some c.in_ok-answer.answer) c.args.stage.now.queue _ c.in_ok-answer.ensures.answer c.in_ok-answer.ensures.after

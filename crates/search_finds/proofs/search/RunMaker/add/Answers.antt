@@ -1,21 +1,44 @@
-use Rattle.std.proofs.Common.{List, All, IfOk, subst, sym}
-use Rattle.std.proofs.lemmas.List.Elements.{All-append}
+use Rattle.std.proofs.Common.{ℕ, ◌≡◌, ◌+◌, ◌++◌, List, Option, length, vec_len, subst, sym, ◌∙◌, ap, arith}
+use Rattle.std.specs.Global.{Vec}
 use Rattle.search_endings.specs.Endings.{Ending}
-use Rattle.search_finds.specs.Finds.{IsMetEnding}
-use Rattle.search_finds.proofs.Popped.{popped}
+use Rattle.search_finds.specs.Searching.{AreMetIn, first_of}
+use Rattle.search_finds.proofs.InRow.{put_behind}
+use Rattle.search_finds.proofs.Pieces.{one_fewer, pieces_left, piece_last}
 use Rattle.search_finds.proofs.search.RunMaker.add.Goals as goal
+
+len_is : (v : Vec Ending) → vec_len v ≡ length v.items
+len_is v = omega (arith, v.ok)
+
+pub drop_later-requires : goal.drop_later-requires
+drop_later-requires c =
+    let s = c.args.self.now in
+    let a = c.args.ahead in
+    let first = c.first.ensures in
+    let wanted = c.wanted.ensures in
+    let next : first_of a (c.args.job + 1) ≡ c.first.result + c.wanted.result = omega (arith, first, wanted) in
+    subst (λ (k : ℕ). AreMetIn s k c.args.endings.now.items) next c.requires.endings
 
 pub returns-clause-endings : goal.returns-clause-endings
 returns-clause-endings c =
     let s = c.args.self.now in
-    let piece = (popped (λ piece. IfOk piece (λ made. All (IsMetEnding s.request.now s.sought.now.limit s.sought.now.dump) made.items)) _ _ _ _
-    c.pop.ensures.items c.in-Some.is c.requires.pieces).1 in
-    let made = rw c.in_ok-made.was at piece in
-    subst (λ (l : List Ending). All (IsMetEnding s.request.now s.sought.now.limit s.sought.now.dump) l) (sym {A = List Ending} c.in_ok-append.ensures.items)
-    (All-append (IsMetEnding s.request.now s.sought.now.limit s.sought.now.dump) _ _ c.drop_later.ensures made)
+    let a = c.args.ahead in
+    let q = s.request.now in
+    let last = piece_last s a _ _ _ _ c.pop.ensures.items c.in-Some.is c.requires.pieces in
+    let fewer = one_fewer s a _ _ _ _ c.pop.ensures.items c.in-Some.is in
+    let job : length c.pop.new.self.items ≡ c.args.job = let all = c.requires.last in omega (arith, fewer, all) in
+    let these : AreMetIn s (first_of a c.args.job) c.in_ok-made.made.items =
+    subst (λ (k : ℕ). AreMetIn s (first_of a k) c.in_ok-made.made.items) job (rw c.in_ok-made.was at last) in
+    let later : AreMetIn s (first_of a c.args.job + length c.in_ok-made.made.items) c.drop_later.new.endings.items =
+    subst (λ (k : ℕ). AreMetIn s k c.drop_later.new.endings.items)
+    (let first = c.first.ensures in let len = c.len.ensures ∙ len_is c.in_ok-made.made in omega (arith, first, len)) c.drop_later.ensures in
+    subst (λ (l : List Ending). AreMetIn s (first_of a c.args.job) l) (sym {A = List Ending} c.in_ok-append.ensures.items)
+    (put_behind q s.sought.now s.entries (first_of a c.args.job) c.drop_later.new.endings.items c.in_ok-made.made.items later these)
 
 pub returns-clause-pieces : goal.returns-clause-pieces
 returns-clause-pieces c =
-    let s = c.args.self.now in
-    (popped (λ piece. IfOk piece (λ made. All (IsMetEnding s.request.now s.sought.now.limit s.sought.now.dump) made.items)) _ _ _ _
-    c.pop.ensures.items c.in-Some.is c.requires.pieces).0
+    pieces_left c.args.self.now c.args.ahead _ _ _ _ c.pop.ensures.items c.in-Some.is c.requires.pieces
+
+pub returns-clause-last : goal.returns-clause-last
+returns-clause-last c =
+    let fewer = one_fewer c.args.self.now c.args.ahead _ _ _ _ c.pop.ensures.items c.in-Some.is in
+    let all = c.requires.last in omega (arith, fewer, all)

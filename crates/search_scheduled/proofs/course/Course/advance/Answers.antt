@@ -1,4 +1,4 @@
-use Rattle.search_scheduled.proofs.Courses.{goes_heard}
+use Rattle.search_scheduled.proofs.Answers.{goes_heard}
 use Rattle.search_scheduled.proofs.course.Course.advance.Goals as goal
 
 pub hear_all-requires : goal.hear_all-requires

@@ -1,8 +1,9 @@
-use Rattle.std.proofs.Common.{ℕ, List, Some, None, get_or, refl, inl, inr, subst, arith}
+use Rattle.std.proofs.Common.{ℕ, List, Some, None, get_or, refl, inl, inr, sym, ◌∙◌, subst, arith}
 use Rattle.std.proofs.lemmas.Result.{err_from_is_err_and}
 use Rattle.search_scheduled.specs.Courses.{GoesOn, IsNamed}
 use Rattle.search_scheduled.specs.Courses.IsLed.{here, on}
 use Rattle.search_scheduled.proofs.Courses.{longer}
+use Rattle.search_scheduled.proofs.Ready.{none_ready}
 use Rattle.search_scheduled.proofs.course.Course.go.Goals as goal
 
 pub loop-init : goal.loop-init
@@ -63,3 +64,8 @@ returns-in_err-entry-clause-given_up g c =
           c.in-Some.ensures.chosen;
       gives_up = inr (c.in_err-entry.ensures.over same);
     })
+
+pub returns-then-is_empty-clause-ends : goal.returns-then-is_empty-clause-ends
+returns-then-is_empty-clause-ends g c =
+    inl (none_ready g.T.TakesTurns.meaning c.loop.self.walk.stage c.ready-ready.result.items (sym c.if-is_empty.true ∙ c.is_empty.ensures)
+    c.ready-ready.ensures.each)

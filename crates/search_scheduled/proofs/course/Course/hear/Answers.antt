@@ -1,4 +1,4 @@
-use Rattle.std.proofs.Common.{length, refl, [], ◌∷◌}
+use Rattle.std.proofs.Common.{length, refl, [], ◌∷◌, inr}
 use Rattle.types.specs.declared.event.Entry.{Entry}
 use Rattle.types.specs.declared.event.Event.TheVariants as events
 use Rattle.types.specs.declared.event.Reply.TheVariants as replies
@@ -15,5 +15,7 @@ returns-in_ok-push-clause-heard g c =
           (c.in-Some.ensures.heard c.in-Some.answer refl (stands_at m r old came) old.limit (length old.log.items) came.walk.standing refl)
           c.in-Some.ensures.count c.in_ok-push.ensures.items refl refl;
       answers = e ∷ [];
+      own = inr (e, (c.in-Some.answer, refl), refl);
       log = c.in_ok-push.ensures.items;
+      queue = c.in-Some.ensures.queue;
     }

@@ -1,5 +1,5 @@
-use Rattle.search_scheduled.specs.Courses.{Hears}
+use Rattle.search_scheduled.proofs.Answers.{HeardBelow}
 use Rattle.search_scheduled.proofs.course.Course.hear_all.Given as goal
 
 abbrev pub invariant-loop-n : goal.invariant-loop-n
-invariant-loop-n g l = Hears g.T.TakesTurns.meaning l.initial.self l.self
+invariant-loop-n g l = HeardBelow g.T.TakesTurns.meaning l.n l.initial.self l.self

@@ -3,8 +3,8 @@ use Rattle.types.specs.declared.event.Entry.{Entry}
 use Rattle.replay_walk.specs.Walked.{WalkCame}
 use Rattle.search_scheduled.proofs.course.Course.new.Goals as goal
 
-pub returns : goal.returns
-returns g c = λ r ready most budget limit. record {
+pub returns-clause-begins : goal.returns-clause-begins
+returns-clause-begins g c = λ r ready most budget limit. record {
   walk = subst (λ (l : List Entry). WalkCame g.T.TakesTurns.meaning r l c.new.result) (sym c.new-2.ensures.items) (c.new.ensures r ready most);
   budget = budget;
   limit = limit;

@@ -21,6 +21,7 @@ loop-n-preserved g c =
 
 pub returns-clause-each : goal.returns-clause-each
 returns-clause-each g c = record {
+  order = c.loop-n.invariant.1.order;
   can = c.loop-n.invariant.1.can;
   others = λ n started few. c.loop-n.invariant.1.others n (omega (arith, c.min-most.ensures));
 }

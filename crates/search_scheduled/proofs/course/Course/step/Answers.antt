@@ -1,8 +1,10 @@
-use Rattle.std.proofs.Common.{◌≡◌, ℕ, vec_len, length, [], refl, sym, ◌∙◌, subst, arith}
+use Rattle.std.proofs.Common.{◌≡◌, ℕ, vec_len, length, refl, sym, ◌∙◌, subst, arith}
 use Rattle.std.specs.Global.{Vec}
 use Rattle.types.specs.declared.event.Entry.{Entry}
 use Rattle.schedule_threads.specs.Shared.{act_of}
 use Rattle.replay_walk.specs.Walked.{WalkTakes}
+use Rattle.replay_walk.specs.declared.stage.Stage.{Stage}
+use Rattle.search_scheduled.specs.Settled.{KeepsStage}
 use Rattle.search_scheduled.specs.declared.course.Course.{Course}
 use Rattle.search_scheduled.proofs.Courses.{stands_at, came_on}
 use Rattle.search_scheduled.proofs.course.Course.step.Goals as goal
@@ -25,6 +27,6 @@ returns-clause-goes g c =
           (subst (λ (k : ℕ). WalkTakes m s old.limit k e.thread (act_of e) c.go_on.new.walk) (c.len.ensures ∙ len_is old.log) taken)
           (c.go_on.ensures.count ∙ c.settle_going.ensures.count) c.in_ok-push.ensures.items refl refl;
       thread = c.in-Some.ensures.thread;
-      answers = [];
       log = c.in_ok-push.ensures.items;
+      stage = subst (λ (s : Stage). KeepsStage e.event s c.go_on.new.walk.stage) c.settle_going.ensures.stage c.in-Some.ensures.kept;
     }
