@@ -1,5 +1,5 @@
 -- What is said of the races of a record's run.
-use Rattle.std.specs.Prelude.{ℕ, ◌≡◌, Bool, true, false, List, length, replicate, Option, None, Ok}
+use Rattle.std.specs.Prelude.{ℕ, ◌≡◌, ◌≤◌, Bool, true, false, List, length, replicate, Option, None, Ok}
 use Rattle.types.specs.declared.parts.Parts.{Parts}
 use Rattle.validate_typing.specs.Validity.{IsValid}
 use Rattle.binary.specs.Grammar.{IsModuleText}
@@ -15,8 +15,14 @@ use Rattle.race_history.specs.Races.{IsLastRace}
 use Rattle.show_rows.specs.declared.rows.Row.{Row}
 use Rattle.show_rows.specs.declared.rows.Rows.{Rows}
 use Rattle.show_rows.specs.Rows.{RowsSee}
+use Rattle.show_rows.specs.Listing.{IsStoryOf}
+use Rattle.show_rows.specs.declared.listing.Shown.{Shown}
+use Rattle.show_rows.specs.declared.listing.Story.{Story}
 use Rattle.show_races.specs.Kinds.{kinds_in}
-use Rattle.show_races.specs.Told.{HasNoRace}
+use Rattle.show_races.specs.Told.{AreApart, HasNoRace, TellsEach}
+use Rattle.show_races.specs.Written.{TellsRaces}
+use Rattle.show_races.specs.declared.found.Races.{Races}
+use Rattle.report_jobs.specs.Prints.{WriterChange}
 
 -- The rows of a record's entries, as a replay of it fills them: where the thread of each stands.
 pub record AreRowsOf (m : Parts) (r : RecordParts) (end : EndState) (rows : List (Option Row)) : Type 0 where
@@ -53,6 +59,27 @@ pub record IsRacy (m : Parts) (saved : List ℕ) : Type 0 where
   pub seen : IsSeen m saved record_is rows
   pub race : Race
   pub races : IsLastRace record_is.log (kinds_of m record_is rows) race
+
+-- What was written tells of so many races at most, no two of the same two places of the code, and of each race of the
+-- run at its places, where it isn't said that they are not all.
+pub record WritesRaces (m : Parts) (r : RecordParts) (rows : List (Option Row)) (most : ℕ) (out : WriterChange) : Type 0 where
+  pub shown : Shown
+  pub of_record : shown.record.now ≡ r
+  pub of_rows : shown.rows.now ≡ rows
+  pub of_module : shown.code.now.parts.now ≡ m
+  pub story : Story
+  pub is_story : IsStoryOf shown.record.now.log story
+  pub races : Races
+  pub each : races.is_cut ≡ false → TellsEach shown story races.pairs.items
+  pub once : AreApart shown story races.pairs.items
+  pub few : length races.pairs.items ≤ most
+  pub tells : TellsRaces shown story races out.old out.new
+
+pub record PrintsRaces (most : ℕ) (out : WriterChange) (m : Parts) (saved : List ℕ) : Type 0 where
+  pub record_is : RecordParts
+  pub rows : List (Option Row)
+  pub seen : IsSeen m saved record_is rows
+  pub writes : WritesRaces m record_is rows most out
 
 -- Whether there are races, as an answer says.
 abbrev pub Says : List Entry → List Kind → Bool → Type 0

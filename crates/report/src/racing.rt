@@ -3,7 +3,8 @@ ghost use Rattle.std.specs.Prelude.{◌≡◌, ◌≤◌, ◌⊎◌, IfOk, IfErr
 ghost use Rattle.report_jobs.specs.Jobs.{IsNoRecordOf, IsNoValidModule, IsUnfit};
 ghost use Rattle.report_jobs.specs.Silence.{IsRefusal, Stays};
 ghost use Rattle.report.specs.Silent.{IfRefusedRecord};
-ghost use Rattle.report.specs.Raced.{IsRaceFree, IsRacy, OfModule, Says, SaysOf, kinds_of};
+ghost use Rattle.report_jobs.specs.Prints.{changed};
+ghost use Rattle.report.specs.Raced.{IsRaceFree, IsRacy, OfModule, PrintsRaces, Says, SaysOf, WritesRaces, kinds_of};
 
 use crate::showing::{CodeBytes, SeenRun, rows_of, unfit_of};
 use race_history::is_history;
@@ -32,6 +33,8 @@ pub fn races_saved<W: Write, E: Write, S: Write>(
     requires { 1 ≤ most }
     ensures free { result ≡ 0 → OfModule IsRaceFree «module».now saved.now }
     ensures racy { result ≡ 1 → OfModule IsRacy «module».now saved.now }
+    ensures prints { result ≤ 1 → OfModule (PrintsRaces most (changed W.contents streams.old.out streams.new.out))
+        «module».now saved.now }
     ensures refused { result ≡ 2 → IsNoValidModule «module».now }
     ensures none { result ≡ 4 → IsNoRecordOf «module».now saved.now }
     ensures status { (result ≤ 2) ⊎ (result ≡ 4) ⊎ (result ≡ 5) }
@@ -61,6 +64,8 @@ fn tell_races<W: Write>(
 ) -> Result<bool, Unfit>
     requires { 1 ≤ most }
     ensures races { IfOk result (SaysOf «module».now.parts saved.now) }
+    ensures prints { IfOk result
+        (λ _. PrintsRaces most (changed W.contents out.old out.new) «module».now.parts saved.now) }
     ensures unfit { IfErr result (λ unfit. IsUnfit «module».now.parts saved.now unfit) }
     ensures silent { IfErr result (λ unfit. IfRefusedRecord unfit (Stays out.old out.new)) }
 {
@@ -81,7 +86,10 @@ fn write_seen<W: Write>(
     out: &mut W,
 ) -> Result<bool, Unwritten>
     requires { 1 ≤ most }
-    ensures { IfOk result (Says seen.now.«record».log (kinds_of «module».now.parts seen.now.«record» seen.now.rows.items)) }
+    ensures says { IfOk result
+        (Says seen.now.«record».log (kinds_of «module».now.parts seen.now.«record» seen.now.rows.items)) }
+    ensures writes { IfOk result (λ _. WritesRaces «module».now.parts seen.now.«record» seen.now.rows.items most
+        (changed W.contents out.old out.new)) }
 {
     let code = CodeMap::read(alloc, module.parts(), code.module, code.names)?;
     let shown = Shown {

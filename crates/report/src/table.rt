@@ -131,10 +131,11 @@ pub(crate) fn write_unseen_of<W: Write>(
 ) -> io::Result<()>
     ensures { Wrote W.contents out.old out.new result (unseen_text sought.now table.now) }
 {
-    if table.runs == 0 {
+    let runs = table.runs;
+    if runs == 0 {
         return Ok(());
     }
     let endings = table.met.len();
     let late = late_of(sought, table);
-    write_unseen(out, endings, late, singles_of(table), table.runs)
+    write_unseen(out, endings, late, singles_of(table), runs)
 }

@@ -25,6 +25,7 @@ returns-in-Show-clause-performs g c =
 pub returns-in-Races-clause-performs : goal.returns-in-Races-clause-performs
 returns-in-Races-clause-performs g c =
     rw c.in-Races.is (record {
+      prints = c.races_saved.ensures.prints;
       free = c.races_saved.ensures.free;
       racy = c.races_saved.ensures.racy;
       refused = c.races_saved.ensures.refused;
