@@ -14,7 +14,7 @@ returns-then-as_slice-ge1 g c =
     let rows = c.as_slice.result.now in
     let pairs = c.in_ok-races.races.pairs.items in
     told_of (λ l k. (r : Race) × IsLastRace l k r) log c.args.seen.now.record.log m c.args.module.now.parts rows c.args.seen.now.rows.items
-    (ap (λ (r : RecordParts). r.log) c.parts-2.ensures.parts) (c.in_ok-code.ensures ∙ c.parts.ensures.parts) c.as_slice.ensures.value
+    (ap (λ (r : RecordParts). r.log) c.parts-2.ensures.parts) (c.in_ok-code.ensures.parts ∙ c.parts.ensures.parts) c.as_slice.ensures.value
     (first_race log (kinds_in m rows (length log)) pairs c.in_ok-races.ensures.races
     (omega (arith, c.if-as_slice-ge1.true, ap (λ (l : List Race). length l) c.as_slice-2.ensures.value)))
 
@@ -25,6 +25,6 @@ returns g c =
     let rows = c.as_slice.result.now in
     let pairs = c.in_ok-races.races.pairs.items in
     told_of HasNoRace log c.args.seen.now.record.log m c.args.module.now.parts rows c.args.seen.now.rows.items
-    (ap (λ (r : RecordParts). r.log) c.parts-2.ensures.parts) (c.in_ok-code.ensures ∙ c.parts.ensures.parts) c.as_slice.ensures.value
+    (ap (λ (r : RecordParts). r.log) c.parts-2.ensures.parts) (c.in_ok-code.ensures.parts ∙ c.parts.ensures.parts) c.as_slice.ensures.value
     (c.in_ok-races.ensures.none (no_pairs pairs
     (omega (arith, c.if-as_slice-ge1.false, ap (λ (l : List Race). length l) c.as_slice-2.ensures.value))))
