@@ -1,7 +1,7 @@
 //! Lines of source of a module's code, from its custom section `.debug_line` (DWARF 4 and 5, section 6.2, of 32 bits).
 //!
-//! Proved: `read_lines` ends on every input; the sections are the first of their names, and empty only where there is none;
-//! `LineTable::at` is the first range that has the offset.
+//! Proved: `read_lines` ends on every input; the sections are the first of their names, and empty only where there is
+//! none; `LineTable::at` is the first range that has the offset.
 //!
 //! Nothing is asked of the section: what can't be read gives no line.
 #![tactic(auto)]

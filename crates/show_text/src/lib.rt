@@ -1,7 +1,8 @@
 //! Entries of a record in words: what each says, and how a row is laid out.
 //!
 //! Proved: `Words` are the words of an entry, and a row has its line, its thread, its words and its place, in whatever
-//! columns and colors; a text without its control characters is what `Plain` writes.
+//! columns and colors; the answer to a question, and the question of an answer, are those of the log (`contexts`); a text
+//! without its control characters is what `Plain` writes.
 #![tactic(auto)]
 
 mod asks;
