@@ -1,5 +1,5 @@
 -- The endings of runs in a row, the last first.
-use Rattle.std.proofs.Common.{ℕ, ◌≡◌, ◌+◌, List, [], ◌∷◌, ◌++◌, Option, Some, None, IfSome, refl, length, length-append, subst, sym, append-nil, arith}
+use Rattle.std.proofs.Common.{ℕ, ◌≡◌, ◌+◌, List, [], ◌∷◌, ◌++◌, Option, Some, None, IfSome, refl, length, length-append, subst, arith}
 use Rattle.std.specs.Option.{option_to_list}
 use Rattle.spawn_host.specs.Requests.{Requested}
 use Rattle.report_choice.specs.declared.sought.Sought.{Sought}

@@ -1,5 +1,5 @@
 -- A watched strategy that leads a run to its end leads it as the strategy that it watches.
-use Rattle.std.proofs.Common.{ℕ, ◌≡◌, ◌⊎◌, List, Option, Some, None, IfOk, Result, Ok, Err, inl, inr}
+use Rattle.std.proofs.Common.{ℕ, ◌≡◌, ◌⊎◌, Some, None, IfOk, Result, Ok, Err, inl, inr}
 
 -- it named somebody
 pub named_by : {P : Type 0} (z : Type 0) (place : ℕ) → (z × (Some place ≡ None)) ⊎ P → P

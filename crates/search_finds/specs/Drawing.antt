@@ -39,7 +39,7 @@ pub record IsPlainRun (q : Requested) (limit entries : ℕ) : Type 0 where
   pub plain : GoesAlong along unheard q limit (record { schedule = []; last = 0; in_a_row = 0 }) made
   pub count : entries ≡ max (min (length made.record.log) 1_000_000) 1
 
--- Among so many entries the points lie at which priorities change: among those of the plain run, where a way has points.
+-- Among so many entries the points lie at which priorities change: among those of the plain run, where a way has such.
 abbrev pub HasPointsAmong : Requested → ℕ → Way → ℕ → Type 0
 HasPointsAmong q limit ways.Mix entries = IsPlainRun q limit entries
 HasPointsAmong q limit ways.Random entries = entries ≡ 1

@@ -1,6 +1,5 @@
 -- What is found.
 use Rattle.std.specs.Prelude.{ℕ, ◌≡◌, ◌⊎◌, Option, Some, All, List, false, slice_get}
-use Rattle.std.specs.Borrow.{Bor}
 use Rattle.std.specs.List.{list_all}
 use Rattle.types.specs.declared.outcome.Outcome.{Outcome}
 use Rattle.spawn_host.specs.declared.end.EndState.{EndState}

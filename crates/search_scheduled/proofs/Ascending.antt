@@ -1,6 +1,6 @@
 -- Numbers in ascending order, to which a higher one is added.
 use Rattle.std.proofs.Common.{ℕ, ◌+◌, ◌<◌, List, [], ◌∷◌, ◌++◌, All, arith}
-use Rattle.std.proofs.lemmas.List.Elements.{All-nil, All-cons, All-head, All-tail, All-push}
+use Rattle.std.proofs.lemmas.List.Elements.{All-nil, All-head, All-tail, All-push}
 use Rattle.search_scheduled.specs.Courses.{AreAscending}
 
 abbrev pub AreBelow : ℕ → List ℕ → Type 0

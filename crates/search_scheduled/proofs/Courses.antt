@@ -1,5 +1,5 @@
 -- A course goes on by an entry.
-use Rattle.std.proofs.Common.{◌≡◌, ℕ, ◌<◌, arith, length-append, List, [], ◌∷◌, ◌++◌, length, refl, sym, ◌∙◌, ap, subst, append_assoc, append-nil}
+use Rattle.std.proofs.Common.{◌≡◌, ℕ, ◌<◌, arith, length-append, List, [], ◌∷◌, ◌++◌, length, refl, sym, ◌∙◌, ap, subst}
 use Rattle.types.specs.declared.event.Entry.{Entry}
 use Rattle.schedule_threads.specs.Shared.{act_of}
 use Rattle.interp_trait.specs.Turns.{Meaning}

@@ -15,7 +15,8 @@ use Rattle.search_scheduled.specs.SpareThreads.{HasBegunFor}
 abbrev pub IsOver : {S : Type 0} → (S → Meaning) → ℕ → Course S → Type 0
 IsOver meaning limit c = IsEachReady meaning c.walk.stage [] ⊎ (limit + PAST_LIMIT ≤ length c.log.items)
 
-module _ {Q : Type 0} (chooses : Q → List ℕ → Option ℕ → Q → Type 0) (hears : Q → Entry → Q → Type 0) (q : Requested) (limit : ℕ) where
+module _ {Q : Type 0} (chooses : Q → List ℕ → Option ℕ → Q → Type 0) (hears : Q → Entry → Q → Type 0) (q : Requested)
+    (limit : ℕ) where
   -- From the beginning of what is requested a strategy led it, event by event, to where it is over; and that log is the
   -- record's.
   pub record IsLedRun (before after : Q) (made : RecordParts) : Type 0 where

@@ -1,4 +1,4 @@
-use Rattle.std.proofs.Common.{ℕ, ◌≡◌, ◌∙◌, length, ap, subst, arith}
+use Rattle.std.proofs.Common.{◌≡◌, ◌∙◌, length, ap, subst, arith}
 use Rattle.replay_text.specs.declared.parts.RecordParts.{RecordParts}
 use Rattle.search_strategies.specs.Given.{Following, along}
 use Rattle.search_strategies.specs.Places.{ChoosesBy}

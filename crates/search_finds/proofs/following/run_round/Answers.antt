@@ -1,4 +1,4 @@
-use Rattle.std.proofs.Common.{ℕ, ◌≡◌, subst}
+use Rattle.std.proofs.Common.{◌≡◌, subst}
 use Rattle.search_strategies.specs.Given.{Rounding, rounds}
 use Rattle.search_strategies.specs.Places.{ChoosesBy}
 use Rattle.search_scheduled.specs.Led.{IsLedRun}

@@ -1,4 +1,4 @@
-use Rattle.std.proofs.Common.{ℕ, ◌≡◌, ◌+◌, ◌++◌, List, Option, length, vec_len, subst, sym, ◌∙◌, ap, arith}
+use Rattle.std.proofs.Common.{ℕ, ◌≡◌, ◌+◌, List, length, vec_len, subst, sym, ◌∙◌, arith}
 use Rattle.std.specs.Global.{Vec}
 use Rattle.search_endings.specs.Endings.{Ending}
 use Rattle.search_finds.specs.Searching.{AreMetIn, first_of}

@@ -1,4 +1,4 @@
-use Rattle.std.proofs.Common.{◌≡◌, ◌+◌, ◌∷◌, ℕ, List, length, subst, sym, arith}
+use Rattle.std.proofs.Common.{◌≡◌, ◌+◌, ℕ, List, length, subst, sym, arith}
 use Rattle.search_endings.specs.Endings.{Ending}
 use Rattle.search_finds.specs.Drawing.{AreOfRunsBack, IsEndingAmong}
 use Rattle.search_finds.proofs.search.RunMaker.endings.Goals as goal

@@ -1,4 +1,4 @@
-use Rattle.std.proofs.Common.{◌≡◌, ◌+◌, length}
+use Rattle.std.proofs.Common.{◌≡◌, length}
 use Rattle.search_scheduled.specs.SpareThreads.{HoldsSpares}
 use Rattle.search_finds.specs.Drawing.{AreOfRunsBack}
 use Rattle.search_finds.proofs.search.RunMaker.endings.Given as goal

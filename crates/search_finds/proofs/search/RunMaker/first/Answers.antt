@@ -1,4 +1,4 @@
-use Rattle.std.proofs.Common.{ℕ, List, ◌≡◌, ◌+◌, [], All, subst, IsTrue, true≢false, sym, ◌∙◌, arith}
+use Rattle.std.proofs.Common.{ℕ, List, [], subst, true≢false, sym, ◌∙◌, arith}
 use Rattle.std.proofs.lemmas.List.Elements.{All-nil, All-same}
 use Rattle.search_endings.specs.Endings.{Ending}
 use Rattle.search_finds.specs.declared.met.Met.{Met}

@@ -1,4 +1,4 @@
-use Rattle.std.proofs.Common.{ℕ, ◌≡◌, List, None, length, arith}
+use Rattle.std.proofs.Common.{arith}
 use Rattle.search_finds.proofs.InRow.{popped, popped_if}
 use Rattle.search_finds.proofs.search.RunMaker.next_ending.Goals as goal
 

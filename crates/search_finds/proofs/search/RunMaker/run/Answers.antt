@@ -1,4 +1,4 @@
-use Rattle.std.proofs.Common.{ℕ, ◌≡◌, ◌∙◌, subst}
+use Rattle.std.proofs.Common.{◌≡◌, ◌∙◌, subst}
 use Rattle.search_strategies.specs.Places.{ChoosesBy}
 use Rattle.search_strategies.specs.Runs.{drawn_choice, drawn_heard}
 use Rattle.search_strategies.specs.declared.drawn.Drawn.{Drawn}
