@@ -1,4 +1,6 @@
-use Rattle.std.proofs.Common.{◌∙◌, List, length, ap, arith}
+use Rattle.std.proofs.Common.{◌∙◌, List, length, ap, arith, subst}
+use Rattle.types.specs.declared.event.Entry.{Entry}
+use Rattle.show_rows.specs.Listing.{IsStoryOf}
 use Rattle.replay_text.specs.declared.parts.RecordParts.{RecordParts}
 use Rattle.race_history.specs.declared.race.Race.{Race}
 use Rattle.race_history.specs.Races.{IsLastRace}
@@ -32,12 +34,12 @@ returns-clause-says g c =
 pub returns-then-as_slice-ge1-clause-writes : goal.returns-then-as_slice-ge1-clause-writes
 returns-then-as_slice-ge1-clause-writes g c =
     record {
-      shown = c.shown;
+      shown = _;
       of_record = c.parts-2.ensures.parts;
       of_rows = c.as_slice.ensures.value;
       of_module = c.in_ok-code.ensures.parts ∙ c.parts.ensures.parts;
       story = c.in_ok-story.story;
-      is_story = c.in_ok-story.ensures;
+      is_story = subst (λ (l : List Entry). IsStoryOf l c.in_ok-story.story) c.as_slice-log.ensures c.in_ok-story.ensures;
       races = c.in_ok-races.races;
       each = c.in_ok-races.ensures.each;
       once = c.in_ok-races.ensures.once;
@@ -48,12 +50,12 @@ returns-then-as_slice-ge1-clause-writes g c =
 pub returns-clause-writes : goal.returns-clause-writes
 returns-clause-writes g c =
     record {
-      shown = c.shown;
+      shown = _;
       of_record = c.parts-2.ensures.parts;
       of_rows = c.as_slice.ensures.value;
       of_module = c.in_ok-code.ensures.parts ∙ c.parts.ensures.parts;
       story = c.in_ok-story.story;
-      is_story = c.in_ok-story.ensures;
+      is_story = subst (λ (l : List Entry). IsStoryOf l c.in_ok-story.story) c.as_slice-log.ensures c.in_ok-story.ensures;
       races = c.in_ok-races.races;
       each = c.in_ok-races.ensures.each;
       once = c.in_ok-races.ensures.once;
