@@ -11,7 +11,7 @@ returns-clause-kept g c =
     let s = c.args.search.now in
     let asked = c.requires.asked in
     let made = c.in-Ok.made in
-    let run = c.in-Ok.ensures in
+    let run = c.in-Ok.ensures.find in
     inr (record {
       every_order = c.requires.every_order;
       sought = c.requires.sought;
@@ -35,7 +35,7 @@ returns-clause-tells g c =
           c.in_ok-write_endless.ensures c.in_ok-print.ensures.prints.lines,
       record {
         made = c.in-Ok.made;
-        find = c.in-Ok.ensures;
+        find = c.in-Ok.ensures.find;
         entries = c.entries_leading-entries.result;
         leads = subst (λ (path : List ℕ). LeadsTo made.«record».log (length path) c.entries_leading-entries.result) c.path-2.ensures
             c.entries_leading-entries.ensures;
