@@ -30,6 +30,8 @@ for word in "$@"; do rest+=" $(printf %q "$word")"; done
 each=$(((runs + pieces - 1) / pieces)) share=$((($(nproc) + pieces - 1) / pieces))
 # (a piece is the number of its first run; the last piece has the runs that are left)
 run="n=$each; [ \$(({} + n - 1)) -le $runs ] || n=\$(($runs - {} + 1)); $(printf %q "${WATHREAD:-wathread}") search$words"
-run+=" --from {} --runs \$n --jobs $share${record:+ --record $(printf %q "$record").{}}$rest; echo status \$?"
+kept=''
+[ -z "$record" ] || kept=" --record $(printf %q "$record").{}"
+run+=" --from {} --runs \$n --jobs $share$kept$rest; echo status \$?"
 # shellcheck disable=SC2086
 seq 1 "$each" "$runs" | parallel --will-cite ${PARALLEL_OPTIONS:-} --jobs "$pieces" "$run" | python3 "$here/merge.py"
