@@ -1,0 +1,3 @@
+pub mod Moving
+pub mod Racing
+pub mod Quiet

@@ -1,0 +1,4 @@
+pub mod Accesses
+pub mod Orders
+pub mod Wanted
+pub mod Races

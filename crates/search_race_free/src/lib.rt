@@ -1,0 +1,6 @@
+//! Threads that do not race: it is enough to go through the orders of what isn't plain.
+#![tactic(auto)]
+
+mod access;
+
+pub use access::Access;
