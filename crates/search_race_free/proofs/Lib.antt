@@ -1,3 +1,4 @@
 pub mod Moving
 pub mod Racing
 pub mod Quiet
+pub mod Turning

@@ -35,3 +35,41 @@ module _ {X T E V A : Type 0} (s : System X T E V A) where
           (λ p. put-same (put f t x) u y ∙ sym (put-same f u y))
           (λ m other p. put-other (put f t x) u y m other ∙ (put-other f t x m p ∙ sym (put-other f u y m other)))
           m apart
+
+  swapped : (f : ℕ → T) (t u : ℕ) (v v' y y' : T) (gives gives' : ℕ → Option A) (starts starts' : ℕ → Option T) → u ≢ t → y' ≡ y → v' ≡ v
+      → ((m : ℕ) → gives' m ≡ gives m) → ((m : ℕ) → starts' m ≡ starts m) → gives t ≡ None → starts t ≡ None
+      → (m : ℕ) → Told (put f t v) u y' gives' starts' m ≡ put (Told f u y gives starts) t v' m
+  swapped f t u v v' y y' gives gives' starts starts' d same_y same_v same_gives same_starts none_given none_started m =
+      (λ i. or_started (same_starts m i) (hears_any s (put (put f t v) u (same_y i) m) (same_gives m i)))
+      ∙ (swap_at f t u v y gives starts d none_given none_started m
+      ∙ ap (λ z. put (Told f u y gives starts) t z m) (sym same_v))
+
+  -- what comes of a quiet turn: this is shared then, and the thread is this one
+  abbrev pub Quiet : State X T → ℕ → X → T → State X T
+  Quiet w t x v = record { shared = x; threads = put w.threads t v }
+
+  pub quiet_event : (w : State X T) (t : ℕ) (e : E) → ((m : ℕ) → s.gives w.shared t e m ≡ None) → ((m : ℕ) → s.starts w.shared t e m ≡ None)
+      → after_event s w t e ≡ Quiet w t (s.after w.shared t e) (s.takes (w.threads t) (s.reply w.shared t e))
+  quiet_event w t e gives starts = λ i. record {
+    shared = s.after w.shared t e;
+    threads = λ m. or_started (starts m i) (hears_any s (put w.threads t (s.takes (w.threads t) (s.reply w.shared t e)) m) (gives m i));
+  }
+
+  pub swap_turn : (w : State X T) (t u : ℕ) (x : X) (v v' : T) → u ≢ t → v' ≡ v
+      → after_turn s (Quiet w t x v) u Turns ≡ Quiet (after_turn s w u Turns) t x v'
+  swap_turn w t u x v v' d same_v = λ i. record {
+    shared = x;
+    threads = λ m. swapped w.threads t u v v' (s.own_turn (w.threads u)) (s.own_turn (put w.threads t v u)) (λ (k : ℕ). None) (λ (k : ℕ). None)
+        (λ (k : ℕ). None) (λ (k : ℕ). None) d (ap s.own_turn (put-other w.threads t v u d)) same_v (λ k. refl) (λ k. refl) refl refl m i;
+  }
+
+  pub swap_event : (w : State X T) (t u : ℕ) (x z : X) (v v' : T) (g : E) → u ≢ t → v' ≡ v → s.after x u g ≡ z → s.reply x u g ≡ s.reply w.shared u g
+      → ((m : ℕ) → s.gives x u g m ≡ s.gives w.shared u g m) → ((m : ℕ) → s.starts x u g m ≡ s.starts w.shared u g m)
+      → s.gives w.shared u g t ≡ None → s.starts w.shared u g t ≡ None
+      → after_event s (Quiet w t x v) u g ≡ Quiet (after_event s w u g) t z v'
+  swap_event w t u x z v v' g d same_v same_x reply gives starts none_given none_started = λ i. record {
+    shared = same_x i;
+    threads = λ m. swapped w.threads t u v v' (s.takes (w.threads u) (s.reply w.shared u g)) (s.takes (put w.threads t v u) (s.reply x u g))
+        (s.gives w.shared u g) (s.gives x u g) (s.starts w.shared u g) (s.starts x u g) d
+        (λ j. s.takes (put-other w.threads t v u d j) (reply j)) same_v gives starts none_given none_started m i;
+  }

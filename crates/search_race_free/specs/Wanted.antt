@@ -54,4 +54,4 @@ module _ {X T E V A : Type 0} (s : System X T E V A) (accesses : X → T → E �
           → accesses (s.after w.shared u f) (w.threads n) e ≡ accesses w.shared (w.threads n) e
       pub independent : (w : State X T) (n : ℕ) (e : E) → WantsPlain w n e → (u : ℕ) (f : E) → s.wants (w.threads u) ≡ Calls f
           → u ≢ n → (Conflict (accesses w.shared (w.threads u) f) (accesses w.shared (w.threads n) e) → ⊥)
-          → AreIndependent w.shared n e u f
+          → AreIndependent s w.shared n e u f
