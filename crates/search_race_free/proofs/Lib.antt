@@ -2,3 +2,6 @@ pub mod Moving
 pub mod Racing
 pub mod Quiet
 pub mod Turning
+pub mod Striking
+pub mod Resting
+pub mod Reducing

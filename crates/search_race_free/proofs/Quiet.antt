@@ -6,8 +6,8 @@ use Rattle.schedule.specs.Scheduled.{after_turn, after_mark, after_event, with_t
 use Rattle.schedule.proofs.Basics.{at_each, put-same, put-other, same_or_not}
 use Rattle.search_reach.proofs.Paths.{one_step, onward}
 use Rattle.search_settled.specs.Settled.{StepsBy, IsReached, AreTame}
-use Rattle.search_race_free.specs.declared.access.Access.{Access}
-use Rattle.search_race_free.specs.Accesses.{IsPlain, Conflict}
+use Rattle.search_settled.specs.declared.access.Access.{Access}
+use Rattle.search_settled.specs.Accesses.{IsPlain, Conflict}
 use Rattle.search_race_free.specs.Wanted.{own_turn, access_by, next_access, after_next, AreIndependent, WantsPlain, ArePlain}
 use Rattle.search_race_free.proofs.Moving.{PlainLaws}
 

@@ -7,8 +7,8 @@ use Rattle.schedule.proofs.Basics.{put-same, put-other}
 use Rattle.search_reach.proofs.Paths.{one_step, onward}
 use Rattle.search_settled.specs.Settled.{StepsBy, IsReached, AreTame}
 use Rattle.search_settled.proofs.Orderly.{event_leaves}
-use Rattle.search_race_free.specs.declared.access.Access.{Access}
-use Rattle.search_race_free.specs.Accesses.{IsPlain, Conflict}
+use Rattle.search_settled.specs.declared.access.Access.{Access}
+use Rattle.search_settled.specs.Accesses.{IsPlain, Conflict}
 use Rattle.search_race_free.specs.Wanted.{own_turn, access_by, next_access, after_next, AreIndependent, WantsPlain, ArePlain}
 use Rattle.search_race_free.proofs.Moving.{PlainLaws}
 use Rattle.search_race_free.proofs.Quiet.{quiet_event, swap_turn, swap_event}

@@ -1,4 +1,5 @@
-pub mod Accesses
 pub mod Orders
 pub mod Wanted
 pub mod Races
+pub mod Owned
+pub mod Reduced

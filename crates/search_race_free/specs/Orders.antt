@@ -1,7 +1,7 @@
 -- Threads that make plain accesses, one after another.
 use Rattle.std.specs.Prelude.{ℕ, ◌≡◌, ◌==◌, suc, cond, Option, Some, List, [], ◌∷◌}
-use Rattle.search_race_free.specs.declared.access.Access.{Access}
-use Rattle.search_race_free.specs.Accesses.{IsPlain}
+use Rattle.search_settled.specs.declared.access.Access.{Access}
+use Rattle.search_settled.specs.Accesses.{IsPlain}
 
 -- How often a thread's number is there.
 abbrev pub times : ℕ → List ℕ → ℕ

@@ -3,8 +3,8 @@ use Rattle.std.specs.Prelude.{ℕ, ◌≡◌, ◌≢◌, ◌⊎◌, Option, Some
 use Rattle.schedule.specs.System.{System, State}
 use Rattle.search_graph.specs.Paths.{Reaches}
 use Rattle.search_settled.specs.Settled.{IsReached}
-use Rattle.search_race_free.specs.declared.access.Access.{Access}
-use Rattle.search_race_free.specs.Accesses.{IsPlain, Conflict, Race}
+use Rattle.search_settled.specs.declared.access.Access.{Access}
+use Rattle.search_settled.specs.Accesses.{IsPlain, Conflict, Race}
 use Rattle.search_race_free.specs.Orders.{StepsPlainly}
 use Rattle.search_race_free.specs.Wanted.{next_access, after_next}
 

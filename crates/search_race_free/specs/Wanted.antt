@@ -4,8 +4,8 @@ use Rattle.std.specs.Prelude.{ℕ, ◌≡◌, ◌≢◌, true, false, Option, So
 use Rattle.schedule.specs.System.{Want, Want.Turns, Want.Calls, Want.Awaits, Want.Gone, Kind.Turn, System, State}
 use Rattle.schedule.specs.Scheduled.{after_mark}
 use Rattle.search_settled.specs.Settled.{IsReached}
-use Rattle.search_race_free.specs.declared.access.Access.{Access}
-use Rattle.search_race_free.specs.Accesses.{IsPlain, Conflict}
+use Rattle.search_settled.specs.declared.access.Access.{Access}
+use Rattle.search_settled.specs.Accesses.{IsPlain, Conflict}
 
 -- A turn of a thread's own touches nothing.
 abbrev pub own_turn : Access

@@ -1,6 +1,6 @@
 //! Threads that do not race: it is enough to go through the orders of what isn't plain.
 #![tactic(auto)]
 
-mod access;
+mod owning;
 
-pub use access::Access;
+pub use owning::{Owning, Touch};

@@ -1,6 +1,6 @@
 -- What an event does with the memory, and when two of them race.
 use Rattle.std.specs.Prelude.{ℕ, ◌≡◌, ◌+◌, ◌<◌, ◌≤◌, ◌⊎◌, true, false}
-use Rattle.search_race_free.specs.declared.access.Access.{Access}
+use Rattle.search_settled.specs.declared.access.Access.{Access}
 
 -- It is a turn of a thread's own, or a plain access within bounds.
 abbrev pub IsPlain : Access → Type 0
