@@ -2,4 +2,5 @@ pub mod Orders
 pub mod Wanted
 pub mod Races
 pub mod Owned
+pub mod Touches
 pub mod Reduced

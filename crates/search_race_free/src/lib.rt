@@ -2,5 +2,8 @@
 #![tactic(auto)]
 
 mod owning;
+mod race;
+mod touches;
 
 pub use owning::{Owning, Touch};
+pub use race::Race;

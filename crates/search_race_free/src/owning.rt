@@ -3,7 +3,7 @@
 use search_settled::Access;
 
 /// An access that a thread has made.
-#[derive(Clone, Copy, PartialEq, Eq, Hash, Debug)]
+#[derive(Clone, Copy, PartialEq, Eq, PartialOrd, Ord, Hash, Debug)]
 pub struct Touch {
     pub thread: usize,
     pub access: Access,
