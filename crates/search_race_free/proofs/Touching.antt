@@ -102,3 +102,10 @@ gone-new t us y p x = (λ c. inl c, back)
     back : Contains us x ⊎ (y ≡ x) × (x.thread ≢ t) → Contains us x
     back (inl c) = c
     back (inr c) = absurd (c.1 (subst (λ (z : Touch). z.thread ≡ t) c.0 p))
+
+pub no_other : (t u : ℕ) → (t ≢ u → ⊥) → t ≡ u
+no_other t u h = by (same_or_not t u)
+  where
+    by : (t ≡ u) ⊎ (t ≢ u) → t ≡ u
+    by (inl e) = e
+    by (inr d) = absurd (h d)

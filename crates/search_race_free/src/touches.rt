@@ -114,6 +114,13 @@ pub(crate) fn first_race(wanted: &[Option<Access>], owned: &[Touch]) -> Option<R
     None
 }
 
+/// Whether this is a touch of another thread.
+fn is_of_other(touch: Touch, thread: usize) -> bool
+    ensures { IsTrue result ↔ (touch.thread ≢ thread) }
+{
+    touch.thread != thread
+}
+
 /// The touches of the other threads.
 pub(crate) fn of_others(
     alloc: Global,
@@ -124,7 +131,7 @@ pub(crate) fn of_others(
 {
     let mut others = Vec::new(alloc);
     for touch in owned {
-        if touch.thread != thread {
+        if is_of_other(*touch, thread) {
             others.push(*touch)?;
         }
     }
