@@ -4,5 +4,6 @@ pub mod Quiet
 pub mod Turning
 pub mod Striking
 pub mod Touching
+pub mod Wanting
 pub mod Resting
 pub mod Reducing

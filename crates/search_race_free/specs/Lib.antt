@@ -4,3 +4,4 @@ pub mod Races
 pub mod Owned
 pub mod Touches
 pub mod Reduced
+pub mod Search
