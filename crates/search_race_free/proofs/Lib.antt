@@ -5,5 +5,7 @@ pub mod Turning
 pub mod Striking
 pub mod Touching
 pub mod Wanting
+pub mod Eventing
+pub mod Going
 pub mod Resting
 pub mod Reducing
