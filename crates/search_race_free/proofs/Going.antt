@@ -1,5 +1,5 @@
 -- A thread that makes plain turns alone.
-use Rattle.std.proofs.Common.{◌≡◌, ◌≢◌, ◌⊎◌, ◌<◌, inl, inr, ℕ, suc, ◌+◌, true, refl, sym, ◌∙◌, ap, subst, arith, List, [], ◌∷◌, ◌++◌, Contains, Option, Some, None}
+use Rattle.std.proofs.Common.{◌≡◌, ◌≢◌, ◌⊎◌, ◌<◌, inl, inr, ℕ, suc, ◌+◌, Bool, true, false, not, true≢false, refl, sym, ◌∙◌, ap, subst, arith, List, [], ◌∷◌, ◌++◌, Contains, Option, Some, None}
 use Rattle.std.proofs.lemmas.Option.{same_Some, none-some}
 use Rattle.schedule.specs.System.{Want.Turns, Want.Calls, Kind.Turn, System, State}
 use Rattle.schedule.specs.Scheduled.{after_turn, after_mark, after_event}
@@ -251,3 +251,7 @@ module _ {X T E V A G H M : Type 0} (k : ThreadSystem X T E V A G H M)
       rest-steps : (ts : List ℕ) (w z : State X T) → Rest k x.owned.items ts w z → Reaches (StepsBy k.system) w z
       rest-steps [] w z p = subst (λ v. Reaches (StepsBy k.system) w v) p (stays (StepsBy k.system) w)
       rest-steps (t ∷ ts) w z p = onward (StepsBy k.system) w (next_in k w t) z (one_step (StepsBy k.system) w (next_in k w t) (t, refl)) (rest-steps ts (next_in k w t) z p.1)
+
+pub not_false : (b : Bool) → not b ≡ false → b ≡ true
+not_false true e = refl
+not_false false e = absurd (true≢false e)
