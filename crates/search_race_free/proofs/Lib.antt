@@ -7,5 +7,6 @@ pub mod Touching
 pub mod Wanting
 pub mod Eventing
 pub mod Going
+pub mod Continuing
 pub mod Resting
 pub mod Reducing

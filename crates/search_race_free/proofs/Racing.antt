@@ -77,3 +77,9 @@ module _ {W : Type 0} (wants : W → ℕ → Option Access) (next : W → ℕ �
       → Reaches (StepsPlainly wants next one) (next w one) z → wants z other ≡ Some f → Conflict f e → ⊥
   none-race never one other e f w z d r h p since g c =
       no-race never since.count one other e f [] w (next w one) z d r (h, p, refl) since.path g c
+
+pub race-swap : (a b : Access) → Race a b → Race b a
+race-swap a b r = record {
+  conflict = conflict-swap a b r.conflict;
+  unmatched = λ m. r.unmatched (record { first = m.second; second = m.first; addr = sym m.addr; width = sym m.width });
+}

@@ -176,7 +176,7 @@ module _ {X T E V A G H M O : Type 0} (k : ThreadSystem X T E V A G H M) (ends :
         comes_of : ComesOf k s n x.state
         comes_of = subst (λ t. ComesOf k s t x.state) by (next.each x among)
 
-        then : IsAfterTurn k s n x.state st.settled
+        then : IsAfterTurn k n x.state st.settled
         then = let c = comes_of in c.each st.settled (resting w left st)
 
         clear : (t : ℕ) (e : Access) → n ≢ t → Within s.owned.items t e → Conflict a e → ⊥

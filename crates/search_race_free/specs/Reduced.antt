@@ -80,9 +80,9 @@ module _ {X T E V A G H M : Type 0} (k : ThreadSystem X T E V A G H M) where
     stuck = λ w. stuck w ⊎ SomeRace;
   }
 
-  -- The state after the next turn of thread n at what s is, and plain ones after it, which no other thread makes that could
-  -- go on before.
-  pub record IsAfterTurn (s : Owning (Flat G H)) (n : ℕ) (x : Owning (Flat G H)) (z : State X T) : Type 0 where
+  -- From z, the next turn of thread n and then plain ones lead to what x is; of these none is of another thread that could
+  -- go on at z.
+  pub record IsAfterTurn (n : ℕ) (x : Owning (Flat G H)) (z : State X T) : Type 0 where
     pub access : Access
     pub wants : wanted_in z n ≡ Some access
     pub order : List ℕ
@@ -95,7 +95,7 @@ module _ {X T E V A G H M : Type 0} (k : ThreadSystem X T E V A G H M) where
   -- It is so of each state that s is, and what others own there they own still.
   pub record ComesOf (s : Owning (Flat G H)) (n : ℕ) (x : Owning (Flat G H)) : Type 0 where
     pub kept : IsKept x
-    pub each : (z : State X T) → IsResting s.flat z → IsAfterTurn s n x z
+    pub each : (z : State X T) → IsResting s.flat z → IsAfterTurn n x z
     pub owned : (t : ℕ) (a : Access) → t ≢ n → Within s.owned.items t a → Within x.owned.items t a
 
   -- There is one of these of each thread that can go on, and each of these is of such a thread.

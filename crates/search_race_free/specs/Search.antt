@@ -22,7 +22,7 @@ use Rattle.search_race_free.specs.Wanted.{next_access}
 use Rattle.search_race_free.specs.Races.{HasRace}
 use Rattle.search_race_free.specs.Owned.{Within}
 use Rattle.search_race_free.specs.Touches.{access_at}
-use Rattle.search_race_free.specs.Reduced.{wanted_in, next_in, Rest, IsResting, RestsSomewhere, HasTouched, ComesOf, HasReduced}
+use Rattle.search_race_free.specs.Reduced.{wanted_in, next_in, Rest, IsResting, RestsSomewhere, HasTouched, IsAfterTurn, ComesOf, HasReduced}
 
 -- No thread from a number on can go on.
 abbrev pub NoneBeyond : {X T E V A : Type 0} → System X T E V A → (X → T → E → Access) → State X T → ℕ → Type 0
@@ -73,6 +73,12 @@ module _ {X T E V A G H M : Type 0} (k : ThreadSystem X T E V A G H M) where
     pub owned : IsOwned x
     pub grows : (t : ℕ) (a : Access) → Within s.owned.items t a → Within x.owned.items t a
     pub each : (z : State X T) → IsResting k s.flat z → IsAlongTurns m x z
+
+  -- Of each state that s is, the turn of thread n leads to what x is, by plain turns after it; others own what they owned.
+  pub record ComesOnward (n : ℕ) (s x : Owning (Flat G H)) : Type 0 where
+    pub owned : IsOwned x
+    pub keeps : (t : ℕ) (a : Access) → t ≢ n → Within s.owned.items t a → Within x.owned.items t a
+    pub each : (z : State X T) → IsResting k s.flat z → IsAfterTurn k n x z
 
   abbrev pub IsRace : Race → Type 0
   IsRace r = HasRace k.system k.first k.accesses r.one r.other

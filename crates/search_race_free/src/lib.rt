@@ -3,6 +3,7 @@
 
 mod accesses;
 mod alone;
+mod onward;
 mod owning;
 mod race;
 mod touches;
