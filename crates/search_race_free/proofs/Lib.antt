@@ -6,6 +6,7 @@ pub mod Striking
 pub mod Touching
 pub mod Wanting
 pub mod Eventing
+pub mod Meeting
 pub mod Going
 pub mod Continuing
 pub mod Resting

@@ -5,3 +5,4 @@ pub mod Owned
 pub mod Touches
 pub mod Reduced
 pub mod Search
+pub mod Laws

@@ -3,11 +3,12 @@
 
 mod accesses;
 mod alone;
-mod onward;
+mod laws;
 mod owning;
 mod race;
 mod touches;
 
 pub use accesses::Accesses;
+pub use laws::races_meet;
 pub use owning::{Owning, Touch};
 pub use race::Race;
