@@ -4,6 +4,7 @@
 mod accesses;
 mod alone;
 mod laws;
+mod onward;
 mod owning;
 mod race;
 mod touches;
