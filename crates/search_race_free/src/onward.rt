@@ -82,7 +82,6 @@ fn turn_onward<M: Accesses>(
 }
 
 /// The state after the turn of thread n and plain ones after it, where no thread is in another's way.
-#[tactic(none)]
 pub(crate) fn advance<M: Accesses>(
     alloc: Global,
     system: &M,
