@@ -113,9 +113,12 @@ module _ {X T E V A G H M : Type 0} (k : ThreadSystem X T E V A G H M)
   lost-onward stuck s x n one lost z at =
       let p = one.each z at in
       let resting : IsResting k x.flat p.settled = record { reached = after-rests n x z at.reached p; rests = p.rests; settled_is = p.settled_is } in
-      let l = lost p.settled resting in
-      (l.0, onward (StepsBy k.system) z (next_in k z n) l.0 (one_step (StepsBy k.system) z (next_in k z n) (n, refl))
-      (onward (StepsBy k.system) (next_in k z n) p.settled l.0 (rest-steps p.order (next_in k z n) p.settled p.makes) l.1), l.2)
+      let l = lost p.settled resting in (
+        l.0,
+        onward (StepsBy k.system) z (next_in k z n) l.0 (one_step (StepsBy k.system) z (next_in k z n) (n, refl))
+            (onward (StepsBy k.system) (next_in k z n) p.settled l.0 (rest-steps p.order (next_in k z n) p.settled p.makes) l.1),
+        l.2,
+      )
     where
       rest-steps : (ts : List ℕ) (w v : State X T) → Rest k x.owned.items ts w v → Reaches (StepsBy k.system) w v
       rest-steps [] w v p = subst (λ y. Reaches (StepsBy k.system) w y) p (stays (StepsBy k.system) w)
