@@ -1,5 +1,5 @@
 -- How many fields there are of one that is always there.
-use Rattle.std.proofs.Common.{ℕ, suc, ◌≡◌, List, ◌∷◌, refl}
+use Rattle.std.proofs.Common.{suc, ◌≡◌, List, ◌∷◌, refl}
 use Rattle.report_json.specs.declared.found.FoundAs.{FoundAs}
 use Rattle.report_json.specs.declared.found.FoundAs.TheVariants as found
 use Rattle.report_json.specs.declared.drawn.DrawnEnd.{DrawnEnd}

@@ -1,11 +1,11 @@
 -- Objects and lists that are sent part by part.
-use Rattle.std.proofs.Common.{ℕ, suc, ◌≡◌, ◌+◌, ◌^◌, ◌<◌, ◌≤◌, List, [], ◌∷◌, ◌++◌, Option, Some, None, Bool, true, false, ◌||◌, length, drop, get_or, decimal, if◌then◌else◌, nat_lt, refl, ap, sym, subst, ◌∙◌, arith, drop-cons, add-one}
+use Rattle.std.proofs.Common.{ℕ, suc, ◌≡◌, ◌+◌, ◌^◌, ◌<◌, ◌≤◌, List, [], ◌∷◌, Option, Some, None, Bool, true, false, ◌||◌, length, drop, get_or, decimal, if◌then◌else◌, nat_lt, refl, ap, sym, subst, ◌∙◌, arith, drop-cons, add-one}
 use Rattle.std.proofs.lemmas.List.{drop_all}
 use Rattle.std.specs.Int.{from_bool}
 use Rattle.std.specs.Io.KnownBytes.{Appends}
 use Rattle.serde.specs.Event.{Log, Logs, map_begins, map_ends, seq_begins, seq_ends}
 use Rattle.serde_json.specs.Data as shaped
-use Rattle.serde_json.specs.Events.{SendsValue, SendsMembers, SendsItems, members_len, items_len}
+use Rattle.serde_json.specs.Events.{SendsMembers, SendsItems, members_len, items_len}
 use Rattle.serde_json.specs.Sent.{IsTextOf}
 use Rattle.serde_json.specs.Written.{has_float, items_have_float, members_have_float}
 use Rattle.serde_json.proofs.FreeTexts.{text_of_value}

@@ -1,7 +1,5 @@
 -- A search through every order of entries.
-use Rattle.std.specs.Prelude.{ℕ, List, [], ◌∷◌, codes, length, Option, Some, None}
-use Rattle.search_endings.specs.Endings.{Ending}
-use Rattle.search_reach.specs.declared.ending.Ended.{Ended}
+use Rattle.std.specs.Prelude.{ℕ, List, [], ◌∷◌, codes, length, None}
 use Rattle.search_reach.specs.declared.search.Verdict.{Verdict}
 use Rattle.search_reach.specs.declared.search.Verdict.TheVariants as verdicts
 use Rattle.search_reach.specs.declared.liveness.FairCycle.{FairCycle}

@@ -1,5 +1,5 @@
 -- A search of drawn runs.
-use Rattle.std.specs.Prelude.{ℕ, Bool, true, false, not, List, [], ◌∷◌, codes, length, Option, Some, None}
+use Rattle.std.specs.Prelude.{ℕ, Bool, true, false, List, [], ◌∷◌, codes}
 use Rattle.report_lines.specs.Drawn.{way_text}
 use Rattle.search_endings.specs.Endings.{Ending}
 use Rattle.report_json.specs.declared.drawn.MetEnding.{MetEnding}
@@ -8,8 +8,7 @@ use Rattle.report_json.specs.declared.drawn.DrawnEnd.{DrawnEnd}
 use Rattle.report_json.specs.declared.drawn.DrawnEnd.TheVariants as ends
 use Rattle.report_json.specs.declared.drawn.DrawnRuns.{DrawnRuns}
 use Rattle.report_json.specs.declared.drawn.Drawn.{Drawn}
-use Rattle.report_json.specs.declared.found.Found.{Found}
-use Rattle.report_json.specs.Json.{Json, Field, number, text, is, is_given, list_of, object_of}
+use Rattle.report_json.specs.Json.{Json, Field, number, text, is, list_of, object_of}
 use Rattle.report_json.specs.Ends.{outcomes_json, bytes_field}
 use Rattle.report_json.specs.Found.{found_json}
 

@@ -1,5 +1,5 @@
 -- What a search found.
-use Rattle.std.specs.Prelude.{ℕ, List, [], ◌∷◌, codes}
+use Rattle.std.specs.Prelude.{List, [], ◌∷◌, codes}
 use Rattle.report_json.specs.declared.found.FoundAs.{FoundAs}
 use Rattle.report_json.specs.declared.found.FoundAs.TheVariants.{Run, Ending, NoEndAfter, ForEverAfter}
 use Rattle.report_json.specs.declared.found.RunSize.{RunSize}

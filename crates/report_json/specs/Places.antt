@@ -1,5 +1,5 @@
 -- Places in a module.
-use Rattle.std.specs.Prelude.{ℕ, Bool, false, List, [], ◌∷◌, ◌++◌, codes, decimal}
+use Rattle.std.specs.Prelude.{false, List, [], ◌∷◌, ◌++◌, codes, decimal}
 use Rattle.std.specs.Fmt.{digits}
 use Rattle.show_places.specs.declared.names.FunctionName.{FunctionName}
 use Rattle.show_places.specs.declared.names.FunctionName.TheVariants.{Named, Exported, Numbered}

@@ -1,6 +1,5 @@
 -- What is shown of a record: its entries, and its races.
 use Rattle.std.specs.Prelude.{ℕ, ◌≡◌, Bool, true, false, ◌&&◌, List, [], ◌∷◌, ◌++◌, codes}
-use Rattle.show_text.specs.declared.words.Words.{Words}
 use Rattle.show_text.specs.Words.{words_text}
 use Rattle.report_json.specs.declared.rows.Row.{Row}
 use Rattle.report_json.specs.declared.races.RaceEntry.{RaceEntry}

@@ -66,7 +66,12 @@ impl ToJson for RunSize {
     ghost json = { size_json };
 
     fn send<S: Serializer>(&self, alloc: Global, out: &mut S) -> Result<(), S::Error> {
-        send_two(alloc, out, ("entries", &self.entries), ("switches", &self.switches))
+        send_two(
+            alloc,
+            out,
+            ("entries", &self.entries),
+            ("switches", &self.switches),
+        )
     }
 }
 

@@ -220,10 +220,7 @@ struct Sent<'a, T> {
 
 impl<T> Drop for Sent<'_, T> {
     fn drop(self) {
-        let Sent {
-            alloc: _,
-            value: _,
-        } = self;
+        let Sent { alloc: _, value: _ } = self;
     }
 }
 

@@ -70,7 +70,12 @@ impl ToJson for NextWrite {
     ghost json = { write_json };
 
     fn send<S: Serializer>(&self, alloc: Global, out: &mut S) -> Result<(), S::Error> {
-        send_two(alloc, out, ("line", &self.line), ("between", &self.is_between))
+        send_two(
+            alloc,
+            out,
+            ("line", &self.line),
+            ("between", &self.is_between),
+        )
     }
 }
 

@@ -18,7 +18,10 @@ use std::io::Write;
 #[derive(Clone, Copy)]
 pub enum Refused<'a> {
     /// Bytes that can't be read as a module, and where.
-    Read { kind: Fault, offset: usize },
+    Read {
+        kind: Fault,
+        offset: usize,
+    },
     /// A module that breaks a rule outside its bodies.
     Rule(validate_typing::Fault),
     /// A module that breaks a rule in a body.
@@ -114,7 +117,12 @@ impl ToJson for Refused<'_> {
         match *self {
             Refused::Read { kind, offset } => send_read(alloc, out, kind, offset),
             Refused::Rule(kind) => {
-                send_two(alloc, out, ("stage", &"validity"), ("number", &kind.number()))
+                send_two(
+                    alloc,
+                    out,
+                    ("stage", &"validity"),
+                    ("number", &kind.number()),
+                )
             }
             Refused::RuleInBody {
                 kind,
@@ -232,11 +240,7 @@ pub fn write_refusal<W: Write>(
 }
 
 /// Writes the object of a job that failed.
-pub fn write_failed<W: Write>(
-    alloc: Global,
-    out: &mut W,
-    failure: Failure,
-) -> Result<(), Unwritten>
+pub fn write_failed<W: Write>(alloc: Global, out: &mut W, failure: Failure) -> Result<(), Unwritten>
     ensures { Wrote W.contents out.old out.new result (json_line (failed_json failure.entry)) }
 {
     write_line(alloc, out, &Failed(failure))

@@ -79,8 +79,14 @@ fn is_failed(alloc: Global, failure: Failure<'static>, text: &str) -> bool {
 
 /// What failed, and how that is printed.
 static FAILED: [(Failure<'static>, &str); 3] = [
-    (Failure::Memory, "{\"status\":5,\"failed\":{\"what\":\"memory\"}}\n"),
-    (Failure::Thread, "{\"status\":5,\"failed\":{\"what\":\"thread\"}}\n"),
+    (
+        Failure::Memory,
+        "{\"status\":5,\"failed\":{\"what\":\"memory\"}}\n",
+    ),
+    (
+        Failure::Thread,
+        "{\"status\":5,\"failed\":{\"what\":\"thread\"}}\n",
+    ),
     (
         Failure::File("a \"b\"/\t"),
         "{\"status\":5,\"failed\":{\"what\":\"file\",\"path\":\"a \\\"b\\\"/\\t\"}}\n",

@@ -55,9 +55,9 @@ fn entries(rt: HostRuntime) -> Result<(), Fail> {
     if !are_printed(
         rt.alloc(),
         &[LOAD, placed, LOAD],
-        "{\"status\":0,\"rows\":[{\"line\":25,\"thread\":1,\"words\":\"load 4096 = 0\"},\
-        {\"line\":26,\"thread\":1,\"words\":\"load 4096 = 0\",\"at\":{\"function\":\"f\",\"source\":\"a \\\"b\\\".c:7\"}},\
-        {\"line\":25,\"thread\":1,\"words\":\"load 4096 = 0\"}]}\n",
+        "{\"status\":0,\"rows\":[{\"line\":25,\"thread\":1,\"words\":\"load32 4096 = 0\"},\
+        {\"line\":26,\"thread\":1,\"words\":\"load32 4096 = 0\",\"at\":{\"function\":\"f\",\"source\":\"a \\\"b\\\".c:7\"}},\
+        {\"line\":25,\"thread\":1,\"words\":\"load32 4096 = 0\"}]}\n",
     ) {
         return Err(Fail::new("three entries"));
     }
@@ -104,11 +104,11 @@ fn races(rt: HostRuntime) -> Result<(), Fail> {
         rt.alloc(),
         &some,
         "{\"status\":1,\"races\":[{\"mixed\":false,\
-        \"first\":{\"line\":25,\"thread\":1,\"words\":\"load 4096 = 0\",\"atomic\":false,\"address\":4096,\"width\":4},\
-        \"second\":{\"line\":25,\"thread\":1,\"words\":\"load 4096 = 0\",\"atomic\":true,\"address\":4096,\"width\":4},\
+        \"first\":{\"line\":25,\"thread\":1,\"words\":\"load32 4096 = 0\",\"atomic\":false,\"address\":4096,\"width\":4},\
+        \"second\":{\"line\":25,\"thread\":1,\"words\":\"load32 4096 = 0\",\"atomic\":true,\"address\":4096,\"width\":4},\
         \"next_write\":{\"line\":38,\"between\":true}},{\"mixed\":true,\
-        \"first\":{\"line\":25,\"thread\":1,\"words\":\"load 4096 = 0\",\"atomic\":true,\"address\":4096,\"width\":4},\
-        \"second\":{\"line\":25,\"thread\":1,\"words\":\"load 4096 = 0\",\"atomic\":true,\"address\":4096,\"width\":4}}],\
+        \"first\":{\"line\":25,\"thread\":1,\"words\":\"load32 4096 = 0\",\"atomic\":true,\"address\":4096,\"width\":4},\
+        \"second\":{\"line\":25,\"thread\":1,\"words\":\"load32 4096 = 0\",\"atomic\":true,\"address\":4096,\"width\":4}}],\
         \"more\":true}\n",
     ) {
         return Err(Fail::new("two races"));
@@ -117,7 +117,11 @@ fn races(rt: HostRuntime) -> Result<(), Fail> {
         pairs: &[],
         is_cut: false,
     };
-    if !are_races(rt.alloc(), &none, "{\"status\":0,\"races\":[],\"more\":false}\n") {
+    if !are_races(
+        rt.alloc(),
+        &none,
+        "{\"status\":0,\"races\":[],\"more\":false}\n",
+    ) {
         return Err(Fail::new("no race"));
     }
     Ok(())

@@ -29,7 +29,12 @@ fn is_printed(alloc: Global, end: &RunEnd, status: u8, text: &str) -> bool {
 }
 
 /// Whether thread 0 alone is printed so.
-fn is_outcome(alloc: Global, outcome: Outcome, status: u8, words: &str) -> Result<bool, AllocError> {
+fn is_outcome(
+    alloc: Global,
+    outcome: Outcome,
+    status: u8,
+    words: &str,
+) -> Result<bool, AllocError> {
     let threads = [ThreadReport { outcome, spent: 7 }];
     let text = format!(in alloc;
         "{{\"status\":{status},\"threads\":[{{\"thread\":0,\"outcome\":{words},\"units\":7}}],\"pages\":0}}\n"
@@ -40,14 +45,46 @@ fn is_outcome(alloc: Global, outcome: Outcome, status: u8, words: &str) -> Resul
 /// Outcomes, their statuses, and how they are printed.
 static OUTCOMES: [(Outcome, u8, &str); 9] = [
     (Outcome::Done(None), 0, "{\"ok\":null}"),
-    (Outcome::Done(Some(Value::I32(0))), 0, "{\"ok\":{\"i32\":0}}"),
-    (Outcome::Done(Some(Value::I32(0xffff_ffff))), 0, "{\"ok\":{\"i32\":4294967295}}"),
-    (Outcome::Done(Some(Value::I64(9_007_199_254_740_991))), 0, "{\"ok\":{\"i64\":9007199254740991}}"),
-    (Outcome::Done(Some(Value::I64(9_007_199_254_740_992))), 0, "{\"ok\":{\"i64\":\"9007199254740992\"}}"),
-    (Outcome::Done(Some(Value::I64(0xffff_ffff_ffff_ffff))), 0, "{\"ok\":{\"i64\":\"18446744073709551615\"}}"),
-    (Outcome::Trap(Trap::Unreachable), 1, "{\"trap\":\"unreachable\",\"number\":1}"),
-    (Outcome::Trap(Trap::StackExhausted), 1, "{\"trap\":\"stack exhausted\",\"number\":10}"),
-    (Outcome::Stop(Stop::RecordFull), 1, "{\"stop\":\"record full\",\"number\":3}"),
+    (
+        Outcome::Done(Some(Value::I32(0))),
+        0,
+        "{\"ok\":{\"i32\":0}}",
+    ),
+    (
+        Outcome::Done(Some(Value::I32(0xffff_ffff))),
+        0,
+        "{\"ok\":{\"i32\":4294967295}}",
+    ),
+    (
+        Outcome::Done(Some(Value::I64(9_007_199_254_740_991))),
+        0,
+        "{\"ok\":{\"i64\":9007199254740991}}",
+    ),
+    (
+        Outcome::Done(Some(Value::I64(9_007_199_254_740_992))),
+        0,
+        "{\"ok\":{\"i64\":\"9007199254740992\"}}",
+    ),
+    (
+        Outcome::Done(Some(Value::I64(0xffff_ffff_ffff_ffff))),
+        0,
+        "{\"ok\":{\"i64\":\"18446744073709551615\"}}",
+    ),
+    (
+        Outcome::Trap(Trap::Unreachable),
+        1,
+        "{\"trap\":\"unreachable\",\"number\":1}",
+    ),
+    (
+        Outcome::Trap(Trap::StackExhausted),
+        1,
+        "{\"trap\":\"stack exhausted\",\"number\":10}",
+    ),
+    (
+        Outcome::Stop(Stop::RecordFull),
+        1,
+        "{\"stop\":\"record full\",\"number\":3}",
+    ),
 ];
 
 #[test]

@@ -1,4 +1,4 @@
-use Rattle.std.proofs.Common.{◌≡◌, ◌+◌, [], ap, ◌∙◌, sym, arith}
+use Rattle.std.proofs.Common.{◌≡◌, [], ap, ◌∙◌, arith}
 use Rattle.std.specs.Int.{from_bool}
 use Rattle.report_json.specs.Drawn.{has_some}
 use Rattle.report_json.proofs.Sent.{count_bytes}

@@ -1,4 +1,4 @@
-use Rattle.std.proofs.Common.{◌≡◌, ◌<◌, ◌/◌, ◌%◌, get_or, sym, subst, ◌∙◌, arith, rules}
+use Rattle.std.proofs.Common.{◌≡◌, ◌<◌, ◌/◌, ◌%◌, get_or, arith, rules}
 use Rattle.replay_forms.specs.Texts.{hex_digit}
 use Rattle.report_json.proofs.Digits.{hex_ascii, hex_next}
 use Rattle.report_json.proofs.ends.hex_of.Goals as goal

@@ -1,6 +1,6 @@
-use Rattle.std.proofs.Common.{◌≡◌, take, ◌++◌}
+use Rattle.std.proofs.Common.{◌≡◌, take}
 use Rattle.std.specs.Io.KnownBytes.{Appends}
-use Rattle.report_json.specs.Rows.{rows_front, rows_text}
+use Rattle.report_json.specs.Rows.{rows_text}
 use Rattle.report_json.proofs.RowTexts.{is_nil}
 use Rattle.report_json.proofs.rows.write_rows.Given as goal
 

@@ -1,11 +1,11 @@
-use Rattle.std.proofs.Common.{◌≡◌, ◌+◌, suc, codes, [], ◌∷◌, refl, ap, ◌∙◌, arith}
+use Rattle.std.proofs.Common.{◌≡◌, ◌+◌, codes, [], ◌∷◌, refl, ap, arith}
 use Rattle.std.proofs.lemmas.Result.{on_ok_weaker}
 use Rattle.report_json.specs.Sent.{count}
 use Rattle.report_json.specs.Json.{text, list_of, is_given}
 use Rattle.report_json.specs.Drawn.{ending_json}
 use Rattle.report_json.specs.Found.{found_json}
 use Rattle.report_json.specs.Complete.{liveness_json, complete_fields}
-use Rattle.report_json.proofs.Sent.{object_sent, count_given, count_some, count_bytes, same_field, same_bytes}
+use Rattle.report_json.proofs.Sent.{object_sent, count_given, same_field}
 use Rattle.report_json.proofs.complete.CompleteToJson.send.Goals as goal
 
 pub returns : goal.returns

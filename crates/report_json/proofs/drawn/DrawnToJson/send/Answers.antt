@@ -1,10 +1,10 @@
-use Rattle.std.proofs.Common.{◌≡◌, ◌+◌, suc, codes, [], ◌∷◌, refl, ap, ◌∙◌, arith}
+use Rattle.std.proofs.Common.{◌≡◌, codes, [], refl, ap, arith}
 use Rattle.std.proofs.lemmas.Result.{on_ok_weaker}
 use Rattle.report_json.specs.Sent.{count}
 use Rattle.report_json.specs.Json.{text}
 use Rattle.report_json.specs.Drawn.{drawn_fields}
 use Rattle.report_json.proofs.Fields.{count_end}
-use Rattle.report_json.proofs.Sent.{object_sent, count_given, count_some, count_bytes, same_field, same_bytes}
+use Rattle.report_json.proofs.Sent.{object_sent, same_field}
 use Rattle.report_json.proofs.drawn.DrawnToJson.send.Goals as goal
 
 pub returns : goal.returns

@@ -1,10 +1,10 @@
-use Rattle.std.proofs.Common.{◌≡◌, ◌+◌, suc, codes, [], ◌∷◌, refl, ap, ◌∙◌, arith}
+use Rattle.std.proofs.Common.{◌≡◌, ◌+◌, codes, [], ◌∷◌, refl, ap, arith}
 use Rattle.std.proofs.lemmas.Result.{on_ok_weaker}
 use Rattle.report_json.specs.Sent.{count}
 use Rattle.std.proofs.Common.{take, nat_lt}
 use Rattle.report_json.specs.Json.{number, text, are_some}
 use Rattle.report_json.specs.Ends.{run_fields}
-use Rattle.report_json.proofs.Sent.{object_sent, count_given, count_some, count_bytes, same_field, same_bytes}
+use Rattle.report_json.proofs.Sent.{object_sent, count_some, count_bytes, same_field, same_bytes}
 use Rattle.report_json.proofs.ends.RunEndToJson.send.Goals as goal
 
 pub returns : goal.returns

@@ -1,9 +1,9 @@
-use Rattle.std.proofs.Common.{◌≡◌, ◌+◌, suc, codes, [], ◌∷◌, refl, ap, ◌∙◌, arith}
+use Rattle.std.proofs.Common.{◌≡◌, ◌+◌, codes, [], refl, arith}
 use Rattle.std.proofs.lemmas.Result.{on_ok_weaker}
 use Rattle.report_json.specs.Sent.{count}
 use Rattle.report_json.specs.Places.{place_json}
 use Rattle.report_json.specs.Rows.{row_fields}
-use Rattle.report_json.proofs.Sent.{object_sent, count_given, count_some, count_bytes, same_field, same_bytes}
+use Rattle.report_json.proofs.Sent.{object_sent, count_given}
 use Rattle.report_json.proofs.rows.RowToJson.send.Goals as goal
 
 pub returns : goal.returns
