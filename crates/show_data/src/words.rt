@@ -1,0 +1,143 @@
+//! From words to places.
+
+use crate::members::members;
+use crate::parts::{Part, Shape};
+use crate::place::Place;
+use crate::static_data::whole;
+use crate::types::MOST_TYPES;
+use show_units::{Spans, Units};
+use std::alloc::{AllocError, Global};
+
+/// What words name.
+#[derive(Clone, Copy, Debug, PartialEq, Eq)]
+pub enum Sought {
+    Nothing,
+    One(Place),
+    /// Variables at different places have the name.
+    Several,
+}
+
+/// A step from a part to one right below.
+#[derive(Clone, Copy)]
+enum Step<'w> {
+    Member(&'w str),
+    Element(u64),
+}
+
+/// A name or a number up to the next `.` or `[`, and what is behind it.
+fn split(words: &str) -> (&str, &str) {
+    match words.find(['.', '[']) {
+        Some(end) => match (words.get(..end), words.get(end..)) {
+            (Some(name), Some(rest)) => (name, rest),
+            _ => (words, ""),
+        },
+        None => (words, ""),
+    }
+}
+
+/// The step at the front of some words, and what is behind it.
+fn next_step(words: &str) -> Option<(Step<'_>, &str)> {
+    if let Some(rest) = words.strip_prefix('.') {
+        let (name, rest) = split(rest);
+        return Some((Step::Member(name), rest));
+    }
+    let (number, rest) = words.strip_prefix('[')?.split_once(']')?;
+    Some((Step::Element(number.parse::<u64>().ok()?), rest))
+}
+
+/// The part of a name among the members of a part, those of members without a name included.
+fn member_named(
+    alloc: Global,
+    units: &Units,
+    part: Part,
+    name: &str,
+) -> Result<Option<Part>, AllocError> {
+    let mut parts = Vec::new(alloc);
+    parts.push(part)?;
+    for next in 0..MOST_TYPES as usize {
+        let Some(outer) = parts.get(next).copied() else {
+            break;
+        };
+        if !matches!(outer.shape(alloc, units)?, Shape::Members) {
+            continue;
+        }
+        for member in &members(alloc, units, outer.its_type)? {
+            let Some(part) = outer.member(units, *member) else {
+                continue;
+            };
+            match member.name {
+                Some(its_name) if its_name == name => return Ok(Some(part)),
+                Some(_) => {}
+                None => parts.push(part)?,
+            }
+        }
+    }
+    Ok(None)
+}
+
+/// The part that a step leads to.
+fn follow(
+    alloc: Global,
+    units: &Units,
+    part: Part,
+    step: Step,
+) -> Result<Option<Part>, AllocError> {
+    match (step, part.shape(alloc, units)?) {
+        (Step::Member(name), Shape::Members) => member_named(alloc, units, part, name),
+        (Step::Element(number), Shape::Elements { count, size }) if number < count => {
+            part.element(alloc, units, number, size)
+        }
+        _ => Ok(None),
+    }
+}
+
+/// The part that steps lead to.
+fn follow_all(
+    alloc: Global,
+    units: &Units,
+    part: Part,
+    steps: &str,
+) -> Result<Option<Part>, AllocError> {
+    let mut part = part;
+    let mut left = steps;
+    for _ in 0..MOST_TYPES {
+        if left.is_empty() {
+            return Ok(Some(part));
+        }
+        let Some((step, rest)) = next_step(left) else {
+            return Ok(None);
+        };
+        match follow(alloc, units, part, step)? {
+            Some(inner) => part = inner,
+            None => return Ok(None),
+        }
+        left = rest;
+    }
+    Ok(None)
+}
+
+/// The bytes of static data that words name, as `slots[3].item`.
+pub fn place_of(
+    alloc: Global,
+    units: &Units,
+    data: &Spans,
+    words: &str,
+) -> Result<Sought, AllocError> {
+    let (variable, steps) = split(words);
+    let mut sought = Sought::Nothing;
+    for span in &data.items {
+        if units.name(span.entry) != Some(variable) {
+            continue;
+        }
+        let Some(part) = whole(units, *span) else {
+            continue;
+        };
+        if let Some(found) = follow_all(alloc, units, part, steps)? {
+            sought = match sought {
+                Sought::Nothing => Sought::One(found.place),
+                _ => Sought::Several,
+            };
+        }
+    }
+    Ok(sought)
+}
