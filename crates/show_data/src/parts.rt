@@ -1,5 +1,7 @@
 //! Parts of variables: a variable itself, its members, its elements, and theirs.
 
+ghost use Rattle.std.specs.Prelude.{◌≡◌, IfOk, IfSome};
+
 use crate::members::Member;
 use crate::place::Place;
 use crate::types::{bare, dimensions};
@@ -25,8 +27,12 @@ pub(crate) struct Part {
 }
 
 impl Part {
+    ghost use Rattle.show_data.specs.Within.{LiesWithin};
+
     /// All of what has a place and a type.
-    pub fn new(units: &Units, place: Place, its_type: usize) -> Option<Part> {
+    pub fn new(units: &Units, place: Place, its_type: usize) -> Option<Part>
+        ensures { IfSome result (λ p. p.place ≡ place) }
+    {
         Some(Part {
             place,
             its_type: bare(units, its_type)?,
@@ -53,7 +59,9 @@ impl Part {
     }
 
     /// A member.
-    pub fn member(self, units: &Units, member: Member) -> Option<Part> {
+    pub fn member(self, units: &Units, member: Member) -> Option<Part>
+        ensures { LiesWithin self.place result }
+    {
         Part::new(
             units,
             self.place.inner(member.offset, member.size)?,
@@ -68,7 +76,9 @@ impl Part {
         units: &Units,
         number: u64,
         size: u64,
-    ) -> Result<Option<Part>, AllocError> {
+    ) -> Result<Option<Part>, AllocError>
+        ensures { IfOk result (LiesWithin self.place) }
+    {
         let Some(offset) = number.checked_mul(size) else {
             return Ok(None);
         };

@@ -1,6 +1,6 @@
 //! Bytes of memory.
 
-ghost use Rattle.std.specs.Prelude.{◌≡◌, ◌+◌, ◌≤◌, IfSome};
+ghost use Rattle.std.specs.Prelude.{◌≡◌, ◌-◌, MatchOption, ◌&&◌, nat_le, nat_lt};
 
 /// Bytes of memory: where they begin, and how many they are.
 #[derive(Clone, Copy, Debug, PartialEq, Eq)]
@@ -10,8 +10,12 @@ pub struct Place {
 }
 
 impl Place {
+    ghost use Rattle.show_data.specs.Within.{IsInner, HasNoInner};
+
     /// Some of its bytes: from an offset on, so many.
-    pub(crate) fn inner(self, offset: u64, size: u64) -> Option<Place> {
+    pub(crate) fn inner(self, offset: u64, size: u64) -> Option<Place>
+        ensures { MatchOption result (HasNoInner self offset size) (IsInner self offset size) }
+    {
         if offset > self.size || size > self.size - offset {
             return None;
         }
@@ -20,7 +24,9 @@ impl Place {
     }
 
     /// Whether an address is one of its bytes.
-    pub fn contains(self, address: u64) -> bool {
+    pub fn contains(self, address: u64) -> bool
+        ensures { result ≡ (nat_le self.start address && nat_lt (address - self.start) self.size) }
+    {
         self.start <= address && address - self.start < self.size
     }
 }

@@ -1,5 +1,7 @@
 //! Static variables.
 
+ghost use Rattle.std.specs.Prelude.{◌≡◌, ◌+◌, ◌≤◌, IfSome};
+
 use crate::parts::Part;
 use crate::place::Place;
 use crate::types::size_of;
@@ -49,7 +51,10 @@ pub fn read_data(alloc: Global, units: &Units) -> Result<Spans, AllocError> {
 }
 
 /// A variable as a part of itself.
-pub(crate) fn whole(units: &Units, span: Spanned) -> Option<Part> {
+pub(crate) fn whole(units: &Units, span: Spanned) -> Option<Part>
+    ensures start { IfSome result (λ p. p.place.start ≡ span.start) }
+    ensures end { IfSome result (λ p. p.place.start + p.place.size ≡ span.end) }
+{
     let place = Place {
         start: span.start,
         size: span.end.checked_sub(span.start)?,

@@ -1,5 +1,8 @@
 //! From words to places.
 
+ghost use Rattle.std.specs.Prelude.{IfOk};
+ghost use Rattle.show_data.specs.Within.{LiesWithin, NamesWithin};
+
 use crate::members::members;
 use crate::parts::{Part, Shape};
 use crate::place::Place;
@@ -51,7 +54,9 @@ fn member_named(
     units: &Units,
     part: Part,
     name: &str,
-) -> Result<Option<Part>, AllocError> {
+) -> Result<Option<Part>, AllocError>
+    ensures { IfOk result (LiesWithin part.place) }
+{
     let mut parts = Vec::new(alloc);
     parts.push(part)?;
     for next in 0..MOST_TYPES as usize {
@@ -62,13 +67,13 @@ fn member_named(
             continue;
         }
         for member in &members(alloc, units, outer.its_type)? {
-            let Some(part) = outer.member(units, *member) else {
+            let Some(inner) = outer.member(units, *member) else {
                 continue;
             };
             match member.name {
-                Some(its_name) if its_name == name => return Ok(Some(part)),
+                Some(its_name) if its_name == name => return Ok(Some(inner)),
                 Some(_) => {}
-                None => parts.push(part)?,
+                None => parts.push(inner)?,
             }
         }
     }
@@ -81,7 +86,9 @@ fn follow(
     units: &Units,
     part: Part,
     step: Step,
-) -> Result<Option<Part>, AllocError> {
+) -> Result<Option<Part>, AllocError>
+    ensures { IfOk result (LiesWithin part.place) }
+{
     match (step, part.shape(alloc, units)?) {
         (Step::Member(name), Shape::Members) => member_named(alloc, units, part, name),
         (Step::Element(number), Shape::Elements { count, size }) if number < count => {
@@ -97,18 +104,20 @@ fn follow_all(
     units: &Units,
     part: Part,
     steps: &str,
-) -> Result<Option<Part>, AllocError> {
-    let mut part = part;
+) -> Result<Option<Part>, AllocError>
+    ensures { IfOk result (LiesWithin part.place) }
+{
+    let mut reached = part;
     let mut left = steps;
     for _ in 0..MOST_TYPES {
         if left.is_empty() {
-            return Ok(Some(part));
+            return Ok(Some(reached));
         }
         let Some((step, rest)) = next_step(left) else {
             return Ok(None);
         };
-        match follow(alloc, units, part, step)? {
-            Some(inner) => part = inner,
+        match follow(alloc, units, reached, step)? {
+            Some(inner) => reached = inner,
             None => return Ok(None),
         }
         left = rest;
@@ -122,10 +131,12 @@ pub fn place_of(
     units: &Units,
     data: &Spans,
     words: &str,
-) -> Result<Sought, AllocError> {
+) -> Result<Sought, AllocError>
+    ensures { IfOk result (NamesWithin data.now.items.items) }
+{
     let (variable, steps) = split(words);
     let mut sought = Sought::Nothing;
-    for span in &data.items {
+    for span in data.items() {
         if units.name(span.entry) != Some(variable) {
             continue;
         }

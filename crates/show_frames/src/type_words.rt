@@ -72,10 +72,10 @@ impl Declarator {
         let mut words = front;
         words.push_str(kind)?;
         words.push_str(name)?;
-        if !behind.is_empty() {
+        if !behind.is_empty() && !behind.starts_with('[') {
             words.push(' ')?;
-            words.push_str(behind.as_str())?;
         }
+        words.push_str(behind.as_str())?;
         Ok(words)
     }
 }

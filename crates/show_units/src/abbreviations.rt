@@ -106,7 +106,7 @@ impl Abbreviations {
                 _ => break,
             }
         }
-        self.read_to = section.len() - cursor.len();
+        self.read_to = section.len().saturating_sub(cursor.len());
         Ok(Kinds { first, count })
     }
 

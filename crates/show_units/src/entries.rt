@@ -1,6 +1,6 @@
 //! The entries, in the order of their bytes.
 
-ghost use Rattle.std.specs.Prelude.{◌<◌};
+ghost use Rattle.std.specs.Prelude.{◌<◌, All, IfOk, IfSome};
 
 use crate::abbreviations::Abbreviations;
 use crate::attributes::Attribute;
@@ -89,7 +89,9 @@ impl<'a> Units<'a> {
     }
 
     /// The first of the entries right below an entry.
-    fn first_child(&self, entry: usize) -> Option<usize> {
+    fn first_child(&self, entry: usize) -> Option<usize>
+        ensures { IfSome result (λ child. entry < child) }
+    {
         let child = entry.checked_add(1)?;
         if child < self.end_of(entry) {
             Some(child)
@@ -99,7 +101,9 @@ impl<'a> Units<'a> {
     }
 
     /// The next of the entries right below the same one.
-    fn next_child(&self, child: usize, parent: usize) -> Option<usize> {
+    fn next_child(&self, child: usize, parent: usize) -> Option<usize>
+        ensures { IfSome result (λ next. child < next) }
+    {
         let next = self.end_of(child);
         if child < next && next < self.end_of(parent) {
             Some(next)
@@ -108,13 +112,15 @@ impl<'a> Units<'a> {
         }
     }
 
-    /// The entries right below an entry, not more than so many.
+    /// The entries right below an entry, not more than so many. They stand behind it.
     pub fn children(
         &self,
         alloc: Global,
         entry: usize,
         most: usize,
-    ) -> Result<Vec<usize>, AllocError> {
+    ) -> Result<Vec<usize>, AllocError>
+        ensures { IfOk result (λ children. All (λ child. entry < child) children.items) }
+    {
         let mut children = Vec::new(alloc);
         let mut next = self.first_child(entry);
         for _ in 0..most {
@@ -136,14 +142,14 @@ impl<'a> Units<'a> {
     /// What an attribute of an entry says, the first of its number.
     pub fn value(&self, entry: usize, wanted: Attribute) -> Option<Value<'a>> {
         let unit = self.unit_of(entry)?;
-        let entry = *self.entries.get(entry)?;
+        let entry = self.entries.get(entry)?;
         let bytes = self.sections.info.get(entry.offset as usize..unit.end)?;
         let mut cursor = Cursor::new(bytes);
         cursor.read_unsigned().ok()?;
         let kind = self.abbreviations.at(entry.kind as usize)?;
         for part in self.abbreviations.parts_of(kind) {
             let raw = part.form.width.read(&mut cursor).ok()?;
-            if part.attribute == u64::from(wanted as u8) {
+            if part.attribute == wanted.number() {
                 return Some(Value::of(part.form.meaning, raw, unit.start as u64));
             }
         }
