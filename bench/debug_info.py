@@ -16,6 +16,7 @@ import sys
 HERE = os.path.dirname(os.path.abspath(__file__))
 ROOT = os.path.dirname(HERE)
 BARE = ("typedef", "const_type", "volatile_type", "restrict_type", "atomic_type")
+WASM = ("local", "global", "operand", "global")
 QUALIFIERS = {"const_type": "const", "volatile_type": "volatile", "restrict_type": "restrict", "atomic_type": "_Atomic"}
 
 
@@ -75,6 +76,7 @@ class Debug:
     def __init__(self, module, dumper):
         self.entries = read_entries(run(dumper, "--debug-info", module))
         self.tables = read_addresses(module, dumper)
+        self.files = set(re.findall(r'^ +name: "(.*)"$', run(dumper, "--debug-line", module), re.M))
 
     def root(self, entry):
         while entry.parent:
@@ -229,8 +231,9 @@ class Debug:
         calls = []
         for scope in reversed(self.scopes(function, offset)):
             if scope.tag == "inlined_subroutine":
-                file = re.match(r'"(.*)"\)$', scope.get("call_file"))[1]
-                calls.append(f"{self.name(scope)} {os.path.basename(file)}:{self.number(scope, 'call_line')}")
+                path = re.match(r'"(.*)"\)$', scope.get("call_file"))[1]
+                file = max((it for it in self.files if ("/" + path).endswith("/" + it)), key=len)
+                calls.append(f"{self.name(scope)} {file}:{self.number(scope, 'call_line')}")
         return " < ".join(calls)
 
     def place(self, entry, offset, frame):
@@ -247,7 +250,10 @@ class Debug:
                 return None
         found = re.fullmatch(r"DW_OP_WASM_location (0x[0-9a-f]+) (0x[0-9a-f]+), DW_OP_stack_value", text)
         if found:
-            return f"{['local', 'global', 'operand', 'global'][int(found[1], 16)]} {int(found[2], 16)}"
+            return f"{WASM[int(found[1], 16)]} {int(found[2], 16)}"
+        found = re.fullmatch(r"DW_OP_WASM_location (0x[0-9a-f]+) (0x[0-9a-f]+), DW_OP_plus_uconst (0x[0-9a-f]+)", text)
+        if found:
+            return f"at {WASM[int(found[1], 16)]} {int(found[2], 16)} + {int(found[3], 16)}"
         found = re.fullmatch(r"DW_OP_fbreg ([+-]\d+)", text)
         if found:
             return f"at {frame} + {int(found[1])}"
@@ -256,7 +262,7 @@ class Debug:
 
     def frame(self, function):
         found = re.match(r"DW_OP_WASM_location (0x[0-9a-f]+) (0x[0-9a-f]+), DW_OP_stack_value", function.get("frame_base") or "")
-        return found and f"{['local', 'global', '', 'global'][int(found[1], 16)]} {int(found[2], 16)}"
+        return found and f"{WASM[int(found[1], 16)]} {int(found[2], 16)}"
 
     def words(self, kind):
         """A type as C writes it, worked out from the inside out by recursion."""

@@ -68,7 +68,10 @@ pub fn size_of(alloc: Global, units: &Units, its_type: usize) -> Result<Option<u
     let mut its_type = its_type;
     let mut count = Some(1u64);
     for _ in 0..MOST_TYPES {
-        let size = match (units.number(its_type, Attribute::ByteSize), units.tag(its_type)) {
+        let size = match (
+            units.number(its_type, Attribute::ByteSize),
+            units.tag(its_type),
+        ) {
             (Some(size), _) => Some(size),
             (None, Tag::Pointer) => Some(ADDRESS),
             (None, Tag::Array) => {

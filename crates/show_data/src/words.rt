@@ -81,12 +81,7 @@ fn member_named(
 }
 
 /// The part that a step leads to.
-fn follow(
-    alloc: Global,
-    units: &Units,
-    part: Part,
-    step: Step,
-) -> Result<Option<Part>, AllocError>
+fn follow(alloc: Global, units: &Units, part: Part, step: Step) -> Result<Option<Part>, AllocError>
     ensures { IfOk result (LiesWithin part.place) }
 {
     match (step, part.shape(alloc, units)?) {

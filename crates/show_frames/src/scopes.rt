@@ -14,7 +14,8 @@ fn inner(
     offset: u64,
 ) -> Result<Option<usize>, AllocError> {
     for child in &units.children(alloc, scope, units.len())? {
-        if matches!(units.tag(*child), Tag::Block | Tag::Inlined) && units.has_code(*child, offset)
+        if matches!(units.tag(*child), Tag::Block | Tag::Inlined)
+            && units.has_code(*child, offset)
         {
             return Ok(Some(*child));
         }

@@ -47,9 +47,11 @@ fn variable_of<'a>(
     let location = units
         .place_at(entry, offset)
         .and_then(|place| units.location(entry, place, scope.frame));
-    let (Some(name), Some(its_type), Some(location)) =
-        (units.name(entry), units.type_of(entry), location)
-    else {
+    let (Some(name), Some(its_type), Some(location)) = (
+        units.name(entry),
+        units.type_of(entry),
+        location,
+    ) else {
         return Ok(None);
     };
     let (Some(size), Some(type_words)) = (

@@ -5,7 +5,7 @@ use crate::frames::{write_inlined, write_variables};
 use crate::lines::{write_cut_lines, write_directories, write_lines, write_short};
 use crate::names::{write_exports, write_names};
 use crate::places::{write_cut_places, write_places};
-use crate::spoiled::{write_cut_info, write_changed_info};
+use crate::spoiled::{write_changed_info, write_cut_info};
 use std::alloc::{AllocError, Global};
 use test_cases::Case;
 

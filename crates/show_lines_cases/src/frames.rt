@@ -52,14 +52,11 @@ fn write_location(location: Location, given: &mut String) -> Result<(), AllocErr
         Location::Global(index) => writeln!(given, "global {index}"),
         Location::Operand(index) => writeln!(given, "operand {index}"),
         Location::Static(address) => writeln!(given, "at {address}"),
-        Location::Memory {
-            base: Base::Local(index),
-            offset,
-        } => writeln!(given, "at local {index} + {offset}"),
-        Location::Memory {
-            base: Base::Global(index),
-            offset,
-        } => writeln!(given, "at global {index} + {offset}"),
+        Location::Memory { base, offset } => match base {
+            Base::Local(index) => writeln!(given, "at local {index} + {offset}"),
+            Base::Global(index) => writeln!(given, "at global {index} + {offset}"),
+            Base::Operand(index) => writeln!(given, "at operand {index} + {offset}"),
+        },
     }
 }
 

@@ -8,11 +8,7 @@ use std::alloc::{AllocError, Global};
 use std::fmt::Write;
 
 /// Asks for all that is said of data and of code.
-fn ask(
-    alloc: Global,
-    sections: InfoSections,
-    lines: DebugSections,
-) -> Result<(), AllocError> {
+fn ask(alloc: Global, sections: InfoSections, lines: DebugSections) -> Result<(), AllocError> {
     let units = read_units(alloc, sections)?;
     let data = read_data(alloc, &units)?;
     for span in data.items() {

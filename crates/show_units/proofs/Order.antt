@@ -14,9 +14,9 @@ apart_more xs x end h e le i j d lt len =
     elim (cases_lt j (length xs)) [
       | inl within ↦ rw (first, get_or_append_left xs (x ∷ []) d j within) (h i j d lt within)
       | inr past ↦
-        let last : length xs ≡ j = omega (arith, size, len, past) in
-        let ends : (get_or xs i d).end ≤ end = e i d below in
-        rw (first, get_or_push xs x d j last) (omega (arith, ends, le))
+          let last : length xs ≡ j = omega (arith, size, len, past) in
+          let ends : (get_or xs i d).end ≤ end = e i d below in
+          rw (first, get_or_push xs x d j last) (omega (arith, ends, le))
     ]
 
 pub none_in_order : AreInOrder []

@@ -23,9 +23,9 @@ ended_before xs m place e order lt h k d below =
     let here : (get_or xs m d).end ≤ place = rw (get_or_default xs m d e lt) h in
     elim (cases_lt k m) [
       | inl less ↦
-        let apart : (get_or xs k d).end ≤ (get_or xs m d).start = order.apart k m d less lt in
-        let has : (get_or xs m d).start < (get_or xs m d).end = order.have_places m d lt in
-        omega (arith, apart, has, here)
+          let apart : (get_or xs k d).end ≤ (get_or xs m d).start = order.apart k m d less lt in
+          let has : (get_or xs m d).start < (get_or xs m d).end = order.have_places m d lt in
+          omega (arith, apart, has, here)
       | inr more ↦ let same : k ≡ m = omega (arith, below, more) in rw same here
     ]
 
@@ -36,9 +36,9 @@ not_ended_behind xs m place e order lt h k d behind len =
     let here : place < (get_or xs m d).end = rw (get_or_default xs m d e lt) h in
     elim (cases_lt m k) [
       | inl less ↦
-        let apart : (get_or xs m d).end ≤ (get_or xs k d).start = order.apart m k d less len in
-        let has : (get_or xs k d).start < (get_or xs k d).end = order.have_places k d len in
-        omega (arith, apart, has, here)
+          let apart : (get_or xs m d).end ≤ (get_or xs k d).start = order.apart m k d less len in
+          let has : (get_or xs k d).start < (get_or xs k d).end = order.have_places k d len in
+          omega (arith, apart, has, here)
       | inr more ↦ let same : k ≡ m = omega (arith, behind, more) in rw same here
     ]
 
@@ -61,11 +61,11 @@ none_has xs place low d order lt before begins =
       | inl less ↦ ended (get_or xs k d) place (before k d less)
       | inr more ↦ elim (cases_lt low k) [
         | inl behind ↦
-          let apart : (get_or xs low d).end ≤ (get_or xs k d).start = order.apart low k d behind h in
-          let has : (get_or xs low d).start < (get_or xs low d).end = order.have_places low d lt in
-          begins_behind (get_or xs k d) place (omega (arith, apart, has, begins))
+            let apart : (get_or xs low d).end ≤ (get_or xs k d).start = order.apart low k d behind h in
+            let has : (get_or xs low d).start < (get_or xs low d).end = order.have_places low d lt in
+            begins_behind (get_or xs k d) place (omega (arith, apart, has, begins))
         | inr same ↦
-          let here : k ≡ low = omega (arith, more, same) in
-          rw here (begins_behind (get_or xs low d) place begins)
+            let here : k ≡ low = omega (arith, more, same) in
+            rw here (begins_behind (get_or xs low d) place begins)
       ]
     ])

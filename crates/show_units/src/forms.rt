@@ -75,7 +75,8 @@ impl Width {
             // strx3, addrx3
             0x27 | 0x2b => Width::Three,
             // addr, data4, strp, ref_addr, ref4, sec_offset, ref_sup4, strp_sup, line_strp, strx4, addrx4
-            0x01 | 0x06 | 0x0e | 0x10 | 0x13 | 0x17 | 0x1c | 0x1d | 0x1f | 0x28 | 0x2c => Width::Four,
+            0x01 | 0x06 | 0x0e | 0x10 | 0x13 | 0x17 | 0x1c | 0x1d | 0x1f | 0x28 | 0x2c =>
+                Width::Four,
             // data8, ref8, ref_sig8, ref_sup8
             0x07 | 0x14 | 0x20 | 0x24 => Width::Eight,
             // udata, ref_udata, strx, addrx, loclistx, rnglistx

@@ -13,6 +13,8 @@ pub enum Base {
     Local(u32),
     /// A global of the module, by its index.
     Global(u32),
+    /// An operand on the stack, counted from the bottom.
+    Operand(u32),
 }
 
 /// Where a variable is.
@@ -79,6 +81,7 @@ fn behind(place: Location) -> Option<Location> {
     let base = match place {
         Location::Local(index) => Base::Local(index),
         Location::Global(index) => Base::Global(index),
+        Location::Operand(index) => Base::Operand(index),
         _ => return None,
     };
     Some(Location::Memory { base, offset: 0 })
@@ -98,7 +101,12 @@ fn farther(place: Location, by: u64) -> Option<Location> {
 
 impl<'a> Units<'a> {
     /// The place that one operation of an entry is by itself.
-    fn first_place(&self, entry: usize, operation: Operation, frame: Option<Base>) -> Option<Location> {
+    fn first_place(
+        &self,
+        entry: usize,
+        operation: Operation,
+        frame: Option<Base>,
+    ) -> Option<Location> {
         Some(match operation {
             Operation::Address(address) => Location::Static(address),
             Operation::AddressNumber(number) => {
@@ -115,7 +123,12 @@ impl<'a> Units<'a> {
 
     /// Where a variable is that an expression of an entry places, in a function with this base of its frames. Of what
     /// compilers write it takes a place in memory, with or without an addition, and a value in a place of WebAssembly.
-    pub fn location(&self, entry: usize, expression: &'a [u8], frame: Option<Base>) -> Option<Location> {
+    pub fn location(
+        &self,
+        entry: usize,
+        expression: &'a [u8],
+        frame: Option<Base>,
+    ) -> Option<Location> {
         let mut cursor = Cursor::new(expression);
         let first = read_operation(&mut cursor).ok()?;
         let place = self.first_place(entry, first, frame)?;

@@ -1,8 +1,8 @@
 //! The sections of debug information.
 
-use show_places::custom_section;
-
 ghost use Rattle.std.specs.Prelude.{◌≡◌};
+
+use show_places::custom_section;
 
 /// The sections of a module that say what its functions and its data are; empty where there is none.
 #[derive(Clone, Copy, PartialEq, Eq)]

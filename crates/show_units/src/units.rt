@@ -109,12 +109,7 @@ impl<'a> Units<'a> {
     }
 
     /// A unit, as far as its entries can be read.
-    fn read_unit(
-        &mut self,
-        alloc: Global,
-        start: usize,
-        contents: &'a [u8],
-    ) -> Result<(), Fault> {
+    fn read_unit(&mut self, alloc: Global, start: usize, contents: &'a [u8]) -> Result<(), Fault> {
         let mut cursor = Cursor::new(contents);
         let (is_version_5, kinds) = read_header(&mut cursor)?;
         let kinds = self
@@ -149,10 +144,7 @@ impl<'a> Units<'a> {
 }
 
 /// The entries of a module, as far as they can be read.
-pub fn read_units<'a>(
-    alloc: Global,
-    sections: InfoSections<'a>,
-) -> Result<Units<'a>, AllocError> {
+pub fn read_units<'a>(alloc: Global, sections: InfoSections<'a>) -> Result<Units<'a>, AllocError> {
     let mut units = Units {
         sections,
         abbreviations: Abbreviations::new(alloc),

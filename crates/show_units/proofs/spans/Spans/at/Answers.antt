@@ -29,7 +29,7 @@ pub returns-then-items-low : goal.returns-then-items-low
 returns-then-items-low c =
     rw (← c.as_slice-items.ensures.value)
     (sym (one_has c.as_slice-items.result.now c.args.place c.loop-low.low _ c.if-low-items.true c.loop-low.invariant.before
-        (c.loop-low.invariant.behind c.loop-low.low _ c.loop-low-test.false c.if-low-items.true) c.if-items-low.true))
+    (c.loop-low.invariant.behind c.loop-low.low _ c.loop-low-test.false c.if-low-items.true) c.if-items-low.true))
 
 pub returns : goal.returns
 returns c =
@@ -38,7 +38,7 @@ returns c =
     rw (← c.as_slice-items.ensures.value)
     (elim c.else-low-items.branch [
       | else-low-items-via-then-low-items+else-items-low w ↦
-        sym (none_has c.as_slice-items.result.now c.args.place c.loop-low.low none order w.if-low-items.true c.loop-low.invariant.before w.if-items-low.false)
+          sym (none_has c.as_slice-items.result.now c.args.place c.loop-low.low none order w.if-low-items.true c.loop-low.invariant.before w.if-items-low.false)
       | else-low-items-via-else-low-items w ↦
-        sym (all_ended c.as_slice-items.result.now c.args.place c.loop-low.low none w.if-low-items.false c.loop-low.invariant.before)
+          sym (all_ended c.as_slice-items.result.now c.args.place c.loop-low.low none w.if-low-items.false c.loop-low.invariant.before)
     ])
