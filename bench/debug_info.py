@@ -1,11 +1,12 @@
 #!/usr/bin/env python3
-"""debug_info.py [FOLDER]: holds what is read of debug information against `llvm-dwarfdump`.
+"""debug_info.py [FOLDER] [--cases]: holds what is read of debug information against `llvm-dwarfdump`.
 
 Compiles the programs of bench/debug by each clang that is there (clang, clang-16, clang-19), without optimization and with, as DWARF 4 and
 5. Of what llvm-dwarfdump prints of each module it works out, in its own way, what each byte of static data is called, where these words lead
 back to, which functions were put in the place of their calls at each offset of the code, and which variables are in scope there and where
 they are; and writes that as cases into FOLDER (/tmp/debug_info), which crates/cases then tries: `rt try` there, with no proof, or the
-program that PROGRAM names.
+program that PROGRAM names. With --cases it prints, in place of that, such cases of the modules that bench/debug/build.sh made:
+crates/cases/data/info.cases begins with them.
 """
 import os
 import re
@@ -195,7 +196,7 @@ class Debug:
                 continue
             address = self.address(entry, entry.get("location")[:-1])
             size = self.size(self.type(entry))
-            if address is not None and size and address + size < 1 << 32:
+            if self.name(entry) and address is not None and size and address + size < 1 << 32:
                 found.append((address, size, self.name(entry), self.type(entry)))
         return sorted(found, key=lambda it: it[0])
 
@@ -318,14 +319,17 @@ class Debug:
         return lines
 
 
-def case(debug, module):
-    lines = [f"== {os.path.basename(module)}: names", f"module {module}"]
+def case(debug, module, path, step, inside):
+    """The cases of a module: of bytes inside what is named the first ones, and of offsets one in so many."""
+    lines = [f"== names of data of {os.path.basename(module)}", f"module {path}"]
     spans = debug.variables()
     wanted, given = [], []
     for address, size, name, kind in spans:
         for byte in range(address - 1, address + size + 1):
             holds = [it for it in spans if it[0] <= byte < it[0] + it[1]]
             words = debug.call(holds[0][3], holds[0][0], holds[0][1], holds[0][2], holds[0][0], byte) if holds else "-"
+            if "+" in words and int(words.split("+")[1]) > inside or str(byte) in wanted:
+                continue
             wanted.append(str(byte))
             given.append(f"{byte} {words}")
     lines += ["data " + " ".join(wanted)] + [f"gives {it}" for it in given]
@@ -335,48 +339,67 @@ def case(debug, module):
         byte, words = line.split(" ")
         if words == "-" or "+" in words or names.count(re.split(r"[.\[]", words)[0]) > 1:
             continue
-        size = sum(re.match(re.escape(words) + r"(\+|$)", it.split(" ")[1]) is not None for it in dict.fromkeys(given))
+        holds = next(it for it in spans if it[0] <= int(byte) < it[0] + it[1])
+        size = 1
+        end = holds[0] + holds[1] - int(byte)
+        while size < end and debug.call(holds[3], holds[0], holds[1], holds[2], holds[0], int(byte) + size) == f"{words}+{size}":
+            size += 1
         sought.append(words)
         found.append((words, byte, size))
-    lines += [f"== {os.path.basename(module)}: words", f"module {module}", "sought " + " ".join(sought)]
+    lines += [f"== places of data of {os.path.basename(module)}", f"module {path}", "sought " + " ".join(sought)]
     lines += [f"gives {words} {byte} {size}" for words, byte, size in found]
     offsets, chains, variables = [], [], []
     for function, ranges in debug.functions():
         for low, high in ranges:
-            for offset in range(low, min(high, 0xFFFF_FFFF), 3):
+            for offset in range(low, min(high, 0xFFFF_FFFF), step):
                 offsets.append(str(offset))
                 chain = debug.chain(function, offset)
                 chains.append(f"gives {offset}: {chain}" if chain else f"gives {offset}:")
                 variables.append(f"gives {offset}:")
                 variables += [f"gives {it}" for it in debug.in_scope(function, offset)]
-    lines += [f"== {os.path.basename(module)}: calls", f"module {module}", "inlined " + " ".join(offsets)] + chains
-    lines += [f"== {os.path.basename(module)}: variables", f"module {module}", "variables " + " ".join(offsets)] + variables
+    lines += [f"== calls of {os.path.basename(module)}", f"module {path}", "inlined " + " ".join(offsets)] + chains
+    lines += [f"== variables of {os.path.basename(module)}", f"module {path}", "variables " + " ".join(offsets)] + variables
     return lines
 
 
+def print_cases():
+    data = f"{ROOT}/crates/cases/data"
+    for name in ("queue-dwarf-5.wasm", "queue-dwarf-4.wasm", "kinds-dwarf-5.wasm"):
+        debug = Debug(f"{data}/{name}", "llvm-dwarfdump-14")
+        print("\n".join(case(debug, f"{data}/{name}", name, 29, 1)))
+
+
+def try_cases(lines, file):
+    """Tries cases, and answers whether all come out as llvm-dwarfdump has it."""
+    with open(file, "w") as out:
+        out.write("\n".join(["What is read of debug information, as llvm-dwarfdump has it.", ""] + lines) + "\n")
+    words = [os.environ["PROGRAM"]] if "PROGRAM" in os.environ else ["rt", "try", "--"]
+    return subprocess.run(words + ["lines", file], cwd=f"{ROOT}/crates/cases", check=False).returncode == 0
+
+
 def main():
+    if "--cases" in sys.argv:
+        return print_cases()
     folder = os.path.abspath(sys.argv[1] if len(sys.argv) > 1 else "/tmp/debug_info")
     os.makedirs(folder, exist_ok=True)
-    lines, made = ["What is read of debug information, as llvm-dwarfdump has it.", ""], 0
+    made = right = 0
     for clang in ("clang", "clang-16", "clang-19"):
         if not shutil.which(clang):
             continue
         dumper = shutil.which(clang.replace("clang", "llvm-dwarfdump")) or "llvm-dwarfdump"
-        for program in sorted(os.listdir(f"{HERE}/debug")):
+        for program in ("kinds.c", "queue.c", "small.c"):
             for level in ("-O0", "-O1", "-O2"):
                 for version in ("4", "5"):
                     module = f"{folder}/{program[:-2]}-{clang}{level}-{version}.wasm"
                     words = [f"{ROOT}/c/wathread-cc", "-g", f"-gdwarf-{version}", level, program, "-o", module]
                     subprocess.run(words, check=True, cwd=f"{HERE}/debug", env={**os.environ, "CC": clang})
-                    debug = Debug(module, dumper)
-                    lines += case(debug, module)
+                    # what has no proof is interpreted, and slow
+                    step = 1 if "PROGRAM" in os.environ else 17
+                    lines = case(Debug(module, dumper), module, module, step, 9)
                     made += 1
-    with open(f"{folder}/info.cases", "w") as file:
-        file.write("\n".join(lines) + "\n")
-    words = [os.environ["PROGRAM"], "lines"] if "PROGRAM" in os.environ else ["rt", "try", "--", "lines"]
-    ended = subprocess.run(words + [f"{folder}/info.cases"], cwd=f"{ROOT}/crates/cases", check=False)
-    print(f"{made} modules")
-    sys.exit(ended.returncode)
+                    right += try_cases(lines, f"{folder}/info.cases")
+    print(f"{right} of {made} modules are as llvm-dwarfdump has them")
+    sys.exit(right != made)
 
 
 if __name__ == "__main__":

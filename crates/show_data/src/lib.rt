@@ -9,12 +9,12 @@ mod members;
 mod naming;
 mod parts;
 mod place;
+mod sizes;
 mod static_data;
-mod types;
 mod words;
 
 pub use naming::name_at;
 pub use place::Place;
+pub use sizes::{bare, dimensions, size_of};
 pub use static_data::read_data;
-pub use types::{bare, dimensions, size_of};
 pub use words::{Sought, place_of};

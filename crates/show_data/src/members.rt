@@ -1,6 +1,6 @@
 //! Members of structures and unions.
 
-use crate::types::size_of;
+use crate::sizes::size_of;
 use show_units::{Attribute, Tag, Units};
 use std::alloc::{AllocError, Global};
 

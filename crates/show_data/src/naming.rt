@@ -2,8 +2,8 @@
 
 use crate::members::members;
 use crate::parts::{Part, Shape};
+use crate::sizes::MOST_TYPES;
 use crate::static_data::whole;
-use crate::types::MOST_TYPES;
 use show_units::{Spans, Units};
 use std::alloc::{AllocError, Global};
 use std::fmt::Write;

@@ -4,7 +4,7 @@ ghost use Rattle.std.specs.Prelude.{◌≡◌, IfOk, IfSome};
 
 use crate::members::Member;
 use crate::place::Place;
-use crate::types::{bare, dimensions};
+use crate::sizes::{bare, dimensions};
 use show_units::{Tag, Units};
 use std::alloc::{AllocError, Global};
 

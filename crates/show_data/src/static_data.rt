@@ -4,7 +4,7 @@ ghost use Rattle.std.specs.Prelude.{◌≡◌, ◌+◌, ◌≤◌, IfSome};
 
 use crate::parts::Part;
 use crate::place::Place;
-use crate::types::size_of;
+use crate::sizes::size_of;
 use show_units::{Attribute, Location, Spanned, Spans, Tag, Units, Value};
 use std::alloc::{AllocError, Global};
 
@@ -22,10 +22,14 @@ fn address_of(units: &Units, entry: usize) -> Option<u64> {
     }
 }
 
-/// The bytes of a variable that stands at an address, and whose type has a size. What was left out of a module is said
+/// The bytes of a variable that has a name and an address, and whose type has a size. What was left out of a module is said
 /// to be at the end of memory, where nothing has room.
 fn span_of(alloc: Global, units: &Units, entry: usize) -> Result<Option<Spanned>, AllocError> {
-    let (Some(start), Some(its_type)) = (address_of(units, entry), units.type_of(entry)) else {
+    let (Some(start), Some(its_type), Some(_)) = (
+        address_of(units, entry),
+        units.type_of(entry),
+        units.name(entry),
+    ) else {
         return Ok(None);
     };
     let Some(size) = size_of(alloc, units, its_type)? else {
@@ -37,7 +41,7 @@ fn span_of(alloc: Global, units: &Units, entry: usize) -> Result<Option<Spanned>
     })
 }
 
-/// The static variables of a module that have an address and a size. Those of functions are among them.
+/// The static variables of a module that have a name, an address and a size. Those of functions are among them.
 pub fn read_data(alloc: Global, units: &Units) -> Result<Spans, AllocError> {
     let mut spans = Vec::new(alloc);
     for entry in 0..units.len() {

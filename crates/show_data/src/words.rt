@@ -6,8 +6,8 @@ ghost use Rattle.show_data.specs.Within.{LiesWithin, NamesWithin};
 use crate::members::members;
 use crate::parts::{Part, Shape};
 use crate::place::Place;
+use crate::sizes::MOST_TYPES;
 use crate::static_data::whole;
-use crate::types::MOST_TYPES;
 use show_units::{Spans, Units};
 use std::alloc::{AllocError, Global};
 
