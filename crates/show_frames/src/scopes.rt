@@ -1,22 +1,27 @@
 //! Scopes: a function, and the blocks and the inlined functions in it, one within the other.
 
+ghost use Rattle.std.specs.Prelude.{◌<◌, find, IfOk, IfSome};
+ghost use Rattle.show_units.specs.Spans.{holds};
+ghost use Rattle.show_frames.specs.Scopes.{BeginWith};
+
 use show_units::{Spans, Tag, Units};
 use std::alloc::{AllocError, Global};
 
 /// The most scopes within one another.
 const MOST_SCOPES: u32 = 4096;
 
-/// The scope right below one that has the code at an offset.
+/// The scope right below one that has the code at an offset. It stands behind it.
 fn inner(
     alloc: Global,
     units: &Units,
     scope: usize,
     offset: u64,
-) -> Result<Option<usize>, AllocError> {
+) -> Result<Option<usize>, AllocError>
+    ensures { IfOk result (λ inner. IfSome inner (λ child. scope < child)) }
+{
     for child in &units.children(alloc, scope, units.len())? {
-        if matches!(units.tag(*child), Tag::Block | Tag::Inlined)
-            && units.has_code(*child, offset)
-        {
+        let is_scope = matches!(units.tag(*child), Tag::Block | Tag::Inlined);
+        if is_scope && units.has_code(*child, offset) {
             return Ok(Some(*child));
         }
     }
@@ -29,15 +34,21 @@ pub(crate) fn scopes_at(
     units: &Units,
     functions: &Spans,
     offset: u64,
-) -> Result<Vec<usize>, AllocError> {
+) -> Result<Vec<usize>, AllocError>
+    ensures { IfOk result (λ scopes. BeginWith (find (holds offset) functions.now.items.items) scopes.items) }
+{
     let mut scopes = Vec::new(alloc);
-    let mut next = functions.at(offset).map(|function| function.entry);
+    let Some(function) = functions.at(offset) else {
+        return Ok(scopes);
+    };
+    let mut scope = function.entry;
+    scopes.push(scope)?;
     for _ in 0..MOST_SCOPES {
-        let Some(scope) = next else {
-            break;
-        };
+        match inner(alloc, units, scope, offset)? {
+            Some(next) => scope = next,
+            None => break,
+        }
         scopes.push(scope)?;
-        next = inner(alloc, units, scope, offset)?;
     }
     Ok(scopes)
 }
