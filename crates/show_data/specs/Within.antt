@@ -24,13 +24,22 @@ HasNoInner outer offset size = (outer.size < offset + size) ⊎ (2 ^ 64 ≤ oute
 abbrev pub LiesWithin : Place → Option Part → Type 0
 LiesWithin outer part = IfSome part (λ p. IsWithin outer p.place)
 
+-- All bytes of a place are bytes of a span.
+abbrev pub IsInSpan : Spanned → Place → Type 0
+IsInSpan span place = (span.start ≤ place.start) × (place.start + place.size ≤ span.end)
+
 -- All bytes of a place are bytes of one of some spans.
 abbrev pub IsWithinOne : List Spanned → Place → Type 0
-IsWithinOne spans place =
-    (span : Spanned) × Contains spans span × (span.start ≤ place.start) × (place.start + place.size ≤ span.end)
+IsWithinOne spans place = (span : Spanned) × Contains spans span × IsInSpan span place
 
 -- Where words name one place, it lies within one of some spans.
 abbrev pub NamesWithin : List Spanned → Sought → Type 0
 NamesWithin spans (sought.One place) = IsWithinOne spans place
 NamesWithin spans sought.Nothing = Unit {0}
 NamesWithin spans sought.Several = Unit {0}
+
+-- Where words name one place, it is the one that was found.
+abbrev pub NamesOneMore : Place → Sought → Type 0
+NamesOneMore place (sought.One found) = found ≡ place
+NamesOneMore place sought.Nothing = ⊥
+NamesOneMore place sought.Several = Unit {0}

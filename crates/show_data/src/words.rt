@@ -1,14 +1,14 @@
 //! From words to places.
 
-ghost use Rattle.std.specs.Prelude.{IfOk};
-ghost use Rattle.show_data.specs.Within.{LiesWithin, NamesWithin};
+ghost use Rattle.std.specs.Prelude.{IfOk, IfSome};
+ghost use Rattle.show_data.specs.Within.{LiesWithin, IsInSpan, NamesWithin};
 
 use crate::members::members;
 use crate::parts::{Part, Shape};
 use crate::place::Place;
 use crate::sizes::MOST_TYPES;
 use crate::static_data::whole;
-use show_units::{Spans, Units};
+use show_units::{Spanned, Spans, Units};
 use std::alloc::{AllocError, Global};
 
 /// What words name.
@@ -120,6 +120,42 @@ fn follow_all(
     Ok(None)
 }
 
+impl Sought {
+    ghost use Rattle.show_data.specs.Within.{NamesOneMore};
+
+    /// With one more place that has the name.
+    fn and(self, place: Place) -> Sought
+        ensures { NamesOneMore place result }
+    {
+        match self {
+            Sought::Nothing => Sought::One(place),
+            Sought::One(_) | Sought::Several => Sought::Several,
+        }
+    }
+}
+
+/// The place that steps lead to in a variable, where it has a name.
+fn place_in(
+    alloc: Global,
+    units: &Units,
+    span: Spanned,
+    variable: &str,
+    steps: &str,
+) -> Result<Option<Place>, AllocError>
+    ensures { IfOk result (λ place. IfSome place (IsInSpan span)) }
+{
+    if units.name(span.entry) != Some(variable) {
+        return Ok(None);
+    }
+    let Some(part) = whole(units, span) else {
+        return Ok(None);
+    };
+    match follow_all(alloc, units, part, steps)? {
+        Some(found) => Ok(Some(found.place)),
+        None => Ok(None),
+    }
+}
+
 /// The bytes of static data that words name, as `slots[3].item`.
 pub fn place_of(
     alloc: Global,
@@ -127,22 +163,13 @@ pub fn place_of(
     data: &Spans,
     words: &str,
 ) -> Result<Sought, AllocError>
-    ensures { IfOk result (NamesWithin data.now.items.items) }
+    ensures { IfOk result (NamesWithin «data».now.items.items) }
 {
     let (variable, steps) = split(words);
     let mut sought = Sought::Nothing;
     for span in data.items() {
-        if units.name(span.entry) != Some(variable) {
-            continue;
-        }
-        let Some(part) = whole(units, *span) else {
-            continue;
-        };
-        if let Some(found) = follow_all(alloc, units, part, steps)? {
-            sought = match sought {
-                Sought::Nothing => Sought::One(found.place),
-                _ => Sought::Several,
-            };
+        if let Some(place) = place_in(alloc, units, *span, variable, steps)? {
+            sought = sought.and(place);
         }
     }
     Ok(sought)
