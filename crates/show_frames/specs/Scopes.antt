@@ -2,7 +2,10 @@
 use Rattle.std.specs.Prelude.{◌≡◌, ℕ, List, [], ◌∷◌, Option, Some, None}
 use Rattle.show_units.specs.declared.spans.Spanned.{Spanned}
 
--- The first is the function; without one there are none.
-abbrev pub BeginWith : Option Spanned → List ℕ → Type 0
-BeginWith None scopes = scopes ≡ []
-BeginWith (Some function) scopes = (rest : List ℕ) × (scopes ≡ function.entry ∷ rest)
+abbrev pub BeginsWith : ℕ → List ℕ → Type 0
+BeginsWith first scopes = (rest : List ℕ) × (scopes ≡ first ∷ rest)
+
+-- The first is the function's entry; without a function there are none.
+abbrev pub AreOf : Option Spanned → List ℕ → Type 0
+AreOf None scopes = scopes ≡ []
+AreOf (Some function) scopes = BeginsWith function.entry scopes

@@ -10,11 +10,11 @@ mod functions;
 mod inlined;
 mod kinds;
 mod scopes;
-mod type_words;
 mod variables;
+mod wording;
 
 pub use functions::read_functions;
 pub use inlined::{Inlined, inlined_at};
 pub use kinds::Kind;
-pub use type_words::type_words;
 pub use variables::{Variable, variables_at};
+pub use wording::type_words;

@@ -2,7 +2,7 @@
 
 ghost use Rattle.std.specs.Prelude.{◌<◌, find, IfOk, IfSome};
 ghost use Rattle.show_units.specs.Spans.{holds};
-ghost use Rattle.show_frames.specs.Scopes.{BeginWith};
+ghost use Rattle.show_frames.specs.Scopes.{BeginsWith, AreOf};
 
 use show_units::{Spans, Tag, Units};
 use std::alloc::{AllocError, Global};
@@ -28,20 +28,17 @@ fn inner(
     Ok(None)
 }
 
-/// The scopes that have the code at an offset, the function first.
-pub(crate) fn scopes_at(
+/// A function and the scopes in it that have the code at an offset.
+fn scopes_from(
     alloc: Global,
     units: &Units,
-    functions: &Spans,
+    function: usize,
     offset: u64,
 ) -> Result<Vec<usize>, AllocError>
-    ensures { IfOk result (λ scopes. BeginWith (find (holds offset) functions.now.items.items) scopes.items) }
+    ensures { IfOk result (λ scopes. BeginsWith function scopes.items) }
 {
     let mut scopes = Vec::new(alloc);
-    let Some(function) = functions.at(offset) else {
-        return Ok(scopes);
-    };
-    let mut scope = function.entry;
+    let mut scope = function;
     scopes.push(scope)?;
     for _ in 0..MOST_SCOPES {
         match inner(alloc, units, scope, offset)? {
@@ -51,4 +48,19 @@ pub(crate) fn scopes_at(
         scopes.push(scope)?;
     }
     Ok(scopes)
+}
+
+/// The scopes that have the code at an offset, the function first.
+pub(crate) fn scopes_at(
+    alloc: Global,
+    units: &Units,
+    functions: &Spans,
+    offset: u64,
+) -> Result<Vec<usize>, AllocError>
+    ensures { IfOk result (λ scopes. AreOf (find (holds offset) functions.now.items.items) scopes.items) }
+{
+    match functions.at(offset) {
+        Some(function) => scopes_from(alloc, units, function.entry, offset),
+        None => Ok(Vec::new(alloc)),
+    }
 }

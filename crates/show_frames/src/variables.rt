@@ -2,7 +2,7 @@
 
 use crate::kinds::{Kind, kind_of};
 use crate::scopes::scopes_at;
-use crate::type_words::type_words;
+use crate::wording::type_words;
 use show_data::size_of;
 use show_units::{Base, Location, Spans, Tag, Units};
 use std::alloc::{AllocError, Global};
