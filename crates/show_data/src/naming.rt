@@ -1,5 +1,8 @@
 //! From addresses to words.
 
+ghost use Rattle.std.specs.Prelude.{IfOk, OnSome, IsSome, find};
+ghost use Rattle.show_units.specs.Spans.{holds};
+
 use crate::members::members;
 use crate::parts::{Part, Shape};
 use crate::sizes::MOST_TYPES;
@@ -80,7 +83,9 @@ pub fn name_at(
     units: &Units,
     data: &Spans,
     address: u64,
-) -> Result<Option<String>, AllocError> {
+) -> Result<Option<String>, AllocError>
+    ensures { IfOk result (λ words. OnSome words (IsSome (find (holds address) «data».now.items.items))) }
+{
     let Some(span) = data.at(address) else {
         return Ok(None);
     };

@@ -3,25 +3,42 @@
 use show_data::{name_at, place_of, read_data};
 use show_frames::{inlined_at, read_functions, variables_at};
 use show_lines::DebugSections;
-use show_units::{InfoSections, read_units};
+use show_units::{InfoSections, Spans, Units, read_units};
 use std::alloc::{AllocError, Global};
 use std::fmt::Write;
+
+/// Asks for the names of data, and for what they name.
+fn ask_data(alloc: Global, units: &Units) -> Result<(), AllocError> {
+    let data = read_data(alloc, units)?;
+    for span in data.items() {
+        if let Some(words) = name_at(alloc, units, &data, span.start)? {
+            place_of(alloc, units, &data, words.as_str())?;
+        }
+    }
+    Ok(())
+}
+
+/// Asks for all that is said of the code at an offset.
+fn ask_code(
+    alloc: Global,
+    units: &Units,
+    lines: DebugSections,
+    functions: &Spans,
+    offset: u64,
+) -> Result<(), AllocError> {
+    drop(inlined_at(alloc, units, lines, functions, offset)?);
+    drop(variables_at(alloc, units, functions, offset)?);
+    Ok(())
+}
 
 /// Asks for all that is said of data and of code.
 fn ask(alloc: Global, sections: InfoSections, lines: DebugSections) -> Result<(), AllocError> {
     let units = read_units(alloc, sections)?;
-    let data = read_data(alloc, &units)?;
-    for span in data.items() {
-        if let Some(words) = name_at(alloc, &units, &data, span.start)? {
-            place_of(alloc, &units, &data, words.as_str())?;
-        }
-    }
+    ask_data(alloc, &units)?;
     let functions = read_functions(alloc, &units)?;
     for span in functions.items() {
-        for offset in [span.start, span.start / 2 + span.end / 2] {
-            drop(inlined_at(alloc, &units, lines, &functions, offset)?);
-            drop(variables_at(alloc, &units, &functions, offset)?);
-        }
+        ask_code(alloc, &units, lines, &functions, span.start)?;
+        ask_code(alloc, &units, lines, &functions, span.end.saturating_sub(2))?;
     }
     Ok(())
 }

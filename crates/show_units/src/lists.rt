@@ -1,6 +1,8 @@
 //! Lists of ranges and of locations (DWARF 5, sections 2.6.2, 2.17.3, 7.25 and 7.28; DWARF 4, sections 2.6.2 and
 //! 2.17.3).
 
+ghost use Rattle.std.specs.Prelude.{◌≡◌, ◌&&◌, nat_le, nat_lt};
+
 use crate::attributes::Attribute;
 use crate::cursor::Cursor;
 use crate::entries::Units;
@@ -19,7 +21,9 @@ pub struct CodeRange {
 
 impl CodeRange {
     /// Whether an offset is within it.
-    pub fn contains(self, offset: u64) -> bool {
+    pub fn contains(self, offset: u64) -> bool
+        ensures { result ≡ (nat_le self.start offset && nat_lt offset self.end) }
+    {
         self.start <= offset && offset < self.end
     }
 }
