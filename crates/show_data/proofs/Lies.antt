@@ -1,5 +1,5 @@
 -- What lies within what lies within a place, and what words name.
-use Rattle.std.proofs.Common.{◌≡◌, ◌+◌, ◌≤◌, ℕ, List, Contains, sym, subst, arith}
+use Rattle.std.proofs.Common.{List, Contains, sym, subst, arith}
 use Rattle.show_units.specs.declared.spans.Spanned.{Spanned}
 use Rattle.show_data.specs.declared.place.Place.{Place}
 use Rattle.show_data.specs.declared.words.Sought.{Sought}

@@ -1,4 +1,4 @@
-use Rattle.std.proofs.Common.{rules, All, ℕ, ◌≡◌, ◌++◌, ◌∷◌, [], arith}
+use Rattle.std.proofs.Common.{rules, arith}
 use Rattle.std.proofs.lemmas.Grind.{common_steps}
 use Rattle.std.proofs.lemmas.List.Elements.{All-push}
 use Rattle.show_data.specs.declared.parts.Part.{Part}

@@ -1,6 +1,6 @@
-use Rattle.std.proofs.Common.{◌≡◌, ◌<◌, ◌≤◌, ◌+◌, length, List, sym, subst, ap, ◌∙◌, find, Some, None, get_or, arith}
+use Rattle.std.proofs.Common.{List, sym, subst, arith}
 use Rattle.show_units.specs.declared.spans.Spanned.{Spanned}
-use Rattle.show_units.specs.Spans.{holds, AreInOrder}
+use Rattle.show_units.specs.Spans.{AreInOrder}
 use Rattle.show_units.proofs.Search.{ended_before, not_ended_behind, one_has, all_ended, none_has}
 use Rattle.show_units.proofs.spans.Spans.at.Goals as goal
 use Rattle.show_units.proofs.spans.Spans.at.Goals.{else-low-items-via-then-low-items+else-items-low, else-low-items-via-else-low-items}

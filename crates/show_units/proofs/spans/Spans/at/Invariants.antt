@@ -1,4 +1,4 @@
-use Rattle.std.proofs.Common.{◌≡◌, ◌<◌, ◌≤◌, ◌-◌, ℕ, length, get_or}
+use Rattle.std.proofs.Common.{◌<◌, ◌≤◌, ◌-◌, ℕ, length, get_or}
 use Rattle.show_units.specs.declared.spans.Spanned.{Spanned}
 use Rattle.show_units.proofs.spans.Spans.at.Given as goal
 
