@@ -1,6 +1,8 @@
 //! The races of a recorded run by the program: what is printed, or why there is nothing to print.
 ghost use Rattle.std.specs.Prelude.{◌≡◌, ◌≤◌, ◌⊎◌, IfOk, IfErr};
 ghost use Rattle.report_jobs.specs.Jobs.{IsNoRecordOf, IsNoValidModule, IsUnfit};
+ghost use Rattle.report_jobs.specs.Prints.{changed};
+ghost use Rattle.report_jobs.specs.Told.{TellsWhatIsWrong};
 ghost use Rattle.report.specs.Raced.{IsRaceFree, IsRacy, OfModule, Says, SaysOf, kinds_of};
 
 use crate::showing::{CodeBytes, SeenRun, rows_of, unfit_of};
@@ -32,6 +34,8 @@ pub fn races_saved<W: Write, E: Write, S: Write>(
     ensures racy { result ≡ 1 → OfModule IsRacy «module».now saved.now }
     ensures refused { result ≡ 2 → IsNoValidModule «module».now }
     ensures none { result ≡ 4 → IsNoRecordOf «module».now saved.now }
+    ensures told { result ≡ 4
+        → TellsWhatIsWrong «module».now saved.now (changed E.contents streams.old.err streams.new.err) }
     ensures status { (result ≤ 2) ⊎ (result ≡ 4) ⊎ (result ≡ 5) }
 {
     let Streams { out, err, .. } = streams;
