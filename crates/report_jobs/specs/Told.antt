@@ -25,7 +25,8 @@ pub record Tells (old new : Option (List ℕ)) (text : List ℕ) : Type 0 where
 -- The line that says which line of a text isn't that of a record.
 abbrev pub unread_line : RecordFault → List ℕ
 unread_line (records.Header line) = codes "record refused: header line " ++ (decimal line ++ 10 ∷ [])
-unread_line (records.Unreadable line) = codes "record refused: line " ++ (decimal line ++ (codes " unreadable" ++ 10 ∷ []))
+unread_line (records.Unreadable line) = codes "record refused: line "
+    ++ (decimal line ++ (codes " unreadable" ++ 10 ∷ []))
 unread_line records.EndMissing = codes "record refused: end missing" ++ 10 ∷ []
 unread_line records.NoMemory = codes "record refused: no memory" ++ 10 ∷ []
 

@@ -23,8 +23,8 @@ use std::thread::Threads;
 /// Answers the program's status: 0 where the module was accepted or all threads ended well, 1 for a trap or stop, 2 for
 /// a refused module, 3 for a refused run, 4 for a refused record, 5 where memory, a thread or a stream failed. A write
 /// to `err` that fails doesn't change it. At 2, 3 and 4 neither standard output nor the record's writer is written to
-/// or flushed, nor is that writer where no record is wanted. At 4 the line about it names the first line of the record's
-/// text that is wrong or doesn't fit.
+/// or flushed, nor is that writer where no record is wanted. At 4 the line about it names the first line of the
+/// record's text that is wrong or doesn't fit.
 pub fn perform_plain<R, W, E, S>(
     rt: &R,
     alloc: Global,

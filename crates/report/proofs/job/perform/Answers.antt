@@ -44,6 +44,6 @@ returns-in-Search-clause-performs g c =
 
 pub returns-in-Search-clause-told : goal.returns-in-Search-clause-told
 returns-in-Search-clause-told g c = λ four. elim c.search.ensures.status [
-    inl low ↦ absurd (omega (arith, four, low))
-    | inr five ↦ absurd (omega (arith, four, five))
-  ]
+  | inl low ↦ absurd (omega (arith, four, low))
+  | inr five ↦ absurd (omega (arith, four, five))
+]
