@@ -13,7 +13,7 @@ plant() {
     rm -rf "$room/crates"
     tar -C "$top" --exclude=out -cf - crates.txt crates | tar -C "$room" -xf -
     told="$room/crates/waiters_desk/src/told.rt"
-    sed -i "0,/changed\.notify_all();/s//$2/" "$told"
+    sed -i "0,/bell\.changed\.notify_all();/s//$2/" "$told"
     if cmp -s "$told" "$top/crates/waiters_desk/src/told.rt"; then
         echo "$1: not planted"
         missed=1
@@ -30,6 +30,6 @@ plant() {
     fi
 }
 
-plant "one is woken in place of all" 'changed.notify_one();'
-plant "nobody is woken" 'let _ = changed;'
+plant "one is woken in place of all" 'bell.changed.notify_one();'
+plant "nobody is woken" 'let _ = bell;'
 exit $missed

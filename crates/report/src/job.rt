@@ -5,6 +5,7 @@ ghost use Rattle.report_command.specs.Searches.{IsSearchInRange};
 ghost use Rattle.report_jobs.specs.Jobs.{HasNoSuchCall, IsNoValidModule};
 ghost use Rattle.report_jobs.specs.Prints.{changed};
 ghost use Rattle.report_jobs.specs.Silence.{IsRefusal, Stays};
+ghost use Rattle.report_jobs.specs.Told.{TellsWhatIsWrong};
 ghost use Rattle.report.specs.Prints.{HasSearched};
 ghost use Rattle.report.specs.Jobs.{Performs};
 ghost use Rattle.report.specs.Silent.{writes_file};
@@ -32,7 +33,7 @@ use validate_module::ValidModule;
 /// Answers the program's status: 0 where the module was accepted or all threads ended well, 1 for a trap or stop, or
 /// where a search found a run, has not all endings or none, 2 for a refused module, 3 for a refused run, 4 for a
 /// refused record, 5 where memory, a thread or a stream failed. A write about what went wrong that fails doesn't change
-/// it.
+/// it. At 4 that is the line which names the first line of the record's text that is wrong or doesn't fit.
 pub fn perform<R, W, E, S, F>(
     rt: &R,
     alloc: Global,
@@ -52,6 +53,8 @@ where
     ensures performs { Performs job.now «module».now saved.now
         (changed W.contents streams.old.out streams.new.out)
         (changed S.contents streams.old.save streams.new.save) result }
+    ensures told { result ≡ 4
+        → TellsWhatIsWrong «module».now saved.now (changed E.contents streams.old.err streams.new.err) }
     ensures silent { IsRefusal result → Stays streams.old.out streams.new.out × Stays streams.old.save streams.new.save }
     ensures unwanted { writes_file job.now ≡ false → Stays streams.old.save streams.new.save }
 {

@@ -4,6 +4,7 @@ ghost use Rattle.report_jobs.specs.Jobs.{IsNoRecordOf, IsNoValidModule, IsUnfit}
 ghost use Rattle.report_jobs.specs.Silence.{IsRefusal, Stays};
 ghost use Rattle.report.specs.Silent.{IfRefusedRecord};
 ghost use Rattle.report_jobs.specs.Prints.{changed};
+ghost use Rattle.report_jobs.specs.Told.{TellsWhatIsWrong};
 ghost use Rattle.report.specs.Raced.{IsRaceFree, IsRacy, OfModule, PrintsRaces, Says, SaysOf, WritesRaces, kinds_of};
 
 use crate::showing::{CodeBytes, SeenRun, rows_of, unfit_of};
@@ -37,6 +38,8 @@ pub fn races_saved<W: Write, E: Write, S: Write>(
         «module».now saved.now }
     ensures refused { result ≡ 2 → IsNoValidModule «module».now }
     ensures none { result ≡ 4 → IsNoRecordOf «module».now saved.now }
+    ensures told { result ≡ 4
+        → TellsWhatIsWrong «module».now saved.now (changed E.contents streams.old.err streams.new.err) }
     ensures status { (result ≤ 2) ⊎ (result ≡ 4) ⊎ (result ≡ 5) }
     ensures silent { IsRefusal result → Stays streams.old.out streams.new.out }
     ensures unwanted { Stays streams.old.save streams.new.save }

@@ -2,8 +2,10 @@
 ghost use Rattle.std.specs.Prelude.{◌≡◌, ◌⊎◌, ℕ, List, IfOk, IfErr, is_some, false};
 ghost use Rattle.types.specs.declared.parts.Parts.{Parts};
 ghost use Rattle.spawn_host.specs.declared.end.EndState.{EndState};
-ghost use Rattle.replay.specs.Runs.{IsRunOf, ShowsNoRun};
+ghost use Rattle.replay.specs.Runs.{IsRunOf, IsReplayFault, ShowsNoRun};
 ghost use Rattle.report_jobs.specs.Jobs.{IsNoRecordOf, IsNoValidModule, IsUnfit, IsRecordOf, IsOfRun};
+ghost use Rattle.report_jobs.specs.Prints.{changed};
+ghost use Rattle.report_jobs.specs.Told.{TellsWhatIsWrong};
 ghost use Rattle.report_command.specs.Views.{path_of};
 ghost use Rattle.report_jobs.specs.Silence.{IsRefusal, Stays};
 ghost use Rattle.report.specs.Raced.{AreRowsOf, IsSeen};
@@ -41,6 +43,8 @@ pub fn show_saved<W: Write, E: Write, S: Write>(
     ensures shown { result ≡ 0 → IsRecordOf «module».now saved.now }
     ensures refused { result ≡ 2 → IsNoValidModule «module».now }
     ensures none { result ≡ 4 → IsNoRecordOf «module».now saved.now }
+    ensures told { result ≡ 4
+        → TellsWhatIsWrong «module».now saved.now (changed E.contents streams.old.err streams.new.err) }
     ensures status { (result ≡ 0) ⊎ (result ≡ 2) ⊎ (result ≡ 4) ⊎ (result ≡ 5) }
     ensures silent { IsRefusal result → Stays streams.old.out streams.new.out × Stays streams.old.save streams.new.save }
     ensures unwanted { is_some (path_of view.entry) ≡ false → Stays streams.old.save streams.new.save }
@@ -66,6 +70,8 @@ fn show_to<W: Write, E: Write>(
     ensures shown { result ≡ 0 → IsRecordOf code.entry.«module».now saved.now }
     ensures refused { result ≡ 2 → IsNoValidModule code.entry.«module».now }
     ensures none { result ≡ 4 → IsNoRecordOf code.entry.«module».now saved.now }
+    ensures told { result ≡ 4
+        → TellsWhatIsWrong code.entry.«module».now saved.now (changed E.contents err.old err.new) }
     ensures status { (result ≡ 0) ⊎ (result ≡ 2) ⊎ (result ≡ 4) ⊎ (result ≡ 5) }
     ensures silent { IsRefusal result → Stays out.old out.new }
 {
@@ -167,6 +173,7 @@ fn watched(
 ) -> Result<Vec<Option<Row>>, ReplayFault>
     ensures run { IfOk result (λ rows. (end : EndState) × IsRunOf «module».now.parts «record».now end
         × AreRowsOf «module».now.parts «record».now end rows.items) }
+    ensures fault { IfErr result (λ fault. IsReplayFault «module».now.parts «record».now fault) }
     ensures none { IfErr result (λ fault. ShowsNoRun «module».now.parts «record».now fault) }
 {
     let mut rows = match Rows::new(alloc, record.parts().log.as_slice()) {

@@ -5,3 +5,4 @@ pub mod Calls
 pub mod Printed
 pub mod Asking
 pub mod Silent
+pub mod Said

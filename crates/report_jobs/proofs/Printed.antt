@@ -2,7 +2,6 @@
 use Rattle.std.proofs.Common.{◌≡◌, ℕ, Bool, true, false, List, sym, subst}
 use Rattle.std.specs.Prelude.{is_some}
 use Rattle.std.specs.Bool.{MatchBool}
-use Rattle.types.specs.declared.parts.Parts.{Parts}
 use Rattle.spawn_host.specs.Entries.{Takes}
 use Rattle.spawn_host.specs.Requests.{Requested}
 use Rattle.spawn_host.specs.declared.end.EndState.{EndState}

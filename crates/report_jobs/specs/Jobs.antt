@@ -7,9 +7,12 @@ use Rattle.validate_typing.specs.Validity.{IsValid}
 use Rattle.binary.specs.Grammar.{IsModuleText}
 use Rattle.replay_text.specs.declared.parts.RecordParts.{RecordParts}
 use Rattle.replay_text.specs.Text.{record_text, IsRecord}
+use Rattle.replay_text.specs.Breaks.{IsFaultOf}
+use Rattle.replay_text.specs.declared.fault.RecordFault.{RecordFault}
 use Rattle.spawn_host.specs.declared.end.EndState.{EndState}
 use Rattle.replay.specs.declared.fault.ReplayFault.{ReplayFault}
-use Rattle.replay.specs.Runs.{IsRunOf, ShowsNoRun}
+use Rattle.replay.specs.declared.fault.ReplayFault.TheVariants as replays
+use Rattle.replay.specs.Runs.{IsRunOf, IsReplayFault, ShowsNoRun}
 use Rattle.report_lines.specs.Lines.{functions_line, end_lines}
 use Rattle.report_lines.specs.Ends.{status_of}
 use Rattle.report_command.specs.declared.call.CallWords.{CallWords}
@@ -75,17 +78,36 @@ pub record PrintsReplay (m : Parts) (saved : List ℕ) (dump : ℕ) (old new : O
 abbrev pub IsOfNoRun : Parts → List ℕ → Type 0
 IsOfNoRun m saved = (r : RecordParts) (end : EndState) → IsRecord r → saved ≡ record_text r → IsRunOf m r end → ⊥
 
+-- The bytes are no record's text, and this is their fault.
+pub record IsUnread (m : Parts) (saved : List ℕ) (fault : RecordFault) : Type 0 where
+  pub first : IsFaultOf saved fault
+  pub none : IsOfNoRun m saved
+
+-- They are a record's text, and this is its first line that doesn't fit the module.
+pub record IsMisfit (m : Parts) (saved : List ℕ) (fault : ReplayFault) : Type 0 where
+  pub record_is : RecordParts
+  pub ranges : IsRecord record_is
+  pub text : saved ≡ record_text record_is
+  pub first : IsReplayFault m record_is fault
+  pub none : IsOfNoRun m saved
+
 abbrev pub IsUnfit : Parts → List ℕ → Unfit → Type 0
-IsUnfit m saved (Unread fault) = IsOfNoRun m saved
-IsUnfit m saved (Misfit fault) = IsOfNoRun m saved
+IsUnfit m saved (Unread fault) = IsUnread m saved fault
+IsUnfit m saved (Misfit fault) = IsMisfit m saved fault
 IsUnfit m saved NoMemory = Unit {0}
 IsUnfit m saved Output = Unit {0}
+
+-- What a replay's fault comes to.
+abbrev pub unfit_by : ReplayFault → Unfit
+unfit_by (replays.Line line) = Misfit (replays.Line line)
+unfit_by (replays.EndLine line) = Misfit (replays.EndLine line)
+unfit_by replays.NoMemory = NoMemory
 
 -- What a replay's fault says of the text of its record.
 abbrev pub IsUnfitFor : ReplayFault → Unfit → Type 0
 IsUnfitFor fault unfit =
-    (m : Parts) (r : RecordParts) (saved : List ℕ) → IsRecord r → saved ≡ record_text r → ShowsNoRun m r fault
-    → IsUnfit m saved unfit
+    (m : Parts) (r : RecordParts) (saved : List ℕ) → IsRecord r → saved ≡ record_text r → IsReplayFault m r fault
+    → ShowsNoRun m r fault → IsUnfit m saved unfit
 
 -- A status says of what was refused: with 4 the bytes are the text of no record of a run of the module.
 abbrev pub IsStatusOfUnfit : Unfit → ℕ → Type 0

@@ -5,3 +5,4 @@ pub mod Prints
 pub mod Troubles
 pub mod Plain
 pub mod Silence
+pub mod Told

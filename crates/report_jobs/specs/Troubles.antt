@@ -2,7 +2,6 @@
 use Rattle.std.specs.Prelude.{ℕ, ◌≡◌, ◌⊎◌, List}
 use Rattle.types.specs.declared.value.Value.{Value}
 use Rattle.types.specs.declared.parts.Parts.{Parts}
-use Rattle.spawn_host_workers.specs.declared.report.StartFault.{StartFault}
 use Rattle.spawn_host_workers.specs.declared.report.StartFault.TheVariants as start_faults
 use Rattle.spawn_host.specs.declared.running.RunFault.{RunFault}
 use Rattle.spawn_host.specs.declared.running.RunFault.TheVariants as run_faults

@@ -9,11 +9,13 @@ ghost use Rattle.report_jobs.specs.Jobs.{IsNoValidModule, IsStatusOfRefusal, IsS
 ghost use Rattle.report_jobs.specs.Prints.{changed};
 ghost use Rattle.report_jobs.specs.Silence.{IsRefusal, Stays, refusal_status, trouble_status, unfit_status};
 ghost use Rattle.report_jobs.specs.declared.loading.Refusal.{Refusal};
+ghost use Rattle.report_jobs.specs.Told.{Tells, TellsWhatIsWrong, unfit_line};
 ghost use Rattle.report_jobs.specs.Troubles.{IsStatusOfTrouble};
 
 use crate::loading::{Refusal, load, load_checked};
 use crate::replaying::{Unfit, replay_record};
 use crate::running::{Trouble, print_run};
+use crate::telling::say_unfit;
 use binary_wire::ReadFault;
 use report_command::RunJob;
 use std::alloc::Global;
@@ -198,7 +200,8 @@ where
 ///
 /// Answers 0 or 1 only where the record is of a run of the module and its lines were written, 4 only where the bytes
 /// are the text of no record of a run of it, 2 for a refused module, and 5 where memory or a stream failed. At 2 and 4
-/// nothing is written but to `err`.
+/// nothing is written but to `err`; at 4 that is the line that names the first line of the text that is wrong, or which
+/// doesn't fit, as far as `err` takes it.
 pub fn replay_saved<W: Write, E: Write>(
     alloc: Global,
     module: &[u8],
@@ -211,6 +214,7 @@ pub fn replay_saved<W: Write, E: Write>(
         → IsReplayed «module».now saved.now dump (W.contents out.old) (W.contents out.new) result }
     ensures refused { result ≡ 2 → IsNoValidModule «module».now }
     ensures none { result ≡ 4 → IsNoRecordOf «module».now saved.now }
+    ensures told { result ≡ 4 → TellsWhatIsWrong «module».now saved.now (changed E.contents err.old err.new) }
     ensures silent { IsRefusal result → Stays out.old out.new }
     ensures status { (result ≤ 2) ⊎ (result ≡ 4) ⊎ (result ≡ 5) }
 {
@@ -229,24 +233,12 @@ pub fn reject<E: Write>(err: &mut E, unfit: Unfit) -> u8
     ensures status { (result ≡ 4) ⊎ (result ≡ 5) }
     ensures number { result ≡ unfit_status unfit }
     ensures unfit { IsStatusOfUnfit unfit result }
+    ensures told { Tells (E.contents err.old) (E.contents err.new) (unfit_line unfit) }
 {
+    say_unfit(err, unfit);
     match unfit {
-        Unfit::Unread(fault) => {
-            let _ = write!(err, "record refused: {fault}\n");
-            RECORD_REFUSED
-        }
-        Unfit::Misfit(fault) => {
-            let _ = write!(err, "record refused: {fault}\n");
-            RECORD_REFUSED
-        }
-        Unfit::NoMemory => {
-            say(err, "no memory");
-            FAULT
-        }
-        Unfit::Output => {
-            say(err, "file fault: standard output");
-            FAULT
-        }
+        Unfit::Unread(_) | Unfit::Misfit(_) => RECORD_REFUSED,
+        Unfit::NoMemory | Unfit::Output => FAULT,
     }
 }
 

@@ -4,6 +4,7 @@ ghost use Rattle.report_command.specs.Jobs.{IsInRange};
 ghost use Rattle.report_jobs.specs.Plain.{IsPlain, PerformsPlain};
 ghost use Rattle.report_jobs.specs.Prints.{changed};
 ghost use Rattle.report_jobs.specs.Silence.{IsRefusal, Stays, makes_file};
+ghost use Rattle.report_jobs.specs.Told.{TellsWhatIsWrong};
 
 use crate::job::{check, replay_saved, run};
 use crate::streams::Streams;
@@ -22,7 +23,8 @@ use std::thread::Threads;
 /// Answers the program's status: 0 where the module was accepted or all threads ended well, 1 for a trap or stop, 2 for
 /// a refused module, 3 for a refused run, 4 for a refused record, 5 where memory, a thread or a stream failed. A write
 /// to `err` that fails doesn't change it. At 2, 3 and 4 neither standard output nor the record's writer is written to
-/// or flushed, nor is that writer where no record is wanted.
+/// or flushed, nor is that writer where no record is wanted. At 4 the line about it names the first line of the
+/// record's text that is wrong or doesn't fit.
 pub fn perform_plain<R, W, E, S>(
     rt: &R,
     alloc: Global,
@@ -41,6 +43,8 @@ where
     ensures performs { PerformsPlain job.now «module».now saved.now
         (changed W.contents streams.old.out streams.new.out)
         (changed S.contents streams.old.save streams.new.save) result }
+    ensures told { result ≡ 4
+        → TellsWhatIsWrong «module».now saved.now (changed E.contents streams.old.err streams.new.err) }
     ensures silent { IsRefusal result → Stays streams.old.out streams.new.out
         × Stays streams.old.save streams.new.save }
     ensures unwanted { makes_file job.now ≡ false → Stays streams.old.save streams.new.save }

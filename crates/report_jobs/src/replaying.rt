@@ -1,7 +1,7 @@
 //! The replay of a record by the program: what is printed, or why there is nothing to print.
-ghost use Rattle.std.specs.Prelude.{IfOk, IfErr};
+ghost use Rattle.std.specs.Prelude.{◌≡◌, IfOk, IfErr};
 ghost use Rattle.replay_text.specs.Text.{IsRecord};
-ghost use Rattle.report_jobs.specs.Jobs.{PrintsReplay, PrintsReplayOf, IsUnfit, IsUnfitFor, IsUnfitTextOf};
+ghost use Rattle.report_jobs.specs.Jobs.{PrintsReplay, PrintsReplayOf, IsUnfit, IsUnfitFor, IsUnfitTextOf, unfit_by};
 ghost use Rattle.report_jobs.specs.Prints.{changed};
 ghost use Rattle.report_jobs.specs.Silence.{LeavesOut, Stays};
 
@@ -75,7 +75,8 @@ fn print_replay<W: Write>(
 
 /// What the fault of a replay says of the record's bytes.
 pub fn misfit(fault: ReplayFault) -> Unfit
-    ensures { IsUnfitFor fault result }
+    ensures is { result ≡ unfit_by fault }
+    ensures unfit { IsUnfitFor fault result }
 {
     match fault {
         ReplayFault::Line(_) => Unfit::Misfit(fault),

@@ -16,8 +16,9 @@ ghost use Rattle.waiters_desk.specs.Seats.{SeatReads, SeatRefused, SeatSpawns, S
 
 use crate::answers::{Asked, Full, Notified};
 use crate::locked::Locked;
+use crate::told::Bell;
 use shared_memory::SharedMemory;
-use std::sync::{Condvar, Mutex, Wait};
+use std::sync::{Mutex, Wait};
 use types::{Answer, Question};
 
 /// Where threads that share one memory ask one another: they wait and notify, spawn threads and end.
@@ -28,7 +29,7 @@ use types::{Answer, Question};
 /// lock; `collect` and `begin` also wait until there is something to tell. No call takes memory.
 pub struct Desk<M: SharedMemory, W: Wait + Drop> {
     state: Mutex<Locked<M>>,
-    changed: Condvar,
+    bell: Bell,
     rt: W,
 }
 
@@ -36,7 +37,7 @@ impl<M: SharedMemory, W: Wait + Drop> Drop for Desk<M, W> {
     fn drop(self) {
         let Desk {
             state: _,
-            changed: _,
+            bell: _,
             rt: _,
         } = self;
     }
@@ -51,9 +52,10 @@ impl<M: SharedMemory, W: Wait + Drop> Desk<M, W> {
         requires quiet { of_queue (M.seen seat) ≡ [] }
         requires silent { entries_of DESK_NAME (M.seen seat) ≡ [] }
     {
+        let bell = Bell::of::<M>(&seat);
         Desk {
             state: Mutex::new(Locked::new(seat)),
-            changed: Condvar::new(),
+            bell,
             rt,
         }
     }
@@ -67,7 +69,7 @@ impl<M: SharedMemory, W: Wait + Drop> Desk<M, W> {
     {
         let Desk {
             state,
-            changed: _,
+            bell: _,
             rt: _,
         } = self;
         state.into_inner().into_seat()
@@ -86,7 +88,7 @@ impl<M: SharedMemory, W: Wait + Drop> Desk<M, W> {
     {
         self.state
             .lock(&self.rt)
-            .put(&self.changed, memory, seat, question)
+            .put(&self.bell, memory, seat, question)
     }
 
     /// Asks to sleep while the number in `width` bytes at `addr` is the expected one (threads proposal,
@@ -129,7 +131,7 @@ impl<M: SharedMemory, W: Wait + Drop> Desk<M, W> {
         ensures collected { SeatCollects M.SharedMemory seat.old seat.new result }
     {
         let name = memory.name(seat);
-        let mut locked = self.changed.wait_while(
+        let mut locked = self.bell.changed().wait_while(
             &self.rt,
             self.state.lock(&self.rt),
             |locked: &mut Locked<M>| -> bool
@@ -137,7 +139,7 @@ impl<M: SharedMemory, W: Wait + Drop> Desk<M, W> {
                 ensures asleep { result ≡ is_asleep locked.new.queue name }
             { locked.is_asleep(name) },
         );
-        locked.collect(&self.changed, memory, seat)
+        locked.collect(&self.bell, memory, seat)
     }
 
     /// Wakes those that have slept longest at an address that 4 divides, as many as are counted (threads proposal,
@@ -185,7 +187,7 @@ impl<M: SharedMemory, W: Wait + Drop> Desk<M, W> {
         ensures begun { SeatBegins M.SharedMemory seat.old seat.new result }
     {
         let name = memory.name(seat);
-        let mut locked = self.changed.wait_while(
+        let mut locked = self.bell.changed().wait_while(
             &self.rt,
             self.state.lock(&self.rt),
             |locked: &mut Locked<M>| -> bool

@@ -13,10 +13,9 @@ ghost use Rattle.waiters_desk.specs.Seats.{SeatBegins, SeatCollects, SeatPuts, S
 ghost use Rattle.waiters_desk.specs.Locks.{WaitsReadWhatNotifiersSaw};
 
 use crate::answers::{Asked, Full};
-use crate::told::Told;
+use crate::told::{Bell, Told};
 use crate::turn::{hear, put};
 use shared_memory::SharedMemory;
-use std::sync::Condvar;
 use types::{Answer, MOST_THREADS, Question};
 use waiters::Queue;
 
@@ -91,7 +90,7 @@ impl<M: SharedMemory> Locked<M> {
     /// Asks a question, and takes the answer unless the thread falls asleep. Then it tells all who wait.
     pub(crate) fn put(
         &mut self,
-        changed: &Condvar,
+        bell: &Bell,
         memory: &M,
         seat: &mut M::Seat,
         question: Question,
@@ -108,12 +107,12 @@ impl<M: SharedMemory> Locked<M> {
         memory.meet(seat, &mut self.seat);
         let asked = put(memory, seat, &mut self.queue, question);
         memory.meet(seat, &mut self.seat);
-        self.told = Told::tell_all(changed, &self.queue);
+        self.told = Told::tell_all(bell, &self.queue);
         asked
     }
 
     /// Takes the answer to an open question, and tells all who wait.
-    pub(crate) fn collect(&mut self, changed: &Condvar, memory: &M, seat: &mut M::Seat) -> Answer
+    pub(crate) fn collect(&mut self, bell: &Bell, memory: &M, seat: &mut M::Seat) -> Answer
         requires waiting { IsWaiting (queue_after (M.seen seat.old)) (M.name seat.old) }
         requires awake { is_asleep self.old.queue (M.name seat.old) ≡ false }
         ensures stays { SeatStays M.SharedMemory seat.old seat.new }
@@ -121,7 +120,7 @@ impl<M: SharedMemory> Locked<M> {
     {
         memory.meet(seat, &mut self.seat);
         let answer = hear(memory, seat, &mut self.queue);
-        let told = Told::tell_all(changed, &self.queue);
+        let told = Told::tell_all(bell, &self.queue);
         memory.meet(seat, &mut self.seat);
         self.told = told;
         answer

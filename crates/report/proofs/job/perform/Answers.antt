@@ -1,3 +1,4 @@
+use Rattle.std.proofs.Common.{arith, inl, inr}
 use Rattle.report_jobs.specs.Prints.{changed}
 use Rattle.report.proofs.Plain.{is_plain, performs}
 use Rattle.report.proofs.job.perform.Goals as goal
@@ -41,3 +42,9 @@ returns-in-Search-clause-performs g c =
       cannot = c.search.ensures.cannot;
       statuses = c.search.ensures.status;
     })
+
+pub returns-in-Search-clause-told : goal.returns-in-Search-clause-told
+returns-in-Search-clause-told g c = λ four. elim c.search.ensures.status [
+  | inl low ↦ absurd (omega (arith, four, low))
+  | inr five ↦ absurd (omega (arith, four, five))
+]

@@ -13,4 +13,4 @@ returns-in-Ok-print-clause-prints g c = λ saved text. record {
 
 pub returns-clause-unfit : goal.returns-clause-unfit
 returns-clause-unfit g c = λ saved text.
-    c.misfit.ensures c.args.module.now.parts c.args.recorded.now saved c.requires text c.in-Err.ensures.none
+    c.misfit.ensures.unfit c.args.module.now.parts c.args.recorded.now saved c.requires text c.in-Err.ensures.fault c.in-Err.ensures.none

@@ -1,7 +1,6 @@
 use Rattle.std.proofs.Common.{IfOk, subst, ℤ, w64, to_z, of_z}
 use Rattle.std.proofs.lemmas.Result.{IfOk-weaker}
 use Rattle.std.proofs.Math.Facts.{to_z-of_z}
-use Rattle.waiters_desk.specs.declared.answers.Asked.{Asked}
 use Rattle.waiters_desk.specs.Calls.{Waits}
 use Rattle.waiters_desk.specs.Locks.{WaitReads}
 use Rattle.waiters_desk.proofs.Locks.{wait_reads}
