@@ -8,9 +8,12 @@
 
 mod cursor;
 mod fault;
+mod files;
 mod header;
 mod program;
 mod table;
 mod unit;
 
+pub use files::{Files, read_files};
+pub use header::Source;
 pub use table::{DebugSections, LineTable, Range, read_lines};

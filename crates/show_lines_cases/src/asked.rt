@@ -1,8 +1,11 @@
 //! What is asked of a module, by the key of a case.
 
+use crate::data::{write_data, write_sought};
+use crate::frames::{write_inlined, write_variables};
 use crate::lines::{write_cut_lines, write_directories, write_lines, write_short};
 use crate::names::{write_exports, write_names};
 use crate::places::{write_cut_places, write_places};
+use crate::spoiled::{write_changed_info, write_cut_info};
 use std::alloc::{AllocError, Global};
 use test_cases::Case;
 
@@ -25,9 +28,18 @@ enum Asked {
     Places,
     /// The same where the code section is cut.
     CutPlaces,
+    /// The names of addresses from one up to another.
+    Data,
+    /// The calls of functions that were put in their places, at offsets of the code.
+    Inlined,
+    /// The variables in scope at offsets of the code.
+    Variables,
+    /// All of these where a section of debug information is cut, or one of its bytes is another.
+    CutInfo,
+    ChangedInfo,
 }
 
-static KEYS: [(&str, Asked); 8] = [
+static KEYS: [(&str, Asked); 13] = [
     ("lines", Asked::Lines),
     ("directories", Asked::Directories),
     ("cut-lines", Asked::CutLines),
@@ -36,6 +48,11 @@ static KEYS: [(&str, Asked); 8] = [
     ("exports", Asked::Exports),
     ("places", Asked::Places),
     ("cut-places", Asked::CutPlaces),
+    ("data", Asked::Data),
+    ("inlined", Asked::Inlined),
+    ("variables", Asked::Variables),
+    ("cut-info", Asked::CutInfo),
+    ("changed-info", Asked::ChangedInfo),
 ];
 
 /// The numbers of a text.
@@ -63,6 +80,11 @@ fn tell_asked(
         Asked::Exports => write_exports(alloc, module, numbers, given),
         Asked::Places => write_places(alloc, module, given),
         Asked::CutPlaces => write_cut_places(alloc, module, given),
+        Asked::Data => write_data(alloc, module, numbers, given),
+        Asked::Inlined => write_inlined(alloc, module, numbers, given),
+        Asked::Variables => write_variables(alloc, module, numbers, given),
+        Asked::CutInfo => write_cut_info(alloc, module, given),
+        Asked::ChangedInfo => write_changed_info(alloc, module, given),
     }
 }
 
@@ -73,6 +95,9 @@ pub fn tell(
     module: &[u8],
     given: &mut String,
 ) -> Result<(), AllocError> {
+    if let Some(words) = case.get("sought") {
+        write_sought(alloc, module, words, given)?;
+    }
     let mut numbers = Vec::new(alloc);
     for (key, asked) in &KEYS {
         if let Some(text) = case.get(key) {

@@ -1,4 +1,5 @@
-//! Cases of what is shown of a module: lines of source, names of functions and places of instructions. A file of cases
+//! Cases of what is shown of a module: lines of source, names of functions, places of instructions,
+//! names of static data, functions in the place of their calls, and variables. A file of cases
 //! is one for the library `test_cases`; the keys of what is asked are those of `asked.rt`.
 //!
 //! ```text
@@ -9,8 +10,11 @@
 #![tactic(auto)]
 
 mod asked;
+mod data;
+mod frames;
 mod lines;
 mod names;
 mod places;
+mod spoiled;
 
 pub use asked::tell;

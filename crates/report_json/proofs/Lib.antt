@@ -1,0 +1,4 @@
+pub mod Sent
+pub mod Fields
+pub mod Digits
+pub mod RowTexts

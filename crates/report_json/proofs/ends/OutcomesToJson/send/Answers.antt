@@ -1,0 +1,10 @@
+use Rattle.std.proofs.Common.{rules}
+use Rattle.std.proofs.lemmas.Result.{on_ok_weaker}
+use Rattle.report_json.specs.Ends.{ended_json}
+use Rattle.report_json.proofs.Sent.{numbered_sent}
+use Rattle.report_json.proofs.ends.OutcomesToJson.send.Goals as goal
+
+pub returns : goal.returns
+returns g c =
+    on_ok_weaker c.end_seq.result (numbered_sent ended_json c.args.self.now.0.now _ c.loop-thread.thread _ _ _ _ (search rules)
+    c.loop-thread-test.false c.in_ok-begin_seq.ensures c.loop-thread.invariant) c.end_seq.ensures

@@ -1,0 +1,86 @@
+-- How threads and runs end.
+use Rattle.std.specs.Prelude.{ℕ, Bool, true, false, nat_lt, List, [], ◌∷◌, codes, take, Option, Some, None, option_and_then}
+use Rattle.std.specs.List.{slice_get}
+use Rattle.types.specs.declared.value.Value.{Value}
+use Rattle.types.specs.declared.value.Value.TheVariants as values
+use Rattle.types.specs.declared.outcome.Trap.{Trap}
+use Rattle.types.specs.declared.outcome.Stop.{Stop}
+use Rattle.types.specs.declared.outcome.Outcome.{Outcome}
+use Rattle.types.specs.declared.outcome.Outcome.TheVariants as outcomes
+use Rattle.types.specs.declared.outcome.ThreadReport.{ThreadReport}
+use Rattle.types.specs.Outcomes.{trap_words, trap_number, stop_words, stop_number}
+use Rattle.replay_forms.specs.Texts.{hex_text}
+use Rattle.report_lines.specs.Ends.{status_of}
+use Rattle.report_json.specs.declared.places.Place.{Place}
+use Rattle.report_json.specs.declared.ends.RunEnd.{RunEnd}
+use Rattle.report_json.specs.Json.{Json, Field, null, number, text, list, is, is_given, are_some, numbered, object_of}
+use Rattle.report_json.specs.Places.{place_json}
+
+-- What a function returned: null, or the number under its type.
+abbrev pub result_json : Option Value → Json
+result_json None = null
+result_json (Some (values.I32 n)) = object_of (is (codes "i32") (number n) ∷ [])
+result_json (Some (values.I64 n)) = object_of (is (codes "i64") (number n) ∷ [])
+
+-- A trap or a stop: its words and its number.
+abbrev pub trap_fields : Trap → List Field
+trap_fields t = is (codes "trap") (text (trap_words t)) ∷ is (codes "number") (number (trap_number t)) ∷ []
+
+abbrev pub stop_fields : Stop → List Field
+stop_fields s = is (codes "stop") (text (stop_words s)) ∷ is (codes "number") (number (stop_number s)) ∷ []
+
+-- How a thread ended.
+abbrev pub outcome_fields : Outcome → List Field
+outcome_fields (outcomes.Done result) = is (codes "ok") (result_json result) ∷ []
+outcome_fields (outcomes.Trap t) = trap_fields t
+outcome_fields (outcomes.Stop s) = stop_fields s
+
+abbrev pub outcome_json : Outcome → Json
+outcome_json outcome = object_of (outcome_fields outcome)
+
+-- A thread of a run: its number, how it ended, the units that it spent, and where it stood, if that is known.
+abbrev pub thread_fields : ℕ → ThreadReport → Option Place → List Field
+thread_fields thread report place =
+    is (codes "thread") (number thread)
+    ∷ is (codes "outcome") (outcome_json report.outcome)
+    ∷ is (codes "units") (number report.spent)
+    ∷ is_given (codes "at") place_json place
+    ∷ []
+
+-- The place of a thread, of those that are known.
+abbrev pub place_at : List (Option Place) → ℕ → Option Place
+place_at places thread = option_and_then (λ place. place) (slice_get places thread)
+
+abbrev pub thread_json : List (Option Place) → ℕ → ThreadReport → Json
+thread_json places thread report = object_of (thread_fields thread report (place_at places thread))
+
+-- The threads of a run, from thread 0 on.
+abbrev pub threads_json : List (Option Place) → List ThreadReport → Json
+threads_json places reports = list (numbered (thread_json places) 0 reports)
+
+-- Bytes, where they are wanted: two digits of base 16 for each.
+abbrev pub bytes_field : Bool → List ℕ → Field
+bytes_field true bytes = is (codes "bytes") (text (hex_text bytes))
+bytes_field false bytes = None
+
+-- How a run ended: its status, its threads, the page count, the first bytes, so many or all if there are fewer, where
+-- some are wanted; and hints, where there are some.
+abbrev pub run_fields : RunEnd → List Field
+run_fields run =
+    is (codes "status") (number (status_of run.threads.now))
+    ∷ is (codes "threads") (threads_json run.places.now run.threads.now)
+    ∷ is (codes "pages") (number run.pages)
+    ∷ bytes_field (nat_lt 0 run.dump) (take run.dump run.bytes.now)
+    ∷ are_some (codes "hints") (λ hint. text hint.now) run.hints.now
+    ∷ []
+
+abbrev pub run_json : RunEnd → Json
+run_json run = object_of (run_fields run)
+
+-- A thread of an ending: its number, and how it ended.
+abbrev pub ended_json : ℕ → Outcome → Json
+ended_json thread outcome =
+    object_of (is (codes "thread") (number thread) ∷ is (codes "outcome") (outcome_json outcome) ∷ [])
+
+abbrev pub outcomes_json : List Outcome → Json
+outcomes_json outcomes = list (numbered ended_json 0 outcomes)

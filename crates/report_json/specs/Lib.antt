@@ -1,0 +1,9 @@
+pub mod Json
+pub mod Sent
+pub mod Places
+pub mod Ends
+pub mod Refusals
+pub mod Found
+pub mod Drawn
+pub mod Complete
+pub mod Rows

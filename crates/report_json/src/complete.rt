@@ -1,0 +1,130 @@
+//! A search through every order of entries.
+ghost use Rattle.std.specs.Prelude.{◌≡◌, [], ◌∷◌, OnOk};
+ghost use Rattle.replay_forms.specs.Texts.{Wrote};
+ghost use Rattle.report_json.specs.Complete.{cycle_json, fair_words, cycle_field, liveness_json, complete_json};
+ghost use Rattle.report_json.specs.Complete.{verdict_words};
+ghost use Rattle.report_json.specs.Sent as counted;
+ghost use Rattle.report_json.specs.Json.{json_line};
+ghost use Rattle.report_json.specs.Sent.{SendsField};
+
+use crate::found::Found;
+use crate::object::{ToJson, given, put, put_if, put_list, write_line};
+use search_endings::Ending;
+use search_reach::{Ended, FairCycle, FairRuns, Liveness, Verdict};
+use serde::Serializer;
+use show_text::Unwritten;
+use std::alloc::Global;
+use std::io::Write;
+
+/// What a search through every order of entries comes to.
+#[derive(Clone, Copy)]
+pub struct Complete<'a> {
+    /// 0 where there is an ending, all are there, all threads ended well, none is looked for, every state can end and
+    /// every fair run ends, and else 1.
+    pub status: u8,
+    /// How many states it might meet.
+    pub most: u32,
+    pub all: &'a Ended<Ending>,
+    pub found: Option<Found<'a>>,
+}
+
+impl ToJson for FairCycle {
+    ghost json = { cycle_json };
+
+    fn send<S: Serializer>(&self, alloc: Global, out: &mut S) -> Result<(), S::Error> {
+        out.begin_map(Some(2))?;
+        put_list(alloc, out, "threads", &self.threads)?;
+        put(alloc, out, "states", &self.states)?;
+        out.end_map()
+    }
+}
+
+/// Whether every fair run ends, in words.
+fn fair_of(fair_runs: &FairRuns) -> &'static str
+    ensures { result.now ≡ fair_words fair_runs.now }
+{
+    match fair_runs {
+        FairRuns::AllEnd => "end",
+        FairRuns::GoOn(_) => "can go on",
+        FairRuns::Unknown => "unknown",
+    }
+}
+
+/// How many fields the fair run is that goes on for ever.
+fn cycles(fair_runs: &FairRuns) -> usize
+    ensures { result ≡ counted.count (cycle_field fair_runs.now ∷ []) }
+{
+    match fair_runs {
+        FairRuns::GoOn(_) => 1,
+        FairRuns::AllEnd | FairRuns::Unknown => 0,
+    }
+}
+
+/// Sends the fair run that goes on for ever, where one does.
+fn put_cycle<S: Serializer>(
+    alloc: Global,
+    out: &mut S,
+    fair_runs: &FairRuns,
+) -> Result<(), S::Error>
+    ensures { OnOk result (SendsField (cycle_field fair_runs.now) (S.written out.old) (S.written out.new)) }
+{
+    match fair_runs {
+        FairRuns::GoOn(cycle) => put(alloc, out, "cycle", cycle),
+        FairRuns::AllEnd | FairRuns::Unknown => Ok(()),
+    }
+}
+
+impl ToJson for Liveness {
+    ghost json = { liveness_json };
+
+    fn send<S: Serializer>(&self, alloc: Global, out: &mut S) -> Result<(), S::Error> {
+        out.begin_map(Some(2 + cycles(&self.fair_runs)))?;
+        put(alloc, out, "endless", &self.endless.len())?;
+        put(alloc, out, "fair_runs", &fair_of(&self.fair_runs))?;
+        put_cycle(alloc, out, &self.fair_runs)?;
+        out.end_map()
+    }
+}
+
+/// Whether the endings are all, or why they aren't, in words.
+fn verdict_of(verdict: Verdict) -> &'static str
+    ensures { result.now ≡ verdict_words verdict }
+{
+    match verdict {
+        Verdict::All => "all",
+        Verdict::TooMany => "too many states",
+        Verdict::CannotTell => "a thread spends its units without an entry",
+        Verdict::Told => "told",
+    }
+}
+
+impl ToJson for Complete<'_> {
+    ghost json = { complete_json };
+
+    fn send<S: Serializer>(&self, alloc: Global, out: &mut S) -> Result<(), S::Error> {
+        let all = self.all;
+        out.begin_map(Some(5 + given(&all.liveness) + given(&self.found)))?;
+        put(alloc, out, "status", &self.status)?;
+        put(alloc, out, "verdict", &verdict_of(all.verdict))?;
+        put(alloc, out, "states", &all.states)?;
+        put(alloc, out, "most", &self.most)?;
+        put_list(alloc, out, "endings", all.endings.as_slice())?;
+        put_if(alloc, out, "liveness", &all.liveness)?;
+        put_if(alloc, out, "found", &self.found)?;
+        out.end_map()
+    }
+}
+
+/// Writes the object of a search through every order of entries.
+///
+/// # Errors
+/// Where memory is refused, and then nothing was written; that of the writer, and then what was written isn't said.
+pub fn write_complete<W: Write>(
+    alloc: Global,
+    out: &mut W,
+    complete: &Complete,
+) -> Result<(), Unwritten>
+    ensures { Wrote W.contents out.old out.new result (json_line (complete_json complete.now)) }
+{
+    write_line(alloc, out, complete)
+}

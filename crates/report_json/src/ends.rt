@@ -1,0 +1,262 @@
+//! How threads and runs end.
+ghost use Rattle.std.specs.Prelude.{◌≡◌, [], ◌∷◌, OnOk, IfOk, take, nat_lt};
+ghost use Rattle.std.specs.List.{list_all};
+ghost use Rattle.std.specs.String.{string_bytes};
+ghost use Rattle.replay_forms.specs.Texts.{Wrote, hex_text};
+ghost use Rattle.report_lines.specs.Ends as specified;
+ghost use Rattle.report_lines.specs.Ends.{status_of};
+ghost use Rattle.report_json.specs.Ends as ends;
+ghost use Rattle.report_json.specs.Ends.{result_json, outcome_json, bytes_field, run_json};
+ghost use Rattle.report_json.specs.Ends.{threads_json, outcomes_json, thread_fields, ended_json};
+ghost use Rattle.report_json.specs.Json.{json_line, object_of, text};
+ghost use Rattle.report_json.specs.Sent.{Sends, SendsField};
+ghost use Rattle.types.specs.Outcomes.{trap_words, stop_words};
+
+use crate::object::{ToJson, given, put, put_if, put_some, send_one, send_two, some, write_line};
+use crate::places::Place;
+use replay_forms::hex_digit;
+use report_lines::is_done;
+use serde::Serializer;
+use show_text::Unwritten;
+use std::alloc::{AllocError, Global};
+use std::io::Write;
+use types::{Outcome, Stop, ThreadReport, Trap, Value};
+
+impl ToJson for Option<Value> {
+    ghost json = { result_json };
+
+    fn send<S: Serializer>(&self, alloc: Global, out: &mut S) -> Result<(), S::Error> {
+        match *self {
+            None => out.unit(),
+            Some(Value::I32(n)) => send_one(alloc, out, "i32", &n),
+            Some(Value::I64(n)) => send_one(alloc, out, "i64", &n),
+        }
+    }
+}
+
+impl ToJson for Trap {
+    ghost json = { λ t. text (trap_words t) };
+
+    fn send<S: Serializer>(&self, alloc: Global, out: &mut S) -> Result<(), S::Error> {
+        match self.to_string(alloc) {
+            Ok(words) => out.str(words.as_str()),
+            Err(_) => Err(out.custom("no memory")),
+        }
+    }
+}
+
+impl ToJson for Stop {
+    ghost json = { λ s. text (stop_words s) };
+
+    fn send<S: Serializer>(&self, alloc: Global, out: &mut S) -> Result<(), S::Error> {
+        match self.to_string(alloc) {
+            Ok(words) => out.str(words.as_str()),
+            Err(_) => Err(out.custom("no memory")),
+        }
+    }
+}
+
+impl ToJson for Outcome {
+    ghost json = { outcome_json };
+
+    fn send<S: Serializer>(&self, alloc: Global, out: &mut S) -> Result<(), S::Error> {
+        match self {
+            Outcome::Done(result) => send_one(alloc, out, "ok", result),
+            Outcome::Trap(trap) => send_two(alloc, out, ("trap", trap), ("number", &trap.number())),
+            Outcome::Stop(stop) => send_two(alloc, out, ("stop", stop), ("number", &stop.number())),
+        }
+    }
+}
+
+/// Sends a thread of a run: its number, how it ended, what it spent, and where it stood, if that is known.
+fn send_thread<S: Serializer>(
+    alloc: Global,
+    out: &mut S,
+    thread: usize,
+    report: ThreadReport,
+    place: Option<Place>,
+) -> Result<(), S::Error>
+    ensures { OnOk result
+        (Sends (object_of (thread_fields thread report place.entry)) (S.written out.old) (S.written out.new)) }
+{
+    out.begin_map(Some(3 + given(&place)))?;
+    put(alloc, out, "thread", &thread)?;
+    put(alloc, out, "outcome", &report.outcome)?;
+    put(alloc, out, "units", &report.spent)?;
+    put_if(alloc, out, "at", &place)?;
+    out.end_map()
+}
+
+/// The place of a thread, if it is known.
+fn place_at<'a>(places: &[Option<Place<'a>>], thread: usize) -> Option<Place<'a>>
+    ensures { result ≡ ends.place_at places.now thread }
+{
+    match places.get(thread) {
+        Some(place) => *place,
+        None => None,
+    }
+}
+
+/// The threads of a run, from thread 0 on, and the places that are known of them.
+#[derive(Clone, Copy)]
+struct Threads<'a> {
+    places: &'a [Option<Place<'a>>],
+    reports: &'a [ThreadReport],
+}
+
+impl ToJson for Threads<'_> {
+    ghost json = { λ t. threads_json t.places.now t.reports.now };
+
+    fn send<S: Serializer>(&self, alloc: Global, out: &mut S) -> Result<(), S::Error> {
+        let Threads { places, reports } = *self;
+        out.begin_seq(Some(reports.len()))?;
+        for (thread, report) in reports.iter().enumerate() {
+            send_thread(alloc, out, thread, *report, place_at(places, thread))?;
+        }
+        out.end_seq()
+    }
+}
+
+/// Sends a thread of an ending: its number, and how it ended.
+fn send_ended<S: Serializer>(
+    alloc: Global,
+    out: &mut S,
+    thread: usize,
+    outcome: Outcome,
+) -> Result<(), S::Error>
+    ensures { OnOk result (Sends (ended_json thread outcome) (S.written out.old) (S.written out.new)) }
+{
+    send_two(alloc, out, ("thread", &thread), ("outcome", &outcome))
+}
+
+/// How the threads of an ending have ended, from thread 0 on.
+#[derive(Clone, Copy)]
+pub(crate) struct Outcomes<'a>(pub(crate) &'a [Outcome]);
+
+impl ToJson for Outcomes<'_> {
+    ghost json = { λ o. outcomes_json o.0.now };
+
+    fn send<S: Serializer>(&self, alloc: Global, out: &mut S) -> Result<(), S::Error> {
+        let outcomes = self.0;
+        out.begin_seq(Some(outcomes.len()))?;
+        for (thread, outcome) in outcomes.iter().enumerate() {
+            send_ended(alloc, out, thread, *outcome)?;
+        }
+        out.end_seq()
+    }
+}
+
+/// Bytes as digits of base 16.
+fn hex_of(alloc: Global, bytes: &[u8]) -> Result<String, AllocError>
+    ensures { IfOk result (λ digits. string_bytes digits ≡ hex_text bytes.now) }
+{
+    let mut digits = String::new(alloc);
+    for byte in bytes {
+        digits.push(char::from(hex_digit(*byte / 16)))?;
+        digits.push(char::from(hex_digit(*byte % 16)))?;
+    }
+    Ok(digits)
+}
+
+/// Bytes, which are printed as digits of base 16.
+#[derive(Clone, Copy)]
+struct Hex<'a>(&'a [u8]);
+
+impl ToJson for Hex<'_> {
+    ghost json = { λ h. text (hex_text h.0.now) };
+
+    fn send<S: Serializer>(&self, alloc: Global, out: &mut S) -> Result<(), S::Error> {
+        match hex_of(alloc, self.0) {
+            Ok(digits) => out.str(digits.as_str()),
+            Err(_) => Err(out.custom("no memory")),
+        }
+    }
+}
+
+/// Sends the field of bytes, where they are wanted.
+pub(crate) fn put_bytes<S: Serializer>(
+    alloc: Global,
+    out: &mut S,
+    is_wanted: bool,
+    bytes: &[u8],
+) -> Result<(), S::Error>
+    ensures { OnOk result
+        (SendsField (bytes_field is_wanted bytes.now) (S.written out.old) (S.written out.new)) }
+{
+    if !is_wanted {
+        return Ok(());
+    }
+    put(alloc, out, "bytes", &Hex(bytes))
+}
+
+/// So many first bytes, or all if there are fewer.
+fn first_bytes(dump: u32, bytes: &[u8]) -> &[u8]
+    ensures { result.now ≡ take dump bytes.now }
+{
+    &bytes[..bytes.len().min(dump as usize)]
+}
+
+/// Whether all threads ended well.
+fn all_done(reports: &[ThreadReport]) -> bool
+    ensures { result ≡ list_all (λ r. specified.is_done r.outcome) reports.now }
+{
+    reports.iter().all(|report| is_done(report.outcome))
+}
+
+/// The status of a run: 0 where all threads ended well, and otherwise 1.
+fn status_of(reports: &[ThreadReport]) -> u8
+    ensures { result ≡ status_of reports.now }
+{
+    u8::from(!all_done(reports))
+}
+
+/// How a run ended.
+#[derive(Clone, Copy)]
+pub struct RunEnd<'a> {
+    /// From thread 0 on.
+    pub threads: &'a [ThreadReport],
+    /// Where threads stood as they ended, as far as that is known, from thread 0 on.
+    pub places: &'a [Option<Place<'a>>],
+    pub pages: u32,
+    /// How many first bytes are printed, or all if there are fewer; none and no field where it is 0.
+    pub dump: u32,
+    pub bytes: &'a [u8],
+    /// What to do about threads that were stopped.
+    pub hints: &'a [&'a str],
+}
+
+impl ToJson for RunEnd<'_> {
+    ghost json = { run_json };
+
+    fn send<S: Serializer>(&self, alloc: Global, out: &mut S) -> Result<(), S::Error> {
+        let RunEnd {
+            threads: reports,
+            places,
+            pages,
+            dump,
+            bytes,
+            hints,
+        } = *self;
+        let is_wanted = 0 < dump;
+        out.begin_map(Some(3 + usize::from(is_wanted) + some(hints)))?;
+        put(alloc, out, "status", &status_of(reports))?;
+        put(alloc, out, "threads", &Threads { places, reports })?;
+        put(alloc, out, "pages", &pages)?;
+        put_bytes(alloc, out, is_wanted, first_bytes(dump, bytes))?;
+        put_some(alloc, out, "hints", hints)?;
+        out.end_map()
+    }
+}
+
+/// Writes the object of a run that ended, and answers its status: 0 where all threads ended well, and otherwise 1.
+///
+/// # Errors
+/// Where memory is refused, and then nothing was written; that of the writer, and then what was written isn't said. So
+/// of each function here.
+pub fn write_run<W: Write>(alloc: Global, out: &mut W, end: &RunEnd) -> Result<u8, Unwritten>
+    ensures object { Wrote W.contents out.old out.new result (json_line (run_json end.now)) }
+    ensures status { IfOk result (λ status. status ≡ status_of end.now.threads.now) }
+{
+    write_line(alloc, out, end)?;
+    Ok(status_of(end.threads))
+}

@@ -1,0 +1,155 @@
+//! Debug information that is cut short, or that has another byte.
+
+use show_data::{name_at, place_of, read_data};
+use show_frames::{inlined_at, read_functions, variables_at};
+use show_lines::DebugSections;
+use show_units::{InfoSections, Spans, Units, read_units};
+use std::alloc::{AllocError, Global};
+use std::fmt::Write;
+
+/// Asks for the names of data, and for what they name.
+fn ask_data(alloc: Global, units: &Units) -> Result<(), AllocError> {
+    let data = read_data(alloc, units)?;
+    for span in data.items() {
+        if let Some(words) = name_at(alloc, units, &data, span.start)? {
+            place_of(alloc, units, &data, words.as_str())?;
+        }
+    }
+    Ok(())
+}
+
+/// Asks for all that is said of the code at an offset.
+fn ask_code(
+    alloc: Global,
+    units: &Units,
+    lines: DebugSections,
+    functions: &Spans,
+    offset: u64,
+) -> Result<(), AllocError> {
+    drop(inlined_at(alloc, units, lines, functions, offset)?);
+    drop(variables_at(alloc, units, functions, offset)?);
+    Ok(())
+}
+
+/// Asks for all that is said of data and of code.
+fn ask(alloc: Global, sections: InfoSections, lines: DebugSections) -> Result<(), AllocError> {
+    let units = read_units(alloc, sections)?;
+    ask_data(alloc, &units)?;
+    let functions = read_functions(alloc, &units)?;
+    for span in functions.items() {
+        ask_code(alloc, &units, lines, &functions, span.start)?;
+        ask_code(alloc, &units, lines, &functions, span.end.saturating_sub(2))?;
+    }
+    Ok(())
+}
+
+/// A section of debug information.
+#[derive(Clone, Copy)]
+enum Part {
+    Info,
+    Abbreviations,
+    Texts,
+    TextOffsets,
+    Addresses,
+    Ranges,
+    RangeLists,
+    Locations,
+    LocationLists,
+}
+
+static PARTS: [Part; 9] = [
+    Part::Info,
+    Part::Abbreviations,
+    Part::Texts,
+    Part::TextOffsets,
+    Part::Addresses,
+    Part::Ranges,
+    Part::RangeLists,
+    Part::Locations,
+    Part::LocationLists,
+];
+
+impl Part {
+    fn of<'a>(self, sections: InfoSections<'a>) -> &'a [u8] {
+        match self {
+            Part::Info => sections.info,
+            Part::Abbreviations => sections.abbreviations,
+            Part::Texts => sections.texts,
+            Part::TextOffsets => sections.text_offsets,
+            Part::Addresses => sections.addresses,
+            Part::Ranges => sections.ranges,
+            Part::RangeLists => sections.range_lists,
+            Part::Locations => sections.locations,
+            Part::LocationLists => sections.location_lists,
+        }
+    }
+
+    /// The sections with other bytes in place of this one.
+    fn replaced<'a>(self, mut sections: InfoSections<'a>, bytes: &'a [u8]) -> InfoSections<'a> {
+        match self {
+            Part::Info => sections.info = bytes,
+            Part::Abbreviations => sections.abbreviations = bytes,
+            Part::Texts => sections.texts = bytes,
+            Part::TextOffsets => sections.text_offsets = bytes,
+            Part::Addresses => sections.addresses = bytes,
+            Part::Ranges => sections.ranges = bytes,
+            Part::RangeLists => sections.range_lists = bytes,
+            Part::Locations => sections.locations = bytes,
+            Part::LocationLists => sections.location_lists = bytes,
+        }
+        sections
+    }
+}
+
+/// Asks for all where each section is cut behind any of its bytes.
+pub(crate) fn write_cut_info(
+    alloc: Global,
+    module: &[u8],
+    given: &mut String,
+) -> Result<(), AllocError> {
+    let (sections, lines) = (InfoSections::of(module), DebugSections::of(module));
+    let mut fronts = 0u64;
+    for part in &PARTS {
+        let whole = part.of(sections);
+        for len in 0..whole.len() {
+            ask(alloc, part.replaced(sections, &whole[..len]), lines)?;
+            fronts = fronts.wrapping_add(1);
+        }
+    }
+    writeln!(given, "each of {fronts} fronts was tried")
+}
+
+/// Asks for all where each byte of a section has other bits.
+fn ask_changed(
+    alloc: Global,
+    sections: InfoSections,
+    lines: DebugSections,
+    part: Part,
+    bits: u8,
+) -> Result<(), AllocError> {
+    let whole = part.of(sections);
+    for place in 0..whole.len() {
+        let mut changed = Vec::from_slice(alloc, whole)?;
+        if let Some(byte) = changed.get_mut(place) {
+            *byte ^= bits;
+        }
+        ask(alloc, part.replaced(sections, &changed), lines)?;
+    }
+    Ok(())
+}
+
+/// Asks for all where any byte of a section has its lowest bit turned, or all of its bits.
+pub(crate) fn write_changed_info(
+    alloc: Global,
+    module: &[u8],
+    given: &mut String,
+) -> Result<(), AllocError> {
+    let (sections, lines) = (InfoSections::of(module), DebugSections::of(module));
+    let mut bytes = 0u64;
+    for part in &PARTS {
+        ask_changed(alloc, sections, lines, *part, 0x01)?;
+        ask_changed(alloc, sections, lines, *part, 0xff)?;
+        bytes = bytes.wrapping_add(part.of(sections).len() as u64);
+    }
+    writeln!(given, "each of {bytes} bytes was changed")
+}

@@ -1,0 +1,4 @@
+pub mod Find
+pub mod Little
+pub mod Order
+pub mod Search

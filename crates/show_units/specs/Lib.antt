@@ -1,0 +1,3 @@
+pub mod Fixed
+pub mod Sections
+pub mod Spans
