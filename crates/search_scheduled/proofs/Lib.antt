@@ -9,3 +9,4 @@ pub mod Ascending
 pub mod Answers
 pub mod Parts
 pub mod Ready
+pub mod Nowhere

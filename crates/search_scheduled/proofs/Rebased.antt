@@ -25,6 +25,20 @@ pub has_pages : (m : Parts) (name : List ℕ) (values : List Value) (units most 
     → HasPagesWithin MOST_PAGES m → HasPages m r
 has_pages m name values units most r h within = subst (λ (q : ℕ). HasPagesWithin q m) (sym h.max_pages) within
 
+-- two headers of a call are the same
+pub same_header : (m : Parts) (name : List ℕ) (values : List Value) (units most : ℕ) (header r : RecordParts) → IsOfCall m name values units most header
+    → IsOfCall m name values units most r → HasHeaderOf header r
+same_header m name values units most header r h x = record {
+  version = x.version ∙ sym h.version;
+  module_len = x.module_len ∙ sym h.module_len;
+  threads = x.threads ∙ sym h.threads;
+  max_pages = x.max_pages ∙ sym h.max_pages;
+  invoke = x.invoke ∙ sym h.invoke;
+  args = x.args ∙ sym h.args;
+  fuel = x.fuel ∙ sym h.fuel;
+  limit = x.limit ∙ sym h.limit;
+}
+
 -- what a record with its header calls
 pub requested_is : (q : Requested) (most : ℕ) (r : RecordParts) → IsOfRequest q most r → requested_by q.parts r ≡ q
 requested_is q most r h =

@@ -4,3 +4,4 @@ pub mod Settled
 pub mod Courses
 pub mod Led
 pub mod Faults
+pub mod Nowhere

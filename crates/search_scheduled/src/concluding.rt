@@ -2,6 +2,7 @@
 ghost use Rattle.std.specs.Prelude.{◌≡◌, ◌≢◌, drop, IfErr, IfOk};
 ghost use Rattle.search_scheduled.specs.Courses.{ConcludesRuns};
 ghost use Rattle.search_scheduled.specs.Headers.{HasHeaderOf};
+ghost use Rattle.search_scheduled.specs.Nowhere.{AreReports, HasNoRecord, LacksReport};
 ghost use Rattle.search_scheduled.specs.SpareThreads.{LeavesUnused};
 
 use crate::Course;
@@ -23,13 +24,20 @@ pub(crate) struct Concluded<T> {
 }
 
 /// How the threads of a walk have ended that were started, in order.
+///
+/// # Errors
+/// `NoEnd` where one hasn't left; `NoMemory`.
 fn ends_of<T: TakesTurns>(alloc: Global, walk: &Walk<T>) -> Result<Vec<ThreadReport>, SearchFault>
-    ensures { IfErr result (λ fault. fault ≢ SearchFault.GivenUp) }
+    ensures ends { IfOk result (λ ends. AreReports T.meaning walk.now ends.items) }
+    ensures lacks { IfErr result (λ fault. fault ≡ SearchFault.NoEnd → LacksReport T.meaning walk.now) }
+    ensures fault { IfErr result (λ fault. fault ≢ SearchFault.GivenUp) }
 {
     let mut ends = Vec::new(alloc);
     for n in 0..walk.stage.started as usize {
-        let (Some(Some(outcome)), Some(thread)) = (walk.stage.ends.get(n), walk.threads.get(n))
-        else {
+        let Some(Some(outcome)) = walk.stage.ends.get(n) else {
+            return Err(SearchFault::NoEnd);
+        };
+        let Some(thread) = walk.threads.get(n) else {
             return Err(SearchFault::NoEnd);
         };
         ends.push(ThreadReport {
@@ -55,7 +63,7 @@ fn unused_of<T: Drop>(alloc: Global, threads: Vec<T>, started: u32) -> Result<Ve
 /// What a course has come to whose run has come to its end, under the header of other parts.
 ///
 /// # Errors
-/// `NoEnd` where a thread hasn't left yet; `NoMemory`.
+/// `NoEnd` where no record of that log is of its run; `NoMemory`.
 pub(crate) fn conclude<T: TakesTurns + Drop>(
     alloc: Global,
     course: Course<T>,
@@ -65,6 +73,7 @@ pub(crate) fn conclude<T: TakesTurns + Drop>(
     ensures log { IfOk result (λ c. c.parts.log ≡ course.log.items) }
     ensures concludes { IfOk result (λ c. ConcludesRuns T.meaning course header c.parts c.end) }
     ensures unused { IfOk result (λ c. LeavesUnused T.meaning course c.unused.items) }
+    ensures none { IfErr result (λ fault. fault ≡ SearchFault.NoEnd → HasNoRecord T.meaning header course) }
     ensures fault { IfErr result (λ fault. fault ≢ SearchFault.GivenUp) }
 {
     let ends = ends_of(alloc, &course.walk)?;

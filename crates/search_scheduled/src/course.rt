@@ -1,8 +1,10 @@
 //! A walk with the log that it makes.
 ghost use Rattle.std.specs.Prelude.{◌≡◌, ◌≤◌, ◌+◌, ◌⊎◌, [], length, OnOk, IfOk, IfErr, IfSome};
 ghost use Rattle.types.specs.declared.limits.TheConstants.{MOST_THREADS, PAST_LIMIT};
+ghost use Rattle.replay_walk.specs.Standing.{MayBeTaken};
 ghost use Rattle.search_scheduled.specs.Courses.{BeginsCourse, IsOnARun, StaysOnItsRuns};
 ghost use Rattle.search_scheduled.specs.Courses.{IsEachReady, GoesOn, IsLed, IsGivenUp, Hears, HearsAt, Steps};
+ghost use Rattle.search_scheduled.specs.Nowhere.{IsStranded, MakesNoEntry};
 ghost use Rattle.search_scheduled.specs.declared.course.CourseFault.TheVariants as faults;
 
 use crate::hearing::hear;
@@ -106,6 +108,8 @@ impl<T: TakesTurns> Course<T> {
     fn step<S: Strategy>(&mut self, n: u32, strategy: &S) -> Result<Entry, CourseFault>
         requires { IsOnARun T.meaning self.old }
         ensures goes { IfOk result (λ e. Steps T.meaning n e self.old self.new) }
+        ensures none { IfErr result (λ fault. fault ≡ faults.NoEntry
+            → MayBeTaken T.meaning self.old.walk.stage n → MakesNoEntry T.meaning self.old.walk n) }
         ensures over { IfErr result (λ fault. fault ≡ faults.GivenUp → S.may_end strategy.now) }
     {
         let turn = settle_going(&mut self.walk, n, self.fuel, strategy)?;
@@ -124,6 +128,8 @@ impl<T: TakesTurns> Course<T> {
     fn advance<S: Strategy>(&mut self, n: u32, strategy: &S) -> Result<Entry, CourseFault>
         requires { IsOnARun T.meaning self.old }
         ensures goes { IfOk result (λ e. GoesOn T.meaning n e self.old self.new) }
+        ensures none { IfErr result (λ fault. fault ≡ faults.NoEntry
+            → MayBeTaken T.meaning self.old.walk.stage n → MakesNoEntry T.meaning self.old.walk n) }
         ensures over { IfErr result (λ fault. fault ≡ faults.GivenUp → S.may_end strategy.now) }
     {
         let entry = self.step(n, strategy)?;
@@ -153,7 +159,7 @@ impl<T: TakesTurns> Course<T> {
     ///
     /// # Errors
     /// `NoMemory`; `GivenUp` where the strategy names nobody, or gives the run up while a thread makes turns of its own;
-    /// and `NoEntry`, after which the course stands nowhere.
+    /// and `NoEntry` where the thread that is named makes none, after which the course stands nowhere.
     pub fn go<S: Strategy>(&mut self, strategy: &mut S) -> Result<(), CourseFault>
         requires { IsOnARun T.meaning self.old }
         ensures runs { OnOk result (StaysOnItsRuns T.meaning self.old self.new) }
@@ -163,6 +169,8 @@ impl<T: TakesTurns> Course<T> {
             ⊎ (self.old.limit + PAST_LIMIT ≤ length self.new.log.items)) }
         ensures given_up { IfErr result (λ fault. fault ≡ faults.GivenUp
             → IsGivenUp T.meaning S.chooses S.hears S.may_end self.old strategy.old strategy.new) }
+        ensures stranded { IfErr result (λ fault. fault ≡ faults.NoEntry
+            → IsStranded T.meaning S.chooses S.hears self.old strategy.old) }
     {
         let most = self.limit as usize + PAST_LIMIT;
         for _ in 0..most {

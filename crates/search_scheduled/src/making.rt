@@ -1,11 +1,12 @@
 //! What a thread does that has made its turns of its own: it leaves, or makes the event that it wants.
-ghost use Rattle.std.specs.Prelude.{◌≡◌, ℕ, length, IfSome};
+ghost use Rattle.std.specs.Prelude.{◌≡◌, ℕ, length, None, IfSome};
 ghost use Rattle.types.specs.declared.event.Event.TheVariants as events;
 ghost use Rattle.types.specs.declared.event.Question.TheVariants.{Leave, Spawn};
 ghost use Rattle.types.specs.declared.event.Reply.TheVariants.{Done};
 ghost use Rattle.types.specs.declared.limits.TheConstants.{MOST_THREADS};
 ghost use Rattle.shared_memory.specs.Memory.{reply_of, state_after};
 ghost use Rattle.shared_memory.specs.Events.{IsEvent};
+ghost use Rattle.interp_trait.specs.declared.turn.Turn.TheVariants as turns;
 ghost use Rattle.replay_walk.specs.Standing.{IsToMakeOn};
 ghost use Rattle.search_scheduled.specs.Settled.{IsToGoOn, IsToLeave, IsToMakeEvent, StageMade, StandsMade};
 ghost use Rattle.search_scheduled.specs.Settled.{KeepsStage, TakesLeave, TakesNext};
@@ -75,7 +76,7 @@ fn make<T: TakesTurns>(walk: &mut Walk<T>, n: u32, event: Event) -> Reply
 }
 
 /// A thread that has made its turns of its own makes its next entry, behind `at` others: its leave where it has ended,
-/// or where the log is full, and else the event that it wants.
+/// or where the log is full, and else the event that it wants. There is none where it waits for an answer.
 pub(crate) fn go_on<T: TakesTurns>(
     walk: &mut Walk<T>,
     n: u32,
@@ -86,6 +87,7 @@ pub(crate) fn go_on<T: TakesTurns>(
     requires { IsToGoOn T.meaning n turn walk.old }
     ensures count { length walk.new.threads.items ≡ length walk.old.threads.items }
     ensures taken { TakesNext T.meaning n turn limit at walk.old result walk.new }
+    ensures none { result ≡ None → turn ≡ turns.Awaits }
     ensures thread { IfSome result (λ e. e.thread ≡ n) }
     ensures kept { IfSome result (λ e. KeepsStage e.event walk.old.stage walk.new.stage) }
 {

@@ -7,6 +7,7 @@ ghost use Rattle.interp.specs.Threads.{meaning_in};
 ghost use Rattle.replay.specs.Runs.{IsRunOf};
 ghost use Rattle.search_scheduled.specs.Headers.{IsOfRequest};
 ghost use Rattle.search_scheduled.specs.Led.{IsGivenUpRun, IsLedRun};
+ghost use Rattle.search_scheduled.specs.Nowhere.{HasNoEnd};
 ghost use Rattle.search_scheduled.specs.SpareThreads.{HasBegunFor, HoldsSpares};
 
 use crate::Course;
@@ -70,7 +71,7 @@ fn header_of(alloc: Global, request: &Request, limit: u32) -> Result<RecordParts
 /// version 2, and says that there may be 64 threads and 256 pages.
 ///
 /// # Errors
-/// `NoEnd` where a number is out of its range, `GivenUp` where the strategy gives the run up, `NoMemory`.
+/// `NoEnd` where no record tells such a run, as where a number is out of its range; `GivenUp` where the strategy gives the run up, `NoMemory`.
 pub fn run_along<S: Strategy>(
     alloc: Global,
     request: &Request,
@@ -83,6 +84,8 @@ pub fn run_along<S: Strategy>(
         IsLedRun S.chooses S.hears request.now limit strategy.old strategy.new made.record) }
     ensures given_up { IfErr result (λ fault. fault ≡ SearchFault.GivenUp
         → IsGivenUpRun S.chooses S.hears request.now limit S.may_end strategy.old strategy.new) }
+    ensures no_end { IfErr result (λ fault. fault ≡ SearchFault.NoEnd
+        → HasNoEnd request.now limit S.chooses S.hears strategy.old) }
 {
     run_with_spares(alloc, request, limit, strategy, &mut Spares::new(alloc))
 }
@@ -126,9 +129,12 @@ pub fn run_with_spares<'m, S: Strategy>(
         IsLedRun S.chooses S.hears request.now limit strategy.old strategy.new made.record) }
     ensures given_up { IfErr result (λ fault. fault ≡ SearchFault.GivenUp
         → IsGivenUpRun S.chooses S.hears request.now limit S.may_end strategy.old strategy.new) }
+    ensures no_end { IfErr result (λ fault. fault ≡ SearchFault.NoEnd
+        → HasNoEnd request.now limit S.chooses S.hears strategy.old) }
     ensures spares { OnOk result (HoldsSpares request.now.parts request.now.fuel spares.new) }
 {
     let module = request.module();
+    show_distinct_names(module);
     show_pages_fit(module);
     let header = header_of(alloc, request, limit)?;
     let mut course = course_of(alloc, request, limit, spares)?;

@@ -1,7 +1,7 @@
 //! A thread that can go on makes its turns of its own.
 ghost use Rattle.std.specs.Prelude.{◌≡◌, ◌<◌, length, true, None, IfErr, IfOk, IfSome};
 ghost use Rattle.interp_trait.specs.Turns.{MayRun, StaysAs};
-ghost use Rattle.replay_walk.specs.Standing.{MayRunAt, SettlesInto, SettlesThread};
+ghost use Rattle.replay_walk.specs.Standing.{HasGoneIfFree, MayRunAt, SettlesInto, SettlesThread};
 ghost use Rattle.search_scheduled.specs.Settled.{SettlesWhereGoing, StandsOnFuel};
 ghost use Rattle.search_scheduled.specs.declared.course.CourseFault.TheVariants as faults;
 
@@ -74,6 +74,7 @@ pub(crate) fn settle_going<T: TakesTurns, S: Strategy>(
     ensures memory { walk.new.memory ≡ walk.old.memory }
     ensures stage { walk.new.stage ≡ walk.old.stage }
     ensures settled { IfOk result (λ turn. SettlesWhereGoing T.meaning n walk.old turn walk.new) }
+    ensures gone { IfErr result (λ fault. fault ≡ faults.NoEntry → HasGoneIfFree T.meaning walk.old.stage n) }
     ensures kept { IfErr result (λ fault. fault ≡ faults.NoEntry → walk.new.threads.items ≡ walk.old.threads.items) }
     ensures over { IfErr result (λ fault. fault ≡ faults.GivenUp → S.may_end strategy.now) }
 {

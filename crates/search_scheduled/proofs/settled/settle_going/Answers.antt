@@ -29,3 +29,6 @@ returns-in-Some-clause-settled g c = λ s st.
     settles_on g.T.TakesTurns.meaning s c.args.n c.in-Some.turn _ c.settle_at.new.threads
     (take_at c.settle_at.new.threads _ w.threads.len (c.settle_at.ensures.count ∙ c.deref_mut.ensures.len))
     d.thread d.on d.settles d.says
+
+pub returns-then-not-is_going-clause-gone : goal.returns-then-not-is_going-clause-gone
+returns-then-not-is_going-clause-gone g c = λ same. c.is_going.ensures.gone c.if-not-is_going.true

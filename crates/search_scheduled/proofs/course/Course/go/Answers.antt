@@ -1,7 +1,9 @@
-use Rattle.std.proofs.Common.{ℕ, List, Some, None, get_or, refl, inl, inr, sym, ◌∙◌, subst, arith}
+use Rattle.std.proofs.Common.{ℕ, ◌<◌, List, length, Some, None, get_or, refl, inl, inr, sym, ◌∙◌, subst, arith}
+use Rattle.replay_walk.specs.Standing.{MayBeTaken}
 use Rattle.std.proofs.lemmas.Result.{err_from_is_err_and}
 use Rattle.search_scheduled.specs.Courses.{GoesOn, IsNamed}
 use Rattle.search_scheduled.specs.Courses.IsLed.{here, on}
+use Rattle.search_scheduled.specs.Nowhere.{MakesNoEntry}
 use Rattle.search_scheduled.proofs.Courses.{longer}
 use Rattle.search_scheduled.proofs.Ready.{none_ready}
 use Rattle.search_scheduled.proofs.course.Course.go.Goals as goal
@@ -69,3 +71,25 @@ pub returns-then-is_empty-clause-ends : goal.returns-then-is_empty-clause-ends
 returns-then-is_empty-clause-ends g c =
     inl (none_ready g.T.TakesTurns.meaning c.loop.self.walk.stage c.ready-ready.result.items (sym c.if-is_empty.true ∙ c.is_empty.ensures)
     c.ready-ready.ensures.each)
+
+pub returns-in_err-entry-clause-stranded : goal.returns-in_err-entry-clause-stranded
+returns-in_err-entry-clause-stranded g c =
+    let m = g.T.TakesTurns.meaning in
+    let place = c.in-Some.place in
+    let ready = c.ready-ready.result.items in
+    let within = subst (λ (l : List ℕ). place < length l) c.deref.ensures.0 c.in-Some.ensures.place in
+    let p = err_from_is_err_and c.from_residual.result c.from_residual.ensures.1 in
+    rw (p.1, p.2) (λ same. record {
+      course = c.loop.self;
+      before = c.loop.strategy;
+      led = c.loop.invariant.1;
+      ready = ready;
+      each = c.ready-ready.ensures.each;
+      place = place;
+      asked = c.choose.new.self;
+      chosen = subst (λ (l : List ℕ). g.S.Strategy.chooses c.loop.strategy l (Some place) c.choose.new.self) c.deref.ensures.0
+          c.in-Some.ensures.chosen;
+      none = subst (λ (l : List ℕ). MakesNoEntry m c.loop.self.walk (get_or l place 0)) c.deref-in-loop.ensures.0
+          (c.in_err-entry.ensures.none same (subst (λ (l : List ℕ). MayBeTaken m c.loop.self.walk.stage (get_or l place 0))
+          (sym c.deref-in-loop.ensures.0) (c.ready-ready.ensures.each.can place 0 within)));
+    })

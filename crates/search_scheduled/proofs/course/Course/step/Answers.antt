@@ -1,4 +1,5 @@
 use Rattle.std.proofs.Common.{◌≡◌, ℕ, vec_len, length, refl, sym, ◌∙◌, subst, arith}
+use Rattle.std.proofs.lemmas.Result.{err_from_is_err_and}
 use Rattle.std.specs.Global.{Vec}
 use Rattle.types.specs.declared.event.Entry.{Entry}
 use Rattle.schedule_threads.specs.Shared.{act_of}
@@ -6,7 +7,10 @@ use Rattle.replay_walk.specs.Walked.{WalkTakes}
 use Rattle.replay_walk.specs.declared.stage.Stage.{Stage}
 use Rattle.search_scheduled.specs.Settled.{KeepsStage}
 use Rattle.search_scheduled.specs.declared.course.Course.{Course}
+use Rattle.interp_trait.specs.declared.turn.Turn.{Turn}
+use Rattle.search_scheduled.specs.Settled.{SettlesWhereGoing}
 use Rattle.search_scheduled.proofs.Courses.{stands_at, came_on}
+use Rattle.search_scheduled.proofs.Nowhere.{not_gone}
 use Rattle.search_scheduled.proofs.course.Course.step.Goals as goal
 
 len_is : (v : Vec Entry) → vec_len v ≡ length v.items
@@ -30,3 +34,16 @@ returns-clause-goes g c =
       log = c.in_ok-push.ensures.items;
       stage = subst (λ (s : Stage). KeepsStage e.event s c.go_on.new.walk.stage) c.settle_going.ensures.stage c.in-Some.ensures.kept;
     }
+
+pub returns-in_err-turn-clause-none : goal.returns-in_err-turn-clause-none
+returns-in_err-turn-clause-none g c =
+    let p = err_from_is_err_and c.from_residual.result c.from_residual.ensures.1 in
+    rw (p.1, p.2) (λ same may. absurd (not_gone g.T.TakesTurns.meaning c.requires.0 c.args.self.now c.args.n c.requires.1 may
+    (c.in_err-turn.ensures.gone same)))
+
+pub returns-in_default-clause-none : goal.returns-in_default-clause-none
+returns-in_default-clause-none g c = λ same may. record {
+  settled = c.settle_going.new.walk;
+  waits = subst (λ (t : Turn). SettlesWhereGoing g.T.TakesTurns.meaning c.args.n c.args.self.now.walk t c.settle_going.new.walk)
+      (c.in_default.ensures.none refl) c.in_ok-turn.ensures.settled;
+}
