@@ -171,18 +171,18 @@ impl<'m, 'a> RunMaker<'m, 'a> {
     }
 
     /// Makes the run of this number, with threads of its own.
-    fn run_anew<W: Watch>(&self, alloc: Global, watch: &W, run: u64) -> Result<MadeRun, SearchFault>
+    fn run_anew(&self, alloc: Global, run: u64) -> Result<MadeRun, SearchFault>
         ensures { IfOk result (IsMadeIn self.now run) }
     {
         let mut spares = Spares::new(alloc);
-        self.run(alloc, watch, run, &mut spares)
+        self.run(alloc, &(), run, &mut spares)
     }
 
     /// The ending of the run of this number, with threads of its own.
     fn ending_anew(&self, alloc: Global, run: u64) -> Result<Ending, SearchFault>
         ensures { IfOk result (IsMetIn self.now run) }
     {
-        let made = self.run_anew(alloc, &(), run)?;
+        let made = self.run_anew(alloc, run)?;
         let ending = ending_of(alloc, &made.end, self.sought.dump)?;
         Ok(ending)
     }
@@ -196,67 +196,22 @@ impl<'m, 'a> RunMaker<'m, 'a> {
         is_looked_for(alloc, self.sought, &ending)
     }
 
-    /// Makes the run of this number, which was made before and ended as is looked for.
+    /// Makes the run of this number, which was made before and ended as is looked for. It isn't given up: what was found
+    /// is kept.
     ///
     /// # Errors
-    /// `NoEnd` where it ends otherwise now, which none does; `GivenUp`.
-    fn found<W: Watch>(&self, alloc: Global, watch: &W, run: u64) -> Result<Found, SearchFault>
+    /// `NoEnd` where it ends otherwise now, which none does.
+    fn found(&self, alloc: Global, run: u64) -> Result<Found, SearchFault>
         ensures found { IfOk result (λ found. IsFoundIn self.now found.made) }
         ensures drawn { IfOk result (λ found. IsMadeIn self.now run found.made) }
         ensures number { IfOk result (λ found. found.run ≡ run) }
     {
-        let made = self.run_anew(alloc, watch, run)?;
+        let made = self.run_anew(alloc, run)?;
         if self.is_sought(alloc, &made.end)? {
             Ok(Found { run, made })
         } else {
             Err(SearchFault::NoEnd)
         }
-    }
-
-    /// The same, which can be given up only where no end is wished yet.
-    fn found_by<W: Watch>(
-        &self,
-        alloc: Global,
-        watch: &W,
-        run: u64,
-        wish: Wish,
-    ) -> Result<Found, SearchFault>
-        ensures found { IfOk result (λ found. IsFoundIn self.now found.made) }
-        ensures drawn { IfOk result (λ found. IsMadeIn self.now run found.made) }
-        ensures number { IfOk result (λ found. found.run ≡ run) }
-    {
-        match wish {
-            Wish::GoOn => self.found(alloc, watch, run),
-            Wish::End => self.found(alloc, &(), run),
-        }
-    }
-
-    /// Why no further run is made where the run of this number ended as is looked for: it is made once more. Where it is
-    /// given up then, since the follower wishes an end by now, it was told to.
-    fn halt_at<F: Hears>(
-        &self,
-        alloc: Global,
-        watch: &F::Watch,
-        run: u64,
-        wish: Wish,
-        follower: &mut F,
-    ) -> Result<Halt, SearchFault>
-        ensures found { IfOk result (λ halt. IfFound halt (λ f. IsFoundIn self.now f.made)) }
-        ensures drawn { IfOk result (λ halt. IfFound halt (λ f. IsMadeIn self.now f.run f.made)) }
-        ensures number { IfOk result (λ halt. IfFound halt (λ f. f.run ≡ run)) }
-        ensures made { IfOk result (λ halt. halt ≢ Halt.AllMade) }
-        ensures told { IfOk result (λ halt. halt ≡ Halt.Told → F.wish follower.new ≡ Wish.End) }
-    {
-        match self.found_by(alloc, watch, run, wish) {
-            Ok(found) => return Ok(Halt::Found(found)),
-            Err(SearchFault::GivenUp) => {}
-            Err(fault) => return Err(fault),
-        }
-        if let Wish::End = follower.given_up() {
-            return Ok(Halt::Told);
-        }
-        let found = self.found(alloc, &(), run)?;
-        Ok(Halt::Found(found))
     }
 
     /// The endings of runs in a row, the last first: of all of them, or where one is given up of those before it.
@@ -453,7 +408,8 @@ impl<'m, 'a> RunMaker<'m, 'a> {
             table.note(run, ending)?;
             let wish = follower.runs(table.runs, table.met.len());
             if is_sought && sought.stops {
-                let halt = self.halt_at(alloc, crew.watch, run, wish, follower)?;
+                let found = self.found(alloc, run)?;
+                let halt = Halt::Found(found);
                 return Ok(SearchResult { table, halt });
             }
             if let Wish::End = wish {
@@ -516,4 +472,25 @@ pub fn first_found<R: Threads + Sync, F: Hears>(
     };
     let searched = search.first(alloc, &crew, follower)?;
     Ok(searched)
+}
+
+/// The run of this number of a search: the same one, whoever makes it.
+///
+/// # Errors
+/// As of `run_along`.
+pub fn run_of_number(
+    alloc: Global,
+    request: &Request,
+    sought: &Sought,
+    run: u64,
+) -> Result<MadeRun, SearchFault>
+    ensures { IfOk result (IsRunOfNumber request.now sought.now run) }
+{
+    let entries = entries_of(alloc, request, sought, &())?;
+    let maker = RunMaker {
+        request,
+        sought,
+        entries,
+    };
+    maker.run_anew(alloc, run)
 }

@@ -10,7 +10,7 @@
 //! - `report_choice::Sought` says which runs are made, and what is looked for; `is_looked_for` whether an ending is.
 //! - `Table` counts the endings that were met (`search_endings::Ending`).
 //! - `first_found` makes them one by one and notes their endings, up to the first that is looked for, or until it is
-//!   told to end; `Halt` says which.
+//!   told to end; `Halt` says which. `run_of_number` makes one of them.
 //! - `shrunk` leaves out the rounds of waits in loops, found by moments in which the run is the same (`Moments`), and
 //!   then tries parts of that run's schedule; a run that ends alike with fewer switches, or with as many and fewer
 //!   entries, takes its place. So nothing rests on how what is left out was found.
@@ -40,7 +40,7 @@ mod table;
 mod words;
 
 pub use ending::{ending_of, have_one_ending};
-pub use finding::{Found, Halt, SearchResult, first_found};
+pub use finding::{Found, Halt, SearchResult, first_found, run_of_number};
 pub use following::{run_round, run_to};
 pub use hears::Hears;
 pub use leading::entries_leading;
