@@ -1,0 +1,122 @@
+-- What each call answers, of what a host gave.
+use Rattle.std.specs.Prelude.{ℕ, ◌≡◌, ◌⊎◌, List, [], ◌∷◌, length, Ok, Err}
+use Rattle.std.specs.declared.result.Result.{Result}
+use Rattle.std.specs.Str.{IsUtf8}
+use Rattle.types.specs.declared.outcome.ThreadReport.{ThreadReport}
+use Rattle.show_text.specs.declared.sheet.Unwritten.{Unwritten}
+use Rattle.report_lines.specs.Ends.{status_of}
+use Rattle.replay_text.specs.Text.{record_text}
+use Rattle.search_endings.specs.Endings.{Ending}
+use Rattle.search_reach.specs.declared.ending.Ended.{Ended}
+use Rattle.search_scheduled.specs.declared.running.MadeRun.{MadeRun}
+use Rattle.spawn_host.specs.declared.end.EndState.{EndState}
+use Rattle.host_calls.specs.Hosts.{HasFunctions, IsModuleFault, IsCallFaultOf, IsFaultOf, IsReplayFault, IsReplayOf, IsRunBy}
+use Rattle.host_calls.specs.Hosts.{HasEndings, status_of_fault}
+use Rattle.host_calls.specs.declared.fault.HostFault.{HostFault}
+use Rattle.wathread_c.specs.Answers.{Puts, no_answer, answer_with}
+use Rattle.wathread_c.specs.Given.{plan_by, values_by}
+use Rattle.wathread_c.specs.Lines.{IsAcceptedText, IsRefusalText, IsRunText, IsSearchText}
+use Rattle.wathread_c.specs.declared.answer.Answer.{Answer}
+use Rattle.wathread_c.specs.declared.objects.Line.{Line}
+use Rattle.wathread_c.specs.declared.given.Options.{Options}
+use Rattle.wathread_c.specs.declared.given.Word.{Word}
+
+-- A line is in the buffer, or its length tells how long it is; its status is answered. Where there is none, since memory
+-- was refused, that is 5, and nothing is told.
+abbrev pub TellsLine : Result Line Unwritten → Answer → List ℕ → List ℕ → Answer → ℕ → Type 0
+TellsLine (Ok line) before old new answer status =
+    Puts old line.text.items new × (answer ≡ record before { text = length line.text.items }) × (status ≡ line.status)
+TellsLine (Err e) before old new answer status = (new ≡ old) × (answer ≡ before) × (status ≡ 5)
+
+-- A line of which this holds, as of its status, is told so.
+pub record Tells (says : ℕ → List ℕ → Type 0) (old new : List ℕ) (answer : Answer) (status : ℕ) : Type 0 where
+  pub line : List ℕ
+  pub said : says status line
+  pub length_is : answer.text ≡ length line
+  pub puts : Puts old line new
+
+-- Memory was refused, and nothing is told.
+pub record Fails (old new : List ℕ) (status : ℕ) : Type 0 where
+  pub five : status ≡ 5
+  pub kept : new ≡ old
+
+-- It is told, unless memory was refused.
+abbrev pub MayTell : (ℕ → List ℕ → Type 0) → List ℕ → List ℕ → Answer → ℕ → Type 0
+MayTell says old new answer status = Fails old new status ⊎ Tells says old new answer status
+
+-- A fault is told as what is refused.
+abbrev pub TellsFault : HostFault → List ℕ → List ℕ → Answer → ℕ → Type 0
+TellsFault fault old new answer status = MayTell (IsRefusalText fault) old new answer status
+
+-- Of a check: the module is accepted, or refused by a fault of its.
+pub data IsChecked (bytes : List ℕ) (status : ℕ) (line : List ℕ) : Type 0 where
+  accepted : (count : ℕ) → HasFunctions bytes count → IsAcceptedText count status line → IsChecked bytes status line
+  refused : (fault : HostFault) → IsModuleFault bytes fault → IsRefusalText fault status line → IsChecked bytes status line
+
+abbrev pub Checks : List ℕ → List ℕ → List ℕ → Answer → ℕ → Type 0
+Checks bytes old new answer status = MayTell (IsChecked bytes) old new answer status
+
+-- The report of thread 0 is answered, if there is one.
+abbrev pub with_first : Answer → List ThreadReport → Answer
+with_first a [] = a
+with_first a (report ∷ reports) = answer_with a report
+
+-- The record of a run is put into the buffer, and how it ended is answered; unless memory was refused.
+pub record KeepsWhole (made : MadeRun) (before : Answer) (old new : List ℕ) (answer : Answer) (status : ℕ) : Type 0 where
+  pub puts : Puts old (record_text made.record) new
+  pub answer_is : answer ≡ with_first (record before { bytes = length (record_text made.record) }) made.end.threads.items
+  pub status_is : status ≡ status_of made.end.threads.items
+
+abbrev pub KeepsRun : MadeRun → Answer → List ℕ → List ℕ → Answer → ℕ → Type 0
+KeepsRun made before old new answer status = Fails old new status ⊎ KeepsWhole made before old new answer status
+
+-- Of a run: it is the one that is wanted, or it was refused.
+pub data RunsNamed (bytes name : List ℕ) (words : List Word) (o : Options) (old new : List ℕ) (answer : Answer) (status : ℕ)
+    : Type 0 where
+  fails : Fails old new status → RunsNamed bytes name words o old new answer status
+  ran : (made : MadeRun) → IsRunBy bytes name (values_by words) (plan_by o) made
+      → KeepsWhole made no_answer old new answer status → RunsNamed bytes name words o old new answer status
+  refused : (fault : HostFault) → IsFaultOf bytes name (values_by words) (plan_by o) fault → status ≡ status_of_fault fault
+      → new ≡ old → answer ≡ no_answer → RunsNamed bytes name words o old new answer status
+
+-- A name that is no UTF-8 is no function's.
+pub record HasNoName (name old new : List ℕ) (answer : Answer) (status : ℕ) : Type 0 where
+  pub none : IsUtf8 name → ⊥
+  pub three : status ≡ 3
+  pub kept : new ≡ old
+  pub answer_is : answer ≡ no_answer
+
+abbrev pub Runs : List ℕ → List ℕ → List Word → Options → List ℕ → List ℕ → Answer → ℕ → Type 0
+Runs bytes name words o old new answer status =
+    HasNoName name old new answer status ⊎ RunsNamed bytes name words o old new answer status
+
+-- Of a replay: what the run left, or why there is none.
+pub data IsReplayed (bytes saved : List ℕ) (status : ℕ) (line : List ℕ) : Type 0 where
+  ran : (end : EndState) → IsReplayOf bytes saved end → IsRunText end status line → IsReplayed bytes saved status line
+  refused : (fault : HostFault) → IsReplayFault bytes saved fault → IsRefusalText fault status line
+      → IsReplayed bytes saved status line
+
+-- The memory of a run is put into the buffer.
+pub record PutsMemory (bytes saved old new : List ℕ) (answer : Answer) : Type 0 where
+  pub end : EndState
+  pub run : IsReplayOf bytes saved end
+  pub length_is : answer.bytes ≡ length end.bytes.items
+  pub puts : Puts old end.bytes.items new
+
+pub record Replays (bytes saved memory memory' old new : List ℕ) (answer : Answer) (status : ℕ) : Type 0 where
+  pub told : MayTell (IsReplayed bytes saved) old new answer status
+  pub memory_is : ((memory' ≡ memory) × (answer.bytes ≡ 0)) ⊎ PutsMemory bytes saved memory memory' answer
+
+-- Of a search: all endings, or why there are none.
+pub data IsSearched (bytes name : List ℕ) (words : List Word) (o : Options) (status : ℕ) (line : List ℕ) : Type 0 where
+  met : (all : Ended Ending) → HasEndings bytes name (values_by words) o.states o.dump all
+      → IsSearchText all o.states status line → IsSearched bytes name words o status line
+  refused : (fault : HostFault) → IsCallFaultOf bytes name (values_by words) fault → IsRefusalText fault status line
+      → IsSearched bytes name words o status line
+
+abbrev pub SearchesNamed : List ℕ → List ℕ → List Word → Options → List ℕ → List ℕ → Answer → ℕ → Type 0
+SearchesNamed bytes name words o old new answer status = MayTell (IsSearched bytes name words o) old new answer status
+
+abbrev pub Searches : List ℕ → List ℕ → List Word → Options → List ℕ → List ℕ → Answer → ℕ → Type 0
+Searches bytes name words o old new answer status =
+    HasNoName name old new answer status ⊎ SearchesNamed bytes name words o old new answer status

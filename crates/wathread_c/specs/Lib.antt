@@ -1,0 +1,5 @@
+pub mod Answers
+pub mod Calls
+pub mod Given
+pub mod Lines
+pub mod Refused
