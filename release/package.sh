@@ -18,13 +18,14 @@ find_below() {
     needed+=("$1")
 }
 
-# Reads crates.txt, and finds the crates that the program is made of.
+# Reads crates.txt, and finds the crates that the program is made of, or the crate $1.
 read_crates() {
     local name words
+    needed=() seen=()
     while IFS=: read -r name words; do
         [ -z "$name" ] || { uses[${name%% *}]=$words && row[${name%% *}]=$name:$words; }
     done < <(sed 's/#.*//' "$top/crates.txt")
-    find_below wathread
+    find_below "${1:-wathread}"
 }
 
 # Prints a sum of all that the program is made from.
@@ -71,6 +72,23 @@ unpack() {
     unpacked "$shipped.xz" >"$1" 2>/dev/null && [ "$(sum_of "$1")" = "$(said program "$shipped.sum")" ] &&
         chmod 755 "$1"
 }
+
+# The library for hosts, as it is shipped.
+library=$top/release/libwathread-x86_64-linux
+
+# Unpacks the shipped library into the file $1, or puts into `why` what hinders it. It takes the place of what
+# read_crates found, so it runs in a shell of its own.
+unpack_library() (
+    read_crates wathread_c
+    why="no library is shipped"
+    [ -f "$library.xz" ] && [ -f "$library.sum" ] && why="the shipped library is of other sources" &&
+        [ "$(said sources "$library.sum")" = "$(sum_of_sources)" ] && why="there's neither xz nor python3" && can_unpack &&
+        why="the shipped library is damaged, or there's no room for it" && unpacked "$library.xz" >"$1" 2>/dev/null &&
+        [ "$(sum_of "$1")" = "$(said library "$library.sum")" ] && return
+    rm -f "$1"
+    echo "$why"
+    return 1
+)
 
 # Whether the shipped program is said to have the same $1 as what was just built.
 agrees() { [ "$(said "$1" "$shipped.sum")" = "$(said "$1" "$built.sum")" ]; }

@@ -1,0 +1,110 @@
+/* wathread for hosts in C: checks a module, runs it along a schedule that is drawn, replays a record, and goes through
+ * every order of a call's threads, on the thread that calls. It starts no thread and keeps nothing between calls.
+ *
+ * Who owns what: all memory that is passed stays the caller's, and is read or written only during the call. A length is
+ * in bytes, and no pointer is null, not even with a length of 0. What is read (a module, a name, arguments, options, a
+ * record) may be any bytes; what is written (a buffer, the answer) must overlap nothing else that is passed. A call takes
+ * memory by malloc and realloc, gives all of it back, and answers WATHREAD_FAILED where it is refused. No call is made
+ * from a signal handler. Calls on several threads at once are independent.
+ *
+ * A buffer that is too small gets no bytes; the length that is wanted stands in the answer, whatever the buffer's. So a
+ * call with a length of 0 asks how much is wanted.
+ *
+ * The statuses are those of the program, and the text is the object of JSON, with a line feed, that it prints with
+ * --json (docs/PROFILE.md has its shape). Link with lib/libwathread.a.
+ */
+#ifndef WATHREAD_H
+#define WATHREAD_H
+
+#include <stddef.h>
+#include <stdint.h>
+
+#ifdef __cplusplus
+extern "C" {
+#endif
+
+enum wathread_status {
+    WATHREAD_WELL = 0,          /* accepted; or all threads ended well; or all endings are known and well */
+    WATHREAD_ENDED = 1,         /* a thread ended in a trap or a stop; or not all endings are known to be well */
+    WATHREAD_NO_MODULE = 2,     /* the bytes are no valid module's */
+    WATHREAD_NO_CALL = 3,       /* no such function is exported, or the arguments don't fit, or a number is out of range */
+    WATHREAD_NO_RECORD = 4,     /* the bytes are no record's, or it is of no run of the module */
+    WATHREAD_FAILED = 5         /* memory was refused */
+};
+
+/* How thread 0 ended. */
+enum wathread_kind {
+    WATHREAD_NONE = 0,          /* it didn't run */
+    WATHREAD_VOID = 1,          /* its function returned nothing */
+    WATHREAD_I32 = 2,           /* it returned an i32 */
+    WATHREAD_I64 = 3,           /* it returned an i64 */
+    WATHREAD_TRAP = 4,          /* number: 1 unreachable, 2 divide by zero, 3 overflow, 4 out of bounds .. */
+    WATHREAD_STOP = 5           /* number: 1 out of fuel, 2 asleep for good, 3 record full */
+};
+
+/* What a call answers beside its status. */
+struct wathread_answer {
+    size_t text;                /* how many bytes the object of JSON has */
+    size_t bytes;               /* how many the record of a run has, or the memory behind a replay */
+    uint64_t units;             /* of a run: how many units thread 0 spent, */
+    uint64_t value;             /* what its function returned, */
+    uint32_t kind;              /* how it ended: a wathread_kind, */
+    uint32_t number;            /* and the number of a trap or a stop */
+};
+
+/* An argument: an i64 where is_wide isn't 0, and else an i32, the low half of bits. */
+struct wathread_word {
+    uint64_t bits;
+    uint32_t is_wide;
+};
+
+/* Who goes on, whenever more than one thread can. */
+enum wathread_strategy {
+    WATHREAD_MIX = 0,           /* one of the others, by the number of the run */
+    WATHREAD_RANDOM = 1,        /* anybody */
+    WATHREAD_PRIORITIES = 2,    /* the one with the highest priority; they change at depth - 1 points */
+    WATHREAD_SPIN = 3           /* the same one for a long time */
+};
+
+struct wathread_options {
+    uint64_t seed;              /* of a run: the seed, */
+    uint64_t run;               /* and its number: they say which run it is, on every machine */
+    uint64_t fuel;              /* how many units each thread may spend, 0 to 1,000,000,000,000 */
+    uint32_t limit;             /* how many entries its record takes, 1 to 1,000,000 */
+    uint32_t strategy;          /* a wathread_strategy */
+    uint32_t depth;             /* of priorities, 1 to 32 */
+    uint32_t states;            /* of a search: how many states are met at most, */
+    uint32_t dump;              /* and how many first bytes of the memory are told of each ending */
+};
+
+/* Options that fit most calls. */
+#define WATHREAD_OPTIONS { 1, 1, 10000000, 10000, WATHREAD_MIX, 3, 1000000, 0 }
+
+/* Checks a module in the binary format. The status is 0, 2 or 5. */
+uint32_t wathread_check(const uint8_t *module, size_t module_len, uint8_t *text, size_t text_len,
+                        struct wathread_answer *answer);
+
+/* Runs the exported function of this name, in thread 0, until all threads have ended: the run of options->run by
+ * options->seed, the one that `wathread search --seed --from` makes. Its record goes into the buffer; `wathread show` and
+ * `races` take it, and so does wathread_replay, which tells of all threads. The status is 0, 1, 2, 3 or 5. */
+uint32_t wathread_run(const uint8_t *module, size_t module_len, const uint8_t *name, size_t name_len,
+                      const struct wathread_word *args, size_t args_count, const struct wathread_options *options,
+                      uint8_t *record, size_t record_len, struct wathread_answer *answer);
+
+/* Runs a record again, and puts the memory's bytes, all of them, into the one buffer, and what became of each thread into
+ * the other. The status is 0, 1, 2, 4 or 5. */
+uint32_t wathread_replay(const uint8_t *module, size_t module_len, const uint8_t *record, size_t record_len,
+                         uint8_t *bytes, size_t bytes_len, uint8_t *text, size_t text_len,
+                         struct wathread_answer *answer);
+
+/* Goes through every order of the threads' entries, without a budget of units, and tells all endings and what never ends.
+ * Where "verdict" is "all", no run by the call ends otherwise. The status is 0, 1, 2, 3 or 5. */
+uint32_t wathread_search(const uint8_t *module, size_t module_len, const uint8_t *name, size_t name_len,
+                         const struct wathread_word *args, size_t args_count, const struct wathread_options *options,
+                         uint8_t *text, size_t text_len, struct wathread_answer *answer);
+
+#ifdef __cplusplus
+}
+#endif
+
+#endif
