@@ -44,7 +44,7 @@ def lines():
             title = row[2:]
             out.append("\n%s:\n" % (title[0].upper() + title[1:]))
         elif row:
-            out.append(line_of(row.split(":")[0]) + "\n")
+            out.append(line_of(row.split(":")[0].split()[0]) + "\n")
     return "".join(out)
 
 
