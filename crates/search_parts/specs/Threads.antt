@@ -7,6 +7,7 @@ use Rattle.types.specs.declared.event.Reply.{Reply}
 use Rattle.validate_typing.specs.Tabled.{WithTables}
 use Rattle.schedule.specs.System.{State}
 use Rattle.schedule_threads.specs.Shared.{Shared}
+use Rattle.search_runs.specs.Accesses.{access_of}
 use Rattle.search_runs.specs.Called.{Called, Walker as Thread, system_of, first_state}
 use Rattle.search_endings.specs.Endings.{Ending}
 use Rattle.search_runs.specs.Ends.{HasEndedSo}
@@ -25,6 +26,7 @@ abbrev pub threads_of : WithTables → Called → List ℕ → ThreadSystem Shar
 threads_of w b opening = record {
   system = system_of b;
   first = first_state b;
+  accesses = access_of;
   count = started_in;
   most = MOST_THREADS;
   shares = Shares opening;
