@@ -125,17 +125,20 @@ module _ {X T E V A G H M : Type 0} (k : ThreadSystem X T E V A G H M)
       rest-steps (t ∷ ts) w v p = onward (StepsBy k.system) w (next_in k w t) v (one_step (StepsBy k.system) w (next_in k w t) (t, refl)) (rest-steps ts (next_in k w t) v p.1)
 
   -- Where nobody is in another's way.
+  pub clear-kept : (x : Owning (Flat G H)) (wanted : List (Option Access)) → IsOwned k x → AreWanted k x.flat wanted → AreClear wanted x.owned.items → IsKept k x
+  clear-kept x wanted owned are clear = record {
+    safe = λ z at. record {
+      apart = owned.apart;
+      clear = λ t a y h among d c. (clear t a (are z at t ∙ h)).0 y among d c;
+      meet = λ t u a b d h g r. (clear t a (are z at t ∙ h)).1 u b (are z at u ∙ g) d r;
+    };
+    made = owned.made;
+  }
+
   pub onward-kept : (s x : Owning (Flat G H)) (n : ℕ) (wanted : List (Option Access)) → ComesOnward k n s x → AreWanted k x.flat wanted → AreClear wanted x.owned.items
       → ComesOf k s n x
   onward-kept s x n wanted one are clear = record {
-    kept = record {
-      safe = λ z at. record {
-        apart = (let owned = one.owned in owned.apart);
-        clear = λ t a y h among d c. (clear t a (are z at t ∙ h)).0 y among d c;
-        meet = λ t u a b d h g r. (clear t a (are z at t ∙ h)).1 u b (are z at u ∙ g) d r;
-      };
-      made = (let owned = one.owned in owned.made);
-    };
+    kept = clear-kept x wanted one.owned are clear;
     each = one.each;
     owned = one.keeps;
   }
@@ -163,7 +166,7 @@ module _ {X T E V A G H M : Type 0} (k : ThreadSystem X T E V A G H M)
           })
 
   pub came-more : (stuck : State X T → Type 0) (s x : Owning (Flat G H)) (n m : ℕ) (before : List (Option Access)) → AreWanted k s.flat before → (m ≢ n → access_at before m ≡ None)
-      → ComesOnward k n s x → (v : Came (Flat G H)) → IsCame k stuck x.flat (ComesAlone k m x) v → IsCame k stuck s.flat (ComesOnward k n s) v
+      → ComesOnward k n s x → (v : Came (Owning (Flat G H))) → IsCame k stuck x.flat (ComesAlone k m x) v → IsCame k stuck s.flat (ComesOnward k n s) v
   came-more stuck s x n m before are free one (came.To y) h = onward-more s x y n m before are free one h
   came-more stuck s x n m before are free one (came.Races r) h = h
   came-more stuck s x n m before are free one came.Unknown h = lost-onward stuck s x n one h

@@ -11,3 +11,5 @@ pub mod Going
 pub mod Continuing
 pub mod Resting
 pub mod Reducing
+pub mod Following
+pub mod Beginning

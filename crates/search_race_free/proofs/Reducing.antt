@@ -10,7 +10,7 @@ use Rattle.search_reach.specs.declared.explores.Next.{Next}
 use Rattle.search_reach.specs.Search.{StepSystem, StandsFor, RestsIn, HasOf, StaysIn, LeadsOn, ComesBy, IsOrderly, AreNext, IsMet}
 use Rattle.search_reach.proofs.Paths.{stays, one_step, onward}
 use Rattle.search_settled.specs.Settled.{CanGoOn, StepsBy, IsReached, AreTame, turning}
-use Rattle.search_settled.specs.Accesses.{IsPlain, Conflict}
+use Rattle.search_settled.specs.Accesses.{IsPlain, Conflict, Race}
 use Rattle.search_settled.specs.declared.access.Access.{Access}
 use Rattle.search_settled.specs.declared.flat.Flat.{Flat}
 use Rattle.search_settled.specs.Threads.{ThreadSystem, IsFlat}
@@ -21,6 +21,7 @@ use Rattle.search_race_free.specs.Wanted.{own_turn, next_access, after_next, Are
 use Rattle.search_race_free.specs.Owned.{Within, IsSafe}
 use Rattle.search_race_free.specs.Reduced.{wanted_in, next_in, Rest, IsResting, RestsSomewhere, IsKept, StandsBefore, reduced_steps, IsAfterTurn, ComesOf, HasReduced}
 use Rattle.search_race_free.proofs.Moving.{times-here, times-append, PlainLaws, AreApart, reached-along, along-both, same-along, wanted-along, sooner, past}
+use Rattle.search_race_free.proofs.Racing.{conflict-swap}
 use Rattle.search_race_free.proofs.Turning.{going_on, turn_access, event_access, reaches_next, plain-laws}
 use Rattle.search_race_free.proofs.Striking.{struck, within-apart}
 
@@ -87,7 +88,7 @@ module _ {X T E V A G H M O : Type 0} (k : ThreadSystem X T E V A G H M) (ends :
     own : ℕ → Access → Type 0
     own = Within s.owned.items
 
-    resting : (w : State X T) (left : ℕ → ℕ) (st : StandsBefore k s w left) → IsResting k s.flat st.settled
+    pub resting : (w : State X T) (left : ℕ → ℕ) (st : StandsBefore k s w left) → IsResting k s.flat st.settled
     resting w left st = record {
       reached = reached-along (wanted_in k) (next_in k) (IsReached k.system k.first) laws (Within s.owned.items) st.order w st.settled st.reached st.makes;
       rests = st.rests;
@@ -121,6 +122,46 @@ module _ {X T E V A G H M O : Type 0} (k : ThreadSystem X T E V A G H M) (ends :
         let same : w ≡ st.settled = subst (λ l. Rest k s.owned.items l w st.settled) none st.makes in
         let at = resting w (λ (n : ℕ). 0) st in
         subst (IsResting k s.flat) (sym same) at
+
+    -- what a thread that has no turn left before it rests does next is what it does then
+    same-then : (w : State X T) (left : ℕ → ℕ) (n : ℕ) (st : StandsBefore k s w left) → times n st.order ≡ 0 → wanted_in k st.settled n ≡ wanted_in k w n
+    same-then w left n st none =
+        same-along (wanted_in k) (next_in k) (IsReached k.system k.first) laws (Within s.owned.items) n st.order w st.settled st.reached st.makes none
+
+    -- what a thread that has one left does next it owns
+    owns-then : (w : State X T) (left : ℕ → ℕ) (n : ℕ) (st : StandsBefore k s w left) (a : Access) → 0 < times n st.order → wanted_in k w n ≡ Some a
+        → Within s.owned.items n a
+    owns-then w left n st a some wants =
+        let m = wanted-along (wanted_in k) (next_in k) (IsReached k.system k.first) laws (Within s.owned.items) n st.order w st.settled st.reached st.makes some in
+        subst (λ b. Within s.owned.items n b) (same_Some m.access a (sym m.wanted ∙ wants)) m.is_own
+
+    -- an access of a thread that has none left doesn't conflict with one of a thread that has
+    clear-then : (w : State X T) (left : ℕ → ℕ) (st : StandsBefore k s w left) (n u : ℕ) (a b : Access) → n ≢ u → times n st.order ≡ 0 → wanted_in k w n ≡ Some a
+        → Within s.owned.items u b → Conflict a b → ⊥
+    clear-then w left st n u a b d none wants own c =
+        let x = struck s.owned.items a b u c own in
+        let safe = safe-at w left st in
+        safe.clear n a x.touch (same-then w left n st none ∙ wants) x.among (λ q. d (sym q ∙ x.is)) x.conflict
+
+    -- no two next accesses race
+    pub free-at : (w : State X T) (left : ℕ → ℕ) (st : StandsBefore k s w left) (one other : ℕ) (a b : Access) → other ≢ one → wanted_in k w one ≡ Some a
+        → wanted_in k w other ≡ Some b → Race a b → ⊥
+    free-at w left st one other a b d h g race = elim (cases_lt 0 (times one st.order)) [
+      | inl some ↦ elim (cases_lt 0 (times other st.order)) [
+          | inl more ↦
+              within-apart k.system k.accesses s.owned.items st.settled (safe-at w left st) one other a b d
+              (owns-then w left one st a some h) (owns-then w left other st b more g) (conflict-swap a b race.conflict)
+          | inr few ↦
+              clear-then w left st other one b a d (omega (arith, few)) g (owns-then w left one st a some h) (conflict-swap a b race.conflict)
+        ]
+      | inr none ↦ elim (cases_lt 0 (times other st.order)) [
+          | inl more ↦
+              clear-then w left st one other a b (λ e. d (sym e)) (omega (arith, none)) h (owns-then w left other st b more g) race.conflict
+          | inr few ↦
+              (let safe = safe-at w left st in
+              safe.meet one other a b d (same-then w left one st (omega (arith, none)) ∙ h) (same-then w left other st (omega (arith, few)) ∙ g) race)
+        ]
+    ]
 
     few : (w : State X T) (n : ℕ) → StandsFor Reduced s w → CanGoOn k.system w n → n < k.most
     few w n stands can = let st = stands.1 in elim (cases_lt n k.most) [
@@ -165,11 +206,6 @@ module _ {X T E V A G H M O : Type 0} (k : ThreadSystem X T E V A G H M) (ends :
             others = λ u d. (let a = q.same u d in let b = st.turns_are u in omega (arith, a, b));
           }
 
-      -- what a thread that has no turn left before it rests does next is what it does then
-      same-then : (w : State X T) (left : ℕ → ℕ) (n : ℕ) (st : StandsBefore k s w left) → times n st.order ≡ 0 → wanted_in k st.settled n ≡ wanted_in k w n
-      same-then w left n st none =
-          same-along (wanted_in k) (next_in k) (IsReached k.system k.first) laws (Within s.owned.items) n st.order w st.settled st.reached st.makes none
-
       -- the turn of a thread that rests: what the others have left comes after it
       module _ (w y : State X T) (left : ℕ → ℕ) (n : ℕ) (st : StandsBefore k s w left) (a : Access) (none : times n st.order ≡ 0) (wants : wanted_in k w n ≡ Some a)
           (made : y ≡ next_in k w n) (x : Next (Owning (Flat G H))) (among : Contains xs x) (by : x.thread ≡ n) where
@@ -180,10 +216,7 @@ module _ {X T E V A G H M O : Type 0} (k : ThreadSystem X T E V A G H M) (ends :
         then = let c = comes_of in c.each st.settled (resting w left st)
 
         clear : (t : ℕ) (e : Access) → n ≢ t → Within s.owned.items t e → Conflict a e → ⊥
-        clear t e d own c =
-            let x = struck s.owned.items a e t c own in
-            let safe = safe-at w left st in
-            safe.clear n a x.touch (same-then w left n st none ∙ wants) x.among (λ q. d (sym q ∙ x.is)) x.conflict
+        clear t e d own c = clear-then w left st n t a e d none wants own c
 
         others_first : Rest k x.state.owned.items st.order (next_in k w n) (next_in k st.settled n)
         others_first =

@@ -5,4 +5,6 @@ pub mod Owned
 pub mod Touches
 pub mod Reduced
 pub mod Search
+pub mod Turns
+pub mod Same
 pub mod Laws

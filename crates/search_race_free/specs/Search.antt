@@ -1,5 +1,5 @@
 -- What each call of the search shows.
-use Rattle.std.specs.Prelude.{ℕ, ◌≡◌, ◌≢◌, ◌≤◌, ◌⊎◌, List, Contains, Option, Some, None}
+use Rattle.std.specs.Prelude.{ℕ, ◌≡◌, ◌≢◌, ◌+◌, ◌<◌, ◌≤◌, ◌⊎◌, List, Contains, Option, Some, None}
 use Rattle.schedule.specs.System.{Want.Turns, Want.Calls, System, State}
 use Rattle.search_graph.specs.Paths.{Reaches}
 use Rattle.search_reach.specs.declared.explores.Next.{Next}
@@ -7,7 +7,7 @@ use Rattle.search_settled.specs.Settled.{IsReached, StepsBy}
 use Rattle.search_settled.specs.Accesses.{HasByte, Conflict}
 use Rattle.search_settled.specs.Threads.{ThreadSystem}
 use Rattle.search_settled.specs.Flat.{IsThreadOf}
-use Rattle.search_settled.specs.Next.{IsNextBy}
+use Rattle.search_settled.specs.Next.{IsBeginning, IsNextBy}
 use Rattle.search_settled.specs.declared.access.Access.{Access}
 use Rattle.search_settled.specs.declared.flat.Flat.{Flat}
 use Rattle.search_race_free.specs.declared.owning.Touch.{Touch}
@@ -22,7 +22,7 @@ use Rattle.search_race_free.specs.Wanted.{next_access}
 use Rattle.search_race_free.specs.Races.{HasRace}
 use Rattle.search_race_free.specs.Owned.{Within}
 use Rattle.search_race_free.specs.Touches.{access_at}
-use Rattle.search_race_free.specs.Reduced.{wanted_in, next_in, Rest, IsResting, RestsSomewhere, HasTouched, IsAfterTurn, ComesOf, HasReduced}
+use Rattle.search_race_free.specs.Reduced.{wanted_in, next_in, Rest, IsResting, RestsSomewhere, HasTouched, IsKept, IsAfterTurn, ComesOf, HasReduced}
 
 -- No thread from a number on can go on.
 abbrev pub NoneBeyond : {X T E V A : Type 0} → System X T E V A → (X → T → E → Access) → State X T → ℕ → Type 0
@@ -91,7 +91,33 @@ module _ {X T E V A G H M : Type 0} (k : ThreadSystem X T E V A G H M) where
   IsAlone stuck m s alone.Unknown = GetsLost stuck s.flat
 
   -- Where it came: what holds of that; or a race, or nothing can be told from s on.
-  abbrev pub IsCame : (State X T → Type 0) → Flat G H → (Owning (Flat G H) → Type 0) → Came (Flat G H) → Type 0
+  abbrev pub IsCame : {B : Type 0} → (State X T → Type 0) → Flat G H → (B → Type 0) → Came B → Type 0
   IsCame stuck c P (came.To x) = P x
   IsCame stuck c P (came.Races r) = IsRace r
   IsCame stuck c P came.Unknown = GetsLost stuck c
+
+  -- It can be reached, and what is owned there is safe and was made.
+  pub record IsKnown (s : Owning (Flat G H)) : Type 0 where
+    pub somewhere : RestsSomewhere k s.flat
+    pub kept : IsKept k s
+
+  -- All come to rest there in the beginning.
+  pub record IsBegun (x : Owning (Flat G H)) : Type 0 where
+    pub kept : IsKept k x
+    pub beginning : IsBeginning k x.flat
+
+  -- That; or a race, or nothing can be told from the beginning on.
+  abbrev pub IsCameFirst : (State X T → Type 0) → Came (Owning (Flat G H)) → Type 0
+  IsCameFirst stuck (came.To x) = IsBegun x
+  IsCameFirst stuck (came.Races r) = IsRace r
+  IsCameFirst stuck came.Unknown = stuck k.first
+
+  -- There is one of these of each thread below a number that can go on, and each of these is of such a thread.
+  pub record HasReducedBelow (s : Owning (Flat G H)) (i : ℕ) (xs : List (Next (Owning (Flat G H)))) : Type 0 where
+    pub all : (z : State X T) → IsResting k s.flat z → (n : ℕ) → n < i → (a : Access) → wanted_in k z n ≡ Some a
+        → (x : Next (Owning (Flat G H))) × Contains xs x × (x.thread ≡ n)
+    pub each : (x : Next (Owning (Flat G H))) → Contains xs x → ComesOf k s x.thread x.state
+
+  -- With what was put to them, they are those of one thread more.
+  abbrev pub HasOneMore : Owning (Flat G H) → ℕ → List (Next (Owning (Flat G H))) → List (Next (Owning (Flat G H))) → Type 0
+  HasOneMore s n before after = HasReducedBelow s n before → HasReducedBelow s (n + 1) after

@@ -21,7 +21,8 @@ pub(crate) fn wanted<M: Accesses>(
     let mut wanted = Vec::with_capacity(alloc, flat.threads.len())?;
     let mut n: usize = 0;
     while let Some(thread) = flat.threads.get(n) {
-        wanted.push(system.access(&flat.shared, thread, n))?;
+        let access = system.access(alloc, &flat.shared, thread, n)?;
+        wanted.push(access)?;
         n += 1;
     }
     Ok(wanted)
@@ -79,7 +80,7 @@ fn turn_alone<M: Accesses>(
     let Some(thread) = from.flat.threads.get(m) else {
         return Ok(Alone::Stops(from));
     };
-    let Some(access) = system.access(&from.flat.shared, thread, m) else {
+    let Some(access) = system.access(alloc, &from.flat.shared, thread, m)? else {
         return Ok(Alone::Stops(from));
     };
     if !access.plain {
@@ -96,11 +97,11 @@ fn turn_alone<M: Accesses>(
     Ok(Alone::GoesOn(Owning { flat, owned }))
 }
 
-/// Where a thread came.
+/// Where threads came.
 #[derive(Drop)]
-pub(crate) enum Came<F> {
+pub(crate) enum Came<S> {
     /// There.
-    To(Owning<F>),
+    To(S),
     /// These threads race.
     Races(Race),
     /// That can't be told.
@@ -114,7 +115,7 @@ pub(crate) fn run_alone<M: Accesses>(
     from: Owning<Flat<M::Shared, M::Thread>>,
     m: usize,
     most: u32,
-) -> Result<Came<Flat<M::Shared, M::Thread>>, AllocError>
+) -> Result<Came<Owning<Flat<M::Shared, M::Thread>>>, AllocError>
     requires { IsOwned (M.threads system.now) from }
     ensures { IfOk result
         (IsCame (M.threads system.now) (M.stuck system.now) from.flat (ComesAlone (M.threads system.now) m from)) }

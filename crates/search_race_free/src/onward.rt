@@ -12,7 +12,7 @@ use search_settled::{Access, Flat};
 use std::alloc::{AllocError, Global};
 
 /// What thread m does next, as a list has it.
-fn next_of(wanted: &[Option<Access>], m: usize) -> Option<Access>
+pub(crate) fn next_of(wanted: &[Option<Access>], m: usize) -> Option<Access>
     ensures { result ≡ access_at wanted.now m }
 {
     if m < wanted.len() { wanted[m] } else { None }
@@ -37,7 +37,7 @@ fn run_free<M: Accesses>(
     n: usize,
     m: usize,
     most: u32,
-) -> Result<Came<Flat<M::Shared, M::Thread>>, AllocError>
+) -> Result<Came<Owning<Flat<M::Shared, M::Thread>>>, AllocError>
     requires { IsOwned (M.threads system.now) at }
     ensures { (s : OwningState _) → AreWanted (M.threads system.now) s.flat before.now → ComesOnward (M.threads system.now) n s at
         → IfOk result (IsCame (M.threads system.now) (M.stuck system.now) s.flat (ComesOnward (M.threads system.now) n s)) }
@@ -58,7 +58,7 @@ fn turn_onward<M: Accesses>(
     n: usize,
     access: Access,
     most: u32,
-) -> Result<Came<Flat<M::Shared, M::Thread>>, AllocError>
+) -> Result<Came<Owning<Flat<M::Shared, M::Thread>>>, AllocError>
     requires owned { IsOwned (M.threads system.now) from.now }
     requires before { AreWanted (M.threads system.now) from.now.flat before.now }
     requires wants { WantsSome (M.threads system.now) from.now.flat n access }
@@ -90,7 +90,7 @@ pub(crate) fn advance<M: Accesses>(
     n: usize,
     access: Access,
     most: u32,
-) -> Result<Came<Flat<M::Shared, M::Thread>>, AllocError>
+) -> Result<Came<Owning<Flat<M::Shared, M::Thread>>>, AllocError>
     requires owned { IsOwned (M.threads system.now) from.now }
     requires before { AreWanted (M.threads system.now) from.now.flat before.now }
     requires wants { WantsSome (M.threads system.now) from.now.flat n access }

@@ -3,6 +3,8 @@ use Rattle.std.specs.Prelude.{ℕ, ◌+◌, ◌&&◌, Bool, true, false, nat_le,
 use Rattle.types.specs.declared.event.Event.{Event}
 use Rattle.types.specs.declared.event.Event.TheVariants.{Size, Grow, Load, Store, Rmw, Cmpxchg, Ask, Told}
 use Rattle.types.specs.declared.event.Question.TheVariants.{Wait, Notify, Spawn, Leave}
+use Rattle.types.specs.declared.instr.Instr.{Instr}
+use Rattle.types.specs.declared.instr.Instr.TheVariants as instrs
 use Rattle.types.specs.declared.instr.PlainInstr.{PlainInstr}
 use Rattle.types.specs.declared.instr.PlainInstr.TheVariants as plain
 use Rattle.types.specs.Nesting.{Code, Empty, Then, BlockThen, LoopThen, IfThen, IfElseThen}
@@ -19,6 +21,10 @@ abbrev pub is_plain_op : PlainInstr → Bool
 is_plain_op (plain.Load op arg) = true
 is_plain_op (plain.Store w arg) = true
 is_plain_op _ = false
+
+abbrev pub is_plain_instr : Instr → Bool
+is_plain_instr (instrs.Plain op) = is_plain_op op
+is_plain_instr _ = false
 
 abbrev pub is_plain_code : Code → Bool
 is_plain_code Empty = false
@@ -42,11 +48,13 @@ is_plain (Away o) = false
 abbrev pub no_bytes : Access
 no_bytes = record { plain = false; writes = false; addr = 0; width = 0 }
 
--- A load or a store, whose whole access ends there, is plain or atomic; out of bounds it touches no byte.
+-- A load or a store, whose whole access ends there and whose bytes lie before that, is plain or atomic; out of bounds it
+-- touches no byte.
 abbrev pub in_bounds : Memory → Bool → Bool → ℕ → ℕ → ℕ → Access
 in_bounds m plain writes addr width reach =
-    if nat_le (addr + width) reach && nat_le reach (length m.bytes)
-    then record { plain = plain; writes = writes; addr = addr; width = width } else no_bytes
+    if nat_le reach (length m.bytes)
+    then record { plain = plain && nat_le (addr + width) reach; writes = writes; addr = addr; width = width }
+    else no_bytes
 
 -- A read-modify-write and a compare-exchange write, whether the one finds what it expects or not; a wait reads; all
 -- three are atomic.

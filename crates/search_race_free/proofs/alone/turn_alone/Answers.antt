@@ -33,7 +33,7 @@ returns-in-Some-struck g c =
     let there = ap (λ l. slice_get l c.args.m) (sym c.deref.ensures.value)
     ∙ at-get c.deref.result.now c.args.m c.in-Some.thread.now c.in-Some.ensures.lookup.3.0 c.in-Some.ensures.lookup.1 in
     inl (strikes-race k (g.met.M.Moves.tame c.args.system.now) (g.met.M.Accesses.plain c.args.system.now) c.args.from c.args.m c.in-Some-struck.one c.in-Some-access.access c.requires
-    (λ z at. sym (c.access.ensures z (thread-at k c.args.from.flat z at c.args.m c.in-Some.thread.now there)) ∙ c.in-Some-access.is)
+    (λ z at. sym (c.in_ok-access.ensures z (thread-at k c.args.from.flat z at c.args.m c.in-Some.thread.now there)) ∙ c.in-Some-access.is)
     (subst (λ l. Strikes l c.args.m c.in-Some-access.access c.in-Some-struck.one) c.as_slice.ensures.value c.in-Some-struck.ensures.some))
 
 pub after_event-requires-clause-wants : goal.after_event-requires-clause-wants
@@ -41,7 +41,7 @@ after_event-requires-clause-wants g c z at =
     let k = g.M.Moves.threads c.args.system.now in
     let there = ap (λ l. slice_get l c.args.m) (sym c.deref.ensures.value)
     ∙ at-get c.deref.result.now c.args.m c.in-Some.thread.now c.in-Some.ensures.lookup.3.0 c.in-Some.ensures.lookup.1 in
-    sym (c.access.ensures z (thread-at k c.args.from.flat z at c.args.m c.in-Some.thread.now there)) ∙ c.in-Some-access.is
+    sym (c.in_ok-access.ensures z (thread-at k c.args.from.flat z at c.args.m c.in-Some.thread.now there)) ∙ c.in-Some-access.is
 
 pub returns-in_default-2 : goal.returns-in_default-2
 returns-in_default-2 g c = c.in_ok-flat.ensures.gives_up c.in_default-2.is
@@ -53,7 +53,7 @@ returns g c =
     ∙ at-get c.deref.result.now c.args.m c.in-Some.thread.now c.in-Some.ensures.lookup.3.0 c.in-Some.ensures.lookup.1 in
     goes-on-alone k (g.met.M.Moves.tame c.args.system.now) (g.met.M.Accesses.plain c.args.system.now) c.args.from
     (record { flat = c.in-Some-2.flat; owned = c.put.new.touches }) c.args.m c.in-Some-access.access c.requires
-    (λ z at. sym (c.access.ensures z (thread-at k c.args.from.flat z at c.args.m c.in-Some.thread.now there)) ∙ c.in-Some-access.is)
+    (λ z at. sym (c.in_ok-access.ensures z (thread-at k c.args.from.flat z at c.args.m c.in-Some.thread.now there)) ∙ c.in-Some-access.is)
     (not_false c.in-Some-access.access.plain c.if-not-access.false)
     (subst (λ l. StrikesNobody l c.args.m c.in-Some-access.access) c.as_slice.ensures.value c.in_default-struck.ensures.none)
     (if-some-at _ _ _ c.in-Some-2.is c.in_ok-flat.ensures.next)

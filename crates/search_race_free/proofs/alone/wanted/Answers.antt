@@ -23,7 +23,7 @@ loop-thread-preserved g c =
     c.loop-thread.invariant
     (ap (λ l. slice_get l c.loop-thread.n) (sym c.deref.ensures.value)
     ∙ at-get c.deref.result.now c.loop-thread.n c.in-Some.thread.now c.in-Some.ensures.lookup.3.0 c.in-Some.ensures.lookup.1)
-    c.access.ensures)
+    c.in_ok-access.ensures)
 
 pub returns : goal.returns
 returns g c = wanted-all (g.M.Moves.threads c.args.system.now) c.args.flat.now c.loop-thread.n c.loop-thread.wanted.items c.loop-thread.invariant
