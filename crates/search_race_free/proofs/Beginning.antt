@@ -89,7 +89,7 @@ module _ {X T E V A G H M : Type 0} (k : ThreadSystem X T E V A G H M)
         let b = begun.beginning in
         let r = beginning-by x.owned.items x.flat b in
         record {
-          all = λ w begins. (λ n. times n r.order, subst (λ v. StandsBefore k x v (λ n. times n r.order)) (sym begins) (record {
+          all = λ w begins. ((λ (n : ℕ). times n r.order), subst (λ v. StandsBefore k x v (λ n. times n r.order)) (sym begins) (record {
             kept = begun.kept;
             reached = stays (StepsBy k.system) k.first;
             order = r.order;

@@ -33,7 +33,7 @@ IsAccess m (Cmpxchg addr width expected replacement) = ⊥
 IsAccess m (Ask question) = ⊥
 IsAccess m (Told answer) = ⊥
 
-inside : Bool → Bool → ℕ → ℕ → Access
+abbrev inside : Bool → Bool → ℕ → ℕ → Access
 inside plain writes addr width = record { plain = plain; writes = writes; addr = addr; width = width }
 
 both-true : (s t : Bool) → (s && t) ≡ true → (s ≡ true) × (t ≡ true)
@@ -79,7 +79,7 @@ in-is m plain writes addr width reach e = ap (λ t. if t then inside (plain && n
 
 -- Ranges of bytes without a byte in common.
 abbrev pub Apart : ℕ → ℕ → ℕ → ℕ → Type 0
-Apart a w b v = (w ≡ 0) ⊎ (v ≡ 0) ⊎ (a + w ≤ b) ⊎ (b + v ≤ a)
+Apart a w b v = (w ≡ 0) ⊎ ((v ≡ 0) ⊎ ((a + w ≤ b) ⊎ (b + v ≤ a)))
 
 pub apart-of : (x y : Access) → (Meet x y → ⊥) → Apart x.addr x.width y.addr y.width
 apart-of x y never = elim (cases_lt 0 x.width) [

@@ -3,6 +3,7 @@
 
 mod endings;
 mod examples;
+mod free;
 mod rows;
 mod runs;
 mod told;

@@ -16,7 +16,7 @@ use Rattle.interp.specs.declared.kept.Kept.{Kept}
 use Rattle.interp.specs.Kept.{IsKept}
 use Rattle.search_runs.specs.Accesses.{is_plain_code, is_plain_instr}
 
-pub found : Option Instr → Bool
+abbrev pub found : Option Instr → Bool
 found (Some i) = is_plain_instr i
 found None = false
 
