@@ -1,5 +1,5 @@
 -- The instruction at which a thread stands is the one that its code begins with.
-use Rattle.std.proofs.Common.{◌≡◌, ℕ, List, length, Option, Some, None, Bool, true, false, refl, sym, ◌∙◌, ap, subst}
+use Rattle.std.proofs.Common.{◌≡◌, ◌≤◌, ℕ, zero, suc, arith, List, [], ◌∷◌, length, Option, Some, None, Bool, true, false, refl, sym, ◌∙◌, ap, subst}
 use Rattle.std.specs.List.{slice_get}
 use Rattle.std.proofs.lemmas.Option.{none-some}
 use Rattle.types.specs.declared.instr.Instr.{Instr}
@@ -19,6 +19,11 @@ use Rattle.search_runs.specs.Accesses.{is_plain_code, is_plain_instr}
 abbrev pub found : Option Instr → Bool
 found (Some i) = is_plain_instr i
 found None = false
+
+pub past : (xs : List Instr) (n : ℕ) → length xs ≤ n → slice_get xs n ≡ None
+past [] n h = refl
+past (x ∷ xs) zero h = absurd (omega (arith, h))
+past (x ∷ xs) (suc n) h = past xs n (omega (arith, h))
 
 placed : (b : Flat) (live : Bool) (ss : List FlatLabel) (height : ℕ) (code : Code) (pc stop : ℕ) (ts us : List ValType) → Ends b stop
     → IsPlaced b live ss height code pc stop ts us → found (slice_get b.code pc) ≡ is_plain_code code

@@ -19,15 +19,15 @@ enum Expected {
 
 /// What is expected of each of the modules.
 static EXPECTED: [Expected; 9] = [
-    Expected::States(0),
-    Expected::States(0),
-    Expected::States(0),
-    Expected::States(0),
-    Expected::States(0),
-    Expected::States(0),
-    Expected::States(0),
-    Expected::States(0),
-    Expected::States(0),
+    Expected::Race(0, 1),
+    Expected::States(201),
+    Expected::States(209),
+    Expected::Race(0, 1),
+    Expected::States(114),
+    Expected::States(23),
+    Expected::Race(0, 1),
+    Expected::States(995),
+    Expected::States(387),
 ];
 
 fn gone_freely(
@@ -62,7 +62,7 @@ fn check_free<R: Abort>(
             assert_eq!(rt; race, Some((*one, *other)));
         }
         Expected::States(states) => {
-            assert_eq!(rt; free.race.is_none(), true);
+            assert!(rt; free.race.is_none());
             assert_eq!(rt; free.ended.states, *states);
             assert_eq!(rt; free.ended.verdict, Verdict::All);
             let all = gone_through(alloc, valid, gone, MOST)?;
