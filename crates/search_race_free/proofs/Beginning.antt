@@ -1,10 +1,14 @@
 -- Where all come to rest in the beginning, and what is asked of the search beside next states.
-use Rattle.std.proofs.Common.{◌≡◌, ◌≢◌, ◌⊎◌, ◌≤◌, ◌<◌, inl, inr, refl, sym, ◌∙◌, ap, subst, arith, ℕ, List, [], ◌∷◌, Contains, Option, Some, None}
+use Rattle.std.proofs.Common.{◌≡◌, ◌≢◌, ◌⊎◌, ◌≤◌, ◌<◌, inl, inr, refl, sym, ◌∙◌, ap, subst, arith, ℕ, Bool, List, [], ◌∷◌, Contains, Option, Some, None}
 use Rattle.std.specs.Prelude.{IfSome}
 use Rattle.std.proofs.lemmas.Option.{none-some}
 use Rattle.schedule.specs.System.{State}
 use Rattle.search_graph.specs.Paths.{Reaches}
 use Rattle.search_reach.specs.Search.{StepSystem, StandsFor, IsFirst, IsMet, IsEnding, IsAll, AllGetStuck, CanGetStuck, GetsStuck}
+use Rattle.search_reach.specs.Liveness.{IsLiveWhereAll}
+use Rattle.search_reach.specs.declared.liveness.Liveness.{Liveness}
+use Rattle.search_reach.specs.declared.search.Verdict.{Verdict}
+use Rattle.search_reach.specs.declared.search.Verdict.TheVariants as verdicts
 use Rattle.search_reach.proofs.Paths.{stays, onward}
 use Rattle.search_settled.specs.Settled.{IsReached, StepsBy, AreTame}
 use Rattle.search_settled.specs.Accesses.{Conflict}
@@ -169,3 +173,8 @@ module _ {X T E V A G H M : Type 0} (k : ThreadSystem X T E V A G H M)
               let c = all k.first m.state refl m.reached in
               let stands = c.is in
               free-at k ends stuck tame plain beyond c.state m.state stands.0 stands.1 one other m.access m.next m.differ m.wanted m.wanted_next m.race
+
+      pub free-where-all : (eq : Owning (Flat G H) → Owning (Flat G H) → Bool) (states : ℕ) (verdict : Verdict) (o : Option Liveness)
+          → IsLiveWhereAll Reduced eq states verdict o → verdict ≡ verdicts.All → NoneRace k.system k.first k.accesses
+      free-where-all eq states verdict None said all = absurd (said all)
+      free-where-all eq states verdict (Some l) said all = none-race said.1.keys said.1.all

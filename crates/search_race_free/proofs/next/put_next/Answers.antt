@@ -31,11 +31,11 @@ overflow_cast-n g c =
     let there = c.requires.there in
     omega (arith, len, few, low, there)
 
-pub returns-in-To : goal.returns-in-To
-returns-in-To g c =
+pub returns-in_ok-push-in-To : goal.returns-in_ok-push-in-To
+returns-in_ok-push-in-To g c =
     let k = g.M.Moves.threads c.args.system.now in
     let stuck = g.M.Moves.stuck c.args.system.now in
-    λ so. subst (HasReducedBelow k c.args.from.now (c.args.n + 1)) (sym c.in_ok-push.ensures.items)
+    λ so. subst (HasReducedBelow k c.args.from.now (c.args.n + 1)) (sym c.in_ok-push-in-To.ensures.items)
     (below-more k c.args.from.now c.args.n c.args.all.now.items (record { thread = c.args.n; state = c.in-To.state }) refl
     (subst (IsCame k stuck c.args.from.now.flat (ComesOf k c.args.from.now c.args.n)) c.in-To.is c.in_ok-state.ensures) so)
 
