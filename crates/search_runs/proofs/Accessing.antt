@@ -47,7 +47,7 @@ queue-still m q n (events.Ask question) r is = absurd is
 queue-still m q n (events.Told answer) r is = absurd is
 
 -- it starts nobody
-starts-nobody : (b : Called) (x : Shared) (m : Memory) (e : Event) (u : ℕ) → IsAccess m e → started_without (begun_at b x e u) ≡ None
+starts-nobody : (b : Called) (x : Shared) (m : Memory) (e : Event) (u : ℕ) → IsAccess m e → started_without {O = Outcome} (begun_at b x e u) ≡ None
 starts-nobody b x m events.Size u is = absurd is
 starts-nobody b x m (events.Grow more) u is = absurd is
 starts-nobody b x m (events.Load addr width reach) u is = refl
@@ -58,7 +58,7 @@ starts-nobody b x m (events.Ask question) u is = absurd is
 starts-nobody b x m (events.Told answer) u is = absurd is
 
 -- whom an event starts the queue says
-starts-same : (b : Called) (x y : Shared) (f : Event) (u : ℕ) → y.queue ≡ x.queue → started_without (begun_at b y f u) ≡ started_without (begun_at b x f u)
+starts-same : (b : Called) (x y : Shared) (f : Event) (u : ℕ) → y.queue ≡ x.queue → started_without {O = Outcome} (begun_at b y f u) ≡ started_without {O = Outcome} (begun_at b x f u)
 starts-same b x y events.Size u h = refl
 starts-same b x y (events.Grow more) u h = refl
 starts-same b x y (events.Load addr width reach) u h = refl
@@ -68,7 +68,7 @@ starts-same b x y (events.Cmpxchg addr width expected replacement) u h = refl
 starts-same b x y (events.Ask (questions.Wait addr width expected timeout)) u h = refl
 starts-same b x y (events.Ask (questions.Notify addr count)) u h = refl
 starts-same b x y (events.Ask (questions.Spawn arg)) u h =
-    ap (λ (q : WaitQueue). started_without (cond (nat_lt u (length q.due) && (u == next_id q)) (Some (spawned_in b.worker u arg)) None)) h
+    ap (λ (q : WaitQueue). started_without {O = Outcome} (cond (nat_lt u (length q.due) && (u == next_id q)) (Some (spawned_in b.worker u arg)) None)) h
 starts-same b x y (events.Ask questions.Leave) u h = refl
 starts-same b x y (events.Told answer) u h = refl
 

@@ -373,7 +373,7 @@ as-long m (Load b v r) fits = refl
 as-long m (Store b v r k) fits =
     let ends = fits.ends in
     let reaches = fits.reaches in
-    ap (λ (z : Memory). length z.bytes) (if-in m r (written m b v k) m reaches) ∙ long m b v k (omega (arith, ends, reaches))
+    ap (λ (z : Memory). length z.bytes) (if-in m r (written m b v k) m reaches) ∙ long m true b v k (omega (arith, ends, reaches))
 as-long m (Rmw op addr width value) is = absurd is
 as-long m (Cmpxchg addr width expected replacement) is = absurd is
 as-long m (Ask question) is = absurd is
