@@ -7,10 +7,10 @@ use Rattle.search_walkers.proofs.plain.is_at_plain.Goals as goal
 pub returns-in_default : goal.returns-in_default
 returns-in_default c = λ x kept. absurd (no-body c.args.valid.now c.args.kept.now x kept c.in_default.ensures)
 
-pub returns-in-Some : goal.returns-in-Some
-returns-in-Some c = λ x kept.
+pub returns-in-Some-get : goal.returns-in-Some-get
+returns-in-Some-get c = λ x kept.
     let at = ap (λ l. slice_get l c.args.kept.now.pc) (sym c.as_slice.ensures)
-    ∙ at-get c.as_slice.result.now c.args.kept.now.pc c.in-Some-instr.instr.now c.in-Some-instr.ensures.lookup.3.0 c.in-Some-instr.ensures.lookup.1 in
+    ∙ at-get c.as_slice.result.now c.args.kept.now.pc c.in-Some-get.instr.now c.in-Some-get.ensures.lookup.3.0 c.in-Some-get.ensures.lookup.1 in
     c.is_plain_access.ensures ∙ (sym (ap found at) ∙ body-of c.args.valid.now c.args.kept.now x kept c.in-Some.body.now c.in-Some.ensures)
 
 pub returns-in-None : goal.returns-in-None
