@@ -1,6 +1,6 @@
 //! What a thread does with the memory next.
 
-ghost use Rattle.std.specs.Prelude.{◌≡◌, ◌+◌, ℕ, List, length, nat_le, IfOk};
+ghost use Rattle.std.specs.Prelude.{◌≡◌, ◌+◌, ℕ, List, length, nat_le, false, IfOk};
 ghost use Rattle.shared_memory.specs.Memory.{Memory};
 ghost use Rattle.search_runs.specs.Accesses.{no_bytes, in_bounds, access_by};
 ghost use Rattle.search_parts.specs.Threads.{IsInCall, IsAccessIn};
