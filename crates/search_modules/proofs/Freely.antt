@@ -44,7 +44,7 @@ lost_freely m s entry args call worker stuck = by stuck.gets.is
     by (inl lost) =
         inl (lost_by m s entry args call worker
         (record { from = stuck.from; begun = stuck.begun; gets = record { end = stuck.gets.end; path = stuck.gets.path; is = lost } }))
-    by (inr race) = inr (record { one = race.0; other = race.1 }, called s, call, race.2)
+    by (inr race) = inr (record { one = race.0; other = race.1 }, (called s, call, race.2))
 
 pub race_by : (m : Parts) (s : Searched) (entry : List ℕ) (args : List Value) → IsCall m entry args (called s) → (r : Race)
     → HasRace (system_of (called s)) (first_state (called s)) access_of r.one r.other → CanRaceSo m entry args r
