@@ -6,3 +6,4 @@ pub mod Entries
 pub mod Finding
 pub mod Living
 pub mod Returning
+pub mod Freely

@@ -6,7 +6,9 @@ use Rattle.search_runs.specs.Ends.{HasEndedSo}
 use Rattle.search_settled.specs.Next.{HasEnded, IsSomewhere}
 use Rattle.search_settled.specs.Flat.{IsEventAt}
 use Rattle.search_settled.specs.declared.flat.Flat.{Flat}
-use Rattle.search_parts.specs.Threads.{threads_of, IsEventIn, IsSettled, HasEndedIn}
+use Rattle.search_settled.specs.declared.access.Access.{Access}
+use Rattle.search_race_free.specs.Search.{IsAccessOf}
+use Rattle.search_parts.specs.Threads.{IsAccessIn, threads_of, IsEventIn, IsSettled, HasEndedIn}
 use Rattle.search_parts.specs.declared.event.Effect.{Effect}
 use Rattle.search_parts.specs.declared.shared.Common.{Common}
 use Rattle.search_parts.specs.declared.shared.HashedThread.{HashedThread}
@@ -27,6 +29,14 @@ module _ (s : Searched) where
       (λ o by z of. by (called s) z (record { of = refl; reached = of.0; shares = of.1; rested = of.2 }))
       (subst (λ (t : HashedThread). IfOk r (IsEventIn s.valid.now s.opening.items shared t.standing n)) is
       (subst (λ l. IfOk r (IsEventIn s.valid.now l shared read.standing n)) same h))
+
+  -- of what a thread does with the memory
+  pub access_told : {E : Type 0} (shared : Common) (read thread : HashedThread) → read ≡ thread → (n : ℕ) (r : Result (Option Access) E)
+      → IfOk r (λ o. (opening : List ℕ) → IsAccessIn s.valid.now opening shared read.standing n o) → IfOk r (IsAccessOf (threads s) shared thread n)
+  access_told shared read thread is n r h =
+      if_ok_so r (λ o. (opening : List ℕ) → IsAccessIn s.valid.now opening shared thread.standing n o) (IsAccessOf (threads s) shared thread n)
+      (λ o by z of. by s.opening.items (called s) z (record { of = refl; reached = of.0; shares = of.1; rested = of.2 }))
+      (subst (λ (t : HashedThread). IfOk r (λ o. (opening : List ℕ) → IsAccessIn s.valid.now opening shared t.standing n o)) is h)
 
   -- of an ending
   abbrev EndTold : Flat Common HashedThread → Option Ending → Type 0

@@ -3,3 +3,4 @@ pub mod Moved
 pub mod Endings
 pub mod Returned
 pub mod Liveness
+pub mod Races

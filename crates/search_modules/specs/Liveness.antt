@@ -18,6 +18,9 @@ use Rattle.search_settled.specs.Settled.{StepsBy, turning}
 use Rattle.search_settled.specs.Next.{StandsForState}
 use Rattle.search_settled.specs.Same.{flat_eq}
 use Rattle.search_settled.specs.declared.flat.Flat.{Flat}
+use Rattle.search_race_free.specs.declared.owning.Owning.{Owning}
+use Rattle.search_race_free.specs.Reduced.{StandsBefore}
+use Rattle.search_race_free.specs.Same.{owning_eq}
 use Rattle.search_runs.specs.Called.{Called, Walker as Thread, system_of, first_state}
 use Rattle.search_runs.specs.Ends.{HasEndedSo}
 use Rattle.search_runs.specs.Theorems.{CanReach}
@@ -58,39 +61,68 @@ is_same_state = flat_eq commons.eq-value.it hashed.eq-value.it
 abbrev pub RestsLater : Searched → Searching → State Shared Thread → Type 0
 RestsLater s c w = (turns : ℕ → ℕ) × StandsForState (threads s) c w turns
 
--- So many states, of which no two are equal; threads can come to each.
-pub record AreStates (s : Searched) (keys : List Searching) (states : ℕ) : Type 0 where
-  pub len : length keys ≡ states
-  pub distinct : IsDistinct is_same_state keys
-  pub reached : (c : Searching) → Contains keys c → (w : State Shared Thread) × CanReach (called s) w × RestsLater s c w
+-- The same beside what each thread has touched plainly since it last made anything else.
+abbrev pub Owned : Type 0
+Owned = Owning Searching
+
+abbrev pub is_same_owned : Owned → Owned → Bool
+is_same_owned = owning_eq commons.eq-value.it hashed.eq-value.it
+
+-- Threads can come to w, and from there, by plain turns alone, each within what its thread owns, to rest in c.
+abbrev pub RestsPlainly : Searched → Owned → State Shared Thread → Type 0
+RestsPlainly s c w = (turns : ℕ → ℕ) × StandsBefore (threads s) c w turns
 
 -- This is the call.
 abbrev pub IsOfCall : Requested → Searched → Type 0
 IsOfCall r s = IsCall r.parts r.name r.args (called s)
 
+-- States of a search, when two are equal, and to which of them threads come from where.
+module _ {S : Type 0} (eq : S → S → Bool) (rests : Searched → S → State Shared Thread → Type 0) where
+  -- So many states, of which no two are equal; threads can come to each.
+  pub record AreStatesBy (s : Searched) (keys : List S) (states : ℕ) : Type 0 where
+    pub len : length keys ≡ states
+    pub distinct : IsDistinct eq keys
+    pub reached : (c : S) → Contains keys c → (w : State Shared Thread) × CanReach (called s) w × rests s c w
+
+  abbrev pub CountsStatesBy : Requested → ℕ → Type 0
+  CountsStatesBy r states = (s : Searched) × IsOfCall r s × (keys : List S) × AreStatesBy s keys states
+
+  -- All of so many states, and what is said of them: the places of those from which no ending can be reached, each once,
+  -- and whether a fair run goes on for ever.
+  pub record SaysBy (r : Requested) (dump states : ℕ) (l : Liveness) : Type 0 where
+    pub searched : Searched
+    pub call : IsOfCall r searched
+    pub keys : List S
+    pub are : AreStatesBy searched keys states
+    pub all : (w : State Shared Thread) → CanReach (called searched) w → (c : S) × Contains keys c × rests searched c w
+    pub order : IsStrictlyIncreasing l.endless.items
+    pub within : (p : ℕ) → Contains l.endless.items p → p < states
+    pub never : (p : ℕ) (c : S) → slice_get keys p ≡ Some c → Contains l.endless.items p
+        → (w : State Shared Thread) → rests searched c w → CanStillEnd (called searched) dump w → ⊥
+    pub still : (p : ℕ) (c : S) → slice_get keys p ≡ Some c → (Contains l.endless.items p → ⊥)
+        → (w : State Shared Thread) → rests searched c w → CanStillEnd (called searched) dump w
+    pub every : l.endless.items ≡ [] → (w : State Shared Thread) → CanReach (called searched) w
+        → CanStillEnd (called searched) dump w
+    pub fair_runs : SaysOfRuns (called searched) l.fair_runs
+
+  -- It is said where the search met all states, and there alone.
+  abbrev pub SaysWhereAllBy : Requested → ℕ → ℕ → Verdict → Option Liveness → Type 0
+  SaysWhereAllBy r dump states verdict o =
+      MatchOption o (verdict ≡ verdicts.All → ⊥) (λ l. (verdict ≡ verdicts.All) × SaysBy r dump states l)
+
+-- Of a search through every order of events.
 abbrev pub CountsStates : Requested → ℕ → Type 0
-CountsStates r states = (s : Searched) × IsOfCall r s × (keys : List Searching) × AreStates s keys states
+CountsStates = CountsStatesBy is_same_state RestsLater
 
--- All of so many states, and what is said of them: the places of those from which no ending can be reached, each once,
--- and whether a fair run goes on for ever.
-pub record SaysOfCall (r : Requested) (dump states : ℕ) (l : Liveness) : Type 0 where
-  pub searched : Searched
-  pub call : IsOfCall r searched
-  pub keys : List Searching
-  pub are : AreStates searched keys states
-  pub all : (w : State Shared Thread) → CanReach (called searched) w
-      → (c : Searching) × Contains keys c × RestsLater searched c w
-  pub order : IsStrictlyIncreasing l.endless.items
-  pub within : (p : ℕ) → Contains l.endless.items p → p < states
-  pub never : (p : ℕ) (c : Searching) → slice_get keys p ≡ Some c → Contains l.endless.items p
-      → (w : State Shared Thread) → RestsLater searched c w → CanStillEnd (called searched) dump w → ⊥
-  pub still : (p : ℕ) (c : Searching) → slice_get keys p ≡ Some c → (Contains l.endless.items p → ⊥)
-      → (w : State Shared Thread) → RestsLater searched c w → CanStillEnd (called searched) dump w
-  pub every : l.endless.items ≡ [] → (w : State Shared Thread) → CanReach (called searched) w
-      → CanStillEnd (called searched) dump w
-  pub fair_runs : SaysOfRuns (called searched) l.fair_runs
+abbrev pub SaysOfCall : Requested → ℕ → ℕ → Liveness → Type 0
+SaysOfCall = SaysBy is_same_state RestsLater
 
--- It is said where the search met all states, and there alone.
 abbrev pub SaysWhereAll : Requested → ℕ → ℕ → Verdict → Option Liveness → Type 0
-SaysWhereAll r dump states verdict o =
-    MatchOption o (verdict ≡ verdicts.All → ⊥) (λ l. (verdict ≡ verdicts.All) × SaysOfCall r dump states l)
+SaysWhereAll = SaysWhereAllBy is_same_state RestsLater
+
+-- Of a search through the orders of what isn't plain.
+abbrev pub CountsOwned : Requested → ℕ → Type 0
+CountsOwned = CountsStatesBy is_same_owned RestsPlainly
+
+abbrev pub SaysWhereAllFree : Requested → ℕ → ℕ → Verdict → Option Liveness → Type 0
+SaysWhereAllFree = SaysWhereAllBy is_same_owned RestsPlainly

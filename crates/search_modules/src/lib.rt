@@ -3,7 +3,8 @@
 //! Proved: at `Verdict::All` the list has the ending of every run by the call that ended without want of units or a
 //! full log; from which states threads can't come to an ending is exact, and a fair run of them goes on for ever only
 //! where that is said, none where the opposite is. Whatever the verdict, threads can end by the call as each of the list
-//! says, and the scheduled machine comes there.
+//! says, and the scheduled machine comes there. `race_free_endings` says the same where no threads race, and there that
+//! none do, and goes through fewer states; a race that it gives is in some run (`specs/Races.antt`).
 //!
 //! `report_runs::record_run` and `report_runs::run_on_words` say of what they answer that it is the end of a run
 //! (`EndsRun`, `EndsRunOnWords`). `specs/Returned.antt` says that such an end is one of those that the module's threads
@@ -11,14 +12,18 @@
 //! among what is found here.
 #![tactic(auto)]
 
+mod accesses;
 mod after;
 mod all;
 mod beginning;
 mod called;
 mod calling;
 mod moves;
+mod race_free;
 mod returned;
 
 pub use all::all_endings;
+pub use race_free::race_free_endings;
 pub use returned::what_runs_return_is_reached;
+pub use search_race_free::{Race, RaceFree};
 pub use search_reach::{Ended, FairCycle, FairRuns, Liveness, Verdict};

@@ -6,3 +6,4 @@ pub mod Leaving
 pub mod Untouching
 pub mod Standings
 pub mod SharedParts
+pub mod Accessing

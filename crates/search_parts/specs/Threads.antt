@@ -1,5 +1,5 @@
 -- The threads of a call, and what stands for them.
-use Rattle.std.specs.Prelude.{ℕ, List, Option}
+use Rattle.std.specs.Prelude.{ℕ, ◌≡◌, List, Option}
 use Rattle.types.specs.declared.limits.TheConstants.{MOST_THREADS}
 use Rattle.types.specs.declared.event.Answer.{Answer}
 use Rattle.types.specs.declared.event.Event.{Event}
@@ -7,13 +7,16 @@ use Rattle.types.specs.declared.event.Reply.{Reply}
 use Rattle.validate_typing.specs.Tabled.{WithTables}
 use Rattle.schedule.specs.System.{State}
 use Rattle.schedule_threads.specs.Shared.{Shared}
+use Rattle.search_runs.specs.Accesses.{access_of}
 use Rattle.search_runs.specs.Called.{Called, Walker as Thread, system_of, first_state}
 use Rattle.search_endings.specs.Endings.{Ending}
 use Rattle.search_runs.specs.Ends.{HasEndedSo}
+use Rattle.search_settled.specs.declared.access.Access.{Access}
 use Rattle.search_settled.specs.declared.flat.Flat.{Flat}
 use Rattle.search_settled.specs.Threads.{ThreadSystem}
 use Rattle.search_settled.specs.Next.{IsSomewhere, HasEnded}
 use Rattle.search_settled.specs.Flat.{IsEventOf}
+use Rattle.search_race_free.specs.Wanted.{next_access}
 use Rattle.search_walkers.specs.declared.walker.RestingThread.{RestingThread}
 use Rattle.search_parts.specs.Sharing.{Shares, Makes, started_in}
 use Rattle.search_parts.specs.Parts.{IsRested, IsThreadIn}
@@ -25,6 +28,7 @@ abbrev pub threads_of : WithTables → Called → List ℕ → ThreadSystem Shar
 threads_of w b opening = record {
   system = system_of b;
   first = first_state b;
+  accesses = access_of;
   count = started_in;
   most = MOST_THREADS;
   shares = Shares opening;
@@ -39,6 +43,11 @@ IsInCall w opening c s n = (b : Called) × (z : State Shared Thread) × IsThread
 abbrev pub IsEventIn : WithTables → List ℕ → Common → RestingThread → ℕ → Option (Common × Effect) → Type 0
 IsEventIn w opening c s n o = (b : Called) (z : State Shared Thread) → IsThreadIn w opening c s n b z
     → IsEventOf (threads_of w b opening) z n o
+
+-- This is what it does with the memory next, if it can go on.
+abbrev pub IsAccessIn : WithTables → List ℕ → Common → RestingThread → ℕ → Option Access → Type 0
+IsAccessIn w opening c s n o = (b : Called) (z : State Shared Thread) → IsThreadIn w opening c s n b z
+    → o ≡ next_access (system_of b) access_of z n
 
 -- A settled state of a call, and how it has ended.
 abbrev pub IsSettled : List ℕ → Flat Common HashedThread → Type 0

@@ -1,10 +1,11 @@
 //! The parts of a state of a search: what a module's threads share, and each of them at rest; what an event makes of
 //! them, and how they have ended. What is equal in a search is the same.
 //!
-//! Proved: `make_event` and `rest_after` give what an event makes of memory, queue and threads. What is equal is the
-//! same. `ending_at` gives how a state has ended, where all threads that were started have left.
+//! Proved: `make_event` and `rest_after` give what an event makes of memory, queue and threads, and `next_access` what it
+//! does with the memory. What is equal is the same. `ending_at` gives how a state has ended, where all threads that were started have left.
 #![tactic(auto)]
 
+mod access;
 mod digest;
 mod ended;
 mod event;
@@ -16,6 +17,7 @@ mod shared_walker;
 mod stepping;
 mod untouched;
 
+pub use access::next_access;
 pub use ended::ending_at;
 pub use event::{Begun, Effect};
 pub use opening::{first_common, first_threads};

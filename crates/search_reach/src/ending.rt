@@ -3,7 +3,8 @@ ghost use Rattle.std.specs.Prelude.{◌≡◌, IfOk, OnOk, length, vec_len};
 ghost use Rattle.std.specs.List.{AllZip};
 ghost use Rattle.indexmap.specs.IndexSet.{index_set_len, insert_key};
 ghost use Rattle.search_reach.specs.Search.{IsSound, IsMarkedSo, AllEnds, AreEnds};
-ghost use Rattle.search_reach.specs.Found.{AreEndings};
+ghost use Rattle.search_reach.specs.Explored.{IsWhole};
+ghost use Rattle.search_reach.specs.Found.{AreEndings, IsSearched};
 ghost use Rattle.search_reach.specs.Liveness.{IsCount, IsLiveWhereAll};
 
 use crate::liveness::judged;
@@ -95,14 +96,20 @@ fn paths_of(alloc: Global, graph: &Graph, states: &[usize]) -> Result<Vec<Vec<us
     paths_to(alloc, moves, ways.as_slice(), states)
 }
 
-/// The endings of a system, of which it meets no more than `most` states and a few, and those before it is told to end.
-/// Where it met all, it says of which states none ends, and whether every fair run ends.
-pub fn all_endings<T: Explores, F: Follows>(
+/// The endings of the states that a search for at most `most` states and a few met. Where it met all, it says of which
+/// states none ends, and whether every fair run ends.
+///
+/// # Errors
+/// Where memory is refused.
+pub fn endings_of<T: Explores, F: Follows>(
     alloc: Global,
     system: &T,
     most: u32,
+    found: Found<T::State>,
     follower: &mut F,
 ) -> Result<Ended<T::Ending>, AllocError>
+    requires found { IsSearched (T.system system.now) most (F.wish follower.old) found }
+    requires whole { IsWhole (T.system system.now) T.State.eq found.met.keys found.moves.items found.verdict }
     ensures found { IfOk result (AreEndings (T.system system.now) T.Ending.eq most (F.wish follower.new)) }
     ensures paths { IfOk result (λ r. vec_len r.paths ≡ index_set_len r.endings) }
     ensures count { IfOk result (λ r. IsCount (T.system system.now) T.State.eq r.states) }
@@ -113,7 +120,7 @@ pub fn all_endings<T: Explores, F: Follows>(
         met,
         moves,
         verdict,
-    } = reach_all(alloc, system, most, follower)?;
+    } = found;
     let Listed {
         endings,
         firsts,
@@ -131,4 +138,22 @@ pub fn all_endings<T: Explores, F: Follows>(
         verdict,
         liveness,
     })
+}
+
+/// The endings of a system, of which it meets no more than `most` states and a few, and those before it is told to end.
+/// Where it met all, it says of which states none ends, and whether every fair run ends.
+pub fn all_endings<T: Explores, F: Follows>(
+    alloc: Global,
+    system: &T,
+    most: u32,
+    follower: &mut F,
+) -> Result<Ended<T::Ending>, AllocError>
+    ensures found { IfOk result (AreEndings (T.system system.now) T.Ending.eq most (F.wish follower.new)) }
+    ensures paths { IfOk result (λ r. vec_len r.paths ≡ index_set_len r.endings) }
+    ensures count { IfOk result (λ r. IsCount (T.system system.now) T.State.eq r.states) }
+    ensures live { IfOk result
+        (λ r. IsLiveWhereAll (T.system system.now) T.State.eq r.states r.verdict r.liveness) }
+{
+    let found = reach_all(alloc, system, most, follower)?;
+    endings_of(alloc, system, most, found, follower)
 }

@@ -1,3 +1,4 @@
 pub mod Called
+pub mod Accesses
 pub mod Ends
 pub mod Theorems

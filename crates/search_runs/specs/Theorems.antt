@@ -16,6 +16,9 @@ use Rattle.schedule_runs.specs.Runs.{RanTogether}
 use Rattle.schedule_runs.specs.Runs as runs
 use Rattle.search_threads.specs.Budgets.{IsSame, turns_of}
 use Rattle.search_settled.specs.Settled.{AreTame, IsReached}
+use Rattle.search_race_free.specs.Wanted.{ArePlain}
+use Rattle.search_race_free.specs.Search.{NoneBeyond, NobodyGoesOn}
+use Rattle.search_runs.specs.Accesses.{access_of}
 use Rattle.search_runs.specs.Called.{Called, Walker, with_fuel, system_of, first_state}
 use Rattle.search_endings.specs.Endings.{Ending}
 use Rattle.search_runs.specs.Ends.{HasEndedSo}
@@ -23,6 +26,17 @@ use Rattle.search_runs.specs.Ends.{HasEndedSo}
 -- Answers go to who awaits them, only who isn't there is started, and at most 64 threads make turns.
 abbrev pub ThreadsAreTame : Type 0
 ThreadsAreTame = (b : Called) → AreTame (system_of b) (first_state b) MOST_THREADS
+
+-- A plain access is nobody else's concern, unless it conflicts with theirs.
+abbrev pub AccessesArePlain : Type 0
+AccessesArePlain = (b : Called) → ArePlain (system_of b) access_of (first_state b)
+
+-- At most 64 threads go on, and none that has left.
+abbrev pub FewGoOn : Type 0
+FewGoOn = (b : Called) → NoneBeyond (system_of b) access_of (first_state b) MOST_THREADS
+
+abbrev pub NobodyGoesOnInTheEnd : Type 0
+NobodyGoesOnInTheEnd = (b : Called) (dump : ℕ) → NobodyGoesOn (system_of b) access_of (HasEndedSo dump)
 
 -- It can be reached by turns of threads without budgets.
 abbrev pub CanReach : Called → systems.State Shared Walker → Type 0

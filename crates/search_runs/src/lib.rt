@@ -6,16 +6,34 @@
 //! Each function here does nothing, and its contract is a law.
 //!
 //! - `specs/Called.antt`: the threads of a module without budgets, over the sequential memory and the wait queue.
+//! - `specs/Accesses.antt`: what a thread does with the memory by its event, and which of that is plain.
 //! - `specs/Ends.antt`: how they have ended.
 //! - `specs/Theorems.antt`: how their ends stand to those of runs.
 #![tactic(auto)]
 
-ghost use Rattle.search_runs.specs.Theorems.{ThreadsAreTame, EveryRunEndsSo, EveryEndIsScheduled};
+ghost use Rattle.search_runs.specs.Theorems.{ThreadsAreTame, AccessesArePlain, FewGoOn, NobodyGoesOnInTheEnd};
+ghost use Rattle.search_runs.specs.Theorems.{EveryRunEndsSo, EveryEndIsScheduled};
 
 /// Wherever these threads come, an event gives answers to its own thread or to one that awaits it, and threads 0 to 63
 /// alone make turns of their own.
 pub fn threads_are_tame()
     ensures { ThreadsAreTame }
+{}
+
+/// A load or a store that isn't atomic and lies within bounds tells no thread anything, and commutes with each event of
+/// another thread that doesn't conflict with it.
+pub fn accesses_are_plain()
+    ensures { AccessesArePlain }
+{}
+
+/// Threads 0 to 63 alone make turns of their own or events.
+pub fn few_go_on()
+    ensures { FewGoOn }
+{}
+
+/// Where all threads have ended, none makes a turn of its own or an event.
+pub fn nobody_goes_on_in_the_end()
+    ensures { NobodyGoesOnInTheEnd }
 {}
 
 /// However threads ran together, where none of them stopped for want of units or for a full log, threads without

@@ -8,7 +8,7 @@ use Rattle.search_reach.proofs.Paths.{stays, one_step, onward}
 use Rattle.search_settled.specs.Settled.{ComesTo, Settles, ComesToRest, StepsBy, AreFew}
 use Rattle.search_settled.proofs.Resting.{at_rest}
 
-put_put : {B : Type 0} (f : ℕ → B) (n : ℕ) (a b : B) (m : ℕ) → put (put f n a) n b m ≡ put f n b m
+pub put_put : {B : Type 0} (f : ℕ → B) (n : ℕ) (a b : B) (m : ℕ) → put (put f n a) n b m ≡ put f n b m
 unfolding put
 put_put f n a b m = go (m == n)
   where
@@ -16,7 +16,7 @@ put_put f n a b m = go (m == n)
     go true = refl
     go false = refl
 
-put_itself : {B : Type 0} (f : ℕ → B) (n m : ℕ) → put f n (f n) m ≡ f m
+pub put_itself : {B : Type 0} (f : ℕ → B) (n m : ℕ) → put f n (f n) m ≡ f m
 put_itself f n m = at_each n (λ m. put f n (f n) m ≡ f m) (put-same f n (f n)) (λ m h. put-other f n (f n) m h) m
 
 module _ {X T E V A : Type 0} (s : System X T E V A) where

@@ -1,3 +1,4 @@
+pub mod Accesses
 pub mod Settled
 pub mod Threads
 pub mod Next

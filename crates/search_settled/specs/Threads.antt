@@ -2,14 +2,17 @@
 use Rattle.std.specs.Prelude.{ℕ, ◌≡◌, ◌≤◌, length, Some}
 use Rattle.std.specs.List.{slice_get}
 use Rattle.schedule.specs.System.{Want.Gone, System, State}
+use Rattle.search_settled.specs.declared.access.Access.{Access}
 use Rattle.search_settled.specs.declared.flat.Flat.{Flat}
 
--- A system of threads and the state that it begins in; how many threads were started, and how many can be; and what
--- stands for what is shared, for a thread at rest, and for what an event of a thread makes. Types: shared states X,
--- threads T, events E, replies V and answers A, and G, H and M for what stands for them.
+-- A system of threads and the state that it begins in; what a thread does with the memory by its event, where this is
+-- shared; how many threads were started, and how many can be; and what stands for what is shared, for a thread at rest,
+-- and for what an event of a thread makes. Types: shared states X, threads T, events E, replies V and answers A, and G,
+-- H and M for what stands for them.
 pub record ThreadSystem (X T E V A G H M : Type 0) : Type 1 where
   pub system : System X T E V A
   pub first : State X T
+  pub accesses : X → T → E → Access
   pub count : X → ℕ
   pub most : ℕ
   pub shares : G → X → Type 0

@@ -9,6 +9,7 @@
 //!
 //! - `specs/Settled.antt`: where threads come to rest, and what is asked of a system: answers go to who awaits them,
 //!   and only some threads make turns.
+//! - `specs/Accesses.antt`: what an event does with the memory, and when two of them race.
 //! - `specs/Threads.antt`: what stands for settled states; `specs/Next.antt`: what a settled state stands for, and
 //!   which settled states come next.
 //! - `proofs/Resting.antt` and `proofs/Stepping.antt`: a turn from what comes to rest in a state stays there, or is the
@@ -18,11 +19,14 @@
 //!   `search_all` the search: at `Verdict::All` the list has the ending of each run, whatever the order of the turns.
 #![tactic(auto)]
 
+mod access;
 mod flat;
 mod moves;
 mod next;
 mod states;
 
+pub use access::Access;
 pub use flat::Flat;
 pub use moves::Moves;
+pub use next::threads_after;
 pub use states::search_all;

@@ -37,8 +37,12 @@ fn thread_after<M: Moves>(
     }
 }
 
-/// Where all threads come to rest after an event of thread n, those that it starts too.
-fn threads_after<M: Moves>(
+/// Where all threads come to rest after an event of thread n, those that it starts too, or nothing where it cannot tell
+/// that.
+///
+/// # Errors
+/// Where memory is refused.
+pub fn threads_after<M: Moves>(
     alloc: Global,
     system: &M,
     shared: &M::Shared,

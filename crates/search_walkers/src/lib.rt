@@ -8,12 +8,14 @@
 #![tactic(auto)]
 
 mod beginning;
+mod plain;
 mod rest;
 mod taking;
 mod walker;
 mod wants;
 
 pub use beginning::begin;
+pub use plain::is_plain;
 pub use taking::{hear, take};
 pub use walker::RestingThread;
 pub use wants::wanted;

@@ -1,4 +1,7 @@
 use Rattle.std.proofs.lemmas.Result.{IfOk-weaker}
+use Rattle.search_settled.specs.Next.{StandsForState}
+use Rattle.search_modules.specs.Liveness.{is_same_state}
+use Rattle.search_modules.specs.Moved.{threads, IsStuck}
 use Rattle.search_modules.proofs.Finding.{every_by, sound_by, lost_by}
 use Rattle.search_modules.proofs.Living.{counted_by, says_by}
 use Rattle.search_modules.proofs.all.all_endings.Goals as goal
@@ -22,11 +25,13 @@ returns-clause-paths g c = c.search_all.ensures.paths
 
 pub returns-clause-count : goal.returns-clause-count
 returns-clause-count g c =
-    IfOk-weaker c.search_all.result _ _ (λ ended count. counted_by c.in_ok-searched.searched c.args.request.now ended.states c.in_ok-searched.ensures.call count)
+    IfOk-weaker c.search_all.result _ _ (λ ended count. counted_by is_same_state (λ s. StandsForState (threads s)) IsStuck
+    c.in_ok-searched.searched c.args.request.now ended.states c.in_ok-searched.ensures.call count)
     c.search_all.ensures.count
 
 pub returns-clause-live : goal.returns-clause-live
 returns-clause-live g c =
-    IfOk-weaker c.search_all.result _ _ (λ ended live. says_by c.in_ok-searched.searched c.args.request.now c.in_ok-searched.ensures.call c.args.dump
+    IfOk-weaker c.search_all.result _ _ (λ ended live. says_by is_same_state (λ s. StandsForState (threads s)) IsStuck
+    c.in_ok-searched.searched c.args.request.now c.in_ok-searched.ensures.call c.args.dump
     c.in_ok-searched.ensures.dump ended.states ended.verdict ended.liveness live)
     c.search_all.ensures.live

@@ -1,0 +1,52 @@
+use Rattle.std.specs.Prelude.{◌⊎◌}
+use Rattle.std.proofs.lemmas.Result.{IfOk-weaker}
+use Rattle.search_settled.proofs.Laws.{if-some}
+use Rattle.search_race_free.specs.Reduced.{StandsBefore, SomeRace}
+use Rattle.search_modules.specs.Liveness.{is_same_owned}
+use Rattle.search_modules.specs.Moved.{called, threads, IsStuck}
+use Rattle.search_modules.proofs.Finding.{every_by, sound_by}
+use Rattle.search_modules.proofs.Freely.{same_ends, lost_freely, race_by}
+use Rattle.search_modules.proofs.Living.{counted_by, says_by}
+use Rattle.search_modules.proofs.race_free.race_free_endings.Goals as goal
+
+pub returns-clause-found : goal.returns-clause-found
+returns-clause-found g c =
+    let s = c.in_ok-searched.searched in
+    let is = c.in_ok-searched.ensures in
+    let r = c.args.request.now in
+    IfOk-weaker c.search_race_free.result _ _ (λ free found.
+    record {
+      all = λ verdict. every_by r.parts r.name r.args s is.call c.args.dump is.dump free.ended.endings.keys is.names (found.all verdict);
+      sound = sound_by r.parts r.name r.args s is.call c.args.dump is.dump free.ended.endings.keys (same_ends s free.ended.endings.keys found.sound);
+      bound = found.bound;
+      gives_up = λ verdict. lost_freely r.parts s r.name r.args is.call is.worker (found.gives_up verdict);
+      told = found.told;
+    }) c.search_race_free.ensures.found
+
+pub returns-clause-paths : goal.returns-clause-paths
+returns-clause-paths g c = c.search_race_free.ensures.paths
+
+pub returns-clause-count : goal.returns-clause-count
+returns-clause-count g c =
+    IfOk-weaker c.search_race_free.result _ _ (λ free count. counted_by is_same_owned (λ s. StandsBefore (threads s)) (λ s w. IsStuck s w ⊎ SomeRace (threads s))
+    c.in_ok-searched.searched c.args.request.now free.ended.states c.in_ok-searched.ensures.call count)
+    c.search_race_free.ensures.count
+
+pub returns-clause-live : goal.returns-clause-live
+returns-clause-live g c =
+    IfOk-weaker c.search_race_free.result _ _ (λ free live. says_by is_same_owned (λ s. StandsBefore (threads s)) (λ s w. IsStuck s w ⊎ SomeRace (threads s))
+    c.in_ok-searched.searched c.args.request.now c.in_ok-searched.ensures.call c.args.dump
+    c.in_ok-searched.ensures.dump free.ended.states free.ended.verdict free.ended.liveness live)
+    c.search_race_free.ensures.live
+
+pub returns-clause-none : goal.returns-clause-none
+returns-clause-none g c =
+    IfOk-weaker c.search_race_free.result _ _ (λ free none all. (called c.in_ok-searched.searched, c.in_ok-searched.ensures.call, none all))
+    c.search_race_free.ensures.none
+
+pub returns-clause-race : goal.returns-clause-race
+returns-clause-race g c =
+    let r = c.args.request.now in
+    IfOk-weaker c.search_race_free.result _ _
+    (λ free race. if-some _ _ (λ x. race_by r.parts c.in_ok-searched.searched r.name r.args c.in_ok-searched.ensures.call x) free.race race)
+    c.search_race_free.ensures.race

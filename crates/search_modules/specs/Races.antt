@@ -1,0 +1,30 @@
+-- Races of the runs of a call.
+use Rattle.std.specs.Prelude.{ℕ, ◌⊎◌, List}
+use Rattle.types.specs.declared.value.Value.{Value}
+use Rattle.types.specs.declared.parts.Parts.{Parts}
+use Rattle.spawn_host.specs.Requests.{Requested}
+use Rattle.search_endings.specs.Endings.{Ending}
+use Rattle.search_reach.specs.Found.{Claims}
+use Rattle.search_race_free.specs.Races.{HasRace, NoneRace}
+use Rattle.search_race_free.specs.declared.race.Race.{Race}
+use Rattle.search_runs.specs.Accesses.{access_of}
+use Rattle.search_runs.specs.Called.{Called, system_of, first_state}
+use Rattle.search_modules.specs.Endings.{HasEveryEnding, AllCanEndSo, CanBeLost}
+use Rattle.search_modules.specs.Returned.{IsCall}
+
+-- By this call threads without budgets come to where these two race.
+abbrev pub CanRaceSo : Parts → List ℕ → List Value → Race → Type 0
+CanRaceSo m entry args r =
+    (b : Called) × IsCall m entry args b × HasRace (system_of b) (first_state b) access_of r.one r.other
+
+-- By this call no threads without budgets race, in any run.
+abbrev pub NeverRaces : Parts → List ℕ → List Value → Type 0
+NeverRaces m entry args = (b : Called) × IsCall m entry args b × NoneRace (system_of b) (first_state b) access_of
+
+-- What a search through the orders of what isn't plain claims: it gives up where there is a race, too.
+abbrev pub race_free_claims_of : Requested → ℕ → Claims Ending
+race_free_claims_of r dump = record {
+  complete = HasEveryEnding r.parts r.name r.args dump;
+  sound = AllCanEndSo r.parts r.name r.args dump;
+  lost = CanBeLost r.parts r.name r.args ⊎ ((race : Race) × CanRaceSo r.parts r.name r.args race);
+}

@@ -1,0 +1,28 @@
+//! What the threads of a module do with the memory next.
+
+use crate::called::Searched;
+use search_parts::{Common, SharedWalker, next_access};
+use search_race_free::Accesses;
+use search_settled::Access;
+use std::alloc::{AllocError, Global};
+
+impl Accesses for Searched<'_, '_> {
+    ghost use Rattle.search_modules.specs.Moved.{called};
+    ghost use Rattle.search_runs.proofs.Accessing.{plain, beyond, finished};
+
+    ghost plain = { λ t. plain (called t) };
+
+    ghost beyond = { λ t. beyond (called t) };
+
+    ghost finished = { λ t. finished (called t) t.dump };
+
+    fn access(
+        &self,
+        alloc: Global,
+        shared: &Common,
+        thread: &SharedWalker,
+        n: usize,
+    ) -> Result<Option<Access>, AllocError> {
+        next_access(alloc, self.valid, shared, thread.walker(), n)
+    }
+}

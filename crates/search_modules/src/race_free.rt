@@ -1,0 +1,54 @@
+//! All endings of a call whose threads do not race.
+
+ghost use Rattle.std.specs.Prelude.{◌≡◌, IfOk, IfSome, vec_len};
+ghost use Rattle.indexmap.specs.IndexSet.{index_set_len};
+ghost use Rattle.search_reach.specs.Found.{AreListed};
+ghost use Rattle.search_reach.specs.declared.search.Verdict.TheVariants as verdicts;
+ghost use Rattle.search_modules.specs.Liveness.{CountsOwned, SaysWhereAllFree};
+ghost use Rattle.search_modules.specs.Races.{CanRaceSo, NeverRaces, race_free_claims_of};
+
+use crate::calling::searched;
+use search_endings::Ending;
+use search_race_free::{RaceFree, search_race_free};
+use search_reach::Follows;
+use spawn_host::Request;
+use std::alloc::{AllocError, Global};
+
+/// How many plain turns a thread makes in a row before the others have theirs.
+const MOST_PLAIN: u32 = 10_000;
+
+/// All endings of a call of an exported function, each with so many first bytes of the memory, where no threads race:
+/// each makes its loads and stores that aren't atomic at once, and they take turns at all else.
+///
+/// At `Verdict::All` the list has the ending of every run of the module by this call, word for word as `all_endings`
+/// says it, and no threads without budgets race in any run by this call (`NeverRaces`): none makes a load or a store
+/// that isn't atomic, and later, when it has made nothing since but such, another wants an access to a byte of it, one
+/// of the two writing; nor do two want accesses to a byte at once, one writing, unless both are atomic and of the same
+/// bytes. At `Verdict::CannotTell` there may be such a race, which is then given (`CanRaceSo`).
+///
+/// All else is as of `all_endings`, but `states` counts states with what each thread owns: what it has read and written
+/// since it last made anything but loads and stores that aren't atomic.
+///
+/// # Errors
+/// Where memory is refused.
+pub fn race_free_endings<F: Follows>(
+    alloc: Global,
+    request: &Request,
+    most_states: u32,
+    dump: usize,
+    follower: &mut F,
+) -> Result<RaceFree<Ending>, AllocError>
+    ensures found { IfOk result
+        (λ r. AreListed (race_free_claims_of request.now dump) most_states (F.wish follower.new) r.ended) }
+    ensures paths { IfOk result (λ r. vec_len r.ended.paths ≡ index_set_len r.ended.endings) }
+    ensures count { IfOk result (λ r. CountsOwned request.now r.ended.states) }
+    ensures live { IfOk result
+        (λ r. SaysWhereAllFree request.now dump r.ended.states r.ended.verdict r.ended.liveness) }
+    ensures none { IfOk result (λ r. r.ended.verdict ≡ verdicts.All
+        → NeverRaces request.now.parts request.now.name request.now.args) }
+    ensures race { IfOk result
+        (λ r. IfSome r.race (CanRaceSo request.now.parts request.now.name request.now.args)) }
+{
+    let searched = searched(alloc, request, dump)?;
+    search_race_free(alloc, &searched, most_states, MOST_PLAIN, follower)
+}

@@ -1,0 +1,26 @@
+-- What a thread does with the memory next.
+use Rattle.std.proofs.Common.{◌≡◌, ℕ, List, Option, Some, None, refl, sym, ◌∙◌, ap, subst}
+use Rattle.types.specs.declared.event.Event.{Event}
+use Rattle.types.specs.declared.event.Reply.{Reply}
+use Rattle.types.specs.declared.event.Answer.{Answer}
+use Rattle.schedule.specs.System.{Want, Want.Turns, Want.Calls, Want.Awaits, Want.Gone}
+use Rattle.schedule_threads.specs.Shared.{Shared}
+use Rattle.schedule_machine.specs.Threads.{called}
+use Rattle.search_settled.specs.declared.access.Access.{Access}
+use Rattle.search_race_free.specs.Wanted.{access_by}
+use Rattle.search_runs.specs.Accesses.{access_of}
+use Rattle.search_runs.specs.Called.{Called, Walker, system_of}
+
+-- who wants an event makes its access
+pub by-event : (b : Called) (x : Shared) (t : Walker) (w : Want Event) (e : Event) → Some e ≡ called w → access_by (system_of b) access_of x t w ≡ Some (access_of x t e)
+by-event b x t Turns e h = absurd (cc h)
+by-event b x t (Calls f) e h = let same : e ≡ f = cc h in ap (λ y. Some (access_of x t y)) (sym same)
+by-event b x t Awaits e h = absurd (cc h)
+by-event b x t Gone e h = absurd (cc h)
+
+-- who wants none, and no turn of its own, makes none
+pub by-none : (b : Called) (x : Shared) (t : Walker) (w : Want Event) → None ≡ called w → (w ≡ Turns → ⊥) → access_by (system_of b) access_of x t w ≡ None
+by-none b x t Turns h rests = absurd (rests refl)
+by-none b x t (Calls f) h rests = absurd (cc h)
+by-none b x t Awaits h rests = refl
+by-none b x t Gone h rests = refl

@@ -1,0 +1,172 @@
+-- The turn of a thread, and plain turns of it and of those that could not go on before.
+use Rattle.std.proofs.Common.{◌≡◌, ◌≢◌, ◌⊎◌, inl, inr, ℕ, ◌+◌, refl, sym, ◌∙◌, ap, subst, arith, List, [], ◌∷◌, ◌++◌, Contains, Option, Some, None}
+use Rattle.std.proofs.lemmas.Option.{none-some}
+use Rattle.schedule.specs.System.{Want.Turns, Want.Calls, System, State}
+use Rattle.schedule.proofs.Basics.{same_or_not}
+use Rattle.search_graph.specs.Paths.{Reaches}
+use Rattle.search_reach.proofs.Paths.{stays, one_step, onward}
+use Rattle.search_settled.specs.Settled.{IsReached, StepsBy, AreTame}
+use Rattle.search_settled.specs.Accesses.{HasByte, Conflict}
+use Rattle.search_settled.specs.Threads.{ThreadSystem}
+use Rattle.search_settled.specs.declared.access.Access.{Access}
+use Rattle.search_settled.specs.declared.flat.Flat.{Flat}
+use Rattle.search_race_free.specs.declared.owning.Touch.{Touch}
+use Rattle.search_race_free.specs.declared.owning.Owning.{Owning}
+use Rattle.search_race_free.specs.Orders.{times, MakesPlain}
+use Rattle.search_race_free.specs.Wanted.{ArePlain}
+use Rattle.search_race_free.specs.Races.{HasRace}
+use Rattle.search_race_free.specs.Owned.{Within, IsSafe}
+use Rattle.search_race_free.specs.Touches.{access_at, AreOfOthers, StrikesNobody, MeetsNobody, AreClear, Strikes, Meets, AreInTheWay}
+use Rattle.search_race_free.specs.Reduced.{wanted_in, next_in, Rest, IsResting, RestsSomewhere, HasTouched, IsKept, IsAfterTurn, ComesOf}
+use Rattle.search_race_free.specs.Search.{AreWanted, WantsSome, IsAfterEvent, GetsLost, IsOwned, IsAlongTurns, ComesAlone, ComesOnward, IsCame}
+use Rattle.search_race_free.specs.declared.alone.Came.{Came}
+use Rattle.search_race_free.specs.declared.alone.Came.TheVariants as came
+use Rattle.search_race_free.proofs.Moving.{times-append, along-both, same-along}
+use Rattle.search_race_free.proofs.Racing.{race-swap}
+use Rattle.search_race_free.proofs.Turning.{event_access, reaches_next, leaves, plain-laws}
+use Rattle.search_race_free.proofs.Eventing.{calls-at}
+use Rattle.search_race_free.proofs.Going.{rest-more, comes-to-rest, touched-on, rests-there, strikes-race}
+
+module _ {X T E V A G H M : Type 0} (k : ThreadSystem X T E V A G H M)
+    (tame : AreTame k.system k.first k.most) (plain : ArePlain k.system k.accesses k.first) where
+  -- Right after the turn, where the thread has given up what it owned.
+  pub onward-first : (s x : Owning (Flat G H)) (n : ℕ) (a : Access) → IsOwned k s → WantsSome k s.flat n a → IsAfterEvent k s.flat n x.flat
+      → AreOfOthers s.owned.items n x.owned.items → ComesOnward k n s x
+  onward-first s x n a owned wants come others = record {
+    owned = record {
+      somewhere = rests-there k tame plain x.owned.items s.flat n x.flat owned.somewhere come;
+      made = λ t among byte has.
+          let old = (others t).0 among in
+          touched-on k tame plain x.owned.items s.flat n x.flat a come wants t byte (λ e. absurd (old.1 (sym e))) (owned.made t old.0 byte has);
+      apart = λ t u in_t in_u d c. owned.apart t u ((others t).0 in_t).0 ((others u).0 in_u).0 d c;
+    };
+    keeps = λ t b d h byte has.
+        let o = h byte has in
+        record { touch = o.touch; among = (others o.touch).1 (o.among, λ e. d (sym o.is ∙ e)); is = o.is; has = o.has; writes = o.writes };
+    each = λ z at.
+        let r = comes-to-rest k tame plain x.owned.items s.flat n x.flat come z at in
+        record {
+          access = a;
+          wants = wants z at;
+          order = r.order;
+          settled = r.settled;
+          makes = r.makes;
+          rests = (let rest = r.resting in rest.rests);
+          settled_is = (let rest = r.resting in rest.settled_is);
+          others = r.others;
+        };
+  }
+
+  -- It rests there.
+  pub after-rests : (n : ℕ) (x : Owning (Flat G H)) (z : State X T) → IsReached k.system k.first z → (r : IsAfterTurn k n x z) → IsReached k.system k.first r.settled
+  after-rests n x z reached r =
+      let laws = plain-laws k.system k.accesses k.first k.most tame plain in
+      let next = reaches_next k.system k.accesses k.first k.most tame plain z n reached in
+      reached_by r.order (next_in k z n) r.settled next r.makes
+    where
+      reached_by : (ts : List ℕ) (w v : State X T) → IsReached k.system k.first w → Rest k x.owned.items ts w v → IsReached k.system k.first v
+      reached_by [] w v r p = subst (IsReached k.system k.first) p r
+      reached_by (t ∷ ts) w v r p = reached_by ts (next_in k w t) v (reaches_next k.system k.accesses k.first k.most tame plain w t r) p.1
+
+  -- Another thread that can go on can after the turn, and after the plain ones.
+  still-wants : (n : ℕ) (x : Owning (Flat G H)) (c : Flat G H) (z : State X T) (at : IsResting k c z) (r : IsAfterTurn k n x z) (u : ℕ) → u ≢ n → (a : Access)
+      → wanted_in k z u ≡ Some a → (b : Access) × (wanted_in k r.settled u ≡ Some b)
+  still-wants n x c z at r u d a h =
+      let e = calls-at k c z at u a h in
+      let same = leaves k.system k.accesses k.first k.most tame plain z n u a at.reached d h in
+      let wants = event_access k.system k.accesses (next_in k z n) u e.0 (ap k.system.wants same ∙ e.1) in
+      let next = reaches_next k.system k.accesses k.first k.most tame plain z n at.reached in (
+        k.accesses (next_in k z n).shared ((next_in k z n).threads u) e.0,
+        same-along (wanted_in k) (next_in k) (IsReached k.system k.first) (plain-laws k.system k.accesses k.first k.most tame plain) (Within x.owned.items) u r.order
+            (next_in k z n) r.settled next r.makes (r.others u d a h) ∙ wants,
+      )
+
+  -- And then plain turns of a thread that may go on.
+  pub onward-more : (s x y : Owning (Flat G H)) (n m : ℕ) (before : List (Option Access)) → AreWanted k s.flat before → (m ≢ n → access_at before m ≡ None)
+      → ComesOnward k n s x → ComesAlone k m x y → ComesOnward k n s y
+  onward-more s x y n m before are free one two = record {
+    owned = two.owned;
+    keeps = λ t a d h. two.grows t a (one.keeps t a d h);
+    each = λ z at.
+        let p = one.each z at in
+        let resting : IsResting k x.flat p.settled = record { reached = after-rests n x z at.reached p; rests = p.rests; settled_is = p.settled_is } in
+        let q = two.each p.settled resting in
+        record {
+          access = p.access;
+          wants = p.wants;
+          order = p.order ++ q.order;
+          settled = q.settled;
+          makes = along-both (wanted_in k) (next_in k) (IsReached k.system k.first) (plain-laws k.system k.accesses k.first k.most tame plain) (Within y.owned.items)
+              p.order q.order (next_in k z n) p.settled q.settled
+              (rest-more (wanted_in k) (next_in k) (Within x.owned.items) (Within y.owned.items) p.order (next_in k z n) p.settled two.grows p.makes) q.makes;
+          rests = (let rest = q.resting in rest.rests);
+          settled_is = (let rest = q.resting in rest.settled_is);
+          others = λ u d a h.
+              let none = p.others u d a h in
+              let b = still-wants n x s.flat z at p u d a h in
+              let more = q.others u (λ e. none-some a (sym (free (λ f. d (e ∙ f))) ∙ (ap (access_at before) (sym e) ∙ (are z at u ∙ h)))) b.0 b.1 in
+              times-append u p.order q.order ∙ omega (arith, none, more);
+        };
+  }
+
+  pub lost-onward : (stuck : State X T → Type 0) (s x : Owning (Flat G H)) (n : ℕ) → ComesOnward k n s x → GetsLost k stuck x.flat → GetsLost k stuck s.flat
+  lost-onward stuck s x n one lost z at =
+      let p = one.each z at in
+      let resting : IsResting k x.flat p.settled = record { reached = after-rests n x z at.reached p; rests = p.rests; settled_is = p.settled_is } in
+      let l = lost p.settled resting in (
+        l.0,
+        onward (StepsBy k.system) z (next_in k z n) l.0 (one_step (StepsBy k.system) z (next_in k z n) (n, refl))
+            (onward (StepsBy k.system) (next_in k z n) p.settled l.0 (rest-steps p.order (next_in k z n) p.settled p.makes) l.1),
+        l.2,
+      )
+    where
+      rest-steps : (ts : List ℕ) (w v : State X T) → Rest k x.owned.items ts w v → Reaches (StepsBy k.system) w v
+      rest-steps [] w v p = subst (λ y. Reaches (StepsBy k.system) w y) p (stays (StepsBy k.system) w)
+      rest-steps (t ∷ ts) w v p = onward (StepsBy k.system) w (next_in k w t) v (one_step (StepsBy k.system) w (next_in k w t) (t, refl)) (rest-steps ts (next_in k w t) v p.1)
+
+  -- Where nobody is in another's way.
+  pub clear-kept : (x : Owning (Flat G H)) (wanted : List (Option Access)) → IsOwned k x → AreWanted k x.flat wanted → AreClear wanted x.owned.items → IsKept k x
+  clear-kept x wanted owned are clear = record {
+    safe = λ z at. record {
+      apart = owned.apart;
+      clear = λ t a y h among d c. (clear t a (are z at t ∙ h)).0 y among d c;
+      meet = λ t u a b d h g r. (clear t a (are z at t ∙ h)).1 u b (are z at u ∙ g) d r;
+    };
+    made = owned.made;
+  }
+
+  pub onward-kept : (s x : Owning (Flat G H)) (n : ℕ) (wanted : List (Option Access)) → ComesOnward k n s x → AreWanted k x.flat wanted → AreClear wanted x.owned.items
+      → ComesOf k s n x
+  onward-kept s x n wanted one are clear = record {
+    kept = clear-kept x wanted one.owned are clear;
+    each = one.each;
+    owned = one.keeps;
+  }
+
+  pub way-races : (x : Owning (Flat G H)) (wanted : List (Option Access)) (one other : ℕ) → IsOwned k x → AreWanted k x.flat wanted → AreInTheWay wanted x.owned.items one other
+      → HasRace k.system k.first k.accesses one other
+  way-races x wanted one other owned are h = by h.way
+    where
+      wants : WantsSome k x.flat other h.access
+      wants z at = sym (are z at other) ∙ h.wants
+
+      by : Strikes x.owned.items other h.access one ⊎ Meets wanted other h.access one → HasRace k.system k.first k.accesses one other
+      by (inl strikes) = inl (strikes-race k tame plain x other one h.access owned wants strikes)
+      by (inr meets) =
+          let at = owned.somewhere in
+          inr (record {
+            differ = λ e. meets.differ (sym e);
+            state = at.0;
+            reached = at.1.reached;
+            access = meets.access;
+            wanted = sym (are at.0 at.1 one) ∙ meets.wants;
+            next = h.access;
+            wanted_next = wants at.0 at.1;
+            race = race-swap h.access meets.access meets.race;
+          })
+
+  pub came-more : (stuck : State X T → Type 0) (s x : Owning (Flat G H)) (n m : ℕ) (before : List (Option Access)) → AreWanted k s.flat before → (m ≢ n → access_at before m ≡ None)
+      → ComesOnward k n s x → (v : Came (Owning (Flat G H))) → IsCame k stuck x.flat (ComesAlone k m x) v → IsCame k stuck s.flat (ComesOnward k n s) v
+  came-more stuck s x n m before are free one (came.To y) h = onward-more s x y n m before are free one h
+  came-more stuck s x n m before are free one (came.Races r) h = h
+  came-more stuck s x n m before are free one came.Unknown h = lost-onward stuck s x n one h

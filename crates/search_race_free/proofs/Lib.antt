@@ -1,0 +1,15 @@
+pub mod Moving
+pub mod Racing
+pub mod Quiet
+pub mod Turning
+pub mod Striking
+pub mod Touching
+pub mod Wanting
+pub mod Eventing
+pub mod Meeting
+pub mod Going
+pub mod Continuing
+pub mod Resting
+pub mod Reducing
+pub mod Following
+pub mod Beginning

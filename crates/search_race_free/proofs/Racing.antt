@@ -1,0 +1,85 @@
+-- Where threads can race, two next accesses race somewhere.
+use Rattle.std.specs.Prelude.{◌≡◌, ◌≢◌, ◌⊎◌, ℕ, zero, suc, true, false, Option, Some, List, [], ◌∷◌, ◌++◌, refl}
+use Rattle.std.proofs.Common.{ap, subst, sym, ◌∙◌, inl, inr, true≢false}
+use Rattle.schedule.proofs.Basics.{same_or_not}
+use Rattle.search_graph.specs.Paths.{Goes, Reaches}
+use Rattle.search_settled.specs.declared.access.Access.{Access}
+use Rattle.search_settled.specs.Accesses.{IsPlain, HasByte, Meet, Conflict, AreMatched, Race}
+use Rattle.search_race_free.specs.Orders.{StepsPlainly}
+use Rattle.search_race_free.proofs.Moving.{PlainLaws}
+
+pub conflict-swap : (a b : Access) → Conflict a b → Conflict b a
+conflict-swap a b c = let m = c.meet in record { meet = (m.0, (m.1.1, m.1.0)); write = by c.write }
+  where
+    by : (a.writes ≡ true) ⊎ (b.writes ≡ true) → (b.writes ≡ true) ⊎ (a.writes ≡ true)
+    by (inl h) = inr h
+    by (inr h) = inl h
+
+-- What conflicts with a plain access races with it.
+pub plain-race : (a b : Access) → IsPlain a → Conflict a b → Race a b
+plain-race a b p c = record { conflict = c; unmatched = λ m. true≢false (sym p ∙ m.first) }
+
+pub plain-race-other : (a b : Access) → IsPlain b → Conflict a b → Race a b
+plain-race-other a b p c = record { conflict = c; unmatched = λ m. true≢false (sym p ∙ m.second) }
+
+module _ {W : Type 0} (wants : W → ℕ → Option Access) (next : W → ℕ → W) (R : W → Type 0) (laws : PlainLaws wants next R) where
+  -- One thread makes these plain accesses, alone.
+  abbrev Lead : ℕ → List Access → W → W → Type 0
+  Lead one [] w v = w ≡ v
+  Lead one (e ∷ es) w v = (wants w one ≡ Some e) × IsPlain e × Lead one es (next w one) v
+
+  -- Nowhere do two next accesses race.
+  abbrev pub NoneMeetIn : Type 0
+  NoneMeetIn = (w : W) → R w → (t u : ℕ) (e f : Access) → u ≢ t → wants w t ≡ Some e → wants w u ≡ Some f → Race e f → ⊥
+
+  lead-same : (one u : ℕ) (es : List Access) (w v : W) → R w → u ≢ one → Lead one es w v → wants v u ≡ wants w u
+  lead-same one u [] w v r d l = ap (λ x. wants x u) (sym l)
+  lead-same one u (e ∷ es) w v r d l =
+      lead-same one u es (next w one) v (laws.on w one e r l.0) d l.2 ∙ laws.same w one u e r d l.0 l.1
+
+  lead-more : (one : ℕ) (es : List Access) (x : Access) (w v : W) → Lead one es w v → wants v one ≡ Some x → IsPlain x
+      → Lead one (es ++ x ∷ []) w (next v one)
+  lead-more one [] x w v l h p = (ap (λ y. wants y one) l ∙ h, p, ap (λ y. next y one) l)
+  lead-more one (e ∷ es) x w v l h p = (l.0, l.1, lead-more one es x (next w one) v l.2 h p)
+
+  -- Another thread's turn comes before.
+  lead-after : NoneMeetIn → (one u : ℕ) (g : Access) (es : List Access) (w v : W) → R w → u ≢ one → Lead one es w v → wants w u ≡ Some g
+      → Lead one es (next w u) (next v u)
+  lead-after never one u g [] w v r d l h = ap (λ x. next x u) l
+  lead-after never one u g (e ∷ es) w v r d l h =
+      let later = lead-after never one u g es (next w one) v (laws.on w one e r l.0) d l.2 (laws.same w one u e r d l.0 l.1 ∙ h) in
+      let clear : Conflict g e → ⊥ = λ c. never w r one u e g d l.0 h (plain-race e g l.1 (conflict-swap g e c)) in
+      let swapped = laws.swap w one u e g r d l.0 l.1 h clear in
+      (laws.stays w one u e r d l.0 l.1, l.1, subst (λ x. Lead one es x (next v u)) swapped later)
+
+  no-race : NoneMeetIn → (n one other : ℕ) (e f : Access) (es : List Access) (w v z : W) → other ≢ one → R w → Lead one (e ∷ es) w v
+      → Goes (StepsPlainly wants next one) n v z → wants z other ≡ Some f → Conflict f e → ⊥
+  no-race never zero one other e f es w v z d r l p h c =
+      let here : wants w other ≡ Some f = sym (lead-same one other (e ∷ es) w v r d l) ∙ (ap (λ x. wants x other) p ∙ h) in
+      never w r one other e f d l.0 here (plain-race e f l.1 (conflict-swap f e c))
+  no-race never (suc n) one other e f es w v z d r l p h c =
+      let step = p.1 in
+      let t = step.thread in
+      let on = subst (λ x. Goes (StepsPlainly wants next one) n x z) step.leads p.2 in
+      elim (same_or_not t one) [
+        | inl same ↦
+            no-race never n one other e f (es ++ step.access ∷ []) w (next v one) z d r
+            (lead-more one (e ∷ es) step.access w v l (subst (λ x. wants v x ≡ Some step.access) same step.wanted) (step.plain same))
+            (subst (λ x. Goes (StepsPlainly wants next one) n (next v x) z) same on) h c
+        | inr apart ↦
+            (let here : wants w t ≡ Some step.access = sym (lead-same one t (e ∷ es) w v r apart l) ∙ step.wanted in
+            no-race never n one other e f es (next w t) (next v t) z d (laws.on w t step.access r here)
+            (lead-after never one t step.access (e ∷ es) w v r apart l here) on h c)
+      ]
+
+  -- One thread makes a plain access, and nothing since that isn't plain, up to where another one's conflicts with it.
+  pub none-race : NoneMeetIn → (one other : ℕ) (e f : Access) (w z : W) → other ≢ one → R w → wants w one ≡ Some e → IsPlain e
+      → Reaches (StepsPlainly wants next one) (next w one) z → wants z other ≡ Some f → Conflict f e → ⊥
+  none-race never one other e f w z d r h p since g c =
+      no-race never since.count one other e f [] w (next w one) z d r (h, p, refl) since.path g c
+
+pub race-swap : (a b : Access) → Race a b → Race b a
+race-swap a b r = record {
+  conflict = conflict-swap a b r.conflict;
+  unmatched = λ m. r.unmatched (record { first = m.second; second = m.first; addr = sym m.addr; width = sym m.width });
+}

@@ -1,0 +1,10 @@
+pub mod Orders
+pub mod Wanted
+pub mod Races
+pub mod Owned
+pub mod Touches
+pub mod Reduced
+pub mod Search
+pub mod Turns
+pub mod Same
+pub mod Laws

@@ -1,0 +1,47 @@
+-- Races of all runs.
+use Rattle.std.specs.Prelude.{ℕ, ◌≡◌, ◌≢◌, ◌⊎◌, Option, Some}
+use Rattle.schedule.specs.System.{System, State}
+use Rattle.search_graph.specs.Paths.{Reaches}
+use Rattle.search_settled.specs.Settled.{IsReached}
+use Rattle.search_settled.specs.declared.access.Access.{Access}
+use Rattle.search_settled.specs.Accesses.{IsPlain, Conflict, Race}
+use Rattle.search_race_free.specs.Orders.{StepsPlainly}
+use Rattle.search_race_free.specs.Wanted.{next_access, after_next}
+
+module _ {X T E V A : Type 0} (s : System X T E V A) (first : State X T) (accesses : X → T → E → Access) where
+  -- A run comes to z on which the thread made this plain access, and since then nothing that isn't plain.
+  pub record HasMade (one : ℕ) (access : Access) (z : State X T) : Type 0 where
+    pub before : State X T
+    pub reached : IsReached s first before
+    pub wanted : next_access s accesses before one ≡ Some access
+    pub plain : IsPlain access
+    pub since : Reaches (StepsPlainly (next_access s accesses) (after_next s) one) (after_next s before one) z
+
+  -- One thread makes a plain access, and later, when it has made nothing since that isn't plain, another wants an
+  -- access that conflicts with it.
+  pub record CanRace (one other : ℕ) : Type 0 where
+    pub differ : other ≢ one
+    pub state : State X T
+    pub access : Access
+    pub made : HasMade one access state
+    pub next : Access
+    pub wanted : next_access s accesses state other ≡ Some next
+    pub conflict : Conflict next access
+
+  -- Two threads come to where their next accesses race.
+  pub record MeetInRace (one other : ℕ) : Type 0 where
+    pub differ : other ≢ one
+    pub state : State X T
+    pub reached : IsReached s first state
+    pub access : Access
+    pub wanted : next_access s accesses state one ≡ Some access
+    pub next : Access
+    pub wanted_next : next_access s accesses state other ≡ Some next
+    pub race : Race access next
+
+  abbrev pub HasRace : ℕ → ℕ → Type 0
+  HasRace one other = CanRace one other ⊎ MeetInRace one other
+
+  -- No two threads race in any run.
+  abbrev pub NoneRace : Type 0
+  NoneRace = (one other : ℕ) → HasRace one other → ⊥

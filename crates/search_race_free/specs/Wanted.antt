@@ -1,0 +1,57 @@
+-- What threads do with the memory next, and what is asked of their plain accesses. Types: shared states X, threads T,
+-- events E, replies V and answers A.
+use Rattle.std.specs.Prelude.{ℕ, ◌≡◌, ◌≢◌, true, false, Option, Some, None}
+use Rattle.schedule.specs.System.{Want, Want.Turns, Want.Calls, Want.Awaits, Want.Gone, Kind.Turn, System, State}
+use Rattle.schedule.specs.Scheduled.{after_mark}
+use Rattle.search_settled.specs.Settled.{IsReached}
+use Rattle.search_settled.specs.declared.access.Access.{Access}
+use Rattle.search_settled.specs.Accesses.{IsPlain, Conflict}
+
+-- A turn of a thread's own touches nothing.
+abbrev pub own_turn : Access
+own_turn = record { plain = true; writes = false; addr = 0; width = 0 }
+
+module _ {X T E V A : Type 0} (s : System X T E V A) where
+  -- The state after the next turn of thread n.
+  abbrev pub after_next : State X T → ℕ → State X T
+  after_next w n = after_mark s w n Turn
+
+  -- Events of threads n and u: each finds the same, whichever is made first.
+  pub record AreIndependent (x : X) (n : ℕ) (e : E) (u : ℕ) (f : E) : Type 0 where
+    pub reply : s.reply (s.after x u f) n e ≡ s.reply x n e
+    pub reply_other : s.reply (s.after x n e) u f ≡ s.reply x u f
+    pub shared : s.after (s.after x u f) n e ≡ s.after (s.after x n e) u f
+    pub gives : (m : ℕ) → s.gives (s.after x n e) u f m ≡ s.gives x u f m
+    pub starts : (m : ℕ) → s.starts (s.after x n e) u f m ≡ s.starts x u f m
+
+-- `accesses x t e`: what thread t does with the memory by its event e, where x is shared.
+module _ {X T E V A : Type 0} (s : System X T E V A) (accesses : X → T → E → Access) where
+  abbrev pub access_by : X → T → Want E → Option Access
+  access_by x t Turns = Some own_turn
+  access_by x t (Calls e) = Some (accesses x t e)
+  access_by x t Awaits = None
+  access_by x t Gone = None
+
+  -- What thread n does next, if it can go on.
+  abbrev pub next_access : State X T → ℕ → Option Access
+  next_access w n = access_by w.shared (w.threads n) (s.wants (w.threads n))
+
+  module _ (first : State X T) where
+    -- Wherever threads can come, thread n wants this plain access.
+    pub record WantsPlain (w : State X T) (n : ℕ) (e : E) : Type 0 where
+      pub reached : IsReached s first w
+      pub wants : s.wants (w.threads n) ≡ Calls e
+      pub plain : IsPlain (accesses w.shared (w.threads n) e)
+
+    -- A plain access tells no thread anything and starts none, changes of no event what it does with the memory, and is
+    -- plain whatever comes first; and it is independent of an event of another thread that it doesn't conflict with.
+    pub record ArePlain : Type 0 where
+      pub gives : (w : State X T) (n : ℕ) (e : E) → WantsPlain w n e → (m : ℕ) → s.gives w.shared n e m ≡ None
+      pub starts : (w : State X T) (n : ℕ) (e : E) → WantsPlain w n e → (m : ℕ) → s.starts w.shared n e m ≡ None
+      pub same : (w : State X T) (n : ℕ) (e : E) → WantsPlain w n e
+          → (t : T) (f : E) → accesses (s.after w.shared n e) t f ≡ accesses w.shared t f
+      pub stays : (w : State X T) (n : ℕ) (e : E) → WantsPlain w n e → (u : ℕ) (f : E) → s.wants (w.threads u) ≡ Calls f
+          → accesses (s.after w.shared u f) (w.threads n) e ≡ accesses w.shared (w.threads n) e
+      pub independent : (w : State X T) (n : ℕ) (e : E) → WantsPlain w n e → (u : ℕ) (f : E) → s.wants (w.threads u) ≡ Calls f
+          → u ≢ n → (Conflict (accesses w.shared (w.threads u) f) (accesses w.shared (w.threads n) e) → ⊥)
+          → AreIndependent s w.shared n e u f

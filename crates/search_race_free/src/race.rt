@@ -1,0 +1,8 @@
+//! Two threads that race.
+
+/// These threads race in some run.
+#[derive(Clone, Copy, PartialEq, Eq, Debug)]
+pub struct Race {
+    pub one: usize,
+    pub other: usize,
+}

@@ -1,0 +1,175 @@
+//! All endings of threads of which none race, and races of those of which some do.
+ghost use Rattle.std.specs.Prelude.{◌≡◌, IfOk, IfSome, vec_len};
+ghost use Rattle.indexmap.specs.IndexSet.{index_set_len};
+ghost use Rattle.search_reach.specs.Search.{IsSound};
+ghost use Rattle.search_reach.specs.Found.{AreEndings};
+ghost use Rattle.search_reach.specs.Liveness.{IsCount, IsLiveWhereAll};
+ghost use Rattle.search_reach.specs.declared.search.Verdict.TheVariants as verdicts;
+ghost use Rattle.search_race_free.specs.Turns.{reduced, IsRaceOf, HasNoRace};
+ghost use Rattle.search_race_free.specs.Same.{owning_eq};
+
+use crate::alone::Came;
+use crate::next::{first_state, next_states};
+use crate::{Accesses, Owning, Race};
+use search_graph::Move;
+use search_reach::{Ended, Explores, Follows, Found, Next, Verdict, endings_of, reach_all};
+use search_settled::Flat;
+use std::alloc::{AllocError, Global};
+use std::hash::Hash;
+
+/// The turns of threads that do not race, in any order.
+#[derive(Drop)]
+struct RaceFreeTurns<'s, M> {
+    system: &'s M,
+    most_plain: u32,
+}
+
+impl<M: Accesses> Explores for RaceFreeTurns<'_, M> {
+    ghost use Rattle.schedule.specs.System.{State as SystemState};
+    ghost use Rattle.search_settled.specs.Same.{flat_alike};
+    ghost use Rattle.search_race_free.specs.Turns.{reduced};
+    ghost use Rattle.search_race_free.specs.Same.{owning_alike};
+
+    type State = Owning<Flat<M::Shared, M::Thread>>;
+
+    type Ending = M::Ending;
+
+    ghost World = { SystemState M.X M.T };
+
+    ghost system = { λ t. reduced M.Moves t.system.now };
+
+    ghost same = { λ t x y e. owning_alike M.Shared.eq M.Thread.eq M.Shared.Eq.laws M.Thread.Eq.laws
+        (M.threads t.system.now) (M.same_shared t.system.now) (M.same_thread t.system.now) x y e };
+
+    fn first(&self, alloc: Global) -> Result<Option<Owning<Flat<M::Shared, M::Thread>>>, AllocError> {
+        match first_state(alloc, self.system)? {
+            Came::To(state) => Ok(Some(state)),
+            Came::Races(_) => Ok(None),
+            Came::Unknown => Ok(None),
+        }
+    }
+
+    fn next(
+        &self,
+        alloc: Global,
+        state: &Owning<Flat<M::Shared, M::Thread>>,
+    ) -> Result<Option<Vec<Next<Owning<Flat<M::Shared, M::Thread>>>>>, AllocError> {
+        match next_states(alloc, self.system, state, self.most_plain)? {
+            Came::To(next) => Ok(Some(next)),
+            Came::Races(_) => Ok(None),
+            Came::Unknown => Ok(None),
+        }
+    }
+
+    fn ending(
+        &self,
+        alloc: Global,
+        state: &Owning<Flat<M::Shared, M::Thread>>,
+    ) -> Result<Option<M::Ending>, AllocError> {
+        self.system.ending(alloc, &state.flat)
+    }
+}
+
+/// What a search of threads found: their endings, and a race.
+#[derive(Drop)]
+pub struct RaceFree<E: Eq + Hash> {
+    /// The endings of the states that it met.
+    pub ended: Ended<E>,
+    /// Two threads that race, where it came to that.
+    pub race: Option<Race>,
+}
+
+/// A race that is found at one of these states, from this place on.
+fn race_among<M: Accesses>(
+    alloc: Global,
+    system: &M,
+    met: &[Owning<Flat<M::Shared, M::Thread>>],
+    from: usize,
+    most_plain: u32,
+) -> Result<Option<Race>, AllocError>
+    requires { IsSound (reduced M.Moves system.now) met.now }
+    ensures { IfOk result (λ o. IfSome o (IsRaceOf M.Moves system.now)) }
+{
+    let mut at = from;
+    while let Some(state) = met.get(at) {
+        if let Came::Races(race) = next_states(alloc, system, state, most_plain)? {
+            return Ok(Some(race));
+        }
+        at += 1;
+    }
+    Ok(None)
+}
+
+/// A race that is found in the beginning.
+fn race_at_first<M: Accesses>(alloc: Global, system: &M) -> Result<Option<Race>, AllocError>
+    ensures { IfOk result (λ o. IfSome o (IsRaceOf M.Moves system.now)) }
+{
+    match first_state(alloc, system)? {
+        Came::Races(race) => Ok(Some(race)),
+        Came::To(_) => Ok(None),
+        Came::Unknown => Ok(None),
+    }
+}
+
+/// The place behind the last state from which there are moves: a search that gave up did so there, or behind it.
+fn behind_last(moves: &[Move]) -> usize {
+    match moves.last() {
+        Some(last) => last.from as usize + 1,
+        None => 0,
+    }
+}
+
+/// The race for which a search gave up, if it was one.
+fn race_in<M: Accesses>(
+    alloc: Global,
+    system: &M,
+    found: &Found<Owning<Flat<M::Shared, M::Thread>>>,
+    most_plain: u32,
+) -> Result<Option<Race>, AllocError>
+    requires { IsSound (reduced M.Moves system.now) found.now.met.keys }
+    ensures { IfOk result (λ o. IfSome o (IsRaceOf M.Moves system.now)) }
+{
+    let Verdict::CannotTell = found.verdict else {
+        return Ok(None);
+    };
+    if found.met.is_empty() {
+        return race_at_first(alloc, system);
+    }
+    let from = behind_last(found.moves.as_slice());
+    race_among(alloc, system, found.met.as_slice(), from, most_plain)
+}
+
+/// The endings of all runs of threads, whatever the order of their turns, where no threads race in any run: at
+/// `Verdict::All` none do. It meets no more than `most` states and a few, and those before it is told to end. At
+/// `Verdict::CannotTell` there may be a race, which is then given. A thread makes at most `most_plain` plain turns in a
+/// row before others have theirs, whatever comes of it.
+///
+/// Where it met all, it says of which states no run ends, and whether every fair run ends, as
+/// `search_settled::search_all` does of its own.
+///
+/// # Errors
+/// Where memory is refused.
+pub fn search_race_free<M: Accesses, F: Follows>(
+    alloc: Global,
+    system: &M,
+    most: u32,
+    most_plain: u32,
+    follower: &mut F,
+) -> Result<RaceFree<M::Ending>, AllocError>
+    ensures found { IfOk result
+        (λ r. AreEndings (reduced M.Moves system.now) M.Ending.eq most (F.wish follower.new) r.ended) }
+    ensures paths { IfOk result (λ r. vec_len r.ended.paths ≡ index_set_len r.ended.endings) }
+    ensures count { IfOk result
+        (λ r. IsCount (reduced M.Moves system.now) (owning_eq M.Shared.eq M.Thread.eq) r.ended.states) }
+    ensures live { IfOk result
+        (λ r. IsLiveWhereAll (reduced M.Moves system.now) (owning_eq M.Shared.eq M.Thread.eq)
+        r.ended.states r.ended.verdict r.ended.liveness) }
+    ensures none { IfOk result (λ r. r.ended.verdict ≡ verdicts.All → HasNoRace M.Moves system.now) }
+    ensures race { IfOk result (λ r. IfSome r.race (IsRaceOf M.Moves system.now)) }
+{
+    let turns = RaceFreeTurns { system, most_plain };
+    let found = reach_all(alloc, &turns, most, follower)?;
+    let race = race_in(alloc, system, &found, most_plain)?;
+    let ended = endings_of(alloc, &turns, most, found, follower)?;
+    Ok(RaceFree { ended, race })
+}

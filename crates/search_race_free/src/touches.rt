@@ -1,0 +1,154 @@
+//! What threads touch, and where that conflicts.
+ghost use Rattle.std.specs.Prelude.{◌≡◌, ◌≢◌, ◌↔◌, ◌⊎◌, Some, IfOk, OnOk, IfSome, IfNone, IsTrue};
+ghost use Rattle.search_settled.specs.Accesses.{Meet, Conflict, AreMatched, Race as AreRacing};
+ghost use Rattle.search_race_free.specs.Touches.{StrikesNobody, Strikes, AreOfOthers, MeetsNobody, Meets, IsPut};
+ghost use Rattle.search_race_free.specs.Touches.{AreClear, AreInTheWay};
+
+use crate::{Race, Touch};
+use search_settled::Access;
+use std::alloc::{AllocError, Global};
+
+/// Whether both touch a byte in common.
+fn meet(a: Access, b: Access) -> bool
+    ensures { IsTrue result ↔ Meet a b }
+{
+    if a.addr <= b.addr {
+        b.width > 0 && b.addr - a.addr < a.width
+    } else {
+        a.width > 0 && a.addr - b.addr < b.width
+    }
+}
+
+/// Whether both touch a byte in common, and one of them writes.
+fn conflict(a: Access, b: Access) -> bool
+    ensures { IsTrue result ↔ Conflict a b }
+{
+    (a.writes || b.writes) && meet(a, b)
+}
+
+/// Whether neither is plain, and they are of exactly the same bytes.
+fn are_matched(a: Access, b: Access) -> bool
+    ensures { IsTrue result ↔ AreMatched a b }
+{
+    !a.plain && !b.plain && a.addr == b.addr && a.width == b.width
+}
+
+/// Whether they race where they are next at once.
+fn are_racing(a: Access, b: Access) -> bool
+    ensures { IsTrue result ↔ AreRacing a b }
+{
+    conflict(a, b) && !are_matched(a, b)
+}
+
+/// Whether this is a touch of another thread with which a thread's access conflicts.
+fn strikes(touch: Touch, thread: usize, access: Access) -> bool
+    ensures { IsTrue result ↔ (touch.thread ≢ thread) × Conflict access touch.access }
+{
+    touch.thread != thread && conflict(access, touch.access)
+}
+
+/// A thread one of whose touches conflicts with this access of another thread.
+pub(crate) fn struck(owned: &[Touch], thread: usize, access: Access) -> Option<usize>
+    ensures none { IfNone result (StrikesNobody owned.now thread access) }
+    ensures some { IfSome result (Strikes owned.now thread access) }
+{
+    for touch in owned {
+        if strikes(*touch, thread, access) {
+            return Some(touch.thread);
+        }
+    }
+    None
+}
+
+/// Whether this next access of a thread races with one of another thread.
+fn meets(next: Option<Access>, other: usize, thread: usize, access: Access) -> bool
+    ensures { IsTrue result ↔ (b : Access) × (next ≡ Some b) × (other ≢ thread) × AreRacing access b }
+{
+    match next {
+        Some(next) => other != thread && are_racing(access, next),
+        None => false,
+    }
+}
+
+/// A thread whose next access races with this one of another thread.
+fn meeting(wanted: &[Option<Access>], thread: usize, access: Access) -> Option<usize>
+    ensures none { IfNone result (MeetsNobody wanted.now thread access) }
+    ensures some { IfSome result (Meets wanted.now thread access) }
+{
+    for other in 0..wanted.len() {
+        if meets(wanted[other], other, thread, access) {
+            return Some(other);
+        }
+    }
+    None
+}
+
+/// A thread that this access of another thread strikes or meets.
+fn in_the_way(
+    wanted: &[Option<Access>],
+    owned: &[Touch],
+    thread: usize,
+    access: Access,
+) -> Option<usize>
+    ensures none { IfNone result (StrikesNobody owned.now thread access × MeetsNobody wanted.now thread access) }
+    ensures some { IfSome result (λ one. Strikes owned.now thread access one ⊎ Meets wanted.now thread access one) }
+{
+    match struck(owned, thread, access) {
+        Some(one) => Some(one),
+        None => meeting(wanted, thread, access),
+    }
+}
+
+/// Two threads of which one is in the way of the other's next access.
+pub(crate) fn first_race(wanted: &[Option<Access>], owned: &[Touch]) -> Option<Race>
+    ensures none { IfNone result (AreClear wanted.now owned.now) }
+    ensures some { IfSome result (λ r. AreInTheWay wanted.now owned.now r.one r.other) }
+{
+    for other in 0..wanted.len() {
+        if let Some(access) = wanted[other] {
+            if let Some(one) = in_the_way(wanted, owned, other, access) {
+                return Some(Race { one, other });
+            }
+        }
+    }
+    None
+}
+
+/// Whether this is a touch of another thread.
+fn is_of_other(touch: Touch, thread: usize) -> bool
+    ensures { IsTrue result ↔ (touch.thread ≢ thread) }
+{
+    touch.thread != thread
+}
+
+/// The touches of the other threads.
+pub(crate) fn of_others(
+    alloc: Global,
+    owned: &[Touch],
+    thread: usize,
+) -> Result<Vec<Touch>, AllocError>
+    ensures { IfOk result (λ v. AreOfOthers owned.now thread v.items) }
+{
+    let mut others = Vec::new(alloc);
+    for touch in owned {
+        if is_of_other(*touch, thread) {
+            others.push(*touch)?;
+        }
+    }
+    Ok(others)
+}
+
+/// Adds a touch, unless it is there. They stay in order, so that what is owned alike is alike.
+pub(crate) fn put(touches: &mut Vec<Touch>, touch: Touch) -> Result<(), AllocError>
+    ensures { OnOk result (IsPut touches.old.items touch touches.new.items) }
+{
+    let mut at: usize = 0;
+    while at < touches.len() && touches[at] < touch {
+        at += 1;
+    }
+    if at < touches.len() && touches[at] == touch {
+        return Ok(());
+    }
+    touches.insert(at, touch)?;
+    Ok(())
+}

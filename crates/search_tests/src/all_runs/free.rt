@@ -1,0 +1,82 @@
+//! The same endings where no threads race, over fewer states; and races where some do.
+
+use crate::all_runs::rows::{DUMP, Gone, MODULES, MOST, call_of, gone_through};
+use crate::runs::load;
+use search_endings::Ending;
+use search_modules::{RaceFree, race_free_endings};
+use search_reach::{Ended, Verdict};
+use spawn_host::Request;
+use std::alloc::Global;
+use std::process::Abort;
+use std::test::Fail;
+use validate::ValidModule;
+
+/// The threads of the module that race, or how many states are met where none do.
+enum Expected {
+    Race(usize, usize),
+    States(usize),
+}
+
+/// What is expected of each of the modules.
+static EXPECTED: [Expected; 9] = [
+    Expected::Race(0, 1),
+    Expected::States(201),
+    Expected::States(209),
+    Expected::Race(0, 1),
+    Expected::States(114),
+    Expected::States(23),
+    Expected::Race(0, 1),
+    Expected::States(995),
+    Expected::States(387),
+];
+
+fn gone_freely(
+    alloc: Global,
+    valid: &ValidModule,
+    gone: &Gone,
+) -> Result<RaceFree<Ending>, Fail> {
+    let request = Request::new(valid, call_of(gone))?;
+    Ok(race_free_endings(alloc, &request, MOST, DUMP as usize, &mut ())?)
+}
+
+/// They are the endings of every order.
+fn check_same<R: Abort>(rt: &R, free: &Ended<Ending>, all: &Ended<Ending>) {
+    assert_eq!(rt; free.endings.len(), all.endings.len());
+    for ending in free.endings.as_slice() {
+        assert!(rt; all.endings.contains(ending));
+    }
+}
+
+fn check_free<R: Abort>(
+    rt: &R,
+    alloc: Global,
+    valid: &ValidModule,
+    gone: &Gone,
+    expected: &Expected,
+) -> Result<(), Fail> {
+    let free = gone_freely(alloc, valid, gone)?;
+    match expected {
+        Expected::Race(one, other) => {
+            assert_eq!(rt; free.ended.verdict, Verdict::CannotTell);
+            let race = free.race.map(|race| (race.one, race.other));
+            assert_eq!(rt; race, Some((*one, *other)));
+        }
+        Expected::States(states) => {
+            assert!(rt; free.race.is_none());
+            assert_eq!(rt; free.ended.states, *states);
+            assert_eq!(rt; free.ended.verdict, Verdict::All);
+            let all = gone_through(alloc, valid, gone, MOST)?;
+            check_same(rt, &free.ended, &all);
+        }
+    }
+    Ok(())
+}
+
+#[test]
+fn who_does_not_race_ends_as_by_every_order(rt: HostRuntime) -> Result<(), Fail> {
+    for (place, gone) in MODULES.as_slice().iter().enumerate() {
+        let valid = load(rt.alloc(), gone.module)?;
+        check_free(&rt, rt.alloc(), &valid, gone, &EXPECTED[place])?;
+    }
+    Ok(())
+}
