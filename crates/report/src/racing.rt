@@ -107,9 +107,5 @@ fn write_seen<W: Write>(
     let story = Story::new(alloc, log)?;
     let races = races_shown(alloc, shown, &story, most as usize)?;
     write_races(alloc, shown, &story, &races, out)?;
-    if races.pairs.as_slice().len() >= 1 {
-        Ok(true)
-    } else {
-        Ok(false)
-    }
+    Ok(races.pairs.as_slice().len() >= 1)
 }
