@@ -1,5 +1,5 @@
 -- What is told of races, by other names of what it is told of.
-use Rattle.std.proofs.Common.{◌≡◌, List, [], ◌∷◌, Option, length, leb, refl, subst, arith}
+use Rattle.std.proofs.Common.{◌≡◌, ◌≤◌, ◌<◌, Bool, true, false, List, [], ◌∷◌, Option, length, refl, subst, arith}
 use Rattle.std.proofs.lemmas.List.Elements.{Contains-get_or}
 use Rattle.types.specs.declared.event.Entry.{Entry}
 use Rattle.types.specs.declared.parts.Parts.{Parts}
@@ -12,10 +12,13 @@ use Rattle.show_races.specs.Told.{HasNoRace}
 use Rattle.report.specs.Raced.{Says}
 
 -- where there are pairs one of them is a race, and else there is none
-pub says_by : (log : List Entry) (kinds : List Kind) (pairs : List Race) → AreRaces log kinds pairs
-    → (pairs ≡ [] → HasNoRace log kinds) → Says log kinds (leb 1 (length pairs))
-says_by log kinds [] races none = none refl
-says_by log kinds (r ∷ pairs) races none = (r, races r (Contains-get_or (r ∷ pairs) 0 r (omega arith)))
+pub says_by : (log : List Entry) (kinds : List Kind) (pairs : List Race) (is_racy : Bool) → AreRaces log kinds pairs
+    → (pairs ≡ [] → HasNoRace log kinds) → (is_racy ≡ true → 1 ≤ length pairs) → (is_racy ≡ false → length pairs < 1)
+    → Says log kinds is_racy
+says_by log kinds [] true races none some few = let one = some refl in absurd (omega (arith, one))
+says_by log kinds (r ∷ pairs) true races none some few = (r, races r (Contains-get_or (r ∷ pairs) 0 r (omega arith)))
+says_by log kinds [] false races none some few = none refl
+says_by log kinds (r ∷ pairs) false races none some few = let no = few refl in absurd (omega (arith, no))
 
 -- what is so of a log and its kinds is so of the same log, the same module and the same rows
 pub told_of : (Is : List Entry → List Kind → Type 0) (l k : List Entry) (m n : Parts) (rows others : List (Option Row))

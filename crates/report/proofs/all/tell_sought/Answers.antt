@@ -38,10 +38,10 @@ returns-in_ok-write_found_ending-in-Some-clause-tells g c =
     ))
     c.tell_made.ensures.tells
 
-pub returns-in_ok-write_without_run-clause-tells : goal.returns-in_ok-write_without_run-clause-tells
-returns-in_ok-write_without_run-clause-tells g c = (
+pub returns-in_ok-write_without_run-in-None-clause-tells : goal.returns-in_ok-write_without_run-in-None-clause-tells
+returns-in_ok-write_without_run-in-None-clause-tells g c = (
   _,
-  c.in_ok-write_without_run.ensures,
+  c.in_ok-write_without_run-in-None.ensures,
   inr (record {
     other = rw c.in-None.is at c.in-Ok.ensures.none;
     text_is = refl;

@@ -1,8 +1,7 @@
-use Rattle.std.proofs.Common.{◌∙◌, List, length, leb, ap, sym, subst}
+use Rattle.std.proofs.Common.{◌∙◌, List, length, ap, subst}
 use Rattle.types.specs.declared.event.Entry.{Entry}
 use Rattle.show_rows.specs.Listing.{IsStoryOf}
 use Rattle.replay_text.specs.declared.parts.RecordParts.{RecordParts}
-use Rattle.race_history.specs.declared.race.Race.{Race}
 use Rattle.show_races.specs.Kinds.{kinds_in}
 use Rattle.report.specs.Raced.{Says}
 use Rattle.report.proofs.Told.{says_by, told_of}
@@ -14,11 +13,11 @@ returns-clause-says g c =
     let m = c.in_ok-code.code.parts.now in
     let rows = c.as_slice.result.now in
     let races = c.in_ok-races.races.pairs.items in
-    let pairs = c.as_slice-2.result.now in
-    told_of (λ l k. Says l k (leb 1 (length pairs))) log c.args.seen.now.record.log m c.args.module.now.parts rows c.args.seen.now.rows.items
+    let is_racy = c.is_racy.result in
+    told_of (λ l k. Says l k is_racy) log c.args.seen.now.record.log m c.args.module.now.parts rows c.args.seen.now.rows.items
     (ap (λ (r : RecordParts). r.log) c.parts-2.ensures.parts) (c.in_ok-code.ensures.parts ∙ c.parts.ensures.parts) c.as_slice.ensures.value
-    (subst (λ (l : List Race). Says log (kinds_in m rows (length log)) (leb 1 (length l))) (sym c.as_slice-2.ensures.value)
-    (says_by log (kinds_in m rows (length log)) races c.in_ok-races.ensures.races c.in_ok-races.ensures.none))
+    (says_by log (kinds_in m rows (length log)) races is_racy c.in_ok-races.ensures.races c.in_ok-races.ensures.none
+    c.is_racy.ensures.some c.is_racy.ensures.none)
 
 pub returns-clause-writes : goal.returns-clause-writes
 returns-clause-writes g c =
