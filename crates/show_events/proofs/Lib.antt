@@ -1,2 +1,3 @@
 pub mod Behind
+pub mod Events
 pub mod Parts

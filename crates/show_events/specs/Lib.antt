@@ -1,3 +1,4 @@
+pub mod Events
 pub mod Forward
 pub mod Lines
 pub mod Page

@@ -5,9 +5,9 @@ ghost use Rattle.show_events.specs.Page.{AddsPage};
 
 use crate::script::SCRIPT;
 use crate::style::{BODY, STYLE};
-use crate::{chosen_entries, write_events};
+use crate::write_events;
 use report_choice::Look;
-use show_rows::Shown;
+use show_rows::{Shown, chosen_entries};
 use show_text::Unwritten;
 use std::alloc::Global;
 use std::io::Write;

@@ -1,13 +1,14 @@
 //! The events of a record, one a line.
 
-ghost use Rattle.std.specs.Prelude.{◌≡◌, ◌≤◌, ◌+◌, ℕ, length, OnOk};
+ghost use Rattle.std.specs.Prelude.{◌≤◌, ◌<◌, ℕ, length, All, OnOk};
+ghost use Rattle.show_events.specs.Events.{AddsEvent, AddsEvents, HasEvents};
 ghost use Rattle.show_events.specs.Lines.{AddsLine, AddsLines};
 
-use crate::event::{EntryArgs, entry_event, finish_event, name_event, start_event};
-use crate::line::{Front, write_event, write_line};
+use crate::event::{EntryEvent, entry_event, finish_event, name_event, start_event};
+use crate::line::{Front, write_line};
 use crate::links::{Link, LinkKind, Links};
 use report_choice::Look;
-use show_rows::{Shown, Story};
+use show_rows::{Shown, Story, chosen_entries};
 use show_text::Unwritten;
 use std::alloc::{AllocError, Global};
 use std::io::Write;
@@ -34,17 +35,6 @@ pub fn write_trace<W: Write>(
     Ok(())
 }
 
-/// The places in the log of the entries that are chosen, in order.
-pub fn chosen_entries(alloc: Global, shown: Shown, look: &Look) -> Result<Vec<usize>, AllocError> {
-    let mut chosen = Vec::new(alloc);
-    for (at, entry) in shown.record.log.as_slice().iter().enumerate() {
-        if look.choice.has(shown.line_of(at), entry) {
-            chosen.push(at)?;
-        }
-    }
-    Ok(chosen)
-}
-
 /// Writes the events of the entries at these places, which are in order, as a JSON array: lines in which no `<` is, so
 /// that it may stand in a page. Each place has a line.
 pub fn write_events<W: Write>(
@@ -53,7 +43,9 @@ pub fn write_events<W: Write>(
     chosen: &[usize],
     out: &mut W,
 ) -> Result<(), Unwritten>
-    ensures { OnOk result ((n : ℕ) × (length chosen.now ≤ n) × AddsLines n (W.contents out.old) (W.contents out.new)) }
+    requires { All (λ at. at < length shown.record.now.log) chosen.now }
+    ensures lines { OnOk result ((n : ℕ) × (length chosen.now ≤ n) × AddsLines n (W.contents out.old) (W.contents out.new)) }
+    ensures which { OnOk result (HasEvents shown.entry chosen.now (W.contents out.old) (W.contents out.new)) }
 {
     let log = shown.record.log.as_slice();
     let story = Story::new(alloc, log)?;
@@ -90,12 +82,9 @@ fn write_threads<W: Write>(
     ensures { OnOk result ((n : ℕ) × AddsLines n (W.contents out.old) (W.contents out.new)) }
 {
     let threads = threads_of(alloc, shown, chosen)?;
-    let mut name = String::new(alloc);
     for place in 0..threads.len() {
-        let thread = threads[place];
-        name.clear();
-        write!(name, "t{thread}")?;
-        write_event(alloc, out, &name_event(thread, name.as_str()))?;
+        let name = name_event(alloc, threads[place])?;
+        write_line(alloc, out, Front::Next, name.as_str())?;
     }
     Ok(())
 }
@@ -109,7 +98,9 @@ fn write_entries<W: Write>(
     chosen: &[usize],
     out: &mut W,
 ) -> Result<(), Unwritten>
-    ensures { OnOk result (AddsLines (length chosen.now) (W.contents out.old) (W.contents out.new)) }
+    requires { All (λ at. at < length shown.record.now.log) chosen.now }
+    ensures lines { OnOk result (AddsLines (length chosen.now) (W.contents out.old) (W.contents out.new)) }
+    ensures which { OnOk result (AddsEvents shown.entry story.now chosen.now (W.contents out.old) (W.contents out.new)) }
 {
     for place in 0..chosen.len() {
         write_entry(alloc, shown, story, links, chosen[place], out)?;
@@ -126,27 +117,23 @@ fn write_entry<W: Write>(
     at: usize,
     out: &mut W,
 ) -> Result<(), Unwritten>
-    ensures { OnOk result (AddsLine (W.contents out.old) (W.contents out.new)) }
+    requires { at < length shown.record.now.log }
+    ensures line { OnOk result (AddsLine (W.contents out.old) (W.contents out.new)) }
+    ensures which { OnOk result (AddsEvent shown.entry story.now at (W.contents out.old) (W.contents out.new)) }
 {
-    let mut words = String::new(alloc);
-    let mut place = String::new(alloc);
-    let mut thread = 0;
-    if let Some(entry) = shown.record.log.as_slice().get(at) {
-        let said = shown.words_at(story, at, entry);
-        write!(words, "{said}")?;
-        thread = entry.thread;
-    }
-    if let Some(made) = shown.place_at(story, at) {
-        let spot = shown.code.spot(made);
-        write!(place, "{spot}")?;
-    }
-    let args = EntryArgs {
+    let entry = &shown.record.log.as_slice()[at];
+    let words = shown.words_at(story, at, entry).to_string(alloc)?;
+    let place = shown.place_text(alloc, story, at)?;
+    let event = EntryEvent {
+        thread: entry.thread,
+        at: at as u64,
+        length: links.length_of(&story.contexts, at) as u64,
+        words: words.as_str(),
         line: shown.line_of(at),
         place: place.as_str(),
     };
-    let length = links.length_of(&story.contexts, at) as u64;
-    let event = entry_event(thread, at as u64, length, words.as_str(), args);
-    write_event(alloc, out, &event)
+    let json = entry_event(alloc, event)?;
+    write_line(alloc, out, Front::Next, json.as_str())
 }
 
 /// The thread of the entry at a place, if it is chosen.
@@ -197,7 +184,9 @@ fn write_link<W: Write>(
         LinkKind::Wake => "wakes",
         LinkKind::Spawn => "spawns",
     };
-    write_event(alloc, out, &start_event(kind, id, from, link.from as u64))?;
-    write_event(alloc, out, &finish_event(kind, id, to, link.to as u64))?;
+    let start = start_event(alloc, kind, id, from, link.from as u64)?;
+    let finish = finish_event(alloc, kind, id, to, link.to as u64)?;
+    write_line(alloc, out, Front::Next, start.as_str())?;
+    write_line(alloc, out, Front::Next, finish.as_str())?;
     Ok(())
 }
