@@ -42,7 +42,7 @@ module _ {T : Type 0} (meaning : T → Meaning)
     (run : Run) (r : RecordParts) (limit : run.limit ≡ r.limit) (most : run.threads ≡ r.threads) (budget : run.budget ≡ r.fuel)
     (threads : List T) (memory : Memory) (queue : WaitQueue) (begun : ℕ) (ends : List (Option Outcome))
     (w : HasWalked meaning run r.log threads memory queue begun ends) where
-  along : WalksAlong (start run) r w.state w.places
+  pub along : WalksAlong (start run) r w.state w.places
   along =
       subst (λ (t : ℕ). Walks (system_of (start run)) (try_rules false (Some r.limit)) (as_acts r.log)
       (state_for t (start run)) first_places 0 w.state w.places) most
@@ -50,7 +50,7 @@ module _ {T : Type 0} (meaning : T → Meaning)
       (state_for run.threads (start run)) first_places 0 w.state w.places) limit w.walks)
 
   -- It stands where its log ends;
-  ended : Ends meaning (standing_in run memory w.state w.places) threads queue begun ends r.fuel
+  pub ended : Ends meaning (standing_in run memory w.state w.places) threads queue begun ends r.fuel
   ended = record { standing = w.standing; budget = budget }
 
   -- where all lines agree, the record is of a run that ends with its memory,
