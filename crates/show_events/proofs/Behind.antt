@@ -3,10 +3,7 @@ use Rattle.std.proofs.Common.{◌≡◌, ℕ, zero, suc, ◌+◌, ◌≤◌, Lis
 use Rattle.std.proofs.lemmas.List.{append-nil}
 use Rattle.std.specs.Io.KnownBytes.{Appends}
 use Rattle.replay_forms.proofs.Written.{appends_then}
-use Rattle.show_rows.specs.declared.listing.Shown.{Shown}
-use Rattle.show_rows.specs.declared.listing.Story.{Story}
 use Rattle.show_events.specs.Lines.{AddsLine, AddsLines}
-use Rattle.show_events.specs.Events.{AddsEvents, HasEvents}
 
 nothing_behind : (n : ℕ) (a b c : Option (List ℕ)) → AddsLines n a b → Appends b c [] → AddsLines n a c
 nothing_behind zero a b c p q = appends_then a b c [] [] p q
@@ -43,10 +40,3 @@ two_lines a b c first second = (2, (b, (a, no_line a, first), second))
 
 pub some_more : (n m : ℕ) (a b c : Option (List ℕ)) → AddsLines n a b → AddsLines m b c → (x : ℕ) × AddsLines x a c
 some_more n m a b c p q = (n + m, lines_then n m a b c p q)
-
--- A line, some lines, these events, some lines, and a line.
-pub around : (shown : Shown) (story : Story) (places : List ℕ) (n m : ℕ) (a b c d e f : Option (List ℕ)) → AddsLine a b
-    → AddsLines n b c → AddsEvents shown story places c d → AddsLines m d e → AddsLine e f → HasEvents shown places a f
-around shown story places n m a b c d e f first names events links last =
-    let front : AddsLines 1 a b = (a, no_line a, first) in
-    (story, 1 + n, suc m, c, d, lines_then 1 n a b c front names, events, (e, links, last))

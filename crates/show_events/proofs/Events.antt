@@ -1,36 +1,37 @@
--- Events, one behind the other.
-use Rattle.std.proofs.Common.{◌≡◌, ℕ, ◌+◌, ◌<◌, List, [], ◌∷◌, ◌++◌, length, take, get_or, Option, None, Some, refl, sym, ap}
-use Rattle.std.proofs.Common.{subst, ◌∙◌}
-use Rattle.std.proofs.lemmas.List.{take_more}
-use Rattle.std.specs.Io.KnownBytes.{Appends, Keeps}
-use Rattle.show_rows.specs.declared.listing.Shown.{Shown}
-use Rattle.show_rows.specs.declared.listing.Story.{Story}
-use Rattle.show_events.specs.Events.{AddsEvent, AddsEvents}
+-- Steps, one behind the other.
+use Rattle.std.proofs.Common.{◌≡◌, ◌∙◌, ℕ, ◌+◌, ◌<◌, ◌≤◌, List, [], ◌∷◌, ◌++◌, length, take, get_or, Option, refl, sym, ap, subst, arith}
+use Rattle.std.proofs.lemmas.List.{take_more, take_all}
+use Rattle.std.proofs.lemmas.List.FromFn.{length-enumerate_from, get_or-enumerate_from}
+use Rattle.std.specs.List.{enumerate_from}
+use Rattle.show_events.specs.Events.{InTurn}
 
-keeps_then : (a b c : Option (List ℕ)) (x : List ℕ) → Keeps a b → Appends b c x → Appends a c x
-keeps_then None b c x p q = tt
-keeps_then (Some a) None c x p q = absurd p
-keeps_then (Some a) (Some b) None x p q = absurd q
-keeps_then (Some a) (Some b) (Some c) x p q = q ∙ ap (λ (z : List ℕ). z ++ x) p
+in_turn_one : {X S : Type 0} (does : X → S → S → Type 0) (xs : List X) (x : X) (a b c : S) → InTurn does xs a b
+    → does x b c → InTurn does (xs ++ x ∷ []) a c
+in_turn_one {X} {S} does [] x a b c same step = (c, subst (λ (s : S). does x s c) same step, refl)
+in_turn_one does (y ∷ xs) x a b c (middle, first, rest) step = (middle, first, in_turn_one does xs x middle b c rest step)
 
-pub keeps_same : (a : Option (List ℕ)) → Keeps a a
-keeps_same None = tt
-keeps_same (Some a) = refl
+pub in_turn_next : {X S : Type 0} (does : X → S → S → Type 0) (xs : List X) (k : ℕ) (z x : X) → k < length xs
+    → x ≡ get_or xs k z → (a b c : S) → InTurn does (take k xs) a b → does x b c → InTurn does (take (k + 1) xs) a c
+in_turn_next {X} {S} does xs k z x lt is a b c before step =
+    let e : take (k + 1) xs ≡ take k xs ++ x ∷ [] = take_more xs k z lt ∙ ap (λ (y : X). take k xs ++ y ∷ []) (sym is) in
+    subst (λ (ys : List X). InTurn does ys a c) (sym e) (in_turn_one does (take k xs) x a b c before step)
 
-event_behind : (shown : Shown) (story : Story) (at : ℕ) (a b c : Option (List ℕ)) → Keeps a b
-    → AddsEvent shown story at b c → AddsEvent shown story at a c
-event_behind shown story at a b c k (row, length, says, wrote) = (row, length, says, keeps_then a b c _ k wrote)
+pub in_turn_all : {X S : Type 0} (does : X → S → S → Type 0) (xs : List X) (k : ℕ) (a b : S) → length xs ≤ k
+    → InTurn does (take k xs) a b → InTurn does xs a b
+in_turn_all {X} does xs k a b le all = subst (λ (ys : List X). InTurn does ys a b) (take_all xs k le) all
 
-one_more : (shown : Shown) (story : Story) (ats : List ℕ) (at : ℕ) (a b c : Option (List ℕ))
-    → AddsEvents shown story ats a b → AddsEvent shown story at b c → AddsEvents shown story (ats ++ at ∷ []) a c
-one_more shown story [] at a b c k event = (c, event_behind shown story at a b c k event, keeps_same c)
-one_more shown story (x ∷ ats) at a b c (middle, first, rest) event =
-    (middle, first, one_more shown story ats at middle b c rest event)
+-- The same of items with their numbers.
+pub numbered_next : {X S : Type 0} (does : ℕ × X → S → S → Type 0) (xs : List X) (k : ℕ) (z x : X) → k < length xs
+    → x ≡ get_or xs k z → (a b c : S) → InTurn does (take k (enumerate_from 0 xs)) a b → does (k, x) b c
+    → InTurn does (take (k + 1) (enumerate_from 0 xs)) a c
+numbered_next {X} does xs k z x lt is a b c before step =
+    let number : k ≡ 0 + k = omega arith in
+    let pair : X → ℕ × X = λ y. (k, y) in
+    let zero_pair : ℕ → ℕ × X = λ n. (n, get_or xs k z) in
+    let e : pair x ≡ get_or (enumerate_from 0 xs) k (0, z) = ap pair is ∙ (ap zero_pair number ∙ sym (get_or-enumerate_from 0 xs k (0, z) lt)) in
+    in_turn_next does (enumerate_from 0 xs) k (0, z) (k, x) (omega (arith, lt, length-enumerate_from 0 xs)) e a b c before step
 
-pub events_next : (shown : Shown) (story : Story) (ats : List ℕ) (k z at : ℕ) → k < length ats → at ≡ get_or ats k z
-    → (a b c : Option (List ℕ)) → AddsEvents shown story (take k ats) a b → AddsEvent shown story at b c
-    → AddsEvents shown story (take (k + 1) ats) a c
-events_next shown story ats k z at lt is a b c before event =
-    let e : take (k + 1) ats ≡ take k ats ++ at ∷ [] =
-    take_more ats k z lt ∙ ap (λ (y : ℕ). take k ats ++ y ∷ []) (sym is) in
-    subst (λ (xs : List ℕ). AddsEvents shown story xs a c) (sym e) (one_more shown story (take k ats) at a b c before event)
+pub numbered_all : {X S : Type 0} (does : ℕ × X → S → S → Type 0) (xs : List X) (k : ℕ) (a b : S) → length xs ≤ k
+    → InTurn does (take k (enumerate_from 0 xs)) a b → InTurn does (enumerate_from 0 xs) a b
+numbered_all does xs k a b le all =
+    in_turn_all does (enumerate_from 0 xs) k a b (omega (arith, le, length-enumerate_from 0 xs)) all

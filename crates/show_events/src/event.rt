@@ -3,7 +3,7 @@
 
 ghost use Rattle.std.specs.Prelude.{◌≡◌, string_bytes, IfOk};
 ghost use Rattle.show_events.specs.Events as specified;
-ghost use Rattle.show_events.specs.Events.{entry_json, name_json, start_json, finish_json};
+ghost use Rattle.show_events.specs.Events.{event_json, entry_json, name_json, start_json, finish_json};
 
 use serde_json::Value;
 use std::alloc::{AllocError, Global};
@@ -30,14 +30,10 @@ pub(crate) struct EntryEvent<'a> {
     pub(crate) place: &'a str,
 }
 
-/// An entry with its words, from its number on and so many long.
-pub(crate) fn entry_event(alloc: Global, event: EntryEvent) -> Result<String, AllocError>
-    ensures { IfOk result (λ s. string_bytes s ≡ entry_json (record {
-      line = event.line;
-      thread = event.thread;
-      words = event.words.now;
-      place = event.place.now;
-    }) event.at event.length) }
+/// An entry, with its words and its place as JSON has them.
+fn spelt(alloc: Global, event: EntryEvent) -> Result<String, AllocError>
+    ensures { IfOk result (λ s. string_bytes s ≡ event_json event.entry.words.now event.entry.place.now
+        event.entry.thread event.entry.line event.entry.at event.entry.length) }
 {
     let EntryEvent {
         thread,
@@ -47,10 +43,29 @@ pub(crate) fn entry_event(alloc: Global, event: EntryEvent) -> Result<String, Al
         line,
         place,
     } = event;
-    let words = quoted(alloc, words)?;
-    let place = quoted(alloc, place)?;
     format!(in alloc;
         "{{\"ph\":\"X\",\"name\":{words},\"cat\":\"entry\",\"ts\":{at},\"dur\":{length},\"pid\":1,\"tid\":{thread},\"args\":{{\"line\":{line},\"place\":{place}}}}}"
+    )
+}
+
+/// An entry with its words, from its number on and so many long.
+pub(crate) fn entry_event(alloc: Global, event: EntryEvent) -> Result<String, AllocError>
+    ensures { IfOk result (λ s. string_bytes s ≡ entry_json (record {
+      line = event.entry.line;
+      thread = event.entry.thread;
+      words = event.entry.words.now;
+      place = event.entry.place.now;
+    }) event.entry.at event.entry.length) }
+{
+    let words = quoted(alloc, event.words)?;
+    let place = quoted(alloc, event.place)?;
+    spelt(
+        alloc,
+        EntryEvent {
+            words: words.as_str(),
+            place: place.as_str(),
+            ..event
+        },
     )
 }
 

@@ -1,6 +1,7 @@
 //! The page.
 
 ghost use Rattle.std.specs.Prelude.{OnOk};
+ghost use Rattle.show_events.specs.Events.{WritesPage};
 ghost use Rattle.show_events.specs.Page.{AddsPage};
 
 use crate::script::SCRIPT;
@@ -22,7 +23,8 @@ pub fn write_page<W: Write>(
     look: &Look,
     out: &mut W,
 ) -> Result<(), Unwritten>
-    ensures { OnOk result (AddsPage (W.contents out.old) (W.contents out.new)) }
+    ensures data { OnOk result (AddsPage (W.contents out.old) (W.contents out.new)) }
+    ensures which { OnOk result (WritesPage shown.entry look.now (W.contents out.old) (W.contents out.new)) }
 {
     let chosen = chosen_entries(alloc, shown, look)?;
     out.write_all(STYLE.as_bytes())?;

@@ -1,7 +1,7 @@
 //! A moment of a walk along a log.
 
-ghost use Rattle.std.specs.Prelude.{◌≡◌, ◌≤◌, replicate, false, take, drop, None, option_map, IfOk, OnOk};
-ghost use Rattle.std.specs.List.{AllZip};
+ghost use Rattle.std.specs.Prelude.{◌≡◌, ◌↔◌, replicate, false, take, drop, Some, None, slice_set, option_map, IsTrue, IfOk, OnOk};
+ghost use Rattle.std.specs.List.{slice_get, AllZip};
 ghost use Rattle.types.specs.declared.limits.TheConstants.{MOST_THREADS};
 ghost use Rattle.show_moments.specs.Moments.{bytes_of, StandsIn, Sees, SeesLeave, SeesCame, SeesWanted, IsRound};
 ghost use Rattle.show_moments.specs.Moments.{IsOfSame, KeepsRound, standing_at};
@@ -97,6 +97,25 @@ fn standings(alloc: Global, threads: &[Thread]) -> Result<Vec<Option<ThreadSnaps
     Ok(all)
 }
 
+/// Whether there is a seat with this number, and nothing is kept there.
+fn is_free(seats: &[Option<ThreadSnapshot>], n: usize) -> bool
+    ensures { IsTrue result ↔ (slice_get seats.now n ≡ Some None) }
+{
+    match seats.get(n) {
+        Some(seat) => seat.is_none(),
+        None => false,
+    }
+}
+
+/// Keeps where a thread stands, if there is a seat with this number.
+fn put(seats: &mut [Option<ThreadSnapshot>], n: usize, standing: ThreadSnapshot)
+    ensures { seats.new ≡ slice_set seats.old n (Some standing) }
+{
+    if let Some(seat) = seats.get_mut(n) {
+        *seat = Some(standing);
+    }
+}
+
 /// Keeps what a thread comes to, if it is the first thing.
 fn see(
     alloc: Global,
@@ -106,11 +125,9 @@ fn see(
 ) -> Result<(), AllocError>
     ensures { OnOk result (Sees thread.now n seats.old seats.new) }
 {
-    let Some(seat) = seats.get_mut(n) else {
-        return Ok(());
-    };
-    if seat.is_none() {
-        *seat = Some(standing_of(alloc, thread)?);
+    if is_free(seats, n) {
+        let standing = standing_of(alloc, thread)?;
+        put(seats, n, standing);
     }
     Ok(())
 }

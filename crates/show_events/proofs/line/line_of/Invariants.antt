@@ -5,6 +5,6 @@ use Rattle.show_events.proofs.line.line_of.Given as goal
 
 abbrev pub invariant-loop-byte : goal.invariant-loop-byte
 invariant-loop-byte l = record {
-  tame : All IsTame l.line.items;
-  text : l.line.items ≡ front_byte l.front ∷ flat_map tame (take l.byte-index l.json);
+  all_tame : All IsTame l.line.items;
+  text : l.line.items ≡ front_byte l.fn.front ∷ flat_map tame (take l.byte-index l.json);
 }
