@@ -47,9 +47,9 @@ noted : (contexts : List Context) (upto : ℕ) (c : Context) (answers : List (Op
     → AreKnown contexts upto answers → (at : ℕ) (told : Option ℕ) → slice_get (noted_answer c upto answers) at ≡ Some told
     → IsKnownAt contexts (upto + 1) at told
 noted contexts upto Alone answers here known at told is =
-    kept contexts upto at told (known.each at told is) (λ (q, e). alone_no (slice_get contexts upto) q at here e)
+    kept contexts upto at told (known.each at told is) (λ p. alone_no (slice_get contexts upto) p.0 at here p.1)
 noted contexts upto (Answered a) answers here known at told is =
-    kept contexts upto at told (known.each at told is) (λ (q, e). answered_no (slice_get contexts upto) q at a here e)
+    kept contexts upto at told (known.each at told is) (λ p. answered_no (slice_get contexts upto) p.0 at a here p.1)
 noted contexts upto (Asked question asked) answers here known at told is =
     elim (cases_eq at asked) [
       | inl same ↦ (let is_here = subst (λ (k : ℕ). slice_get (slice_set answers asked (Some upto)) k ≡ Some told) same is in
@@ -57,20 +57,20 @@ noted contexts upto (Asked question asked) answers here known at told is =
           let to : IsAnswerTo contexts at upto = subst (λ (k : ℕ). IsAnswerTo contexts k upto) (sym same) (question, here) in
           subst (λ (o : Option ℕ). IsKnownAt contexts (upto + 1) at o) e to)
       | inr apart ↦ kept contexts upto at told (known.each at told (sym (set_other answers asked at (Some upto) apart) ∙ is))
-          (λ (q, e). apart (asked_same (slice_get contexts upto) question q asked at here e))
+          (λ p. apart (asked_same (slice_get contexts upto) question p.0 asked at here p.1))
     ]
 
-pub known_next : (contexts : List Context) (upto : ℕ) (c : Context) (answers new : List (Option ℕ)) → upto < length contexts
-    → c ≡ get_or contexts upto c → AreKnown contexts upto answers → new ≡ noted_answer c upto answers → AreKnown contexts (upto + 1) new
-known_next contexts upto c answers new lt is known e =
-    let here : slice_get contexts upto ≡ Some c = slice_get-get_or contexts upto c lt ∙ ap (λ (z : Context). Some z) (sym is) in
-    subst (AreKnown contexts (upto + 1)) (sym e) (record { each = noted contexts upto c answers here known })
+pub known_next : (contexts : List Context) (upto : ℕ) (d : Context) (answers new : List (Option ℕ)) → upto < length contexts
+    → AreKnown contexts upto answers → new ≡ noted_answer (get_or contexts upto d) upto answers → AreKnown contexts (upto + 1) new
+known_next contexts upto d answers new lt known e =
+    subst (AreKnown contexts (upto + 1)) (sym e)
+    (record { each = noted contexts upto (get_or contexts upto d) answers (slice_get-get_or contexts upto d lt) known })
 
 at_all : (contexts : List Context) (upto at : ℕ) (told : Option ℕ) → length contexts ≤ upto → IsKnownAt contexts upto at told
     → IsAnswerAt contexts at told
 at_all contexts upto at (Some told) le known = known
 at_all contexts upto at None le known =
-    λ told (q, e). known told (omega (arith, le, slice_get_within contexts told (Asked q at) e)) (q, e)
+    λ told p. known told (omega (arith, le, slice_get_within contexts told (Asked p.0 at) p.1)) p
 
 pub known_all : (contexts : List Context) (upto long : ℕ) (answers : List (Option ℕ)) → length contexts ≤ upto
     → length answers ≡ long → AreKnown contexts upto answers → AreAnswers contexts long answers
@@ -94,18 +94,21 @@ one_question log contexts are at x y p q e f =
     same_asked a.0 b.0 p q (same_made (slice_get log at) a.0 b.0 a.1 b.1) a.3 b.3
 
 -- What a list of places has at one.
-listed : (o : Option (Option ℕ)) (told : ℕ) → Some told ≡ option_and_then (λ place. place) o → o ≡ Some (Some told)
+listed : (o : Option (Option ℕ)) (told : ℕ) → option_and_then (λ place. place) o ≡ Some told → o ≡ Some (Some told)
 listed None told is = absurd (cc is)
 listed (Some None) told is = absurd (cc is)
 listed (Some (Some k)) told is = cc
 
-not_listed : (o : Option (Option ℕ)) (x : Option ℕ) → None ≡ option_and_then (λ place. place) o → o ≡ Some x → x ≡ None
+not_listed : (o : Option (Option ℕ)) (x : Option ℕ) → option_and_then (λ place. place) o ≡ None → o ≡ Some x → x ≡ None
 not_listed None x none is = absurd (cc is)
 not_listed (Some None) x none is = cc
 not_listed (Some (Some k)) x none is = absurd (cc none)
 
+pub in_same : (xs ys : List (Option ℕ)) (at : ℕ) (r o : Option ℕ) → xs ≡ ys → r ≡ in_list xs at → r ≡ o → in_list ys at ≡ o
+in_same xs ys at r o e is was = ap (λ (l : List (Option ℕ)). in_list l at) (sym e) ∙ (sym is ∙ was)
+
 pub lasts_alone : (contexts : List Context) (long at : ℕ) (answers : List (Option ℕ)) → AreAnswers contexts long answers → at < long
-    → None ≡ in_list answers at → Lasts contexts at 1
+    → in_list answers at ≡ None → Lasts contexts at 1
 lasts_alone contexts long at answers are lt none =
     let here : slice_get answers at ≡ Some (get_or answers at None) = slice_get-get_or answers at None (omega (arith, lt, are.long_is)) in
     let is : get_or answers at None ≡ None = not_listed (slice_get answers at) (get_or answers at None) none here in
@@ -120,15 +123,15 @@ both_ways b t f = cc
 
 pub lasts_plain : (log : List Entry) (contexts : List Context) (at told : ℕ) (answers : List (Option ℕ)) (b : Bool)
     → AreContexts log MOST_THREADS (length log) contexts → AreAnswers contexts (length log) answers
-    → Some told ≡ in_list answers at → b ≡ is_wait_over (slice_get contexts told) → b ≡ false → Lasts contexts at 1
+    → in_list answers at ≡ Some told → b ≡ is_wait_over (slice_get contexts told) → b ≡ false → Lasts contexts at 1
 lasts_plain log contexts at told answers b are answered is over no =
-    let (q, e) = answered.each at (Some told) (listed (slice_get answers at) told is) in
-    inr (λ other ends. both_ways (is_wait q)
-        (ap is_wait (one_question log contexts are at told other q ends.answer.0 e ends.answer.1) ∙ ends.wait)
-        (over_asked (slice_get contexts told) q at b e over ∙ no), refl)
+    let p = answered.each at (Some told) (listed (slice_get answers at) told is) in
+    inr (λ other ends. both_ways (is_wait p.0)
+        (ap is_wait (one_question log contexts are at told other p.0 ends.answer.0 p.1 ends.answer.1) ∙ ends.wait)
+        (over_asked (slice_get contexts told) p.0 at b p.1 over ∙ no), refl)
 
 pub lasts_wait : (contexts : List Context) (long at told : ℕ) (answers : List (Option ℕ)) (b : Bool)
-    → AreAnswers contexts long answers → Some told ≡ in_list answers at → b ≡ is_wait_over (slice_get contexts told)
+    → AreAnswers contexts long answers → in_list answers at ≡ Some told → b ≡ is_wait_over (slice_get contexts told)
     → b ≡ true → (n : ℕ) → n ≡ max (told - at) 1 → Lasts contexts at n
 lasts_wait contexts long at told answers b answered is over yes n e =
     let to = answered.each at (Some told) (listed (slice_get answers at) told is) in

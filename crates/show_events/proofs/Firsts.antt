@@ -68,13 +68,13 @@ by_first log upto t firsts (Some None) was here seen thread first is =
           (seen.each thread first (sym (set_other firsts t thread (Some upto) apart) ∙ is))
     ]
 
-pub seen_next : (log : List Entry) (upto : ℕ) (made : Entry) (firsts new : List (Option ℕ)) → upto < length log
-    → made ≡ get_or log upto made → AreSeen log upto firsts → new ≡ noted_first made.thread upto firsts → AreSeen log (upto + 1) new
-seen_next log upto made firsts new lt is seen e =
-    let here : slice_get log upto ≡ Some made = slice_get-get_or log upto made lt ∙ ap (λ (z : Entry). Some z) (sym is) in
-    let of : thread_at log upto ≡ Some made.thread = ap (option_map (λ (z : Entry). z.thread)) here in
+pub seen_next : (log : List Entry) (upto : ℕ) (d : Entry) (firsts new : List (Option ℕ)) → upto < length log
+    → AreSeen log upto firsts → new ≡ noted_first (get_or log upto d).thread upto firsts → AreSeen log (upto + 1) new
+seen_next log upto d firsts new lt seen e =
+    let thread : ℕ = (get_or log upto d).thread in
+    let of : thread_at log upto ≡ Some thread = ap (option_map (λ (z : Entry). z.thread)) (slice_get-get_or log upto d lt) in
     subst (AreSeen log (upto + 1)) (sym e)
-    (record { each = by_first log upto made.thread firsts (slice_get firsts made.thread) refl of seen })
+    (record { each = by_first log upto thread firsts (slice_get firsts thread) refl of seen })
 
 past : (log : List Entry) (at thread : ℕ) → length log ≤ at → thread_at log at ≡ Some thread → ⊥
 past log at thread le is = cc (ap (option_map (λ (z : Entry). z.thread)) (slice_get_past log at le))

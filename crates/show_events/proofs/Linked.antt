@@ -6,24 +6,36 @@ use Rattle.std.proofs.lemmas.Bool.Decides.{nat_tests}
 use Rattle.std.proofs.lemmas.List.{take_more, take_all}
 use Rattle.std.proofs.lemmas.List.Elements.{All-nil, All-cons, All-append, filter_map-append}
 use Rattle.std.specs.List.{filter_map, option_to_list, range_with_len}
+use Rattle.types.specs.declared.event.Entry.{Entry}
+use Rattle.show_text.specs.declared.context.Context.{Context}
+use Rattle.show_text.specs.declared.woken.Wake.{Wake}
 use Rattle.show_events.specs.declared.links.Link.{Link}
 use Rattle.show_events.specs.declared.links.LinkKind.{LinkKind}
+use Rattle.show_events.specs.declared.links.LinkKind.TheVariants as kinds
 use Rattle.show_events.specs.Forward.{IsForward}
-use Rattle.show_events.specs.Links.{link_between}
+use Rattle.show_events.specs.Links.{link_between, in_list, wake_link, spawned_at, spawn_link}
 
 single : {X Y : Type 0} (h : X → Option Y) (x : X) (o : Option Y) → h x ≡ o → filter_map h (x ∷ []) ≡ option_to_list o
 single h x None e = simp e
 single h x (Some y) e = simp e
 
 -- One more, where what is added is what its item gives.
-pub added_next : {X Y : Type 0} (h : X → Option Y) (xs : List X) (k : ℕ) (z x : X) (o : Option Y) (a b c : List Y) → k < length xs
-    → x ≡ get_or xs k z → o ≡ h x → b ≡ a ++ filter_map h (take k xs) → c ≡ b ++ option_to_list o
+added_next : {X Y : Type 0} (h : X → Option Y) (xs : List X) (k : ℕ) (d : X) (o : Option Y) (a b c : List Y) → k < length xs
+    → o ≡ h (get_or xs k d) → b ≡ a ++ filter_map h (take k xs) → c ≡ b ++ option_to_list o
     → c ≡ a ++ filter_map h (take (k + 1) xs)
-added_next {X} {Y} h xs k z x o a b c lt is gives before adds =
-    let e : take (k + 1) xs ≡ take k xs ++ x ∷ [] = take_more xs k z lt ∙ ap (λ (y : X). take k xs ++ y ∷ []) (sym is) in
+added_next {X} {Y} h xs k d o a b c lt gives before adds =
+    let x : X = get_or xs k d in
+    let e : take (k + 1) xs ≡ take k xs ++ x ∷ [] = take_more xs k d lt in
     let more : filter_map h (take (k + 1) xs) ≡ filter_map h (take k xs) ++ option_to_list o =
     ap (filter_map h) e ∙ (filter_map-append h (take k xs) (x ∷ []) ∙ ap (λ (ys : List Y). filter_map h (take k xs) ++ ys) (single h x o (sym gives))) in
     adds ∙ (ap (λ (ys : List Y). ys ++ option_to_list o) before ∙ (append_assoc a (filter_map h (take k xs)) (option_to_list o) ∙ ap (λ (ys : List Y). a ++ ys) (sym more)))
+
+pub wake_next : (long : ℕ) (answers : List (Option ℕ)) (wakes : List Wake) (k : ℕ) (d : Wake) (told : Option ℕ) (link : Option Link)
+    (a b c : List Link) → k < length wakes → told ≡ in_list answers (get_or wakes k d).wait
+    → link ≡ link_between long kinds.Wake (get_or wakes k d).notify told → b ≡ a ++ filter_map (wake_link long answers) (take k wakes)
+    → c ≡ b ++ option_to_list link → c ≡ a ++ filter_map (wake_link long answers) (take (k + 1) wakes)
+wake_next long answers wakes k d told link a b c lt is gives before adds = added_next (wake_link long answers) wakes k d link a b c lt
+    (gives ∙ ap (link_between long kinds.Wake (get_or wakes k d).notify) is) before adds
 
 range_more : (a n : ℕ) → range_with_len a (n + 1) ≡ range_with_len a n ++ (a + n) ∷ []
 range_more a zero = let e : a ≡ a + 0 = omega arith in ap (λ (k : ℕ). k ∷ []) e
@@ -32,7 +44,7 @@ range_more a (suc n) =
     ap (λ (ks : List ℕ). a ∷ ks) (range_more (a + 1) n ∙ ap (λ (k : ℕ). range_with_len (a + 1) n ++ k ∷ []) e)
 
 -- The same of numbers from 0 on.
-pub counted_next : {Y : Type 0} (h : ℕ → Option Y) (k : ℕ) (o : Option Y) (a b c : List Y) → o ≡ h k
+counted_next : {Y : Type 0} (h : ℕ → Option Y) (k : ℕ) (o : Option Y) (a b c : List Y) → o ≡ h k
     → b ≡ a ++ filter_map h (range_with_len 0 k) → c ≡ b ++ option_to_list o → c ≡ a ++ filter_map h (range_with_len 0 (k + 1))
 counted_next {Y} h k o a b c gives before adds =
     let zero_k : 0 + k ≡ k = omega arith in
@@ -40,6 +52,14 @@ counted_next {Y} h k o a b c gives before adds =
     let more : filter_map h (range_with_len 0 (k + 1)) ≡ filter_map h (range_with_len 0 k) ++ option_to_list o =
     ap (filter_map h) e ∙ (filter_map-append h (range_with_len 0 k) (k ∷ []) ∙ ap (λ (ys : List Y). filter_map h (range_with_len 0 k) ++ ys) (single h k o (sym gives))) in
     adds ∙ (ap (λ (ys : List Y). ys ++ option_to_list o) before ∙ (append_assoc a (filter_map h (range_with_len 0 k)) (option_to_list o) ∙ ap (λ (ys : List Y). a ++ ys) (sym more)))
+
+pub spawn_next : (log : List Entry) (contexts : List Context) (firsts : List (Option ℕ)) (at : ℕ) (first : Option ℕ)
+    (link : Option Link) (a b c : List Link) → first ≡ spawned_at log contexts firsts at
+    → link ≡ link_between (length log) kinds.Spawn at first
+    → b ≡ a ++ filter_map (spawn_link log contexts firsts) (range_with_len 0 at) → c ≡ b ++ option_to_list link
+    → c ≡ a ++ filter_map (spawn_link log contexts firsts) (range_with_len 0 (at + 1))
+spawn_next log contexts firsts at first link a b c is gives before adds = counted_next (spawn_link log contexts firsts) at link a b c
+    (gives ∙ ap (link_between (length log) kinds.Spawn at) is) before adds
 
 -- Each link that leads from one entry to another leads forward.
 forward_by : (long : ℕ) (kind : LinkKind) (from to : ℕ) (b : Bool) → b ≡ (ltb from to && ltb to long) → (link : Link)

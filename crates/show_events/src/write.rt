@@ -72,6 +72,7 @@ pub fn write_events<W: Write>(
 }
 
 /// The thread of each of the entries at these places.
+#[tactic(auto, using(std::proofs::lemmas::List::Elements::all_zip_more))]
 fn threads_at(alloc: Global, log: &[Entry], chosen: &[usize]) -> Result<Vec<u32>, AllocError>
     requires { All (λ at. at < length log.now) chosen.now }
     ensures { IfOk result (λ threads. AllZip (IsThreadAt log.now) chosen.now threads.items) }
