@@ -1,14 +1,13 @@
 //! The page.
 
 ghost use Rattle.std.specs.Prelude.{OnOk};
-ghost use Rattle.show_events.specs.Events.{WritesPage};
 ghost use Rattle.show_events.specs.Page.{AddsPage};
 
 use crate::script::SCRIPT;
 use crate::style::{BODY, STYLE};
-use crate::write_events;
+use crate::{chosen_entries, write_events};
 use report_choice::Look;
-use show_rows::{Shown, chosen_entries};
+use show_rows::Shown;
 use show_text::Unwritten;
 use std::alloc::Global;
 use std::io::Write;
@@ -23,8 +22,7 @@ pub fn write_page<W: Write>(
     look: &Look,
     out: &mut W,
 ) -> Result<(), Unwritten>
-    ensures data { OnOk result (AddsPage (W.contents out.old) (W.contents out.new)) }
-    ensures which { OnOk result (WritesPage shown.entry look.now (W.contents out.old) (W.contents out.new)) }
+    ensures { OnOk result (AddsPage (W.contents out.old) (W.contents out.new)) }
 {
     let chosen = chosen_entries(alloc, shown, look)?;
     out.write_all(STYLE.as_bytes())?;
