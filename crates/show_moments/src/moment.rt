@@ -1,9 +1,13 @@
 //! A moment of a walk along a log.
 
-ghost use Rattle.std.specs.Prelude.{◌≡◌, ◌≤◌, false};
-ghost use Rattle.show_moments.specs.Moments.{IsOpen, IsSeen};
+ghost use Rattle.std.specs.Prelude.{◌≡◌, ◌↔◌, replicate, false, take, drop, Some, None, slice_set, option_map, IsTrue, IfOk, OnOk};
+ghost use Rattle.std.specs.List.{slice_get, AllZip};
+ghost use Rattle.types.specs.declared.limits.TheConstants.{MOST_THREADS};
+ghost use Rattle.show_moments.specs.Moments as specified;
+ghost use Rattle.show_moments.specs.Moments.{bytes_of, StandsIn, Sees, SeesLeave, SeesCame, SeesWanted, IsRound};
+ghost use Rattle.show_moments.specs.Moments.{IsOfSame, KeepsRound, standing_at};
 
-use crate::standing::{ThreadSnapshot, standing_of};
+use crate::standing::{ThreadSnapshot, copied, standing_of};
 use interp::Thread;
 use interp_trait::Turn;
 use replay_walk::{Walk, Watch};
@@ -41,7 +45,9 @@ pub struct Moment<'a> {
 }
 
 /// So many seats, all of them empty.
-fn empty_seats(alloc: Global) -> Result<Vec<Option<ThreadSnapshot>>, AllocError> {
+fn empty_seats(alloc: Global) -> Result<Vec<Option<ThreadSnapshot>>, AllocError>
+    ensures { IfOk result (λ seats. seats.items ≡ replicate MOST_THREADS None) }
+{
     let mut seats = Vec::with_capacity(alloc, MOST_THREADS)?;
     for _ in 0..MOST_THREADS {
         seats.push(None)?;
@@ -49,16 +55,93 @@ fn empty_seats(alloc: Global) -> Result<Vec<Option<ThreadSnapshot>>, AllocError>
     Ok(seats)
 }
 
+/// What is from an address on.
+fn behind(memory: &[u8], addr: u64) -> &[u8]
+    ensures { result.now ≡ drop addr memory.now }
+{
+    if addr > memory.len() as u64 {
+        return &[];
+    }
+    &memory[addr as usize..]
+}
+
+/// So many bytes, or all where there are fewer.
+fn front(bytes: &[u8], count: usize) -> &[u8]
+    ensures { result.now ≡ take count bytes.now }
+{
+    if count > bytes.len() {
+        return bytes;
+    }
+    &bytes[..count]
+}
+
 /// Those of the bytes that there are.
-fn bytes_in(alloc: Global, memory: &[u8], wanted: Bytes) -> Result<Vec<u8>, AllocError> {
-    let first = usize::try_from(wanted.addr).unwrap_or(usize::MAX);
-    let last = first.saturating_add(wanted.count as usize);
-    let found = memory
-        .get(first.min(memory.len())..last.min(memory.len()))
-        .unwrap_or(&[]);
-    let mut bytes = Vec::with_capacity(alloc, found.len())?;
-    bytes.extend_from_slice(found)?;
-    Ok(bytes)
+fn bytes_in(alloc: Global, memory: &[u8], wanted: Bytes) -> Result<Vec<u8>, AllocError>
+    ensures { IfOk result (λ bytes. bytes.items ≡ bytes_of memory.now wanted) }
+{
+    copied(
+        alloc,
+        front(behind(memory, wanted.addr), wanted.count as usize),
+    )
+}
+
+/// Where each of the threads stands.
+#[tactic(auto, using(show_rows::proofs::Zipped::zip_next))]
+fn standings(alloc: Global, threads: &[Thread]) -> Result<Vec<Option<ThreadSnapshot>>, AllocError>
+    ensures { IfOk result (λ all. AllZip StandsIn threads.now all.items) }
+{
+    let mut all = Vec::with_capacity(alloc, threads.len())?;
+    for n in 0..threads.len() {
+        let standing = standing_of(alloc, &threads[n])?;
+        all.push(Some(standing))?;
+    }
+    Ok(all)
+}
+
+/// Whether there is a seat with this number, and nothing is kept there.
+fn is_free(seats: &[Option<ThreadSnapshot>], n: usize) -> bool
+    ensures { IsTrue result ↔ (slice_get seats.now n ≡ Some None) }
+{
+    match seats.get(n) {
+        Some(seat) => seat.is_none(),
+        None => false,
+    }
+}
+
+/// Keeps where a thread stands, if there is a seat with this number.
+fn put(seats: &mut [Option<ThreadSnapshot>], n: usize, standing: ThreadSnapshot)
+    ensures { seats.new ≡ slice_set seats.old n (Some standing) }
+{
+    if n < seats.len() {
+        seats[n] = Some(standing);
+    }
+}
+
+/// Keeps what a thread comes to, if it is the first thing.
+fn see(
+    alloc: Global,
+    seats: &mut [Option<ThreadSnapshot>],
+    n: usize,
+    thread: &Thread,
+) -> Result<(), AllocError>
+    ensures { OnOk result (Sees thread.now n seats.old seats.new) }
+{
+    if is_free(seats, n) {
+        let standing = standing_of(alloc, thread)?;
+        put(seats, n, standing);
+    }
+    Ok(())
+}
+
+/// The thread that leaves, if an entry is a leave.
+fn leaving<'w, 'm>(entry: &Entry, walk: &'w Walk<Thread<'m>>) -> Option<&'w Thread<'m>>
+    ensures { option_map (λ t. t.now) result
+        ≡ specified.leaving walk.now.threads.items entry.now.thread entry.now.event }
+{
+    match entry.event {
+        Event::Ask(Question::Leave) => walk.threads.get(entry.thread as usize),
+        _ => None,
+    }
 }
 
 impl<'a> Moment<'a> {
@@ -71,7 +154,11 @@ impl<'a> Moment<'a> {
         log: &'a [Entry],
         at: usize,
         wanted: Bytes,
-    ) -> Result<Moment<'a>, AllocError> {
+    ) -> Result<Moment<'a>, AllocError>
+        ensures of { IfOk result (λ m. (m.log.now ≡ log.now) × (m.at ≡ at) × (m.wanted ≡ wanted)) }
+        ensures none { IfOk result (λ m. (m.came ≡ 0) × (m.next.items ≡ replicate MOST_THREADS None)) }
+        ensures short { IfOk result (λ m. m.is_short ≡ false) }
+    {
         Ok(Moment {
             alloc,
             log,
@@ -88,35 +175,55 @@ impl<'a> Moment<'a> {
 }
 
 impl Moment<'_> {
-    /// Sees what a thread comes to, if it is the first thing from here on.
-    fn see(&mut self, n: u32, thread: &Thread)
-        ensures seen { IsOpen self.old n → self.new.is_short ≡ false → IsSeen self.new n thread.now }
-    {
-        let Some(seat) = self.next.get_mut(n as usize) else {
-            return;
-        };
-        if seat.is_some() {
-            return;
-        }
-        match standing_of(self.alloc, thread) {
-            Ok(standing) => *seat = Some(standing),
-            Err(_) => self.is_short = true,
-        }
-    }
-
     /// Sees where all threads stand, the queue and the bytes.
-    fn look_round<'m>(&mut self, walk: &Walk<Thread<'m>>) -> Result<(), AllocError> {
-        for (seat, thread) in self.here.iter_mut().zip(walk.threads.iter()) {
-            *seat = Some(standing_of(self.alloc, thread)?);
-        }
+    fn look_round<'m>(&mut self, walk: &Walk<Thread<'m>>) -> Result<(), AllocError>
+        ensures round { OnOk result (IsRound self.new walk.now) }
+        ensures same { IsOfSame self.old self.new }
+        ensures short { self.new.is_short ≡ self.old.is_short }
+        ensures came { self.new.came ≡ self.old.came }
+        ensures next { self.new.next ≡ self.old.next }
+    {
+        self.here = standings(self.alloc, &walk.threads)?;
         self.queue = Some(walk.stage.queue.keep(self.alloc)?);
         self.bytes = bytes_in(self.alloc, walk.memory.bytes(), self.wanted)?;
         Ok(())
     }
 
+    /// Sees all this, or notes that memory was refused.
+    fn look<'m>(&mut self, walk: &Walk<Thread<'m>>)
+        ensures round { self.new.is_short ≡ false → IsRound self.new walk.now }
+        ensures same { IsOfSame self.old self.new }
+        ensures came { self.new.came ≡ self.old.came }
+        ensures next { self.new.next ≡ self.old.next }
+    {
+        match self.look_round(walk) {
+            Ok(()) => {}
+            Err(_) => self.is_short = true,
+        }
+    }
+
+    /// Sees a thread where it has ended, if this entry is its leave.
+    fn see_left<'m>(&mut self, entry: &Entry, walk: &Walk<Thread<'m>>)
+        ensures same { IsOfSame self.old self.new }
+        ensures round { KeepsRound self.old self.new }
+        ensures came { self.new.came ≡ self.old.came }
+        ensures left { self.new.is_short ≡ false → SeesLeave walk.now.threads.items entry.now.thread entry.now.event
+            self.old.next.items self.new.next.items }
+    {
+        let Some(thread) = leaving(entry, walk) else {
+            return;
+        };
+        match see(self.alloc, &mut self.next, entry.thread as usize, thread) {
+            Ok(()) => {}
+            Err(_) => self.is_short = true,
+        }
+    }
+
     /// Where the thread stands whose first entry from here on this is: where it comes to it, or, as long as an answer
     /// is to come, where it is.
-    pub fn standing(&self, first: &Entry) -> Option<&ThreadSnapshot> {
+    pub fn standing(&self, first: &Entry) -> Option<&ThreadSnapshot>
+        ensures { option_map (λ s. s.now) result ≡ standing_at self.now first.now }
+    {
         let seats = match first.event {
             Event::Told(_) => &self.here,
             _ => &self.next,
@@ -131,30 +238,31 @@ impl<'a, 'm> Watch<Thread<'m>> for Moment<'a> {
     ghost sees = { MomentSees };
 
     fn came(&mut self, entries: usize, walk: &Walk<Thread<'m>>)
-        ensures { self.new.came ≡ entries }
+        ensures { SeesCame self.old entries walk.now self.new }
     {
         self.came = entries;
-        if entries == self.at && self.look_round(walk).is_err() {
-            self.is_short = true;
+        if entries < self.at {
+            return;
         }
-        if let Some(last) = entries.checked_sub(1)
-            && last >= self.at
-            && let Some(entry) = self.log.get(last)
-            && entry.event == Event::Ask(Question::Leave)
-            && let Some(thread) = walk.threads.get(entry.thread as usize)
-        {
-            self.see(entry.thread, thread);
+        if entries == self.at {
+            self.look(walk);
+            return;
         }
-        self.came = entries;
+        let Some(entry) = self.log.get(entries - 1) else {
+            return;
+        };
+        self.see_left(entry, walk);
     }
 
     fn event(&mut self, entry: &Entry, thread: &Thread<'m>, _memory: &OneMemory)
-        // What a thread wants first from this moment on, it wants where it stands.
-        ensures { self.old.at ≤ self.old.came → IsOpen self.old entry.now.thread → self.new.is_short ≡ false
-            → IsSeen self.new entry.now.thread thread.now }
+        ensures { SeesWanted self.old entry.now.thread thread.now self.new }
     {
-        if self.came >= self.at {
-            self.see(entry.thread, thread);
+        if self.came < self.at {
+            return;
+        }
+        match see(self.alloc, &mut self.next, entry.thread as usize, thread) {
+            Ok(()) => {}
+            Err(_) => self.is_short = true,
         }
     }
 

@@ -1,7 +1,9 @@
 //! Where a thread stands, with the values of its open functions.
 
-ghost use Rattle.std.specs.Prelude.{◌≡◌, IfOk};
+ghost use Rattle.std.specs.Prelude.{◌≡◌, ◌+◌, ◌-◌, ◌^◌, min, length, IfOk};
 ghost use Rattle.show_moments.specs.Moments.{StandsAs};
+ghost use Rattle.show_moments.specs.Opened as opened;
+ghost use Rattle.show_moments.specs.Opened.{IsOpenFunction, running_by, words_in};
 
 use interp::{CodePlace, Kept, Thread};
 use interp_state::{Caller, Progress};
@@ -27,7 +29,7 @@ pub struct OpenFunction<'a> {
 }
 
 /// A copy.
-fn copied<T: Copy>(alloc: Global, items: &[T]) -> Result<Vec<T>, AllocError>
+pub(crate) fn copied<T: Copy>(alloc: Global, items: &[T]) -> Result<Vec<T>, AllocError>
     ensures { IfOk result (λ v. v.items ≡ items.now) }
 {
     let mut all = Vec::with_capacity(alloc, items.len())?;
@@ -44,15 +46,18 @@ pub(crate) fn standing_of(alloc: Global, thread: &Thread) -> Result<ThreadSnapsh
 {
     let open = thread.callers();
     let callers = copied(alloc, open)?;
+    let kept = thread.keep(alloc)?;
     Ok(ThreadSnapshot {
         place: thread.place(),
         callers,
-        kept: thread.keep(alloc)?,
+        kept,
     })
 }
 
 /// The instruction before a place.
-fn before(place: CodePlace) -> CodePlace {
+fn before(place: CodePlace) -> CodePlace
+    ensures { result ≡ opened.before place }
+{
     CodePlace {
         function: place.function,
         instr: place.instr.saturating_sub(1),
@@ -61,17 +66,28 @@ fn before(place: CodePlace) -> CodePlace {
 
 impl ThreadSnapshot {
     /// How many functions are open.
-    pub fn depth(&self) -> usize {
+    pub fn depth(&self) -> usize
+        ensures { result ≡ min (length self.now.callers.items + 1) (2 ^ 64 - 1) }
+    {
         self.callers.len().saturating_add(1)
     }
 
     /// The words from one place up to another.
-    fn words(&self, from: usize, to: usize) -> &[u64] {
-        self.kept.values.as_slice().get(from..to).unwrap_or(&[])
+    fn words(&self, from: usize, to: usize) -> &[u64]
+        ensures { result.now ≡ words_in self.now.kept.values.items from to }
+    {
+        let values = self.kept.values.as_slice();
+        if from <= to && to <= values.len() {
+            &values[from..to]
+        } else {
+            &[]
+        }
     }
 
     /// Where the words of the function end that has this number, the outermost's being 0.
-    fn end_of(&self, number: usize) -> usize {
+    fn end_of(&self, number: usize) -> usize
+        ensures { result ≡ opened.end_of self.now number }
+    {
         let Some(above) = number.checked_add(1) else {
             return self.kept.values.len();
         };
@@ -83,7 +99,9 @@ impl ThreadSnapshot {
     }
 
     /// The open function that has this number: the outermost one is 0, and the one that runs has the highest.
-    pub fn open_function(&self, number: usize) -> OpenFunction<'_> {
+    pub fn open_function(&self, number: usize) -> OpenFunction<'_>
+        ensures { IsOpenFunction self.now number result }
+    {
         let end = self.end_of(number);
         match self.callers.get(number) {
             Some(caller) => OpenFunction {
@@ -103,7 +121,9 @@ impl ThreadSnapshot {
     }
 
     /// Where the function is that runs: at its question, as long as no answer came.
-    fn running_place(&self) -> CodePlace {
+    fn running_place(&self) -> CodePlace
+        ensures { result ≡ running_by self.now.kept.progress self.now.place }
+    {
         match self.kept.progress {
             Progress::Asked => before(self.place),
             _ => self.place,
