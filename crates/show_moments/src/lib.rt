@@ -1,7 +1,8 @@
 //! Before one line of a record: what each thread is at, who sleeps, and what is in memory.
 //!
-//! Proved: a thread stands where it is said to, and was called by those that are said, at what it wants first from
-//! then on.
+//! Proved: the queue, the bytes and where each thread stands at a moment are those of the walk there, and from then on a
+//! thread stands where it first wants something, or where it has ended; its open functions have the locals and operands
+//! that are kept of it.
 #![tactic(auto)]
 
 mod moment;
