@@ -100,7 +100,14 @@ pub fn endings_of(
     ensures fault { IfErr result (IsCallFaultOf «module».now name.now args.now) }
 {
     let valid = module_of(alloc, module)?;
-    let request = request_of(&valid, Call { name, args, fuel: 0 })?;
+    let request = request_of(
+        &valid,
+        Call {
+            name,
+            args,
+            fuel: 0,
+        },
+    )?;
     match all_endings(alloc, &request, most_states, dump as usize, &mut ()) {
         Ok(all) => Ok(all),
         Err(_) => Err(HostFault::NoMemory),

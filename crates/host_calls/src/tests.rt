@@ -49,8 +49,18 @@ fn a_run_and_its_record(rt: HostRuntime) -> Result<(), Fail> {
     assert!(rt; write_record(&made.record, &mut text).is_ok());
     let again = replay_of(alloc, ATOMIC_ADD, &text)?;
     assert!(rt; again == made.end);
-    assert!(rt; matches!(replay_of(alloc, BROKEN_LOCK, &text), Err(HostFault::Replay(_))));
-    assert!(rt; matches!(replay_of(alloc, ATOMIC_ADD, b"wathread"), Err(HostFault::Record(_))));
+    assert!(rt;
+        matches!(
+            replay_of(alloc, BROKEN_LOCK, &text),
+            Err(HostFault::Replay(_))
+        )
+    );
+    assert!(rt;
+        matches!(
+            replay_of(alloc, ATOMIC_ADD, b"wathread"),
+            Err(HostFault::Record(_))
+        )
+    );
     Ok(())
 }
 

@@ -1,10 +1,9 @@
 //! Searches.
 
 use indexmap::IndexSet;
-use report_choice::Way;
 use report_json::{
-    Complete, Coverage, Drawn, DrawnEnd, DrawnRuns, Found, FoundAs, MetEnding, RunEnd, RunSize,
-    Shrunk, write_complete, write_drawn,
+    Complete, Drawn, DrawnEnd, DrawnRuns, Found, FoundAs, RunEnd, RunSize, Shrunk, write_complete,
+    write_drawn,
 };
 use search_endings::Ending;
 use search_reach::{Ended, FairCycle, FairRuns, Liveness, Verdict};
@@ -43,53 +42,6 @@ fn ending_of(alloc: Global, dump: usize) -> Result<Ending, AllocError> {
 fn is_drawn(alloc: Global, drawn: &Drawn, text: &str) -> bool {
     let mut out = Vec::new(alloc);
     write_drawn(alloc, &mut out, drawn).is_ok() && out.as_slice() == text.as_bytes()
-}
-
-#[test]
-fn drawn_runs(rt: HostRuntime) -> Result<(), Fail> {
-    let alloc = rt.alloc();
-    let bare = ending_of(alloc, 0)?;
-    let looked_at = ending_of(alloc, 9)?;
-    let met = [
-        MetEnding {
-            times: 812,
-            first: 1,
-            way: Way::Priorities(3),
-            ending: &bare,
-        },
-        MetEnding {
-            times: 1,
-            first: 18_446_744_073_709_551_615,
-            way: Way::Spin,
-            ending: &looked_at,
-        },
-    ];
-    let runs = DrawnRuns {
-        made: 813,
-        asked: 10_000,
-        cut: 4,
-        limit: 10_000,
-    };
-    let (late, singles) = (1, 1);
-    let told = Drawn {
-        status: 1,
-        runs,
-        met: &met,
-        halt: DrawnEnd::Told(Coverage { late, singles }),
-    };
-    if !is_drawn(
-        alloc,
-        &told,
-        "{\"status\":1,\"verdict\":\"told\",\"runs\":{\"made\":813,\"asked\":10000,\"cut\":4,\"limit\":10000},\
-        \"endings\":[{\"times\":812,\"first\":1,\"strategy\":\"pct:3\",\"threads\":[{\"thread\":0,\"outcome\":\
-        {\"ok\":null}},{\"thread\":1,\"outcome\":{\"stop\":\"asleep for good\",\"number\":2}}],\"pages\":1},\
-        {\"times\":1,\"first\":\"18446744073709551615\",\"strategy\":\"spin\",\"threads\":[{\"thread\":0,\"outcome\":\
-        {\"ok\":null}},{\"thread\":1,\"outcome\":{\"stop\":\"asleep for good\",\"number\":2}}],\"pages\":1,\
-        \"bytes\":\"ff10\"}],\"coverage\":{\"late\":1,\"singles\":1}}\n",
-    ) {
-        return Err(Fail::new("told to end"));
-    }
-    Ok(())
 }
 
 #[test]

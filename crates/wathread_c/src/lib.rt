@@ -8,12 +8,12 @@
 #![tactic(auto)]
 
 mod answer;
+mod checking;
 mod given;
 mod objects;
 mod refused;
-mod checking;
-mod running;
 mod replaying;
+mod running;
 mod searching;
 
 pub use answer::Answer;

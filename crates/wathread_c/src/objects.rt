@@ -113,11 +113,7 @@ fn complete_text(alloc: Global, complete: &Complete) -> Result<Vec<u8>, Unwritte
 }
 
 /// Of all endings, of at most so many states.
-pub(crate) fn search_line(
-    alloc: Global,
-    all: &Ended<Ending>,
-    most: u32,
-) -> Result<Line, Unwritten>
+pub(crate) fn search_line(alloc: Global, all: &Ended<Ending>, most: u32) -> Result<Line, Unwritten>
     ensures { IfOk result (λ line. IsSearchText all.now most line.status line.text.items) }
 {
     let status = status_of(all);
@@ -145,12 +141,7 @@ pub(crate) fn tell(line: Result<Line, Unwritten>, text: &mut [u8], answer: &mut 
 }
 
 /// Tells of a fault, and answers its status.
-pub(crate) fn refuse(
-    alloc: Global,
-    fault: HostFault,
-    text: &mut [u8],
-    answer: &mut Answer,
-) -> u32
+pub(crate) fn refuse(alloc: Global, fault: HostFault, text: &mut [u8], answer: &mut Answer) -> u32
     requires { answer.old ≡ no_answer }
     ensures told { TellsFault fault text.old text.new answer.new result }
     ensures bytes { answer.new.bytes ≡ 0 }

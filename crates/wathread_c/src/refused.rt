@@ -23,11 +23,13 @@ fn refused_module(refusal: Refusal) -> Option<Refused<'static>>
         }
         Refusal::Validity(ValidFault::OutOfMemory) => None,
         Refusal::Validity(ValidFault::Outside(kind)) => Some(Refused::Rule(kind)),
-        Refusal::Validity(ValidFault::InBody {
-            kind,
-            function,
-            instruction,
-        }) => Some(Refused::RuleInBody {
+        Refusal::Validity(
+            ValidFault::InBody {
+                kind,
+                function,
+                instruction,
+            },
+        ) => Some(Refused::RuleInBody {
             kind,
             function,
             instruction,
