@@ -43,13 +43,15 @@ module _ {X T E V A G H M : Type 0} (k : ThreadSystem X T E V A G H M)
 
   pub beginning-rests : (c : Flat G H) → IsBeginning k c → RestsSomewhere k c
   beginning-rests c b =
-      let r = beginning-by [] c b in
-      (b.settled, record {
-        reached = reached-along (wanted_in k) (next_in k) (IsReached k.system k.first) (plain-laws k.system k.accesses k.first k.most tame plain) (Within []) r.order
-            k.first b.settled (stays (StepsBy k.system) k.first) r.makes;
-        rests = λ m. (b.rest.each m).rests;
-        settled_is = b.settled_is;
-      })
+      let r = beginning-by [] c b in (
+        b.settled,
+        record {
+          reached = reached-along (wanted_in k) (next_in k) (IsReached k.system k.first) (plain-laws k.system k.accesses k.first k.most tame plain) (Within []) r.order
+              k.first b.settled (stays (StepsBy k.system) k.first) r.makes;
+          rests = λ m. (b.rest.each m).rests;
+          settled_is = b.settled_is;
+        },
+      )
 
   -- where nobody owns anything
   pub begun-owned : (x : Owning (Flat G H)) → x.owned.items ≡ [] → IsBeginning k x.flat → IsOwned k x
@@ -93,16 +95,19 @@ module _ {X T E V A G H M : Type 0} (k : ThreadSystem X T E V A G H M)
         let b = begun.beginning in
         let r = beginning-by x.owned.items x.flat b in
         record {
-          all = λ w begins. ((λ (n : ℕ). times n r.order), subst (λ v. StandsBefore k x v (λ n. times n r.order)) (sym begins) (record {
-            kept = begun.kept;
-            reached = stays (StepsBy k.system) k.first;
-            order = r.order;
-            settled = b.settled;
-            makes = r.makes;
-            rests = λ m. (b.rest.each m).rests;
-            settled_is = b.settled_is;
-            turns_are = λ n. refl;
-          }));
+          all = λ w begins. (
+            (λ (n : ℕ). times n r.order),
+            subst (λ v. StandsBefore k x v (λ n. times n r.order)) (sym begins) (record {
+              kept = begun.kept;
+              reached = stays (StepsBy k.system) k.first;
+              order = r.order;
+              settled = b.settled;
+              makes = r.makes;
+              rests = λ m. (b.rest.each m).rests;
+              settled_is = b.settled_is;
+              turns_are = λ n. refl;
+            }),
+          );
           one = k.first;
           begun = refl;
         }

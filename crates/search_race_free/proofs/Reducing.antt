@@ -148,19 +148,19 @@ module _ {X T E V A G H M O : Type 0} (k : ThreadSystem X T E V A G H M) (ends :
         → wanted_in k w other ≡ Some b → Race a b → ⊥
     free-at w left st one other a b d h g race = elim (cases_lt 0 (times one st.order)) [
       | inl some ↦ elim (cases_lt 0 (times other st.order)) [
-          | inl more ↦
-              within-apart k.system k.accesses s.owned.items st.settled (safe-at w left st) one other a b d
-              (owns-then w left one st a some h) (owns-then w left other st b more g) (conflict-swap a b race.conflict)
-          | inr few ↦
-              clear-then w left st other one b a d (omega (arith, few)) g (owns-then w left one st a some h) (conflict-swap a b race.conflict)
-        ]
+        | inl more ↦
+            within-apart k.system k.accesses s.owned.items st.settled (safe-at w left st) one other a b d
+            (owns-then w left one st a some h) (owns-then w left other st b more g) (conflict-swap a b race.conflict)
+        | inr few ↦
+            clear-then w left st other one b a d (omega (arith, few)) g (owns-then w left one st a some h) (conflict-swap a b race.conflict)
+      ]
       | inr none ↦ elim (cases_lt 0 (times other st.order)) [
-          | inl more ↦
-              clear-then w left st one other a b (λ e. d (sym e)) (omega (arith, none)) h (owns-then w left other st b more g) race.conflict
-          | inr few ↦
-              (let safe = safe-at w left st in
-              safe.meet one other a b d (same-then w left one st (omega (arith, none)) ∙ h) (same-then w left other st (omega (arith, few)) ∙ g) race)
-        ]
+        | inl more ↦
+            clear-then w left st one other a b (λ e. d (sym e)) (omega (arith, none)) h (owns-then w left other st b more g) race.conflict
+        | inr few ↦
+            (let safe = safe-at w left st in
+            safe.meet one other a b d (same-then w left one st (omega (arith, none)) ∙ h) (same-then w left other st (omega (arith, few)) ∙ g) race)
+      ]
     ]
 
     few : (w : State X T) (n : ℕ) → StandsFor Reduced s w → CanGoOn k.system w n → n < k.most

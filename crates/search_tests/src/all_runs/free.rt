@@ -30,11 +30,7 @@ static EXPECTED: [Expected; 9] = [
     Expected::States(387),
 ];
 
-fn gone_freely(
-    alloc: Global,
-    valid: &ValidModule,
-    gone: &Gone,
-) -> Result<RaceFree<Ending>, Fail> {
+fn gone_freely(alloc: Global, valid: &ValidModule, gone: &Gone) -> Result<RaceFree<Ending>, Fail> {
     let request = Request::new(valid, call_of(gone))?;
     Ok(race_free_endings(alloc, &request, MOST, DUMP as usize, &mut ())?)
 }
