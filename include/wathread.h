@@ -10,8 +10,8 @@
  * A buffer that is too small gets no bytes; the length that is wanted stands in the answer, whatever the buffer's. So a
  * call with a length of 0 asks how much is wanted.
  *
- * The statuses are those of the program, and the text is the object of JSON, with a line feed, that it prints with
- * --json (docs/PROFILE.md has its shape). Link with lib/libwathread.a.
+ * The statuses are those of the program, and the text is an object of JSON with a line feed (docs/PROFILE.md has its
+ * shape, docs/wathread.schema.json its schema). Link with lib/libwathread.a.
  */
 #ifndef WATHREAD_H
 #define WATHREAD_H
