@@ -55,7 +55,8 @@ class Command:
 
 
 def help_of(program, *words):
-    return subprocess.run([program, *words, "--help"], stdout=subprocess.PIPE, check=True, text=True).stdout
+    said = subprocess.run(["wathread", *words, "--help"], executable=program, stdout=subprocess.PIPE, check=True, text=True)
+    return said.stdout
 
 
 def sections(text):
