@@ -5,4 +5,4 @@ pub returns : goal.returns
 returns g c =
     let sent = c.in-Ok.ensures.events in
     text_written (g.T.ToJson.json c.args.value.now) sent.0 c.in-Ok.text.items c.deref.result.now _ _ sent.1 sent.2 c.deref.ensures.value
-    c.in_ok-write_all.ensures.bytes
+    c.in-Ok-2.ensures.bytes
