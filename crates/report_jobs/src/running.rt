@@ -20,7 +20,7 @@ use spawn_host::{CallFault, Request, RunFault, own_function};
 use show_text::Unwritten;
 use spawn_host_workers::StartFault;
 use std::alloc::{AllocError, Global};
-use std::io::Write;
+use std::io::{self, Write};
 use std::sync::Wait;
 use std::thread::Threads;
 use types::Value;
@@ -78,6 +78,15 @@ impl From<RecordRunFault> for Trouble {
             RecordRunFault::Run(fault) => Trouble::from(fault),
             RecordRunFault::Open(_) | RecordRunFault::NoMemory => Trouble::NoMemory,
         }
+    }
+}
+
+impl From<io::Error> for Trouble {
+    ghost from_gives = { λ _ e. e ≡ troubles.Output };
+
+    /// That of standard output.
+    fn from(_: io::Error) -> Trouble {
+        Trouble::Output
     }
 }
 
