@@ -10,6 +10,7 @@ use Rattle.search_reach.specs.declared.liveness.Liveness.{Liveness}
 use Rattle.search_finds.specs.Finds.{IsLookedFor}
 use Rattle.search_finds.specs.Noted.{AreNoted}
 use Rattle.search_finds.specs.declared.met.Table.{Table}
+use Rattle.search_scheduled.specs.declared.running.MadeRun.{MadeRun}
 use Rattle.report_choice.specs.declared.sought.Sought.{Sought}
 use Rattle.report_choice.specs.declared.sought.Target.{Target}
 use Rattle.report_command.specs.declared.search.Search.{Search}
@@ -28,9 +29,9 @@ pub told_behind : (Says : List ℕ → Type 0) (a b c : Option (List ℕ)) (x : 
 told_behind Says a b c x p t = (t.0, appends_then a b c x t.0 p t.1, t.2)
 
 -- another first line
-pub told_after : (q : Requested) (s : Search) (e : Ending) (save : WriterChange) (head : List ℕ) (a b c : Option (List ℕ)) → Appends a b head
-    → Tells (change b c) (λ text. TellsOfRun q s e [] text save) → Tells (change a c) (λ text. TellsOfRun q s e head text save)
-told_after q s e save head a b c p t =
+pub told_after : (q : Requested) (s : Search) (found : MadeRun) (save : WriterChange) (head : List ℕ) (a b c : Option (List ℕ)) → Appends a b head
+    → Tells (change b c) (λ text. TellsOfRun q s found [] text save) → Tells (change a c) (λ text. TellsOfRun q s found head text save)
+told_after q s found save head a b c p t =
     let one = t.2 in (
       head ++ t.0,
       appends_then a b c head t.0 p t.1,
@@ -38,7 +39,7 @@ told_after q s e save head a b c p t =
         made = one.made;
         find = one.find;
         ends = one.ends;
-        was = one.was;
+        same = one.same;
         text_is = cc one.text_is;
         kept = one.kept;
       },

@@ -1,23 +1,24 @@
 -- What is told of races, by other names of what it is told of.
-use Rattle.std.proofs.Common.{◌≡◌, ◌≤◌, ◌<◌, List, [], ◌∷◌, Option, length, refl, subst, arith}
+use Rattle.std.proofs.Common.{◌≡◌, ◌≤◌, ◌<◌, Bool, true, false, List, [], ◌∷◌, Option, length, refl, subst, arith}
 use Rattle.std.proofs.lemmas.List.Elements.{Contains-get_or}
 use Rattle.types.specs.declared.event.Entry.{Entry}
 use Rattle.types.specs.declared.parts.Parts.{Parts}
 use Rattle.race_history.specs.declared.access.Kind.{Kind}
 use Rattle.race_history.specs.declared.race.Race.{Race}
-use Rattle.race_history.specs.Races.{AreRaces, IsLastRace}
+use Rattle.race_history.specs.Races.{AreRaces}
 use Rattle.show_rows.specs.declared.rows.Row.{Row}
 use Rattle.show_races.specs.Kinds.{kinds_in}
+use Rattle.show_races.specs.Told.{HasNoRace}
+use Rattle.report.specs.Raced.{Says}
 
--- one of the races is one
-pub first_race : (log : List Entry) (kinds : List Kind) (pairs : List Race) → AreRaces log kinds pairs → 1 ≤ length pairs
-    → (r : Race) × IsLastRace log kinds r
-first_race log kinds [] races some = absurd (omega (arith, some))
-first_race log kinds (r ∷ pairs) races some = (r, races r (Contains-get_or (r ∷ pairs) 0 r (omega arith)))
-
-pub no_pairs : (pairs : List Race) → length pairs < 1 → pairs ≡ []
-no_pairs [] none = refl
-no_pairs (r ∷ pairs) none = absurd (omega (arith, none))
+-- where there are pairs one of them is a race, and else there is none
+pub says_by : (log : List Entry) (kinds : List Kind) (pairs : List Race) (is_racy : Bool) → AreRaces log kinds pairs
+    → (pairs ≡ [] → HasNoRace log kinds) → (is_racy ≡ true → 1 ≤ length pairs) → (is_racy ≡ false → length pairs < 1)
+    → Says log kinds is_racy
+says_by log kinds [] true races none some few = let one = some refl in absurd (omega (arith, one))
+says_by log kinds (r ∷ pairs) true races none some few = (r, races r (Contains-get_or (r ∷ pairs) 0 r (omega arith)))
+says_by log kinds [] false races none some few = none refl
+says_by log kinds (r ∷ pairs) false races none some few = let no = few refl in absurd (omega (arith, no))
 
 -- what is so of a log and its kinds is so of the same log, the same module and the same rows
 pub told_of : (Is : List Entry → List Kind → Type 0) (l k : List Entry) (m n : Parts) (rows others : List (Option Row))

@@ -1,6 +1,7 @@
 -- What is printed of a search, and what is written of what it found.
 use Rattle.std.specs.Prelude.{ℕ, ◌≡◌, ◌≢◌, ◌≤◌, ◌<◌, ◌+◌, ◌-◌, ◌⊎◌, ◌↔◌, All, Bool, List, [], ◌++◌, length, take, true, false}
-use Rattle.std.specs.Prelude.{Some, is_none, is_some, slice_index_or}
+use Rattle.std.specs.Prelude.{Some, is_none, is_some, option_map, unwrap_or, slice_index_or}
+use Rattle.std.specs.List.{slice_get}
 use Rattle.std.specs.Io.KnownBytes.{Appends}
 use Rattle.types.specs.declared.parts.Parts.{Parts}
 use Rattle.validate_typing.specs.Validity.{IsValid}
@@ -10,12 +11,13 @@ use Rattle.search_reach.specs.declared.ending.Ended.{Ended}
 use Rattle.search_endings.specs.Endings.{Ending}
 use Rattle.search_scheduled.specs.declared.running.MadeRun.{MadeRun}
 use Rattle.search_finds.specs.Endings.{ending_left}
-use Rattle.search_finds.specs.Finds.{IsFind, IsLookedFor, HasNoneLookedFor}
+use Rattle.search_strategies.specs.Given.{chosen}
+use Rattle.search_finds.specs.Drawing.{GoesAlong, IsRunOfNumber, LeadToOther, unheard}
+use Rattle.search_finds.specs.Finds.{IsFind, IsLookedFor, EndsAsLookedFor, HasNoneLookedFor}
 use Rattle.search_finds.specs.Leading.{LeadsTo}
 use Rattle.search_finds.specs.Noted.{AreNoted}
 use Rattle.search_finds.specs.Sizes.{size_in}
 use Rattle.search_finds.specs.declared.met.Table.{Table}
-use Rattle.search_finds.specs.declared.size.Size.{Size}
 use Rattle.report_choice.specs.declared.sought.Sought.{Sought}
 use Rattle.report_command.specs.declared.search.Search.{Search}
 use Rattle.report_lines.specs.Drawn.{cut_line}
@@ -37,23 +39,25 @@ Tells out Says = (text : List ℕ) × Appends out.old out.new text × Says text
 abbrev pub run_lines : Search → MadeRun → List ℕ
 run_lines s made = end_lines made.end.threads.items made.end.pages s.sought.dump made.end.bytes.items
 
--- A run by the call that ends so is told of: a line first, its size as it was and is, where it was shrunk, and its own
--- lines; and the record that was written, where one is wanted, is its own.
-pub record TellsOfRun (q : Requested) (s : Search) (ending : Ending) (head text : List ℕ) (save : WriterChange) : Type 0 where
+-- The run that was found is told of, or where that is asked for one by the call that was shrunk and ends alike: a line
+-- first, the sizes of both, where it was shrunk, and its own lines; and the record that was written, where one is
+-- wanted, is its own.
+pub record TellsOfRun (q : Requested) (s : Search) (found : MadeRun) (head text : List ℕ) (save : WriterChange) : Type 0 where
   pub made : MadeRun
   pub find : IsFind q s.sought.limit made
-  pub ends : ending_left s.sought.dump made.end ≡ ending
-  pub was : Size
-  pub text_is : text ≡ head ++ (sizes_if s.shrink was (size_in made.record) ++ run_lines s made)
+  pub ends : ending_left s.sought.dump made.end ≡ ending_left s.sought.dump found.end
+  pub same : s.shrink ≡ false → made ≡ found
+  pub text_is : text ≡ head ++ (sizes_if s.shrink (size_in found.record) (size_in made.record) ++ run_lines s made)
   pub kept : KeepsRecord (is_some s.save) save made.record
 
 -- Of drawn runs the last that was made was found.
 pub record TellsOfLast (q : Requested) (s : Search) (table : Table) (text : List ℕ) (save : WriterChange) : Type 0 where
   pub run : ℕ
   pub is_last : run + 1 ≡ s.sought.from + table.runs
-  pub ending : Ending
-  pub sought : IsLookedFor s.sought ending
-  pub tells : TellsOfRun q s ending (found_run_line run) text save
+  pub found : MadeRun
+  pub drawn : IsRunOfNumber q s.sought run found
+  pub sought : EndsAsLookedFor s.sought s.sought.dump found.end
+  pub tells : TellsOfRun q s found (found_run_line run) text save
 
 -- Runs were made; in each ending of the table all threads ended well, and none is looked for.
 pub record IsAllWell (s : Sought) (table : Table) : Type 0 where
@@ -95,16 +99,35 @@ pub record IsFirstSought (s : Sought) (endings : List Ending) (number : ℕ) (en
   pub sought : IsLookedFor s ending
   pub before : All (λ e. IsLookedFor s e → ⊥) (take (number - 1) endings)
 
--- Of all endings that one is told of, by a run, or that no run was made for it.
-abbrev pub TellsOfOne : Requested → Search → ℕ → Ending → List ℕ → WriterChange → Type 0
-TellsOfOne q s number ending text save =
-    TellsOfRun q s ending (found_ending_line number) text save ⊎ ((text ≡ without_run_line number) × (save.new ≡ save.old))
+-- The choices that were noted of the ending at a place of the list.
+abbrev pub choices_at : Ended Ending → ℕ → List ℕ
+choices_at all place = unwrap_or (option_map (λ path. path.items) (slice_get all.paths.items place)) []
+
+-- A run by the call along these choices ends so, and is told of.
+pub record TellsOfMet (q : Requested) (s : Search) (choices : List ℕ) (number : ℕ) (ending : Ending) (text : List ℕ)
+    (save : WriterChange) : Type 0 where
+  pub found : MadeRun
+  pub along : GoesAlong chosen unheard q s.sought.limit choices found
+  pub ends : ending ≡ ending_left s.sought.dump found.end
+  pub tells : TellsOfRun q s found (found_ending_line number) text save
+
+-- The choices lead to another ending: that no run was made is told.
+pub record TellsOfNoRun (q : Requested) (s : Search) (choices : List ℕ) (number : ℕ) (ending : Ending) (text : List ℕ)
+    (save : WriterChange) : Type 0 where
+  pub other : LeadToOther q s.sought.limit s.sought.dump choices ending
+  pub text_is : text ≡ without_run_line number
+  pub kept : save.new ≡ save.old
+
+-- Of all endings that one is told of, by a run along the choices, or where they lead to another that none was made.
+abbrev pub TellsOfOne : Requested → Search → List ℕ → ℕ → Ending → List ℕ → WriterChange → Type 0
+TellsOfOne q s choices number ending text save =
+    TellsOfMet q s choices number ending text save ⊎ TellsOfNoRun q s choices number ending text save
 
 pub record TellsOfFirst (q : Requested) (s : Search) (all : Ended Ending) (text : List ℕ) (save : WriterChange) : Type 0 where
   pub number : ℕ
   pub ending : Ending
   pub is_first : IsFirstSought s.sought all.endings.keys number ending
-  pub tells : TellsOfOne q s number ending text save
+  pub tells : TellsOfOne q s (choices_at all (number - 1)) number ending text save
 
 -- Where none is, a run by the call that never ends: after how many entries it is sure not to, and its lines; and the
 -- record that was written, where one is wanted, is its own.

@@ -1,10 +1,11 @@
 //! Every order of the entries of a call: what is printed, and the record of what was found.
-ghost use Rattle.std.specs.Prelude.{◌≡◌, ◌≤◌, ◌⊎◌, ◌↔◌, All, Some, None, is_some, true, false, IfOk, IfErr, IfSome, IfNone, MatchOption};
+ghost use Rattle.std.specs.Prelude.{◌≡◌, ◌≤◌, ◌-◌, ◌⊎◌, ◌↔◌, All, Some, None, is_some, true, false, IfOk, IfErr, IfSome, IfNone, MatchOption};
 ghost use Rattle.replay_forms.specs.Texts.{Wrote};
 ghost use Rattle.search_finds.specs.Finds.{IsLookedFor};
 ghost use Rattle.report_jobs.specs.Asked.{IsAskedBy};
 ghost use Rattle.report.specs.Endless as specified;
 ghost use Rattle.report.specs.Endless.{FindsEndless, HasNoEndless, IsKnown, IsKnownIn, HasNoEnd, GoesRound, endless_line};
+ghost use Rattle.report.specs.Prints as specified_prints;
 ghost use Rattle.report.specs.Prints.{IsFirstSought, PrintsAll, Tells, TellsOfEndless, TellsOfOne};
 ghost use Rattle.report.specs.Searches.{Finds, IsCompleteOf, KeepsNoneOrFind, KeepsNoneOrEndless};
 ghost use Rattle.report.specs.Searches.{IsOfSystem, IsWellAt};
@@ -56,6 +57,16 @@ fn all_of<F: Follows>(
     Ok(all_endings(alloc, request, most, dump as usize, follower)?)
 }
 
+/// The choices that were noted of the ending at a place of the list.
+fn choices_at(all: &Complete, place: usize) -> &[usize]
+    ensures { result.now ≡ specified_prints.choices_at all.now place }
+{
+    match all.paths.get(place) {
+        Some(choices) => choices.as_slice(),
+        None => &[],
+    }
+}
+
 /// The first ending that is looked for.
 fn first_sought<'a>(
     alloc: Global,
@@ -64,26 +75,25 @@ fn first_sought<'a>(
 ) -> Result<Option<SoughtEnding<'a>>, AllocError>
     ensures first { IfOk result (λ o. IfSome o (λ first.
         IsFirstSought sought.now all.now.endings.keys first.number first.ending.now)) }
+    ensures choices { IfOk result (λ o. IfSome o (λ first.
+        first.choices.now ≡ specified_prints.choices_at all.now (first.number - 1))) }
     ensures none { IfOk result (λ o. o ≡ None → All (λ e. IsLookedFor sought.now e → ⊥) all.now.endings.keys) }
 {
     let endings = all.endings.as_slice();
     for (place, ending) in endings.iter().enumerate() {
         if is_looked_for(alloc, sought, ending)? {
-            let choices = match all.paths.get(place) {
-                Some(choices) => choices.as_slice(),
-                None => &[],
-            };
             return Ok(Some(SoughtEnding {
                 number: place + 1,
                 ending,
-                choices,
+                choices: choices_at(all, place),
             }));
         }
     }
     Ok(None)
 }
 
-/// Makes the run to an ending that is looked for and tells of it, or says that none was made.
+/// Makes the run to an ending that is looked for and tells of it, or says that none was made: its choices lead to
+/// another one.
 fn tell_sought<F: Hears, W: Write, S: Write>(
     alloc: Global,
     request: &Request,
@@ -98,7 +108,8 @@ fn tell_sought<F: Hears, W: Write, S: Write>(
     ensures told { IfOk result
         (λ _. KeepsNoneOrFind request.now.parts search.now (changed S.contents save.old save.new)) }
     ensures tells { IfOk result (λ _. Tells (changed W.contents out.old out.new) (λ text.
-        TellsOfOne request.now search.now first.entry.number first.entry.ending.now text (changed S.contents save.old save.new))) }
+        TellsOfOne request.now search.now first.entry.choices.now first.entry.number first.entry.ending.now text
+        (changed S.contents save.old save.new))) }
     ensures unwanted { is_some search.now.save ≡ false → Stays save.old save.new }
     ensures trouble { IfErr result IsOfSystem }
 {

@@ -1,5 +1,5 @@
 //! The races of a recorded run by the program: what is printed, or why there is nothing to print.
-ghost use Rattle.std.specs.Prelude.{◌≡◌, ◌≤◌, ◌⊎◌, IfOk, IfErr};
+ghost use Rattle.std.specs.Prelude.{◌≡◌, ◌≤◌, ◌<◌, ◌⊎◌, true, false, length, IfOk, IfErr};
 ghost use Rattle.report_jobs.specs.Jobs.{IsNoRecordOf, IsNoValidModule, IsUnfit};
 ghost use Rattle.report_jobs.specs.Silence.{IsRefusal, Stays};
 ghost use Rattle.report.specs.Silent.{IfRefusedRecord};
@@ -10,7 +10,7 @@ ghost use Rattle.report.specs.Raced.{IsRaceFree, IsRacy, OfModule, PrintsRaces, 
 use crate::showing::{CodeBytes, SeenRun, rows_of, unfit_of};
 use race_history::is_history;
 use report_jobs::{Streams, Unfit, load, refuse, reject};
-use show_races::{races_shown, write_races};
+use show_races::{Races, races_shown, write_races};
 use show_rows::{CodeMap, Shown, Story};
 use show_text::Unwritten;
 use std::alloc::Global;
@@ -79,6 +79,14 @@ fn tell_races<W: Write>(
     }
 }
 
+/// Whether there is a race.
+fn is_racy(races: &Races) -> bool
+    ensures some { result ≡ true → 1 ≤ length races.now.pairs.items }
+    ensures none { result ≡ false → length races.now.pairs.items < 1 }
+{
+    races.pairs.as_slice().len() >= 1
+}
+
 /// Writes the races of a run, and answers whether there are any. A log of more threads than 64 is none of `races_of`'s.
 fn write_seen<W: Write>(
     alloc: Global,
@@ -107,9 +115,5 @@ fn write_seen<W: Write>(
     let story = Story::new(alloc, log)?;
     let races = races_shown(alloc, shown, &story, most as usize)?;
     write_races(alloc, shown, &story, &races, out)?;
-    if races.pairs.as_slice().len() >= 1 {
-        Ok(true)
-    } else {
-        Ok(false)
-    }
+    Ok(is_racy(&races))
 }

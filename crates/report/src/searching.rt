@@ -8,7 +8,6 @@ ghost use Rattle.report_jobs.specs.Troubles.{IsTroubleOf};
 ghost use Rattle.std.specs.Io.KnownBytes.{Appends};
 ghost use Rattle.replay_forms.specs.Texts.{Wrote};
 ghost use Rattle.report_lines.specs.Found.{found_run_line};
-ghost use Rattle.search_finds.specs.Endings.{ending_left};
 ghost use Rattle.search_finds.specs.Sizes.{size_in};
 ghost use Rattle.report.specs.Drawn.{size_text, sizes_line, sizes_if, behind_text};
 ghost use Rattle.report.specs.Searches.{Finds, IsFindKept, IsOfSystem, IsWellAt};
@@ -180,6 +179,7 @@ fn shrunk_if_asked<F: Hears, W: Write>(
     requires { IsFind request.now search.now.sought.limit found }
     ensures run { IfOk result (IsFind request.now search.now.sought.limit) }
     ensures ending { IfOk result (λ made. HaveOneEnding search.now.sought.dump found.end made.end) }
+    ensures same { IfOk result (λ made. search.now.shrink ≡ false → made ≡ found) }
     ensures sizes { IfOk result (λ made. Appends (W.contents out.old) (W.contents out.new)
         (sizes_if search.now.shrink (size_in found.record) (size_in made.record))) }
     ensures trouble { IfErr result IsOfSystem }
@@ -213,7 +213,7 @@ pub(crate) fn tell_made<F: Hears, W: Write, S: Write>(
     requires ends { EndsAsLookedFor search.now.sought search.now.sought.dump made.end }
     ensures kept { IfOk result (λ _. IsFindKept request.now.parts search.now (changed S.contents save.old save.new)) }
     ensures tells { IfOk result (λ _. Tells (changed W.contents out.old out.new) (λ text. TellsOfRun request.now search.now
-        (ending_left search.now.sought.dump made.end) [] text (changed S.contents save.old save.new))) }
+        made [] text (changed S.contents save.old save.new))) }
     ensures unwanted { is_some search.now.save ≡ false → Stays save.old save.new }
     ensures trouble { IfErr result IsOfSystem }
 {
@@ -239,8 +239,7 @@ fn tell_found<F: Hears, W: Write, S: Write>(
     requires ends { EndsAsLookedFor search.now.sought search.now.sought.dump found.made.end }
     ensures kept { IfOk result (λ _. IsFindKept request.now.parts search.now (changed S.contents save.old save.new)) }
     ensures tells { IfOk result (λ _. Tells (changed W.contents out.old out.new) (λ text. TellsOfRun request.now search.now
-        (ending_left search.now.sought.dump found.made.end) (found_run_line found.run) text
-        (changed S.contents save.old save.new))) }
+        found.made (found_run_line found.run) text (changed S.contents save.old save.new))) }
     ensures unwanted { is_some search.now.save ≡ false → Stays save.old save.new }
     ensures trouble { IfErr result IsOfSystem }
 {

@@ -2,6 +2,7 @@ use Rattle.std.proofs.Common.{ℕ, List, [], refl, sym, ◌∙◌, subst, arith,
 use Rattle.search_modules.specs.Endings.{HasEveryEnding, AllCanEndSo}
 use Rattle.std.proofs.KnownBytes.{Appends-nil}
 use Rattle.report_jobs.specs.Prints.{changed}
+use Rattle.report.specs.Prints.{TellsOfOne}
 use Rattle.report.specs.Searches.{IsSureToEnd}
 use Rattle.report.proofs.Printed.{prints_all, first_is_sought, well_has_none}
 use Rattle.report.proofs.Sought.{none_of}
@@ -33,7 +34,10 @@ returns-in-Some-clause-prints g c =
     let contents = g.W.Write.contents in
     let s = c.args.search.now.sought in
     let is_first = rw c.in-Some.is at c.in_ok-first.ensures.first in
+    let choices = rw c.in-Some.is at c.in_ok-first.ensures.choices in
     let told = c.in_ok-tell_sought.ensures.tells in
+    let first = c.in-Some.first in
+    let save = changed g.S.Write.contents c.args.save.now c.tell_sought.new.save in
     prints_all c.args.request.now c.args.search.now c.requires.asked (changed g.S.Write.contents c.args.save.now c.tell_sought.new.save) _
     (contents c.args.out.now) (contents c.write_complete.new.out) (contents c.tell_sought.new.out)
     c.args.most c.in_ok-all.all c.in_ok-all.ensures.complete c.in_ok-write_complete.ensures
@@ -46,7 +50,8 @@ returns-in-Some-clause-prints g c =
           number = c.in-Some.first.number;
           ending = c.in-Some.first.ending.now;
           is_first = is_first;
-          tells = told.2;
+          tells = subst (λ (path : List ℕ). TellsOfOne c.args.request.now c.args.search.now path first.number first.ending.now told.0 save)
+              choices told.2;
         }),
       ),
     )

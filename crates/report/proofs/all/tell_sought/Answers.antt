@@ -1,8 +1,6 @@
-use Rattle.std.proofs.Common.{◌≡◌, [], inl, sym, subst}
+use Rattle.std.proofs.Common.{[], refl, inl, inr, subst}
 use Rattle.std.proofs.lemmas.Result.{IfOk-weaker}
 use Rattle.search_finds.specs.Finds.{IsLookedFor}
-use Rattle.search_finds.specs.Endings.{ending_left}
-use Rattle.search_endings.specs.Endings.{Ending}
 use Rattle.report_jobs.specs.Prints.{change, changed}
 use Rattle.report_lines.specs.Found.{found_ending_line}
 use Rattle.report.specs.Prints.{Tells, TellsOfOne, TellsOfRun}
@@ -22,13 +20,31 @@ returns-in_ok-write_found_ending-in-Some-clause-tells g c =
     let q = c.args.request.now in
     let s = c.args.search.now in
     let first = c.args.first in
+    let found = c.in-Some.made in
     let save = changed g.S.Write.contents c.args.save.now c.tell_made.new.save in
-    let head = found_ending_line first.number in
-    let e = ending_left s.sought.dump c.in-Some.made.end in
-    let same : first.ending.now ≡ e = rw c.in-Some.is at c.in-Ok.ensures.ending in
-    IfOk-weaker c.tell_made.result (λ _. Tells (change between after) (λ text. TellsOfRun q s e [] text save))
-    (λ _. Tells (change before after) (λ text. TellsOfOne q s first.number first.ending.now text save))
+    IfOk-weaker c.tell_made.result (λ _. Tells (change between after) (λ text. TellsOfRun q s found [] text save))
+    (λ _. Tells (change before after) (λ text. TellsOfOne q s first.choices.now first.number first.ending.now text save))
     (λ _ tells.
-    let told = told_after q s e save head before between after c.in_ok-write_found_ending-in-Some.ensures tells in
-    (told.0, told.1, inl (subst (λ (x : Ending). TellsOfRun q s x head told.0 save) (sym same) told.2)))
+    let told = told_after q s found save (found_ending_line first.number) before between after
+    c.in_ok-write_found_ending-in-Some.ensures tells in (
+      told.0,
+      told.1,
+      inl (record {
+        found = found;
+        along = rw c.in-Some.is at c.in-Ok.ensures.along;
+        ends = rw c.in-Some.is at c.in-Ok.ensures.ending;
+        tells = told.2;
+      }),
+    ))
     c.tell_made.ensures.tells
+
+pub returns-in_ok-write_without_run-in-None-clause-tells : goal.returns-in_ok-write_without_run-in-None-clause-tells
+returns-in_ok-write_without_run-in-None-clause-tells g c = (
+  _,
+  c.in_ok-write_without_run-in-None.ensures,
+  inr (record {
+    other = rw c.in-None.is at c.in-Ok.ensures.none;
+    text_is = refl;
+    kept = refl;
+  }),
+)

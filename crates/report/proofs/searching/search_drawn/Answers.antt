@@ -27,7 +27,8 @@ returns-in-Found-clause-prints g c =
         record {
           run = c.in-Found.found.run;
           is_last = rw c.in-Found.is at c.in-Ok.ensures.number;
-          ending = _;
+          found = c.in-Found.found.made;
+          drawn = rw c.in-Found.is at c.in-Ok.ensures.drawn;
           sought = found.1;
           tells = told.2;
         },

@@ -1,6 +1,5 @@
 use Rattle.std.proofs.Common.{[]}
 use Rattle.std.proofs.lemmas.Result.{IfOk-weaker}
-use Rattle.search_finds.specs.Endings.{ending_left}
 use Rattle.report_jobs.specs.Prints.{change, changed}
 use Rattle.report_lines.specs.Found.{found_run_line}
 use Rattle.report.specs.Prints.{Tells, TellsOfRun}
@@ -17,8 +16,7 @@ returns-clause-tells g c =
     let s = c.args.search.now in
     let found = c.args.found in
     let save = changed g.S.Write.contents c.args.save.now c.tell_made.new.save in
-    let e = ending_left s.sought.dump found.made.end in
     let head = found_run_line found.run in
-    IfOk-weaker c.tell_made.result (λ _. Tells (change between after) (λ text. TellsOfRun q s e [] text save))
-    (λ _. Tells (change before after) (λ text. TellsOfRun q s e head text save))
-    (λ _. told_after q s e save head before between after c.in_ok-write_found_run.ensures) c.tell_made.ensures.tells
+    IfOk-weaker c.tell_made.result (λ _. Tells (change between after) (λ text. TellsOfRun q s found.made [] text save))
+    (λ _. Tells (change before after) (λ text. TellsOfRun q s found.made head text save))
+    (λ _. told_after q s found.made save head before between after c.in_ok-write_found_run.ensures) c.tell_made.ensures.tells

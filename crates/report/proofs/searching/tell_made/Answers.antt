@@ -2,7 +2,6 @@ use Rattle.std.proofs.Common.{ℕ, List, ◌∙◌, refl, sym, subst}
 use Rattle.search_scheduled.specs.Headers.{IsOfCall}
 use Rattle.report.proofs.Searched.{ends_alike}
 use Rattle.replay_forms.proofs.Written.{appends_then}
-use Rattle.search_finds.specs.Sizes.{size_in}
 use Rattle.report.proofs.Growing.{keeps_append}
 use Rattle.report.proofs.searching.tell_made.Goals as goal
 
@@ -37,7 +36,7 @@ returns-clause-tells g c =
         made = c.in_ok-kept.kept;
         find = c.in_ok-kept.ensures.run;
         ends = sym c.in_ok-kept.ensures.ending;
-        was = size_in c.args.made.«record»;
+        same = c.in_ok-kept.ensures.same;
         text_is = refl;
         kept = λ wanted. c.in_ok-keep.ensures.kept (c.is_some.ensures ∙ wanted);
       },
