@@ -54,7 +54,7 @@ no_item at (k, lt, is) = absurd (omega (arith, lt))
 pub among_first : (log : List Entry) (n : ℕ) → AreAmong log [] (replicate n None)
 among_first log n = record {
   these = λ at thread has of. absurd (no_item at has);
-  no_other = λ at no. none_in n at;
+  no_other = λ at never. none_in n at;
 }
 
 in_set_same : (among : List (Option ℕ)) (at : ℕ) (x : Option ℕ) → at < length among → in_list (slice_set among at x) at ≡ x
@@ -79,9 +79,9 @@ set_these log places at thread among lt of are k t has of_k =
 
 set_no_other : (log : List Entry) (places : List ℕ) (at thread : ℕ) (among : List (Option ℕ)) → AreAmong log places among → (k : ℕ)
     → (Contains (places ++ at ∷ []) k → ⊥) → in_list (slice_set among at (Some thread)) k ≡ None
-set_no_other log places at thread among are k no =
-    let apart : k ≡ at → ⊥ = λ e. no (subst (Contains (places ++ at ∷ [])) (sym e) (Contains-push places at)) in
-    in_set_other among at k (Some thread) apart ∙ are.no_other k (λ has. no (Contains-append_left places (at ∷ []) k has))
+set_no_other log places at thread among are k never =
+    let apart : k ≡ at → ⊥ = λ e. never (subst (Contains (places ++ at ∷ [])) (sym e) (Contains-push places at)) in
+    in_set_other among at k (Some thread) apart ∙ are.no_other k (λ has. never (Contains-append_left places (at ∷ []) k has))
 
 pub among_next : (log : List Entry) (places : List ℕ) (k z at : ℕ) (made : Entry) (among new : List (Option ℕ)) → k < length places
     → at ≡ get_or places k z → at < length log → length among ≡ length log → made ≡ get_or log at made
@@ -99,4 +99,4 @@ among_next log places k z at made among new lt is within long is_made sets are =
 
 pub among_all : (log : List Entry) (places : List ℕ) (k : ℕ) (among : List (Option ℕ)) → length places ≤ k
     → AreAmong log (take k places) among → AreAmong log places among
-among_all log places k among le are = subst (λ (ps : List ℕ). AreAmong log ps among) (take_all places k le) are
+among_all log places k among le are = subst (λ (ps : List ℕ). AreAmong log ps among) (take_all k places le) are

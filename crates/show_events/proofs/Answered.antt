@@ -31,8 +31,8 @@ known_first contexts long = record { each = λ at told is. none_known contexts a
 
 kept : (contexts : List Context) (upto at : ℕ) (told : Option ℕ) → IsKnownAt contexts upto at told
     → (IsAnswerTo contexts at upto → ⊥) → IsKnownAt contexts (upto + 1) at told
-kept contexts upto at (Some told) known no = known
-kept contexts upto at None known no = below_more (λ k. IsAnswerTo contexts at k → ⊥) upto known no
+kept contexts upto at (Some told) known never = known
+kept contexts upto at None known never = below_more (λ k. IsAnswerTo contexts at k → ⊥) upto known never
 
 alone_no : (o : Option Context) (q : Question) (at : ℕ) → o ≡ Some Alone → o ≡ Some (Asked q at) → ⊥
 alone_no o q at a b = cc
@@ -112,8 +112,8 @@ pub lasts_alone : (contexts : List Context) (long at : ℕ) (answers : List (Opt
 lasts_alone contexts long at answers are lt none =
     let here : slice_get answers at ≡ Some (get_or answers at None) = slice_get-get_or answers at None (omega (arith, lt, are.long_is)) in
     let is : get_or answers at None ≡ None = not_listed (slice_get answers at) (get_or answers at None) none here in
-    let no : (told : ℕ) → IsAnswerTo contexts at told → ⊥ = are.each at None (here ∙ ap (λ (o : Option ℕ). Some o) is) in
-    inr (λ told ends. no told ends.answer, refl)
+    let never : (told : ℕ) → IsAnswerTo contexts at told → ⊥ = are.each at None (here ∙ ap (λ (o : Option ℕ). Some o) is) in
+    inr (λ told ends. never told ends.answer, refl)
 
 over_asked : (o : Option Context) (q : Question) (at : ℕ) (b : Bool) → o ≡ Some (Asked q at) → b ≡ is_wait_over o → is_wait q ≡ b
 over_asked o q at b e f = sym (f ∙ ap is_wait_over e)
@@ -124,15 +124,15 @@ both_ways b t f = cc
 pub lasts_plain : (log : List Entry) (contexts : List Context) (at told : ℕ) (answers : List (Option ℕ)) (b : Bool)
     → AreContexts log MOST_THREADS (length log) contexts → AreAnswers contexts (length log) answers
     → in_list answers at ≡ Some told → b ≡ is_wait_over (slice_get contexts told) → b ≡ false → Lasts contexts at 1
-lasts_plain log contexts at told answers b are answered is over no =
+lasts_plain log contexts at told answers b are answered is over never =
     let p = answered.each at (Some told) (listed (slice_get answers at) told is) in
     inr (λ other ends. both_ways (is_wait p.0)
         (ap is_wait (one_question log contexts are at told other p.0 ends.answer.0 p.1 ends.answer.1) ∙ ends.wait)
-        (over_asked (slice_get contexts told) p.0 at b p.1 over ∙ no), refl)
+        (over_asked (slice_get contexts told) p.0 at b p.1 over ∙ never), refl)
 
 pub lasts_wait : (contexts : List Context) (long at told : ℕ) (answers : List (Option ℕ)) (b : Bool)
     → AreAnswers contexts long answers → in_list answers at ≡ Some told → b ≡ is_wait_over (slice_get contexts told)
     → b ≡ true → (n : ℕ) → n ≡ max (told - at) 1 → Lasts contexts at n
-lasts_wait contexts long at told answers b answered is over yes n e =
+lasts_wait contexts long at told answers b answered is over over_it n e =
     let to = answered.each at (Some told) (listed (slice_get answers at) told is) in
-    inl (told, record { answer = to; wait = over_asked (slice_get contexts told) to.0 at b to.1 over ∙ yes }, e)
+    inl (told, record { answer = to; wait = over_asked (slice_get contexts told) to.0 at b to.1 over ∙ over_it }, e)

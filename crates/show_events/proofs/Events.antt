@@ -18,7 +18,7 @@ in_turn_next {X} {S} does xs k z x lt is a b c before step =
 
 pub in_turn_all : {X S : Type 0} (does : X → S → S → Type 0) (xs : List X) (k : ℕ) (a b : S) → length xs ≤ k
     → InTurn does (take k xs) a b → InTurn does xs a b
-in_turn_all {X} does xs k a b le all = subst (λ (ys : List X). InTurn does ys a b) (take_all xs k le) all
+in_turn_all {X} does xs k a b le all = subst (λ (ys : List X). InTurn does ys a b) (take_all k xs le) all
 
 -- The same of items with their numbers.
 pub numbered_next : {X S : Type 0} (does : ℕ × X → S → S → Type 0) (xs : List X) (k : ℕ) (z x : X) → k < length xs

@@ -25,8 +25,8 @@ seen_first log long = record { each = λ thread first is. none_seen log thread f
 
 kept : (log : List Entry) (upto thread : ℕ) (first : Option ℕ) → IsSeenOf log upto thread first
     → (thread_at log upto ≡ Some thread → ⊥) → IsSeenOf log (upto + 1) thread first
-kept log upto thread (Some first) seen no = seen
-kept log upto thread None seen no = below_more (λ k. thread_at log k ≡ Some thread → ⊥) upto seen no
+kept log upto thread (Some first) seen never = seen
+kept log upto thread None seen never = below_more (λ k. thread_at log k ≡ Some thread → ⊥) upto seen never
 
 same_thread : (o : Option ℕ) (t thread : ℕ) → o ≡ Some t → o ≡ Some thread → thread ≡ t
 same_thread o t thread a b = cc

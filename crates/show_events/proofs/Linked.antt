@@ -5,7 +5,8 @@ use Rattle.std.proofs.lemmas.Bool.{and_parts}
 use Rattle.std.proofs.lemmas.Bool.Decides.{nat_tests}
 use Rattle.std.proofs.lemmas.List.{take_more, take_all}
 use Rattle.std.proofs.lemmas.List.Elements.{All-nil, All-cons, All-append, filter_map-append}
-use Rattle.std.specs.List.{filter_map, option_to_list, range_with_len}
+use Rattle.std.specs.List.{filter_map, range_with_len}
+use Rattle.std.specs.Option.{option_to_list}
 use Rattle.types.specs.declared.event.Entry.{Entry}
 use Rattle.show_text.specs.declared.context.Context.{Context}
 use Rattle.show_text.specs.declared.woken.Wake.{Wake}

@@ -1,7 +1,8 @@
 //! What leads from one entry to another: wake-ups, spawns, and sleep.
 
 ghost use Rattle.std.specs.Prelude.{◌≡◌, ◌+◌, ◌<◌, ◌++◌, None, length, option_and_then, All, IfOk, OnOk};
-ghost use Rattle.std.specs.List.{slice_get, filter_map, option_to_list, range_with_len};
+ghost use Rattle.std.specs.List.{slice_get, filter_map, range_with_len};
+ghost use Rattle.std.specs.Option.{option_to_list};
 ghost use Rattle.show_text.specs.Contexts.{AreContexts};
 ghost use Rattle.show_rows.specs.Listing.{IsStoryOf};
 ghost use Rattle.types.specs.declared.limits.TheConstants.{MOST_THREADS};

@@ -56,10 +56,14 @@ abbrev pub SeesOf : Option Thread → ℕ → List (Option ThreadSnapshot) → L
 SeesOf None n old new = new ≡ old
 SeesOf (Some thread) n old new = Sees thread n old new
 
+-- The thread with this number, if the event is its leave.
+abbrev pub leaving : List Thread → ℕ → Event → Option Thread
+leaving threads n (Ask Leave) = slice_get threads n
+leaving threads n event = None
+
 -- Of an entry that is a leave: where its thread has ended.
 abbrev pub SeesLeave : List Thread → ℕ → Event → List (Option ThreadSnapshot) → List (Option ThreadSnapshot) → Type 0
-SeesLeave threads n (Ask Leave) old new = SeesOf (slice_get threads n) n old new
-SeesLeave threads n event old new = new ≡ old
+SeesLeave threads n event old new = SeesOf (leaving threads n event) n old new
 
 -- It is of the same log, before the same entry, with the same bytes wanted.
 pub record IsOfSame (old new : Moment) : Type 0 where

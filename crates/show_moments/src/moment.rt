@@ -3,6 +3,7 @@
 ghost use Rattle.std.specs.Prelude.{◌≡◌, ◌↔◌, replicate, false, take, drop, Some, None, slice_set, option_map, IsTrue, IfOk, OnOk};
 ghost use Rattle.std.specs.List.{slice_get, AllZip};
 ghost use Rattle.types.specs.declared.limits.TheConstants.{MOST_THREADS};
+ghost use Rattle.show_moments.specs.Moments as specified;
 ghost use Rattle.show_moments.specs.Moments.{bytes_of, StandsIn, Sees, SeesLeave, SeesCame, SeesWanted, IsRound};
 ghost use Rattle.show_moments.specs.Moments.{IsOfSame, KeepsRound, standing_at};
 
@@ -111,8 +112,8 @@ fn is_free(seats: &[Option<ThreadSnapshot>], n: usize) -> bool
 fn put(seats: &mut [Option<ThreadSnapshot>], n: usize, standing: ThreadSnapshot)
     ensures { seats.new ≡ slice_set seats.old n (Some standing) }
 {
-    if let Some(seat) = seats.get_mut(n) {
-        *seat = Some(standing);
+    if n < seats.len() {
+        seats[n] = Some(standing);
     }
 }
 
@@ -130,6 +131,17 @@ fn see(
         put(seats, n, standing);
     }
     Ok(())
+}
+
+/// The thread that leaves, if an entry is a leave.
+fn leaving<'w, 'm>(entry: &Entry, walk: &'w Walk<Thread<'m>>) -> Option<&'w Thread<'m>>
+    ensures { option_map (λ t. t.now) result
+        ≡ specified.leaving walk.now.threads.items entry.now.thread entry.now.event }
+{
+    match entry.event {
+        Event::Ask(Question::Leave) => walk.threads.get(entry.thread as usize),
+        _ => None,
+    }
 }
 
 impl<'a> Moment<'a> {
@@ -184,8 +196,9 @@ impl Moment<'_> {
         ensures came { self.new.came ≡ self.old.came }
         ensures next { self.new.next ≡ self.old.next }
     {
-        if self.look_round(walk).is_err() {
-            self.is_short = true;
+        match self.look_round(walk) {
+            Ok(()) => {}
+            Err(_) => self.is_short = true,
         }
     }
 
@@ -197,14 +210,12 @@ impl Moment<'_> {
         ensures left { self.new.is_short ≡ false → SeesLeave walk.now.threads.items entry.now.thread entry.now.event
             self.old.next.items self.new.next.items }
     {
-        let Event::Ask(Question::Leave) = entry.event else {
+        let Some(thread) = leaving(entry, walk) else {
             return;
         };
-        let Some(thread) = walk.threads.get(entry.thread as usize) else {
-            return;
-        };
-        if see(self.alloc, &mut self.next, entry.thread as usize, thread).is_err() {
-            self.is_short = true;
+        match see(self.alloc, &mut self.next, entry.thread as usize, thread) {
+            Ok(()) => {}
+            Err(_) => self.is_short = true,
         }
     }
 
@@ -249,8 +260,9 @@ impl<'a, 'm> Watch<Thread<'m>> for Moment<'a> {
         if self.came < self.at {
             return;
         }
-        if see(self.alloc, &mut self.next, entry.thread as usize, thread).is_err() {
-            self.is_short = true;
+        match see(self.alloc, &mut self.next, entry.thread as usize, thread) {
+            Ok(()) => {}
+            Err(_) => self.is_short = true,
         }
     }
 
