@@ -1,8 +1,8 @@
 -- The states after each thread's next turn are those that a search asks for.
-use Rattle.std.proofs.Common.{◌≡◌, ◌≢◌, ◌≤◌, ◌<◌, ◌+◌, ◌==◌, cond, Bool, true, false, ◌⊎◌, inl, inr, refl, sym, ◌∙◌, ap, subst, arith, ℕ, zero, suc, List, [], ◌∷◌, ◌++◌, Contains, Option, Some, None}
+use Rattle.std.proofs.Common.{◌≡◌, ◌≢◌, ◌≤◌, ◌<◌, ◌==◌, cond, Bool, true, false, ◌⊎◌, inl, inr, refl, sym, ◌∙◌, subst, arith, ℕ, suc, List, [], ◌∷◌, ◌++◌, Contains, Option, Some}
 use Rattle.std.proofs.lemmas.Bool.{cases_lt}
-use Rattle.std.proofs.lemmas.Option.{same_Some, none-some}
-use Rattle.schedule.specs.System.{Want.Turns, Want.Calls, Kind.Turn, System, State}
+use Rattle.std.proofs.lemmas.Option.{same_Some}
+use Rattle.schedule.specs.System.{Kind.Turn, State}
 use Rattle.schedule.specs.Scheduled.{after_mark}
 use Rattle.search_graph.specs.Paths.{Reaches}
 use Rattle.search_graph.specs.Worlds.{CanStep}
@@ -10,17 +10,17 @@ use Rattle.search_reach.specs.declared.explores.Next.{Next}
 use Rattle.search_reach.specs.Search.{StepSystem, StandsFor, RestsIn, HasOf, StaysIn, LeadsOn, ComesBy, IsOrderly, AreNext, IsMet}
 use Rattle.search_reach.proofs.Paths.{stays, one_step, onward}
 use Rattle.search_settled.specs.Settled.{CanGoOn, StepsBy, IsReached, AreTame, turning}
-use Rattle.search_settled.specs.Accesses.{IsPlain, Conflict, Race}
+use Rattle.search_settled.specs.Accesses.{Conflict, Race}
 use Rattle.search_settled.specs.declared.access.Access.{Access}
 use Rattle.search_settled.specs.declared.flat.Flat.{Flat}
-use Rattle.search_settled.specs.Threads.{ThreadSystem, IsFlat}
+use Rattle.search_settled.specs.Threads.{ThreadSystem}
 use Rattle.search_settled.proofs.Orderly.{idle, persist}
 use Rattle.search_race_free.specs.declared.owning.Owning.{Owning}
-use Rattle.search_race_free.specs.Orders.{times, MakesOwn, MakesPlain}
-use Rattle.search_race_free.specs.Wanted.{own_turn, next_access, after_next, ArePlain}
+use Rattle.search_race_free.specs.Orders.{times, MakesPlain}
+use Rattle.search_race_free.specs.Wanted.{own_turn, ArePlain}
 use Rattle.search_race_free.specs.Owned.{Within, IsSafe}
 use Rattle.search_race_free.specs.Reduced.{wanted_in, next_in, Rest, IsResting, RestsSomewhere, IsKept, StandsBefore, reduced_steps, IsAfterTurn, ComesOf, HasReduced}
-use Rattle.search_race_free.proofs.Moving.{times-here, times-append, PlainLaws, AreApart, reached-along, along-both, same-along, wanted-along, sooner, past}
+use Rattle.search_race_free.proofs.Moving.{times-here, times-append, PlainLaws, reached-along, along-both, same-along, wanted-along, sooner, past}
 use Rattle.search_race_free.proofs.Racing.{conflict-swap}
 use Rattle.search_race_free.proofs.Turning.{going_on, turn_access, event_access, reaches_next, plain-laws}
 use Rattle.search_race_free.proofs.Striking.{struck, within-apart}
@@ -148,19 +148,19 @@ module _ {X T E V A G H M O : Type 0} (k : ThreadSystem X T E V A G H M) (ends :
         → wanted_in k w other ≡ Some b → Race a b → ⊥
     free-at w left st one other a b d h g race = elim (cases_lt 0 (times one st.order)) [
       | inl some ↦ elim (cases_lt 0 (times other st.order)) [
-          | inl more ↦
-              within-apart k.system k.accesses s.owned.items st.settled (safe-at w left st) one other a b d
-              (owns-then w left one st a some h) (owns-then w left other st b more g) (conflict-swap a b race.conflict)
-          | inr few ↦
-              clear-then w left st other one b a d (omega (arith, few)) g (owns-then w left one st a some h) (conflict-swap a b race.conflict)
-        ]
+        | inl more ↦
+            within-apart k.system k.accesses s.owned.items st.settled (safe-at w left st) one other a b d
+            (owns-then w left one st a some h) (owns-then w left other st b more g) (conflict-swap a b race.conflict)
+        | inr few ↦
+            clear-then w left st other one b a d (omega (arith, few)) g (owns-then w left one st a some h) (conflict-swap a b race.conflict)
+      ]
       | inr none ↦ elim (cases_lt 0 (times other st.order)) [
-          | inl more ↦
-              clear-then w left st one other a b (λ e. d (sym e)) (omega (arith, none)) h (owns-then w left other st b more g) race.conflict
-          | inr few ↦
-              (let safe = safe-at w left st in
-              safe.meet one other a b d (same-then w left one st (omega (arith, none)) ∙ h) (same-then w left other st (omega (arith, few)) ∙ g) race)
-        ]
+        | inl more ↦
+            clear-then w left st one other a b (λ e. d (sym e)) (omega (arith, none)) h (owns-then w left other st b more g) race.conflict
+        | inr few ↦
+            (let safe = safe-at w left st in
+            safe.meet one other a b d (same-then w left one st (omega (arith, none)) ∙ h) (same-then w left other st (omega (arith, few)) ∙ g) race)
+      ]
     ]
 
     few : (w : State X T) (n : ℕ) → StandsFor Reduced s w → CanGoOn k.system w n → n < k.most

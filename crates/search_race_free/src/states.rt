@@ -41,7 +41,10 @@ impl<M: Accesses> Explores for RaceFreeTurns<'_, M> {
     ghost same = { λ t x y e. owning_alike M.Shared.eq M.Thread.eq M.Shared.Eq.laws M.Thread.Eq.laws
         (M.threads t.system.now) (M.same_shared t.system.now) (M.same_thread t.system.now) x y e };
 
-    fn first(&self, alloc: Global) -> Result<Option<Owning<Flat<M::Shared, M::Thread>>>, AllocError> {
+    fn first(
+        &self,
+        alloc: Global,
+    ) -> Result<Option<Owning<Flat<M::Shared, M::Thread>>>, AllocError> {
         match first_state(alloc, self.system)? {
             Came::To(state) => Ok(Some(state)),
             Came::Races(_) => Ok(None),

@@ -1,9 +1,10 @@
 //! The same endings where no threads race, over fewer states; and races where some do.
 
 use crate::all_runs::rows::{DUMP, Gone, MODULES, MOST, call_of, gone_through};
-use crate::runs::load;
+use crate::runs::{LIMIT, load};
 use search_endings::Ending;
-use search_modules::{RaceFree, race_free_endings};
+use search_finds::run_to;
+use search_modules::{RaceFree, race_free_endings, turn_choices};
 use search_reach::{Ended, Verdict};
 use spawn_host::Request;
 use std::alloc::Global;
@@ -47,6 +48,23 @@ fn check_same<R: Abort>(rt: &R, free: &Ended<Ending>, all: &Ended<Ending>) {
     }
 }
 
+/// To each a path leads.
+fn check_paths<R: Abort>(
+    rt: &R,
+    alloc: Global,
+    valid: &ValidModule,
+    gone: &Gone,
+    free: &Ended<Ending>,
+) -> Result<(), Fail> {
+    let request = Request::new(valid, call_of(gone))?;
+    for (ending, path) in free.endings.as_slice().iter().zip(free.paths.iter()) {
+        let choices = turn_choices(alloc, &request, DUMP as usize, path.as_slice())?;
+        let made = run_to(alloc, &request, LIMIT, DUMP, choices.as_slice(), ending)?;
+        assert!(rt; made.is_some());
+    }
+    Ok(())
+}
+
 fn check_free<R: Abort>(
     rt: &R,
     alloc: Global,
@@ -67,6 +85,7 @@ fn check_free<R: Abort>(
             assert_eq!(rt; free.ended.verdict, Verdict::All);
             let all = gone_through(alloc, valid, gone, MOST)?;
             check_same(rt, &free.ended, &all);
+            check_paths(rt, alloc, valid, gone, &free.ended)?;
         }
     }
     Ok(())
