@@ -31,11 +31,7 @@ static EXPECTED: [Expected; 9] = [
     Expected::States(387),
 ];
 
-fn gone_freely(
-    alloc: Global,
-    valid: &ValidModule,
-    gone: &Gone,
-) -> Result<RaceFree<Ending>, Fail> {
+fn gone_freely(alloc: Global, valid: &ValidModule, gone: &Gone) -> Result<RaceFree<Ending>, Fail> {
     let request = Request::new(valid, call_of(gone))?;
     Ok(race_free_endings(alloc, &request, MOST, DUMP as usize, &mut ())?)
 }
@@ -57,7 +53,10 @@ fn check_paths<R: Abort>(
     free: &Ended<Ending>,
 ) -> Result<(), Fail> {
     let request = Request::new(valid, call_of(gone))?;
-    for (ending, path) in free.endings.as_slice().iter().zip(free.paths.iter()) {
+    for (place, ending) in free.endings.as_slice().iter().enumerate() {
+        let Some(path) = free.paths.get(place) else {
+            continue;
+        };
         let choices = turn_choices(alloc, &request, DUMP as usize, path.as_slice())?;
         let made = run_to(alloc, &request, LIMIT, DUMP, choices.as_slice(), ending)?;
         assert!(rt; made.is_some());
@@ -76,8 +75,11 @@ fn check_free<R: Abort>(
     match expected {
         Expected::Race(one, other) => {
             assert_eq!(rt; free.ended.verdict, Verdict::CannotTell);
-            let race = free.race.map(|race| (race.one, race.other));
-            assert_eq!(rt; race, Some((*one, *other)));
+            assert!(rt; free.race.is_some());
+            if let Some(race) = free.race {
+                assert_eq!(rt; race.one, *one);
+                assert_eq!(rt; race.other, *other);
+            }
         }
         Expected::States(states) => {
             assert!(rt; free.race.is_none());
@@ -94,8 +96,11 @@ fn check_free<R: Abort>(
 #[test]
 fn who_does_not_race_ends_as_by_every_order(rt: HostRuntime) -> Result<(), Fail> {
     for (place, gone) in MODULES.as_slice().iter().enumerate() {
+        let Some(expected) = EXPECTED.as_slice().get(place) else {
+            continue;
+        };
         let valid = load(rt.alloc(), gone.module)?;
-        check_free(&rt, rt.alloc(), &valid, gone, &EXPECTED[place])?;
+        check_free(&rt, rt.alloc(), &valid, gone, expected)?;
     }
     Ok(())
 }
