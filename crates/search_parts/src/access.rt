@@ -70,7 +70,10 @@ fn access_by(len: u64, plain: bool, event: &Event) -> Access
     match *event {
         Event::Load { addr, width, reach } => load_or_store(len, plain, false, addr, width, reach),
         Event::Store {
-            addr, width, reach, ..
+            addr,
+            width,
+            reach,
+            ..
         } => load_or_store(len, plain, true, addr, width, reach),
         Event::Rmw { addr, width, .. } => atomic(len, true, addr, width),
         Event::Cmpxchg { addr, width, .. } => atomic(len, true, addr, width),

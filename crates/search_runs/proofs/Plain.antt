@@ -85,18 +85,18 @@ pub apart-of : (x y : Access) → (Meet x y → ⊥) → Apart x.addr x.width y.
 apart-of x y never = elim (cases_lt 0 x.width) [
   | inr none ↦ inl (omega (arith, none))
   | inl some ↦ elim (cases_lt 0 y.width) [
-      | inr none ↦ inr (inl (omega (arith, none)))
-      | inl more ↦ elim (cases_lt x.addr y.addr) [
-          | inl low ↦ elim (cases_lt y.addr (x.addr + x.width)) [
-              | inl meets ↦ absurd (never (y.addr, ((omega (arith, low), meets), (omega arith, omega (arith, more)))))
-              | inr past ↦ inr (inr (inl past))
-            ]
-          | inr high ↦ elim (cases_lt x.addr (y.addr + y.width)) [
-              | inl meets ↦ absurd (never (x.addr, ((omega arith, omega (arith, some)), (high, meets))))
-              | inr past ↦ inr (inr (inr past))
-            ]
-        ]
+    | inr none ↦ inr (inl (omega (arith, none)))
+    | inl more ↦ elim (cases_lt x.addr y.addr) [
+      | inl low ↦ elim (cases_lt y.addr (x.addr + x.width)) [
+        | inl meets ↦ absurd (never (y.addr, ((omega (arith, low), meets), (omega arith, omega (arith, more)))))
+        | inr past ↦ inr (inr (inl past))
+      ]
+      | inr high ↦ elim (cases_lt x.addr (y.addr + y.width)) [
+        | inl meets ↦ absurd (never (x.addr, ((omega arith, omega (arith, some)), (high, meets))))
+        | inr past ↦ inr (inr (inr past))
+      ]
     ]
+  ]
 ]
 
 apart-back : (a w b v : ℕ) → Apart a w b v → Apart b v a w
