@@ -35,14 +35,15 @@ pub record Tells (says : ℕ → List ℕ → Type 0) (old new : List ℕ) (answ
   pub length_is : answer.text ≡ length line
   pub puts : Puts old line new
 
--- Memory was refused, and nothing is told.
-pub record Fails (old new : List ℕ) (status : ℕ) : Type 0 where
+-- Memory was refused, and nothing is told, nor of how many bytes.
+pub record Fails (old new : List ℕ) (answer : Answer) (status : ℕ) : Type 0 where
   pub five : status ≡ 5
   pub kept : new ≡ old
+  pub none : answer.text ≡ 0
 
 -- It is told, unless memory was refused.
 abbrev pub MayTell : (ℕ → List ℕ → Type 0) → List ℕ → List ℕ → Answer → ℕ → Type 0
-MayTell says old new answer status = Fails old new status ⊎ Tells says old new answer status
+MayTell says old new answer status = Fails old new answer status ⊎ Tells says old new answer status
 
 -- A fault is told as what is refused.
 abbrev pub TellsFault : HostFault → List ℕ → List ℕ → Answer → ℕ → Type 0
@@ -61,6 +62,12 @@ abbrev pub with_first : Answer → List ThreadReport → Answer
 with_first a [] = a
 with_first a (report ∷ reports) = answer_with a report
 
+-- Memory was refused, and a buffer and the answer are as they were.
+pub record Keeps (before : Answer) (old new : List ℕ) (answer : Answer) (status : ℕ) : Type 0 where
+  pub five : status ≡ 5
+  pub kept : new ≡ old
+  pub answer_is : answer ≡ before
+
 -- The record of a run is put into the buffer, and how it ended is answered; unless memory was refused.
 pub record KeepsWhole (made : MadeRun) (before : Answer) (old new : List ℕ) (answer : Answer) (status : ℕ) : Type 0 where
   pub puts : Puts old (record_text made.record) new
@@ -68,12 +75,13 @@ pub record KeepsWhole (made : MadeRun) (before : Answer) (old new : List ℕ) (a
   pub status_is : status ≡ status_of made.end.threads.items
 
 abbrev pub KeepsRun : MadeRun → Answer → List ℕ → List ℕ → Answer → ℕ → Type 0
-KeepsRun made before old new answer status = Fails old new status ⊎ KeepsWhole made before old new answer status
+KeepsRun made before old new answer status =
+    Keeps before old new answer status ⊎ KeepsWhole made before old new answer status
 
 -- Of a run: it is the one that is wanted, or it was refused.
 pub data RunsNamed (bytes name : List ℕ) (words : List Word) (o : Options) (old new : List ℕ) (answer : Answer) (status : ℕ)
     : Type 0 where
-  fails : Fails old new status → RunsNamed bytes name words o old new answer status
+  fails : Keeps no_answer old new answer status → RunsNamed bytes name words o old new answer status
   ran : (made : MadeRun) → IsRunBy bytes name (values_by words) (plan_by o) made
       → KeepsWhole made no_answer old new answer status → RunsNamed bytes name words o old new answer status
   refused : (fault : HostFault) → IsFaultOf bytes name (values_by words) (plan_by o) fault → status ≡ status_of_fault fault

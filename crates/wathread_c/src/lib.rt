@@ -15,6 +15,8 @@ mod refused;
 mod replaying;
 mod running;
 mod searching;
+#[cfg(test)]
+mod tests;
 
 pub use answer::Answer;
 pub use given::{Options, Word};

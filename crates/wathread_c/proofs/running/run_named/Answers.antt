@@ -16,7 +16,7 @@ returns-in-Ok-run_of c =
     (subst (λ (values : List Value). IsRunBy c.args.module.now c.args.name.now values c.plan.result made)
     (c.deref.ensures.value ∙ c.in-Ok.ensures) c.in-Ok-run_of.ensures.run) in
     elim c.keep.ensures [
-      | inl f ↦ fails f
+      | inl f ↦ fails (record { five = f.five; kept = f.kept; answer_is = f.answer_is ∙ c.requires })
       | inr k ↦ ran made run (subst (λ (a : Answer). KeepsWhole made a c.args.record.now c.keep.new.record c.keep.new.answer c.keep.result) c.requires k)
     ]
 
