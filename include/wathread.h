@@ -58,7 +58,8 @@ struct wathread_word {
     uint32_t is_wide;
 };
 
-/* Who goes on, whenever more than one thread can. */
+/* Who goes on, whenever more than one thread can. Any other number is the mix, and a depth out of its range counts as
+ * the nearest one. */
 enum wathread_strategy {
     WATHREAD_MIX = 0,           /* one of the others, by the number of the run */
     WATHREAD_RANDOM = 1,        /* anybody */
