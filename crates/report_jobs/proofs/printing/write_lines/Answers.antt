@@ -8,7 +8,7 @@ returns-then-units g c =
     subst (λ (units : Bool). Wrote g.W.Write.contents c.args.out.now c.write_with_units.new.out c.write_with_units.result (end_text units c.args.end.now c.args.dump))
     (sym c.if-units.true) c.write_with_units.ensures
 
-pub returns : goal.returns
-returns g c =
+pub returns-else-units : goal.returns-else-units
+returns-else-units g c =
     subst (λ (units : Bool). Wrote g.W.Write.contents c.args.out.now c.write_without_units.new.out c.write_without_units.result (end_text units c.args.end.now c.args.dump))
     (sym c.if-units.false) c.write_without_units.ensures

@@ -19,12 +19,12 @@ pub returns-clause-unfit : goal.returns-clause-unfit
 returns-clause-unfit g c = λ saved text.
     c.misfit.ensures.unfit c.args.module.now.parts c.args.recorded.now saved c.requires text c.in-Err.ensures.fault c.in-Err.ensures.none
 
-pub returns-in-Err-print_end-clause-unfit : goal.returns-in-Err-print_end-clause-unfit
-returns-in-Err-print_end-clause-unfit g c = λ saved text.
+pub returns-in-Ok-clause-unfit : goal.returns-in-Ok-clause-unfit
+returns-in-Ok-clause-unfit g c = λ saved text.
     let m = c.args.module.now.parts in
     subst (IsUnfit m saved) (sym c.unprinted.ensures) (unwritten_unfit m saved c.in-Err-print_end.unwritten)
 
-pub returns-in-Err-print_end-clause-silent : goal.returns-in-Err-print_end-clause-silent
-returns-in-Err-print_end-clause-silent g c =
+pub returns-in-Ok-clause-silent : goal.returns-in-Ok-clause-silent
+returns-in-Ok-clause-silent g c =
     subst (λ (e : Unfit). LeavesOut e (c.print_end.new.out ≡ c.args.out.now)) (sym c.unprinted.ensures)
     (unwritten_out _ _ c.in-Err-print_end.unwritten c.in-Err-print_end.ensures.left)
