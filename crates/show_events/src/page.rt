@@ -1,13 +1,14 @@
 //! The page.
 
 ghost use Rattle.std.specs.Prelude.{OnOk};
+ghost use Rattle.show_events.specs.Events.{WritesPage};
 ghost use Rattle.show_events.specs.Page.{AddsPage};
 
 use crate::script::SCRIPT;
 use crate::style::{BODY, STYLE};
-use crate::{chosen_entries, write_events};
+use crate::write_events;
 use report_choice::Look;
-use show_rows::Shown;
+use show_rows::{Shown, chosen_entries};
 use show_text::Unwritten;
 use std::alloc::Global;
 use std::io::Write;
@@ -22,7 +23,8 @@ pub fn write_page<W: Write>(
     look: &Look,
     out: &mut W,
 ) -> Result<(), Unwritten>
-    ensures { OnOk result (AddsPage (W.contents out.old) (W.contents out.new)) }
+    ensures data { OnOk result (AddsPage (W.contents out.old) (W.contents out.new)) }
+    ensures which { OnOk result (WritesPage shown.entry look.now (W.contents out.old) (W.contents out.new)) }
 {
     let chosen = chosen_entries(alloc, shown, look)?;
     out.write_all(STYLE.as_bytes())?;
