@@ -15,5 +15,5 @@ mod words;
 pub use context::{Context, contexts};
 pub use plain::Plain;
 pub use sheet::{Sheet, Unwritten};
-pub use woken::{Wake, all_wakes};
+pub use woken::{Wake, Wakes};
 pub use words::Words;
