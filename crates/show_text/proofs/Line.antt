@@ -1,20 +1,21 @@
 -- Who sleeps at an address, as sleepers are gone through, and entries.
-use Rattle.std.proofs.Common.{◌≡◌, ◌∙◌, ℕ, zero, suc, ◌+◌, ◌-◌, ◌<◌, ◌≤◌, min, Bool, true, false, cond, eqb, ltb, ◌&&◌, List, [], ◌∷◌, ◌++◌}
-use Rattle.std.proofs.Common.{length, map, take, drop, get_or, Option, Some, None, option_and_then, append_assoc, add-one, refl, sym, ap, subst, arith, inl, inr}
+use Rattle.std.proofs.Common.{◌≡◌, ◌∙◌, ℕ, ◌+◌, ◌-◌, ◌<◌, ◌≤◌, min, Bool, true, false, cond, eqb, ltb, ◌&&◌, List, [], ◌∷◌, ◌++◌}
+use Rattle.std.proofs.Common.{length, map, take, drop, get_or, Option, Some, None, option_and_then, append_assoc, add-one, refl, sym, ap, subst, arith}
 use Rattle.std.specs.List.{slice_get, filter, filter_map, flat_map, range_with_len}
 use Rattle.std.specs.Option.{option_to_list}
-use Rattle.std.proofs.lemmas.Bool.{cases_eq, eqb-true, ltb-true, ltb-false, eq-eqb, ne_eqb, cond-true, cond-false}
+use Rattle.std.proofs.lemmas.Bool.{eqb-true, ltb-true, ltb-false, eq-eqb, ne_eqb, cond-true, cond-false}
 use Rattle.std.proofs.lemmas.List.{append-nil, take_more, take_all, take-append-le, drop-append-le, drop_all, drop_min, drop-drop, length_push, map_push, map-id}
 use Rattle.std.proofs.lemmas.List.Concat.{flat_map-append}
 use Rattle.std.proofs.lemmas.List.Elements.{filter-append, filter_map-append}
 use Rattle.std.proofs.lemmas.List.FromFn.{map-range_with_len_more}
+use Rattle.std.proofs.lemmas.Option.{slice_get-get_or}
 use Rattle.types.specs.declared.event.Entry.{Entry}
 use Rattle.show_text.specs.declared.context.Context.{Context}
 use Rattle.show_text.specs.declared.woken.Wake.{Wake}
 use Rattle.show_text.specs.declared.woken.Notified.{Notified}
 use Rattle.show_text.specs.declared.woken.Waking.{Waking}
 use Rattle.show_text.specs.declared.woken.Sleeper.{Sleeper}
-use Rattle.show_text.specs.Woken.{is_at, is_hit, left_behind, kept_of, woken_of, wake_of, most_by, woken_from, sleeper_at, asleep, notified_at, woken_before, line_at, woken_by}
+use Rattle.show_text.specs.Woken.{is_at, left_behind, kept_of, woken_of, wake_of, most_by, woken_from, sleeper_by, sleeper_at, asleep, notified_by, notified_at, woken_before, line_at, woken_by}
 
 filter_off : (p : Sleeper → Bool) (xs : List Sleeper) (s : Sleeper) → p s ≡ false → filter p (xs ++ s ∷ []) ≡ filter p xs
 filter_off p xs s e =
@@ -72,7 +73,7 @@ past_by notify addr most left before wakes gone kept s false more here_is more_i
       (sym (filter_off (is_at addr) gone s here_is)));
   kept_are = λ other. kept_more (is_at other) (cond (eqb addr other) most 0) kept gone s (is_at other s) refl
       (λ on. let none : cond (eqb addr other) most 0 ≡ 0 = cond-false (eqb addr other) most 0 (ne_eqb addr other (apart other on)) in
-        omega (arith, none)) (h.kept_are other);
+      omega (arith, none)) (h.kept_are other);
 }
   where
     apart : (other : ℕ) → is_at other s ≡ true → addr ≡ other → ⊥
@@ -87,7 +88,7 @@ past_by notify addr most left before wakes gone kept s true false here_is more_i
           (sym (ap (take most) more_there ∙ take-append-le most there (s ∷ []) le)));
       kept_are = λ other. kept_more (is_at other) (cond (eqb addr other) most 0) kept gone s (is_at other s) refl
           (λ on. subst (λ (k : ℕ). cond (eqb addr k) most 0 ≤ length (filter (is_at k) gone)) (same_addr s addr other here_is on)
-            (let all : cond (eqb addr addr) most 0 ≡ most = cond-true (eqb addr addr) most 0 (eq-eqb addr addr refl) in omega (arith, all, le)))
+          (let all : cond (eqb addr addr) most 0 ≡ most = cond-true (eqb addr addr) most 0 (eq-eqb addr addr refl) in omega (arith, all, le)))
           (h.kept_are other);
     }
 past_by notify addr most left before wakes gone kept s true true here_is more_is h =
@@ -105,7 +106,7 @@ past_by notify addr most left before wakes gone kept s true true here_is more_is
           ∙ ap (λ (ws : List Wake). before ++ ws) (sym (ap mk now ∙ map_push (wake_of notify) there s)));
       kept_are = λ other. gone_more (is_at other) (cond (eqb addr other) most 0) kept gone s (is_at other s) refl
           (λ on. subst (λ (k : ℕ). length (filter (is_at k) gone) < cond (eqb addr k) most 0) (same_addr s addr other here_is on)
-            (let all : cond (eqb addr addr) most 0 ≡ most = cond-true (eqb addr addr) most 0 (eq-eqb addr addr refl) in omega (arith, all, lt)))
+          (let all : cond (eqb addr addr) most 0 ≡ most = cond-true (eqb addr addr) most 0 (eq-eqb addr addr refl) in omega (arith, all, lt)))
           (h.kept_are other);
     }
 
@@ -184,13 +185,13 @@ line_next log contexts n notified sleeper old mid new is_notified is_sleeper lin
     (kept addr ∙ (ap (drop (most_by addr notified)) (line addr)
     ∙ ap (λ (o : Option Notified). drop (most_by addr o) (line_at log contexts n addr)) is_notified))
     ∙ (ap (λ (o : Option Sleeper). drop (most_by addr (notified_at log contexts n)) (line_at log contexts n addr)
-      ++ filter (is_at addr) (option_to_list o)) is_sleeper ∙ sym (line_more log contexts addr n))))
+    ++ filter (is_at addr) (option_to_list o)) is_sleeper ∙ sym (line_more log contexts addr n))))
 
 same_woken : (n : ℕ) (o : Option Notified) (f g : ℕ → List Sleeper) → ((addr : ℕ) → f addr ≡ g addr) → woken_from n o f ≡ woken_from n o g
 same_woken n None f g same = refl
 same_woken n (Some notified) f g same = ap (λ (xs : List Sleeper). map (wake_of n) (take notified.most xs)) (same notified.addr)
 
-all_more : {X : Type 0} (f : ℕ → List X) (n : ℕ) → flat_map f (range_with_len 0 (n + 1)) ≡ flat_map f (range_with_len 0 n) ++ f n
+pub all_more : {X : Type 0} (f : ℕ → List X) (n : ℕ) → flat_map f (range_with_len 0 (n + 1)) ≡ flat_map f (range_with_len 0 n) ++ f n
 all_more {X} f n = ap (flat_map f) (range_more n) ∙ (flat_map-append f (range_with_len 0 n) (n ∷ [])
     ∙ ap (λ (xs : List X). flat_map f (range_with_len 0 n) ++ xs) (append-nil (f n)))
 
@@ -208,3 +209,16 @@ wakes_next log contexts n notified old before mid new is_notified line was adds 
     same ∙ (adds ∙ (ap (λ (ws : List Wake). ws ++ woken_from n notified lines) was
     ∙ (ap (λ (ws : List Wake). flat_map (woken_by log contexts) (range_with_len 0 n) ++ ws) here
     ∙ sym (all_more (woken_by log contexts) n))))
+
+-- What the entry at a place is for those who sleep.
+pub notified_is : (log : List Entry) (contexts : List Context) (at : ℕ) (d : Entry) (context : Option Context) (o : Option Notified)
+    → at < length log → context ≡ slice_get contexts at → o ≡ notified_by context (get_or log at d).event → o ≡ notified_at log contexts at
+notified_is log contexts at d context o lt is e =
+    e ∙ (ap (λ (c : Option Context). notified_by c (get_or log at d).event) is
+    ∙ sym (ap (option_and_then (λ (made : Entry). notified_by (slice_get contexts at) made.event)) (slice_get-get_or log at d lt)))
+
+pub sleeper_is : (log : List Entry) (contexts : List Context) (at : ℕ) (d : Entry) (context : Option Context) (o : Option Sleeper)
+    → at < length log → context ≡ slice_get contexts at → o ≡ sleeper_by at context (get_or log at d) → o ≡ sleeper_at log contexts at
+sleeper_is log contexts at d context o lt is e =
+    e ∙ (ap (λ (c : Option Context). sleeper_by at c (get_or log at d)) is
+    ∙ sym (ap (option_and_then (sleeper_by at (slice_get contexts at))) (slice_get-get_or log at d lt)))

@@ -50,12 +50,12 @@ abbrev pub most_of : Option Context → ℕ → ℕ
 most_of (Some (Answered (Number n))) count = n
 most_of context count = count
 
-abbrev pub notified : Option Context → Event → Option Notified
-notified context (Ask (Notify addr count)) = Some (record { addr = addr; most = most_of context count })
-notified context event = None
+abbrev pub notified_by : Option Context → Event → Option Notified
+notified_by context (Ask (Notify addr count)) = Some (record { addr = addr; most = most_of context count })
+notified_by context event = None
 
 abbrev pub notified_at : List Entry → List Context → ℕ → Option Notified
-notified_at log contexts at = option_and_then (λ made. notified (slice_get contexts at) made.event) (slice_get log at)
+notified_at log contexts at = option_and_then (λ made. notified_by (slice_get contexts at) made.event) (slice_get log at)
 
 -- How many are woken at an address, if they are there.
 abbrev pub most_by : ℕ → Option Notified → ℕ

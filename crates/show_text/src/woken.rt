@@ -120,8 +120,7 @@ impl Sleepers {
             ≡ drop (most_by addr notified) (filter (is_at addr) self.old.sleepers.items)) }
     {
         if let Some(notified) = notified {
-            self.sleepers =
-                wake_first(alloc, &self.sleepers, notify, notified, &mut self.wakes)?;
+            self.sleepers = wake_first(alloc, &self.sleepers, notify, notified, &mut self.wakes)?;
         }
         Ok(())
     }
@@ -159,8 +158,8 @@ fn most_of(context: Option<Context>, count: u32) -> u32
 }
 
 /// What an event is for those who sleep, if it is a notify.
-fn notified(event: Event, context: Option<Context>) -> Option<Notified>
-    ensures { result ≡ specified.notified context event }
+fn notified_by(event: Event, context: Option<Context>) -> Option<Notified>
+    ensures { result ≡ specified.notified_by context event }
 {
     match event {
         Event::Ask(Question::Notify { addr, count }) => Some(Notified {
@@ -220,7 +219,7 @@ impl Wakes {
         for at in 0..log.len() {
             starts.push(asleep.wakes.len())?;
             let context = context_at(contexts, at);
-            asleep.wake(alloc, at, notified(log[at].event, context))?;
+            asleep.wake(alloc, at, notified_by(log[at].event, context))?;
             asleep.lay_down(sleeper_of(at, log[at], context))?;
         }
         starts.push(asleep.wakes.len())?;
