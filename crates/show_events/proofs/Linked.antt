@@ -3,18 +3,20 @@ use Rattle.std.proofs.Common.{◌≡◌, ◌∙◌, ℕ, ◌+◌, ◌<◌, ◌�
 use Rattle.std.proofs.Common.{Option, Some, None, All, append_assoc, refl, sym, ap, subst, arith}
 use Rattle.std.proofs.lemmas.Bool.{and_parts}
 use Rattle.std.proofs.lemmas.Bool.Decides.{nat_tests}
-use Rattle.std.proofs.lemmas.List.{take_more, take_all}
+use Rattle.std.proofs.lemmas.List.{take_more, map-id}
 use Rattle.std.proofs.lemmas.List.Elements.{All-nil, All-cons, All-append, filter_map-append}
 use Rattle.std.specs.List.{filter_map, range_with_len}
 use Rattle.std.specs.Option.{option_to_list}
+use Rattle.std.proofs.lemmas.List.FromFn.{map-range_with_len_more}
 use Rattle.types.specs.declared.event.Entry.{Entry}
+use Rattle.race_history.specs.declared.race.Race.{Race}
 use Rattle.show_text.specs.declared.context.Context.{Context}
 use Rattle.show_text.specs.declared.woken.Wake.{Wake}
 use Rattle.show_events.specs.declared.links.Link.{Link}
 use Rattle.show_events.specs.declared.links.LinkKind.{LinkKind}
 use Rattle.show_events.specs.declared.links.LinkKind.TheVariants as kinds
 use Rattle.show_events.specs.Forward.{IsForward}
-use Rattle.show_events.specs.Links.{link_between, in_list, wake_link, spawned_at, spawn_link}
+use Rattle.show_events.specs.Links.{link_between, in_list, wake_link, spawned_at, spawn_link, race_link}
 
 single : {X Y : Type 0} (h : X → Option Y) (x : X) (o : Option Y) → h x ≡ o → filter_map h (x ∷ []) ≡ option_to_list o
 single h x None e = simp e
@@ -38,18 +40,23 @@ pub wake_next : (long : ℕ) (answers : List (Option ℕ)) (wakes : List Wake) (
 wake_next long answers wakes k d told link a b c lt is gives before adds = added_next (wake_link long answers) wakes k d link a b c lt
     (gives ∙ ap (link_between long kinds.Wake (get_or wakes k d).notify) is) before adds
 
-range_more : (a n : ℕ) → range_with_len a (n + 1) ≡ range_with_len a n ++ (a + n) ∷ []
-range_more a zero = let e : a ≡ a + 0 = omega arith in ap (λ (k : ℕ). k ∷ []) e
-range_more a (suc n) =
-    let e : a + 1 + n ≡ a + suc n = omega arith in
-    ap (λ (ks : List ℕ). a ∷ ks) (range_more (a + 1) n ∙ ap (λ (k : ℕ). range_with_len (a + 1) n ++ k ∷ []) e)
+pub race_next : (long : ℕ) (races : List Race) (k : ℕ) (d : Race) (link : Option Link) (a b c : List Link) → k < length races
+    → link ≡ link_between long kinds.Race (get_or races k d).first (Some (get_or races k d).second)
+    → b ≡ a ++ filter_map (race_link long) (take k races) → c ≡ b ++ option_to_list link
+    → c ≡ a ++ filter_map (race_link long) (take (k + 1) races)
+race_next long races k d link a b c lt gives before adds = added_next (race_link long) races k d link a b c lt gives before adds
+
+range_more : (n : ℕ) → range_with_len 0 (n + 1) ≡ range_with_len 0 n ++ n ∷ []
+range_more n =
+    let same : ℕ → ℕ = λ k. k in
+    sym (map-id (range_with_len 0 (n + 1))) ∙ (map-range_with_len_more same 0 n n (omega arith)
+    ∙ ap (λ (ks : List ℕ). ks ++ n ∷ []) (map-id (range_with_len 0 n)))
 
 -- The same of numbers from 0 on.
 counted_next : {Y : Type 0} (h : ℕ → Option Y) (k : ℕ) (o : Option Y) (a b c : List Y) → o ≡ h k
     → b ≡ a ++ filter_map h (range_with_len 0 k) → c ≡ b ++ option_to_list o → c ≡ a ++ filter_map h (range_with_len 0 (k + 1))
 counted_next {Y} h k o a b c gives before adds =
-    let zero_k : 0 + k ≡ k = omega arith in
-    let e : range_with_len 0 (k + 1) ≡ range_with_len 0 k ++ k ∷ [] = range_more 0 k ∙ ap (λ (n : ℕ). range_with_len 0 k ++ n ∷ []) zero_k in
+    let e : range_with_len 0 (k + 1) ≡ range_with_len 0 k ++ k ∷ [] = range_more k in
     let more : filter_map h (range_with_len 0 (k + 1)) ≡ filter_map h (range_with_len 0 k) ++ option_to_list o =
     ap (filter_map h) e ∙ (filter_map-append h (range_with_len 0 k) (k ∷ []) ∙ ap (λ (ys : List Y). filter_map h (range_with_len 0 k) ++ ys) (single h k o (sym gives))) in
     adds ∙ (ap (λ (ys : List Y). ys ++ option_to_list o) before ∙ (append_assoc a (filter_map h (range_with_len 0 k)) (option_to_list o) ∙ ap (λ (ys : List Y). a ++ ys) (sym more)))
@@ -92,7 +99,12 @@ all_forward long kind from to (x ∷ xs) =
     all_forward_by long (λ y. link_between long kind (from y) (to y)) x xs (link_between long kind (from x) (to x)) refl
     (forward long kind (from x) (to x)) (all_forward long kind from to xs)
 
-pub both_forward : {X Y : Type 0} (long : ℕ) (k l : LinkKind) (from : X → ℕ) (to : X → Option ℕ) (xs : List X) (start : Y → ℕ)
-    (end : Y → Option ℕ) (ys : List Y) → All (IsForward long) (filter_map (λ x. link_between long k (from x) (to x)) xs
-    ++ filter_map (λ y. link_between long l (start y) (end y)) ys)
-both_forward long k l from to xs start end ys = All-append (IsForward long) _ _ (all_forward long k from to xs) (all_forward long l start end ys)
+pub links_forward : (log : List Entry) (contexts : List Context) (answers firsts : List (Option ℕ)) (wakes : List Wake)
+    (races : List Race) → All (IsForward (length log)) (filter_map (wake_link (length log) answers) wakes
+    ++ filter_map (spawn_link log contexts firsts) (range_with_len 0 (length log)) ++ filter_map (race_link (length log)) races)
+links_forward log contexts answers firsts wakes races =
+    let long : ℕ = length log in
+    All-append (IsForward long) _ _ (All-append (IsForward long) _ _
+    (all_forward long kinds.Wake (λ wake. wake.notify) (λ wake. in_list answers wake.wait) wakes)
+    (all_forward long kinds.Spawn (λ at. at) (λ at. spawned_at log contexts firsts at) (range_with_len 0 long)))
+    (all_forward long kinds.Race (λ race. race.first) (λ race. Some race.second) races)

@@ -7,6 +7,7 @@ use Rattle.std.specs.Io.KnownBytes.{Appends}
 use Rattle.serde_json.specs.Data.{string as string_data}
 use Rattle.serde_json.specs.Written.{compact_text}
 use Rattle.types.specs.declared.event.Entry.{Entry}
+use Rattle.race_history.specs.declared.race.Race.{Race}
 use Rattle.report_choice.specs.declared.choice.Look.{Look}
 use Rattle.show_text.specs.Rows.{RowText}
 use Rattle.show_rows.specs.declared.listing.Shown.{Shown}
@@ -41,15 +42,19 @@ abbrev pub process_json : List ℕ
 process_json =
     codes "{\"ph\":\"M\",\"name\":\"process_name\",\"ts\":0,\"pid\":1,\"tid\":0,\"args\":{\"name\":\"wathread\"}}"
 
--- An entry: these words, where it was made, its thread, its line, its number and how long it is.
-abbrev pub event_json : List ℕ → List ℕ → ℕ → ℕ → ℕ → ℕ → List ℕ
-event_json words place thread line at length = codes "{\"ph\":\"X\",\"name\":" ++ (words
-    ++ (codes ",\"cat\":\"entry\",\"ts\":" ++ (decimal at ++ (codes ",\"dur\":" ++ (decimal length
-    ++ (codes ",\"pid\":1,\"tid\":" ++ (decimal thread ++ (codes ",\"args\":{\"line\":" ++ (decimal line
-    ++ (codes ",\"place\":" ++ (place ++ codes "}}")))))))))))
+-- The front of an entry: these words, its number and how long it is;
+abbrev pub named_json : List ℕ → ℕ → ℕ → List ℕ
+named_json words at length = codes "{\"ph\":\"X\",\"name\":" ++ words ++ codes ",\"cat\":\"entry\",\"ts\":"
+    ++ decimal at ++ codes ",\"dur\":" ++ decimal length
+
+-- and its end: its thread, its line and where it was made.
+abbrev pub placed_json : ℕ → ℕ → List ℕ → List ℕ
+placed_json thread line place = codes ",\"pid\":1,\"tid\":" ++ decimal thread ++ codes ",\"args\":{\"line\":"
+    ++ decimal line ++ codes ",\"place\":" ++ place ++ codes "}}"
 
 abbrev pub entry_json : RowText → ℕ → ℕ → List ℕ
-entry_json row = event_json (quoted row.words) (quoted row.place) row.thread row.line
+entry_json row at length =
+    named_json (quoted row.words) at length ++ placed_json row.thread row.line (quoted row.place)
 
 -- The name of a thread.
 abbrev pub name_json : ℕ → List ℕ
@@ -71,6 +76,7 @@ finish_json kind id thread at = codes "{\"ph\":\"f\",\"name\":\"" ++ (kind ++ (c
 abbrev pub kind_text : LinkKind → List ℕ
 kind_text kinds.Wake = codes "wakes"
 kind_text kinds.Spawn = codes "spawns"
+kind_text kinds.Race = codes "races"
 
 -- Steps, one for each of these, in order.
 abbrev pub InTurn : {X S : Type 0} → (X → S → S → Type 0) → List X → S → S → Type 0
@@ -113,12 +119,12 @@ AddsArrow among (number, link) old new =
     Appends old new (arrow_text (in_list among link.from) (in_list among link.to) number link)
 
 -- What is written is the events of the entries at these places: the process and their threads, an event for each place,
--- in order, and the arrows between them.
-pub record AddsEvents (shown : Shown) (places : List ℕ) (old new : Option (List ℕ)) : Type 0 where
+-- in order, and the arrows between them, of these races too.
+pub record AddsEvents (shown : Shown) (races : List Race) (places : List ℕ) (old new : Option (List ℕ)) : Type 0 where
   pub story : Story
   pub of_log : IsStoryOf shown.record.now.log story
   pub links : List Link
-  pub of_story : AreLinks shown.record.now.log story links
+  pub of_story : AreLinks shown.record.now.log story races links
   pub threads : List ℕ
   pub of_places : AreThreadsOf shown.record.now.log places threads
   pub among : List (Option ℕ)
@@ -134,19 +140,19 @@ pub record AddsEvents (shown : Shown) (places : List ℕ) (old new : Option (Lis
   pub closes : Appends drawn new (line_text Close [])
 
 -- What is written is these events of the entries that are chosen, with this before and that behind them.
-pub record WritesEvents (shown : Shown) (look : Look) (front back : List ℕ) (old new : Option (List ℕ)) : Type 0 where
+pub record WritesEvents (shown : Shown) (races : List Race) (look : Look) (front back : List ℕ) (old new : Option (List ℕ)) : Type 0 where
   pub from : Option (List ℕ)
   pub begins : Appends old from front
   pub to : Option (List ℕ)
-  pub events : AddsEvents shown (chosen shown look) from to
+  pub events : AddsEvents shown races (chosen shown look) from to
   pub ends : Appends to new back
 
 -- A trace has nothing else.
-abbrev pub WritesTrace : Shown → Look → Option (List ℕ) → Option (List ℕ) → Type 0
-WritesTrace shown look =
-    WritesEvents shown look (codes "{\"displayTimeUnit\":\"ns\",\"traceEvents\":\n") (codes "}\n")
+abbrev pub WritesTrace : Shown → List Race → Look → Option (List ℕ) → Option (List ℕ) → Type 0
+WritesTrace shown races look =
+    WritesEvents shown races look (codes "{\"displayTimeUnit\":\"ns\",\"traceEvents\":\n") (codes "}\n")
 
 -- A page has an element of data that is these events.
-abbrev pub WritesPage : Shown → Look → Option (List ℕ) → Option (List ℕ) → Type 0
-WritesPage shown look old new = (front back : List ℕ) × WritesEvents shown look
+abbrev pub WritesPage : Shown → List Race → Look → Option (List ℕ) → Option (List ℕ) → Type 0
+WritesPage shown races look old new = (front back : List ℕ) × WritesEvents shown races look
     (front ++ codes "<script type=\"application/json\" id=\"events\">") (codes "</script>" ++ back) old new

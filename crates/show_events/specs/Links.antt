@@ -9,6 +9,7 @@ use Rattle.types.specs.declared.event.Question.TheVariants as questions
 use Rattle.types.specs.declared.event.Answer.TheVariants.{Number}
 use Rattle.types.specs.declared.event.Entry.{Entry}
 use Rattle.types.specs.declared.limits.TheConstants.{MOST_THREADS}
+use Rattle.race_history.specs.declared.race.Race.{Race}
 use Rattle.show_text.specs.declared.context.Context.{Context}
 use Rattle.show_text.specs.declared.context.Context.TheVariants.{Answered, Asked}
 use Rattle.show_text.specs.declared.woken.Wake.{Wake}
@@ -100,14 +101,19 @@ abbrev pub spawn_link : List Entry → List Context → List (Option ℕ) → �
 spawn_link log contexts firsts at =
     link_between (length log) kinds.Spawn at (spawned_at log contexts firsts at)
 
--- The links of a log: of its wake-ups, in the story's order, and then of its spawns, in the log's.
-pub record AreLinks (log : List Entry) (story : Story) (links : List Link) : Type 0 where
+-- From the first entry of a race to the second.
+abbrev pub race_link : ℕ → Race → Option Link
+race_link long race = link_between long kinds.Race race.first (Some race.second)
+
+-- The links of a log: of its wake-ups, in the story's order, of its spawns, in the log's, and of these races.
+pub record AreLinks (log : List Entry) (story : Story) (races : List Race) (links : List Link) : Type 0 where
   pub answers : List (Option ℕ)
   pub are_answers : AreAnswers story.contexts.items (length log) answers
   pub firsts : List (Option ℕ)
   pub are_firsts : AreFirsts log firsts
-  pub are : links ≡ filter_map (wake_link (length log) answers) story.wakes.items
+  pub are : links ≡ filter_map (wake_link (length log) answers) story.wakes.all.items
       ++ filter_map (spawn_link log story.contexts.items firsts) (range_with_len 0 (length log))
+      ++ filter_map (race_link (length log)) races
 
 -- Where questions are answered, when one more entry is looked at.
 abbrev pub noted_answer : Context → ℕ → List (Option ℕ) → List (Option ℕ)

@@ -3,10 +3,11 @@
 
 ghost use Rattle.std.specs.Prelude.{◌≡◌, string_bytes, IfOk};
 ghost use Rattle.show_events.specs.Events as specified;
-ghost use Rattle.show_events.specs.Events.{event_json, entry_json, name_json, start_json, finish_json};
+ghost use Rattle.show_events.specs.Events.{entry_json, name_json, start_json, finish_json};
 
 use serde_json::Value;
 use std::alloc::{AllocError, Global};
+use std::fmt::{self, Formatter, Write};
 
 /// A text in quotes, with an escape for what can't stand in them.
 fn quoted(alloc: Global, text: &str) -> Result<String, AllocError>
@@ -30,22 +31,50 @@ pub(crate) struct EntryEvent<'a> {
     pub(crate) place: &'a str,
 }
 
-/// An entry, with its words and its place as JSON has them.
-fn spelt(alloc: Global, event: EntryEvent) -> Result<String, AllocError>
-    ensures { IfOk result (λ s. string_bytes s ≡ event_json event.entry.words.now event.entry.place.now
-        event.entry.thread event.entry.line event.entry.at event.entry.length) }
-{
-    let EntryEvent {
-        thread,
-        at,
-        length,
-        words,
-        line,
-        place,
-    } = event;
-    format!(in alloc;
-        "{{\"ph\":\"X\",\"name\":{words},\"cat\":\"entry\",\"ts\":{at},\"dur\":{length},\"pid\":1,\"tid\":{thread},\"args\":{{\"line\":{line},\"place\":{place}}}}}"
-    )
+/// The front of an entry: its words, as JSON has them, its number in the log, and how long it is.
+#[derive(Clone, Copy)]
+struct Named<'a> {
+    words: &'a str,
+    at: u64,
+    length: u64,
+}
+
+impl fmt::Display for Named<'_> {
+    ghost use Rattle.std.specs.Prelude.{Some};
+    ghost use Rattle.show_events.specs.Events.{named_json};
+
+    ghost output = { λ n. Some (named_json n.words.now n.at n.length) };
+
+    fn fmt<W: Write>(&self, f: &mut Formatter<W>) -> fmt::Result {
+        let (words, at, length) = (self.words, self.at, self.length);
+        write!(
+            f,
+            "{{\"ph\":\"X\",\"name\":{words},\"cat\":\"entry\",\"ts\":{at},\"dur\":{length}"
+        )
+    }
+}
+
+/// The end of an entry: its thread, its line of the record, and its place, as JSON has it.
+#[derive(Clone, Copy)]
+struct Placed<'a> {
+    thread: u32,
+    line: u64,
+    place: &'a str,
+}
+
+impl fmt::Display for Placed<'_> {
+    ghost use Rattle.std.specs.Prelude.{Some};
+    ghost use Rattle.show_events.specs.Events.{placed_json};
+
+    ghost output = { λ p. Some (placed_json p.thread p.line p.place.now) };
+
+    fn fmt<W: Write>(&self, f: &mut Formatter<W>) -> fmt::Result {
+        let (thread, line, place) = (self.thread, self.line, self.place);
+        write!(
+            f,
+            ",\"pid\":1,\"tid\":{thread},\"args\":{{\"line\":{line},\"place\":{place}}}}}"
+        )
+    }
 }
 
 /// An entry with its words, from its number on and so many long.
@@ -59,14 +88,17 @@ pub(crate) fn entry_event(alloc: Global, event: EntryEvent) -> Result<String, Al
 {
     let words = quoted(alloc, event.words)?;
     let place = quoted(alloc, event.place)?;
-    spelt(
-        alloc,
-        EntryEvent {
-            words: words.as_str(),
-            place: place.as_str(),
-            ..event
-        },
-    )
+    let named = Named {
+        words: words.as_str(),
+        at: event.at,
+        length: event.length,
+    };
+    let placed = Placed {
+        thread: event.thread,
+        line: event.line,
+        place: place.as_str(),
+    };
+    format!(in alloc; "{named}{placed}")
 }
 
 /// The name of a thread.

@@ -1,4 +1,4 @@
-//! What leads from one entry to another: wake-ups, spawns, and sleep.
+//! What leads from one entry to another: wake-ups, spawns, races, and sleep.
 
 ghost use Rattle.std.specs.Prelude.{◌≡◌, ◌+◌, ◌<◌, ◌++◌, None, length, option_and_then, All, IfOk, OnOk};
 ghost use Rattle.std.specs.List.{slice_get, filter_map, range_with_len};
@@ -8,9 +8,11 @@ ghost use Rattle.show_rows.specs.Listing.{IsStoryOf};
 ghost use Rattle.types.specs.declared.limits.TheConstants.{MOST_THREADS};
 ghost use Rattle.show_events.specs.Forward.{IsForward};
 ghost use Rattle.show_events.specs.Links as specified;
-ghost use Rattle.show_events.specs.Links.{AreAnswers, AreFirsts, AreLinks, Lasts, is_wait_over, wake_link, spawn_link};
+ghost use Rattle.show_events.specs.Links.{AreAnswers, AreFirsts, AreLinks, Lasts, is_wait_over};
+ghost use Rattle.show_events.specs.Links.{race_link, spawn_link, wake_link};
 ghost use Rattle.show_events.specs.Links.{noted_answer, noted_first, is_spawn_at, number_at};
 
+use race_history::Race;
 use show_rows::Story;
 use show_text::{Context, Wake};
 use std::alloc::{AllocError, Global};
@@ -23,6 +25,8 @@ pub enum LinkKind {
     Wake,
     /// From a spawn to the first entry of its thread.
     Spawn,
+    /// From the first entry of a race to the second.
+    Race,
 }
 
 /// From one entry to a later one, by their places in the log.
@@ -42,20 +46,26 @@ pub struct Links {
 }
 
 impl Links {
-    /// The links of a log, each to a later entry: of the story's wake-ups, and then of the spawns.
+    /// The links of a log, each to a later entry: of the story's wake-ups, then of the spawns, and then of these races.
     ///
     /// # Errors
     /// Where memory is refused.
-    pub fn new(alloc: Global, log: &[Entry], story: &Story) -> Result<Links, AllocError>
+    pub fn new(
+        alloc: Global,
+        log: &[Entry],
+        story: &Story,
+        races: &[Race],
+    ) -> Result<Links, AllocError>
         ensures forward { IfOk result (λ l. All (IsForward (length log.now)) l.links.items) }
         ensures answers { IfOk result (λ l. AreAnswers story.now.contexts.items (length log.now) l.answers.items) }
-        ensures links { IfOk result (λ l. AreLinks log.now story.now l.links.items) }
+        ensures links { IfOk result (λ l. AreLinks log.now story.now races.now l.links.items) }
     {
         let answers = answers_of(alloc, log.len(), &story.contexts)?;
         let firsts = first_entries(alloc, log)?;
         let mut links = Vec::new(alloc);
-        add_wakes(&mut links, log.len(), &answers, &story.wakes)?;
+        add_wakes(&mut links, log.len(), &answers, &story.wakes.all)?;
         add_spawns(&mut links, log, &story.contexts, &firsts)?;
+        add_races(&mut links, log.len(), races)?;
         Ok(Links { links, answers })
     }
 
@@ -138,6 +148,17 @@ fn add_spawns(
     for at in 0..log.len() {
         let first = spawned_at(log, contexts, firsts, at);
         let link = link_between(log.len(), LinkKind::Spawn, at, first);
+        add_link(links, link)?;
+    }
+    Ok(())
+}
+
+/// Adds a link for each race.
+fn add_races(links: &mut Vec<Link>, long: usize, races: &[Race]) -> Result<(), AllocError>
+    ensures { OnOk result (links.new.items ≡ links.old.items ++ filter_map (race_link long) races.now) }
+{
+    for k in 0..races.len() {
+        let link = link_between(long, LinkKind::Race, races[k].first, Some(races[k].second));
         add_link(links, link)?;
     }
     Ok(())

@@ -12,6 +12,7 @@ ghost use Rattle.show_events.specs.Lines.{AddsLine, AddsLines};
 use crate::event::{EntryEvent, entry_event, finish_event, name_event, start_event};
 use crate::line::{Front, write_line};
 use crate::links::{Link, LinkKind, Links};
+use race_history::Race;
 use report_choice::Look;
 use show_rows::{Shown, Story, chosen_entries};
 use show_text::Unwritten;
@@ -26,18 +27,20 @@ const PROCESS: &str =
 /// Writes the entries that are chosen as a text in the Trace Event Format.
 ///
 /// Each thread is a track, and each entry an event from its number on; a wait goes up to its answer, every other entry
-/// to the next number. Wake-ups and spawns between entries that are chosen are flows.
+/// to the next number. Wake-ups, spawns and these races between entries that are chosen
+/// are flows.
 pub fn write_trace<W: Write>(
     alloc: Global,
     shown: Shown,
     look: &Look,
+    races: &[Race],
     out: &mut W,
 ) -> Result<(), Unwritten>
-    ensures { OnOk result (WritesTrace shown.entry look.now (W.contents out.old) (W.contents out.new)) }
+    ensures { OnOk result (WritesTrace shown.entry races.now look.now (W.contents out.old) (W.contents out.new)) }
 {
     let chosen = chosen_entries(alloc, shown, look)?;
     out.write_all(b"{\"displayTimeUnit\":\"ns\",\"traceEvents\":\n")?;
-    write_events(alloc, shown, &chosen, out)?;
+    write_events(alloc, shown, races, &chosen, out)?;
     out.write_all(b"}\n")?;
     out.flush()?;
     Ok(())
@@ -51,16 +54,17 @@ pub fn write_trace<W: Write>(
 pub fn write_events<W: Write>(
     alloc: Global,
     shown: Shown,
+    races: &[Race],
     chosen: &[usize],
     out: &mut W,
 ) -> Result<(), Unwritten>
     requires { All (λ at. at < length shown.record.now.log) chosen.now }
     ensures lines { OnOk result ((n : ℕ) × (length chosen.now ≤ n) × AddsLines n (W.contents out.old) (W.contents out.new)) }
-    ensures which { OnOk result (AddsEvents shown.entry chosen.now (W.contents out.old) (W.contents out.new)) }
+    ensures which { OnOk result (AddsEvents shown.entry races.now chosen.now (W.contents out.old) (W.contents out.new)) }
 {
     let log = shown.record.log.as_slice();
     let story = Story::new(alloc, log)?;
-    let links = Links::new(alloc, log, &story)?;
+    let links = Links::new(alloc, log, &story, races)?;
     let threads = threads_of(alloc, log, chosen)?;
     let among = threads_among(alloc, log, chosen)?;
     write_line(alloc, out, Front::Open, PROCESS)?;
@@ -218,6 +222,7 @@ fn kind_text(kind: LinkKind) -> &'static str
     match kind {
         LinkKind::Wake => "wakes",
         LinkKind::Spawn => "spawns",
+        LinkKind::Race => "races",
     }
 }
 
