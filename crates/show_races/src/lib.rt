@@ -13,4 +13,4 @@ mod writing;
 
 pub use found::{Races, races_shown};
 pub use kinds::kinds_of;
-pub use writing::write_races;
+pub use writing::{entry_text, write_races};
