@@ -1,4 +1,2 @@
 pub mod Moments
 pub mod Opened
-pub mod Scenes
-pub mod Texts

@@ -8,7 +8,6 @@
 mod moment;
 mod scene;
 mod standing;
-mod texts;
 
 pub use moment::{Bytes, Moment};
 pub use scene::write_moment;
