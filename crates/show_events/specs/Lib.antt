@@ -1,5 +1,3 @@
-pub mod Events
 pub mod Forward
 pub mod Lines
-pub mod Links
 pub mod Page
