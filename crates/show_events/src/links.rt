@@ -42,7 +42,7 @@ impl Links {
         let answers = answers_of(alloc, log, &story.contexts)?;
         let firsts = first_entries(alloc, log)?;
         let mut links = Vec::new(alloc);
-        for wake in &story.wakes {
+        for wake in &story.wakes.all {
             if let Some(Some(told)) = answers.get(wake.wait) {
                 add_link(&mut links, log, LinkKind::Wake, wake.notify, *told)?;
             }

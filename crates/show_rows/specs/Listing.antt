@@ -19,6 +19,7 @@ use Rattle.show_text.specs.declared.context.Context.{Context}
 use Rattle.show_text.specs.declared.context.Context.TheVariants.{Alone, Asked}
 use Rattle.show_text.specs.declared.words.Words.{Words}
 use Rattle.show_text.specs.Contexts.{AreContexts}
+use Rattle.show_text.specs.Woken.{AreWakes, woken_in}
 use Rattle.show_text.specs.Words.{words_text}
 use Rattle.show_text.specs.Rows.{RowText, AddsRow}
 use Rattle.show_rows.specs.declared.rows.Row.{Row}
@@ -78,6 +79,7 @@ pub record AreWordsOf (shown : Shown) (story : Story) (at : ℕ) (made : Entry) 
   pub context : w.context ≡ context_at story at
   pub atomic : w.is_atomic ≡ is_atomic_row shown (row_at shown at)
   pub before : w.before ≡ option_and_then (λ row. row.before) (row_at shown at)
+  pub woken : w.woken.now ≡ woken_in story.wakes at
   pub outcome : w.outcome ≡ outcome_of shown made
 
 -- The text of a place, or none.
@@ -107,9 +109,10 @@ AddsEntries shown story [] old new = Keeps old new
 AddsEntries shown story (at ∷ places) old new = (middle : Option (List ℕ))
     × AddsEntry shown story at old middle × AddsEntries shown story places middle new
 
--- The story is that of a log.
-abbrev pub IsStoryOf : List Entry → Story → Type 0
-IsStoryOf log story = AreContexts log MOST_THREADS (length log) story.contexts.items
+-- The story is that of a log: which answer is that to which question, and whom each notify woke.
+pub record IsStoryOf (log : List Entry) (story : Story) : Type 0 where
+  pub contexts : AreContexts log MOST_THREADS (length log) story.contexts.items
+  pub wakes : AreWakes log story.contexts.items story.wakes
 
 -- A row for each entry that is chosen, by what the log says.
 abbrev pub WritesRows : Shown → Look → Option (List ℕ) → Option (List ℕ) → Type 0

@@ -2,7 +2,7 @@
 //! replay as it goes along the record's log.
 //!
 //! Proved: a row is written for each entry that is chosen, in order, with its line, its thread, its words and its place;
-//! the row of an event is where the thread stands that wants it.
+//! the row of an event is where the thread stands that wants it, with the number that it finds in memory.
 #![tactic(auto)]
 
 mod code;

@@ -9,7 +9,7 @@ use crate::code::CodeMap;
 use interp::CodePlace;
 use replay_text::RecordParts;
 use report_choice::{Color, Look};
-use show_text::{Context, Sheet, Unwritten, Wake, Words, all_wakes, contexts};
+use show_text::{Context, Sheet, Unwritten, Wakes, Words, contexts};
 use std::alloc::{AllocError, Global};
 use std::io::Write;
 use types::{Entry, Event, MOST_THREADS, Outcome, Question};
@@ -26,8 +26,8 @@ pub struct Shown<'r, 'w, 'c, 'm, 'n> {
 #[derive(Drop)]
 pub struct Story {
     pub contexts: Vec<Context>,
-    /// In the order of the notifies.
-    pub wakes: Vec<Wake>,
+    /// Whom the notifies woke.
+    pub wakes: Wakes,
 }
 
 impl Story {
@@ -36,7 +36,7 @@ impl Story {
         ensures { IfOk result (IsStoryOf log.now) }
     {
         let contexts = contexts(alloc, log, MOST_THREADS)?;
-        let wakes = all_wakes(alloc, log, &contexts)?;
+        let wakes = Wakes::new(alloc, log, &contexts)?;
         Ok(Story { contexts, wakes })
     }
 
@@ -48,13 +48,6 @@ impl Story {
             Some(context) => *context,
             None => Context::Alone,
         }
-    }
-
-    /// Whom the notify at a place woke.
-    fn woken_at(&self, at: usize) -> &[Wake] {
-        let first = self.wakes.partition_point(|wake| wake.notify < at);
-        let last = self.wakes.partition_point(|wake| wake.notify <= at);
-        self.wakes.get(first..last).unwrap_or(&[])
     }
 }
 
@@ -90,7 +83,7 @@ impl Shown<'_, '_, '_, '_, '_> {
             context: story.context_at(at),
             is_atomic: self.is_atomic(row),
             before: before_of(row),
-            woken: story.woken_at(at),
+            woken: story.wakes.by(at),
             outcome: self.outcome_of(entry),
         }
     }

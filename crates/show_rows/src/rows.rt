@@ -1,7 +1,9 @@
 //! A row for each entry of a log.
 
-ghost use Rattle.std.specs.Prelude.{◌≡◌, length, replicate, None, IfOk};
+ghost use Rattle.std.specs.Prelude.{◌≡◌, ◌+◌, ◌≤◌, length, replicate, take, drop, None, IfOk, nat_le};
 ghost use Rattle.std.specs.List.{slice_get};
+ghost use Rattle.shared_memory.specs.Numbers.{le_number};
+ghost use Rattle.show_rows.specs.Rows as found;
 ghost use Rattle.show_rows.specs.Rows.{StandsThere, SetsRow, SeesThread, SeesLast, SeesRound, SeesWanted};
 
 use interp::{CodePlace, Thread};
@@ -39,9 +41,10 @@ impl<'a> Rows<'a> {
     }
 }
 
-/// Where a thread stands.
+/// Where a thread stands, and what it finds.
 fn row_of(thread: &Thread, before: Option<u64>) -> Row
-    ensures { StandsThere thread.now result }
+    ensures stands { StandsThere thread.now result }
+    ensures before { result.before ≡ before }
 {
     Row {
         place: thread.place(),
@@ -50,7 +53,9 @@ fn row_of(thread: &Thread, before: Option<u64>) -> Row
 }
 
 /// The bytes that an event touches: the first one's address, and how many.
-fn touched(event: Event) -> Option<(u64, u8)> {
+fn touched(event: Event) -> Option<(u64, u8)>
+    ensures { result ≡ found.touched event }
+{
     match event {
         Event::Load { addr, width, .. }
         | Event::Store { addr, width, .. }
@@ -60,16 +65,44 @@ fn touched(event: Event) -> Option<(u64, u8)> {
     }
 }
 
-/// The number in the bytes that an event touches, if they lie within the memory.
-fn number_before(bytes: &[u8], event: Event) -> Option<u64> {
-    let (addr, width) = touched(event)?;
-    let start = usize::try_from(addr).ok()?;
-    let end = start.checked_add(usize::from(width))?;
-    let mut number = 0u64;
-    for b in bytes.get(start..end)?.iter().rev() {
-        number = number.wrapping_shl(8) | u64::from(*b);
+/// Whether so many bytes lie within the memory. Their end may pass the last address.
+fn is_within(bytes: &[u8], addr: u64, width: u8) -> bool
+    ensures { result ≡ nat_le (addr + width) (length bytes.now) }
+{
+    let length = bytes.len() as u64;
+    addr <= length && u64::from(width) <= length - addr
+}
+
+/// The number in so many bytes, from the top down.
+fn number_at(bytes: &[u8], at: usize, width: usize) -> u64
+    requires inside { at + width ≤ length bytes.now }
+    requires narrow { width ≤ 8 }
+    ensures { result ≡ le_number (take width (drop at bytes.now)) }
+{
+    let mut number = 0;
+    for i in (0..width).rev() {
+        number = number * 256 + u64::from(bytes[at + i]);
     }
-    Some(number)
+    number
+}
+
+/// The number in so many bytes, if they lie within the memory.
+fn number_in(bytes: &[u8], addr: u64, width: u8) -> Option<u64>
+    ensures { result ≡ found.number_in bytes.now (addr, width) }
+{
+    if width <= 8 && is_within(bytes, addr, width) {
+        Some(number_at(bytes, addr as usize, usize::from(width)))
+    } else {
+        None
+    }
+}
+
+/// The number in the bytes that an event touches, if they lie within the memory.
+fn number_before(bytes: &[u8], event: Event) -> Option<u64>
+    ensures { result ≡ found.number_before bytes.now event }
+{
+    let (addr, width) = touched(event)?;
+    number_in(bytes, addr, width)
 }
 
 /// Gives the entry of this number a row: where its thread stands.
@@ -85,9 +118,9 @@ fn see(rows: &mut [Option<Row>], log: &[Entry], at: usize, threads: &[Thread])
     set_row(rows, at, thread, None);
 }
 
-/// Sets the row of this number, if there is one, to where the thread stands.
+/// Sets the row of this number, if there is one, to where the thread stands and what it finds.
 fn set_row(rows: &mut [Option<Row>], at: usize, thread: &Thread, before: Option<u64>)
-    ensures { SetsRow thread.now at rows.old rows.new }
+    ensures { SetsRow thread.now before at rows.old rows.new }
 {
     let row = row_of(thread, before);
     if at < rows.len() {
@@ -122,7 +155,7 @@ impl<'a, 'm> Watch<Thread<'m>> for Rows<'a> {
     }
 
     fn event(&mut self, entry: &Entry, thread: &Thread<'m>, memory: &OneMemory)
-        ensures { SeesWanted self.old thread.now self.new }
+        ensures { SeesWanted self.old entry.now.event thread.now memory.now.bytes self.new }
     {
         let before = number_before(memory.bytes(), entry.event);
         set_row(&mut self.rows, self.came, thread, before);

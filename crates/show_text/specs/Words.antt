@@ -1,5 +1,5 @@
 -- An entry in words.
-use Rattle.std.specs.Prelude.{ℕ, ℤ, pos, negsuc, ◌*◌, ◌==◌, Bool, true, false, nat_lt, if◌then◌else◌}
+use Rattle.std.specs.Prelude.{ℕ, ℤ, pos, negsuc, ◌*◌, ◌==◌, Bool, false, nat_lt, if◌then◌else◌}
 use Rattle.std.specs.Prelude.{List, [], ◌++◌, codes, flat_map, Option, Some, None}
 use Rattle.std.specs.Fmt.{decimal}
 use Rattle.types.specs.declared.event.RmwOp.{RmwOp}
@@ -15,7 +15,7 @@ use Rattle.types.specs.declared.event.Reply.TheVariants as replies
 use Rattle.types.specs.declared.outcome.Outcome.{Outcome}
 use Rattle.types.specs.Outcomes.{outcome_text}
 use Rattle.show_text.specs.declared.context.Context.{Context}
-use Rattle.show_text.specs.declared.context.Context.TheVariants.{Alone, Answered, Asked}
+use Rattle.show_text.specs.declared.context.Context.TheVariants.{Answered, Asked}
 use Rattle.show_text.specs.declared.woken.Wake.{Wake}
 use Rattle.show_text.specs.declared.words.Words.{Words}
 

@@ -1,8 +1,9 @@
 //! Entries of a record in words: what each says, and how a row is laid out.
 //!
 //! Proved: `Words` are the words of an entry, and a row has its line, its thread, its words and its place, in whatever
-//! columns and colors; the answer to a question, and the question of an answer, are those of the log (`contexts`); a text
-//! without its control characters is what `Plain` writes.
+//! columns and colors; the answer to a question, and the question of an answer, are those of the log (`contexts`); whom a
+//! notify woke are the first ones of those who sleep at its address, as many as it is told (`Wakes`); a text without its
+//! control characters is what `Plain` writes.
 #![tactic(auto)]
 
 mod asks;
@@ -15,5 +16,5 @@ mod words;
 pub use context::{Context, contexts};
 pub use plain::Plain;
 pub use sheet::{Sheet, Unwritten};
-pub use woken::{Wake, all_wakes};
+pub use woken::{Wake, Wakes};
 pub use words::Words;

@@ -1,6 +1,5 @@
-use Rattle.std.proofs.Common.{◌≡◌, ◌∙◌, ◌+◌, sym, ap, subst, refl, arith, ℕ, List, Some, None, Option, length}
-use Rattle.types.specs.declared.event.Event.{Event}
-use Rattle.show_text.specs.Contexts.{AreOpen, IsCall}
+use Rattle.std.proofs.Common.{◌+◌, sym, subst, refl, Some, None, length}
+use Rattle.show_text.specs.Contexts.{AreOpen}
 use Rattle.show_text.proofs.Opened.{IsTold, contexts_keep, opens_keep, opens_set, open_after, closed, no_answer, no_call, no_told}
 use Rattle.show_text.proofs.context.note.Goals as goal
 

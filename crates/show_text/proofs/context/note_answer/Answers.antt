@@ -1,4 +1,4 @@
-use Rattle.std.proofs.Common.{◌∙◌, sym, ap, arith, length}
+use Rattle.std.proofs.Common.{◌∙◌, sym, arith, length}
 use Rattle.std.proofs.lemmas.List.{length-set}
 use Rattle.show_text.specs.declared.context.Context.TheVariants.{Answered}
 use Rattle.show_text.proofs.Opened.{answered_none, answered_nothing, answered_some, room, room_before}
