@@ -17,8 +17,10 @@ fn object_piece(alloc: Global, outcome: Outcome) -> Result<Option<String>, Alloc
 fn has_ended_so(alloc: Global, printed: &str, outcome: Outcome) -> Result<bool, AllocError> {
     let line = format!(in alloc; ": {outcome}")?;
     let piece = object_piece(alloc, outcome)?;
-    Ok(printed.contains(line.as_str())
-        || piece.is_some_and(|piece| printed.contains(piece.as_str())))
+    Ok(
+        printed.contains(line.as_str())
+            || piece.is_some_and(|piece| printed.contains(piece.as_str())),
+    )
 }
 
 /// Adds what to do about the ends of threads in what a run printed.
