@@ -93,7 +93,7 @@ fn of_record(alloc: Global, bytes: &[u8], saved: &[u8]) -> Option<Refused<'stati
 
 /// Why a job was refused, by its status; `None` where it wasn't, or memory is refused.
 pub(crate) fn refused_of(alloc: Global, job: &Job, done: Done) -> Option<Refused<'static>>
-    ensures { IfSome result (λ refused. status_of_refused refused ≡ done.status) }
+    ensures { IfSome result (λ refused. status_of_refused refused ≡ done.entry.status) }
 {
     match done.status {
         2 => of_module(alloc, done.module),

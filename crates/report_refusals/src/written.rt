@@ -26,7 +26,7 @@ fn write_refused<W: Write>(
     out: &mut W,
 ) -> Result<bool, Unwritten>
     ensures { IfOk result (λ wrote. wrote ≡ true
-        → WritesRefusal done.status (W.contents out.old) (W.contents out.new)) }
+        → WritesRefusal done.entry.status (W.contents out.old) (W.contents out.new)) }
 {
     let Some(refused) = refused_of(alloc, job, done) else {
         return Ok(false);
