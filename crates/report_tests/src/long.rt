@@ -30,7 +30,14 @@ fn replays_a_million_entries(rt: HostRuntime) -> Result<(), Fail> {
     let module = ENDLESS.bytes(rt.alloc())?;
     let record = long_record(rt.alloc(), "wathread-record 1\n")?;
     let (mut out, mut err) = (Vec::new(rt.alloc()), Vec::new(rt.alloc()));
-    let status = replay_saved(rt.alloc(), &module, &record, EndLook::lines(4), &mut out, &mut err);
+    let status = replay_saved(
+        rt.alloc(),
+        &module,
+        &record,
+        EndLook::lines(4),
+        &mut out,
+        &mut err,
+    );
     assert!(rt; out.as_slice() == FULL && err.is_empty() && status == 1);
     Ok(())
 }

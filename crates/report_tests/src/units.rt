@@ -86,7 +86,14 @@ fn counted<R: Threads + Wait + Sync>(
 /// Whether the record is replayed to the same lines.
 fn is_replayed(alloc: Global, count: &Count, record: &[u8]) -> bool {
     let (mut out, mut err) = (Vec::new(alloc), Vec::new(alloc));
-    let status = replay_saved(alloc, COUNTDOWN, record, EndLook::lines(0), &mut out, &mut err);
+    let status = replay_saved(
+        alloc,
+        COUNTDOWN,
+        record,
+        EndLook::lines(0),
+        &mut out,
+        &mut err,
+    );
     out.as_slice() == count.out && err.is_empty() && status == count.status
 }
 
