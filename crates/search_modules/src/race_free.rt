@@ -9,7 +9,7 @@ ghost use Rattle.search_modules.specs.Races.{CanRaceSo, NeverRaces, race_free_cl
 
 use crate::calling::searched;
 use search_endings::Ending;
-use search_race_free::{RaceFree, search_race_free};
+use search_race_free::{RaceFree, all_choices, search_race_free};
 use search_reach::Follows;
 use spawn_host::Request;
 use std::alloc::{AllocError, Global};
@@ -51,4 +51,20 @@ pub fn race_free_endings<F: Follows>(
 {
     let searched = searched(alloc, request, dump)?;
     search_race_free(alloc, &searched, most_states, MOST_PLAIN, follower)
+}
+
+/// The choices of each turn along choices that `race_free_endings` gives with an ending, or with what never ends: which
+/// of the threads that can go on makes the next one, as `all_endings` gives them. No clause says where they lead: they
+/// are a hint, to be judged by whoever follows them.
+///
+/// # Errors
+/// Where memory is refused.
+pub fn turn_choices(
+    alloc: Global,
+    request: &Request,
+    dump: usize,
+    choices: &[usize],
+) -> Result<Vec<usize>, AllocError> {
+    let searched = searched(alloc, request, dump)?;
+    all_choices(alloc, &searched, MOST_PLAIN, choices)
 }
