@@ -14,18 +14,18 @@ use Rattle.report.specs.Jobs.{Performs}
 pub is_plain : (job : Job)
     → ((file saved : Bor (List ℕ)) (names : Option (Bor (List ℕ))) (look : Look) (view : View) → job ≡ Show file saved names look view → ⊥)
     → ((asked : RacesJob) → job ≡ jobs.Races asked → ⊥) → ((s : Search) → job ≡ jobs.Search s → ⊥) → IsPlain job
-is_plain (Check file) no_show no_races no_search = tt
+is_plain (Check file form) no_show no_races no_search = tt
 is_plain (Run run) no_show no_races no_search = tt
-is_plain (Replay file record_path dump) no_show no_races no_search = tt
+is_plain (Replay file record_path look) no_show no_races no_search = tt
 is_plain (Show file record_path names look at) no_show no_races no_search = no_show file record_path names look at refl
 is_plain (jobs.Races asked) no_show no_races no_search = no_races asked refl
 is_plain (jobs.Search s) no_show no_races no_search = no_search s refl
 
 pub performs : (job : Job) (bytes saved : List ℕ) (out save : WriterChange) (status : ℕ) → IsPlain job → PerformsPlain job bytes saved out save status
     → Performs job bytes saved out save status
-performs (Check file) bytes saved out save status plain done = done
+performs (Check file form) bytes saved out save status plain done = done
 performs (Run run) bytes saved out save status plain done = done
-performs (Replay file record_path dump) bytes saved out save status plain done = done
+performs (Replay file record_path look) bytes saved out save status plain done = done
 performs (Show file record_path names look at) bytes saved out save status plain done = absurd plain
 performs (jobs.Races asked) bytes saved out save status plain done = absurd plain
 performs (jobs.Search s) bytes saved out save status plain done = absurd plain

@@ -16,6 +16,7 @@
 mod all;
 mod complete;
 mod job;
+mod objects;
 mod racing;
 mod searching;
 mod showing;

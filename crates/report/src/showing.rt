@@ -11,6 +11,7 @@ ghost use Rattle.report_jobs.specs.Silence.{IsRefusal, Stays};
 ghost use Rattle.report.specs.Raced.{AreRowsOf, IsSeen};
 ghost use Rattle.report.specs.Silent.{IfRefusedRecord, IsNoRefusal};
 
+use crate::objects::write_entries;
 use replay::{ReplayFault, replay_watched};
 use replay_text::{Record, RecordFault, RecordParts, read_record};
 use report_command::{At, Look, View};
@@ -186,7 +187,7 @@ fn watched(
     }
 }
 
-/// Writes the rows, or the page or trace that has them.
+/// Writes the rows, or the object, the page or the trace that has them.
 fn print_rows<W: Write>(
     alloc: Global,
     seen: &SeenRun,
@@ -203,6 +204,7 @@ fn print_rows<W: Write>(
     match view {
         View::Page(_) => write_page(alloc, shown, look, out),
         View::Trace(_) => write_trace(alloc, shown, look, out),
+        View::Object => write_entries(alloc, shown, look, out),
         View::Rows | View::Moment(_) => write_rows(alloc, shown, look, out),
     }
 }

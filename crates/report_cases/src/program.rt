@@ -2,8 +2,9 @@
 ghost use Rattle.report_command.specs.Jobs.{IsInRange};
 
 use report::{Job, Streams, perform, show_saved};
-use report_command::{Order, Usage, asked};
+use report_command::{Form, Order, Usage, asked};
 use report_reasons::{Done, explain_done};
+use report_refusals::write_no_end;
 use search_finds::{Hears, Size};
 use search_reach::{Follows, Wish};
 use std::alloc::{AllocError, Global};
@@ -133,6 +134,22 @@ fn explain(alloc: Global, job: &Job, input: Input, gave: &mut Gave) -> Result<()
     Ok(())
 }
 
+/// Prints the object of a job that was refused or failed, and printed nothing.
+fn print_no_end(alloc: Global, job: &Job, input: Input, gave: &mut Gave) {
+    if !gave.streams.out.is_empty() {
+        return;
+    }
+    let done = Done {
+        module: input.module,
+        saved: input.saved,
+        printed: b"",
+        status: gave.status,
+    };
+    if let Ok(told) = str::from_utf8(&gave.streams.err) {
+        let _ = write_no_end(alloc, job, done, told, &mut gave.streams.out);
+    }
+}
+
 /// Help goes to standard output, and what is wrong about the words to standard error.
 fn tell_usage(usage: &Usage, gave: &mut Gave) {
     gave.status = match usage {
@@ -165,6 +182,9 @@ pub(crate) fn program<R: Threads + Wait + Sync>(
             },
         ) => {
             do_job(rt, alloc, &job, input, gave);
+            if job.form() == Form::Json {
+                print_no_end(alloc, &job, input, gave);
+            }
             if is_explained {
                 explain(alloc, &job, input, gave)?;
             }

@@ -66,7 +66,7 @@ fn words_of<'a>(alloc: Global, trial: Trial<'a>, over: Over) -> Result<Vec<&'a s
     Ok(words)
 }
 
-/// The words of a replay that shows as many bytes as the words of a run say.
+/// The words of a replay that shows as many bytes as the words of a run say, in the same form.
 fn replay_words<'a>(alloc: Global, words: &'a str) -> Result<Vec<&'a str>, AllocError> {
     let mut found = Vec::new(alloc);
     for word in "wathread replay a.wasm a.record".split_whitespace() {
@@ -74,7 +74,7 @@ fn replay_words<'a>(alloc: Global, words: &'a str) -> Result<Vec<&'a str>, Alloc
     }
     let mut is_next = false;
     for word in words.split_whitespace() {
-        if is_next || word == "--dump" {
+        if is_next || ["--dump", "--units", "--json"].contains(&word) {
             found.push(word)?;
         }
         is_next = word == "--dump";

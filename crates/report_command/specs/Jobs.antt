@@ -4,14 +4,16 @@ use Rattle.types.specs.declared.limits.TheConstants.{MOST_LIMIT, MOST_FUEL}
 use Rattle.report_command.specs.declared.limits.TheConstants.{MOST_DUMP, MOST_RACES, NARROWEST, WIDEST}
 use Rattle.report_command.specs.declared.command_line.Job.{Job}
 use Rattle.report_command.specs.declared.command_line.Job.TheVariants.{Check, Run, Replay, Show, Races, Search}
+use Rattle.report_command.specs.declared.form.Form.{Form}
+use Rattle.report_command.specs.declared.form.Form.TheVariants.{Lines}
 use Rattle.report_command.specs.Searches.{IsSearchInRange, SearchKeepsItsModule}
-use Rattle.report_command.specs.Views.{IsViewInRange, path_of}
+use Rattle.report_command.specs.Views.{IsViewInRange, form_of, path_of}
 
 -- The numbers of a job are in their ranges.
 abbrev pub IsInRange : Job → Type 0
-IsInRange (Check file) = Unit {0}
-IsInRange (Run job) = (job.call.fuel ≤ MOST_FUEL) × (1 ≤ job.limit) × (job.limit ≤ MOST_LIMIT) × (job.dump ≤ MOST_DUMP)
-IsInRange (Replay file saved dump) = dump ≤ MOST_DUMP
+IsInRange (Check file form) = Unit {0}
+IsInRange (Run job) = (job.call.fuel ≤ MOST_FUEL) × (1 ≤ job.limit) × (job.limit ≤ MOST_LIMIT) × (job.look.dump ≤ MOST_DUMP)
+IsInRange (Replay file saved look) = look.dump ≤ MOST_DUMP
 IsInRange (Show file saved names look view) = (NARROWEST ≤ look.width) × (look.width ≤ WIDEST) × IsViewInRange view
 IsInRange (Races job) = (1 ≤ job.most) × (job.most ≤ MOST_RACES)
 IsInRange (Search s) = IsSearchInRange s
@@ -19,10 +21,19 @@ IsInRange (Search s) = IsSearchInRange s
 -- A job keeps no record at the path of its module, and none of a memory of words; and makes no file at the path of one
 -- that it reads.
 abbrev pub KeepsItsModule : Job → Type 0
-KeepsItsModule (Check file) = Unit {0}
+KeepsItsModule (Check file form) = Unit {0}
 KeepsItsModule (Run job) = IfSome job.save (λ path. (path.now ≢ job.file.now) × (job.on_words ≡ false))
-KeepsItsModule (Replay file saved dump) = Unit {0}
+KeepsItsModule (Replay file saved look) = Unit {0}
 KeepsItsModule (Show file saved names look view) = IfSome (path_of view) (λ path. (path.now ≢ file.now)
     × (path.now ≢ saved.now))
 KeepsItsModule (Races job) = Unit {0}
 KeepsItsModule (Search s) = SearchKeepsItsModule s
+
+-- In which form a job prints.
+abbrev pub form_in : Job → Form
+form_in (Check file form) = form
+form_in (Run job) = job.look.form
+form_in (Replay file saved look) = look.form
+form_in (Show file saved names look view) = form_of view
+form_in (Races job) = Lines
+form_in (Search s) = Lines

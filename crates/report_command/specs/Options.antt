@@ -1,5 +1,5 @@
 -- Which field of a job is which argument of the command line: a line for each.
-use Rattle.std.specs.Prelude.{ℕ, ◌≡◌, ◌≢◌, ◌⊎◌, ◌||◌, Bool, true, List, map, ◌++◌, codes}
+use Rattle.std.specs.Prelude.{ℕ, ◌≡◌, ◌≢◌, ◌⊎◌, ◌||◌, Bool, true, false, List, map, ◌++◌, codes}
 use Rattle.std.specs.Prelude.{Option, Some, None, is_some, option_map, IfSome, MatchOption}
 use Rattle.std.specs.Borrow.{Bor}
 use Rattle.clap.specs.Words.{first_value, rows_of, subcommand_name_of, subcommand_rows_of}
@@ -20,12 +20,15 @@ use Rattle.report_choice.specs.declared.sought.Sought.{Sought}
 use Rattle.report_command.specs.declared.limits.TheConstants.{DEFAULT_STATES, DEFAULT_SHRINK_SECONDS}
 use Rattle.report_command.specs.declared.call.CallWords.{CallWords}
 use Rattle.report_command.specs.declared.command_line.RunJob.{RunJob}
+use Rattle.report_command.specs.declared.form.Form.{Form}
+use Rattle.report_command.specs.declared.form.Form.TheVariants.{Lines, Json}
+use Rattle.report_command.specs.declared.form.EndLook.{EndLook}
 use Rattle.report_command.specs.declared.command_line.Job.{Job}
 use Rattle.report_command.specs.declared.command_line.Job.TheVariants as jobs
 use Rattle.report_command.specs.declared.command_line.Order.{Order}
 use Rattle.report_command.specs.declared.races.RacesJob.{RacesJob}
 use Rattle.report_command.specs.declared.show.View.{View}
-use Rattle.report_command.specs.declared.show.View.TheVariants.{Rows, Moment, Page, Trace}
+use Rattle.report_command.specs.declared.show.View.TheVariants.{Rows, Moment, Page, Trace, Object}
 use Rattle.report_command.specs.declared.search.Search.{Search}
 use Rattle.report_command.specs.Found.{HasNo, is_given, HasText, HasTextIfAny, HasTexts, number_in, HasFlag, IsWord}
 use Rattle.report_command.specs.Found.{HasNumber, HasNumberIfAny, HasNumberOr, HasNumbers}
@@ -37,6 +40,25 @@ pub record AsksCall (f : Found) (call : CallWords) : Type 0 where
   pub args : HasTexts f (codes "args") call.args.items
   pub fuel : HasNumber f (codes "fuel") call.fuel
 
+-- In which form is printed.
+abbrev pub is_json : Form → Bool
+is_json Lines = false
+is_json Json = true
+
+abbrev pub AsksForm : Found → Form → Type 0
+AsksForm f form = HasFlag f (codes "json") (is_json form)
+
+-- How the end of a run is printed.
+pub record AsksEndLook (f : Found) (look : EndLook) : Type 0 where
+  pub dump_is : HasNumber f (codes "dump") look.dump
+  pub units_is : HasFlag f (codes "units") look.units
+  pub form_is : AsksForm f look.form
+
+-- `check`
+pub record AsksCheck (f : Found) (file : Bor (List ℕ)) (form : Form) : Type 0 where
+  pub file_is : HasText f (codes "file") file
+  pub form_is : AsksForm f form
+
 -- `run`
 pub record AsksRun (f : Found) (job : RunJob) : Type 0 where
   pub file : HasText f (codes "file") job.file
@@ -44,13 +66,13 @@ pub record AsksRun (f : Found) (job : RunJob) : Type 0 where
   pub memory : IsWord f (codes "memory") (codes "words") job.on_words
   pub limit : HasNumber f (codes "limit") job.limit
   pub save : HasTextIfAny f (codes "record") job.save
-  pub dump : HasNumber f (codes "dump") job.dump
+  pub look : AsksEndLook f job.look
 
 -- `replay`
-pub record AsksReplay (f : Found) (file saved : Bor (List ℕ)) (dump : ℕ) : Type 0 where
+pub record AsksReplay (f : Found) (file saved : Bor (List ℕ)) (look : EndLook) : Type 0 where
   pub file_is : HasText f (codes "file") file
   pub saved_is : HasText f (codes "record") saved
-  pub dump_is : HasNumber f (codes "dump") dump
+  pub look_is : AsksEndLook f look
 
 -- The address and the number of a text `A:N`.
 abbrev pub IsBytes : List ℕ → ℕ → ℕ → Type 0
@@ -63,16 +85,26 @@ abbrev pub AsksBytes : Found → ℕ → ℕ → Type 0
 AsksBytes f addr count =
     MatchOption (first_value f (codes "dump")) ((addr ≡ 0) × (count ≡ 0)) (λ text. IsBytes text addr count)
 
+-- Its entries, as rows or as an object.
+abbrev pub AsksEntries : Found → View → Type 0
+AsksEntries f Rows = AsksForm f Lines
+AsksEntries f Object = AsksForm f Json
+AsksEntries f (Moment at) = ⊥
+AsksEntries f (Page path) = ⊥
+AsksEntries f (Trace path) = ⊥
+
 -- What is made of a record, where no file is.
 abbrev pub AsksShown : Found → View → Type 0
-AsksShown f Rows = HasNumberIfAny f (codes "at") None
+AsksShown f Rows = HasNumberIfAny f (codes "at") None × AsksForm f Lines
+AsksShown f Object = HasNumberIfAny f (codes "at") None × AsksForm f Json
 AsksShown f (Moment at) = HasNumber f (codes "at") at.line × AsksBytes f at.addr at.count
 AsksShown f (Page path) = ⊥
 AsksShown f (Trace path) = ⊥
 
 -- What is made of a record.
 abbrev pub AsksView : Found → View → Type 0
-AsksView f Rows = HasNo f (codes "html") × HasNo f (codes "trace") × HasNumberIfAny f (codes "at") None
+AsksView f Rows = HasNo f (codes "html") × HasNo f (codes "trace") × HasNumberIfAny f (codes "at") None × AsksForm f Lines
+AsksView f Object = HasNo f (codes "html") × HasNo f (codes "trace") × HasNumberIfAny f (codes "at") None × AsksForm f Json
 AsksView f (Moment at) = HasNumber f (codes "at") at.line × AsksBytes f at.addr at.count
 AsksView f (Page path) = HasText f (codes "html") path
 AsksView f (Trace path) = HasText f (codes "trace") path
@@ -179,18 +211,18 @@ pub record AsksSearch (f : Found) (s : Search) : Type 0 where
 
 -- The job of a command.
 abbrev pub AsksJob : Found → Job → Type 0
-AsksJob f (jobs.Check file) = HasText f (codes "file") file
+AsksJob f (jobs.Check file form) = AsksCheck f file form
 AsksJob f (jobs.Run job) = AsksRun f job
-AsksJob f (jobs.Replay file saved dump) = AsksReplay f file saved dump
+AsksJob f (jobs.Replay file saved look) = AsksReplay f file saved look
 AsksJob f (jobs.Show file saved names look view) = AsksShow f file saved names look view
 AsksJob f (jobs.Races job) = AsksRaces f job
 AsksJob f (jobs.Search s) = AsksSearch f s
 
 -- Its command.
 abbrev pub command_name : Job → List ℕ
-command_name (jobs.Check file) = codes "check"
+command_name (jobs.Check file form) = codes "check"
 command_name (jobs.Run job) = codes "run"
-command_name (jobs.Replay file saved dump) = codes "replay"
+command_name (jobs.Replay file saved look) = codes "replay"
 command_name (jobs.Show file saved names look view) = codes "show"
 command_name (jobs.Races job) = codes "races"
 command_name (jobs.Search s) = codes "search"

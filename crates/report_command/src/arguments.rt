@@ -6,7 +6,7 @@ use std::alloc::{AllocError, Global};
 
 /// How an argument stands among the words.
 #[derive(Clone, Copy)]
-pub(crate) enum Form {
+pub(crate) enum Kind {
     /// At its place, which has to be filled.
     Place,
     /// At the last place: all words that are left.
@@ -21,19 +21,19 @@ pub(crate) enum Form {
     Flag,
 }
 
-impl Form {
+impl Kind {
     /// How many values a use takes.
     fn count(self) -> ValueRange {
         match self {
-            Form::Rest => ValueRange::new(0..),
-            Form::Flag => ValueRange::EMPTY,
-            Form::Place | Form::Option | Form::Required | Form::List => ValueRange::SINGLE,
+            Kind::Rest => ValueRange::new(0..),
+            Kind::Flag => ValueRange::EMPTY,
+            Kind::Place | Kind::Option | Kind::Required | Kind::List => ValueRange::SINGLE,
         }
     }
 
     /// Whether it has to be there.
     fn is_required(self) -> bool {
-        matches!(self, Form::Place | Form::Required)
+        matches!(self, Kind::Place | Kind::Required)
     }
 }
 
@@ -46,7 +46,7 @@ pub(crate) struct Argument {
     pub value: &'static str,
     /// What help says of it.
     pub help: &'static str,
-    pub form: Form,
+    pub kind: Kind,
     /// What a value may be: `Signed` for numbers of 32 bits, and `Unsigned` for those of 64.
     pub parser: ValueParser<'static>,
     /// Its values where it isn't given.
@@ -64,7 +64,7 @@ pub(crate) const OPTION: Argument = Argument {
     name: "",
     value: "",
     help: "",
-    form: Form::Option,
+    kind: Kind::Option,
     parser: ValueParser::String,
     defaults: &[],
     conflicts: &[],
@@ -74,7 +74,7 @@ pub(crate) const OPTION: Argument = Argument {
 
 /// An option without a value that goes with all others, under no name yet.
 pub(crate) const FLAG: Argument = Argument {
-    form: Form::Flag,
+    kind: Kind::Flag,
     parser: ValueParser::Bool,
     ..OPTION
 };
@@ -101,12 +101,12 @@ fn argument_of<'a>(alloc: Global, row: &Argument) -> Result<Arg<'a>, AllocError>
         .value_name(row.value)
         .value_parser(row.parser)
         .default_values(row.defaults)
-        .num_args(row.form.count())
-        .required(row.form.is_required());
-    let argument = match row.form {
-        Form::Place | Form::Rest => argument,
-        Form::Option | Form::Required | Form::Flag => argument.long(row.name),
-        Form::List => argument.long(row.name).value_delimiter(','),
+        .num_args(row.kind.count())
+        .required(row.kind.is_required());
+    let argument = match row.kind {
+        Kind::Place | Kind::Rest => argument,
+        Kind::Option | Kind::Required | Kind::Flag => argument.long(row.name),
+        Kind::List => argument.long(row.name).value_delimiter(','),
     };
     argument
         .conflicts_with_all(row.conflicts)?

@@ -4,7 +4,7 @@ ghost use Rattle.clap.specs.Words.{found_of};
 ghost use Rattle.types.specs.declared.limits.TheConstants.{MOST_FUEL};
 ghost use Rattle.report_command.specs.Options.{AsksCall};
 
-use crate::arguments::{Argument, Form, OPTION};
+use crate::arguments::{Argument, Kind, OPTION};
 use crate::limits::DEFAULT_FUEL;
 use crate::words::{number_of, texts_of};
 use clap::ArgMatches;
@@ -28,7 +28,7 @@ pub(crate) const INVOKE: Argument = Argument {
     name: "invoke",
     value: "NAME",
     help: "The exported function that thread 0 runs",
-    form: Form::Required,
+    kind: Kind::Required,
     ..OPTION
 };
 
@@ -37,7 +37,7 @@ pub(crate) const ARGS: Argument = Argument {
     name: "args",
     value: "ARG",
     help: "The function's arguments, unsigned decimals",
-    form: Form::Rest,
+    kind: Kind::Rest,
     ..OPTION
 };
 

@@ -3,13 +3,14 @@ ghost use Rattle.std.specs.Prelude.{◌≡◌, ◌≤◌, IfOk, IfSome, IsNone, 
 ghost use Rattle.clap.specs.Words.{found_of};
 ghost use Rattle.types.specs.declared.limits.TheConstants.{MOST_LIMIT};
 ghost use Rattle.report_command.specs.declared.limits.TheConstants.{MOST_DUMP};
-ghost use Rattle.report_command.specs.Jobs.{IsInRange, KeepsItsModule};
+ghost use Rattle.report_command.specs.Jobs.{IsInRange, KeepsItsModule, form_in};
 ghost use Rattle.report_command.specs.Found.{HasNumber};
 ghost use Rattle.report_command.specs.Options.{AsksNamed, AsksReasons, IsOrderOf, IsAskedBy, IsJobOf, texts_in};
 ghost use Rattle.report_command.specs.FaultNumbers.{usage_number, IsWrong};
 
-use crate::arguments::{Argument, CommandRow, FLAG, Form, OPTION, command_of};
+use crate::arguments::{Argument, CommandRow, FLAG, Kind, OPTION, command_of};
 use crate::call::{ARGS, CallWords, FUEL, INVOKE, call_of};
+use crate::form::{EndLook, Form, JSON, UNITS, end_look_of, form_of};
 use crate::limits::{DEFAULT_DUMP, DEFAULT_LIMIT, MOST_DUMP};
 use crate::races::{RACES, RacesJob, races_job};
 use crate::search::{SEARCH, Search, search_job, search_misuse};
@@ -34,8 +35,8 @@ pub struct RunJob<'a> {
     pub limit: u32,
     /// The path of the record to be written, if one is wanted.
     pub save: Option<&'a str>,
-    /// How many bytes of the memory are printed, 0 to 4096.
-    pub dump: u32,
+    /// How its end is printed.
+    pub look: EndLook,
 }
 
 /// What the command line asks for.
@@ -45,6 +46,7 @@ pub enum Job<'a> {
     Check {
         /// The path of the module.
         file: &'a str,
+        form: Form,
     },
     /// Run a function of a module, and print how its threads ended.
     Run(RunJob<'a>),
@@ -54,8 +56,8 @@ pub enum Job<'a> {
         file: &'a str,
         /// The path of the record.
         saved: &'a str,
-        /// How many bytes of the memory are printed, 0 to 4096.
-        dump: u32,
+        /// How the end of its run is printed.
+        look: EndLook,
     },
     /// Show the entries of a record in words.
     Show {
@@ -74,6 +76,21 @@ pub enum Job<'a> {
     Races(RacesJob<'a>),
     /// Run a function of a module again and again along schedules that are drawn, and print how the runs end.
     Search(Search<'a>),
+}
+
+impl Job<'_> {
+    /// In which form it prints.
+    pub fn form(&self) -> Form
+        ensures { result ≡ form_in self.now }
+    {
+        match self {
+            Job::Check { form, .. } => *form,
+            Job::Run(job) => job.look.form,
+            Job::Replay { look, .. } => look.form,
+            Job::Show { view, .. } => view.form(),
+            Job::Races(_) | Job::Search(_) => Form::Lines,
+        }
+    }
 }
 
 /// Why the command line is no job.
@@ -121,7 +138,7 @@ pub(crate) const FILE: Argument = Argument {
     name: "file",
     value: "FILE",
     help: "The module, in the binary format",
-    form: Form::Place,
+    kind: Kind::Place,
     ..OPTION
 };
 
@@ -130,7 +147,7 @@ pub(crate) const RECORD: Argument = Argument {
     name: "record",
     value: "RECORD",
     help: "The record of a run of the module",
-    form: Form::Place,
+    kind: Kind::Place,
     ..OPTION
 };
 
@@ -179,32 +196,34 @@ const SAVE: Argument = Argument {
     ..OPTION
 };
 
-/// `check FILE [--explain]`
+/// `check FILE [--json] [--explain]`
 static CHECK: CommandRow = CommandRow {
     name: "check",
     call: "wathread check",
     about: "Reads a module, and says how many functions of its own it has",
     after_help: None,
-    arguments: &[FILE, EXPLAIN],
+    arguments: &[FILE, JSON, EXPLAIN],
 };
 
-/// `run FILE --invoke NAME [--memory locked|words] [--record OUT] [--fuel N] [--limit N] [--dump N]
-/// [--explain] [ARG..]`
+/// `run FILE --invoke NAME [--memory locked|words] [--record OUT] [--fuel N] [--limit N] [--dump N] [--units]
+/// [--json] [--explain] [ARG..]`
 static RUN: CommandRow = CommandRow {
     name: "run",
     call: "wathread run",
     about: "Runs a function of a module, and prints how its threads ended",
     after_help: None,
-    arguments: &[FILE, INVOKE, MEMORY, SAVE, FUEL, LIMIT, DUMP, EXPLAIN, ARGS],
+    arguments: &[
+        FILE, INVOKE, MEMORY, SAVE, FUEL, LIMIT, DUMP, UNITS, JSON, EXPLAIN, ARGS,
+    ],
 };
 
-/// `replay FILE RECORD [--dump N] [--explain]`
+/// `replay FILE RECORD [--dump N] [--units] [--json] [--explain]`
 static REPLAY: CommandRow = CommandRow {
     name: "replay",
     call: "wathread replay",
     about: "Runs a record again by one thread, and prints what the run printed",
     after_help: None,
-    arguments: &[FILE, RECORD, DUMP, EXPLAIN],
+    arguments: &[FILE, RECORD, DUMP, UNITS, JSON, EXPLAIN],
 };
 
 /// The commands by their names.
@@ -283,7 +302,10 @@ fn check_job<'a>(matches: &ArgMatches<'a>) -> Option<Job<'a>>
     ensures asks { IfSome result (AsksNamed (codes "check") (found_of matches.now)) }
 {
     match matches.get_str("file") {
-        Some(file) => Some(Job::Check { file }),
+        Some(file) => Some(Job::Check {
+            file,
+            form: form_of(matches),
+        }),
         None => None,
     }
 }
@@ -293,10 +315,16 @@ fn run_job<'a>(alloc: Global, matches: &ArgMatches<'a>) -> Result<Option<Job<'a>
     ensures range { IfOk result (λ job. IfSome job IsInRange) }
     ensures asks { IfOk result (λ job. IfSome job (AsksNamed (codes "run") (found_of matches.now))) }
 {
-    let (Some(file), Some((limit, dump))) = (matches.get_str("file"), limit_and_dump_of(matches))
-    else {
+    let (Some(file), Some(limit), Some(look)) = (
+        matches.get_str("file"),
+        short_of(matches, "limit"),
+        end_look_of(matches),
+    ) else {
         return Ok(None);
     };
+    if limit < 1 || limit > MOST_LIMIT {
+        return Ok(None);
+    }
     let Some(call) = call_of(alloc, matches)? else {
         return Ok(None);
     };
@@ -306,26 +334,22 @@ fn run_job<'a>(alloc: Global, matches: &ArgMatches<'a>) -> Result<Option<Job<'a>
         on_words: matches.get_str("memory") == Some("words"),
         limit,
         save: matches.get_str("record"),
-        dump,
+        look,
     })))
 }
 
-/// The job of `replay`, where its number is there and in range, as the parser sees to.
+/// The job of `replay`.
 fn replay_job<'a>(matches: &ArgMatches<'a>) -> Option<Job<'a>>
     ensures range { IfSome result IsInRange }
     ensures asks { IfSome result (AsksNamed (codes "replay") (found_of matches.now)) }
 {
-    let (Some(file), Some(saved), Some(dump)) = (
+    match (
         matches.get_str("file"),
         matches.get_str("record"),
-        short_of(matches, "dump"),
-    ) else {
-        return None;
-    };
-    if dump <= MOST_DUMP {
-        Some(Job::Replay { file, saved, dump })
-    } else {
-        None
+        end_look_of(matches),
+    ) {
+        (Some(file), Some(saved), Some(look)) => Some(Job::Replay { file, saved, look }),
+        _ => None,
     }
 }
 

@@ -6,9 +6,11 @@
 //! `clap` finds in words, cases say.
 #![tactic(auto)]
 
+mod advice;
 mod arguments;
 mod call;
 mod command_line;
+mod form;
 mod limits;
 mod lines;
 mod races;
@@ -16,8 +18,10 @@ mod search;
 mod show;
 mod words;
 
+pub use advice::{ADVICE, Advice};
 pub use call::CallWords;
 pub use command_line::{Job, Misuse, Order, RunJob, Usage, asked, command, misused};
+pub use form::{EndLook, Form};
 pub use races::RacesJob;
 pub use report_choice::{Color, Find, Look, Sought, Target, Way};
 pub use search::Search;

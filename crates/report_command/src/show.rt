@@ -4,13 +4,15 @@ ghost use Rattle.std.specs.Prelude.{◌≡◌, ◌≤◌, IfOk, IfSome, is_some,
 ghost use Rattle.clap.specs.Words.{found_of};
 ghost use Rattle.report_command.specs.declared.limits.TheConstants.{MOST_DUMP, NARROWEST, WIDEST};
 ghost use Rattle.report_command.specs.Jobs.{IsInRange};
+ghost use Rattle.report_command.specs.Views as views;
 ghost use Rattle.report_command.specs.Views.{IsViewInRange, path_of};
 ghost use Rattle.report_command.specs.Found.{is_given};
-ghost use Rattle.report_command.specs.Options.{AsksBytes, AsksColor, AsksLook, AsksNamed, AsksShown, AsksView};
+ghost use Rattle.report_command.specs.Options.{AsksBytes, AsksColor, AsksEntries, AsksLook, AsksNamed, AsksShown, AsksView};
 ghost use Rattle.report_command.specs.Options.{IsBytes};
 
-use crate::arguments::{Argument, CommandRow, Form, OPTION};
+use crate::arguments::{Argument, CommandRow, Kind, OPTION};
 use crate::command_line::{FILE, Job, Misuse, RECORD};
+use crate::form::{Form, JSON, form_of};
 use crate::limits::{DEFAULT_WIDTH, MOST_DUMP, MOST_LINE, NARROWEST, WIDEST};
 use crate::words::{number_if_any, numbers_of, short_of};
 use clap::ArgMatches;
@@ -39,6 +41,8 @@ pub enum View<'a> {
     Page(&'a str),
     /// A text in the Trace Event Format in the file at this path.
     Trace(&'a str),
+    /// One JSON object with the entries, on standard output.
+    Object,
 }
 
 impl<'a> View<'a> {
@@ -47,8 +51,18 @@ impl<'a> View<'a> {
         ensures { result ≡ path_of self.now }
     {
         match self {
-            View::Rows | View::Moment(_) => None,
+            View::Rows | View::Moment(_) | View::Object => None,
             View::Page(path) | View::Trace(path) => Some(*path),
+        }
+    }
+
+    /// In which form it is printed.
+    pub fn form(&self) -> Form
+        ensures { result ≡ views.form_of self.now }
+    {
+        match self {
+            View::Object => Form::Json,
+            View::Rows | View::Moment(_) | View::Page(_) | View::Trace(_) => Form::Lines,
         }
     }
 }
@@ -120,7 +134,7 @@ const THREADS: Argument = Argument {
     name: "thread",
     value: "T,..",
     help: "Only the entries of these threads, 0 to 63",
-    form: Form::List,
+    kind: Kind::List,
     parser: ValueParser::Signed(0, MOST_THREADS as i64 - 1),
     ..OPTION
 };
@@ -131,6 +145,13 @@ const ADDRESSES: Argument = Argument {
     value: "A[-B]",
     help: "Only the entries at these addresses, unsigned decimals",
     ..OPTION
+};
+
+/// Whether the rows are an object.
+const OBJECT: Argument = Argument {
+    help: "Print one JSON object in place of rows, also of a refusal",
+    conflicts: &["at", "html", "trace"],
+    ..JSON
 };
 
 /// Another build for names and lines.
@@ -162,7 +183,7 @@ const COLOR: Argument = Argument {
 };
 
 /// `show FILE RECORD [--lines A-B] [--thread T,..] [--addr A[-B]] [--names FILE2] [--width N] [--color WHEN] [--html
-/// OUT] [--trace OUT]`, and `show FILE RECORD --at LINE [--dump A:N] [--names FILE2]`
+/// OUT] [--trace OUT] [--json]`, and `show FILE RECORD --at LINE [--dump A:N] [--names FILE2]`
 pub(crate) static SHOW: CommandRow = CommandRow {
     name: "show",
     call: "wathread show",
@@ -170,6 +191,7 @@ pub(crate) static SHOW: CommandRow = CommandRow {
     after_help: None,
     arguments: &[
         FILE, RECORD, LINES, THREADS, ADDRESSES, NAMES, WIDTH, COLOR, AT, BYTES, HTML, TRACE,
+        OBJECT,
     ],
 };
 
@@ -261,6 +283,17 @@ fn moment_bytes_of(matches: &ArgMatches) -> Option<(u64, u32)>
     }
 }
 
+/// The entries, in the form that is asked for.
+fn entries_of<'a>(matches: &ArgMatches<'a>) -> View<'a>
+    ensures range { IsViewInRange result }
+    ensures asks { AsksEntries (found_of matches.now) result }
+{
+    match form_of(matches) {
+        Form::Lines => View::Rows,
+        Form::Json => View::Object,
+    }
+}
+
 /// What is to be made of the record, where it makes no file; `None` where an argument can't be read.
 fn shown_of<'a>(matches: &ArgMatches<'a>) -> Option<View<'a>>
     ensures range { IfSome result IsViewInRange }
@@ -271,7 +304,7 @@ fn shown_of<'a>(matches: &ArgMatches<'a>) -> Option<View<'a>>
             Some((addr, count)) => Some(View::Moment(At { line, addr, count })),
             None => None,
         },
-        Ok(None) => Some(View::Rows),
+        Ok(None) => Some(entries_of(matches)),
         Err(_) => None,
     }
 }

@@ -12,7 +12,7 @@ use Rattle.replay.specs.Recorded.{RecordsRun}
 use Rattle.report_runs.specs.Called.{RecordsRequest}
 use Rattle.report_command.specs.declared.command_line.RunJob.{RunJob}
 use Rattle.report_jobs.specs.Asked.{IsAskedBy}
-use Rattle.report_jobs.specs.Prints.{WriterChange, Prints, KeepsRecord, IsRecorded, PrintsRun}
+use Rattle.report_jobs.specs.Prints.{WriterChange, PrintsEnd, KeepsRecord, IsRecorded, PrintsRun}
 
 module _ (r : Requested) (job : RunJob) (asked : IsAskedBy job.call r) (out save : WriterChange) (status : ℕ) (end : EndState) where
   abbrev Over : Bool → Type 0
@@ -22,7 +22,7 @@ module _ (r : Requested) (job : RunJob) (asked : IsAskedBy job.call r) (out save
   takes_by : Takes r.parts job.call.invoke.now r.args
   takes_by = subst (λ (name : List ℕ). Takes r.parts name r.args) asked.name_is asked.takes
 
-  pub printed_on_words : job.on_words ≡ true → EndsRequestOnWords r end → Prints end job.dump out status
+  pub printed_on_words : job.on_words ≡ true → EndsRequestOnWords r end → PrintsEnd end job.look out status
       → PrintsRun r.parts job out save status
   printed_on_words on_words run prints = record {
     args = r.args;
@@ -36,7 +36,7 @@ module _ (r : Requested) (job : RunJob) (asked : IsAskedBy job.call r) (out save
   }
 
   pub printed_recorded : job.on_words ≡ false → (x : RecordParts) → RecordsRequest r job.limit x end → IsRunOf r.parts x end
-      → Prints end job.dump out status → KeepsRecord (is_some job.save) save x → PrintsRun r.parts job out save status
+      → PrintsEnd end job.look out status → KeepsRecord (is_some job.save) save x → PrintsRun r.parts job out save status
   printed_recorded on_words x records run prints kept = record {
     args = r.args;
     spelled = asked.spelled;

@@ -1,11 +1,17 @@
 -- What a job that is refused leaves as it was, by the fault that refuses it.
-use Rattle.std.proofs.Common.{◌≡◌, ℕ, arith}
+use Rattle.std.proofs.Common.{◌≡◌, ℕ, List, inl, inr, refl, arith}
 use Rattle.std.specs.Prelude.{IfErr, Result, Ok, Err}
 use Rattle.report_jobs.specs.declared.replaying.Unfit.{Unfit}
 use Rattle.report_jobs.specs.declared.replaying.Unfit.TheVariants as unfits
 use Rattle.report_jobs.specs.declared.running.Trouble.{Trouble}
 use Rattle.report_jobs.specs.declared.running.Trouble.TheVariants as troubles
+use Rattle.types.specs.declared.parts.Parts.{Parts}
+use Rattle.show_text.specs.declared.sheet.Unwritten.{Unwritten}
+use Rattle.show_text.specs.declared.sheet.Unwritten.TheVariants as unwritten
+use Rattle.report_json.specs.Unwritten.{LeavesAs}
+use Rattle.report_jobs.specs.Jobs.{IsUnfit, unfit_of_unwritten}
 use Rattle.report_jobs.specs.Silence.{Leaves, LeavesOut, IsRefusal, trouble_status, unfit_status}
+use Rattle.report_jobs.specs.Troubles.{IsTrouble, IsUnwritten, trouble_of_unwritten}
 
 module _ (A B : Type 0) where
   -- the troubles of a refusal leave both
@@ -52,3 +58,26 @@ module _ (A : Type 0) where
   of_all_out (unfits.Misfit fault) a = a
   of_all_out unfits.NoMemory a = a
   of_all_out unfits.Output a = tt
+
+-- what couldn't be written leaves what it left
+module _ {W : Type 0} (old new : W) where
+  pub of_unwritten : (B : Type 0) (u : Unwritten) → LeavesAs old new u → B → Leaves (trouble_of_unwritten u) (new ≡ old) B
+  of_unwritten B unwritten.NoMemory left b = (left, b)
+  of_unwritten B unwritten.Output left b = b
+
+  pub unwritten_out : (u : Unwritten) → LeavesAs old new u → LeavesOut (unfit_of_unwritten u) (new ≡ old)
+  unwritten_out unwritten.NoMemory left = left
+  unwritten_out unwritten.Output left = tt
+
+pub is_unwritten : (u : Unwritten) → IsUnwritten (trouble_of_unwritten u)
+is_unwritten unwritten.NoMemory = inl refl
+is_unwritten unwritten.Output = inr (inl refl)
+
+-- and says nothing of the call or the record
+pub unwritten_trouble : (m : Parts) (name : List ℕ) (texts : List (List ℕ)) (u : Unwritten) → IsTrouble m name texts (trouble_of_unwritten u)
+unwritten_trouble m name texts unwritten.NoMemory = tt
+unwritten_trouble m name texts unwritten.Output = tt
+
+pub unwritten_unfit : (m : Parts) (saved : List ℕ) (u : Unwritten) → IsUnfit m saved (unfit_of_unwritten u)
+unwritten_unfit m saved unwritten.NoMemory = tt
+unwritten_unfit m saved unwritten.Output = tt

@@ -13,12 +13,14 @@ use Rattle.spawn_host.specs.declared.end.EndState.{EndState}
 use Rattle.replay.specs.declared.fault.ReplayFault.{ReplayFault}
 use Rattle.replay.specs.declared.fault.ReplayFault.TheVariants as replays
 use Rattle.replay.specs.Runs.{IsRunOf, IsReplayFault, ShowsNoRun}
-use Rattle.report_lines.specs.Lines.{functions_line, end_lines}
-use Rattle.report_lines.specs.Ends.{status_of}
+use Rattle.show_text.specs.declared.sheet.Unwritten.{Unwritten}
+use Rattle.show_text.specs.declared.sheet.Unwritten.TheVariants as unwritten
 use Rattle.report_command.specs.declared.call.CallWords.{CallWords}
+use Rattle.report_command.specs.declared.form.Form.{Form}
+use Rattle.report_command.specs.declared.form.EndLook.{EndLook}
 use Rattle.report_command.specs.declared.command_line.RunJob.{RunJob}
 use Rattle.report_jobs.specs.Arguments.{CannotCall, texts_in}
-use Rattle.report_jobs.specs.Prints.{WriterChange, PrintsRun}
+use Rattle.report_jobs.specs.Prints.{WriterChange, change, accepted_text, PrintsEnd, PrintsRun}
 use Rattle.report_jobs.specs.declared.replaying.Unfit.{Unfit}
 use Rattle.report_jobs.specs.declared.replaying.Unfit.TheVariants.{Unread, Misfit, NoMemory, Output}
 use Rattle.validate_typing.specs.declared.fault.ValidFault.TheVariants.{OutOfMemory as ValidityOutOfMemory, Outside}
@@ -26,17 +28,17 @@ use Rattle.validate_typing.specs.declared.fault.ValidFault.TheVariants.{InBody}
 use Rattle.report_jobs.specs.declared.loading.Refusal.{Refusal}
 use Rattle.report_jobs.specs.declared.loading.Refusal.TheVariants.{Read, Validity}
 
--- The bytes are a valid module's text, and what was written is its line.
-pub record IsAccepted (bytes : List ℕ) (old new : Option (List ℕ)) : Type 0 where
+-- The bytes are a valid module's text, and what was written says how many functions of its own it has.
+pub record IsAccepted (form : Form) (bytes : List ℕ) (old new : Option (List ℕ)) : Type 0 where
   pub parts : Parts
   pub text : IsModuleText bytes parts
   pub valid : IsValid parts
-  pub line : Appends old new (functions_line (length parts.functions))
+  pub line : Appends old new (accepted_text form (length parts.functions))
 
 -- They are one with so many functions of its own.
 abbrev pub IsAcceptedAs : List ℕ → ℕ → Type 0
-IsAcceptedAs bytes count = (old new : Option (List ℕ)) → Appends old new (functions_line count)
-    → IsAccepted bytes old new
+IsAcceptedAs bytes count = (form : Form) (old new : Option (List ℕ)) → Appends old new (accepted_text form count)
+    → IsAccepted form bytes old new
 
 -- The bytes are no module's text.
 abbrev pub IsNoModule : List ℕ → Type 0
@@ -64,15 +66,15 @@ IsRefused bytes (Validity (InBody kind function place)) = IsInvalid bytes
 abbrev pub IsStatusOfRefusal : Refusal → ℕ → Type 0
 IsStatusOfRefusal refusal status = (bytes : List ℕ) → IsRefused bytes refusal → status ≡ 2 → IsNoValidModule bytes
 
--- The bytes are a record's text, the record is of a run of the module, and what was written are the lines of that run.
-pub record PrintsReplay (m : Parts) (saved : List ℕ) (dump : ℕ) (old new : Option (List ℕ)) (status : ℕ) : Type 0 where
+-- The bytes are a record's text, the record is of a run of the module, and the end of that run was printed.
+pub record PrintsReplay (m : Parts) (saved : List ℕ) (look : EndLook) (old new : Option (List ℕ)) (status : ℕ)
+    : Type 0 where
   pub record_is : RecordParts
   pub ranges : IsRecord record_is
   pub text : saved ≡ record_text record_is
   pub end : EndState
   pub run : IsRunOf m record_is end
-  pub lines : Appends old new (end_lines end.threads.items end.pages dump end.bytes.items)
-  pub status_is : status ≡ status_of end.threads.items
+  pub prints : PrintsEnd end look (change old new) status
 
 -- The bytes are the text of no record of a run of the module.
 abbrev pub IsOfNoRun : Parts → List ℕ → Type 0
@@ -97,6 +99,11 @@ IsUnfit m saved (Misfit fault) = IsMisfit m saved fault
 IsUnfit m saved NoMemory = Unit {0}
 IsUnfit m saved Output = Unit {0}
 
+-- What comes of an end that couldn't be written.
+abbrev pub unfit_of_unwritten : Unwritten → Unfit
+unfit_of_unwritten unwritten.NoMemory = NoMemory
+unfit_of_unwritten unwritten.Output = Output
+
 -- What a replay's fault comes to.
 abbrev pub unfit_by : ReplayFault → Unfit
 unfit_by (replays.Line line) = Misfit (replays.Line line)
@@ -114,19 +121,19 @@ abbrev pub IsStatusOfUnfit : Unfit → ℕ → Type 0
 IsStatusOfUnfit unfit status = (m : Parts) (saved : List ℕ) → IsUnfit m saved unfit → status ≡ 4 → IsOfNoRun m saved
 
 -- The same of a record, of the bytes that are its text.
-abbrev pub PrintsReplayOf : Parts → RecordParts → ℕ → WriterChange → ℕ → Type 0
-PrintsReplayOf m r dump out status = (saved : List ℕ) → saved ≡ record_text r
-    → PrintsReplay m saved dump out.old out.new status
+abbrev pub PrintsReplayOf : Parts → RecordParts → EndLook → WriterChange → ℕ → Type 0
+PrintsReplayOf m r look out status = (saved : List ℕ) → saved ≡ record_text r
+    → PrintsReplay m saved look out.old out.new status
 
 abbrev pub IsUnfitTextOf : Parts → RecordParts → Unfit → Type 0
 IsUnfitTextOf m r unfit = (saved : List ℕ) → saved ≡ record_text r → IsUnfit m saved unfit
 
 -- The bytes are a valid module's text, and a record of a run of it was replayed.
-pub record IsReplayed (bytes saved : List ℕ) (dump : ℕ) (old new : Option (List ℕ)) (status : ℕ) : Type 0 where
+pub record IsReplayed (bytes saved : List ℕ) (look : EndLook) (old new : Option (List ℕ)) (status : ℕ) : Type 0 where
   pub parts : Parts
   pub text : IsModuleText bytes parts
   pub valid : IsValid parts
-  pub prints : PrintsReplay parts saved dump old new status
+  pub prints : PrintsReplay parts saved look old new status
 
 -- They are, and the others are the text of no record of a run of it.
 pub record IsNoRecordOf (bytes saved : List ℕ) : Type 0 where
@@ -150,8 +157,8 @@ pub record HasNoSuchCall (bytes : List ℕ) (call : CallWords) : Type 0 where
   pub cannot : CannotCall parts call.invoke.now (texts_in call.args.items)
 
 -- What the status of a check says: 0 of an accepted module, 2 of a refused one. 5 is that memory or a stream failed.
-pub record Checks (bytes : List ℕ) (out : WriterChange) (status : ℕ) : Type 0 where
-  pub accepted : status ≡ 0 → IsAccepted bytes out.old out.new
+pub record Checks (bytes : List ℕ) (form : Form) (out : WriterChange) (status : ℕ) : Type 0 where
+  pub accepted : status ≡ 0 → IsAccepted form bytes out.old out.new
   pub refused : status ≡ 2 → IsNoValidModule bytes
   pub statuses : (status ≡ 0) ⊎ (status ≡ 2) ⊎ (status ≡ 5)
 
@@ -165,8 +172,8 @@ pub record Runs (bytes : List ℕ) (job : RunJob) (out save : WriterChange) (sta
 
 -- What that of a replay says: 0 and 1 of a record of a run, 2 of a refused module, 4 of a record of no run. 5 is that
 -- memory or a stream failed.
-pub record Replays (bytes saved : List ℕ) (dump : ℕ) (out : WriterChange) (status : ℕ) : Type 0 where
-  pub replayed : status ≤ 1 → IsReplayed bytes saved dump out.old out.new status
+pub record Replays (bytes saved : List ℕ) (look : EndLook) (out : WriterChange) (status : ℕ) : Type 0 where
+  pub replayed : status ≤ 1 → IsReplayed bytes saved look out.old out.new status
   pub refused : status ≡ 2 → IsNoValidModule bytes
   pub none : status ≡ 4 → IsNoRecordOf bytes saved
   pub statuses : (status ≤ 2) ⊎ (status ≡ 4) ⊎ (status ≡ 5)

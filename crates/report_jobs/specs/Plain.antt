@@ -8,18 +8,18 @@ use Rattle.report_jobs.specs.Jobs.{Checks, Runs, Replays}
 
 -- A job is one of these.
 abbrev pub IsPlain : Job → Type 0
-IsPlain (Check file) = Unit {0}
+IsPlain (Check file form) = Unit {0}
 IsPlain (Run job) = Unit {0}
-IsPlain (Replay file record_path dump) = Unit {0}
+IsPlain (Replay file record_path look) = Unit {0}
 IsPlain (Show file record_path names look at) = ⊥
 IsPlain (jobs.Races job) = ⊥
 IsPlain (jobs.Search s) = ⊥
 
 -- What the status of a plain job says.
 abbrev pub PerformsPlain : Job → List ℕ → List ℕ → WriterChange → WriterChange → ℕ → Type 0
-PerformsPlain (Check file) bytes saved out save status = Checks bytes out status
+PerformsPlain (Check file form) bytes saved out save status = Checks bytes form out status
 PerformsPlain (Run job) bytes saved out save status = Runs bytes job out save status
-PerformsPlain (Replay file record_path dump) bytes saved out save status = Replays bytes saved dump out status
+PerformsPlain (Replay file record_path look) bytes saved out save status = Replays bytes saved look out status
 PerformsPlain (Show file record_path names look at) bytes saved out save status = Unit {0}
 PerformsPlain (jobs.Races job) bytes saved out save status = Unit {0}
 PerformsPlain (jobs.Search s) bytes saved out save status = Unit {0}

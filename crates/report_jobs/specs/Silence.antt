@@ -61,8 +61,8 @@ IsRefusal status = (2 ≤ status) × (status ≤ 4)
 -- A plain job makes a file.
 abbrev pub makes_file : Job → Bool
 makes_file (jobs.Run job) = is_some job.save
-makes_file (jobs.Check file) = false
-makes_file (jobs.Replay file saved dump) = false
+makes_file (jobs.Check file form) = false
+makes_file (jobs.Replay file saved look) = false
 makes_file (jobs.Show file saved names look view) = false
 makes_file (jobs.Races job) = false
 makes_file (jobs.Search s) = is_some s.save

@@ -8,6 +8,8 @@ use Rattle.spawn_host.specs.declared.running.RunFault.TheVariants as run_faults
 use Rattle.spawn_host.specs.Entries.{Takes}
 use Rattle.report_runs.specs.declared.recording.RecordRunFault.{RecordRunFault}
 use Rattle.report_runs.specs.declared.recording.RecordRunFault.TheVariants as recording_faults
+use Rattle.show_text.specs.declared.sheet.Unwritten.{Unwritten}
+use Rattle.show_text.specs.declared.sheet.Unwritten.TheVariants as unwritten
 use Rattle.report_command.specs.declared.call.CallWords.{CallWords}
 use Rattle.report_jobs.specs.declared.running.Trouble.{Trouble}
 use Rattle.report_jobs.specs.declared.running.Trouble.TheVariants as troubles
@@ -41,9 +43,14 @@ IsStatusOfTrouble trouble status =
 abbrev pub IsTroubleOf : Parts → CallWords → Trouble → Type 0
 IsTroubleOf m call = IsTrouble m call.invoke.now (texts_in call.args.items)
 
+-- What comes of an object or lines that couldn't be written.
+abbrev pub trouble_of_unwritten : Unwritten → Trouble
+trouble_of_unwritten unwritten.NoMemory = troubles.NoMemory
+trouble_of_unwritten unwritten.Output = troubles.Output
+
 -- What was printed or kept couldn't be written.
 abbrev pub IsUnwritten : Trouble → Type 0
-IsUnwritten trouble = (trouble ≡ troubles.Output) ⊎ (trouble ≡ troubles.Save)
+IsUnwritten trouble = (trouble ≡ troubles.NoMemory) ⊎ (trouble ≡ troubles.Output) ⊎ (trouble ≡ troubles.Save)
 
 -- The values that the texts of its arguments spell, which its function takes.
 abbrev pub AreArgumentsOf : Parts → CallWords → List Value → Type 0

@@ -1,12 +1,11 @@
 //! Checks, runs and replays of a module's bytes: what is printed, and with which status they end.
 ghost use Rattle.std.specs.Prelude.{◌≡◌, ◌≤◌, ◌⊎◌, false, length, is_some, IfOk, IfErr, OnOk};
 ghost use Rattle.std.specs.Io.KnownBytes.{Appends};
-ghost use Rattle.report_lines.specs.Lines.{functions_line};
 ghost use Rattle.types.specs.declared.limits.TheConstants.{MOST_FUEL};
 ghost use Rattle.report_jobs.specs.Jobs.{IsAccepted, IsAcceptedAs, HasRun, HasNoSuchCall, IsReplayed, IsNoRecordOf};
 ghost use Rattle.report_jobs.specs.Jobs.{IsRefused};
 ghost use Rattle.report_jobs.specs.Jobs.{IsNoValidModule, IsStatusOfRefusal, IsStatusOfUnfit};
-ghost use Rattle.report_jobs.specs.Prints.{changed};
+ghost use Rattle.report_jobs.specs.Prints.{accepted_text, changed};
 ghost use Rattle.report_jobs.specs.Silence.{IsRefusal, Stays, refusal_status, trouble_status, unfit_status};
 ghost use Rattle.report_jobs.specs.declared.loading.Refusal.{Refusal};
 ghost use Rattle.report_jobs.specs.Told.{Tells, TellsWhatIsWrong, unfit_line};
@@ -17,9 +16,11 @@ use crate::replaying::{Unfit, replay_record};
 use crate::running::{Trouble, print_run};
 use crate::telling::say_unfit;
 use binary_wire::ReadFault;
-use report_command::RunJob;
+use report_command::{EndLook, Form, RunJob};
+use report_json::write_accepted;
+use show_text::Unwritten;
 use std::alloc::Global;
-use std::io::{self, Write};
+use std::io::Write;
 use std::sync::Wait;
 use std::thread::Threads;
 use types::Module;
@@ -34,18 +35,24 @@ const RECORD_REFUSED: u8 = 4;
 
 const FAULT: u8 = 5;
 
-/// Reads a module and validates it, and writes how many functions of its own it has.
+/// Reads a module and validates it, and prints how many functions of its own it has.
 ///
-/// Answers 0 only where the bytes are the text of a valid module and its line was written, 2 for a refused module, and
-/// 5 where memory or the stream failed.
-pub fn check<W: Write, E: Write>(alloc: Global, bytes: &[u8], out: &mut W, err: &mut E) -> u8
-    ensures accepted { result ≡ 0 → IsAccepted bytes.now (W.contents out.old) (W.contents out.new) }
+/// Answers 0 only where the bytes are the text of a valid module and that was printed, 2 for a refused module, and 5
+/// where memory or the stream failed.
+pub fn check<W: Write, E: Write>(
+    alloc: Global,
+    bytes: &[u8],
+    form: Form,
+    out: &mut W,
+    err: &mut E,
+) -> u8
+    ensures accepted { result ≡ 0 → IsAccepted form bytes.now (W.contents out.old) (W.contents out.new) }
     ensures refused { result ≡ 2 → IsNoValidModule bytes.now }
     ensures silent { result ≡ 2 → Stays out.old out.new }
     ensures status { (result ≡ 0) ⊎ (result ≡ 2) ⊎ (result ≡ 5) }
 {
     match functions_in(alloc, bytes) {
-        Ok(functions) => accept(functions, out, err),
+        Ok(functions) => accept(alloc, functions, form, out, err),
         Err(refusal) => refuse(err, refusal),
     }
 }
@@ -72,14 +79,24 @@ fn count_functions(of: &Module) -> usize
     of.parts().functions.len()
 }
 
-/// Writes the line of an accepted module, and answers the status: 0, or 5 where the stream failed.
-fn accept<W: Write, E: Write>(functions: usize, out: &mut W, err: &mut E) -> u8
-    ensures written { result ≡ 0 → Appends (W.contents out.old) (W.contents out.new) (functions_line functions) }
+/// Prints that a module is accepted, and answers the status: 0, or 5 where memory or the stream failed.
+fn accept<W: Write, E: Write>(
+    alloc: Global,
+    functions: usize,
+    form: Form,
+    out: &mut W,
+    err: &mut E,
+) -> u8
+    ensures written { result ≡ 0 → Appends (W.contents out.old) (W.contents out.new) (accepted_text form functions) }
     ensures status { (result ≡ 0) ⊎ (result ≡ 5) }
 {
-    match write_functions(out, functions) {
+    match write_functions(alloc, out, form, functions) {
         Ok(()) => 0,
-        Err(_) => {
+        Err(Unwritten::NoMemory) => {
+            say(err, "no memory");
+            FAULT
+        }
+        Err(Unwritten::Output) => {
             say(err, "file fault: standard output");
             FAULT
         }
@@ -148,12 +165,23 @@ fn refuse_module<E: Write>(err: &mut E, fault: ValidFault) -> u8
     }
 }
 
-/// The line of an accepted module: `ok functions N`.
-fn write_functions<W: Write>(out: &mut W, count: usize) -> io::Result<()>
-    ensures { OnOk result (Appends (W.contents out.old) (W.contents out.new) (functions_line count)) }
+/// Writes the line of an accepted module, `ok functions N`, or its object.
+fn write_functions<W: Write>(
+    alloc: Global,
+    out: &mut W,
+    form: Form,
+    count: usize,
+) -> Result<(), Unwritten>
+    ensures { OnOk result (Appends (W.contents out.old) (W.contents out.new) (accepted_text form count)) }
 {
-    write!(out, "ok functions {count}\n")?;
-    out.flush()
+    match form {
+        Form::Lines => {
+            write!(out, "ok functions {count}\n")?;
+            out.flush()?;
+            Ok(())
+        }
+        Form::Json => write_accepted(alloc, out, count),
+    }
 }
 
 /// Runs a function of a module as is asked for, prints how its threads ended, the pages and the first bytes of the memory,
@@ -196,9 +224,9 @@ where
 }
 
 /// Replays the record whose text the bytes are, and prints what its run printed: how the threads ended, the pages and
-/// the first `dump` bytes of the memory.
+/// the first bytes of the memory.
 ///
-/// Answers 0 or 1 only where the record is of a run of the module and its lines were written, 4 only where the bytes
+/// Answers 0 or 1 only where the record is of a run of the module and that was printed, 4 only where the bytes
 /// are the text of no record of a run of it, 2 for a refused module, and 5 where memory or a stream failed. At 2 and 4
 /// nothing is written but to `err`; at 4 that is the line that names the first line of the text that is wrong, or which
 /// doesn't fit, as far as `err` takes it.
@@ -206,12 +234,12 @@ pub fn replay_saved<W: Write, E: Write>(
     alloc: Global,
     module: &[u8],
     saved: &[u8],
-    dump: u32,
+    look: EndLook,
     out: &mut W,
     err: &mut E,
 ) -> u8
     ensures replayed { result ≤ 1
-        → IsReplayed «module».now saved.now dump (W.contents out.old) (W.contents out.new) result }
+        → IsReplayed «module».now saved.now look (W.contents out.old) (W.contents out.new) result }
     ensures refused { result ≡ 2 → IsNoValidModule «module».now }
     ensures none { result ≡ 4 → IsNoRecordOf «module».now saved.now }
     ensures told { result ≡ 4 → TellsWhatIsWrong «module».now saved.now (changed E.contents err.old err.new) }
@@ -222,7 +250,7 @@ pub fn replay_saved<W: Write, E: Write>(
         Ok(valid) => valid,
         Err(refusal) => return refuse(err, refusal),
     };
-    match replay_record(alloc, &valid, saved, dump, out) {
+    match replay_record(alloc, &valid, saved, look, out) {
         Ok(status) => status,
         Err(unfit) => reject(err, unfit),
     }

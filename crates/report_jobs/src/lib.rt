@@ -1,19 +1,22 @@
-//! Checks, runs and replays of a module's bytes by the program: the lines that these print, and their statuses.
+//! Checks, runs and replays of a module's bytes by the program: the lines or the object that these print, and their
+//! statuses.
 //!
 //! Proved: what a check, a run and a replay print and keep, and what each status says. 0 or 1 of a run: the bytes
-//! spell a valid module, the words spell values that the function takes, and what was written are the lines of an end
-//! of such a run, whose record is what was kept; 0 exactly where all threads are done. 0 or 1 of a replay: the same of
-//! the run that the record is of. 0 of a check: the bytes spell a valid module. 2: no valid module has these bytes as
-//! its text. 3: it has no such call. 4: the bytes are the text of no record of a run of it, and the line on `err` names
-//! the first line of that text which is wrong or doesn't fit (`specs/Told.antt`). At 2, 3 and 4 nothing was written but
-//! to `err`, and where no record is wanted its writer stays as it is. No other status but 5 comes, which each fault of
-//! memory, a thread or a stream has, and no other fault; of the job 5 says nothing.
+//! spell a valid module, the words spell values that the function takes, and what was printed is the end of such a run,
+//! whose record is what was kept; 0 exactly where all threads are done. 0 or 1 of a replay: the same of the run that
+//! the record is of. 0 of a check: the bytes spell a valid module. What is printed is exactly the lines, with units
+//! where they are asked for, or exactly the line of an object, whose hints alone no clause pins. 2: no valid module has
+//! these bytes as its text. 3: it has no such call. 4: the bytes are the text of no record of a run of it, and the line
+//! on `err` names the first line of that text which is wrong or doesn't fit (`specs/Told.antt`). At 2, 3 and 4 nothing
+//! was written but to `err`, and where no record is wanted its writer stays as it is. No other status but 5 comes,
+//! which each fault of memory, a thread or a stream has, and no other fault; of the job 5 says nothing.
 #![tactic(auto)]
 
 mod args;
 mod job;
 mod loading;
 mod plain;
+mod printing;
 mod replaying;
 mod running;
 mod streams;
@@ -22,6 +25,7 @@ mod telling;
 pub use job::{check, complain, refuse, reject, replay_saved, run};
 pub use loading::{Refusal, load, load_checked};
 pub use plain::perform_plain;
+pub use printing::print;
 pub use replaying::{Unfit, misfit};
-pub use running::{Trouble, args_of, keep, print, request_of};
+pub use running::{Trouble, args_of, keep, request_of};
 pub use streams::Streams;

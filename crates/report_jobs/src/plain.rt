@@ -14,8 +14,8 @@ use std::io::Write;
 use std::sync::Wait;
 use std::thread::Threads;
 
-/// Does a check, a run or a replay on a module's bytes: writes its lines, and at most one line about what went wrong;
-/// and the record that a run makes, after the lines.
+/// Does a check, a run or a replay on a module's bytes: prints what comes of it, and at most one line about what went wrong;
+/// and writes the record that a run makes, after that.
 ///
 /// The job's numbers are in their ranges, as those of a job are that `command` gives. `saved` has the bytes of the
 /// record that a replay reads, and else nothing.
@@ -51,9 +51,9 @@ where
 {
     let Streams { out, err, save } = streams;
     match job {
-        Job::Check { .. } => check(alloc, module, out, err),
+        Job::Check { form, .. } => check(alloc, module, *form, out, err),
         Job::Run(asked) => run(rt, alloc, asked, module, out, err, save),
-        Job::Replay { dump, .. } => replay_saved(alloc, module, saved, *dump, out, err),
+        Job::Replay { look, .. } => replay_saved(alloc, module, saved, *look, out, err),
         Job::Show { .. } | Job::Races(_) | Job::Search(_) => unreachable!(),
     }
 }

@@ -2,12 +2,15 @@
 ghost use Rattle.std.specs.Prelude.{◌≡◌, IfOk, IfErr};
 ghost use Rattle.replay_text.specs.Text.{IsRecord};
 ghost use Rattle.report_jobs.specs.Jobs.{PrintsReplay, PrintsReplayOf, IsUnfit, IsUnfitFor, IsUnfitTextOf, unfit_by};
+ghost use Rattle.report_jobs.specs.Jobs.{unfit_of_unwritten};
 ghost use Rattle.report_jobs.specs.Prints.{changed};
 ghost use Rattle.report_jobs.specs.Silence.{LeavesOut, Stays};
 
-use crate::running::print;
+use crate::printing::print_end;
 use replay::{ReplayFault, replay};
 use replay_text::{Record, RecordFault, read_record};
+use report_command::EndLook;
+use show_text::Unwritten;
 use std::alloc::Global;
 use std::io::Write;
 use validate::ValidModule;
@@ -25,23 +28,23 @@ pub enum Unfit {
     Output,
 }
 
-/// Replays the record whose text the bytes are, and prints what its run printed. Answers the status: 0 where all
-/// threads ended well, 1 for a trap or stop.
+/// Replays the record whose text the bytes are, and prints how its run ended. Answers the status: 0 where all threads
+/// ended well, 1 for a trap or stop.
 pub(crate) fn replay_record<W: Write>(
     alloc: Global,
     module: &ValidModule,
     saved: &[u8],
-    dump: u32,
+    look: EndLook,
     out: &mut W,
 ) -> Result<u8, Unfit>
-    ensures prints { IfOk result (PrintsReplay «module».now.parts saved.now dump (W.contents out.old)
+    ensures prints { IfOk result (PrintsReplay «module».now.parts saved.now look (W.contents out.old)
         (W.contents out.new)) }
     ensures unfit { IfErr result (IsUnfit «module».now.parts saved.now) }
     ensures silent { IfErr result (λ e. LeavesOut e (Stays out.old out.new)) }
 {
     match read_record(alloc, saved) {
         Ok(record) => {
-            let status = print_replay(alloc, module, &record, dump, out);
+            let status = print_replay(alloc, module, &record, look, out);
             drop(record);
             status
         }
@@ -55,21 +58,31 @@ fn print_replay<W: Write>(
     alloc: Global,
     module: &ValidModule,
     recorded: &Record,
-    dump: u32,
+    look: EndLook,
     out: &mut W,
 ) -> Result<u8, Unfit>
     requires { IsRecord recorded.now }
     ensures prints { IfOk result
-        (PrintsReplayOf «module».now.parts recorded.now dump (changed W.contents out.old out.new)) }
+        (PrintsReplayOf «module».now.parts recorded.now look (changed W.contents out.old out.new)) }
     ensures unfit { IfErr result (IsUnfitTextOf «module».now.parts recorded.now) }
     ensures silent { IfErr result (λ e. LeavesOut e (Stays out.old out.new)) }
 {
     match replay(alloc, module, recorded) {
-        Ok(end) => match print(out, &end, dump) {
+        Ok(end) => match print_end(alloc, out, &end, look) {
             Ok(status) => Ok(status),
-            Err(_) => Err(Unfit::Output),
+            Err(unwritten) => Err(unprinted(unwritten)),
         },
         Err(fault) => Err(misfit(fault)),
+    }
+}
+
+/// What comes of an end that couldn't be written.
+fn unprinted(unwritten: Unwritten) -> Unfit
+    ensures { result ≡ unfit_of_unwritten unwritten }
+{
+    match unwritten {
+        Unwritten::NoMemory => Unfit::NoMemory,
+        Unwritten::Output => Unfit::Output,
     }
 }
 

@@ -4,19 +4,20 @@ ghost use Rattle.std.specs.Io.KnownBytes.{Appends};
 ghost use Rattle.types.specs.declared.limits.TheConstants.{MOST_FUEL};
 ghost use Rattle.validate_typing.specs.Validity.{HasDistinctNames};
 ghost use Rattle.report_jobs.specs.Asked.{IsAskedBy};
-ghost use Rattle.report_jobs.specs.Prints.{WriterChange, changed, Prints, PrintsRun, PrintsAndKeeps, KeepsRecord};
+ghost use Rattle.report_jobs.specs.Prints.{WriterChange, changed, PrintsRun, PrintsAndKeeps, KeepsRecord};
 ghost use Rattle.report_jobs.specs.Silence.{Leaves, Stays};
 ghost use Rattle.report_jobs.specs.Troubles.{IsTroubleOf, IsUnwritten, AreArgumentsOf, trouble_of};
-ghost use Rattle.report_jobs.specs.Troubles.{trouble_of_recording};
+ghost use Rattle.report_jobs.specs.Troubles.{trouble_of_recording, trouble_of_unwritten};
 ghost use Rattle.report_jobs.specs.declared.running.Trouble.TheVariants as troubles;
 
 use crate::args::read_args;
+use crate::printing::print_end;
 use interp_trait::OpenGate;
 use replay_text::{Record, write_record};
 use report_command::{CallWords, RunJob};
-use report_lines::write_run;
 use report_runs::{Call, EndState, RecordRunFault, record_request, run_request_on_words};
 use spawn_host::{CallFault, Request, RunFault, own_function};
+use show_text::Unwritten;
 use spawn_host_workers::StartFault;
 use std::alloc::{AllocError, Global};
 use std::io::{self, Write};
@@ -89,6 +90,16 @@ impl From<io::Error> for Trouble {
     }
 }
 
+/// What comes of an end that couldn't be written.
+fn unprinted(unwritten: Unwritten) -> Trouble
+    ensures { result ≡ trouble_of_unwritten unwritten }
+{
+    match unwritten {
+        Unwritten::NoMemory => Trouble::NoMemory,
+        Unwritten::Output => Trouble::Output,
+    }
+}
+
 // The exports of a valid module have distinct names (Core specification 1.0, section 3.4.10).
 fn show_distinct(module: &ValidModule)
     ensures { HasDistinctNames «module».now.parts.exports }
@@ -137,7 +148,7 @@ pub fn request_of<'m, 'a>(
     }
 }
 
-/// Runs the function, prints the lines, and writes the record where one is wanted. Answers the status: 0 where all
+/// Runs the function, prints its end, and writes the record where one is wanted. Answers the status: 0 where all
 /// threads ended well, 1 for a trap or stop.
 pub(crate) fn print_run<R, W, S>(
     rt: &R,
@@ -186,7 +197,10 @@ where
     ensures silent { IfErr result (λ e. Leaves e (Stays out.old out.new) (Unit {0})) }
 {
     let end = run_request_on_words(rt, alloc, request, &mut OpenGate)?;
-    print(out, &end, job.dump)
+    match print_end(alloc, out, &end, job.look) {
+        Ok(status) => Ok(status),
+        Err(unwritten) => Err(unprinted(unwritten)),
+    }
 }
 
 /// The same over the memory that records.
@@ -212,14 +226,15 @@ where
     ensures unwanted { is_some job.now.save ≡ false → Stays save.old save.new }
 {
     let (record, end) = record_request(rt, alloc, request, job.limit, &mut OpenGate)?;
-    let status = print_and_keep(&record, &end, job, out, save);
+    let status = print_and_keep(alloc, &record, &end, job, out, save);
     drop(record);
     drop(end);
     status
 }
 
-/// Prints the lines of a recorded run, and writes the record where it is wanted.
+/// Prints the end of a recorded run, and writes the record where it is wanted.
 fn print_and_keep<W: Write, S: Write>(
+    alloc: Global,
     recorded: &Record,
     end: &EndState,
     job: &RunJob,
@@ -232,20 +247,12 @@ fn print_and_keep<W: Write, S: Write>(
     ensures silent { IfErr result (λ e. Leaves e (Stays out.old out.new) (Stays save.old save.new)) }
     ensures unwanted { is_some job.now.save ≡ false → Stays save.old save.new }
 {
-    let status = print(out, end, job.dump)?;
+    let status = match print_end(alloc, out, end, job.look) {
+        Ok(status) => status,
+        Err(unwritten) => return Err(unprinted(unwritten)),
+    };
     keep(recorded, job.save.is_some(), save)?;
     Ok(status)
-}
-
-/// Prints how the threads ended and what the memory is, and answers the status.
-pub fn print<W: Write>(out: &mut W, end: &EndState, dump: u32) -> Result<u8, Trouble>
-    ensures prints { IfOk result (Prints end.now dump (changed W.contents out.old out.new)) }
-    ensures output { IfErr result (λ trouble. trouble ≡ troubles.Output) }
-{
-    match write_run(out, &end.threads, end.pages, dump, &end.bytes) {
-        Ok(status) => Ok(status),
-        Err(_) => Err(Trouble::Output),
-    }
 }
 
 /// Writes a record to its file, where it is wanted; where it isn't the file's writer stays as it is. What a buffer

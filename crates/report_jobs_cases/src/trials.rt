@@ -4,7 +4,7 @@ ghost use Rattle.report_command.specs.Jobs.{IsInRange};
 ghost use Rattle.report_jobs.specs.Plain.{IsPlain};
 
 use crate::answers::is_answer;
-use report_command::{CallWords, Job, RunJob};
+use report_command::{CallWords, EndLook, Form, Job, RunJob};
 use report_jobs::{Streams, perform_plain};
 use std::alloc::{AllocError, Global};
 use std::sync::Wait;
@@ -102,7 +102,7 @@ pub(crate) fn run<R: Threads + Wait + Sync>(
         on_words,
         limit: LIMIT,
         save,
-        dump: 0,
+        look: EndLook::lines(0),
     });
     Ok(give(rt, alloc, &job, module, b""))
 }
@@ -112,7 +112,7 @@ fn replay<R: Threads + Wait + Sync>(rt: &R, alloc: Global, module: &[u8], saved:
     let job = Job::Replay {
         file: "a.wasm",
         saved: "a.record",
-        dump: 0,
+        look: EndLook::lines(0),
     };
     give(rt, alloc, &job, module, saved)
 }
@@ -144,7 +144,11 @@ pub(crate) fn module_is_right<R: Threads + Wait + Sync>(
     module: &[u8],
     called: Called,
 ) -> Result<Option<u8>, AllocError> {
-    let checked = give(rt, alloc, &Job::Check { file: "a.wasm" }, module, b"");
+    let check = Job::Check {
+        file: "a.wasm",
+        form: Form::Lines,
+    };
+    let checked = give(rt, alloc, &check, module, b"");
     if !checked.is_right() {
         return Ok(None);
     }

@@ -1,5 +1,6 @@
 pub mod Json
 pub mod Sent
+pub mod Unwritten
 pub mod Places
 pub mod Ends
 pub mod Refusals

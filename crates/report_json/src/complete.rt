@@ -1,6 +1,7 @@
 //! A search through every order of entries.
-ghost use Rattle.std.specs.Prelude.{◌≡◌, [], ◌∷◌, OnOk};
+ghost use Rattle.std.specs.Prelude.{◌≡◌, [], ◌∷◌, OnOk, IfErr};
 ghost use Rattle.replay_forms.specs.Texts.{Wrote};
+ghost use Rattle.report_json.specs.Unwritten.{LeavesAs};
 ghost use Rattle.report_json.specs.Complete.{cycle_json, fair_words, cycle_field, liveness_json, complete_json};
 ghost use Rattle.report_json.specs.Complete.{verdict_words};
 ghost use Rattle.report_json.specs.Sent as counted;
@@ -124,7 +125,8 @@ pub fn write_complete<W: Write>(
     out: &mut W,
     complete: &Complete,
 ) -> Result<(), Unwritten>
-    ensures { Wrote W.contents out.old out.new result (json_line (complete_json complete.now)) }
+    ensures object { Wrote W.contents out.old out.new result (json_line (complete_json complete.now)) }
+    ensures left { IfErr result (LeavesAs out.old out.new) }
 {
     write_line(alloc, out, complete)
 }

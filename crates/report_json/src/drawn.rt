@@ -1,7 +1,8 @@
 //! A search of drawn runs.
-ghost use Rattle.std.specs.Prelude.{◌≡◌, OnOk};
+ghost use Rattle.std.specs.Prelude.{◌≡◌, OnOk, IfErr};
 ghost use Rattle.replay_forms.specs.Texts.{Wrote};
 ghost use Rattle.report_lines.specs.Drawn.{way_text};
+ghost use Rattle.report_json.specs.Unwritten.{LeavesAs};
 ghost use Rattle.report_json.specs.Drawn as specified;
 ghost use Rattle.report_json.specs.Drawn.{ending_json, met_json, runs_json, coverage_json, drawn_json};
 ghost use Rattle.report_json.specs.Drawn.{verdict_words, end_field, ending_fields};
@@ -191,7 +192,8 @@ impl ToJson for Drawn<'_> {
 /// # Errors
 /// Where memory is refused, and then nothing was written; that of the writer, and then what was written isn't said.
 pub fn write_drawn<W: Write>(alloc: Global, out: &mut W, drawn: &Drawn) -> Result<(), Unwritten>
-    ensures { Wrote W.contents out.old out.new result (json_line (drawn_json drawn.now)) }
+    ensures object { Wrote W.contents out.old out.new result (json_line (drawn_json drawn.now)) }
+    ensures left { IfErr result (LeavesAs out.old out.new) }
 {
     write_line(alloc, out, drawn)
 }

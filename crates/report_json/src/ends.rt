@@ -1,10 +1,11 @@
 //! How threads and runs end.
-ghost use Rattle.std.specs.Prelude.{◌≡◌, [], ◌∷◌, OnOk, IfOk, take, nat_lt};
+ghost use Rattle.std.specs.Prelude.{◌≡◌, [], ◌∷◌, OnOk, IfOk, take, nat_lt, IfErr};
 ghost use Rattle.std.specs.List.{list_all};
 ghost use Rattle.std.specs.String.{string_bytes};
 ghost use Rattle.replay_forms.specs.Texts.{Wrote, hex_text};
 ghost use Rattle.report_lines.specs.Ends as specified;
 ghost use Rattle.report_lines.specs.Ends.{status_of};
+ghost use Rattle.report_json.specs.Unwritten.{LeavesAs};
 ghost use Rattle.report_json.specs.Ends as ends;
 ghost use Rattle.report_json.specs.Ends.{result_json, outcome_json, bytes_field, run_json};
 ghost use Rattle.report_json.specs.Ends.{threads_json, outcomes_json, thread_fields, ended_json};
@@ -204,7 +205,7 @@ fn all_done(reports: &[ThreadReport]) -> bool
 }
 
 /// The status of a run: 0 where all threads ended well, and otherwise 1.
-fn status_of(reports: &[ThreadReport]) -> u8
+pub fn status_of(reports: &[ThreadReport]) -> u8
     ensures { result ≡ status_of reports.now }
 {
     u8::from(!all_done(reports))
@@ -255,6 +256,7 @@ impl ToJson for RunEnd<'_> {
 /// of each function here.
 pub fn write_run<W: Write>(alloc: Global, out: &mut W, end: &RunEnd) -> Result<u8, Unwritten>
     ensures object { Wrote W.contents out.old out.new result (json_line (run_json end.now)) }
+    ensures left { IfErr result (LeavesAs out.old out.new) }
     ensures status { IfOk result (λ status. status ≡ status_of end.now.threads.now) }
 {
     write_line(alloc, out, end)?;

@@ -21,7 +21,7 @@ mod rows;
 
 pub use complete::{Complete, write_complete};
 pub use drawn::{Coverage, Drawn, DrawnEnd, DrawnRuns, MetEnding, write_drawn};
-pub use ends::{RunEnd, write_run};
+pub use ends::{RunEnd, status_of, write_run};
 pub use found::{Found, FoundAs, RunSize, Shrunk};
 pub use places::{Offset, Place, Source};
 pub use races::{NextWrite, RaceEntry, RacePair, RacePairs, write_races};

@@ -1,8 +1,9 @@
 //! Values as JSON: numbers, texts, fields of objects, and a value as a line.
-ghost use Rattle.std.specs.Prelude.{◌≡◌, [], ◌∷◌, OnOk};
+ghost use Rattle.std.specs.Prelude.{◌≡◌, [], ◌∷◌, codes, OnOk, IfErr};
 ghost use Rattle.serde.specs.Event.{Log};
 ghost use Rattle.replay_forms.specs.Texts.{Wrote};
 ghost use Rattle.report_json.specs.Json.{json_text, json_line, number, text, list_of, object_of, is, is_given, are_some};
+ghost use Rattle.report_json.specs.Unwritten.{LeavesAs};
 ghost use Rattle.report_json.specs.Sent as specified;
 ghost use Rattle.report_json.specs.Sent.{Sends, SendsField};
 
@@ -10,7 +11,7 @@ use itoa::Buffer;
 use serde::{Described, Serialize, Serializer};
 use show_text::Unwritten;
 use std::alloc::Global;
-use std::io::Write;
+use std::io::{self, Write};
 
 /// The numbers below this one are printed as numbers, others as texts.
 const WIDE: u64 = 9_007_199_254_740_992;
@@ -243,13 +244,24 @@ pub(crate) fn write_text<W: Write, T: ToJson>(
     out: &mut W,
     value: &T,
 ) -> Result<(), Unwritten>
-    ensures { Wrote W.contents out.old out.new result (json_text (T.json value.now)) }
+    ensures text { Wrote W.contents out.old out.new result (json_text (T.json value.now)) }
+    ensures left { IfErr result (LeavesAs out.old out.new) }
 {
     let Ok(text) = serde_json::to_vec(alloc, &Sent { alloc, value }) else {
         return Err(Unwritten::NoMemory);
     };
-    out.write_all(&text)?;
-    Ok(())
+    match out.write_all(&text) {
+        Ok(()) => Ok(()),
+        Err(_) => Err(Unwritten::Output),
+    }
+}
+
+/// Ends a line, and hands on what the writer holds back.
+fn end_line<W: Write>(out: &mut W) -> io::Result<()>
+    ensures { Wrote W.contents out.old out.new result (codes "\n") }
+{
+    out.write_all(b"\n")?;
+    out.flush()
 }
 
 /// Writes a value as a line.
@@ -261,10 +273,12 @@ pub(crate) fn write_line<W: Write, T: ToJson>(
     out: &mut W,
     value: &T,
 ) -> Result<(), Unwritten>
-    ensures { Wrote W.contents out.old out.new result (json_line (T.json value.now)) }
+    ensures line { Wrote W.contents out.old out.new result (json_line (T.json value.now)) }
+    ensures left { IfErr result (LeavesAs out.old out.new) }
 {
     write_text(alloc, out, value)?;
-    out.write_all(b"\n")?;
-    out.flush()?;
-    Ok(())
+    match end_line(out) {
+        Ok(()) => Ok(()),
+        Err(_) => Err(Unwritten::Output),
+    }
 }

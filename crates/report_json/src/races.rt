@@ -1,6 +1,7 @@
 //! The races of a record.
-ghost use Rattle.std.specs.Prelude.{◌≡◌, ◌&&◌};
+ghost use Rattle.std.specs.Prelude.{◌≡◌, ◌&&◌, IfErr};
 ghost use Rattle.replay_forms.specs.Texts.{Wrote};
+ghost use Rattle.report_json.specs.Unwritten.{LeavesAs};
 ghost use Rattle.report_json.specs.Rows as specified;
 ghost use Rattle.report_json.specs.Rows.{entry_json, write_json, pair_json, races_json};
 ghost use Rattle.report_json.specs.Json.{json_line};
@@ -124,7 +125,8 @@ impl ToJson for RacePairs<'_> {
 /// # Errors
 /// Where memory is refused, and then nothing was written; that of the writer, and then what was written isn't said.
 pub fn write_races<W: Write>(alloc: Global, out: &mut W, races: &RacePairs) -> Result<(), Unwritten>
-    ensures { Wrote W.contents out.old out.new result (json_line (races_json races.now)) }
+    ensures object { Wrote W.contents out.old out.new result (json_line (races_json races.now)) }
+    ensures left { IfErr result (LeavesAs out.old out.new) }
 {
     write_line(alloc, out, races)
 }

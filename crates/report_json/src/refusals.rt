@@ -1,6 +1,7 @@
 //! What was refused, and what failed; and an accepted module.
-ghost use Rattle.std.specs.Prelude.{◌≡◌, [], ◌∷◌, codes, OnOk};
+ghost use Rattle.std.specs.Prelude.{◌≡◌, [], ◌∷◌, codes, OnOk, IfErr};
 ghost use Rattle.replay_forms.specs.Texts.{Wrote};
+ghost use Rattle.report_json.specs.Unwritten.{LeavesAs};
 ghost use Rattle.report_json.specs.Refusals as specified;
 ghost use Rattle.report_json.specs.Refusals.{refused_json, refusal_json, failure_json, failed_json};
 ghost use Rattle.report_json.specs.Refusals.{accepted_json};
@@ -234,14 +235,16 @@ pub fn write_refusal<W: Write>(
     out: &mut W,
     refusal: &Refusal,
 ) -> Result<(), Unwritten>
-    ensures { Wrote W.contents out.old out.new result (json_line (refusal_json refusal.now)) }
+    ensures object { Wrote W.contents out.old out.new result (json_line (refusal_json refusal.now)) }
+    ensures left { IfErr result (LeavesAs out.old out.new) }
 {
     write_line(alloc, out, refusal)
 }
 
 /// Writes the object of a job that failed.
 pub fn write_failed<W: Write>(alloc: Global, out: &mut W, failure: Failure) -> Result<(), Unwritten>
-    ensures { Wrote W.contents out.old out.new result (json_line (failed_json failure.entry)) }
+    ensures object { Wrote W.contents out.old out.new result (json_line (failed_json failure.entry)) }
+    ensures left { IfErr result (LeavesAs out.old out.new) }
 {
     write_line(alloc, out, &Failed(failure))
 }
@@ -252,7 +255,8 @@ pub fn write_accepted<W: Write>(
     out: &mut W,
     functions: usize,
 ) -> Result<(), Unwritten>
-    ensures { Wrote W.contents out.old out.new result (json_line (accepted_json functions)) }
+    ensures object { Wrote W.contents out.old out.new result (json_line (accepted_json functions)) }
+    ensures left { IfErr result (LeavesAs out.old out.new) }
 {
     write_line(alloc, out, &Accepted(functions))
 }
@@ -273,7 +277,8 @@ impl ToJson for Done {
 
 /// Writes the object of a job that is done, of which nothing else is said: what it made is in a file.
 pub fn write_done<W: Write>(alloc: Global, out: &mut W) -> Result<(), Unwritten>
-    ensures { Wrote W.contents out.old out.new result (json_line specified.done_json) }
+    ensures object { Wrote W.contents out.old out.new result (json_line specified.done_json) }
+    ensures left { IfErr result (LeavesAs out.old out.new) }
 {
     write_line(alloc, out, &Done)
 }

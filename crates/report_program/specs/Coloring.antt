@@ -14,9 +14,9 @@ IsRecolored old new = (new.choice ≡ old.choice) × (new.width ≡ old.width)
 abbrev pub IsColored : Job → Job → Type 0
 IsColored (Show file saved names look view) new =
     (colored : Look) × (new ≡ Show file saved names colored view) × IsRecolored look colored
-IsColored (Check file) new = new ≡ Check file
+IsColored (Check file form) new = new ≡ Check file form
 IsColored (Run job) new = new ≡ Run job
-IsColored (Replay file saved dump) new = new ≡ Replay file saved dump
+IsColored (Replay file saved look) new = new ≡ Replay file saved look
 IsColored (Races job) new = new ≡ Races job
 IsColored (Search s) new = new ≡ Search s
 

@@ -26,7 +26,7 @@ fn bytes_of(path: &str, read: Result<Vec<u8>, Unread>) -> Result<Vec<u8>, Stop<'
 
 /// Reads what a job wants.
 pub(crate) fn read<'a>(rt: &HostRuntime, job: &Job<'a>) -> Result<Input, Stop<'a>> {
-    let (Job::Check { file }
+    let (Job::Check { file, .. }
     | Job::Run(RunJob { file, .. })
     | Job::Replay { file, .. }
     | Job::Show { file, .. }

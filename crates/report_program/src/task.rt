@@ -6,7 +6,7 @@ use crate::input::{Input, read};
 use crate::stop::Stop;
 use crate::telling::{tell, tell_file_fault, tell_output_fault};
 use crate::{Noted, SavePlace, SavedFile, is_one_file};
-use report_command::{Job, Misuse, RunJob, Search, misused};
+use report_command::{Form, Job, Misuse, RunJob, Search, misused};
 use report_jobs::Streams;
 use std::io::{self, BufWriter, ErrorKind, Write};
 
@@ -106,11 +106,11 @@ fn begin<'a, W: Write + Drop>(
     input: Input,
     path: &str,
     place: Option<SavePlace>,
-    explain: bool,
+    is_copied: bool,
 ) -> io::Result<Task<'a, W>> {
     let alloc = rt.alloc();
     let err = Vec::with_capacity(alloc, path.len().saturating_add(LINE))?;
-    let stdout = Copied::new(alloc, Noted::new(stdout), explain);
+    let stdout = Copied::new(alloc, Noted::new(stdout), is_copied);
     let out = BufWriter::with_capacity(alloc, OUT, stdout)?;
     let save = BufWriter::with_capacity(alloc, RECORD, SavedFile::new(rt, place))?;
     Ok(Task {
@@ -124,17 +124,17 @@ fn prepare<'a, 'j, W: Write + Drop>(
     rt: &'a HostRuntime,
     stdout: W,
     job: &Job<'j>,
-    explain: bool,
+    is_copied: bool,
 ) -> Result<Task<'a, W>, Stop<'j>> {
     keep_module(rt, job)?;
     let input = read(rt, job)?;
     let place = place_of(rt, job)?;
     let path = record_of(job).unwrap_or("");
-    Ok(begin(rt, stdout, input, path, place, explain)?)
+    Ok(begin(rt, stdout, input, path, place, is_copied)?)
 }
 
 /// Begins a job: reads its files, and takes the place of the file that it makes and the memory of its streams. Where it
-/// is to explain, a copy of its lines is kept.
+/// is to explain, or to print an object, a copy of what it prints is kept.
 ///
 /// # Errors
 /// The status, once it was said on standard error why: 3 where the file would take the place of one that is read, 5
@@ -145,9 +145,10 @@ pub fn open_task<'a, W: Write + Drop>(
     job: &Job,
     explain: bool,
 ) -> Result<Task<'a, W>, u8> {
-    match prepare(rt, stdout, job, explain) {
+    let form = job.form();
+    match prepare(rt, stdout, job, explain || form == Form::Json) {
         Ok(task) => Ok(task),
-        Err(stop) => Err(stop.tell(rt)),
+        Err(stop) => Err(stop.tell(rt, form)),
     }
 }
 

@@ -23,7 +23,7 @@ pub struct Done<'a> {
     pub module: &'a [u8],
     /// Those of the record that was replayed, or none.
     pub saved: &'a [u8],
-    /// The lines on standard output.
+    /// What is on standard output.
     pub printed: &'a [u8],
     pub status: u8,
 }

@@ -1,32 +1,32 @@
 //! Threads that were stopped.
 
-use std::alloc::AllocError;
+use report_command::ADVICE;
+use std::alloc::{AllocError, Global};
+use types::Outcome;
 
-/// What a line of a stopped thread ends with, and what to do.
-const STOPS: [(&str, &str); 4] = [
-    (
-        ": stop record full",
-        "the record took no further entry: --limit takes up to 1000000, and --memory words has no limit and keeps no record\n",
-    ),
-    (
-        ": stop out of fuel",
-        "a thread spent all its units: --fuel takes up to 1000000000000\n",
-    ),
-    (
-        ": stop asleep for good",
-        "a thread sleeps where nobody is left to wake it: `show` has the line on which it fell asleep\n",
-    ),
-    (
-        ": trap unaligned atomic",
-        "an atomic access wants an address that its width divides\n",
-    ),
-];
+/// The piece of an object by which a thread ended so, where it was stopped.
+fn object_piece(alloc: Global, outcome: Outcome) -> Result<Option<String>, AllocError> {
+    Ok(match outcome {
+        Outcome::Done(_) => None,
+        Outcome::Trap(trap) => Some(format!(in alloc; "\"trap\":\"{trap}\"")?),
+        Outcome::Stop(stop) => Some(format!(in alloc; "\"stop\":\"{stop}\"")?),
+    })
+}
 
-/// Adds what to do about the ends of threads in the lines that a run printed.
-pub(crate) fn add_ends(out: &mut String, printed: &str) -> Result<(), AllocError> {
-    for (end, words) in STOPS {
-        if printed.lines().any(|line| line.ends_with(end)) {
-            out.push_str(words)?;
+/// Whether a thread ended so, in the lines or in the object that a run printed.
+fn has_ended_so(alloc: Global, printed: &str, outcome: Outcome) -> Result<bool, AllocError> {
+    let line = format!(in alloc; ": {outcome}")?;
+    let piece = object_piece(alloc, outcome)?;
+    Ok(printed.contains(line.as_str())
+        || piece.is_some_and(|piece| printed.contains(piece.as_str())))
+}
+
+/// Adds what to do about the ends of threads in what a run printed.
+pub(crate) fn add_ends(alloc: Global, out: &mut String, printed: &str) -> Result<(), AllocError> {
+    for advice in &ADVICE {
+        if has_ended_so(alloc, printed, advice.outcome)? {
+            let words = advice.words;
+            write!(out, "{words}\n")?;
         }
     }
     Ok(())

@@ -41,7 +41,7 @@ pub enum Refused<'a> {
         number: usize,
         misfit: Option<Misfit<'a>>,
     },
-    /// Threads that were stopped, in the lines that a run printed.
+    /// Threads that were stopped, in the lines or the object that a run printed.
     Ends(&'a str),
 }
 
@@ -92,6 +92,6 @@ fn write_lines(alloc: Global, out: &mut String, refused: &Refused) -> Result<(),
             number,
             misfit,
         } => add_misfit(out, saved, number, misfit),
-        Refused::Ends(printed) => add_ends(out, printed),
+        Refused::Ends(printed) => add_ends(alloc, out, printed),
     }
 }

@@ -1,5 +1,5 @@
 //! Each front of a module under `check`, and command lines as jobs.
-use report_command::{Job, RunJob, command};
+use report_command::{Form, Job, RunJob, command};
 use report_jobs::check;
 use std::alloc::{AllocError, Global};
 use std::test::Fail;
@@ -15,7 +15,7 @@ const ATOMIC_ADD: [u8; 46] = [
 fn checked(alloc: Global, module: &[u8]) -> (Vec<u8>, Vec<u8>) {
     let mut out = Vec::new(alloc);
     let mut err = Vec::new(alloc);
-    let _ = check(alloc, module, &mut out, &mut err);
+    let _ = check(alloc, module, Form::Lines, &mut out, &mut err);
     (out, err)
 }
 
@@ -99,12 +99,12 @@ fn is_run(job: &Job, asked: &Asked) -> bool {
                 on_words,
                 limit,
                 save: None,
-                dump,
+                look,
             },
         ) => {
             (*file, call.invoke) == ("a.wasm", asked.invoke)
                 && *on_words == asked.on_words
-                && (call.fuel, *limit, *dump) == (asked.fuel, asked.limit, asked.dump)
+                && (call.fuel, *limit, look.dump) == (asked.fuel, asked.limit, asked.dump)
                 && call.args.as_slice() == asked.args
         }
         _ => false,

@@ -3,7 +3,7 @@
 ghost use Rattle.std.specs.Prelude.{◌≤◌};
 ghost use Rattle.types.specs.declared.limits.TheConstants.{MOST_FUEL};
 
-use report_command::{CallWords, RunJob};
+use report_command::{CallWords, EndLook, RunJob};
 use report_jobs::{replay_saved, run};
 use std::alloc::Global;
 use std::io::{self, Write};
@@ -30,7 +30,7 @@ fn replays_a_million_entries(rt: HostRuntime) -> Result<(), Fail> {
     let module = ENDLESS.bytes(rt.alloc())?;
     let record = long_record(rt.alloc(), "wathread-record 1\n")?;
     let (mut out, mut err) = (Vec::new(rt.alloc()), Vec::new(rt.alloc()));
-    let status = replay_saved(rt.alloc(), &module, &record, 4, &mut out, &mut err);
+    let status = replay_saved(rt.alloc(), &module, &record, EndLook::lines(4), &mut out, &mut err);
     assert!(rt; out.as_slice() == FULL && err.is_empty() && status == 1);
     Ok(())
 }
@@ -49,7 +49,7 @@ fn filling(alloc: Global) -> RunJob<'static>
         on_words: false,
         limit: 1_000_000,
         save: Some("a.record"),
-        dump: 4,
+        look: EndLook::lines(4),
     }
 }
 

@@ -2,7 +2,7 @@
 
 use crate::room::{count_in, make_room, path_in};
 use crate::writers::Narrow;
-use report_command::{CallWords, Job, RunJob, command};
+use report_command::{CallWords, EndLook, Job, RunJob, command};
 use report_program::{Lost, close, open_task};
 use std::alloc::Global;
 use std::fs;
@@ -69,7 +69,7 @@ fn running<'a>(alloc: Global, file: &'a str, save: &'a str) -> Job<'a> {
         on_words: false,
         limit: 1000,
         save: Some(save),
-        dump: 0,
+        look: EndLook::lines(0),
     })
 }
 

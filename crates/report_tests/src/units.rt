@@ -3,7 +3,7 @@
 ghost use Rattle.std.specs.Prelude.{◌≤◌, IfOk};
 ghost use Rattle.types.specs.declared.limits.TheConstants.{MOST_FUEL};
 
-use report_command::{CallWords, RunJob};
+use report_command::{CallWords, EndLook, RunJob};
 use report_jobs::{replay_saved, run};
 use std::alloc::{AllocError, Global};
 use std::sync::Wait;
@@ -61,7 +61,7 @@ fn job_of(alloc: Global, count: &Count, on_words: bool) -> Result<RunJob<'static
         on_words,
         limit: 100_000,
         save,
-        dump: 0,
+        look: EndLook::lines(0),
     })
 }
 
@@ -86,7 +86,7 @@ fn counted<R: Threads + Wait + Sync>(
 /// Whether the record is replayed to the same lines.
 fn is_replayed(alloc: Global, count: &Count, record: &[u8]) -> bool {
     let (mut out, mut err) = (Vec::new(alloc), Vec::new(alloc));
-    let status = replay_saved(alloc, COUNTDOWN, record, 0, &mut out, &mut err);
+    let status = replay_saved(alloc, COUNTDOWN, record, EndLook::lines(0), &mut out, &mut err);
     out.as_slice() == count.out && err.is_empty() && status == count.status
 }
 

@@ -3,7 +3,7 @@
 ghost use Rattle.std.specs.Prelude.{◌≤◌};
 ghost use Rattle.types.specs.declared.limits.TheConstants.{MOST_FUEL};
 
-use report_command::{CallWords, RunJob};
+use report_command::{CallWords, EndLook, RunJob};
 use report_jobs::run;
 use std::alloc::Global;
 use std::io::{self, Write};
@@ -33,7 +33,7 @@ fn adding(alloc: Global) -> RunJob<'static>
         on_words: false,
         limit: 100_000,
         save: Some("a.record"),
-        dump: 8,
+        look: EndLook::lines(8),
     }
 }
 

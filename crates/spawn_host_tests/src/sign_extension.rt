@@ -3,6 +3,7 @@
 
 use crate::runs::{BOTH, FUEL, has_ends, run};
 use interp_trait::OpenGate;
+use report_command::Form;
 use report_jobs::check;
 use std::test::Fail;
 use test_modules::{GIVING_I32, I32, I64, Small};
@@ -109,7 +110,7 @@ fn refuses_what_is_none(rt: HostRuntime) -> Result<(), Fail> {
         let bytes = module.bytes(rt.alloc())?;
         let mut out = Vec::new(rt.alloc());
         let mut err = Vec::new(rt.alloc());
-        let status = check(rt.alloc(), &bytes, &mut out, &mut err);
+        let status = check(rt.alloc(), &bytes, Form::Lines, &mut out, &mut err);
         assert_eq!(rt; status, 2);
         assert!(rt; err.as_slice() == refused.line.as_bytes(), "{err:?}");
     }

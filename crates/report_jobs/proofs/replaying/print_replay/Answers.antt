@@ -1,16 +1,30 @@
+use Rattle.std.proofs.Common.{◌≡◌, sym, subst}
+use Rattle.report_jobs.specs.Jobs.{IsUnfit}
+use Rattle.report_jobs.specs.Silence.{LeavesOut}
+use Rattle.report_jobs.specs.declared.replaying.Unfit.{Unfit}
+use Rattle.report_jobs.proofs.Silent.{unwritten_out, unwritten_unfit}
 use Rattle.report_jobs.proofs.replaying.print_replay.Goals as goal
 
-pub returns-in-Ok-print-clause-prints : goal.returns-in-Ok-print-clause-prints
-returns-in-Ok-print-clause-prints g c = λ saved text. record {
+pub returns-in-Ok-print_end-clause-prints : goal.returns-in-Ok-print_end-clause-prints
+returns-in-Ok-print_end-clause-prints g c = λ saved text. record {
   record_is = c.args.recorded.now;
   ranges = c.requires;
   text = text;
   end = c.in-Ok.end;
   run = c.in-Ok.ensures.run;
-  lines = c.in-Ok-print.ensures.prints.lines;
-  status_is = c.in-Ok-print.ensures.prints.status_is;
+  prints = c.in-Ok-print_end.ensures.prints;
 }
 
 pub returns-clause-unfit : goal.returns-clause-unfit
 returns-clause-unfit g c = λ saved text.
     c.misfit.ensures.unfit c.args.module.now.parts c.args.recorded.now saved c.requires text c.in-Err.ensures.fault c.in-Err.ensures.none
+
+pub returns-in-Err-print_end-clause-unfit : goal.returns-in-Err-print_end-clause-unfit
+returns-in-Err-print_end-clause-unfit g c = λ saved text.
+    let m = c.args.module.now.parts in
+    subst (IsUnfit m saved) (sym c.unprinted.ensures) (unwritten_unfit m saved c.in-Err-print_end.unwritten)
+
+pub returns-in-Err-print_end-clause-silent : goal.returns-in-Err-print_end-clause-silent
+returns-in-Err-print_end-clause-silent g c =
+    subst (λ (e : Unfit). LeavesOut e (c.print_end.new.out ≡ c.args.out.now)) (sym c.unprinted.ensures)
+    (unwritten_out _ _ c.in-Err-print_end.unwritten c.in-Err-print_end.ensures.left)

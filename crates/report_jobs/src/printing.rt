@@ -1,0 +1,152 @@
+//! How the end of a run is printed: as lines, with units or without, or as an object.
+ghost use Rattle.std.specs.Prelude.{◌≡◌, true, false, IfOk, IfErr, OnOk};
+ghost use Rattle.replay_forms.specs.Texts.{Wrote};
+ghost use Rattle.report_lines.specs.Lines.{numbered};
+ghost use Rattle.report_json.specs.Unwritten.{LeavesAs};
+ghost use Rattle.report_jobs.specs.Prints.{changed, Prints, PrintsEnd, WritesEnd, WritesObject};
+ghost use Rattle.report_jobs.specs.Prints.{end_text, units_line};
+ghost use Rattle.report_jobs.specs.declared.running.Trouble.TheVariants as troubles;
+
+use crate::running::Trouble;
+use report_command::{ADVICE, EndLook, Form};
+use report_json::{RunEnd, status_of};
+use report_lines::write_run;
+use report_runs::EndState;
+use show_text::Unwritten;
+use std::alloc::{AllocError, Global};
+use std::io::{self, Write};
+use types::ThreadReport;
+
+/// Prints how the threads ended and what the memory is, as lines, and answers the status.
+pub fn print<W: Write>(out: &mut W, end: &EndState, dump: u32) -> Result<u8, Trouble>
+    ensures prints { IfOk result (Prints end.now dump (changed W.contents out.old out.new)) }
+    ensures output { IfErr result (λ trouble. trouble ≡ troubles.Output) }
+{
+    match write_run(out, &end.threads, end.pages, dump, &end.bytes) {
+        Ok(status) => Ok(status),
+        Err(_) => Err(Trouble::Output),
+    }
+}
+
+/// Writes the line of a thread, with the units that it spent: `thread T: `, its outcome, and `, units N`.
+fn write_units<W: Write>(out: &mut W, thread: usize, report: ThreadReport) -> io::Result<()>
+    ensures { Wrote W.contents out.old out.new result (units_line thread report) }
+{
+    let ThreadReport { outcome, spent } = report;
+    write!(out, "thread {thread}: {outcome}, units {spent}\n")
+}
+
+/// Writes such a line of each thread, from thread 0 on.
+fn write_all_units<W: Write>(out: &mut W, reports: &[ThreadReport]) -> io::Result<()>
+    ensures { Wrote W.contents out.old out.new result (numbered units_line 0 reports.now) }
+{
+    for (thread, report) in reports.iter().enumerate() {
+        write_units(out, thread, *report)?;
+    }
+    Ok(())
+}
+
+/// Writes the lines of a run, with units.
+fn write_with_units<W: Write>(out: &mut W, end: &EndState, dump: u32) -> io::Result<()>
+    ensures { Wrote W.contents out.old out.new result (end_text true end.now dump) }
+{
+    write_all_units(out, &end.threads)?;
+    write_run(out, &[], end.pages, dump, &end.bytes)?;
+    Ok(())
+}
+
+/// Writes the lines of a run, without units.
+fn write_without_units<W: Write>(out: &mut W, end: &EndState, dump: u32) -> io::Result<()>
+    ensures { Wrote W.contents out.old out.new result (end_text false end.now dump) }
+{
+    write_run(out, &end.threads, end.pages, dump, &end.bytes)?;
+    Ok(())
+}
+
+/// Writes the lines of a run.
+fn write_lines<W: Write>(out: &mut W, end: &EndState, dump: u32, units: bool) -> io::Result<()>
+    ensures { Wrote W.contents out.old out.new result (end_text units end.now dump) }
+{
+    if units {
+        write_with_units(out, end, dump)
+    } else {
+        write_without_units(out, end, dump)
+    }
+}
+
+/// What to do about threads that were stopped.
+fn hints_of(alloc: Global, reports: &[ThreadReport]) -> Result<Vec<&'static str>, AllocError> {
+    let mut hints = Vec::new(alloc);
+    for advice in &ADVICE {
+        if reports
+            .iter()
+            .any(|report| report.outcome == advice.outcome)
+        {
+            hints.push(advice.words)?;
+        }
+    }
+    Ok(hints)
+}
+
+/// Writes the object of a run.
+fn write_object<W: Write>(
+    alloc: Global,
+    out: &mut W,
+    end: &EndState,
+    dump: u32,
+) -> Result<(), Unwritten>
+    ensures object { OnOk result (WritesObject end.now dump (changed W.contents out.old out.new)) }
+    ensures left { IfErr result (LeavesAs out.old out.new) }
+{
+    let Ok(hints) = hints_of(alloc, &end.threads) else {
+        return Err(Unwritten::NoMemory);
+    };
+    let run = RunEnd {
+        threads: &end.threads,
+        places: &[],
+        pages: end.pages,
+        dump,
+        bytes: &end.bytes,
+        hints: &hints,
+    };
+    match report_json::write_run(alloc, out, &run) {
+        Ok(_) => Ok(()),
+        Err(unwritten) => Err(unwritten),
+    }
+}
+
+/// Writes the end of a run in the form that is asked for.
+fn write_end<W: Write>(
+    alloc: Global,
+    out: &mut W,
+    end: &EndState,
+    look: EndLook,
+) -> Result<(), Unwritten>
+    ensures written { OnOk result
+        (WritesEnd look.form look.units look.dump end.now (changed W.contents out.old out.new)) }
+    ensures left { IfErr result (LeavesAs out.old out.new) }
+{
+    match look.form {
+        Form::Json => write_object(alloc, out, end, look.dump),
+        Form::Lines => match write_lines(out, end, look.dump, look.units) {
+            Ok(()) => Ok(()),
+            Err(_) => Err(Unwritten::Output),
+        },
+    }
+}
+
+/// Prints how a run ended as is asked for, and answers the status: 0 where all threads ended well, 1 for a trap or stop.
+pub(crate) fn print_end<W: Write>(
+    alloc: Global,
+    out: &mut W,
+    end: &EndState,
+    look: EndLook,
+) -> Result<u8, Unwritten>
+    ensures prints { IfOk result (PrintsEnd end.now look (changed W.contents out.old out.new)) }
+    ensures left { IfErr result (LeavesAs out.old out.new) }
+{
+    match write_end(alloc, out, end, look) {
+        Ok(()) => Ok(status_of(&end.threads)),
+        Err(unwritten) => Err(unwritten),
+    }
+}
