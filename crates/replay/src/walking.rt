@@ -40,7 +40,7 @@ pub(crate) fn walk<T: TakesTurns + Drop, W: Watch<T>>(
     let mut walk = Walk::new(threads, memory, parts.threads);
     let first = parts.version.header_lines() + 1;
     let log = parts.log.as_slice();
-    if let Some(at) = walk.along_watched(log, parts.limit, parts.fuel, watch) {
+    if let Some(at) = walk.along_watched(log, parts.limit, watch) {
         return Err(ReplayFault::Line(line_at(first, at)));
     }
     let held = walk.memory.pages();

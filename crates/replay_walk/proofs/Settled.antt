@@ -18,13 +18,12 @@ module _ {S : Type 0} (meaning : S → Meaning) where
     pub within : (lent : List S) → lent ≡ threads → n < length lent
     within lent same = subst (λ l. n < length l) (sym same) (slice_get_within threads n (going.runs).thread (going.runs).at)
 
-    pub ready : (lent : List S) → lent ≡ threads → (budget : ℕ) → s.budget ≡ budget → (x : S) → slice_get lent n ≡ Some x
-        → ((meaning x).fuel ≡ budget) × (t : Running) × (meaning x).stands t × IsHere t
-    ready lent same budget enough x at =
+    pub ready : (lent : List S) → lent ≡ threads → (x : S) → slice_get lent n ≡ Some x → (t : Running) × (meaning x).stands t × IsHere t
+    ready lent same x at =
         let r = going.runs in
         let here : slice_get threads n ≡ Some x = sym (ap (λ l. slice_get l n) same) ∙ at in
         let is : r.thread ≡ x = cc (here, r.at) in
-        ((st.alike n x here).1 ∙ enough, s.state.threads n, subst (λ y. (meaning y).stands (s.state.threads n)) is r.standing, r.here)
+        (s.state.threads n, subst (λ y. (meaning y).stands (s.state.threads n)) is r.standing, r.here)
 
     -- it settled, and said what it wants
     pub record IsSettled (turn : Turn) (after : List S) : Type 0 where

@@ -1,5 +1,5 @@
 -- A turn to which nothing is given.
-use Rattle.std.proofs.Common.{◌≡◌, ℕ, zero, suc, ◌+◌, Option, Some, None, refl, sym, ◌∙◌, ap, subst, arith, ◌⊎◌, inl, inr}
+use Rattle.std.proofs.Common.{◌≡◌, ℕ, zero, suc, ◌<◌, ◌+◌, Option, Some, None, refl, sym, ◌∙◌, ap, subst, arith, ◌⊎◌, inl, inr}
 use Rattle.types.specs.declared.event.Event.{Event}
 use Rattle.types.specs.declared.outcome.Outcome.{Outcome}
 use Rattle.schedule.specs.System.{Want, Want.Turns, Want.Calls, Want.Awaits, Want.Gone}
@@ -9,7 +9,8 @@ use Rattle.interp_machine.specs.Program.{Program}
 use Rattle.interp_machine.specs.State.{State}
 use Rattle.schedule_threads.specs.Shared.{over_memory_and_queue}
 use Rattle.schedule_threads.specs.Threads.{machine_of}
-use Rattle.interp_trait.specs.Turns.{Running, left_of, outcome_of, wants_of, own_turn_if, answer_by, wanted_before, IsWanted, IsTurned, IsHere}
+use Rattle.interp_trait.specs.Turns.{Running, outcome_of, wants_of, own_turn_if, answer_by, wanted_before, IsWanted, IsTurned, IsHere}
+use Rattle.interp_trait.specs.Turns.{SaysWhy, IsPaused, after_own}
 use Rattle.interp_trait.specs.declared.turn.Given.TheVariants as given
 use Rattle.interp_trait.specs.declared.turn.Turn.{Turn}
 use Rattle.interp_trait.specs.declared.turn.Turn.TheVariants as turns
@@ -21,7 +22,6 @@ pub record MovesOn (p : Program) (t : Running) (Stands : Running → Type 0) : T
   pub wants : wants_of p t ≡ Turns
   pub stands : Stands (thread_goes (machine_of p) t)
   pub here : IsHere (thread_goes (machine_of p) t)
-  pub left : left_of t ≡ suc (left_of (thread_goes (machine_of p) t))
 
 here_goes : (p : Program) (t : Running) → IsHere t → IsHere (thread_goes (machine_of p) t)
 here_goes p Absent h = absurd h
@@ -30,15 +30,6 @@ here_goes p (Runs c (suc n)) h = tt
 here_goes p (Over o left) h = tt
 here_goes p (Leaves o left) h = absurd h
 here_goes p (Left o left) h = absurd h
-
-pays : (p : Program) (t : Running) → IsHere t → wants_of p t ≡ Turns → outcome_of (thread_goes (machine_of p) t) ≡ None
-    → left_of t ≡ suc (left_of (thread_goes (machine_of p) t))
-pays p Absent h w o = absurd h
-pays p (Runs c zero) h w o = absurd (cc o)
-pays p (Runs c (suc n)) h w o = refl
-pays p (Over outcome left) h w o = absurd (cc o)
-pays p (Leaves outcome left) h w o = absurd h
-pays p (Left outcome left) h w o = absurd h
 
 wanted_not_gone : (p : Program) (left : ℕ) (wish : Wish Event Outcome) → wanted (machine_of p) left wish ≡ Gone → ⊥
 wanted_not_gone p left Waits h = absurd (cc h)
@@ -92,7 +83,6 @@ module _ (p : Program) (turn : Turn) (Stands : Running → Type 0) where
           wants = wants;
           stands = stands;
           here = here_goes p t h;
-          left = pays p t h wants outcome_is;
         },
       )
   own_turn t h wants stands ok None outcome_is (Calls e) w_is answer =
@@ -102,7 +92,6 @@ module _ (p : Program) (turn : Turn) (Stands : Running → Type 0) where
           wants = wants;
           stands = stands;
           here = here_goes p t h;
-          left = pays p t h wants outcome_is;
         },
       )
   own_turn t h wants stands ok None outcome_is Gone w_is answer =
@@ -112,7 +101,6 @@ module _ (p : Program) (turn : Turn) (Stands : Running → Type 0) where
           wants = wants;
           stands = stands;
           here = here_goes p t h;
-          left = pays p t h wants outcome_is;
         },
       )
 
@@ -149,13 +137,12 @@ module _ (p : Program) (turn : Turn) (Stands : Running → Type 0) where
   turned_own t h turned = by_want t h turned (wants_of p t) refl
 
 -- on the way
-pub record Going (p : Program) (t : Running) (Stands : Running → Type 0) (made : ℕ) (budget : ℕ) : Type 0 where
+pub record Going (p : Program) (t : Running) (Stands : Running → Type 0) : Type 0 where
   pub now : Running
   pub turns : ℕ
   pub comes : (start : ℕ → ℕ → State) (fuel : ℕ) → ComesTo (over_memory_and_queue (machine_of p) start fuel) turns t now
   pub stands : Stands now
   pub here : IsHere now
-  pub left : left_of now + made ≡ budget
 
 then_comes : (p : Program) (start : ℕ → ℕ → State) (fuel : ℕ) (j k : ℕ) (t u v : Running) → ComesTo (over_memory_and_queue (machine_of p) start fuel) j t u
     → ComesTo (over_memory_and_queue (machine_of p) start fuel) k u v → ComesTo (over_memory_and_queue (machine_of p) start fuel) (j + k) t v
@@ -167,9 +154,9 @@ then_comes p start fuel (suc j) k t u v h g =
     let e : suc (j + k) ≡ suc j + k = omega arith in
     subst (λ m. ComesTo (over_memory_and_queue (machine_of p) start fuel) m t v) e (h.0, then_comes p start fuel j k (thread_goes (machine_of p) t) u v h.1 g)
 
-pub goes_on : (p : Program) (t : Running) (Stands Next : Running → Type 0) (made budget : ℕ) (turn : Turn) → turn ≡ turns.Moved
-    → (g : Going p t Stands made budget) → IsTurned p g.now given.Nothing turn Next → Going p t Next (made + 1) budget
-goes_on p t Stands Next made budget turn moved g turned =
+pub goes_on : (p : Program) (t : Running) (Stands Next : Running → Type 0) (turn : Turn) → turn ≡ turns.Moved → (g : Going p t Stands)
+    → IsTurned p g.now given.Nothing turn Next → Going p t Next
+goes_on p t Stands Next turn moved g turned =
     elim (turned_own p turn Next g.now g.here turned) [
       | inl m ↦ record {
         now = thread_goes (machine_of p) g.now;
@@ -177,7 +164,6 @@ goes_on p t Stands Next made budget turn moved g turned =
         comes = λ start fuel. then_comes p start fuel g.turns 1 t g.now (thread_goes (machine_of p) g.now) (g.comes start fuel) ((m.1).wants, refl);
         stands = (m.1).stands;
         here = (m.1).here;
-        left = let a = g.left in let b = (m.1).left in omega arith;
       }
       | inr x ↦ absurd (says_not_moved x.last (subst (λ (y : Turn). Says p x.last y) moved x.says))
     ]
@@ -185,28 +171,61 @@ goes_on p t Stands Next made budget turn moved g turned =
     says_not_moved : (u : Running) → Says p u turns.Moved → ⊥
     says_not_moved u h = h
 
-settles_with : (p : Program) (t : Running) (Stands Next : Running → Type 0) (made budget : ℕ) (turn : Turn)
-    (g : Going p t Stands made budget) → SaysNow p turn Next g.now
+-- it settles from where it has come to
+pub settles_on : (p : Program) (t : Running) (Stands Next : Running → Type 0) (turn : Turn) → (g : Going p t Stands) → SettlesAs p g.now turn Next
     → SettlesAs p t turn Next
-settles_with p t Stands Next made budget turn g x = record {
-  settled = x.last;
+settles_on p t Stands Next turn g x = record {
+  settled = x.settled;
   turns = g.turns + x.turns;
-  comes = λ start fuel. then_comes p start fuel g.turns x.turns t g.now x.last (g.comes start fuel) (x.comes start fuel);
+  comes = λ start fuel. then_comes p start fuel g.turns x.turns t g.now x.settled (g.comes start fuel) (x.comes start fuel);
   stands = x.stands;
   here = x.here;
   says = x.says;
 }
 
--- it says something else, or has no unit left
-pub settles : (p : Program) (t : Running) (Stands Next : Running → Type 0) (made budget : ℕ) (turn : Turn) → (turn ≡ turns.Moved → ⊥)
-    → (g : Going p t Stands made budget) → IsTurned p g.now given.Nothing turn Next → SettlesAs p t turn Next
-settles p t Stands Next made budget turn stays g turned =
-    elim (turned_own p turn Next g.now g.here turned) [ inl m ↦ absurd (stays m.0) | inr x ↦ settles_with p t Stands Next made budget turn g x ]
-
-pub settles_last : (p : Program) (t : Running) (Stands Next : Running → Type 0) (made budget : ℕ) (turn : Turn) → made ≡ budget
-    → (g : Going p t Stands made budget) → IsTurned p g.now given.Nothing turn Next → SettlesAs p t turn Next
-settles_last p t Stands Next made budget turn all g turned =
+-- it says something else
+pub settles : (p : Program) (t : Running) (Stands Next : Running → Type 0) (turn : Turn) → (turn ≡ turns.Moved → ⊥) → (g : Going p t Stands)
+    → IsTurned p g.now given.Nothing turn Next → SettlesAs p t turn Next
+settles p t Stands Next turn stays g turned =
     elim (turned_own p turn Next g.now g.here turned) [
-      | inl m ↦ (let a = g.left in let b = (m.1).left in let no : ⊥ = omega arith in absurd no)
-      | inr x ↦ settles_with p t Stands Next made budget turn g x
+      | inl m ↦ absurd (stays m.0)
+      | inr x ↦ settles_on p t Stands Next turn g (record {
+        settled = x.last;
+        turns = x.turns;
+        comes = x.comes;
+        stands = x.stands;
+        here = x.here;
+        says = x.says;
+      })
     ]
+
+-- so it does by turns of its own that are made at once
+paused_comes : (p : Program) (start : ℕ → ℕ → State) (fuel : ℕ) (k : ℕ) (t : Running) → ((j : ℕ) → j < k → wants_of p (after_own p j t) ≡ Turns)
+    → ComesTo (over_memory_and_queue (machine_of p) start fuel) k t (after_own p k t)
+paused_comes p start fuel zero t each = refl
+paused_comes p start fuel (suc k) t each =
+    let e : k + 1 ≡ suc k = omega arith in
+    subst (λ m. ComesTo (over_memory_and_queue (machine_of p) start fuel) m t (after_own p (suc k) t)) e
+    (then_comes p start fuel k 1 t (after_own p k t) (after_own p (suc k) t) (paused_comes p start fuel k t (λ j low. each j (omega (arith, low))))
+    (each k (omega arith), refl))
+
+here_own : (p : Program) (k : ℕ) (t : Running) → IsHere t → IsHere (after_own p k t)
+here_own p zero t h = h
+here_own p (suc k) t h = here_goes p (after_own p k t) (here_own p k t h)
+
+says_why : (p : Program) (u : Running) (turn : Turn) → SaysWhy p u turn → IsWanted turn → Says p u turn
+says_why p u turns.Moved why wanted = why
+says_why p u (turns.Wants e) why wanted = (why.0, why.1, wanted)
+says_why p u turns.Awaits why wanted = why
+says_why p u (turns.Ended o) why wanted = why
+
+pub settles_paused : (p : Program) (t : Running) (turn : Turn) (Next : Running → Type 0) (Also : ℕ → Running → Type 0) → IsHere t
+    → IsPaused p t turn (λ k now. Next now × Also k now) → SettlesAs p t turn Next
+settles_paused p t turn Next Also here q = record {
+  settled = after_own p q.turns t;
+  turns = q.turns;
+  comes = λ start fuel. paused_comes p start fuel q.turns t q.each;
+  stands = q.after.0;
+  here = here_own p q.turns t here;
+  says = says_why p (after_own p q.turns t) turn q.answer q.wanted;
+}

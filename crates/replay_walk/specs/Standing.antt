@@ -27,7 +27,7 @@ use Rattle.schedule_threads.specs.Shared.{Shared, without_dues, over_memory_and_
 use Rattle.schedule_threads.specs.Threads.{machine_of}
 use Rattle.schedule_runs.specs.Places.{place_of}
 use Rattle.interp_trait.specs.Turns.{Running, outcome_of, wants_of, left_of, Meaning, spawn_types, spawned_in, IsHere}
-use Rattle.interp_trait.specs.Turns.{MakesTurn, MayBeSpawned, WantsEvent}
+use Rattle.interp_trait.specs.Turns.{MakesTurn, MayBeSpawned, MayRun, WantsEvent}
 use Rattle.interp_trait.specs.declared.turn.Given.{Given}
 use Rattle.interp_trait.specs.declared.turn.Turn.{Turn}
 use Rattle.interp_trait.specs.declared.turn.Turn.TheVariants as turns
@@ -215,10 +215,9 @@ module _ {S : Type 0} (meaning : S → Meaning) where
   StartsAt xs n arg ys = (x : S) (worker : List Value → Config) → slice_get xs n ≡ Some x
       → (meaning x).begins spawn_types worker → IsStartedAt meaning x worker arg xs n ys
 
-  -- The thread of a number is at its budget, and may make turns.
-  abbrev pub MayRunAt : List S → ℕ → ℕ → Type 0
-  MayRunAt xs n fuel = (x : S) → slice_get xs n ≡ Some x → ((meaning x).fuel ≡ fuel)
-      × (t : Running) × (meaning x).stands t × IsHere t
+  -- The thread of a number may make turns.
+  abbrev pub MayRunAt : List S → ℕ → Type 0
+  MayRunAt xs n = (x : S) → slice_get xs n ≡ Some x → MayRun (meaning x)
 
   -- It wants an event.
   abbrev pub WantsAt : List S → ℕ → Event → Type 0

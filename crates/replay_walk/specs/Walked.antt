@@ -118,11 +118,8 @@ module _ {S : Type 0} (meaning : S → Meaning) where
   abbrev pub StandsSomewhere : Walk S → Type 0
   StandsSomewhere w = (s : Standing) × WalkStands s w × (s.memory ≡ w.memory)
 
-  abbrev pub StandsWithin : Walk S → ℕ → Type 0
-  StandsWithin w fuel = (s : Standing) × WalkStands s w × (s.memory ≡ w.memory) × (s.budget ≡ fuel)
-
-  abbrev pub StandsReady : Walk S → ℕ → Type 0
-  StandsReady w fuel = (s : Standing) × WalkStands s w × (s.memory ≡ w.memory) × (s.budget ≡ fuel)
+  abbrev pub StandsReady : Walk S → Type 0
+  StandsReady w = (s : Standing) × WalkStands s w × (s.memory ≡ w.memory)
       × HasThreads s.program (length w.threads.items)
 
   -- Wherever it stood, it took an entry behind so many others, or an answer; or it can't take that.
@@ -151,8 +148,8 @@ module _ {S : Type 0} (meaning : S → Meaning) where
 
   -- It is at the beginning of some run with this budget and this limit. From the beginning of each run with this limit
   -- it came along the whole log, or to the first entry that doesn't fit.
-  abbrev pub IsNewWalk : Walk S → ℕ → ℕ → Type 0
-  IsNewWalk w fuel limit = (r : Run) × WalkCame r [] w × (r.budget ≡ fuel) × (r.limit ≡ limit)
+  abbrev pub IsNewWalk : Walk S → ℕ → Type 0
+  IsNewWalk w limit = (r : Run) × WalkCame r [] w × (r.limit ≡ limit)
 
   abbrev pub ComesAlong : Walk S → ℕ → List entries.Entry → Walk S → Type 0
   ComesAlong before limit log after = (r : Run) → WalkCame r [] before → r.limit ≡ limit → WalkCame r log after

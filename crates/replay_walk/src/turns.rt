@@ -20,13 +20,13 @@ pub fn turn_at<T: TakesTurns>(threads: &mut [T], n: usize, given: Given) -> Turn
 }
 
 /// Turns of its own of the thread of this number, until it wants more.
-pub fn settle_at<T: TakesTurns>(threads: &mut [T], n: usize, fuel: u64) -> Turn
+pub fn settle_at<T: TakesTurns>(threads: &mut [T], n: usize) -> Turn
     requires within { n < length threads.old }
-    requires here { MayRunAt T.meaning threads.old n fuel }
+    requires here { MayRunAt T.meaning threads.old n }
     ensures count { length threads.new ≡ length threads.old }
     ensures settled { SettlesThread T.meaning threads.old n result threads.new }
 {
-    settle(&mut threads[n], fuel)
+    settle(&mut threads[n])
 }
 
 /// Starts the thread of this number, with the argument of its spawn.

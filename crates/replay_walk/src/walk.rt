@@ -5,7 +5,7 @@ ghost use Rattle.types.specs.declared.event.Event.TheVariants as events;
 ghost use Rattle.types.specs.declared.event.Question.TheVariants.{Leave};
 ghost use Rattle.shared_memory.specs.Events.{is_exempt};
 ghost use Rattle.replay_text.specs.Conditions.{IsEntry};
-ghost use Rattle.replay_walk.specs.Walked.{BeginsWalk, StandsSomewhere, StandsWithin, StandsReady, TakesEntry};
+ghost use Rattle.replay_walk.specs.Walked.{BeginsWalk, StandsSomewhere, StandsReady, TakesEntry};
 ghost use Rattle.replay_walk.specs.Walked.{RefusesEntry};
 ghost use Rattle.replay_walk.specs.Seen.{SeesLeave, SeesEvent, SeesEntry, SeesWhole, SeesUpTo};
 ghost use Rattle.replay_walk.specs.Walked.{RefusesLeave, TakesAnswer, RefusesAnswer, IsNewWalk, ComesAlong, StopsAt};
@@ -42,16 +42,9 @@ impl<T: TakesTurns> Walk<T> {
     }
 
     /// Takes the entry that stands behind `at` others, if it fits.
-    fn take<W: Watch<T>>(
-        &mut self,
-        entry: &Entry,
-        at: usize,
-        limit: u32,
-        fuel: u64,
-        watch: &mut W,
-    ) -> bool
+    fn take<W: Watch<T>>(&mut self, entry: &Entry, at: usize, limit: u32, watch: &mut W) -> bool
         requires entry { IsEntry MOST_THREADS entry.now }
-        requires standing { StandsReady T.meaning self.old fuel }
+        requires standing { StandsReady T.meaning self.old }
         ensures count { length self.new.threads.items ≡ length self.old.threads.items }
         ensures taken { result ≡ true → TakesEntry T.meaning self.old self.new limit at entry.now }
         ensures refused { result ≡ false → RefusesEntry T.meaning self.old limit at entry.now }
@@ -59,8 +52,8 @@ impl<T: TakesTurns> Walk<T> {
     {
         match entry.event {
             Event::Told(answer) => self.take_told(entry.thread, answer),
-            Event::Ask(Question::Leave) => self.take_leave(entry, at, limit, fuel, watch),
-            _ => self.take_event(entry, at, limit, fuel, watch),
+            Event::Ask(Question::Leave) => self.take_leave(entry, at, limit, watch),
+            _ => self.take_event(entry, at, limit, watch),
         }
     }
 
@@ -70,12 +63,11 @@ impl<T: TakesTurns> Walk<T> {
         entry: &Entry,
         at: usize,
         limit: u32,
-        fuel: u64,
         watch: &mut W,
     ) -> bool
         requires entry { IsEntry MOST_THREADS entry.now }
         requires kind { entry.now.event ≡ events.Ask Leave }
-        requires standing { StandsWithin T.meaning self.old fuel }
+        requires standing { StandsSomewhere T.meaning self.old }
         ensures count { length self.new.threads.items ≡ length self.old.threads.items }
         ensures taken { result ≡ true → TakesEntry T.meaning self.old self.new limit at entry.now }
         ensures refused { result ≡ false → RefusesLeave T.meaning self.old limit at entry.now }
@@ -85,7 +77,7 @@ impl<T: TakesTurns> Walk<T> {
         if !self.stage.is_going::<T>(n) {
             return false;
         }
-        let turn = settle_at(&mut self.threads, n as usize, fuel);
+        let turn = settle_at(&mut self.threads, n as usize);
         watch.settled(n, turn);
         let outcome = match turn {
             Turn::Ended(outcome) => outcome,
@@ -107,12 +99,11 @@ impl<T: TakesTurns> Walk<T> {
         entry: &Entry,
         at: usize,
         limit: u32,
-        fuel: u64,
         watch: &mut W,
     ) -> bool
         requires entry { IsEntry MOST_THREADS entry.now }
         requires kind { is_exempt entry.now.event ≡ false }
-        requires standing { StandsReady T.meaning self.old fuel }
+        requires standing { StandsReady T.meaning self.old }
         ensures count { length self.new.threads.items ≡ length self.old.threads.items }
         ensures taken { result ≡ true → TakesEntry T.meaning self.old self.new limit at entry.now }
         ensures refused { result ≡ false → RefusesEntry T.meaning self.old limit at entry.now }
@@ -127,7 +118,7 @@ impl<T: TakesTurns> Walk<T> {
             return false;
         }
         let threads = self.threads.as_mut_slice();
-        let turn = settle_at(threads, n as usize, fuel);
+        let turn = settle_at(threads, n as usize);
         watch.settled(n, turn);
         let Turn::Wants(wanted) = turn else {
             return false;
@@ -155,11 +146,10 @@ impl<T: TakesTurns> Walk<T> {
         &mut self,
         log: &[Entry],
         limit: u32,
-        fuel: u64,
         watch: &mut W,
     ) -> Option<usize>
         requires entries { All (IsEntry MOST_THREADS) log.now }
-        requires new { IsNewWalk T.meaning self.old fuel limit }
+        requires new { IsNewWalk T.meaning self.old limit }
         ensures whole { result ≡ None → ComesAlong T.meaning self.old limit log.now self.new }
         ensures misfit { (k : ℕ) → result ≡ Some k → StopsAt T.meaning self.old limit log.now k }
         ensures seen { result ≡ None
@@ -169,7 +159,7 @@ impl<T: TakesTurns> Walk<T> {
     {
         for (at, entry) in log.iter().enumerate() {
             watch.came(at, self);
-            if !self.take(entry, at, limit, fuel, watch) {
+            if !self.take(entry, at, limit, watch) {
                 return Some(at);
             }
         }

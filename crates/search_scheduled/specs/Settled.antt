@@ -46,10 +46,6 @@ module _ {S : Type 0} (meaning : S → Meaning) where
     pub none : outcome_of t ≡ None
     pub wants : wants_of s.program t ≡ Calls event
 
-  -- A walk stands somewhere, and there each thread may spend so many units.
-  abbrev pub StandsOnFuel : Walk S → ℕ → Type 0
-  StandsOnFuel w fuel = (s : Standing) × WalkStands meaning s w × (s.budget ≡ fuel)
-
   -- A thread has settled with a turn, wherever the walk stood.
   abbrev pub SettlesWhereGoing : ℕ → Walk S → Turn → Walk S → Type 0
   SettlesWhereGoing n before turn after = (s : Standing) → WalkStands meaning s before → SettlesOn s n turn after

@@ -2,15 +2,19 @@
 ghost use Rattle.std.specs.Prelude.{◌≡◌, ◌<◌, length, true, None, IfErr, IfOk, IfSome};
 ghost use Rattle.interp_trait.specs.Turns.{MayRun, StaysAs};
 ghost use Rattle.replay_walk.specs.Standing.{HasGoneIfFree, MayRunAt, SettlesInto, SettlesThread};
-ghost use Rattle.search_scheduled.specs.Settled.{SettlesWhereGoing, StandsOnFuel};
+ghost use Rattle.replay_walk.specs.Walked.{StandsSomewhere};
+ghost use Rattle.search_scheduled.specs.Settled.{SettlesWhereGoing};
 ghost use Rattle.search_scheduled.specs.declared.course.CourseFault.TheVariants as faults;
 
 use crate::CourseFault;
 use interp_trait::{Given, TakesTurns, Turn};
-use replay_walk::Walk;
+use replay_walk::{Walk, settle};
 use search_strategies::Strategy;
 
-/// After how many turns of its own in a row it is asked whether the run is given up: as many as take some milliseconds.
+/// A thread makes so many turns of its own at once: they take less than a tenth of a second.
+const AT_ONCE: u64 = 16 * PIECE;
+
+/// One that has more units left makes its turns one by one, and behind so many it is asked whether the run is given up.
 const PIECE: u64 = 1_048_576;
 
 /// Whether a run is given up behind so many turns of a thread's own.
@@ -21,16 +25,19 @@ fn is_over<S: Strategy>(strategy: &S, made: u64) -> bool
 }
 
 /// Makes turns of the thread until it wants more than a turn of its own, and answers what that is; nothing where the run
-/// is given up meanwhile. Each turn of its own costs a unit, so it makes no more than it has units left.
-fn settle<T: TakesTurns, S: Strategy>(thread: &mut T, fuel: u64, strategy: &S) -> Option<Turn>
-    requires here { MayRun (T.meaning thread.old) }
-    requires budget { (T.meaning thread.old).fuel ≡ fuel }
+/// is given up meanwhile, which is asked only of a thread with many units left.
+fn settle_unless_over<T: TakesTurns, S: Strategy>(
+    thread: &mut T,
+    fuel: u64,
+    strategy: &S,
+) -> Option<Turn>
+    requires { MayRun (T.meaning thread.old) }
     ensures stays { StaysAs (T.meaning thread.old) (T.meaning thread.new) }
     ensures settled { IfSome result (λ turn. SettlesInto (T.meaning thread.old) turn (T.meaning thread.new)) }
     ensures over { result ≡ None → S.may_end strategy.now }
 {
-    let left = fuel - thread.spent();
-    for made in 0..left {
+    let left = fuel.saturating_sub(thread.spent());
+    for made in 0..left.saturating_sub(AT_ONCE) {
         if is_over(strategy, made) {
             return None;
         }
@@ -39,7 +46,7 @@ fn settle<T: TakesTurns, S: Strategy>(thread: &mut T, fuel: u64, strategy: &S) -
             turn => return Some(turn),
         }
     }
-    Some(thread.turn(Given::Nothing))
+    Some(settle(thread))
 }
 
 /// The same of the thread of this number.
@@ -50,12 +57,12 @@ fn settle_at<T: TakesTurns, S: Strategy>(
     strategy: &S,
 ) -> Option<Turn>
     requires within { n < length threads.old }
-    requires here { MayRunAt T.meaning threads.old n fuel }
+    requires here { MayRunAt T.meaning threads.old n }
     ensures count { length threads.new ≡ length threads.old }
     ensures settled { IfSome result (λ turn. SettlesThread T.meaning threads.old n turn threads.new) }
     ensures over { result ≡ None → S.may_end strategy.now }
 {
-    settle(&mut threads[n], fuel, strategy)
+    settle_unless_over(&mut threads[n], fuel, strategy)
 }
 
 /// A thread that can go on makes its turns of its own, and it is said what it wants then.
@@ -69,7 +76,7 @@ pub(crate) fn settle_going<T: TakesTurns, S: Strategy>(
     fuel: u64,
     strategy: &S,
 ) -> Result<Turn, CourseFault>
-    requires standing { StandsOnFuel T.meaning walk.old fuel }
+    requires standing { StandsSomewhere T.meaning walk.old }
     ensures count { length walk.new.threads.items ≡ length walk.old.threads.items }
     ensures memory { walk.new.memory ≡ walk.old.memory }
     ensures stage { walk.new.stage ≡ walk.old.stage }

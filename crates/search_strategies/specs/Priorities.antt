@@ -17,8 +17,8 @@ pub record Priorities : Type 0 where
   pub in_a_row : ℕ
 
 -- The rank below all that are drawn and all of points of change.
-abbrev pub floor : ℕ
-floor = 2 ^ 31
+abbrev pub base_rank : ℕ
+base_rank = 2 ^ 31
 
 -- The highest rank of threads that can go on, and the first place where it is.
 abbrev pub highest_rank : List ℕ → List ℕ → ℕ
@@ -47,7 +47,7 @@ turns thread last in_a_row = min ((if thread == last then in_a_row else 0) + 1) 
 
 -- At a point of change it falls below all at which no change was before, the lower the earlier the point was drawn.
 abbrev pub fall_at : Priorities → ℕ → Bool → Option ℕ → Option ℕ × Priorities
-fall_at s thread alone (Some point) = (Some (floor + 1 + point), s)
+fall_at s thread alone (Some point) = (Some (base_rank + 1 + point), s)
 fall_at s thread alone None =
     tired (record s { last = thread; in_a_row = turns thread s.last s.in_a_row }) alone
 
@@ -79,7 +79,7 @@ shuffled (suc n) place (xs, g) = shuffled n (place + 1) (swap xs place (number_b
 
 -- The ranks that a run draws first, above all of points of change, and the generator behind them.
 unfoldable pub drawn_ranks : Lcg → List ℕ × Lcg
-drawn_ranks g = shuffled (MOST_THREADS - 1) 1 (range_with_len (floor + 33) MOST_THREADS, g)
+drawn_ranks g = shuffled (MOST_THREADS - 1) 1 (range_with_len (base_rank + 33) MOST_THREADS, g)
 
 -- The priorities of the run of this number, of a seed.
 abbrev pub priorities_of : ℕ → ℕ → ℕ → ℕ → Priorities
@@ -88,7 +88,7 @@ priorities_of seed run depth count =
       ranks = drawn.0;
       changes = drawn_numbers (depth - 1) count drawn.1;
       made = 0;
-      lowest = floor;
+      lowest = base_rank;
       last = 0;
       in_a_row = 0;
     }

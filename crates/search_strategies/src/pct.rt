@@ -157,7 +157,7 @@ fn drawn_changes(draws: &mut Draws, depth: u32, events: u32) -> ArrayVec<u32, CH
 
 /// The ranks of all threads in order, above those of points of change.
 fn first_ranks() -> [u32; MOST_THREADS]
-    ensures { result ≡ range_with_len (specified.floor + 33) MOST_THREADS }
+    ensures { result ≡ range_with_len (specified.base_rank + 33) MOST_THREADS }
 {
     let mut ranks = [0; MOST_THREADS];
     for (place, rank) in ranks.iter_mut().enumerate() {

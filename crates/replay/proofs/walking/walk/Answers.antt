@@ -31,7 +31,7 @@ along_watched-requires-clause-entries g c =
 
 pub along_watched-requires-clause-new : goal.along_watched-requires-clause-new
 along_watched-requires-clause-new g c = let ready = c.requires.ready.1 in
-    (c.requires.ready.0, c.new-walk.ensures c.requires.ready.0 ready.ready ready.most, ready.budget, ready.limit)
+    (c.requires.ready.0, c.new-walk.ensures c.requires.ready.0 ready.ready ready.most, ready.limit)
 
 pub line_at-requires : goal.line_at-requires
 line_at-requires g c =

@@ -1,49 +1,7 @@
-use Rattle.std.proofs.Common.{◌≡◌, ◌-◌, ◌∙◌, subst, arith}
-use Rattle.interp_machine.specs.Program.{Program}
-use Rattle.interp_trait.specs.Turns.{IsTurned}
-use Rattle.interp_trait.specs.declared.turn.Given.TheVariants as given
-use Rattle.replay_walk.proofs.Turning.{goes_on, settles, settles_last}
+use Rattle.replay_walk.proofs.Turning.{settles_paused}
 use Rattle.replay_walk.proofs.settling.settle.Goals as goal
-
-pub returns-in_default : goal.returns-in_default
-returns-in_default g c = record {
-  stays = record { program = c.turn.ensures.stays.program ∙ c.loop.invariant.program; fuel = c.turn.ensures.stays.fuel ∙ c.loop.invariant.fuel };
-  settled = λ t stands here.
-      let going = c.loop.invariant.going t stands here in
-      settles (g.T.TakesTurns.meaning c.args.thread.now).program t (g.T.TakesTurns.meaning c.loop.thread).stands
-      (g.T.TakesTurns.meaning c.turn.new.self).stands c.loop.counter
-      (c.args.fuel - c.spent.result) c.turn.result
-      (λ moved. c.in_default.not-Moved moved) going
-      (subst (λ (p : Program). IsTurned p going.now given.Nothing c.turn.result (g.T.TakesTurns.meaning c.turn.new.self).stands) c.loop.invariant.program
-      (c.turn.ensures.turned going.now going.stands tt));
-}
-
-pub loop-preserved : goal.loop-preserved
-loop-preserved g c = record {
-  program = c.turn.ensures.stays.program ∙ c.loop.invariant.program;
-  fuel = c.turn.ensures.stays.fuel ∙ c.loop.invariant.fuel;
-  going = λ t stands here.
-      let going = c.loop.invariant.going t stands here in
-      goes_on (g.T.TakesTurns.meaning c.args.thread.now).program t (g.T.TakesTurns.meaning c.loop.thread).stands
-      (g.T.TakesTurns.meaning c.turn.new.self).stands c.loop.counter
-      (c.args.fuel - c.spent.result) c.turn.result
-      c.in-Moved.is going
-      (subst (λ (p : Program). IsTurned p going.now given.Nothing c.turn.result (g.T.TakesTurns.meaning c.turn.new.self).stands) c.loop.invariant.program
-      (c.turn.ensures.turned going.now going.stands tt));
-}
 
 pub returns-clause-settled : goal.returns-clause-settled
 returns-clause-settled g c = λ t stands here.
-    let going = c.loop.invariant.going t stands here in
-    let all : c.loop.counter ≡ c.args.fuel - c.spent.result = omega arith in
-    settles_last (g.T.TakesTurns.meaning c.args.thread.now).program t (g.T.TakesTurns.meaning c.loop.thread).stands
-    (g.T.TakesTurns.meaning c.turn-2.new.self).stands c.loop.counter
-    (c.args.fuel - c.spent.result) c.turn-2.result all going
-    (subst (λ (p : Program). IsTurned p going.now given.Nothing c.turn-2.result (g.T.TakesTurns.meaning c.turn-2.new.self).stands) c.loop.invariant.program
-    (c.turn-2.ensures.turned going.now going.stands tt))
-
-pub returns-clause-stays : goal.returns-clause-stays
-returns-clause-stays g c = record {
-  program = c.turn-2.ensures.stays.program ∙ c.loop.invariant.program;
-  fuel = c.turn-2.ensures.stays.fuel ∙ c.loop.invariant.fuel;
-}
+    settles_paused (g.T.TakesTurns.meaning c.args.thread.now).program t c.own_turns-thread.result
+    (g.T.TakesTurns.meaning c.own_turns-thread.new.self).stands _ here (c.own_turns-thread.ensures.turned t stands here)

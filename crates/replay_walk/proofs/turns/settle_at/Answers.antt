@@ -14,11 +14,8 @@ returns g c =
           (record { replaced = stayed m threads c.args.n _ now c.settle.ensures.stays; settled = c.settle.ensures.settled });
     }
 
-pub settle-requires-clause-here : goal.settle-requires-clause-here
-settle-requires-clause-here g c = let h = c.requires.here _ (slice_get-get_or _ _ c.index-threads-n.result c.requires.within) in (h.1, h.2, h.3)
-
-pub settle-requires-clause-budget : goal.settle-requires-clause-budget
-settle-requires-clause-budget g c = (c.requires.here _ (slice_get-get_or _ _ c.index-threads-n.result c.requires.within)).0
+pub settle-requires : goal.settle-requires
+settle-requires g c = c.requires.here _ (slice_get-get_or _ _ c.index-threads-n.result c.requires.within)
 
 pub offset_bounds-threads-n : goal.offset_bounds-threads-n
 offset_bounds-threads-n g c = let h : c.args.n < length c.args.threads.now = c.requires.within in search rules

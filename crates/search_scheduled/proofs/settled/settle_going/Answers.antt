@@ -6,7 +6,7 @@ use Rattle.search_scheduled.proofs.settled.settle_going.Goals as goal
 
 pub settle_at-requires-clause-within : goal.settle_at-requires-clause-within
 settle_at-requires-clause-within g c =
-    let s = c.requires.standing.0 in let st = c.requires.standing.1 in let budget = c.requires.standing.2 in
+    let s = c.requires.standing.0 in let st = c.requires.standing.1 in
     let w = c.args.walk.now in
     let going = c.is_going.ensures.going c.if-not-is_going.false s w.threads.items st in
     within g.T.TakesTurns.meaning s w.threads.items w.stage.queue w.stage.started w.stage.ends st c.args.n going
@@ -14,11 +14,11 @@ settle_at-requires-clause-within g c =
 
 pub settle_at-requires-clause-here : goal.settle_at-requires-clause-here
 settle_at-requires-clause-here g c =
-    let s = c.requires.standing.0 in let st = c.requires.standing.1 in let budget = c.requires.standing.2 in
+    let s = c.requires.standing.0 in let st = c.requires.standing.1 in
     let w = c.args.walk.now in
     let going = c.is_going.ensures.going c.if-not-is_going.false s w.threads.items st in
     ready g.T.TakesTurns.meaning s w.threads.items w.stage.queue w.stage.started w.stage.ends st c.args.n going
-    c.deref_mut.result.now c.deref_mut.ensures.value c.args.fuel budget
+    c.deref_mut.result.now c.deref_mut.ensures.value
 
 pub returns-in-Some-clause-settled : goal.returns-in-Some-clause-settled
 returns-in-Some-clause-settled g c = λ s st.

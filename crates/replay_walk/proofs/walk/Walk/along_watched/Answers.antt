@@ -12,8 +12,8 @@ loop-at-init g c = record { walked = λ r walked limit. walked; seen = refl }
 pub take-requires-clause-standing : goal.take-requires-clause-standing
 take-requires-clause-standing g c =
     let new = c.requires.new in
-    let w = c.loop-at.invariant.walked new.0 new.1 new.3 in
-    (standing_in new.0 c.loop-at.self.memory w.state w.places, w.standing, refl, new.2, w.count)
+    let w = c.loop-at.invariant.walked new.0 new.1 new.2 in
+    (standing_in new.0 c.loop-at.self.memory w.state w.places, w.standing, refl, w.count)
 
 pub returns-then-not-take-clause-misfit : goal.returns-then-not-take-clause-misfit
 returns-then-not-take-clause-misfit g c = λ k is r walked limit.
@@ -50,7 +50,7 @@ returns-clause-whole g c = λ none r walked limit.
 pub came-requires : goal.came-requires
 came-requires g c =
     let new = c.requires.new in
-    let w = c.loop-at.invariant.walked new.0 new.1 new.3 in
+    let w = c.loop-at.invariant.walked new.0 new.1 new.2 in
     (new.0, take c.loop-at.at c.args.log.now, length-take-le c.loop-at.at c.args.log.now (omega (arith, c.loop-at-test.true)), w)
 
 pub take-requires-clause-entry : goal.take-requires-clause-entry
@@ -65,7 +65,7 @@ returns-clause-misfit g c = λ k misfit. isnt_some misfit
 pub came-requires-2 : goal.came-requires-2
 came-requires-2 g c =
     let new = c.requires.new in
-    let w = c.loop-at.invariant.walked new.0 new.1 new.3 in
+    let w = c.loop-at.invariant.walked new.0 new.1 new.2 in
     let inside = c.loop-at.auto.at-end in
     let none = c.loop-at-test.false in
     let taken = length-take-le c.loop-at.at c.args.log.now (omega arith) in

@@ -50,7 +50,7 @@ settle_at-turn-requires-clause-here g c =
     let going = c.is_going.ensures.going c.if-not-is_going.false s c.args.self.now.threads.items st in
     ready g.T.TakesTurns.meaning s c.args.self.now.threads.items c.args.self.now.stage.queue
     c.args.self.now.stage.started c.args.self.now.stage.ends st c.args.entry.now.thread going
-    c.as_mut_slice-threads.result.now c.as_mut_slice-threads.ensures.value c.args.fuel c.requires.standing.3
+    c.as_mut_slice-threads.result.now c.as_mut_slice-threads.ensures.value
 
 pub returns-in_default-clause-refused : goal.returns-in_default-clause-refused
 returns-in_default-clause-refused g c = λ no s st same.
@@ -119,7 +119,7 @@ make-requires-clause-room g c = λ arg is.
     let same : c.in-Wants.wanted ≡ c.args.entry.now.event = c.is_same_event.ensures.same c.if-not-is_same_event.false in
     let says = subst (λ (t : Turn). Says s.program d.thread t) (c.in-Wants.is ∙ ap (λ (e : Event). turns.Wants e) same) d.says in
     c.settle_at-turn.ensures.count ∙ (ap (λ (l : List g.row.T.Denot). length l) c.as_mut_slice-threads.ensures.value
-    ∙ room_for s.program (length c.args.self.now.threads.items) d.thread arg c.requires.standing.4 (says.1 ∙ ap (λ (e : Event). Calls e) is))
+    ∙ room_for s.program (length c.args.self.now.threads.items) d.thread arg c.requires.standing.3 (says.1 ∙ ap (λ (e : Event). Calls e) is))
 
 pub make-requires-clause-settled : goal.make-requires-clause-settled
 make-requires-clause-settled g c =

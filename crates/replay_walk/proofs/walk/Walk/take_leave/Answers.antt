@@ -46,7 +46,7 @@ settle_at-turn-requires-clause-here g c =
     let going = c.is_going.ensures.going c.if-not-is_going.false s c.args.self.now.threads.items st in
     ready g.T.TakesTurns.meaning s c.args.self.now.threads.items c.args.self.now.stage.queue
     c.args.self.now.stage.started c.args.self.now.stage.ends st c.args.entry.now.thread going
-    c.deref_mut.result.now c.deref_mut.ensures.value c.args.fuel c.requires.standing.3
+    c.deref_mut.result.now c.deref_mut.ensures.value
 
 pub returns-then-at-limit-clause-refused : goal.returns-then-at-limit-clause-refused
 returns-then-at-limit-clause-refused g c = λ no s st.
