@@ -36,4 +36,4 @@ pub use laws::races_meet;
 pub use owning::{Owning, Touch};
 pub use race::Race;
 pub use states::{RaceFree, search_race_free};
-pub use trace::all_choices;
+pub use trace::{all_choices, race_choices};

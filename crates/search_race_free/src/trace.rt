@@ -4,8 +4,8 @@ ghost use Rattle.search_race_free.specs.Search.{IsOwned};
 
 use crate::alone::{Alone, Came, after_event, turn_alone, wanted};
 use crate::next::first_state;
-use crate::onward::{is_free, next_of};
-use crate::touches::of_others;
+use crate::onward::{advance, is_free, next_of};
+use crate::touches::{first_race, of_others};
 use crate::{Accesses, Owning};
 use search_settled::{Access, Flat};
 use std::alloc::{AllocError, Global};
@@ -35,7 +35,30 @@ fn thread_of(wanted: &[Option<Access>], choice: usize) -> usize {
     wanted.len()
 }
 
-/// Thread m makes plain turns, alone, as `run_alone` has it: notes the choice of each.
+/// Thread n makes its turn, if it can: notes its choice.
+fn note_turn<M: Accesses>(
+    alloc: Global,
+    system: &M,
+    from: &Owning<Flat<M::Shared, M::Thread>>,
+    n: usize,
+    choices: &mut Vec<usize>,
+) -> Result<Option<Owning<Flat<M::Shared, M::Thread>>>, AllocError>
+    requires { IsOwned (M.threads system.now) from.now }
+    ensures { IfOk result (λ o. IfSome o (IsOwned (M.threads system.now))) }
+{
+    let before = wanted(alloc, system, &from.flat)?;
+    let Some(access) = next_of(before.as_slice(), n) else {
+        return Ok(None);
+    };
+    let Some(flat) = after_event(alloc, system, &from.flat, n, access)? else {
+        return Ok(None);
+    };
+    choices.push(choice_of(before.as_slice(), n))?;
+    let owned = of_others(alloc, from.owned.as_slice(), n)?;
+    Ok(Some(Owning { flat, owned }))
+}
+
+/// Thread m makes plain turns, alone, as `run_alone` has it: notes the choice of each, that of one that races too.
 fn note_alone<M: Accesses>(
     alloc: Global,
     system: &M,
@@ -57,7 +80,10 @@ fn note_alone<M: Accesses>(
                 at = next;
             }
             Alone::Stops(last) => return Ok(Some(last)),
-            Alone::Races(_) => return Ok(None),
+            Alone::Races(_) => {
+                choices.push(choice)?;
+                return Ok(None);
+            }
             Alone::Unknown => return Ok(None),
         }
     }
@@ -68,26 +94,20 @@ fn note_alone<M: Accesses>(
 fn note_onward<M: Accesses>(
     alloc: Global,
     system: &M,
-    from: Owning<Flat<M::Shared, M::Thread>>,
-    choice: usize,
+    from: &Owning<Flat<M::Shared, M::Thread>>,
+    n: usize,
     most: u32,
     choices: &mut Vec<usize>,
 ) -> Result<Option<Owning<Flat<M::Shared, M::Thread>>>, AllocError>
-    requires { IsOwned (M.threads system.now) from }
+    requires { IsOwned (M.threads system.now) from.now }
     ensures { IfOk result (λ o. IfSome o (IsOwned (M.threads system.now))) }
 {
     let before = wanted(alloc, system, &from.flat)?;
-    let n = thread_of(before.as_slice(), choice);
-    let Some(access) = next_of(before.as_slice(), n) else {
+    let Some(first) = note_turn(alloc, system, from, n, choices)? else {
         return Ok(None);
     };
-    let Some(flat) = after_event(alloc, system, &from.flat, n, access)? else {
-        return Ok(None);
-    };
-    choices.push(choice)?;
-    let owned = of_others(alloc, from.owned.as_slice(), n)?;
-    let count = flat.threads.len();
-    let mut at = Owning { flat, owned };
+    let count = first.flat.threads.len();
+    let mut at = first;
     for m in 0..count {
         if is_free(before.as_slice(), n, m) {
             match note_alone(alloc, system, at, m, most, choices)? {
@@ -97,6 +117,19 @@ fn note_onward<M: Accesses>(
         }
     }
     Ok(Some(at))
+}
+
+/// The thread that has this choice.
+fn chosen_in<M: Accesses>(
+    alloc: Global,
+    system: &M,
+    at: &Owning<Flat<M::Shared, M::Thread>>,
+    choice: usize,
+) -> Result<usize, AllocError>
+    requires { IsOwned (M.threads system.now) at.now }
+{
+    let wanted = wanted(alloc, system, &at.flat)?;
+    Ok(thread_of(wanted.as_slice(), choice))
 }
 
 /// The choices of each turn, plain ones too, along choices of `search_race_free`: which of the threads that can go on
@@ -116,10 +149,113 @@ pub fn all_choices<M: Accesses>(
     };
     let mut at = first;
     for choice in choices {
-        match note_onward(alloc, system, at, *choice, most_plain, &mut all)? {
+        let n = chosen_in(alloc, system, &at, *choice)?;
+        match note_onward(alloc, system, &at, n, most_plain, &mut all)? {
             Some(next) => at = next,
             None => return Ok(all),
         }
     }
+    Ok(all)
+}
+
+/// Whether thread n's turn leads to a race, if it can make one.
+fn turns_to_race<M: Accesses>(
+    alloc: Global,
+    system: &M,
+    from: &Owning<Flat<M::Shared, M::Thread>>,
+    n: usize,
+    most: u32,
+) -> Result<bool, AllocError>
+    requires { IsOwned (M.threads system.now) from.now }
+{
+    let before = wanted(alloc, system, &from.flat)?;
+    let Some(access) = next_of(before.as_slice(), n) else {
+        return Ok(false);
+    };
+    match advance(alloc, system, from, before.as_slice(), n, access, most)? {
+        Came::Races(_) => Ok(true),
+        Came::To(_) => Ok(false),
+        Came::Unknown => Ok(false),
+    }
+}
+
+/// The first thread whose turn leads to a race.
+fn racing_turn<M: Accesses>(
+    alloc: Global,
+    system: &M,
+    from: &Owning<Flat<M::Shared, M::Thread>>,
+    most: u32,
+) -> Result<Option<usize>, AllocError>
+    requires { IsOwned (M.threads system.now) from.now }
+{
+    for n in 0..from.flat.threads.len() {
+        if turns_to_race(alloc, system, from, n, most)? {
+            return Ok(Some(n));
+        }
+    }
+    Ok(None)
+}
+
+/// The threads of which one is in the way of the other here make their turns, that one last: notes the choice of each.
+fn note_meeting<M: Accesses>(
+    alloc: Global,
+    system: &M,
+    from: &Owning<Flat<M::Shared, M::Thread>>,
+    choices: &mut Vec<usize>,
+) -> Result<(), AllocError>
+    requires { IsOwned (M.threads system.now) from.now }
+{
+    let next = wanted(alloc, system, &from.flat)?;
+    let Some(race) = first_race(next.as_slice(), from.owned.as_slice()) else {
+        return Ok(());
+    };
+    if let Some(behind) = note_turn(alloc, system, from, race.other, choices)? {
+        note_turn(alloc, system, &behind, race.one, choices)?;
+    }
+    Ok(())
+}
+
+/// Notes the choices of the turns that lead from a state to a race.
+fn note_race<M: Accesses>(
+    alloc: Global,
+    system: &M,
+    from: &Owning<Flat<M::Shared, M::Thread>>,
+    most: u32,
+    choices: &mut Vec<usize>,
+) -> Result<(), AllocError>
+    requires { IsOwned (M.threads system.now) from.now }
+{
+    let Some(n) = racing_turn(alloc, system, from, most)? else {
+        return Ok(());
+    };
+    match note_onward(alloc, system, from, n, most, choices)? {
+        Some(at) => note_meeting(alloc, system, &at, choices),
+        None => Ok(()),
+    }
+}
+
+/// The choices of each turn, plain ones too, to the accesses that race, along the way that `search_race_free` gives with
+/// a race. No clause says that they lead there: they are a hint, to be judged by whoever follows them.
+///
+/// # Errors
+/// Where memory is refused.
+pub fn race_choices<M: Accesses>(
+    alloc: Global,
+    system: &M,
+    most_plain: u32,
+    way: &[usize],
+) -> Result<Vec<usize>, AllocError> {
+    let mut all = Vec::new(alloc);
+    let Came::To(first) = first_state(alloc, system)? else {
+        return Ok(all);
+    };
+    let mut at = first;
+    for n in way {
+        match note_onward(alloc, system, &at, *n, most_plain, &mut all)? {
+            Some(next) => at = next,
+            None => return Ok(all),
+        }
+    }
+    note_race(alloc, system, &at, most_plain, &mut all)?;
     Ok(all)
 }
