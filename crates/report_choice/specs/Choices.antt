@@ -3,7 +3,7 @@ use Rattle.std.specs.Prelude.{ℕ, ◌+◌, ◌-◌, ◌^◌, ◌==◌, ◌&&◌
 use Rattle.std.specs.Prelude.{Option, Some, None}
 use Rattle.std.specs.List.{list_any}
 use Rattle.types.specs.declared.event.Event.{Event}
-use Rattle.types.specs.declared.event.Event.TheVariants.{Size, Grow, Load, Store, Rmw, Cmpxchg, Ask, Told}
+use Rattle.types.specs.declared.event.Event.TheVariants.{Load, Store, Rmw, Cmpxchg, Ask}
 use Rattle.types.specs.declared.event.Question.TheVariants.{Wait, Notify}
 use Rattle.types.specs.declared.event.Entry.{Entry}
 use Rattle.report_choice.specs.declared.choice.Span.{Span}

@@ -95,7 +95,7 @@ fn is_among(threads: &[u32], thread: u32) -> bool
 }
 
 /// The addresses of the bytes that an event touches, or at which it waits or wakes.
-fn touched(event: Event) -> Option<Span>
+pub fn touched(event: Event) -> Option<Span>
     ensures { result ≡ specified.touched event }
 {
     let (addr, width) = match event {
