@@ -13,14 +13,32 @@ use Rattle.report_choice.specs.declared.sought.Sought.{Sought}
 use Rattle.report_lines.specs.Ends.{is_done}
 use Rattle.report_lines.specs.Endings.{ending_lines}
 use Rattle.report_lines.specs.Complete.{all_line, too_many_line, cannot_tell_line, told_line, cannot_end_line}
-use Rattle.report_lines.specs.Complete.{fair_runs_end_line, unknown_line, cycle_line}
+use Rattle.report_lines.specs.Complete.{fair_runs_end_line, unknown_line, cycle_line, races_unknown_line}
+use Rattle.report_lines.specs.declared.complete.RaceWords.{RaceWords}
+use Rattle.report_lines.specs.declared.complete.RaceWords.TheVariants as words
+use Rattle.report.specs.declared.whole.Racing.{Racing}
+use Rattle.report.specs.declared.whole.Racing.TheVariants.{Unasked, Never, Found}
+use Rattle.report.specs.declared.whole.Racing.TheVariants as racings
+
+-- What is said of it behind how many endings and states there are; and where it isn't known, that this is so.
+abbrev pub race_words_of : Racing → RaceWords
+race_words_of Unasked = words.Nothing
+race_words_of Never = words.NoRace
+race_words_of (Found r) = words.WithRaces
+race_words_of racings.Unknown = words.Nothing
+
+abbrev pub unknown_text : Racing → List ℕ
+unknown_text Unasked = []
+unknown_text Never = []
+unknown_text (Found r) = []
+unknown_text racings.Unknown = races_unknown_line
 
 -- The line that says whether so many endings of so many states are all.
-abbrev pub verdict_line : Verdict → ℕ → ℕ → ℕ → List ℕ
-verdict_line verdicts.All most endings states = all_line endings states
-verdict_line verdicts.TooMany most endings states = too_many_line most endings
-verdict_line verdicts.CannotTell most endings states = cannot_tell_line endings
-verdict_line verdicts.Told most endings states = told_line endings states
+abbrev pub verdict_line : Racing → Verdict → ℕ → ℕ → ℕ → List ℕ
+verdict_line racing verdicts.All most endings states = all_line endings states (race_words_of racing)
+verdict_line racing verdicts.TooMany most endings states = too_many_line most endings
+verdict_line racing verdicts.CannotTell most endings states = cannot_tell_line endings
+verdict_line racing verdicts.Told most endings states = told_line endings states
 
 -- The line that says whether every fair run ends.
 abbrev pub fair_runs_line : FairRuns → List ℕ
@@ -33,11 +51,12 @@ abbrev pub liveness_lines : Option Liveness → List ℕ
 liveness_lines None = []
 liveness_lines (Some l) = cannot_end_line (length l.endless.items) ++ fair_runs_line l.fair_runs
 
--- All lines: a line for each ending, whether these are all, and what never ends.
-abbrev pub complete_lines : ℕ → Ended Ending → List ℕ
-complete_lines most all =
+-- All lines: a line for each ending, whether these are all, what is known of races, and what never ends.
+abbrev pub complete_lines : ℕ → Racing → Ended Ending → List ℕ
+complete_lines most racing all =
     ending_lines all.endings.keys
-    ++ (verdict_line all.verdict most (length all.endings.keys) all.states ++ liveness_lines all.liveness)
+    ++ (verdict_line racing all.verdict most (length all.endings.keys) all.states
+    ++ (unknown_text racing ++ liveness_lines all.liveness))
 
 -- All threads ended well; and in each of these endings they did.
 abbrev pub threads_end_well : Ending → Bool

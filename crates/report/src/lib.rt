@@ -17,15 +17,17 @@ mod all;
 mod complete;
 mod job;
 mod objects;
+mod raced;
 mod racing;
 mod searching;
 mod showing;
 mod table;
+mod whole;
 
 pub use job::perform;
 pub use racing::races_saved;
 pub use report_command::{Job, Usage, command};
 pub use report_jobs::{Refusal, Streams, check, load, replay_saved};
 pub use report_runs::{Call, EndState, RecordRunFault, record_run, run_on_words};
-pub use searching::search_module;
+pub use searching::{Asked, search_module};
 pub use showing::show_saved;

@@ -97,3 +97,9 @@ abbrev pub TellsRaces : Shown → Story → Races → Option (List ℕ) → Opti
 TellsRaces shown story races old new = (texts : List (List ℕ))
     × AllZip (SaysRace shown story races.kinds.items) races.pairs.items texts
     × Appends old new (concat texts ++ end_text races.is_cut (length races.pairs.items))
+
+-- The first of the races is written, where there is one.
+abbrev pub WritesFirst : Shown → Story → Races → Bool → Option (List ℕ) → Option (List ℕ) → Type 0
+WritesFirst shown story races true old new = (r : Race) × (slice_get races.pairs.items 0 ≡ Some r)
+    × (text : List ℕ) × SaysRace shown story races.kinds.items r text × Appends old new text
+WritesFirst shown story races false old new = (races.pairs.items ≡ []) × (new ≡ old)
