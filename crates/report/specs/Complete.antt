@@ -1,5 +1,5 @@
 -- What is printed of a search through every order of entries, and what is well of it.
-use Rattle.std.specs.Prelude.{ℕ, ◌≡◌, ◌≢◌, All, Bool, List, [], ◌++◌, length, true, Option, Some, None}
+use Rattle.std.specs.Prelude.{ℕ, ◌≡◌, ◌≢◌, All, Bool, List, [], ◌++◌, codes, length, true, Option, Some, None}
 use Rattle.std.specs.List.{list_all}
 use Rattle.search_reach.specs.declared.ending.Ended.{Ended}
 use Rattle.search_reach.specs.declared.search.Verdict.{Verdict}
@@ -12,30 +12,33 @@ use Rattle.search_finds.specs.Finds.{IsLookedFor}
 use Rattle.report_choice.specs.declared.sought.Sought.{Sought}
 use Rattle.report_lines.specs.Ends.{is_done}
 use Rattle.report_lines.specs.Endings.{ending_lines}
-use Rattle.report_lines.specs.Complete.{all_line, too_many_line, cannot_tell_line, told_line, cannot_end_line}
-use Rattle.report_lines.specs.Complete.{fair_runs_end_line, unknown_line, cycle_line, races_unknown_line}
-use Rattle.report_lines.specs.declared.complete.RaceWords.{RaceWords}
-use Rattle.report_lines.specs.declared.complete.RaceWords.TheVariants as words
+use Rattle.report_lines.specs.Complete.{endings_text, states_text, too_many_line, cannot_tell_line, told_line, cannot_end_line}
+use Rattle.report_lines.specs.Complete.{fair_runs_end_line, unknown_line, cycle_line}
 use Rattle.report.specs.declared.whole.Racing.{Racing}
 use Rattle.report.specs.declared.whole.Racing.TheVariants.{Unasked, Never, Found}
 use Rattle.report.specs.declared.whole.Racing.TheVariants as racings
 
--- What is said of it behind how many endings and states there are; and where it isn't known, that this is so.
-abbrev pub race_words_of : Racing → RaceWords
-race_words_of Unasked = words.Nothing
-race_words_of Never = words.NoRace
-race_words_of (Found r) = words.WithRaces
-race_words_of racings.Unknown = words.Nothing
+-- What is said of races behind how many endings and states there are; and where it isn't known, that this is so.
+abbrev pub race_words : Racing → List ℕ
+race_words Unasked = []
+race_words Never = codes ", no race"
+race_words (Found r) = codes ", with races"
+race_words racings.Unknown = []
 
 abbrev pub unknown_text : Racing → List ℕ
 unknown_text Unasked = []
 unknown_text Never = []
 unknown_text (Found r) = []
-unknown_text racings.Unknown = races_unknown_line
+unknown_text racings.Unknown = codes "whether it races is not known\n"
+
+-- So many endings of so many states are all.
+abbrev pub all_line : ℕ → ℕ → Racing → List ℕ
+all_line endings states racing =
+    codes "all: " ++ endings_text endings ++ codes ", " ++ states_text states ++ race_words racing ++ codes "\n"
 
 -- The line that says whether so many endings of so many states are all.
 abbrev pub verdict_line : Racing → Verdict → ℕ → ℕ → ℕ → List ℕ
-verdict_line racing verdicts.All most endings states = all_line endings states (race_words_of racing)
+verdict_line racing verdicts.All most endings states = all_line endings states racing
 verdict_line racing verdicts.TooMany most endings states = too_many_line most endings
 verdict_line racing verdicts.CannotTell most endings states = cannot_tell_line endings
 verdict_line racing verdicts.Told most endings states = told_line endings states

@@ -1,5 +1,6 @@
 -- What is known of the races of all runs of a call, and what is told of one.
-use Rattle.std.specs.Prelude.{ℕ, ◌≡◌, ◌⊎◌, ◌↔◌, ◌&&◌, Bool, true, false, List, [], is_some}
+use Rattle.std.specs.Prelude.{ℕ, ◌≡◌, ◌⊎◌, ◌↔◌, ◌&&◌, Bool, true, false, List, [], ◌++◌, codes, is_some}
+use Rattle.std.specs.Fmt.{decimal}
 use Rattle.spawn_host.specs.Requests.{Requested}
 use Rattle.search_reach.specs.declared.ending.Ended.{Ended}
 use Rattle.search_reach.specs.declared.search.Verdict.TheVariants as verdicts
@@ -9,7 +10,6 @@ use Rattle.search_modules.specs.Liveness.{CountsOwned, SaysWhereAllFree}
 use Rattle.search_scheduled.specs.declared.running.MadeRun.{MadeRun}
 use Rattle.search_finds.specs.Finds.{IsFind}
 use Rattle.report_command.specs.declared.search.Search.{Search}
-use Rattle.report_lines.specs.Found.{race_without_run_line}
 use Rattle.report_jobs.specs.Prints.{WriterChange, KeepsRecord}
 use Rattle.report.specs.Raced.{SaysPair}
 use Rattle.report.specs.Searches.{FindsEvery, FindsNoOther, IsCompleteOf}
@@ -70,6 +70,10 @@ racing_in (looks.Open racing way) = racing
 abbrev pub keeps_race : Search → Bool
 keeps_race s = s.races && is_some s.save
 
+abbrev pub threads_line : ℕ → ℕ → List ℕ
+threads_line one other =
+    codes "race: t" ++ decimal one ++ codes " and t" ++ decimal other ++ codes "; no run was made for it\n"
+
 -- A run by the call in which two accesses race is told of; or the threads alone, of which no run with a race was made.
 pub record TellsOfRace (q : Requested) (s : Search) (text : List ℕ) (save : WriterChange) : Type 0 where
   pub made : MadeRun
@@ -78,7 +82,7 @@ pub record TellsOfRace (q : Requested) (s : Search) (text : List ℕ) (save : Wr
   pub kept : KeepsRecord (keeps_race s) save made.record
 
 pub record TellsOfThreads (one other : ℕ) (text : List ℕ) (save : WriterChange) : Type 0 where
-  pub text_is : text ≡ race_without_run_line one other
+  pub text_is : text ≡ threads_line one other
   pub kept : save.new ≡ save.old
 
 -- Where no race was found nothing is told.

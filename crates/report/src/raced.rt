@@ -1,12 +1,14 @@
 //! A race that a search found: the run that comes to it, and what is told of that.
 ghost use Rattle.std.specs.Prelude.{◌≡◌, false, IfOk, IfErr};
+ghost use Rattle.replay_forms.specs.Texts.{Wrote};
 ghost use Rattle.report_jobs.specs.Asked.{IsAskedBy};
 ghost use Rattle.report_jobs.specs.Prints.{changed};
 ghost use Rattle.report_jobs.specs.Silence.{Stays};
 ghost use Rattle.report.specs.Prints.{Tells};
 ghost use Rattle.report.specs.Racing as specified;
-ghost use Rattle.report.specs.Racing.{KeepsNoneOrRace, SaysPair, TellsOfRacing};
-ghost use Rattle.report.specs.Searches.{IsOfSystem};
+ghost use Rattle.report.specs.Raced.{WritesPair};
+ghost use Rattle.report.specs.Racing.{TellsOfRacing, threads_line};
+ghost use Rattle.report.specs.Searches.{IsOfSystem, KeepsNoneOrRace};
 ghost use Rattle.report.specs.declared.whole.Racing.TheVariants as racings;
 
 use crate::searching::{Asked, no_memory};
@@ -16,7 +18,6 @@ use race_history::is_history;
 use replay_text::Record;
 use report_command::{Search, Sought};
 use report_jobs::{Trouble, keep};
-use report_lines::write_race_without_run;
 use search_finds::run_round;
 use search_modules::{Race, race_choices};
 use show_races::{races_shown, write_first};
@@ -24,7 +25,7 @@ use show_rows::{CodeMap, Shown, Story};
 use show_text::Unwritten;
 use spawn_host::Request;
 use std::alloc::Global;
-use std::io::Write;
+use std::io::{self, Write};
 use validate_module::ValidModule;
 
 /// Whether the record of a run with a race is kept.
@@ -44,6 +45,14 @@ fn trouble_of(unwritten: Unwritten) -> Trouble
     }
 }
 
+/// Writes the line of two threads that race in a run that wasn't made.
+fn write_threads<W: Write>(out: &mut W, race: Race) -> io::Result<()>
+    ensures { Wrote W.contents out.old out.new result (threads_line race.one race.other) }
+{
+    let Race { one, other } = race;
+    write!(out, "race: t{one} and t{other}; no run was made for it\n")
+}
+
 /// Tells the first race of a recorded run, if it has one, and answers whether it has.
 fn write_pair<W: Write>(
     alloc: Global,
@@ -52,7 +61,7 @@ fn write_pair<W: Write>(
     code: CodeBytes,
     out: &mut W,
 ) -> Result<bool, Unwritten>
-    ensures { IfOk result (specified.WritesPair «module».now.parts «record».now
+    ensures { IfOk result (WritesPair «module».now.parts «record».now
         (changed W.contents out.old out.new)) }
 {
     let Ok(rows) = watched(alloc, module, record) else {
@@ -103,7 +112,7 @@ fn tell_found<W: Write, S: Write>(
     match write_pair(alloc, request.module(), &made.record, asked.code(), out) {
         Ok(true) => keep(&made.record, keeps_race(search), save),
         Ok(false) => {
-            write_race_without_run(out, race.one, race.other)?;
+            write_threads(out, race)?;
             Ok(())
         }
         Err(unwritten) => Err(trouble_of(unwritten)),

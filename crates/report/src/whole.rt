@@ -5,6 +5,7 @@ ghost use Rattle.spawn_host.specs.Requests.{Requested};
 ghost use Rattle.search_reach.specs.declared.search.Verdict.TheVariants as verdicts;
 ghost use Rattle.search_modules.specs.Races.{CanRaceSo, NeverRaces};
 ghost use Rattle.report_command.specs.declared.search.Search.{Search as SearchWords};
+ghost use Rattle.report.specs.Complete.{race_words};
 ghost use Rattle.report.specs.Searches.{IsCompleteOf, IsOfSystem};
 ghost use Rattle.report.specs.Racing as specified;
 ghost use Rattle.report.specs.Racing.{IsFreelyComplete, IsLooked, IsWhole};
@@ -12,7 +13,6 @@ ghost use Rattle.report.specs.Racing.{IsFreelyComplete, IsLooked, IsWhole};
 use crate::complete::Complete;
 use report_command::Search;
 use report_jobs::Trouble;
-use report_lines::RaceWords;
 use search_endings::Ending;
 use search_modules::{Race, RaceFree, all_endings, race_free_endings};
 use search_reach::{Follows, Verdict};
@@ -34,13 +34,13 @@ pub(crate) enum Racing {
 
 impl Racing {
     /// What is said of it behind how many endings and states there are.
-    pub(crate) fn words(self) -> RaceWords
-        ensures { result ≡ specified.race_words_of self }
+    pub(crate) fn words(self) -> &'static str
+        ensures { result.now ≡ race_words self }
     {
         match self {
-            Racing::Never => RaceWords::NoRace,
-            Racing::Found(_) => RaceWords::WithRaces,
-            Racing::Unasked | Racing::Unknown => RaceWords::Nothing,
+            Racing::Never => ", no race",
+            Racing::Found(_) => ", with races",
+            Racing::Unasked | Racing::Unknown => "",
         }
     }
 

@@ -1,10 +1,8 @@
 -- The lines of a search through every order of entries: how many endings and states it met, from how many states no run
 -- ends, and whether every fair run ends.
-use Rattle.std.specs.Prelude.{ℕ, ◌==◌, if◌then◌else◌, List, [], ◌++◌, length, codes}
+use Rattle.std.specs.Prelude.{ℕ, ◌==◌, if◌then◌else◌, List, ◌++◌, length, codes}
 use Rattle.std.specs.Fmt.{decimal}
 use Rattle.std.specs.List.{flat_map}
-use Rattle.report_lines.specs.declared.complete.RaceWords.{RaceWords}
-use Rattle.report_lines.specs.declared.complete.RaceWords.TheVariants.{NoRace, WithRaces, Nothing}
 
 -- So many of a thing, whose name has a form for one and another for more.
 abbrev pub form_of : ℕ → List ℕ → List ℕ → List ℕ
@@ -19,19 +17,9 @@ endings_text count = counted count (codes "ending") (codes "endings")
 abbrev pub states_text : ℕ → List ℕ
 states_text count = counted count (codes "state") (codes "states")
 
--- What is said of races; and that it isn't known.
-abbrev pub race_words : RaceWords → List ℕ
-race_words NoRace = codes ", no race"
-race_words WithRaces = codes ", with races"
-race_words Nothing = []
-
-abbrev pub races_unknown_line : List ℕ
-races_unknown_line = codes "whether it races is not known\n"
-
 -- These are all.
-abbrev pub all_line : ℕ → ℕ → RaceWords → List ℕ
-all_line endings states races =
-    codes "all: " ++ endings_text endings ++ codes ", " ++ states_text states ++ race_words races ++ codes "\n"
+abbrev pub all_line : ℕ → ℕ → List ℕ
+all_line endings states = codes "all: " ++ endings_text endings ++ codes ", " ++ states_text states ++ codes "\n"
 
 -- They aren't: there are more states than it may meet.
 abbrev pub too_many_line : ℕ → ℕ → List ℕ

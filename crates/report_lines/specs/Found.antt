@@ -13,11 +13,6 @@ found_ending_line number = codes "found as ending " ++ decimal number ++ codes "
 abbrev pub without_run_line : ℕ → List ℕ
 without_run_line number = codes "found as ending " ++ decimal number ++ codes "; no run was made for it\n"
 
--- Two threads race in a run that wasn't made.
-abbrev pub race_without_run_line : ℕ → ℕ → List ℕ
-race_without_run_line one other =
-    codes "race: t" ++ decimal one ++ codes " and t" ++ decimal other ++ codes "; no run was made for it\n"
-
 -- After so many entries a run is where none ends, or goes round for ever.
 abbrev pub entries_text : ℕ → List ℕ
 entries_text count = counted count (codes "entry") (codes "entries")

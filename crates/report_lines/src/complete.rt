@@ -4,7 +4,6 @@ ghost use Rattle.std.specs.List.{flat_map};
 ghost use Rattle.replay_forms.specs.Texts.{Wrote};
 ghost use Rattle.report_lines.specs.Complete as specified;
 ghost use Rattle.report_lines.specs.Complete.{endings_text, states_text, all_line, too_many_line, cannot_tell_line};
-ghost use Rattle.report_lines.specs.Complete.{race_words, races_unknown_line};
 ghost use Rattle.report_lines.specs.Complete.{told_line, cannot_end_line, fair_runs_end_line, unknown_line};
 ghost use Rattle.report_lines.specs.Complete.{number_text, threads_text, cycle_line};
 
@@ -33,53 +32,18 @@ fn write_states_count<W: Write>(out: &mut W, count: usize) -> io::Result<()>
     write!(out, "{count} {form}")
 }
 
-/// What such a line says of races.
-#[derive(Clone, Copy, PartialEq, Eq, Debug)]
-pub enum RaceWords {
-    /// No run has one.
-    NoRace,
-    /// Some run has one.
-    WithRaces,
-    /// Nothing.
-    Nothing,
-}
-
-/// What is said of races behind how many endings and states there are.
-fn write_race_words<W: Write>(out: &mut W, races: RaceWords) -> io::Result<()>
-    ensures { Wrote W.contents out.old out.new result (race_words races) }
-{
-    match races {
-        RaceWords::NoRace => write!(out, ", no race"),
-        RaceWords::WithRaces => write!(out, ", with races"),
-        RaceWords::Nothing => Ok(()),
-    }
-}
-
-/// The line that says that so many endings are all, how many states there are, and whether there are races.
+/// The line that says that so many endings are all, and how many states there are.
 ///
 /// # Errors
 /// That of the writer, and then what was written isn't said. So of each function here.
-pub fn write_all_met<W: Write>(
-    out: &mut W,
-    endings: usize,
-    states: usize,
-    races: RaceWords,
-) -> io::Result<()>
-    ensures { Wrote W.contents out.old out.new result (all_line endings states races) }
+pub fn write_all_met<W: Write>(out: &mut W, endings: usize, states: usize) -> io::Result<()>
+    ensures { Wrote W.contents out.old out.new result (all_line endings states) }
 {
     write!(out, "all: ")?;
     write_endings_count(out, endings)?;
     write!(out, ", ")?;
     write_states_count(out, states)?;
-    write_race_words(out, races)?;
     write!(out, "\n")
-}
-
-/// The line that says that it isn't known whether there are races.
-pub fn write_races_unknown<W: Write>(out: &mut W) -> io::Result<()>
-    ensures { Wrote W.contents out.old out.new result races_unknown_line }
-{
-    write!(out, "whether it races is not known\n")
 }
 
 /// The line that says that there are more states than so many.

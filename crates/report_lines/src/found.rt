@@ -1,7 +1,7 @@
 //! The lines of what a search found.
 ghost use Rattle.replay_forms.specs.Texts.{Wrote};
 ghost use Rattle.report_lines.specs.Found.{entries_text, after_text, found_run_line, found_ending_line};
-ghost use Rattle.report_lines.specs.Found.{without_run_line, race_without_run_line, no_end_line, for_ever_line};
+ghost use Rattle.report_lines.specs.Found.{without_run_line, no_end_line, for_ever_line};
 
 use crate::complete::form_of;
 use std::io::{self, Write};
@@ -28,13 +28,6 @@ pub fn write_without_run<W: Write>(out: &mut W, number: usize) -> io::Result<()>
     ensures { Wrote W.contents out.old out.new result (without_run_line number) }
 {
     write!(out, "found as ending {number}; no run was made for it\n")
-}
-
-/// Writes the line of two threads that race in a run that wasn't made.
-pub fn write_race_without_run<W: Write>(out: &mut W, one: usize, other: usize) -> io::Result<()>
-    ensures { Wrote W.contents out.old out.new result (race_without_run_line one other) }
-{
-    write!(out, "race: t{one} and t{other}; no run was made for it\n")
 }
 
 /// So many entries.

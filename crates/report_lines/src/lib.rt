@@ -11,13 +11,12 @@ mod found;
 mod lines;
 
 pub use complete::{
-    RaceWords, write_all_met, write_cannot_end, write_cannot_tell, write_cycle,
-    write_fair_runs_end, write_races_unknown, write_told, write_too_many, write_unknown,
+    write_all_met, write_cannot_end, write_cannot_tell, write_cycle, write_fair_runs_end,
+    write_told, write_too_many, write_unknown,
 };
 pub use drawn::{Often, write_cut, write_met, write_stopped, write_unseen};
 pub use endings::{write_ending, write_endings};
 pub use found::{
-    write_for_ever, write_found_ending, write_found_run, write_no_end, write_race_without_run,
-    write_without_run,
+    write_for_ever, write_found_ending, write_found_run, write_no_end, write_without_run,
 };
 pub use lines::{is_done, write_run};
