@@ -411,7 +411,10 @@ fn tell_behind<F: Hears, W: Write, S: Write>(
         return Ok(1);
     }
     if are_well(&whole.all, &search.sought) {
-        return Ok(u8::from(!whole.racing.is_allowed(search.allow_races)));
+        if !whole.racing.is_allowed(search.allow_races) {
+            return Ok(1);
+        }
+        return Ok(0);
     }
     if !stops {
         return Ok(1);
