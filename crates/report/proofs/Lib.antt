@@ -4,6 +4,7 @@ mod Asking
 mod Sure
 mod Growing
 mod Printed
+mod Wholly
 mod Counted
 mod Sought
 mod Silent
