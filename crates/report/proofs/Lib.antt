@@ -9,3 +9,4 @@ mod Counted
 mod Sought
 mod Silent
 pub mod Told
+mod Pairs

@@ -138,10 +138,11 @@ pub fn write_first<W: Write>(
     ensures { OnOk result
         (λ is. WritesFirst shown.entry story.now races.now is (W.contents out.old) (W.contents out.new)) }
 {
-    let Some(race) = races.pairs.first() else {
+    let pairs = races.pairs.as_slice();
+    if pairs.is_empty() {
         return Ok(false);
-    };
-    let text = race_text(alloc, shown, story, races.kinds.as_slice(), *race)?;
+    }
+    let text = race_text(alloc, shown, story, races.kinds.as_slice(), pairs[0])?;
     write!(out, "{text}")?;
     out.flush()?;
     Ok(true)

@@ -1,0 +1,43 @@
+-- The first race of a run's record, as it was written.
+use Rattle.std.proofs.Common.{◌≡◌, ◌∙◌, Bool, true, false, List, Option, length, ap, sym, subst}
+use Rattle.types.specs.declared.event.Entry.{Entry}
+use Rattle.types.specs.declared.parts.Parts.{Parts}
+use Rattle.spawn_host.specs.declared.end.EndState.{EndState}
+use Rattle.replay.specs.Runs.{IsRunOf}
+use Rattle.replay_text.specs.declared.parts.RecordParts.{RecordParts}
+use Rattle.race_history.specs.declared.access.Kind.{Kind}
+use Rattle.race_history.specs.Races.{AreRaces, IsLastRace}
+use Rattle.show_rows.specs.declared.listing.Shown.{Shown}
+use Rattle.show_rows.specs.declared.listing.Story.{Story}
+use Rattle.show_rows.specs.declared.rows.Row.{Row}
+use Rattle.show_races.specs.Kinds.{kinds_in, kinds_shown}
+use Rattle.show_races.specs.Written.{SaysRace, WritesFirst}
+use Rattle.show_races.specs.declared.found.Races.{Races}
+use Rattle.report_jobs.specs.Prints.{change}
+use Rattle.report.specs.Raced.{AreRowsOf, IsShownOf, WritesPair}
+use Rattle.report.proofs.Told.{kinds_alike, told_of}
+
+pub pair_of : (m : Parts) (r : RecordParts) (rows : List (Option Row)) → (end : EndState) × IsRunOf m r end × AreRowsOf m r end rows
+    → (shown : Shown) (story : Story) → IsShownOf m r rows shown story → (races : Races) → races.kinds.items ≡ kinds_shown shown
+    → AreRaces shown.record.now.log (kinds_shown shown) races.pairs.items → (is : Bool) (old new : Option (List ℕ))
+    → WritesFirst shown story races is old new → WritesPair m r (change old new) is
+pair_of m r rows seen shown story is_shown races kinds are true old new (race, within, at, text, says, lines) =
+    let log = ap (λ (p : RecordParts). p.log) is_shown.of_record in
+    let alike = kinds_alike shown.record.now.log r.log shown.code.now.parts.now m shown.rows.now rows log is_shown.of_module is_shown.of_rows in (
+      text,
+      lines,
+      record {
+        rows = rows;
+        end = seen.0;
+        run = seen.1;
+        rows_are = seen.2;
+        shown = shown;
+        story = story;
+        is_shown = is_shown;
+        race = race;
+        is_race = told_of (λ l k. IsLastRace l k race) shown.record.now.log r.log shown.code.now.parts.now m shown.rows.now rows log
+            is_shown.of_module is_shown.of_rows (are race (0, within, at));
+        says = subst (λ (k : List Kind). SaysRace shown story k race text) (kinds ∙ alike) says;
+      },
+    )
+pair_of m r rows seen shown story is_shown races kinds are false old new (none, same) = same
