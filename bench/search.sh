@@ -58,7 +58,7 @@ gone_through() {
     out=$(/usr/bin/time -f '%U %S %M' -o "$work/took" "$program" search "$top/examples/search/$name.wasm" --invoke f --all \
         --states 1000000000 "$@" | grep -E '^(not )?all: ')
     read -r user system kib < <(tail -n 1 "$work/took")
-    states=$(sed -n 's/^all: .* endings*, \([0-9]*\) states*$/\1/p' <<< "$out")
+    states=$(sed -n 's/^all: .* endings*, \([0-9]*\) states*.*$/\1/p' <<< "$out")
     awk -v what="$name $*" -v said="$out" -v n="${states:-0}" -v t="$user" -v u="$system" -v kib="$kib" 'BEGIN {
         s = t + u; if (s <= 0) s = 0.01
         if (!n) { print what ": " said; exit }
