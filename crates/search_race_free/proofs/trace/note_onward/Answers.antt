@@ -1,22 +1,4 @@
-use Rattle.std.proofs.Common.{sym, ◌∙◌, ap, subst}
-use Rattle.search_settled.proofs.Threads.{if-some-at}
-use Rattle.search_race_free.specs.Search.{IsAfterEvent}
-use Rattle.search_race_free.specs.Touches.{access_at, AreOfOthers}
-use Rattle.search_race_free.proofs.Continuing.{onward-first}
-use Rattle.search_race_free.proofs.Following.{wants-at}
 use Rattle.search_race_free.proofs.trace.note_onward.Goals as goal
 
-pub wanted-requires : goal.wanted-requires
-wanted-requires g c = c.requires.somewhere
-
 pub loop-m-init : goal.loop-m-init
-loop-m-init g c =
-    let k = g.M.Moves.threads c.args.system.now in
-    let n = c.thread_of-n.result in
-    let one = onward-first k (g.met.M.Moves.tame c.args.system.now) (g.met.M.Accesses.plain c.args.system.now) c.args.from
-    (record { flat = c.in-Some-2.flat; owned = c.in_ok-owned.owned }) n c.in-Some.access c.requires
-    (wants-at k c.args.from c.in_ok-before.before.items n c.in-Some.access c.in_ok-before.ensures
-    (ap (λ l. access_at l n) (sym c.as_slice-2.ensures.value) ∙ (sym c.next_of.ensures ∙ c.in-Some.is)))
-    (if-some-at (IsAfterEvent k c.args.from.flat n) c.in_ok-flat.field-0 c.in-Some-2.flat c.in-Some-2.is c.in_ok-flat.ensures.next)
-    (subst (λ l. AreOfOthers l n c.in_ok-owned.owned.items) c.as_slice-3.ensures.value c.in_ok-owned.ensures) in
-    record { owned = one.owned }
+loop-m-init g c = record { owned = rw c.in-Some.is at c.in_ok-first.ensures }
