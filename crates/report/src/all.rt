@@ -36,17 +36,6 @@ struct SoughtEnding<'a> {
     choices: &'a [usize],
 }
 
-impl<'a> SoughtEnding<'a> {
-    /// It, with other choices.
-    fn along<'b>(self, choices: &'b [usize]) -> SoughtEnding<'b>
-    where
-        'a: 'b,
-        ensures { result ≡ record { number = self.number; ending = self.ending; choices = choices } }
-    {
-        SoughtEnding { choices, ..self }
-    }
-}
-
 /// A run that never ends, by choices.
 #[derive(Clone, Copy)]
 pub(crate) enum EndlessRun<'a> {
@@ -398,16 +387,11 @@ fn tell_behind<F: Hears, W: Write, S: Write>(
             whole.is_free,
             first.choices,
         )?;
-        let choices = choices_in(&filled, first.choices);
-        tell_sought(
-            alloc,
-            request,
-            search,
-            first.along(choices),
-            follower,
-            out,
-            save,
-        )?;
+        let sought = SoughtEnding {
+            choices: choices_in(&filled, first.choices),
+            ..first
+        };
+        tell_sought(alloc, request, search, sought, follower, out, save)?;
         return Ok(1);
     }
     if are_well(&whole.all, &search.sought) {
