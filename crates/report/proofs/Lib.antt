@@ -10,3 +10,4 @@ mod Sought
 mod Silent
 pub mod Told
 mod Pairs
+mod Looking

@@ -3,6 +3,7 @@ use Rattle.std.specs.Prelude.{ℕ, ◌≡◌, ◌⊎◌, ◌↔◌, ◌&&◌, Bo
 use Rattle.std.specs.Fmt.{decimal}
 use Rattle.spawn_host.specs.Requests.{Requested}
 use Rattle.search_reach.specs.declared.ending.Ended.{Ended}
+use Rattle.search_reach.specs.declared.search.Verdict.{Verdict}
 use Rattle.search_reach.specs.declared.search.Verdict.TheVariants as verdicts
 use Rattle.search_endings.specs.Endings.{Ending}
 use Rattle.search_modules.specs.Races.{CanRaceSo, NeverRaces}
@@ -57,13 +58,21 @@ pub record IsWhole (q : Requested) (s : Search) (w : Whole) : Type 0 where
   pub asked : IsAsked s w.racing
   pub never : w.is_free ≡ true → w.all.verdict ≡ verdicts.All → w.racing ≡ Never
 
--- What a first look left open, if anything.
+-- Where no race was found none is in any run, if all states were met.
+abbrev pub racing_by : Verdict → Racing
+racing_by verdicts.All = Never
+racing_by verdicts.TooMany = Unknown
+racing_by verdicts.CannotTell = Unknown
+racing_by verdicts.Told = Unknown
+
+-- What a first look found, and what it left open.
 abbrev pub IsLooked : Requested → Search → FirstLook → Type 0
-IsLooked q s (looks.Done w) = IsWhole q s w
+IsLooked q s (looks.Done all) =
+    IsFreelyComplete q s.sought.dump all × IsKnownOf q (racing_by all.verdict) × (s.every_order ≡ false)
 IsLooked q s (looks.Open racing way) = IsKnownOf q racing × IsAsked s racing
 
 abbrev pub racing_in : FirstLook → Racing
-racing_in (looks.Done w) = w.racing
+racing_in (looks.Done all) = racing_by all.verdict
 racing_in (looks.Open racing way) = racing
 
 -- The run with the race is kept where that is asked for, and a place for its record is given.

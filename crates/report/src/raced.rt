@@ -119,6 +119,33 @@ fn tell_found<W: Write, S: Write>(
     }
 }
 
+/// Tells of a race, where one is known.
+fn tell_racing<W: Write, S: Write>(
+    alloc: Global,
+    request: &Request,
+    asked: Asked,
+    racing: Racing,
+    way: &[usize],
+    out: &mut W,
+    save: &mut S,
+) -> Result<(), Trouble>
+    requires asked { IsAskedBy asked.entry.search.now.call request.now }
+    ensures tells { IfOk result (λ _. Tells (changed W.contents out.old out.new)
+        (λ text. TellsOfRacing request.now asked.entry.search.now racing text
+        (changed S.contents save.old save.new))) }
+    ensures kept { IfOk result
+        (λ _. KeepsNoneOrRace request.now.parts asked.entry.search.now (changed S.contents save.old save.new)) }
+    ensures unwanted { specified.keeps_race asked.entry.search.now ≡ false → Stays save.old save.new }
+    ensures trouble { IfErr result IsOfSystem }
+{
+    match racing {
+        Racing::Found(race) => tell_found(alloc, request, asked, race, way, out, save),
+        Racing::Unasked => Ok(()),
+        Racing::Never => Ok(()),
+        Racing::Unknown => Ok(()),
+    }
+}
+
 /// Tells of the race that a first look at all runs found, if it found one.
 pub(crate) fn tell_race<W: Write, S: Write>(
     alloc: Global,
@@ -138,10 +165,9 @@ pub(crate) fn tell_race<W: Write, S: Write>(
     ensures trouble { IfErr result IsOfSystem }
 {
     match look {
-        FirstLook::Open {
-            racing: Racing::Found(race),
-            way,
-        } => tell_found(alloc, request, asked, *race, way.as_slice(), out, save),
-        _ => Ok(()),
+        FirstLook::Done(_) => Ok(()),
+        FirstLook::Open { racing, way } => {
+            tell_racing(alloc, request, asked, *racing, way.as_slice(), out, save)
+        }
     }
 }

@@ -70,10 +70,20 @@ pub(crate) struct Whole {
 /// What a first look at all runs came to.
 #[derive(Drop)]
 pub(crate) enum FirstLook {
-    /// Nothing more is to be looked for.
-    Done(Whole),
+    /// Nothing more is to be looked for: this was found, by the orders that matter where no threads race.
+    Done(Complete),
     /// Every order is to be gone through; what is known of races, and where one is, the way to it.
     Open { racing: Racing, way: Vec<usize> },
+}
+
+/// What a search that looks for races knows of them where it found none.
+fn racing_by(verdict: Verdict) -> Racing
+    ensures { result ≡ specified.racing_by verdict }
+{
+    match verdict {
+        Verdict::All => Racing::Never,
+        Verdict::TooMany | Verdict::CannotTell | Verdict::Told => Racing::Unknown,
+    }
 }
 
 /// The endings of a call by the orders that matter where no threads race.
@@ -108,21 +118,13 @@ fn look_of(free: RaceFree<Ending>) -> FirstLook
             way,
         };
     }
-    let racing = match ended.verdict {
-        Verdict::All => Racing::Never,
-        Verdict::TooMany | Verdict::Told => Racing::Unknown,
-        Verdict::CannotTell => {
-            return FirstLook::Open {
-                racing: Racing::Unknown,
-                way,
-            };
-        }
-    };
-    FirstLook::Done(Whole {
-        all: ended,
-        racing,
-        is_free: true,
-    })
+    if let Verdict::CannotTell = ended.verdict {
+        return FirstLook::Open {
+            racing: Racing::Unknown,
+            way,
+        };
+    }
+    FirstLook::Done(ended)
 }
 
 /// Looks at all runs of a call by the orders that matter where no threads race, unless every order is asked for.
@@ -175,7 +177,14 @@ pub(crate) fn whole_of<F: Follows>(
     ensures trouble { IfErr result IsOfSystem }
 {
     match look {
-        FirstLook::Done(whole) => Ok(whole),
+        FirstLook::Done(all) => {
+            let racing = racing_by(all.verdict);
+            Ok(Whole {
+                all,
+                racing,
+                is_free: true,
+            })
+        }
         FirstLook::Open { racing, .. } => {
             let all = all_of(alloc, request, most, search.sought.dump, follower)?;
             Ok(Whole {
