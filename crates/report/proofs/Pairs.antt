@@ -1,5 +1,5 @@
 -- The first race of a run's record, as it was written.
-use Rattle.std.specs.Prelude.{IfOk, OnOk, Result, Ok, Err}
+use Rattle.std.specs.Prelude.{IfOk, Result, Ok, Err}
 use Rattle.std.proofs.Common.{ℕ, ◌≡◌, ◌∙◌, Bool, true, false, List, Option, length, ap, sym, subst}
 use Rattle.types.specs.declared.event.Entry.{Entry}
 use Rattle.types.specs.declared.parts.Parts.{Parts}
@@ -46,6 +46,6 @@ pair_of m r rows seen shown story is_shown races kinds are false old new (none, 
 -- of an answer that says whether it has one
 pub wrote_first : {E : Type 0} (r : Result Bool E) {First Pair : Bool → Option (List ℕ) → Option (List ℕ) → Type 0}
     → ((is : Bool) (old new : Option (List ℕ)) → First is old new → Pair is old new) → (old new : Option (List ℕ))
-    → OnOk r (λ is. First is old new) → IfOk r (λ is. Pair is old new)
+    → IfOk r (λ is. First is old new) → IfOk r (λ is. Pair is old new)
 wrote_first (Ok is) f old new h = f is old new h
 wrote_first (Err e) f old new h = tt

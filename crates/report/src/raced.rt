@@ -109,14 +109,15 @@ fn tell_found<W: Write, S: Write>(
         Ok(made) => made,
         Err(fault) => return Err(no_memory(fault)),
     };
-    match write_pair(alloc, request.module(), &made.record, asked.code(), out) {
-        Ok(true) => keep(&made.record, keeps_race(search), save),
-        Ok(false) => {
-            write_threads(out, race)?;
-            Ok(())
-        }
-        Err(unwritten) => Err(trouble_of(unwritten)),
+    let is_told = match write_pair(alloc, request.module(), &made.record, asked.code(), out) {
+        Ok(is_told) => is_told,
+        Err(unwritten) => return Err(trouble_of(unwritten)),
+    };
+    if !is_told {
+        write_threads(out, race)?;
+        return Ok(());
     }
+    keep(&made.record, keeps_race(search), save)
 }
 
 /// Tells of a race, where one is known.

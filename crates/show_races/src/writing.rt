@@ -135,7 +135,7 @@ pub fn write_first<W: Write>(
     out: &mut W,
 ) -> Result<bool, Unwritten>
     requires { All (IsWithin shown.record.now.log) races.now.pairs.items }
-    ensures { OnOk result
+    ensures { IfOk result
         (λ is. WritesFirst shown.entry story.now races.now is (W.contents out.old) (W.contents out.new)) }
 {
     let pairs = races.pairs.as_slice();
