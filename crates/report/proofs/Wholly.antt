@@ -8,11 +8,11 @@ use Rattle.search_modules.specs.Endings.{HasEveryEnding, AllCanEndSo}
 use Rattle.search_modules.specs.Races.{NeverRaces}
 use Rattle.report_command.specs.declared.search.Search.{Search}
 use Rattle.report_jobs.specs.Asked.{IsAskedBy}
-use Rattle.report_jobs.specs.Prints.{change}
+use Rattle.report_jobs.specs.Prints.{WriterChange, change}
 use Rattle.report.specs.Complete.{AreAllWell}
 use Rattle.report.specs.Prints.{IsStatusOf, stops_behind}
 use Rattle.report.specs.Racing.{IsAsked, IsKnownOf, IsWhole, allows, keeps_race}
-use Rattle.report.specs.Searches.{EndWell, Finds, IsRaceKept, IsSureToEnd, IsWellAt, KeepsNoneOrRace}
+use Rattle.report.specs.Searches.{EndWell, Finds, IsRaceKept, IsSureToEnd, IsWellAt, KeepsNoneOrEndless, KeepsNoneOrFind, KeepsNoneOrRace}
 use Rattle.report.specs.declared.whole.Racing.{Racing}
 use Rattle.report.specs.declared.whole.Racing.TheVariants.{Unasked, Never, Found, Unknown}
 use Rattle.report.specs.declared.whole.Whole.{Whole}
@@ -71,3 +71,15 @@ module _ (m : Parts) (s : Search) (a b c : Option (List ℕ)) (status : ℕ) whe
   finds_all true is unkept quiet kept found few =
       finds_race (quiet (and_right s.sought.stops (not s.races) (not_from_true s.races is))) kept few
   finds_all false is unkept quiet kept found few = finds_behind (unkept (and_left s.races (is_some s.save) is)) found
+
+-- a run was found, or none
+pub finds_none : (m : Parts) (s : Search) (save : WriterChange) (status : ℕ) → status ≤ 1 → save.new ≡ save.old → Finds m s save status
+finds_none m s save status few same = inl (few, same)
+
+pub finds_found : (m : Parts) (s : Search) (save : WriterChange) → KeepsNoneOrFind m s save → Finds m s save 1
+finds_found m s save (inl same) = inl (omega arith, same)
+finds_found m s save (inr kept) = inr (inl (refl, inl kept))
+
+pub finds_endless : (m : Parts) (s : Search) (save : WriterChange) → KeepsNoneOrEndless m s save → Finds m s save 1
+finds_endless m s save (inl same) = inl (omega arith, same)
+finds_endless m s save (inr kept) = inr (inl (refl, inr kept))

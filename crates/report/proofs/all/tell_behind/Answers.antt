@@ -3,6 +3,7 @@ use Rattle.report_jobs.specs.Prints.{changed}
 use Rattle.report.specs.Prints.{TellsOfOne}
 use Rattle.report.proofs.Printed.{first_is_sought, status_0, status_1, tells_nothing, well_has_none}
 use Rattle.report.proofs.Sought.{known_is_sought, none_of}
+use Rattle.report.proofs.Wholly.{finds_endless, finds_found}
 use Rattle.report.proofs.all.tell_behind.Goals as goal
 
 pub returns-then-not-stops-clause-tells : goal.returns-then-not-stops-clause-tells
@@ -88,7 +89,14 @@ tell_known-requires-clause-sought g c =
     (rw c.in-Some-endless_run.is at c.endless_run.ensures.some)
 
 pub returns-in-Some-endless_run-clause-finds : goal.returns-in-Some-endless_run-clause-finds
-returns-in-Some-endless_run-clause-finds g c = finds_endless c.in_ok-tell_known.ensures.kept
+returns-in-Some-endless_run-clause-finds g c =
+    finds_endless c.args.request.now.parts c.args.search.now (changed g.S.Write.contents c.args.save.now c.tell_known.new.save)
+    c.in_ok-tell_known.ensures.kept
+
+pub returns-in-Some-clause-finds : goal.returns-in-Some-clause-finds
+returns-in-Some-clause-finds g c =
+    finds_found c.args.request.now.parts c.args.search.now (changed g.S.Write.contents c.args.save.now c.tell_sought.new.save)
+    c.in_ok-tell_sought.ensures.told
 
 pub returns-in-Some-endless_run-clause-tells : goal.returns-in-Some-endless_run-clause-tells
 returns-in-Some-endless_run-clause-tells g c =
