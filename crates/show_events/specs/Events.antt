@@ -50,11 +50,11 @@ named_json words at length = codes "{\"ph\":\"X\",\"name\":" ++ words ++ codes "
 -- and its end: its thread, its line and where it was made.
 abbrev pub placed_json : ℕ → ℕ → List ℕ → List ℕ
 placed_json thread line place = codes ",\"pid\":1,\"tid\":" ++ decimal thread ++ codes ",\"args\":{\"line\":"
-    ++ decimal line ++ codes ",\"place\":" ++ place ++ codes "}}"
+    ++ decimal line ++ codes ",\"place\":" ++ place
 
 abbrev pub entry_json : RowText → ℕ → ℕ → List ℕ
 entry_json row at length =
-    named_json (quoted row.words) at length ++ placed_json row.thread row.line (quoted row.place)
+    named_json (quoted row.words) at length ++ (placed_json row.thread row.line (quoted row.place) ++ codes "}}")
 
 -- The name of a thread.
 abbrev pub name_json : ℕ → List ℕ

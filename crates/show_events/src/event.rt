@@ -72,7 +72,7 @@ impl fmt::Display for Placed<'_> {
         let (thread, line, place) = (self.thread, self.line, self.place);
         write!(
             f,
-            ",\"pid\":1,\"tid\":{thread},\"args\":{{\"line\":{line},\"place\":{place}}}}}"
+            ",\"pid\":1,\"tid\":{thread},\"args\":{{\"line\":{line},\"place\":{place}"
         )
     }
 }
@@ -98,7 +98,7 @@ pub(crate) fn entry_event(alloc: Global, event: EntryEvent) -> Result<String, Al
         line: event.line,
         place: place.as_str(),
     };
-    format!(in alloc; "{named}{placed}")
+    format!(in alloc; "{named}{placed}}}}}")
 }
 
 /// The name of a thread.

@@ -1,6 +1,6 @@
 //! What leads from one entry to another: wake-ups, spawns, races, and sleep.
 
-ghost use Rattle.std.specs.Prelude.{◌≡◌, ◌+◌, ◌<◌, ◌++◌, None, length, option_and_then, All, IfOk, OnOk};
+ghost use Rattle.std.specs.Prelude.{◌≡◌, ◌+◌, ◌<◌, ◌++◌, None, Some, length, slice_set, option_and_then, All, IfOk, OnOk};
 ghost use Rattle.std.specs.List.{slice_get, filter_map, range_with_len};
 ghost use Rattle.std.specs.Option.{option_to_list};
 ghost use Rattle.show_text.specs.Contexts.{AreContexts};
@@ -171,14 +171,21 @@ fn in_list(places: &[Option<usize>], at: usize) -> Option<usize>
     *places.get(at)?
 }
 
+/// Puts a place at one of a list, if there is that one.
+fn put_at(places: &mut [Option<usize>], n: usize, place: usize)
+    ensures { places.new ≡ slice_set places.old n (Some place) }
+{
+    if n < places.len() {
+        places[n] = Some(place);
+    }
+}
+
 /// Notes that the entry at a place is an answer, if it is one.
 fn note_answer(answers: &mut [Option<usize>], context: Context, at: usize)
     ensures { answers.new ≡ noted_answer context at answers.old }
 {
-    if let Context::Asked(_, asked) = context
-        && let Some(slot) = answers.get_mut(asked)
-    {
-        *slot = Some(at);
+    if let Context::Asked(_, asked) = context {
+        put_at(answers, asked, at);
     }
 }
 
@@ -197,14 +204,19 @@ fn answers_of(
     Ok(answers)
 }
 
+/// What is noted at one of a list.
+fn noted_at(places: &[Option<usize>], n: usize) -> Option<Option<usize>>
+    ensures { result ≡ slice_get places.now n }
+{
+    places.get(n).copied()
+}
+
 /// Notes that the entry at a place is of a thread, if none is noted of it.
 fn note_first(firsts: &mut [Option<usize>], thread: u32, at: usize)
     ensures { firsts.new ≡ noted_first thread at firsts.old }
 {
-    if let Some(slot) = firsts.get_mut(thread as usize)
-        && slot.is_none()
-    {
-        *slot = Some(at);
+    if let Some(None) = noted_at(firsts, thread as usize) {
+        put_at(firsts, thread as usize, at);
     }
 }
 
