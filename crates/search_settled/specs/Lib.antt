@@ -5,3 +5,5 @@ pub mod Next
 pub mod Flat
 pub mod Turns
 pub mod Same
+pub mod Alone
+pub mod Known

@@ -21,9 +21,11 @@
 
 mod access;
 mod flat;
+mod met;
 mod moves;
 mod next;
 mod states;
+mod turns;
 
 pub use access::Access;
 pub use flat::Flat;

@@ -2,10 +2,13 @@
 use Rattle.std.specs.Prelude.{ℕ, zero, suc, ◌≡◌, ◌+◌, ◌<◌, ◌≤◌, ◌||◌, Bool, true, false, List, [], ◌∷◌, ◌++◌, length, Option, Some, None, refl, slice_set, if◌then◌else◌}
 use Rattle.std.proofs.Common.{ap, subst, sym, ◌∙◌, arith, true≢false}
 use Rattle.std.proofs.lemmas.Option.{none-some, slice_get_within}
+use Rattle.std.proofs.lemmas.Bool.{eqb-true}
+use Rattle.std.specs.Cmp.{first_so, second_so}
 use Rattle.std.specs.List.{slice_get, list_any}
 use Rattle.indexmap.specs.IndexSet.{insert_key}
 use Rattle.search_table.specs.declared.table.Link.{Link}
-use Rattle.search_table.specs.Tables.{Keeps, HasEqual, IsOrdered, IsChain}
+use Rattle.search_table.specs.contracts.table.LinkPartialEq.TheImpl as links
+use Rattle.search_table.specs.Tables.{Keeps, HasEqual, IsOrdered, IsChain, place_of}
 
 module _ {A : Type 0} where
   pub keeps-self : (xs : List A) → Keeps xs xs
@@ -54,3 +57,68 @@ module _ {H : Type 0} where
   unfolding IsChain
   chain-within ts ls c [] is = omega (arith, is)
   chain-within ts ls c (x ∷ xs) is = let w = slice_get_within ls is.0 is.1 is.3 in let n = is.2 in omega (arith, w, n)
+
+  -- one thread more at its head
+  pub chain-more : (ts : List H) (ls ms : List Link) (place : ℕ) (k link : Link) → Keeps ls ms → slice_get ms place ≡ Some k → link ≡ k
+      → (n : ℕ) → n ≡ suc place → (x : H) (xs : List H) → slice_get ts link.thread ≡ Some x → IsChain ts ls link.rest xs → IsChain ts ms n (x ∷ xs)
+  unfolding IsChain
+  chain-more ts ls ms place k link keeps at same n number x xs thread is = (
+    place,
+    k,
+    number,
+    at,
+    ap (λ l. slice_get ts l.thread) (sym same) ∙ thread,
+    subst (λ l. IsChain ts ms l.rest xs) same (chain-grows ts ts ls ms (keeps-self ts) keeps link.rest xs is),
+  )
+
+  -- its first thread, and the others
+  pub record Opened (ts : List H) (ls : List Link) (l : Link) (xs : List H) : Type 0 where
+    pub first : H
+    pub others : List H
+    pub are : xs ≡ first ∷ others
+    pub thread : slice_get ts l.thread ≡ Some first
+    pub rest : IsChain ts ls l.rest others
+
+  pub opened : (ts : List H) (ls : List Link) (c : ℕ) (xs : List H) (l : Link) → place_of ls c ≡ Some l → IsChain ts ls c xs → Opened ts ls l xs
+  unfolding IsChain
+  opened ts ls c [] l at is = absurd (none-some l (sym (ap (place_of ls) is) ∙ at))
+  opened ts ls c (x ∷ xs) l at is =
+      let same : is.1 ≡ l = cc (is.3, sym (ap (place_of ls) is.2) ∙ at) in
+      record {
+        first = x;
+        others = xs;
+        are = refl;
+        thread = subst (λ k. slice_get ts k.thread ≡ Some x) same is.4;
+        rest = subst (λ k. IsChain ts ls k.rest xs) same is.5;
+      }
+
+  pub not-empty : (ts : List H) (ls : List Link) (c : ℕ) (xs : List H) (n : ℕ) → n < length xs → IsChain ts ls c xs → place_of ls c ≡ None → ⊥
+  unfolding IsChain
+  not-empty ts ls c [] n low is none = omega (arith, low)
+  not-empty ts ls c (x ∷ xs) n low is none = none-some is.1 (sym none ∙ ap (place_of ls) is.2 ∙ is.3)
+
+  pub empty-chain : (ts : List H) (ls : List Link) → IsChain ts ls 0 []
+  unfolding IsChain
+  empty-chain ts ls = refl
+
+  -- one that is empty has no threads
+  pub is-empty : (ts : List H) (ls : List Link) (c : ℕ) (xs : List H) → IsChain ts ls c xs → place_of ls c ≡ None → xs ≡ []
+  is-empty ts ls c [] is none = refl
+  is-empty ts ls c (x ∷ xs) is none = absurd (not-empty ts ls c (x ∷ xs) 0 (omega arith) is none)
+
+pub ordered-more : (eq : Link → Link → Bool) (ls : List Link) (link : Link) → IsOrdered ls → link.rest ≤ length ls → IsOrdered (insert_key eq ls link)
+ordered-more eq ls link so low p l at = by (slice_get ls p) refl
+  where
+    by : (o : Option Link) → slice_get ls p ≡ o → l.rest ≤ p
+    by (Some m) was = let same : m ≡ l = cc (keeps-insert eq ls link p m was, at) in so p l (was ∙ ap (λ k. Some k) same)
+    by None none =
+        let r = inserted-at eq ls link p l at none in
+        let rest : link.rest ≡ l.rest = ap (λ k. k.rest) r.1 in
+        let place = r.0 in
+        omega (arith, low, rest, place)
+
+pub same-link : (x y : Link) → links.eq-value.it x y ≡ true → x ≡ y
+same-link x y e =
+    let thread = eqb-true x.thread y.thread (first_so _ _ e) in
+    let rest = eqb-true x.rest y.rest (second_so _ _ e) in
+    λ i. record { thread = thread i; rest = rest i }

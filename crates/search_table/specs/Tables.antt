@@ -1,6 +1,9 @@
 -- What the numbers of a table stand for. Types: G for what is shared, and H for threads.
-use Rattle.std.specs.Prelude.{ℕ, zero, suc, ◌≡◌, ◌+◌, ◌≤◌, Bool, true, List, [], ◌∷◌, Option, Some, None}
+use Rattle.std.specs.Prelude.{ℕ, zero, suc, ◌≡◌, ◌≤◌, Bool, true, List, [], ◌∷◌, Option, Some, None}
 use Rattle.std.specs.List.{slice_get}
+use Rattle.std.specs.Cmp.Lexicographic.{pointwise}
+use Rattle.indexmap.specs.IndexSet.{insert_key}
+use Rattle.search_table.specs.contracts.table.RowPartialEq.TheImpl as rows
 use Rattle.search_table.specs.declared.table.Link.{Link}
 use Rattle.search_table.specs.declared.table.Row.{Row}
 use Rattle.search_table.specs.declared.table.Table.{Table}
@@ -26,10 +29,21 @@ IsOrdered links = (p : ℕ) (l : Link) → slice_get links p ≡ Some l → l.re
 
 module _ {H : Type 0} (threads : List H) (links : List Link) where
   -- These are the threads of the chain.
-  pub IsChain : ℕ → List H → Type 0
+  unfoldable pub IsChain : ℕ → List H → Type 0
   IsChain chain [] = chain ≡ 0
-  IsChain chain (x ∷ xs) = (p : ℕ) × (l : Link) × (chain ≡ p + 1) × (slice_get links p ≡ Some l)
+  IsChain chain (x ∷ xs) = (p : ℕ) × (l : Link) × (chain ≡ suc p) × (slice_get links p ≡ Some l)
       × (slice_get threads l.thread ≡ Some x) × IsChain l.rest xs
+
+-- It is one of threads that equal these, one by one.
+pub record IsChainOfEqual {H : Type 0} (eq : H → H → Bool) (threads : List H) (links : List Link) (xs : List H) (chain : ℕ)
+    : Type 0 where
+  pub equal : List H
+  pub are : pointwise eq xs equal ≡ true
+  pub chained : IsChain threads links chain equal
+
+-- The rows with this one, which comes last where it wasn't there.
+abbrev pub with_row : List Row → Row → List Row
+with_row = insert_key rows.eq-value.it
 
 module _ {G H : Type 0} where
   -- The row is of the state with this shared, and these threads.
@@ -49,3 +63,9 @@ module _ {G H : Type 0} where
     pub threads : t.threads.keys ≡ []
     pub links : t.links.keys ≡ []
     pub rows : t.rows.keys ≡ []
+
+  -- The numbers of the parts are the same.
+  pub record HasSameParts (before after : Table G H) : Type 0 where
+    pub shared : after.shared.keys ≡ before.shared.keys
+    pub threads : after.threads.keys ≡ before.threads.keys
+    pub links : after.links.keys ≡ before.links.keys

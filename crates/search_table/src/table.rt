@@ -1,6 +1,6 @@
 //! The table.
 ghost use Rattle.std.specs.Prelude.{◌≡◌, ◌<◌, ◌∷◌, ℕ, List, Some, length, IfOk, OnOk, slice_get, slice_set};
-ghost use Rattle.search_table.specs.Tables.{IsOrdered, IsChain, IsEmptyTable, Grows, HasEqual, place_of};
+ghost use Rattle.search_table.specs.Tables.{IsOrdered, IsChain, IsChainOfEqual, IsEmptyTable, Grows, HasEqual, HasSameParts, place_of, with_row};
 
 use indexmap::IndexSet;
 use std::alloc::{AllocError, Global};
@@ -128,5 +128,37 @@ impl<S: Eq + Hash + Drop, T: Eq + Hash + Drop> Table<S, T> {
         }
         let rest = self.with_thread(link.rest, n - 1, thread)?;
         self.put_link(link.thread, rest)
+    }
+
+    /// The chain of these threads.
+    ///
+    /// # Errors
+    /// Where memory is refused, or there are too many.
+    pub fn put_threads(&mut self, threads: Vec<T>) -> Result<u32, AllocError>
+        requires ordered { IsOrdered self.old.links.keys }
+        ensures grows { OnOk result (Grows self.old self.new) }
+        ensures ordered { OnOk result (IsOrdered self.new.links.keys) }
+        ensures chain { IfOk result (IsChainOfEqual T.eq self.new.threads.keys self.new.links.keys threads.items) }
+    {
+        let mut left = threads;
+        let mut chain: u32 = 0;
+        while let Some(thread) = left.pop() {
+            let number = self.put_thread(thread)?;
+            chain = self.put_link(number, chain)?;
+        }
+        Ok(chain)
+    }
+
+    /// The place of a row, which is put behind the others where it isn't there.
+    ///
+    /// # Errors
+    /// Where memory is refused.
+    pub fn put_row(&mut self, row: Row) -> Result<usize, AllocError>
+        ensures parts { OnOk result (HasSameParts self.old self.new) }
+        ensures rows { OnOk result (self.new.rows.keys ≡ with_row self.old.rows.keys row) }
+        ensures place { IfOk result (λ place. slice_get self.new.rows.keys place ≡ Some row) }
+    {
+        let (place, _) = self.rows.insert_full(row)?;
+        Ok(place)
     }
 }

@@ -1,7 +1,7 @@
 use Rattle.std.proofs.Common.{◌++◌, ◌∷◌, [], arith, sym, subst}
 use Rattle.search_reach.specs.Explored.{Gains}
 use Rattle.search_reach.proofs.Searching.{gains-more, inserted-noted}
-use Rattle.search_reach.proofs.search.add_all.Goals as goal
+use Rattle.search_reach.proofs.plain.add_all.Goals as goal
 
 pub loop-next-preserved : goal.loop-next-preserved
 loop-next-preserved g c = record {

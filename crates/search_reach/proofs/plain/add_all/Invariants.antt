@@ -1,7 +1,7 @@
 use Rattle.std.proofs.Common.{◌<◌, ◌^◌}
 use Rattle.indexmap.specs.IndexSet.{index_set_len}
 use Rattle.search_reach.specs.Explored.{Gains, Notes}
-use Rattle.search_reach.proofs.search.add_all.Given as goal
+use Rattle.search_reach.proofs.plain.add_all.Given as goal
 
 abbrev pub invariant-loop-next : goal.invariant-loop-next
 invariant-loop-next g l = record {
