@@ -1,5 +1,5 @@
 //! The states that were met, in a table, and the turns that are known there.
-ghost use Rattle.std.specs.Prelude.{◌≡◌, ◌<◌, ◌⊎◌, None, Some, length, IfOk, IfSome, OnOk, slice_get};
+ghost use Rattle.std.specs.Prelude.{◌<◌, IfSome, OnOk};
 ghost use Rattle.search_settled.specs.Known.{IsNotedIn, AreFrom};
 
 use search_table::{Row, Table};

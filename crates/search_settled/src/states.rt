@@ -1,10 +1,12 @@
 //! All endings of threads that are moved one by one.
-ghost use Rattle.std.specs.Prelude.{◌≡◌, IfOk, vec_len};
+ghost use Rattle.std.specs.Prelude.{◌≡◌, IfOk, OnOk, vec_len};
 ghost use Rattle.indexmap.specs.IndexSet.{index_set_len};
 ghost use Rattle.search_reach.specs.Found.{AreEndings};
 ghost use Rattle.search_reach.specs.Liveness.{IsCount, IsLiveWhereAll};
+ghost use Rattle.search_table.specs.Tables.{HasSameParts};
 ghost use Rattle.search_settled.specs.Turns.{turns};
 ghost use Rattle.search_settled.specs.Same.{flat_eq};
+ghost use Rattle.search_settled.specs.Known.{PutsRows};
 
 use crate::Moves;
 use crate::met::{Met, NextRow};
@@ -29,7 +31,7 @@ fn put_rows<S: Eq + Hash + Drop, T: Eq + Hash + Drop>(
     next: Vec<NextRow>,
 ) -> Result<(), AllocError>
     ensures parts { OnOk result (HasSameParts table.old table.new) }
-    ensures { OnOk result (PutsRows S.eq T.eq table.old table.new at next.items moves.old.items moves.new.items) }
+    ensures puts { OnOk result (PutsRows S.eq T.eq table.old table.new at next.items moves.old.items moves.new.items) }
 {
     for one in next {
         let place = table.put_row(one.row)?;

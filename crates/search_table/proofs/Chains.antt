@@ -1,14 +1,16 @@
 -- Chains of threads, as a table grows.
-use Rattle.std.specs.Prelude.{ℕ, zero, suc, ◌≡◌, ◌+◌, ◌<◌, ◌≤◌, ◌||◌, Bool, true, false, List, [], ◌∷◌, ◌++◌, length, Option, Some, None, refl, slice_set, if◌then◌else◌}
-use Rattle.std.proofs.Common.{ap, subst, sym, ◌∙◌, arith, true≢false}
+use Rattle.std.specs.Prelude.{ℕ, zero, suc, ◌≡◌, ◌+◌, ◌<◌, ◌≤◌, ◌&&◌, Bool, true, false, List, [], ◌∷◌, ◌++◌, length, Option, Some, None, refl, slice_set, if◌then◌else◌}
+use Rattle.std.proofs.Common.{ap, subst, sym, ◌∙◌, arith, append_assoc}
 use Rattle.std.proofs.lemmas.Option.{none-some, slice_get_within}
 use Rattle.std.proofs.lemmas.Bool.{eqb-true}
+use Rattle.std.proofs.lemmas.List.{append-nil}
 use Rattle.std.specs.Cmp.{first_so, second_so}
+use Rattle.std.specs.Cmp.Lexicographic.{pointwise}
 use Rattle.std.specs.List.{slice_get, list_any}
 use Rattle.indexmap.specs.IndexSet.{insert_key}
 use Rattle.search_table.specs.declared.table.Link.{Link}
 use Rattle.search_table.specs.contracts.table.LinkPartialEq.TheImpl as links
-use Rattle.search_table.specs.Tables.{Keeps, HasEqual, IsOrdered, IsChain, place_of}
+use Rattle.search_table.specs.Tables.{Keeps, HasEqual, IsOrdered, IsChain, IsChainOfEqual, place_of}
 
 module _ {A : Type 0} where
   pub keeps-self : (xs : List A) → Keeps xs xs
@@ -92,6 +94,23 @@ module _ {H : Type 0} where
         rest = subst (λ k. IsChain ts ls k.rest xs) same is.5;
       }
 
+  -- another thread in the place of one: of the first, and of one behind it
+  module _ (ts us : List H) (ls ms : List Link) (chain made : ℕ) (l : Link) (at : place_of ls chain ≡ Some l) (x : H) where
+    pub set-here : (xs : List H) → IsChain ts ls chain xs → (n : ℕ) → n ≡ 0 → ((ys : List H) → IsChain ts ls l.rest ys → IsChain us ms made (x ∷ ys))
+        → IsChain us ms made (slice_set xs n x)
+    set-here xs is n none go =
+        let o = opened ts ls chain xs l at is in
+        subst (λ zs. IsChain us ms made (slice_set zs n x)) (sym o.are)
+        (subst (λ m. IsChain us ms made (slice_set (o.first ∷ o.others) m x)) (sym none) (go o.others o.rest))
+
+    pub set-later : (xs : List H) → IsChain ts ls chain xs → (n m : ℕ) → n ≡ suc m
+        → ((y : H) (ys : List H) → slice_get ts l.thread ≡ Some y → IsChain ts ls l.rest ys → IsChain us ms made (y ∷ slice_set ys m x))
+        → IsChain us ms made (slice_set xs n x)
+    set-later xs is n m more go =
+        let o = opened ts ls chain xs l at is in
+        subst (λ zs. IsChain us ms made (slice_set zs n x)) (sym o.are)
+        (subst (λ j. IsChain us ms made (slice_set (o.first ∷ o.others) j x)) (sym more) (go o.first o.others o.thread o.rest))
+
   pub not-empty : (ts : List H) (ls : List Link) (c : ℕ) (xs : List H) (n : ℕ) → n < length xs → IsChain ts ls c xs → place_of ls c ≡ None → ⊥
   unfolding IsChain
   not-empty ts ls c [] n low is none = omega (arith, low)
@@ -122,3 +141,32 @@ same-link x y e =
     let thread = eqb-true x.thread y.thread (first_so _ _ e) in
     let rest = eqb-true x.rest y.rest (second_so _ _ e) in
     λ i. record { thread = thread i; rest = rest i }
+
+-- threads of which those behind these are in a chain
+pub record PutBehind {H : Type 0} (eq : H → H → Bool) (ts : List H) (ls : List Link) (all left : List H) (chain : ℕ) : Type 0 where
+  pub done : List H
+  pub are : all ≡ left ++ done
+  pub chained : IsChainOfEqual eq ts ls done chain
+
+module _ {H : Type 0} (eq : H → H → Bool) where
+  pub behind-none : (ts : List H) (ls : List Link) (all : List H) → PutBehind eq ts ls all all 0
+  behind-none ts ls all = record {
+    done = [];
+    are = sym (append-nil all);
+    chained = record { equal = []; are = refl; chained = empty-chain ts ls };
+  }
+
+  pub behind-more : (ts us : List H) (ls ms : List Link) (all left rest : List H) (thread : H) (chain number made : ℕ) → left ≡ rest ++ thread ∷ []
+      → HasEqual eq us number thread → PutBehind eq ts ls all left chain → Keeps ts us
+      → ((x : H) (xs : List H) → slice_get us number ≡ Some x → IsChain us ls chain xs → IsChain us ms made (x ∷ xs)) → PutBehind eq us ms all rest made
+  behind-more ts us ls ms all left rest thread chain number made popped has so threads link =
+      let c = so.chained in
+      record {
+        done = thread ∷ so.done;
+        are = so.are ∙ (ap (λ l. l ++ so.done) popped ∙ append_assoc rest (thread ∷ []) so.done);
+        chained = record {
+          equal = has.key ∷ c.equal;
+          are = ap (λ b. b && pointwise eq so.done c.equal) has.is ∙ c.are;
+          chained = link has.key c.equal has.at (chain-grows ts us ls ls threads (keeps-self ls) chain c.equal c.chained);
+        };
+      }

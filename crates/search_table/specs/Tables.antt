@@ -1,8 +1,9 @@
 -- What the numbers of a table stand for. Types: G for what is shared, and H for threads.
 use Rattle.std.specs.Prelude.{ℕ, zero, suc, ◌≡◌, ◌≤◌, Bool, true, List, [], ◌∷◌, Option, Some, None}
-use Rattle.std.specs.List.{slice_get}
+use Rattle.std.specs.List.{slice_get, IsDistinct}
 use Rattle.std.specs.Cmp.Lexicographic.{pointwise}
 use Rattle.indexmap.specs.IndexSet.{insert_key}
+use Rattle.search_table.specs.contracts.table.LinkPartialEq.TheImpl as links
 use Rattle.search_table.specs.contracts.table.RowPartialEq.TheImpl as rows
 use Rattle.search_table.specs.declared.table.Link.{Link}
 use Rattle.search_table.specs.declared.table.Row.{Row}
@@ -69,3 +70,10 @@ module _ {G H : Type 0} where
     pub shared : after.shared.keys ≡ before.shared.keys
     pub threads : after.threads.keys ≡ before.threads.keys
     pub links : after.links.keys ≡ before.links.keys
+
+  -- No two of one list are equal.
+  pub record AreDistinct (eq_shared : G → G → Bool) (eq_thread : H → H → Bool) (t : Table G H) : Type 0 where
+    pub shared : IsDistinct eq_shared t.shared.keys
+    pub threads : IsDistinct eq_thread t.threads.keys
+    pub links : IsDistinct links.eq-value.it t.links.keys
+    pub rows : IsDistinct rows.eq-value.it t.rows.keys

@@ -1,6 +1,7 @@
 //! The table.
 ghost use Rattle.std.specs.Prelude.{◌≡◌, ◌<◌, ◌∷◌, ℕ, List, Some, length, IfOk, OnOk, slice_get, slice_set};
-ghost use Rattle.search_table.specs.Tables.{IsOrdered, IsChain, IsChainOfEqual, IsEmptyTable, Grows, HasEqual, HasSameParts, place_of, with_row};
+ghost use Rattle.search_table.specs.Tables.{AreDistinct, IsOrdered, IsChain, IsChainOfEqual, IsEmptyTable, Grows, HasEqual, HasSameParts, place_of, with_row};
+ghost use Rattle.indexmap.specs.IndexSet.{index_set_len};
 
 use indexmap::IndexSet;
 use std::alloc::{AllocError, Global};
@@ -53,6 +54,16 @@ impl<S: Eq + Hash + Drop, T: Eq + Hash + Drop> Table<S, T> {
         }
     }
 
+    /// How many states there are.
+    pub fn len(&self) -> usize
+        ensures len { result ≡ index_set_len self.now.rows }
+        ensures distinct { AreDistinct S.eq T.eq self.now }
+    {
+        // No two of one list are equal, as each list says where it is asked for its length.
+        let _ = (self.shared.len(), self.threads.len(), self.links.len());
+        self.rows.len()
+    }
+
     /// The link of a chain, unless it is empty.
     pub fn link(&self, chain: u32) -> Option<Link>
         ensures { result ≡ place_of self.now.links.keys chain }
@@ -67,6 +78,7 @@ impl<S: Eq + Hash + Drop, T: Eq + Hash + Drop> Table<S, T> {
     /// Where memory is refused, or there are too many.
     pub fn put_shared(&mut self, shared: S) -> Result<u32, AllocError>
         ensures grows { OnOk result (Grows self.old self.new) }
+        ensures links { OnOk result (self.new.links.keys ≡ self.old.links.keys) }
         ensures number { IfOk result (λ n. HasEqual S.eq self.new.shared.keys n shared) }
     {
         let (place, _) = self.shared.insert_full(shared)?;
@@ -79,6 +91,7 @@ impl<S: Eq + Hash + Drop, T: Eq + Hash + Drop> Table<S, T> {
     /// Where memory is refused, or there are too many.
     pub fn put_thread(&mut self, thread: T) -> Result<u32, AllocError>
         ensures grows { OnOk result (Grows self.old self.new) }
+        ensures links { OnOk result (self.new.links.keys ≡ self.old.links.keys) }
         ensures number { IfOk result (λ n. HasEqual T.eq self.new.threads.keys n thread) }
     {
         let (place, _) = self.threads.insert_full(thread)?;

@@ -1,0 +1,111 @@
+-- What is known of turns, as a table grows, and the turn of a thread of which nobody else hears.
+use Rattle.std.specs.Prelude.{ℕ, zero, suc, ◌≡◌, ◌≢◌, ◌+◌, ◌^◌, ◌<◌, ◌≤◌, ◌⊎◌, Bool, true, List, [], ◌∷◌, length, Option, Some, None, slice_set, refl}
+use Rattle.std.proofs.Common.{ap, subst, sym, ◌∙◌, inl, inr, arith}
+use Rattle.std.specs.List.{slice_get, AllZip}
+use Rattle.std.proofs.lemmas.List.{length-set}
+use Rattle.std.proofs.lemmas.Option.{none-some, slice_get_within}
+use Rattle.schedule.specs.System.{Want.Calls, State}
+use Rattle.search_table.specs.declared.table.Table.{Table}
+use Rattle.search_table.specs.Tables.{IsOrdered, Grows}
+use Rattle.search_settled.specs.declared.flat.Flat.{Flat}
+use Rattle.search_settled.specs.declared.met.Known.{Known}
+use Rattle.search_settled.specs.declared.met.Met.{Met}
+use Rattle.search_settled.specs.declared.met.Turn.{Turn}
+use Rattle.search_settled.specs.declared.met.Turn.TheVariants.{Still, Alone}
+use Rattle.search_settled.specs.Threads.{ThreadSystem}
+use Rattle.search_settled.specs.Next.{IsAt}
+use Rattle.search_settled.specs.Flat.{IsThreadOf, IsEventOf, IsEventAt, RestsAfter, ComesAfter, IsMove}
+use Rattle.search_settled.specs.Alone.{IsUnheard}
+use Rattle.search_settled.specs.Known.{IsNotedIn, AreFrom, AllComeFrom, GoesAlone, IsTurn, IsRight, OfNumbers, AreKnown, HasStates, AreOf}
+use Rattle.search_settled.proofs.Rows.{states-grow}
+
+-- what stands in a list in which one was replaced
+pub set-at : {A : Type 0} (xs : List A) (n : ℕ) (y : A) (m : ℕ) (x : A) → slice_get (slice_set xs n y) m ≡ Some x
+    → ((m ≡ n) × (y ≡ x)) ⊎ ((m ≢ n) × (slice_get xs m ≡ Some x))
+set-at [] n y m x at = absurd (none-some x at)
+set-at (z ∷ xs) zero y zero x at = inl (refl, cc at)
+set-at (z ∷ xs) zero y (suc m) x at = inr (λ e. cc e, at)
+set-at (z ∷ xs) (suc n) y zero x at = inr (λ e. cc e, at)
+set-at (z ∷ xs) (suc n) y (suc m) x at = elim (set-at xs n y m x at) [
+  | inl h ↦ inl (ap suc h.0, h.1)
+  | inr h ↦ inr (λ e. h.0 (cc e), h.1)
+]
+
+module _ {X T E V A G H M : Type 0} (k : ThreadSystem X T E V A G H M) where
+  pub turn-grows : (t u : Table G H) → Grows t u → (g : G) (h : H) (n : ℕ) (turn : Turn) → IsTurn k t g h n turn → IsTurn k u g h n turn
+  turn-grows t u grows g h n Still is = is
+  turn-grows t u grows g h n (Alone s r) is = (is.0, is.1, grows.shared s is.0 is.2, grows.threads r is.1 is.3, is.4)
+
+  pub right-grows : (t u : Table G H) → Grows t u → (known : Known) → IsRight k t known → IsRight k u known
+  right-grows t u grows known is = record {
+    shared_is = is.shared_is;
+    thread_is = is.thread_is;
+    shared_at = grows.shared known.shared is.shared_is is.shared_at;
+    thread_at = grows.threads known.thread is.thread_is is.thread_at;
+    so = turn-grows t u grows is.shared_is is.thread_is known.n known.turn is.so;
+  }
+
+  pub known-grows : (m : Met G H) (new : Met G H) → AreKnown k m → Grows m.table new.table → IsOrdered new.table.links.keys
+      → new.known.items ≡ m.known.items → AreKnown k new
+  known-grows m new so grows ordered same = record {
+    ordered = ordered;
+    right = λ slot known at. right-grows m.table new.table grows known (so.right slot known (ap (λ l. slice_get l slot) (sym same) ∙ at));
+  }
+
+  pub known-noted : (m : Met G H) (new : Met G H) (one : Known) → AreKnown k m → new.table ≡ m.table → AreFrom m.known.items one new.known.items
+      → IsRight k m.table one → AreKnown k new
+  known-noted m new one so same from right = record {
+    ordered = subst (λ (t : Table G H). IsOrdered t.links.keys) (sym same) so.ordered;
+    right = λ slot known at. subst (λ (t : Table G H). IsRight k t known) (sym same) (elim (from slot known at) [
+      | inl is ↦ subst (IsRight k m.table) (sym is) right
+      | inr was ↦ so.right was.0 known was.1
+    ]);
+  }
+
+  -- what was noted of a turn
+  pub recalled : (m : Met G H) → AreKnown k m → (shared thread n : ℕ) (turn : Turn) → IsNotedIn m.known.items shared thread n turn
+      → OfNumbers k m.table shared thread (λ g h. IsTurn k m.table g h n turn)
+  recalled m so shared thread n turn noted g h shared_at thread_at =
+      let right = so.right noted.0 (record { shared = shared; thread = thread; n = n; turn = turn }) noted.1 in
+      let same : right.shared_is ≡ g = cc (right.shared_at, shared_at) in
+      let is : right.thread_is ≡ h = cc (right.thread_at, thread_at) in
+      subst (λ v. IsTurn k m.table g v n turn) is (subst (λ v. IsTurn k m.table v right.thread_is n turn) same right.so)
+
+  -- the states that a table has, as it grows
+  pub states-known : (m new : Met G H) → (cs : List (Flat G H)) → HasStates k m cs → Grows m.table new.table → AreKnown k new → HasStates k new cs
+  states-known m new cs so grows known = record { known = known; are = states-grow m.table new.table grows cs so.are }
+
+  module _ (eq_shared : G → G → Bool) (eq_thread : H → H → Bool) (symm : (x y : G) → eq_shared x y ≡ true → eq_shared y x ≡ true)
+      (same_shared : (x y : G) → eq_shared x y ≡ true → (w : X) → k.shares x w → k.shares y w)
+      (same_thread : (x y : H) → eq_thread x y ≡ true → (w : T) → k.is_thread x w → k.is_thread y w) where
+    pub event-alike : (g : G) (h : H) (n : ℕ) (x y : G) (made : M) → eq_shared x y ≡ true → IsEventAt k g h n (Some (x, made)) → IsEventAt k g h n (Some (y, made))
+    event-alike g h n x y made e is z of =
+        let a = is z of in
+        (a.0, a.1, same_shared x y e (k.system.after z.shared n a.0) a.2, a.3)
+
+    -- nobody else hears of it
+    pub alone : (g : G) (h : H) (n : ℕ) (new kept : G) (made : M) (rested stays : H) (count : ℕ) → ((x : X) → k.shares g x → count ≡ k.count x)
+        → ((x : X) → k.shares new x → count ≡ k.count x) → eq_shared new kept ≡ true → eq_thread rested stays ≡ true
+        → IsEventAt k g h n (Some (new, made)) → IsUnheard k made n count → ComesAfter k made n h n rested → GoesAlone k g h n kept stays
+    alone g h n new kept made rested stays count before after eq_new eq_rested event unheard comes = record {
+      made = made;
+      event = event-alike g h n new kept made eq_new event;
+      come = λ c shared at. record {
+        len = λ z e is move. (
+            let was : count ≡ k.count z.shared = before z.shared (subst (λ v. k.shares v z.shared) shared (is.settled_is).shared) in
+            let will : count ≡ k.count (k.system.after z.shared n e) =
+            after (k.system.after z.shared n e) (same_shared kept new (symm new kept eq_new) (k.system.after z.shared n e) move.shared) in
+            length-set c.threads.items n stays ∙ (move.len ∙ (sym was ∙ will)));
+        each = λ z e is move m t there. elim (set-at c.threads.items n stays m t there) [
+          | inl own ↦ (
+              let r = comes z e move.made_by (move.each n h at) in
+              subst (λ v. RestsAfter k z n e m v) own.1 (subst (λ (j : ℕ). RestsAfter k z n e j stays) (sym own.0)
+              (record { settled = r.settled; rests = r.rests; is = same_thread rested stays eq_rested r.settled r.is })))
+          | inr other ↦ (
+              let low = slice_get_within c.threads.items m t other.1 in
+              let was : count ≡ k.count z.shared = before z.shared (subst (λ v. k.shares v z.shared) shared (is.settled_is).shared) in
+              let len = move.len in
+              unheard m (omega (arith, low, was, len)) other.0 t z e move.made_by (move.each m t other.1))
+        ];
+      };
+    }
