@@ -48,12 +48,6 @@ module _ {S W E : Type 0} (k : StepSystem S W E) (has : List S → Type 0) where
           (length states) states
       pub whole : IsWhole k eq states moves verdict
 
-  -- The endings of the states, which are compared so, and a mark for each.
-  pub record AreGathered (eq : E → E → Bool) (ks : List S) (es : List E) (marks : List Bool) : Type 0 where
-    pub all : AllEnds k eq ks es
-    pub sound : AreEnds k es
-    pub marks_are : AllZip (IsMarkedSo k) ks marks
-
   -- Each of the states can be met.
   abbrev pub HasSound : Type 0
   HasSound = (ks : List S) × has ks × IsSound k ks
@@ -61,3 +55,10 @@ module _ {S W E : Type 0} (k : StepSystem S W E) (has : List S → Type 0) where
   -- It is so where each of the states can be met.
   abbrev pub OfStates : (List S → Type 0) → Type 0
   OfStates so = (ks : List S) → has ks → IsSound k ks → so ks
+
+-- The endings of the states, which are compared so, and a mark for each.
+pub record AreGathered {S W E : Type 0} (k : StepSystem S W E) (eq : E → E → Bool) (ks : List S) (es : List E) (marks : List Bool)
+    : Type 0 where
+  pub all : AllEnds k eq ks es
+  pub sound : AreEnds k es
+  pub marks_are : AllZip (IsMarkedSo k) ks marks

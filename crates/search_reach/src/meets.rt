@@ -60,7 +60,7 @@ pub trait Meets {
     ) -> Result<bool, AllocError>
         requires { HasMetAt (system self.now) (holds self.now table.old) at }
         ensures next { IfOk result (λ told. told ≡ true → OfStateAt (system self.now) (holds self.now table.old) at
-            (λ ks s. GoesOn (system self.now) (equal self.now) (holds self.now table.new) ks at s moves.old.items moves.new.items)) }
+            (λ ks s. GoesOn (system self.now) (holds self.now table.new) (equal self.now) ks at s moves.old.items moves.new.items)) }
         ensures none { IfOk result (λ told. told ≡ false → OfStateAt (system self.now) (holds self.now table.old) at
             (λ ks s. holds self.now table.new ks)) }
         ensures gives_up { IfOk result (λ told. told ≡ false → OfStateAt (system self.now) (holds self.now table.old) at

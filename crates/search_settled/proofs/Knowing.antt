@@ -1,5 +1,5 @@
 -- What is known of turns, as a table grows, and the turn of a thread of which nobody else hears.
-use Rattle.std.specs.Prelude.{ℕ, zero, suc, ◌≡◌, ◌≢◌, ◌+◌, ◌^◌, ◌<◌, ◌≤◌, ◌⊎◌, Bool, true, List, [], ◌∷◌, length, Option, Some, None, slice_set, refl}
+use Rattle.std.specs.Prelude.{ℕ, zero, suc, ◌≡◌, ◌≢◌, ◌+◌, ◌^◌, ◌<◌, ◌≤◌, ◌⊎◌, Bool, true, List, [], ◌∷◌, length, Option, Some, None, replicate, slice_set, refl}
 use Rattle.std.proofs.Common.{ap, subst, sym, ◌∙◌, inl, inr, arith}
 use Rattle.std.specs.List.{slice_get, AllZip}
 use Rattle.std.proofs.lemmas.List.{length-set}
@@ -109,3 +109,24 @@ module _ {X T E V A G H M : Type 0} (k : ThreadSystem X T E V A G H M) where
         ];
       };
     }
+
+-- a place of what is known
+pub noted-at : (known : List (Option Known)) (slot : ℕ) (o : Option Known) (one : Known) → slice_get known slot ≡ Some o → o ≡ Some one
+    → (shared thread n : ℕ) → one.shared ≡ shared → one.thread ≡ thread → one.n ≡ n → IsNotedIn known shared thread n one.turn
+noted-at known slot o one at is shared thread n a b c = (
+  slot,
+  at ∙ ap (λ v. Some v) (is ∙ ap (λ v. Some v) (λ i. record { shared = a i; thread = b i; n = c i; turn = one.turn })),
+)
+
+pub from-put : (items : List (Option Known)) (slot : ℕ) (new : Known) (before : List (Option Known))
+    → ((s : ℕ) (k : Known) → slice_get items s ≡ Some (Some k) → (was : ℕ) × (slice_get before was ≡ Some (Some k))) → AreFrom before new (slice_set items slot (Some new))
+from-put items slot new before old s k at = elim (set-at items slot (Some new) s (Some k) at) [
+  | inl h ↦ (let same : new ≡ k = cc h.1 in inl (sym same))
+  | inr h ↦ inr (old s k h.1)
+]
+
+pub none-there : (n : ℕ) (before : List (Option Known)) (s : ℕ) (k : Known) → slice_get (replicate n None) s ≡ Some (Some k)
+    → (was : ℕ) × (slice_get before was ≡ Some (Some k))
+none-there zero before s k at = absurd (none-some (Some k) at)
+none-there (suc n) before zero k at = absurd (cc at)
+none-there (suc n) before (suc s) k at = none-there n before s k at

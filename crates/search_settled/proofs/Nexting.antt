@@ -5,6 +5,7 @@ use Rattle.std.specs.List.{slice_get, AllZip}
 use Rattle.std.specs.Cmp.Lexicographic.{pointwise}
 use Rattle.std.proofs.lemmas.List.{length-set, append-nil}
 use Rattle.std.proofs.lemmas.List.Elements.{Contains-push, Contains-push_cases, Contains-append_left}
+use Rattle.std.proofs.lemmas.Option.{slice_get_within}
 use Rattle.std.proofs.lemmas.Slice.Zip.{all_zipped_more}
 use Rattle.schedule.specs.System.{State}
 use Rattle.search_table.specs.declared.table.Link.{Link}
@@ -21,7 +22,7 @@ use Rattle.search_settled.specs.Threads.{ThreadSystem, IsFlat}
 use Rattle.search_settled.specs.Next.{IsAt, IsSomewhere, IsNextBy, IsNextOf, IsStuckAfter, HasNext}
 use Rattle.search_settled.specs.Flat.{AreBounded, IsThreadOf, IsEventAt, AllComeAfter, HasNextBelow}
 use Rattle.search_settled.specs.Same.{same_length, flat_eq, flat_alike}
-use Rattle.search_settled.specs.Known.{IsOf, IsNextRow, IsRowOfEqual, IsTurn, OfNumbers, IsThreadAt, AreNextBelow, AreNextRows, IsRowAfter, IsLostBy}
+use Rattle.search_settled.specs.Known.{IsOf, IsNextRow, IsRowOfEqual, IsTurn, OfNumbers, AreOfThread, IsThreadAt, AreNextBelow, AreNextRows, IsRowAfter, IsLostBy}
 use Rattle.search_settled.proofs.Rows.{grows-then, next-grow}
 use Rattle.search_settled.proofs.Following.{come-from, below-none, below-same, below-more, below-all}
 
@@ -58,6 +59,28 @@ module _ {X T E V A G H M : Type 0} (k : ThreadSystem X T E V A G H M) where
   pub of-state : (t : Table G H) (r : Row) (thread n : ℕ) (c : Flat G H) → (a : IsThreadAt k t r thread n c) → (z : State X T) → IsAt k c z
       → IsThreadOf k c.shared a.thread_is n z
   of-state t r thread n c a z at = (at.reached, (at.settled_is).shared, (at.settled_is).each n a.thread_is a.among)
+
+  -- its number
+  pub low-at : AreBounded k.system k.first k.count k.most → (t : Table G H) (r : Row) (thread n : ℕ) (c : Flat G H) → IsThreadAt k t r thread n c → n < k.most
+  low-at bounded t r thread n c a =
+      let at = a.somewhere in
+      let is = at.1.settled_is in
+      let len = is.len in
+      let few = bounded.few at.0 at.1.reached in
+      let within = slice_get_within c.threads.items n a.thread_is a.among in
+      omega (arith, len, few, within)
+
+  pub of-thread : (t : Table G H) (r : Row) (thread n : ℕ) (c : Flat G H) → IsThreadAt k t r thread n c → AreOfThread k t r.shared thread n
+  of-thread t r thread n c a =
+      let at = a.somewhere in
+      record {
+        shared_is = c.shared;
+        thread_is = a.thread_is;
+        shared_at = (a.of).0;
+        thread_at = a.thread_at;
+        state = at.0;
+        of = of-state t r thread n c a at.0 at.1;
+      }
 
   -- the same next state by another name
   next-alike : (f y : Flat G H) → ((z : State X T) → IsFlat k f z → IsFlat k y z) → (z : State X T) (n : ℕ) (e : E) → IsNextBy k z n e f → IsNextBy k z n e y
@@ -209,3 +232,37 @@ module _ {X T E V A G H M : Type 0} (k : ThreadSystem X T E V A G H M) where
         has = below-all k c n (walks.so).next (walks.so).below (omega (arith, long, count));
         are = (walks.so).are;
       }
+
+-- the threads of a chain, of which these were read
+unfoldable pub Left : {H : Type 0} → List H → List Link → ℕ → ℕ → List H → Type 0
+Left {H} ts ls chain rest read = (xs : List H) → IsChain ts ls chain xs → (ys : List H) × IsChain ts ls rest ys × (xs ≡ read ++ ys)
+
+pub left-first : {H : Type 0} (ts : List H) (ls : List Link) (chain : ℕ) → Left ts ls chain chain []
+unfolding Left
+left-first ts ls chain xs is = (xs, is, refl)
+
+pub left-more : {H : Type 0} (ts : List H) (ls : List Link) (chain rest : ℕ) (read : List H) (l : Link) (x : H) → place_of ls rest ≡ Some l
+    → slice_get ts l.thread ≡ Some x → Left ts ls chain rest read → Left ts ls chain l.rest (read ++ x ∷ [])
+unfolding Left
+left-more ts ls chain rest read l x at is so xs chained =
+    let r = so xs chained in
+    let o = opened ts ls rest r.0 l at r.1 in
+    let same : o.first ≡ x = cc (o.thread, is) in
+    (o.others, o.rest, r.2 ∙ (ap (λ ys. read ++ ys) (o.are ∙ ap (λ y. y ∷ o.others) same) ∙ sym (append_assoc read (x ∷ []) o.others)))
+
+-- a link that stands for no thread is in no chain
+pub left-none : {H : Type 0} (ts : List H) (ls : List Link) (chain rest : ℕ) (read : List H) (l : Link) → place_of ls rest ≡ Some l
+    → slice_get ts l.thread ≡ None → Left ts ls chain rest read → Left ts ls chain l.rest read
+unfolding Left
+left-none ts ls chain rest read l at none so xs chained =
+    let r = so xs chained in
+    let o = opened ts ls rest r.0 l at r.1 in
+    absurd (cc (o.thread, none))
+
+pub left-done : {H : Type 0} (ts : List H) (ls : List Link) (chain rest : ℕ) (read : List H) → place_of ls rest ≡ None → Left ts ls chain rest read
+    → (xs : List H) → IsChain ts ls chain xs → read ≡ xs
+unfolding Left
+left-done ts ls chain rest read none so xs chained =
+    let r = so xs chained in
+    let empty = is-empty ts ls rest r.0 r.1 none in
+    sym (r.2 ∙ (ap (λ ys. read ++ ys) empty ∙ append-nil read))

@@ -1,5 +1,5 @@
 //! The turn of a thread, by the numbers of a table.
-ghost use Rattle.std.specs.Prelude.{◌≡◌, ◌^◌, ◌<◌, ◌≤◌, true, IfOk, OnOk};
+ghost use Rattle.std.specs.Prelude.{◌≡◌, ◌<◌, ◌≤◌, true, IfOk, OnOk};
 ghost use Rattle.search_table.specs.Tables.{Grows};
 ghost use Rattle.search_settled.specs.declared.turns.Made.TheVariants.{Unknown};
 ghost use Rattle.search_settled.specs.Known.{AreKnown, AreOfThread, OfNumbers, IsMade, IsLostBy};
@@ -44,6 +44,7 @@ fn made_anew<M: Moves>(
 ) -> Result<Made<M::Shared, M::Effect>, AllocError>
     requires known { AreKnown (M.threads system.now) met.old }
     requires of { AreOfThread (M.threads system.now) met.old.table shared thread n }
+    requires few { n < (M.threads system.now).most }
     ensures grows { OnOk result (Grows met.old.table met.new.table) }
     ensures known { OnOk result (AreKnown (M.threads system.now) met.new) }
     ensures made { IfOk result (λ r. OfNumbers (M.threads system.now) met.old.table shared thread
@@ -51,10 +52,10 @@ fn made_anew<M: Moves>(
     ensures gives_up { IfOk result (λ r. r ≡ Unknown → OfNumbers (M.threads system.now) met.old.table shared thread
         (IsLostBy (M.threads system.now) (M.stuck system.now) n)) }
 {
-    let (Some(old), Some(own)) = (
-        met.table.shared.get_index(shared as usize),
-        met.table.threads.get_index(thread as usize),
-    ) else {
+    let Some(old) = met.table.shared.get_index(shared as usize) else {
+        return Ok(Made::Unknown);
+    };
+    let Some(own) = met.table.threads.get_index(thread as usize) else {
         return Ok(Made::Unknown);
     };
     let count = system.started(old);
@@ -83,7 +84,7 @@ pub(crate) fn made_by<M: Moves>(
 ) -> Result<Made<M::Shared, M::Effect>, AllocError>
     requires known { AreKnown (M.threads system.now) met.old }
     requires of { AreOfThread (M.threads system.now) met.old.table shared thread n }
-    requires few { n < 2 ^ 32 }
+    requires few { n < (M.threads system.now).most }
     ensures grows { OnOk result (Grows met.old.table met.new.table) }
     ensures known { OnOk result (AreKnown (M.threads system.now) met.new) }
     ensures made { IfOk result (λ r. OfNumbers (M.threads system.now) met.old.table shared thread

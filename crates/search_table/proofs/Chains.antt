@@ -156,10 +156,10 @@ module _ {H : Type 0} (eq : H → H → Bool) where
     chained = record { equal = []; are = refl; chained = empty-chain ts ls };
   }
 
-  pub behind-more : (ts us : List H) (ls ms : List Link) (all left rest : List H) (thread : H) (chain number made : ℕ) → left ≡ rest ++ thread ∷ []
-      → HasEqual eq us number thread → PutBehind eq ts ls all left chain → Keeps ts us
-      → ((x : H) (xs : List H) → slice_get us number ≡ Some x → IsChain us ls chain xs → IsChain us ms made (x ∷ xs)) → PutBehind eq us ms all rest made
-  behind-more ts us ls ms all left rest thread chain number made popped has so threads link =
+  pub behind-more : (ts us vs : List H) (ls ms ns : List Link) (all left rest : List H) (thread : H) (chain number made : ℕ) → left ≡ rest ++ thread ∷ []
+      → HasEqual eq us number thread → PutBehind eq ts ls all left chain → Keeps ts us → Keeps ls ms
+      → ((x : H) (xs : List H) → slice_get us number ≡ Some x → IsChain us ms chain xs → IsChain vs ns made (x ∷ xs)) → PutBehind eq vs ns all rest made
+  behind-more ts us vs ls ms ns all left rest thread chain number made popped has so threads links link =
       let c = so.chained in
       record {
         done = thread ∷ so.done;
@@ -167,6 +167,6 @@ module _ {H : Type 0} (eq : H → H → Bool) where
         chained = record {
           equal = has.key ∷ c.equal;
           are = ap (λ b. b && pointwise eq so.done c.equal) has.is ∙ c.are;
-          chained = link has.key c.equal has.at (chain-grows ts us ls ls threads (keeps-self ls) chain c.equal c.chained);
+          chained = link has.key c.equal has.at (chain-grows ts us ls ms threads links chain c.equal c.chained);
         };
       }

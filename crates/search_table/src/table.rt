@@ -137,10 +137,12 @@ impl<S: Eq + Hash + Drop, T: Eq + Hash + Drop> Table<S, T> {
             return Ok(0);
         };
         if n == 0 {
-            return self.put_link(thread, link.rest);
+            let here = self.put_link(thread, link.rest)?;
+            return Ok(here);
         }
         let rest = self.with_thread(link.rest, n - 1, thread)?;
-        self.put_link(link.thread, rest)
+        let made = self.put_link(link.thread, rest)?;
+        Ok(made)
     }
 
     /// The chain of these threads.
