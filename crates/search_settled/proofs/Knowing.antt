@@ -2,6 +2,7 @@
 use Rattle.std.specs.Prelude.{ℕ, zero, suc, ◌≡◌, ◌≢◌, ◌+◌, ◌^◌, ◌<◌, ◌≤◌, ◌⊎◌, Bool, true, List, [], ◌∷◌, length, Option, Some, None, replicate, slice_set, refl}
 use Rattle.std.proofs.Common.{ap, subst, sym, ◌∙◌, inl, inr, arith}
 use Rattle.std.specs.List.{slice_get, AllZip}
+use Rattle.std.proofs.lemmas.Bool.{cases_lt}
 use Rattle.std.proofs.lemmas.List.{length-set}
 use Rattle.std.proofs.lemmas.Option.{none-some, slice_get_within}
 use Rattle.schedule.specs.System.{Want.Calls, State}
@@ -14,9 +15,9 @@ use Rattle.search_settled.specs.declared.met.Turn.{Turn}
 use Rattle.search_settled.specs.declared.met.Turn.TheVariants.{Still, Alone}
 use Rattle.search_settled.specs.Threads.{ThreadSystem}
 use Rattle.search_settled.specs.Next.{IsAt}
-use Rattle.search_settled.specs.Flat.{IsThreadOf, IsEventOf, IsEventAt, RestsAfter, ComesAfter, IsMove}
+use Rattle.search_settled.specs.Flat.{AreBounded, IsThreadOf, IsEventOf, IsEventAt, RestsAfter, ComesAfter, IsMove, IsBeforeSome, IsStuckBy}
 use Rattle.search_settled.specs.Alone.{IsUnheard}
-use Rattle.search_settled.specs.Known.{IsNotedIn, AreFrom, AllComeFrom, GoesAlone, IsTurn, IsRight, OfNumbers, AreKnown, HasStates, AreOf}
+use Rattle.search_settled.specs.Known.{IsNotedIn, AreFrom, AllComeFrom, GoesAlone, IsTurn, IsRight, AreOfThread, OfNumbers, IsLostBy, AreKnown, HasStates, AreOf}
 use Rattle.search_settled.proofs.Rows.{states-grow}
 
 -- what stands in a list in which one was replaced
@@ -74,6 +75,60 @@ module _ {X T E V A G H M : Type 0} (k : ThreadSystem X T E V A G H M) where
   -- the states that a table has, as it grows
   pub states-known : (m new : Met G H) → (cs : List (Flat G H)) → HasStates k m cs → Grows m.table new.table → AreKnown k new → HasStates k new cs
   states-known m new cs so grows known = record { known = known; are = states-grow m.table new.table grows cs so.are }
+
+  pub unheard-none : (made : M) (n : ℕ) → IsUnheard k made n 0
+  unheard-none made n m low = absurd (omega (arith, low))
+
+  pub unheard-more : (made : M) (n m : ℕ) → IsUnheard k made n m → (m ≢ n → (t : H) → ComesAfter k made n t m t) → IsUnheard k made n (m + 1)
+  unheard-more made n m so one j low apart t = elim (cases_lt j m) [
+    | inl below ↦ so j below apart t
+    | inr past ↦ (let same : m ≡ j = omega (arith, low, past) in
+        subst (λ (i : ℕ). ComesAfter k made n t i t) same (one (λ is. apart (sym same ∙ is)) t))
+  ]
+
+  -- what has these numbers
+  pub of-read : (t : Table G H) (shared thread n : ℕ) → AreOfThread k t shared thread n → (g : G) (h : H) → slice_get t.shared.keys shared ≡ Some g
+      → slice_get t.threads.keys thread ≡ Some h → (z : State X T) × IsThreadOf k g h n z
+  of-read t shared thread n of g h shared_at thread_at =
+      let same : of.shared_is ≡ g = cc (of.shared_at, shared_at) in
+      let is : of.thread_is ≡ h = cc (of.thread_at, thread_at) in
+      let o = of.of in
+      (
+        of.state,
+        (o.0, subst (λ v. k.shares v (of.state).shared) same o.1, subst (λ v. k.is_thread v ((of.state).threads n)) is o.2),
+      )
+
+  pub count-low : AreBounded k.system k.first k.count k.most → (g : G) (h : H) (n : ℕ) (z : State X T) → IsThreadOf k g h n z → (count : ℕ)
+      → ((x : X) → k.shares g x → count ≡ k.count x) → count ≤ k.most
+  count-low bounded g h n z of count is =
+      let few = bounded.few z of.0 in
+      let same = is z.shared of.1 in
+      omega (arith, few, same)
+
+  pub of-numbers : (t : Table G H) (shared thread : ℕ) (P : G → H → Type 0) (g : G) (h : H) → slice_get t.shared.keys shared ≡ Some g
+      → slice_get t.threads.keys thread ≡ Some h → P g h → OfNumbers k t shared thread P
+  of-numbers t shared thread P g h shared_at thread_at so x y at there =
+      let same : g ≡ x = cc (shared_at, at) in
+      let is : h ≡ y = cc (thread_at, there) in
+      subst (λ v. P v y) same (subst (P g) is so)
+
+  pub event-none : (g : G) (h : H) (n : ℕ) (o : Option (G × M)) → o ≡ None → IsEventAt k g h n o → IsEventAt k g h n None
+  event-none g h n o is event z of = subst (IsEventOf k z n) is (event z of)
+
+  pub event-some : (g : G) (h : H) (n : ℕ) (o : Option (G × M)) (p : G × M) → o ≡ Some p → IsEventAt k g h n o → IsEventAt k g h n (Some p)
+  event-some g h n o p is event z of = subst (IsEventOf k z n) is (event z of)
+
+  -- what is asked of the call for where the thread itself comes to rest
+  pub own-before : (g : G) (h : H) (n : ℕ) (p : G × M) (z : State X T) → IsThreadOf k g h n z → IsEventAt k g h n (Some p) → IsBeforeSome k p.1 n h n
+  own-before g h n p z of event =
+      let a = event z of in
+      (z, a.0, record { reached = of.0; wants = a.1; is = a.3 }, of.2)
+
+  -- where nothing can be told of it
+  pub own-lost : (stuck : State X T → Type 0) (g : G) (h : H) (n : ℕ) (p : G × M) → IsEventAt k g h n (Some p) → IsStuckBy k stuck p.1 n h n → IsLostBy k stuck n g h
+  own-lost stuck g h n p event lost z of =
+      let a = event z of in
+      (a.0, a.1, lost z a.0 (record { reached = of.0; wants = a.1; is = a.3 }) of.2)
 
   module _ (eq_shared : G → G → Bool) (eq_thread : H → H → Bool) (symm : (x y : G) → eq_shared x y ≡ true → eq_shared y x ≡ true)
       (same_shared : (x y : G) → eq_shared x y ≡ true → (w : X) → k.shares x w → k.shares y w)

@@ -1,9 +1,10 @@
 //! The turn of a thread, by the numbers of a table.
-ghost use Rattle.std.specs.Prelude.{◌≡◌, ◌<◌, ◌≤◌, true, IfOk, OnOk};
+ghost use Rattle.std.specs.Prelude.{◌≡◌, ◌≢◌, ◌<◌, ◌≤◌, true, false, IfOk, OnOk};
 ghost use Rattle.search_table.specs.Tables.{Grows};
 ghost use Rattle.search_settled.specs.declared.turns.Made.TheVariants.{Unknown};
 ghost use Rattle.search_settled.specs.Known.{AreKnown, AreOfThread, OfNumbers, IsMade, IsLostBy};
 ghost use Rattle.search_settled.specs.Alone.{IsUnheard};
+ghost use Rattle.search_settled.specs.Flat.{ComesAfter};
 
 use crate::Moves;
 use crate::met::{Known, Met, Turn, note, recall};
@@ -20,13 +21,34 @@ pub(crate) enum Made<S, E> {
     Unknown,
 }
 
-/// Whether nobody hears of an event of thread n but itself: of the threads below a number.
-fn is_unheard<M: Moves>(system: &M, made: &M::Effect, n: usize, count: usize) -> bool
-    requires { count ≤ (M.threads system.now).most }
-    ensures { result ≡ true → IsUnheard (M.threads system.now) made.now n count }
+/// Whether thread m is another one that hears of an event of thread n.
+fn is_told<M: Moves>(system: &M, made: &M::Effect, n: usize, m: usize) -> bool
+    requires { m < (M.threads system.now).most }
+    ensures { result ≡ false → m ≢ n → (t : M.Thread) → ComesAfter (M.threads system.now) made.now n t m t }
 {
+    if m == n {
+        return false;
+    }
+    system.hears(made, n, m)
+}
+
+/// Whether nobody hears of an event of thread n but itself: of so many threads, which are as many after it.
+fn is_quiet<M: Moves>(
+    system: &M,
+    shared: &M::Shared,
+    made: &M::Effect,
+    n: usize,
+    count: usize,
+) -> bool
+    requires { count ≤ (M.threads system.now).most }
+    ensures unheard { result ≡ true → IsUnheard (M.threads system.now) made.now n count }
+    ensures counted { result ≡ true → (x : M.X) → (M.threads system.now).shares shared.now x → count ≡ (M.threads system.now).count x }
+{
+    if system.started(shared) != count {
+        return false;
+    }
     for m in 0..count {
-        if m != n && system.hears(made, n, m) {
+        if is_told(system, made, n, m) {
             return false;
         }
     }
@@ -62,7 +84,7 @@ fn made_anew<M: Moves>(
     let Some((new, made)) = system.event(alloc, old, own, n)? else {
         return Ok(Made::Told(Turn::Still));
     };
-    if system.started(&new) != count || !is_unheard(system, &made, n, count) {
+    if !is_quiet(system, &new, &made, n, count) {
         return Ok(Made::Heard(new, made));
     }
     let Some(rested) = system.after(alloc, &made, n, own, n)? else {
