@@ -16,13 +16,16 @@ use Rattle.search_table.proofs.Chains.{chain-grows, opened, is-empty}
 use Rattle.search_reach.specs.declared.explores.Next.{Next}
 use Rattle.search_settled.specs.declared.flat.Flat.{Flat}
 use Rattle.search_settled.specs.declared.met.NextRow.{NextRow}
+use Rattle.search_settled.specs.declared.met.Turn.{Turn}
 use Rattle.search_settled.specs.declared.met.Turn.TheVariants.{Still, Alone}
+use Rattle.search_settled.specs.declared.turns.Made.{Made}
+use Rattle.search_settled.specs.declared.turns.Made.TheVariants.{Told, Heard}
 use Rattle.search_settled.specs.Settled.{AreTame}
 use Rattle.search_settled.specs.Threads.{ThreadSystem, IsFlat}
 use Rattle.search_settled.specs.Next.{IsAt, IsSomewhere, IsNextBy, IsNextOf, IsStuckAfter, HasNext}
 use Rattle.search_settled.specs.Flat.{AreBounded, IsThreadOf, IsEventAt, AllComeAfter, HasNextBelow}
 use Rattle.search_settled.specs.Same.{same_length, flat_eq, flat_alike}
-use Rattle.search_settled.specs.Known.{IsOf, IsNextRow, IsRowOfEqual, IsTurn, OfNumbers, AreOfThread, IsThreadAt, AreNextBelow, AreNextRows, IsRowAfter, IsLostBy}
+use Rattle.search_settled.specs.Known.{IsOf, IsNextRow, IsRowOfEqual, IsTurn, IsMade, OfNumbers, AreOfThread, IsThreadAt, AreNextBelow, AreNextRows, IsRowAfter, IsLostBy}
 use Rattle.search_settled.proofs.Rows.{grows-then, next-grow}
 use Rattle.search_settled.proofs.Following.{come-from, below-none, below-same, below-more, below-all}
 
@@ -105,6 +108,15 @@ module _ {X T E V A G H M : Type 0} (k : ThreadSystem X T E V A G H M) where
 
       new : Next (Flat G H)
       new = record { thread = n; state = y }
+
+  -- what the turn is told to be
+  pub told-of : (t u : Table G H) (shared thread n : ℕ) (m : Made G M) (turn : Turn) → m ≡ Told turn
+      → OfNumbers k t shared thread (λ g h. IsMade k u g h n m) → OfNumbers k t shared thread (λ g h. IsTurn k u g h n turn)
+  told-of t u shared thread n m turn is so g h a b = subst (λ (x : Made G M). IsMade k u g h n x) is (so g h a b)
+
+  pub heard-of : (t u : Table G H) (shared thread n : ℕ) (m : Made G M) (after : G) (made : M) → m ≡ Heard after made
+      → OfNumbers k t shared thread (λ g h. IsMade k u g h n m) → OfNumbers k t shared thread (λ g h. IsEventAt k g h n (Some (after, made)))
+  heard-of t u shared thread n m after made is so g h a b = subst (λ (x : Made G M). IsMade k u g h n x) is (so g h a b)
 
   -- what put_next adds
   module _ (tame : AreTame k.system k.first k.most) (bounded : AreBounded k.system k.first k.count k.most) (t u v : Table G H) (first : Grows t u) (second : Grows u v)

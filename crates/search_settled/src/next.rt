@@ -1,5 +1,5 @@
 //! The next states: of each thread that wants an event, what comes of it.
-ghost use Rattle.std.specs.Prelude.{◌≡◌, ◌+◌, ◌<◌, List, true, false, None, IfOk, IfSome, OnOk};
+ghost use Rattle.std.specs.Prelude.{◌≡◌, ◌+◌, ◌^◌, ◌<◌, List, [], ◌∷◌, ◌++◌, true, false, None, IfOk, IfSome, OnOk};
 ghost use Rattle.search_table.specs.Tables.{IsOrdered, IsChain, Grows};
 ghost use Rattle.search_settled.specs.declared.flat.Flat.{Flat as FlatState};
 ghost use Rattle.search_settled.specs.Next.{IsStuckAfter};
@@ -152,6 +152,18 @@ fn row_after<M: Moves>(
     Ok(Some(row))
 }
 
+/// Puts the row of a next state by the event of thread n behind the others.
+fn put(all: &mut Vec<NextRow>, n: usize, row: Row) -> Result<(), AllocError>
+    requires { n < 2 ^ 32 }
+    ensures { OnOk result (all.new.items ≡ all.old.items ++ record { thread = n; row = row } ∷ []) }
+{
+    all.push(NextRow {
+        thread: n as u32,
+        row,
+    })?;
+    Ok(())
+}
+
 /// Puts the row of the next state by the event of thread n, if it wants one, behind those of the threads before it. It
 /// answers no where it cannot tell that state.
 fn put_next<M: Moves>(
@@ -175,26 +187,25 @@ fn put_next<M: Moves>(
         → IsThreadAt (M.threads system.now) met.old.table row thread n c
         → IsStuckAfter (M.threads system.now) (M.stuck system.now) c) }
 {
-    let next = match made_by(alloc, system, met, row.shared, thread, n)? {
-        Made::Told(Turn::Still) => return Ok(true),
+    let turn = made_by(alloc, system, met, row.shared, thread, n)?;
+    match turn {
+        Made::Told(Turn::Still) => Ok(true),
         Made::Told(Turn::Alone { shared, thread }) => {
             let chain = met.table.with_thread(row.chain, n, thread)?;
-            Row { shared, chain }
+            let row = Row { shared, chain };
+            put(all, n, row)?;
+            Ok(true)
         }
         Made::Heard(shared, made) => {
             let table = &mut met.table;
             let Some(next) = row_after(alloc, system, table, row.chain, n, shared, &made)? else {
                 return Ok(false);
             };
-            next
+            put(all, n, next)?;
+            Ok(true)
         }
-        Made::Unknown => return Ok(false),
-    };
-    all.push(NextRow {
-        thread: n as u32,
-        row: next,
-    })?;
-    Ok(true)
+        Made::Unknown => Ok(false),
+    }
 }
 
 /// The rows of the next states of the one of this row, each with the thread whose event leads there.
