@@ -7,7 +7,7 @@ use Rattle.std.proofs.lemmas.List.{length-set}
 use Rattle.std.proofs.lemmas.Option.{none-some, slice_get_within}
 use Rattle.schedule.specs.System.{Want.Calls, State}
 use Rattle.search_table.specs.declared.table.Table.{Table}
-use Rattle.search_table.specs.Tables.{IsOrdered, Grows}
+use Rattle.search_table.specs.Tables.{Keeps, IsOrdered, Grows, HasSameParts}
 use Rattle.search_settled.specs.declared.flat.Flat.{Flat}
 use Rattle.search_settled.specs.declared.met.Known.{Known}
 use Rattle.search_settled.specs.declared.met.Met.{Met}
@@ -33,25 +33,45 @@ set-at (z ∷ xs) (suc n) y (suc m) x at = elim (set-at xs n y m x at) [
 ]
 
 module _ {X T E V A G H M : Type 0} (k : ThreadSystem X T E V A G H M) where
-  pub turn-grows : (t u : Table G H) → Grows t u → (g : G) (h : H) (n : ℕ) (turn : Turn) → IsTurn k t g h n turn → IsTurn k u g h n turn
-  turn-grows t u grows g h n Still is = is
-  turn-grows t u grows g h n (Alone s r) is = (is.0, is.1, grows.shared s is.0 is.2, grows.threads r is.1 is.3, is.4)
+  module _ (t u : Table G H) (shared : Keeps t.shared.keys u.shared.keys) (threads : Keeps t.threads.keys u.threads.keys) where
+    turn-stays : (g : G) (h : H) (n : ℕ) (turn : Turn) → IsTurn k t g h n turn → IsTurn k u g h n turn
+    turn-stays g h n Still is = is
+    turn-stays g h n (Alone s r) is = (is.0, is.1, shared s is.0 is.2, threads r is.1 is.3, is.4)
 
-  pub right-grows : (t u : Table G H) → Grows t u → (known : Known) → IsRight k t known → IsRight k u known
-  right-grows t u grows known is = record {
-    shared_is = is.shared_is;
-    thread_is = is.thread_is;
-    shared_at = grows.shared known.shared is.shared_is is.shared_at;
-    thread_at = grows.threads known.thread is.thread_is is.thread_at;
-    so = turn-grows t u grows is.shared_is is.thread_is known.n known.turn is.so;
-  }
+    right-stays : (known : Known) → IsRight k t known → IsRight k u known
+    right-stays known is = record {
+      shared_is = is.shared_is;
+      thread_is = is.thread_is;
+      shared_at = shared known.shared is.shared_is is.shared_at;
+      thread_at = threads known.thread is.thread_is is.thread_at;
+      so = turn-stays is.shared_is is.thread_is known.n known.turn is.so;
+    }
+
+    -- what is known stays so
+    pub known-stays : IsOrdered u.links.keys → (ks ls : List (Option Known)) → ls ≡ ks
+        → ((slot : ℕ) (known : Known) → slice_get ks slot ≡ Some (Some known) → IsRight k t known)
+        → (slot : ℕ) (known : Known) → slice_get ls slot ≡ Some (Some known) → IsRight k u known
+    known-stays ordered ks ls same so slot known at = right-stays known (so slot known (ap (λ l. slice_get l slot) (sym same) ∙ at))
+
+  pub turn-grows : (t u : Table G H) → Grows t u → (g : G) (h : H) (n : ℕ) (turn : Turn) → IsTurn k t g h n turn → IsTurn k u g h n turn
+  turn-grows t u grows = turn-stays t u grows.shared grows.threads
 
   pub known-grows : (m : Met G H) (new : Met G H) → AreKnown k m → Grows m.table new.table → IsOrdered new.table.links.keys
       → new.known.items ≡ m.known.items → AreKnown k new
   known-grows m new so grows ordered same = record {
     ordered = ordered;
-    right = λ slot known at. right-grows m.table new.table grows known (so.right slot known (ap (λ l. slice_get l slot) (sym same) ∙ at));
+    right = known-stays m.table new.table grows.shared grows.threads ordered m.known.items new.known.items same so.right;
   }
+
+  -- and where a row is put
+  pub known-same : (m : Met G H) (new : Met G H) → AreKnown k m → HasSameParts m.table new.table → new.known.items ≡ m.known.items → AreKnown k new
+  known-same m new so parts same =
+      let ordered = subst IsOrdered (sym parts.links) so.ordered in
+      record {
+        ordered = ordered;
+        right = known-stays m.table new.table (λ i x at. ap (λ l. slice_get l i) parts.shared ∙ at) (λ i x at. ap (λ l. slice_get l i) parts.threads ∙ at)
+            ordered m.known.items new.known.items same so.right;
+      }
 
   pub known-noted : (m : Met G H) (new : Met G H) (one : Known) → AreKnown k m → new.table ≡ m.table → AreFrom m.known.items one new.known.items
       → IsRight k m.table one → AreKnown k new

@@ -9,3 +9,4 @@ pub mod Rows
 pub mod Knowing
 pub mod Nexting
 pub mod Putting
+pub mod Meeting

@@ -96,7 +96,7 @@ impl<M: Moves> Meets for Turns<'_, M> {
         at: u32,
         moves: &mut Vec<Move>,
     ) -> Result<bool, AllocError> {
-        let Some(row) = met.table.rows.get_index(at as usize).copied() else {
+        let Some(row) = met.table.row(at as usize) else {
             return Ok(false);
         };
         let Some(next) = next_rows(alloc, self.system, met, row)? else {
@@ -112,7 +112,7 @@ impl<M: Moves> Meets for Turns<'_, M> {
         met: &Met<M::Shared, M::Thread>,
         at: usize,
     ) -> Result<Option<M::Ending>, AllocError> {
-        let Some(row) = met.table.rows.get_index(at).copied() else {
+        let Some(row) = met.table.row(at) else {
             return Ok(None);
         };
         let Some(shared) = met.table.shared.get_index(row.shared as usize) else {

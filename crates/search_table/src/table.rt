@@ -64,6 +64,13 @@ impl<S: Eq + Hash + Drop, T: Eq + Hash + Drop> Table<S, T> {
         self.rows.len()
     }
 
+    /// The row of a state.
+    pub fn row(&self, place: usize) -> Option<Row>
+        ensures { result ≡ slice_get self.now.rows.keys place }
+    {
+        self.rows.get_index(place).copied()
+    }
+
     /// The link of a chain, unless it is empty.
     pub fn link(&self, chain: u32) -> Option<Link>
         ensures { result ≡ place_of self.now.links.keys chain }
