@@ -1,4 +1,4 @@
-//! The states that a search met, by their parts, each of which is kept once (the collapse of Holzmann, 1997).
+//! The states that a search met, by their parts, each of which is kept once.
 //!
 //! A state is what threads share, and the threads. Most states have most of their parts in common with others, so what
 //! is shared, and each thread, stands in a list of its own, and is named by its number there. The threads of a state are
@@ -6,7 +6,9 @@
 //! chain. So it costs some thirty bytes, however large its parts are.
 //!
 //! Proved: a number stands for what was put in, or for what equals it, for good; the threads of a chain are those that it
-//! was made of; and rows of one number are of equal states, others are not. So nothing rests on a hash, or on a number.
+//! was made of; and rows of equal states are the same.
+//!
+//! So nothing rests on a hash, or on a number.
 //!
 //! `specs/Tables.antt` has the words of these contracts.
 #![tactic(auto)]
