@@ -3,7 +3,7 @@ use Rattle.std.specs.Prelude.{ℕ, ◌≡◌, List, Option, Result, Ok, Err, IfO
 use Rattle.std.proofs.Common.{refl, sym, subst}
 use Rattle.search_endings.specs.Endings.{Ending}
 use Rattle.search_runs.specs.Ends.{HasEndedSo}
-use Rattle.search_settled.specs.Threads.{HasParts}
+use Rattle.search_settled.specs.Parts.{HasParts}
 use Rattle.search_settled.specs.Next.{HasEnded, IsSomewhere}
 use Rattle.search_settled.specs.Flat.{IsEventAt}
 use Rattle.search_settled.specs.declared.flat.Flat.{Flat}

@@ -4,7 +4,7 @@ ghost use Rattle.std.specs.Prelude.{◌≡◌, IfOk, MatchOption};
 ghost use Rattle.search_parts.specs.Endings.{outcome_away, HaveLeft, IsOneHere};
 ghost use Rattle.search_parts.specs.Threads.{IsSettled, HasEndedIn};
 ghost use Rattle.search_parts.specs.declared.shared.HashedThread.{HashedThread};
-ghost use Rattle.search_settled.specs.Threads.{HasParts};
+ghost use Rattle.search_settled.specs.Parts.{HasParts};
 ghost use Rattle.search_settled.specs.declared.flat.Flat.{Flat};
 
 use crate::shared::Common;

@@ -14,7 +14,8 @@ use Rattle.search_settled.specs.declared.flat.Flat.{Flat}
 use Rattle.search_settled.specs.declared.met.Met.{Met}
 use Rattle.search_settled.specs.declared.met.NextRow.{NextRow}
 use Rattle.search_settled.specs.Settled.{AreTame}
-use Rattle.search_settled.specs.Threads.{ThreadSystem, IsFlat, HasParts}
+use Rattle.search_settled.specs.Threads.{ThreadSystem, IsFlat}
+use Rattle.search_settled.specs.Parts.{HasParts}
 use Rattle.search_settled.specs.Next.{IsBeginning, IsSomewhere, IsStuckAfter, HasEnded, NobodyTurns}
 use Rattle.search_settled.specs.Flat.{AreBounded}
 use Rattle.search_settled.specs.Turns.{turn_steps}

@@ -1,6 +1,7 @@
 pub mod Accesses
 pub mod Settled
 pub mod Threads
+pub mod Parts
 pub mod Next
 pub mod Flat
 pub mod Turns

@@ -1,5 +1,5 @@
 -- A system of threads, and what stands for its settled states: what is shared, and the threads one by one.
-use Rattle.std.specs.Prelude.{ℕ, ◌≡◌, ◌≤◌, List, length, Some}
+use Rattle.std.specs.Prelude.{ℕ, ◌≡◌, ◌≤◌, length, Some}
 use Rattle.std.specs.List.{slice_get}
 use Rattle.schedule.specs.System.{Want.Gone, System, State}
 use Rattle.search_settled.specs.declared.access.Access.{Access}
@@ -26,7 +26,3 @@ pub record IsFlat {X T E V A G H M : Type 0} (k : ThreadSystem X T E V A G H M) 
   pub len : length c.threads.items ≡ k.count z.shared
   pub each : (m : ℕ) (t : H) → slice_get c.threads.items m ≡ Some t → k.is_thread t (z.threads m)
   pub others : (m : ℕ) → k.count z.shared ≤ m → k.system.wants (z.threads m) ≡ Gone
-
--- These are its parts.
-abbrev pub HasParts : {G H : Type 0} → G → List H → Flat G H → Type 0
-HasParts shared threads c = (c.shared ≡ shared) × (c.threads.items ≡ threads)

@@ -3,7 +3,8 @@ ghost use Rattle.std.specs.Prelude.{◌≡◌, ◌<◌, ◌≤◌, true, false, 
 ghost use Rattle.schedule.specs.System.{State};
 ghost use Rattle.search_settled.specs.Settled.{AreTame};
 ghost use Rattle.search_settled.specs.Next.{IsBeginning, IsSomewhere, HasEnded, NobodyTurns};
-ghost use Rattle.search_settled.specs.Threads.{ThreadSystem, HasParts};
+ghost use Rattle.search_settled.specs.Threads.{ThreadSystem};
+ghost use Rattle.search_settled.specs.Parts.{HasParts};
 ghost use Rattle.search_settled.specs.declared.flat.Flat.{Flat as FlatState};
 ghost use Rattle.search_settled.specs.Flat.{
   AreBounded,
