@@ -1,9 +1,12 @@
 use Rattle.std.proofs.Common.{◌+◌, refl, sym, subst}
+use Rattle.std.proofs.lemmas.Option.{slice_get_within}
 use Rattle.search_settled.specs.Known.{AreNextBelow}
 use Rattle.search_settled.specs.declared.met.Turn.TheVariants.{Still, Alone}
 use Rattle.search_settled.proofs.Rows.{grows-self}
-use Rattle.search_settled.proofs.Following.{asked}
-use Rattle.search_settled.proofs.Nexting.{of-thread, low-at, told-of, heard-of, more-still, more-alone, more-heard, stuck-lost, stuck-heard}
+use Rattle.search_table.proofs.Chains.{chain-grows}
+use Rattle.search_settled.proofs.Following.{asked, stuck-by}
+use Rattle.search_settled.proofs.Threads.{if-some-at}
+use Rattle.search_settled.proofs.Nexting.{of-thread, low-at, told-of, heard-of, more-still, more-alone, more-heard, stuck-lost}
 use Rattle.search_settled.proofs.next.put_next.Goals as goal
 
 pub made_by-turn-requires-clause-of : goal.made_by-turn-requires-clause-of
@@ -50,9 +53,70 @@ returns-in-Heard-clause-next g c _ flat at so =
     c.args.met.now.table u v c.in_ok-turn.ensures.grows c.in_ok-next.ensures.grows
     c.args.row c.args.thread c.args.n flat at c.args.all.now.items so g.M.Shared.PartialEq.eq g.M.Thread.PartialEq.eq
     (g.met.M.Moves.same_shared c.args.system.now) (g.met.M.Moves.same_thread c.args.system.now) c.in-Heard.shared c.in-Heard.made c.in-Some.next
-    (heard flat.shared at.thread_is at.of.0 at.thread_at) _)
+    (heard flat.shared at.thread_is at.of.0 at.thread_at)
+    (if-some-at _ _ _ c.in-Some.is c.in_ok-next.ensures.row flat.threads.items
+    (chain-grows c.args.met.now.table.threads.keys u.threads.keys c.args.met.now.table.links.keys u.links.keys c.in_ok-turn.ensures.grows.threads
+    c.in_ok-turn.ensures.grows.links c.args.row.chain flat.threads.items at.of.1)))
 
 pub returns-in-Unknown-clause-gives_up : goal.returns-in-Unknown-clause-gives_up
 returns-in-Unknown-clause-gives_up g c _ flat at =
     stuck-lost (g.M.Moves.threads c.args.system.now) (g.M.Moves.stuck c.args.system.now) c.args.met.now.table c.args.row c.args.thread c.args.n flat at
     (c.in_ok-turn.ensures.gives_up c.in-Unknown.is)
+
+pub with_thread-requires-clause-ordered : goal.with_thread-requires-clause-ordered
+with_thread-requires-clause-ordered g c = c.in_ok-turn.ensures.known.ordered
+
+pub with_thread-requires-clause-chain : goal.with_thread-requires-clause-chain
+with_thread-requires-clause-chain g c =
+    let t = c.args.met.now.table in
+    let u = c.made_by-turn.new.met.table in
+    let at = c.requires.at in
+    let flat = at.0 in
+    (
+      flat.threads.items,
+      slice_get_within flat.threads.items c.args.n at.1.thread_is at.1.among,
+      chain-grows t.threads.keys u.threads.keys t.links.keys u.links.keys c.in_ok-turn.ensures.grows.threads c.in_ok-turn.ensures.grows.links
+          c.args.row.chain flat.threads.items at.1.of.1,
+    )
+
+pub with_thread-requires-clause-thread : goal.with_thread-requires-clause-thread
+with_thread-requires-clause-thread g c =
+    let k = g.M.Moves.threads c.args.system.now in
+    let at = c.requires.at in
+    let turn = told-of k c.args.met.now.table c.made_by-turn.new.met.table c.args.row.shared c.args.thread c.args.n c.in_ok-turn.turn
+    (Alone c.in-Told-Alone.shared c.in-Told-Alone.thread) c.in-Told-Alone.is c.in_ok-turn.ensures.made in
+    let a = turn at.0.shared at.1.thread_is at.1.of.0 at.1.thread_at in
+    (a.1, a.3)
+
+pub row_after-requires-clause-ordered : goal.row_after-requires-clause-ordered
+row_after-requires-clause-ordered g c = c.in_ok-turn.ensures.known.ordered
+
+pub row_after-requires-clause-chain : goal.row_after-requires-clause-chain
+row_after-requires-clause-chain g c =
+    let k = g.M.Moves.threads c.args.system.now in
+    let t = c.args.met.now.table in
+    let u = c.made_by-turn.new.met.table in
+    let at = c.requires.at in
+    let flat = at.0 in
+    let heard = heard-of k t u c.args.row.shared c.args.thread c.args.n c.in_ok-turn.turn c.in-Heard.shared c.in-Heard.made c.in-Heard.is
+    c.in_ok-turn.ensures.made in
+    (
+      flat.threads.items,
+      chain-grows t.threads.keys u.threads.keys t.links.keys u.links.keys c.in_ok-turn.ensures.grows.threads c.in_ok-turn.ensures.grows.links
+          c.args.row.chain flat.threads.items at.1.of.1,
+      asked k flat at.1.somewhere c.args.n at.1.thread_is at.1.among (c.in-Heard.shared, c.in-Heard.made) flat.threads.items refl
+          (heard flat.shared at.1.thread_is at.1.of.0 at.1.thread_at),
+    )
+
+pub returns-in_default-clause-gives_up : goal.returns-in_default-clause-gives_up
+returns-in_default-clause-gives_up g c _ flat at =
+    let k = g.M.Moves.threads c.args.system.now in
+    let t = c.args.met.now.table in
+    let u = c.made_by-turn.new.met.table in
+    let heard = heard-of k t u c.args.row.shared c.args.thread c.args.n c.in_ok-turn.turn c.in-Heard.shared c.in-Heard.made c.in-Heard.is
+    c.in_ok-turn.ensures.made in
+    stuck-by k (g.M.Moves.stuck c.args.system.now) flat c.args.n at.thread_is at.among (c.in-Heard.shared, c.in-Heard.made) flat.threads.items refl
+    (heard flat.shared at.thread_is at.of.0 at.thread_at)
+    (c.in_ok-next.ensures.gives_up c.in_default.is flat.threads.items
+    (chain-grows t.threads.keys u.threads.keys t.links.keys u.links.keys c.in_ok-turn.ensures.grows.threads c.in_ok-turn.ensures.grows.links
+    c.args.row.chain flat.threads.items at.of.1))
