@@ -1,15 +1,13 @@
 -- Where a search of states in a table stands, from one to the next.
 use Rattle.std.specs.Prelude.{◌≡◌, ◌+◌, ◌^◌, ◌<◌, ◌≤◌, ℕ, zero, suc, Bool, true, List, [], ◌∷◌, length, get_or, Option, Some, None, refl}
 use Rattle.std.specs.List.{slice_get}
-use Rattle.std.proofs.Common.{ap, subst, sym, ◌∙◌, arith}
-use Rattle.indexmap.specs.IndexSet.{insert_key}
+use Rattle.std.proofs.Common.{subst, sym, arith}
 use Rattle.search_graph.specs.declared.graph.Move.{Move}
 use Rattle.search_reach.specs.declared.follows.Wish.{Wish}
 use Rattle.search_reach.specs.declared.follows.Wish.TheVariants as wishes
 use Rattle.search_reach.specs.declared.search.Verdict.TheVariants as verdicts
-use Rattle.search_reach.specs.Search.{StepSystem, AreNext, IsFirst, IsSound, IsMet, AllGetStuck, CanGetStuck}
-use Rattle.search_reach.specs.declared.explores.Next.{Next}
-use Rattle.search_reach.specs.Explored.{Gains, Notes, Explored}
+use Rattle.search_reach.specs.Search.{StepSystem, IsSound, AllGetStuck, CanGetStuck}
+use Rattle.search_reach.specs.Explored.{Explored}
 use Rattle.search_reach.specs.Meeting.{HasMetAt, OfStateAt, HasFirst, GoesOn, IsBegun, IsReached}
 use Rattle.search_reach.proofs.Searching.{Gains-begins, length-longer, explored-first, sound-is_met, sound-more, sound-stuck, explored-more, explored-whole}
 use Rattle.search_reach.proofs.Graphing.{explored-all}
@@ -140,36 +138,3 @@ module _ {S W E : Type 0} (k : StepSystem S W E) (eq : S → S → Bool) where
     };
     whole = λ v. absurd (cc v);
   }
-
--- a table of values
-module _ {S W E : Type 0} (k : StepSystem S W E) (eq : S → S → Bool) (keys : List S) where
-  pub value-at : (ks : List S) (s state : S) (at : ℕ) → keys ≡ ks → slice_get ks at ≡ Some s → slice_get keys at ≡ Some state → state ≡ s
-  value-at ks s state at held there here =
-      let same : Some state ≡ Some s = sym here ∙ (ap (λ l. slice_get l at) held ∙ there) in
-      cc same
-
-  pub value-met : (at : ℕ) → HasMetAt k (λ ks. keys ≡ ks) at → (state : S) → slice_get keys at ≡ Some state → IsMet k state
-  value-met at met state here = subst (IsMet k) (sym (value-at met.0 met.1 state at met.2 met.3 here)) met.4
-
-  pub value-there : (at : ℕ) → HasMetAt k (λ ks. keys ≡ ks) at → slice_get keys at ≡ None → ⊥
-  value-there at met none =
-      let some : slice_get keys at ≡ Some met.1 = ap (λ l. slice_get l at) met.2 ∙ met.3 in
-      cc (none, some)
-
-  pub of-value : (so : S → Type 0) (at : ℕ) (state : S) → slice_get keys at ≡ Some state → so state → OfStateAt k (λ ks. keys ≡ ks) at (λ ks s. so s)
-  of-value so at state here is ks s held there met = subst so (value-at ks s state at held there here) is
-
-  pub value-next : (at : ℕ) (state : S) → slice_get keys at ≡ Some state → (xs : List (Next S)) → AreNext k state xs → (new : List S) → Gains keys xs new
-      → (before after : List Move) → (length new < 2 ^ 32 → Notes eq new at xs before after)
-      → OfStateAt k (λ ks. keys ≡ ks) at (λ ks s. GoesOn k (λ ls. new ≡ ls) eq ks at s before after)
-  value-next at state here xs next new gains before after noted ks s held there met = record {
-    next = xs;
-    are = subst (λ v. AreNext k v xs) (value-at ks s state at held there here) next;
-    states = new;
-    held = refl;
-    gains = subst (λ l. Gains l xs new) held gains;
-    noted = noted;
-  }
-
-  pub value-first : (first : S) → keys ≡ [] → IsFirst k first → (new : List S) → new ≡ insert_key eq keys first → HasFirst k (λ ls. new ≡ ls)
-  value-first first none is new put = record { state = first; is = is; held = put ∙ ap (λ l. insert_key eq l first) none }

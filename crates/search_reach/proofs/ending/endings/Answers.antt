@@ -12,7 +12,7 @@ use Rattle.search_reach.proofs.ending.endings.Goals.{in-Some+in_ok-add_ending, i
 pub ending-requires : goal.ending-requires
 ending-requires g c =
     let r = c.requires in
-    let len = c.count.ensures.len r.0 r.1 in
+    let len = c.count-at-end.ensures.len r.0 r.1 in
     let s = at-some r.0 c.loop-at.at (omega (arith, len)) in
     (r.0, s.0, r.1, s.1, r.2 s.0 (here r.0 c.loop-at.at s.0 s.1))
 
@@ -24,7 +24,7 @@ loop-at-preserved g c =
     elim c.match-ending-2.branch [
       | in-Some+in_ok-add_ending w ↦ record {
         ended = λ ks held sound. (
-            let len = c.count.ensures.len ks held in
+            let len = c.count-at-end.ensures.len ks held in
             let low : at < length ks = omega (arith, len) in
             let s = at-some ks at low in
             let met = sound s.0 (here ks at s.0 s.1) in
@@ -36,7 +36,7 @@ loop-at-preserved g c =
       }
       | in_default w ↦ record {
         ended = λ ks held sound. (
-            let len = c.count.ensures.len ks held in
+            let len = c.count-at-end.ensures.len ks held in
             let low : at < length ks = omega (arith, len) in
             let s = at-some ks at low in
             let met = sound s.0 (here ks at s.0 s.1) in
@@ -52,7 +52,7 @@ pub returns-clause-gathered : goal.returns-clause-gathered
 returns-clause-gathered g c ks held sound =
     let k = g.T.Meets.system c.args.system.now in
     let so = c.loop-at.invariant.ended ks held sound in
-    let len = c.count.ensures.len ks held in
+    let len = c.count-at-end.ensures.len ks held in
     let past : length ks ≤ c.loop-at.at = omega (arith, len) in
     record {
       all = ended-all g.T.Ending.PartialEq.eq g.met.T.Ending.Eq.laws.refl k ks c.loop-at.at c.loop-at.endings.keys c.loop-at.ended.items so past;
