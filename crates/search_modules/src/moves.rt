@@ -111,8 +111,8 @@ impl Moves for Searched<'_, '_> {
         &self,
         alloc: Global,
         shared: &Common,
-        threads: &[SharedWalker],
+        each: &[SharedWalker],
     ) -> Result<Option<Ending>, AllocError> {
-        ending_at(alloc, self.opening.as_slice(), shared, threads, self.dump)
+        ending_at(alloc, self.opening.as_slice(), shared, each, self.dump)
     }
 }

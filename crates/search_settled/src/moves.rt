@@ -119,10 +119,10 @@ pub trait Moves {
         &self,
         alloc: Global,
         shared: &Self::Shared,
-        threads: &[Self::Thread],
+        each: &[Self::Thread],
     ) -> Result<Option<Self::Ending>, AllocError>
-        requires { (c : FlatState Self.Shared Self.Thread) × HasParts shared.now threads.now c × IsSomewhere (threads self.now) c }
-        ensures { IfOk result (λ o. (c : FlatState Self.Shared Self.Thread) → HasParts shared.now threads.now c
+        requires { (c : FlatState Self.Shared Self.Thread) × HasParts shared.now each.now c × IsSomewhere (threads self.now) c }
+        ensures { IfOk result (λ o. (c : FlatState Self.Shared Self.Thread) → HasParts shared.now each.now c
             → HasEnded (threads self.now) (ends self.now) c o) };
 
     /// Answers go to who awaits them, and no more threads are there than can be.

@@ -7,4 +7,4 @@ ending_at-requires c =
     (r.0, r.1, end_asked c.args.self.now c.as_slice.result.now c.as_slice.ensures.value r.0 r.2)
 
 pub returns : goal.returns
-returns c = end_told c.args.self.now c.as_slice.result.now c.as_slice.ensures.value c.args.shared.now c.args.threads.now c.ending_at.result c.ending_at.ensures
+returns c = end_told c.args.self.now c.as_slice.result.now c.as_slice.ensures.value c.args.shared.now c.args.each.now c.ending_at.result c.ending_at.ensures
