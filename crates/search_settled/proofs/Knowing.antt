@@ -112,8 +112,7 @@ module _ {X T E V A G H M : Type 0} (k : ThreadSystem X T E V A G H M) where
   of-read t shared thread n of g h shared_at thread_at =
       let same : of.shared_is ≡ g = cc (of.shared_at, shared_at) in
       let is : of.thread_is ≡ h = cc (of.thread_at, thread_at) in
-      let o = of.of in
-      (
+      let o = of.of in (
         of.state,
         (o.0, subst (λ v. k.shares v (of.state).shared) same o.1, subst (λ v. k.is_thread v ((of.state).threads n)) is o.2),
       )

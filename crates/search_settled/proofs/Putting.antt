@@ -102,8 +102,7 @@ module _ {G H : Type 0} (eq_shared : G → G → Bool) (eq_thread : H → H → 
         let q = put-one ks f.0 p.before p.last p.is f.1 f.2 in
         let b = beside (IsOf v) v.rows.keys q.states q.are place r.row stored in
         let long = length-begins f.0 q.states q.begins in
-        let within = slice_get_within q.states place b.0 b.1 in
-        (
+        let within = slice_get_within q.states place b.0 b.1 in (
           q.states,
           q.are,
           subst (λ l. Gains ks l q.states) (sym p.are) q.gains,

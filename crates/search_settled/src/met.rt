@@ -56,12 +56,7 @@ fn slot_of(shared: u32, thread: u32, n: u32, slots: usize) -> usize
 }
 
 /// The turn of this thread, as the n-th one, where this is shared, if it is known.
-pub(crate) fn recall(
-    known: &[Option<Known>],
-    shared: u32,
-    thread: u32,
-    n: u32,
-) -> Option<Turn>
+pub(crate) fn recall(known: &[Option<Known>], shared: u32, thread: u32, n: u32) -> Option<Turn>
     ensures { IfSome result (IsNotedIn known.now shared thread n) }
 {
     if known.is_empty() {

@@ -80,7 +80,11 @@ impl<M: Moves> Meets for Turns<'_, M> {
         met.table.len()
     }
 
-    fn first(&self, alloc: Global, met: &mut Met<M::Shared, M::Thread>) -> Result<bool, AllocError> {
+    fn first(
+        &self,
+        alloc: Global,
+        met: &mut Met<M::Shared, M::Thread>,
+    ) -> Result<bool, AllocError> {
         let Some(flat) = self.system.first(alloc)? else {
             return Ok(false);
         };

@@ -41,8 +41,7 @@ returns-clause-found g c =
 
 pub returns-clause-count : goal.returns-clause-count
 returns-clause-count g c =
-    let r = c.requires in
-    (
+    let r = c.requires in (
       r.states,
       record {
         len = sym (c.count-states.ensures.len r.states r.held);

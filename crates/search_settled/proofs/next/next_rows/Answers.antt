@@ -15,8 +15,7 @@ put_next-requires-clause-at g c =
     let k = g.M.Moves.threads c.args.system.now in
     let of = c.requires.of in
     let so = c.loop-link.invariant in
-    let t = c.loop-link.met.table in
-    (
+    let t = c.loop-link.met.table in (
       of.0,
       walks-at k t c.args.row of.0 (row-grows c.args.met.now.table t so.grows c.args.row of.0.shared of.0.threads.items of.1) of.2 c.loop-link.n
           c.loop-link.rest c.loop-link.all.items (so.walks of.0 of.1 of.2) c.in-Some.link (sym c.link.ensures ∙ c.in-Some.is),

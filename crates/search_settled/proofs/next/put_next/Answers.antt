@@ -71,8 +71,7 @@ with_thread-requires-clause-chain g c =
     let t = c.args.met.now.table in
     let u = c.made_by-turn.new.met.table in
     let at = c.requires.at in
-    let flat = at.0 in
-    (
+    let flat = at.0 in (
       flat.threads.items,
       slice_get_within flat.threads.items c.args.n at.1.thread_is at.1.among,
       chain-grows t.threads.keys u.threads.keys t.links.keys u.links.keys c.in_ok-turn.ensures.grows.threads c.in_ok-turn.ensures.grows.links
@@ -99,8 +98,7 @@ row_after-requires-clause-chain g c =
     let at = c.requires.at in
     let flat = at.0 in
     let heard = heard-of k t u c.args.row.shared c.args.thread c.args.n c.in_ok-turn.turn c.in-Heard.shared c.in-Heard.made c.in-Heard.is
-    c.in_ok-turn.ensures.made in
-    (
+    c.in_ok-turn.ensures.made in (
       flat.threads.items,
       chain-grows t.threads.keys u.threads.keys t.links.keys u.links.keys c.in_ok-turn.ensures.grows.threads c.in_ok-turn.ensures.grows.links
           c.args.row.chain flat.threads.items at.1.of.1,

@@ -25,8 +25,7 @@ with_thread-requires g t c κs within =
     let chain = c.requires.chain in
     let o = opened c.args.self.now.threads.keys c.args.self.now.links.keys c.args.chain chain.0 c.in-Some.link (sym c.link.ensures ∙ c.in-Some.is) chain.2 in
     let low = chain.1 in
-    let long = ap length o.are in
-    (
+    let long = ap length o.are in (
       omega arith,
       (
         search (rules, within),

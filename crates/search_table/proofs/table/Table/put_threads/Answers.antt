@@ -17,8 +17,7 @@ put_link-requires-clause-chain g c =
     let t = c.loop-thread.self in
     let u = c.put_thread.new.self in
     let chained = c.loop-thread.invariant.behind.chained in
-    let grows = c.in_ok-number.ensures.grows in
-    (
+    let grows = c.in_ok-number.ensures.grows in (
       chained.equal,
       chain-grows t.threads.keys u.threads.keys t.links.keys u.links.keys grows.threads grows.links c.loop-thread.chain chained.equal chained.chained,
     )
