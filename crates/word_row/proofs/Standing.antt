@@ -1,11 +1,12 @@
 -- A caller that stands alone on its seat, and the events that it may try.
 use prog.Atomic.{either}
-use Rattle.std.proofs.Common.{ℕ, ◌≡◌, ◌+◌, ◌*◌, ◌^◌, ◌<◌, ◌≤◌, ◌∙◌, true, false, length, subst, sym, ap, eqb, arith}
+use Rattle.std.proofs.Common.{ℕ, ◌≡◌, ◌+◌, ◌*◌, ◌^◌, ◌<◌, ◌≤◌, ◌∙◌, Bool, true, false, Option, Some, length, subst, sym, ap, eqb, arith}
 use Rattle.atomic_table.specs.Table.{Me, Allows}
 use Rattle.atomic_table.specs.Seated.{TableId}
 use Rattle.types.specs.declared.event.Event.{Event}
 use Rattle.types.specs.declared.event.Event.TheVariants.{Size, Grow, Load, Store, Rmw, Cmpxchg, Ask, Told}
 use Rattle.types.specs.declared.limits.TheConstants.{DESK_NAME}
+use Rattle.types.specs.declared.event.Reply.{Reply}
 use Rattle.shared_memory.specs.Events.{IsEvent, is_of_queue}
 use Rattle.shared_memory.specs.Memory.{Memory}
 use Rattle.shared_memory.specs.History.{memory_after}
@@ -14,7 +15,7 @@ use Rattle.shared_memory_on_table.specs.declared.view.View.{View}
 use Rattle.shared_memory_on_table.specs.Moves.{IsOne, caller_in}
 use Rattle.shared_memory_on_table.specs.Rule.{StandsAlone}
 use Rattle.word_row.specs.Answers.{end_of, is_access, place_of, Makes, IsMadeBy, exchange_answer, size_answer, word_answer}
-use Rattle.word_row.specs.Rule.{FetchesAs, IsRow, KeptRow, MayTry, StepsAs, StoresAs}
+use Rattle.word_row.specs.Rule.{FetchesAs, IsRow, KeptRow, MayTry, Steps, StepsAs, StoresAs}
 use Rattle.word_row.proofs.Access.{place_in}
 use Rattle.word_row.proofs.Fetching.{fetching, storing}
 use Rattle.word_row.proofs.Moves.{notes, reads, exchanges}
@@ -70,6 +71,14 @@ module _ (table own row : TableId) (opening key : Memory) (name : ℕ) (me : Me 
           (sym of.key) (notes opening row.slots id me event stands.1
           (subst (λ (e : Event). MayTry (caller_in me.0) e) (sym making) (may_try tried is_event right))),
     )
+
+    -- what a step tells of the caller and of the event that it tries
+    pub stepped : (loses : Bool) (answer : Event → Option Reply) (place : Event → ℕ) (word found : ℕ) (after : Me ℕ View) → word ≡ place tried
+        → StepsAs opening loses event (answer event) word me found after → Steps opening loses tried (answer tried) (place tried) c found (caller_in after.0)
+    stepped loses answer place word found after at s =
+        subst (λ (x : Caller). Steps opening loses tried (answer tried) (place tried) x found (caller_in after.0)) is
+        (subst (λ (w : ℕ). Steps opening loses tried (answer tried) w (caller_in me.0) found (caller_in after.0)) at
+        (subst (λ (e : Event). Steps opening loses e (answer e) word (caller_in me.0) found (caller_in after.0)) making s.1))
 
     -- on its word
     module _ (word : ℕ) (at : word ≡ place_of tried) (within : end_of tried ≤ length (memory_after opening c.seen).bytes) where

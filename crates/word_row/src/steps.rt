@@ -50,7 +50,6 @@ pub fn exchange<B: Naming, M: Making>(
     requires row { IsRow B.table B.opening row.now.table_id row.now.key }
     requires making { M.event ≡ event }
     requires event { IsEvent event }
-    requires right { is_of_queue event ≡ true → caller.old.has_queue_right ≡ true }
     requires within { EndsWithin B.opening event caller.old }
     requires change { IsChange B.opening.max event old change }
     requires word { LeavesWord B.opening caller.old (place_of event) old }
