@@ -161,7 +161,10 @@ impl<B: Naming> WordRow<B> {
                 reply: Reply::Value(pages),
             };
             let row = &self.board.shared;
-            return (pages, steps::exchange::<B, M>(row, caller, event, pages, change));
+            return (
+                pages,
+                steps::exchange::<B, M>(row, caller, event, pages, change),
+            );
         }
         (pages, self.touch::<M>(caller, event))
     }

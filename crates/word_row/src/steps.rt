@@ -57,12 +57,21 @@ pub fn exchange<B: Naming, M: Making>(
 {
     let place = word_place(event);
     let found = row.compare_exchange::<Exchange<B, M>>(&mut caller.place, place, old, change.new);
-    if found == old { change.reply } else { Reply::Again }
+    if found == old {
+        change.reply
+    } else {
+        Reply::Again
+    }
 }
 
 /// Stores the word of an event, whatever it was: the event is entered.
 #[inline(always)]
-pub fn store<B: Naming, M: Making>(row: &Row, caller: &mut StandingCaller<B>, event: Event, new: u64)
+pub fn store<B: Naming, M: Making>(
+    row: &Row,
+    caller: &mut StandingCaller<B>,
+    event: Event,
+    new: u64,
+)
     requires row { IsRow B.table B.opening row.now.table_id row.now.key }
     requires making { M.event ≡ event }
     requires event { IsEvent event }

@@ -20,8 +20,8 @@ returns-else-found-old g c =
       tried = lost_try g.B.Naming.opening c.args.event c.args.old found c.args.change.new c.args.caller.now (caller_in after.0) c.requires.row.stored
           c.requires.event c.requires.within c.requires.change.makes c.requires.word
           (stepped g.B.Naming.table c.caller.inside.place.table_id c.args.row.now.table_id g.B.Naming.opening c.args.row.now.key
-    c.caller.inside.name c.caller.inside.place.me c.args.caller.now c.caller.view_is c.caller.invariant c.requires.row
-    c.caller.inside.place.id g.M.Making.event c.args.event c.requires.making c.requires.event
+          c.caller.inside.name c.caller.inside.place.me c.args.caller.now c.caller.view_is c.caller.invariant c.requires.row
+          c.caller.inside.place.id g.M.Making.event c.args.event c.requires.making c.requires.event
           true (λ e. exchange_answer e c.args.old found) place_of c.word_place-place.result found after c.word_place-place.ensures c.compare_exchange-found.ensures.2)
           c.if-found-old.false;
     }
