@@ -1,16 +1,15 @@
 -- From what a watch sees of a walk to what it sees of a replay.
-use Rattle.std.proofs.Common.{◌≡◌, List, Result, Ok, Err, refl, inl, inr, subst, sym}
+use Rattle.std.proofs.Common.{List, Result, Ok, Err, refl, inl, inr}
 use Rattle.types.specs.declared.parts.Parts.{Parts}
 use Rattle.shared_memory.specs.Memory.{Memory}
 use Rattle.interp.specs.declared.thread.Thread.{Thread}
 use Rattle.interp.specs.Threads.{meaning_in}
 use Rattle.spawn_host.specs.declared.end.EndState.{EndState}
 use Rattle.replay_text.specs.declared.parts.RecordParts.{RecordParts}
-use Rattle.replay_walk.specs.declared.walk.Walk.{Walk}
 use Rattle.replay_walk.specs.Seen.{Sight}
 use Rattle.replay.specs.Runs.{HasLength, HasPages, OfScale}
 use Rattle.replay.specs.Threads.{OfCall}
-use Rattle.replay.specs.Watching.{SeesWalk, SeesRun, SeesRefused, SeesReplay, StandsFirst}
+use Rattle.replay.specs.Watching.{SeesWalk, SeesRun, SeesRefused, SeesReplay}
 use Rattle.replay.specs.declared.fault.ReplayFault.{ReplayFault}
 use Rattle.replay.specs.declared.fault.ReplayFault.TheVariants.{Line, EndLine, NoMemory}
 use Rattle.replay.proofs.Ready.{CanBegin}

@@ -1,4 +1,4 @@
-use Rattle.std.proofs.Common.{◌≡◌, ◌∙◌, subst}
+use Rattle.std.proofs.Common.{◌∙◌, subst}
 use Rattle.interp_machine.specs.Program.{Program}
 use Rattle.interp_trait.specs.Turns.{IsTurned}
 use Rattle.interp_trait.specs.declared.turn.Given.TheVariants as given
