@@ -58,10 +58,9 @@ pub fn exchange<B: Naming, M: Making>(
     let place = word_place(event);
     let found = row.compare_exchange::<Exchange<B, M>>(&mut caller.place, place, old, change.new);
     if found == old {
-        change.reply
-    } else {
-        Reply::Again
+        return change.reply;
     }
+    Reply::Again
 }
 
 /// Stores the word of an event, whatever it was: the event is entered.

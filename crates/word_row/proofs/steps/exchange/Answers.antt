@@ -12,8 +12,8 @@ compare_exchange-found-requires g c =
     c.caller.inside.place.id g.M.Making.event c.args.event c.requires.making c.requires.event
     c.word_place-place.result c.word_place-place.ensures c.requires.within c.args.old c.args.change.new (omega arith) c.requires.change.makes
 
-pub returns-else-found-old : goal.returns-else-found-old
-returns-else-found-old g c =
+pub returns : goal.returns
+returns g c =
     let found = c.compare_exchange-found.result in
     let after = c.compare_exchange-found.new.seat.me in
     record {

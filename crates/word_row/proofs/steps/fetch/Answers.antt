@@ -1,8 +1,8 @@
-use Rattle.std.proofs.Common.{ℕ, Some, false, ◌+◌, ◌%◌, ◌^◌, subst, mod-lt, bit_and, bit_or, bit_xor, arith}
+use Rattle.std.proofs.Common.{ℕ, ◌+◌, ◌%◌, ◌^◌, subst, mod-lt, bit_and, bit_or, bit_xor, arith}
 use Rattle.std.proofs.lemmas.Nat.{pow_pos, and_le_l, or_lt, xor_lt}
-use Rattle.word_row.specs.Answers.{after_single, IsMadeBy, made_reply, place_of}
+use Rattle.word_row.specs.Answers.{after_single, IsMadeBy}
 use Rattle.word_row.specs.declared.single.Single.{Single}
-use Rattle.word_row.proofs.Standing.{changing, stepped}
+use Rattle.word_row.proofs.Standing.{changing}
 use Rattle.word_row.proofs.steps.fetch.Goals as goal
 
 pub swap-requires : goal.swap-requires
@@ -49,38 +49,3 @@ fetch_xor-requires g c =
     c.caller.inside.name c.caller.inside.place.me c.args.caller.now c.caller.view_is c.caller.invariant c.requires.row
     c.caller.inside.place.id g.M.Making.event c.args.event c.requires.making c.requires.event
     c.word_place-word.result c.word_place-word.ensures c.requires.within c.requires.right (λ n. bit_xor n bits) (λ n small. xor_lt 64 n bits small (omega arith)) makes
-
-pub returns-in-Swap : goal.returns-in-Swap
-returns-in-Swap g c =
-    stepped g.B.Naming.table c.caller.inside.place.table_id c.args.row.now.table_id g.B.Naming.opening c.args.row.now.key
-    c.caller.inside.name c.caller.inside.place.me c.args.caller.now c.caller.view_is c.caller.invariant c.requires.row
-    c.caller.inside.place.id g.M.Making.event c.args.event c.requires.making c.requires.event
-    false (λ e. Some (made_reply e c.swap.result)) place_of c.word_place-word.result c.swap.result c.swap.new.seat.me c.word_place-word.ensures c.swap.ensures.2
-
-pub returns-in-Add : goal.returns-in-Add
-returns-in-Add g c =
-    stepped g.B.Naming.table c.caller.inside.place.table_id c.args.row.now.table_id g.B.Naming.opening c.args.row.now.key
-    c.caller.inside.name c.caller.inside.place.me c.args.caller.now c.caller.view_is c.caller.invariant c.requires.row
-    c.caller.inside.place.id g.M.Making.event c.args.event c.requires.making c.requires.event
-    false (λ e. Some (made_reply e c.fetch_add.result)) place_of c.word_place-word.result c.fetch_add.result c.fetch_add.new.seat.me c.word_place-word.ensures c.fetch_add.ensures.2
-
-pub returns-in-And : goal.returns-in-And
-returns-in-And g c =
-    stepped g.B.Naming.table c.caller.inside.place.table_id c.args.row.now.table_id g.B.Naming.opening c.args.row.now.key
-    c.caller.inside.name c.caller.inside.place.me c.args.caller.now c.caller.view_is c.caller.invariant c.requires.row
-    c.caller.inside.place.id g.M.Making.event c.args.event c.requires.making c.requires.event
-    false (λ e. Some (made_reply e c.fetch_and.result)) place_of c.word_place-word.result c.fetch_and.result c.fetch_and.new.seat.me c.word_place-word.ensures c.fetch_and.ensures.2
-
-pub returns-in-Or : goal.returns-in-Or
-returns-in-Or g c =
-    stepped g.B.Naming.table c.caller.inside.place.table_id c.args.row.now.table_id g.B.Naming.opening c.args.row.now.key
-    c.caller.inside.name c.caller.inside.place.me c.args.caller.now c.caller.view_is c.caller.invariant c.requires.row
-    c.caller.inside.place.id g.M.Making.event c.args.event c.requires.making c.requires.event
-    false (λ e. Some (made_reply e c.fetch_or.result)) place_of c.word_place-word.result c.fetch_or.result c.fetch_or.new.seat.me c.word_place-word.ensures c.fetch_or.ensures.2
-
-pub returns-in-Xor : goal.returns-in-Xor
-returns-in-Xor g c =
-    stepped g.B.Naming.table c.caller.inside.place.table_id c.args.row.now.table_id g.B.Naming.opening c.args.row.now.key
-    c.caller.inside.name c.caller.inside.place.me c.args.caller.now c.caller.view_is c.caller.invariant c.requires.row
-    c.caller.inside.place.id g.M.Making.event c.args.event c.requires.making c.requires.event
-    false (λ e. Some (made_reply e c.fetch_xor.result)) place_of c.word_place-word.result c.fetch_xor.result c.fetch_xor.new.seat.me c.word_place-word.ensures c.fetch_xor.ensures.2
