@@ -7,6 +7,6 @@ pub mod Here
 pub mod Begun
 pub mod Starting
 pub mod Flats
-pub mod Quickly
-pub mod Sameness
+pub mod Coming
+pub mod Others
 pub mod Pushing

@@ -1,6 +1,6 @@
 pub mod Kept
 pub mod Places
-pub mod Quick
+pub mod Came
 pub mod Shown
 pub mod Starts
 pub mod Threads

@@ -1,19 +1,19 @@
 //! Calls by the index of a function (Core specification 1.0, sections 4.4.5 and 4.4.7), also of the imported function
 //! that starts a thread (wasi-threads).
 
-ghost use Rattle.std.specs.Prelude.{◌≡◌, ℕ, None, IfSome};
+ghost use Rattle.std.specs.Prelude.{ℕ};
 ghost use Rattle.types.specs.declared.instr.Instr.{Instr};
 ghost use Rattle.types.specs.declared.instr.PlainInstr.{PlainInstr};
-ghost use Rattle.interp_state.specs.Steps.{ComesNext, IsStep, Wanting, IsReplied, came_to};
+ghost use Rattle.interp_state.specs.Steps.{ComesNext, IsStep, Wanting, IsReplied};
 ghost use Rattle.interp_calls.specs.Entering.{HasBodies};
 
 use crate::entering::enter;
 use crate::indices::top_i32;
 use interp_state::{Progress, State, StepResult, came_to, pop};
-use types::{Event, Instr, PlainInstr, Question, Trap};
+use types::{Event, Instr, PlainInstr, Question};
 
 /// `call`: the function is opened. An imported one starts a thread, and its argument stays till the question is asked.
-#[inline]
+#[inline(always)]
 pub fn call(state: &mut State, function: u32) -> StepResult
     requires begins { ComesNext state.old (Instr.Plain (PlainInstr.Call function)) }
     requires bodies { HasBodies state.old }
@@ -26,22 +26,6 @@ pub fn call(state: &mut State, function: u32) -> StepResult
         return StepResult::Wants(Event::Ask(Question::Spawn { arg }));
     }
     came_to(enter(state, function - imported))
-}
-
-/// `call` of a function of the module itself; at an imported one nothing changes.
-#[inline]
-pub fn call_own(state: &mut State, function: u32) -> Option<Option<Trap>>
-    requires begins { ComesNext state.old (Instr.Plain (PlainInstr.Call function)) }
-    requires bodies { HasBodies state.old }
-    ensures made { IfSome result (λ trap. IsStep state.old (came_to trap) state.new) }
-    ensures same { result ≡ None → state.new ≡ state.old }
-{
-    let function = function as usize;
-    let imported = state.program.imported;
-    if function < imported {
-        return None;
-    }
-    Some(enter(state, function - imported))
 }
 
 /// A `call` that starts a thread was asked: its argument goes, and the answer is due.

@@ -8,5 +8,5 @@ mod entering;
 mod indices;
 mod indirect;
 
-pub use direct::{call, call_own, call_replied};
+pub use direct::{call, call_replied};
 pub use indirect::{call_indirect, call_indirect_replied};

@@ -3,6 +3,7 @@ pub mod Combined
 pub mod Closing
 pub mod Opening
 pub mod Fetching
+pub mod Standing
 pub mod Counts
 pub mod Words
 pub mod Memories

@@ -25,7 +25,6 @@ mod rule;
 mod seat;
 mod single;
 mod steps;
-mod tries;
 
 pub use closed::ClosedRow;
 pub use prepared::Prepared;

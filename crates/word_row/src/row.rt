@@ -5,21 +5,20 @@ ghost use Rattle.types.specs.declared.limits.TheConstants.{MOST_PAGES, SEATS};
 ghost use Rattle.shared_memory.specs.Events.{IsEvent, is_of_queue};
 ghost use Rattle.shared_memory_on_table.specs.Callers.{GoesOn, fresh_from};
 ghost use Rattle.shared_memory_on_table.specs.Rule.{MakesTry, MeetsIn};
-ghost use Rattle.word_row.specs.Answers.{is_access, place_of, is_single};
-ghost use Rattle.word_row.specs.Rule.{AllCome, EndsWithin, IsRow, LeavesWord, TakesIn};
-ghost use Rattle.word_row.specs.Changes.{IsChange};
+ghost use Rattle.word_row.specs.Answers.{is_access, is_single};
+ghost use Rattle.word_row.specs.Rule.{AllCome, EndsWithin, IsRow, TakesIn};
 ghost use Rattle.word_row.specs.Rows.{EndsAfter, HasPages};
 
 use crate::changes::{Change, Next, by_size, by_word, is_within, single_of};
 use crate::closed::ClosedRow;
 use crate::prepared::Prepared;
 use crate::seat::{WordSeat, take_seats};
-use crate::{Arrive, Board, Row, tries};
+use crate::{Arrive, Board, Making, Row, steps};
 use shared_memory::SharedMemory;
 use shared_memory_on_table::{Naming, StandingCaller, TableSeat, hand, meet};
 use shared_memory_sequential::{OpenFault, lane};
 use std::alloc::Global;
-use std::marker::PhantomData;
+use std::marker::{Brand, PhantomData};
 use types::{Event, Reply};
 
 // The caller of a seat goes to another, for good.
@@ -95,7 +94,7 @@ impl<B: Naming> WordRow<B> {
     /// Makes one try of an event, and waits for nobody. A try that another thread's change of the word overtook is
     /// answered `Again`, and may be made again; no try of an event is that a single step on its word makes. An exchange
     /// that wasn't made counts as a lost try of the seat, so the event isn't tried again here. An event of the queue
-    /// takes the queue right.
+    /// takes the queue right. An access that lies within the page count remembered needs no load of it.
     #[inline(always)]
     pub fn access(&self, seat: &mut WordSeat<B>, event: Event) -> Reply
         requires event { IsEvent event }
@@ -103,7 +102,12 @@ impl<B: Naming> WordRow<B> {
         ensures tried { MakesTry true B.opening None event result seat.old.caller seat.new.caller }
         ensures single { is_single event ≡ true → result ≢ Again }
     {
-        self.make(seat, event)
+        if is_within(event, seat.pages) {
+            return self.touch::<Brand>(&mut seat.caller, event);
+        }
+        let (pages, reply) = self.note::<Brand>(&mut seat.caller, event);
+        seat.pages = pages;
+        reply
     }
 
     /// Two seats learn from each other, and exchange the queue right. It waits for nobody.
@@ -136,25 +140,10 @@ impl<B: Naming> WordRow<B> {
         }
     }
 
-    // One try of an event. An access that lies within the page count remembered needs no load of it.
-    #[inline(always)]
-    fn make(&self, seat: &mut WordSeat<B>, event: Event) -> Reply
-        requires event { IsEvent event }
-        requires right { is_of_queue event ≡ true → seat.old.caller.has_queue_right ≡ true }
-        ensures tried { MakesTry true B.opening None event result seat.old.caller seat.new.caller }
-        ensures single { is_single event ≡ true → result ≢ Again }
-    {
-        if is_within(event, seat.pages) {
-            return self.touch(&mut seat.caller, event);
-        }
-        let (pages, reply) = self.note(&mut seat.caller, event);
-        seat.pages = pages;
-        reply
-    }
-
     // One try of an event that loads the page count first, which it answers with the reply.
     #[inline(always)]
-    fn note(&self, caller: &mut StandingCaller<B>, event: Event) -> (u64, Reply)
+    fn note<M: Making>(&self, caller: &mut StandingCaller<B>, event: Event) -> (u64, Reply)
+        requires making { M.event ≡ event }
         requires event { IsEvent event }
         requires right { is_of_queue event ≡ true → caller.old.has_queue_right ≡ true }
         ensures tried { MakesTry true B.opening None event result.1 caller.old caller.new }
@@ -162,7 +151,7 @@ impl<B: Naming> WordRow<B> {
         ensures few { result.0 ≤ MOST_PAGES }
         ensures counted { HasPages B.opening caller.new.seen result.0 }
     {
-        let pages = tries::note(&self.board.shared, caller, event);
+        let pages = steps::note::<B, M>(&self.board.shared, caller, event);
         if let Some(reply) = by_size(self.pages_max, event, pages) {
             return (pages, reply);
         }
@@ -171,15 +160,20 @@ impl<B: Naming> WordRow<B> {
                 new: pages + u64::from(more),
                 reply: Reply::Value(pages),
             };
-            return (pages, self.exchange(caller, event, pages, change));
+            let row = &self.board.shared;
+            return (
+                pages,
+                steps::exchange::<B, M>(row, caller, event, pages, change),
+            );
         }
-        (pages, self.touch(caller, event))
+        (pages, self.touch::<M>(caller, event))
     }
 
     // An access that lies within the memory seen: by a single step on its word where that makes the event, whatever
     // the word is.
     #[inline(always)]
-    fn touch(&self, caller: &mut StandingCaller<B>, event: Event) -> Reply
+    fn touch<M: Making>(&self, caller: &mut StandingCaller<B>, event: Event) -> Reply
+        requires making { M.event ≡ event }
         requires event { IsEvent event }
         requires right { is_of_queue event ≡ true → caller.old.has_queue_right ≡ true }
         requires access { is_access event ≡ true }
@@ -189,7 +183,7 @@ impl<B: Naming> WordRow<B> {
     {
         match event {
             Event::Store { width, value, .. } if width == 8 => {
-                tries::store(&self.board.shared, caller, event, value);
+                steps::store::<B, M>(&self.board.shared, caller, event, value);
                 Reply::Done
             }
             Event::Rmw {
@@ -199,51 +193,30 @@ impl<B: Naming> WordRow<B> {
                 value,
             } => match single_of(op, addr, width, value) {
                 Some(single) => {
-                    let word = tries::fetch(&self.board.shared, caller, event, single);
+                    let word = steps::fetch::<B, M>(&self.board.shared, caller, event, single);
                     Reply::Value(lane(word, addr, width))
                 }
-                None => self.replace(caller, event),
+                None => self.replace::<M>(caller, event),
             },
-            _ => self.replace(caller, event),
+            _ => self.replace::<M>(caller, event),
         }
     }
 
     // An access that lies within the memory seen, by a load of its word and, where it changes that, an exchange.
     #[inline(always)]
-    fn replace(&self, caller: &mut StandingCaller<B>, event: Event) -> Reply
+    fn replace<M: Making>(&self, caller: &mut StandingCaller<B>, event: Event) -> Reply
+        requires making { M.event ≡ event }
         requires event { IsEvent event }
         requires right { is_of_queue event ≡ true → caller.old.has_queue_right ≡ true }
         requires access { is_access event ≡ true }
         requires within { EndsWithin B.opening event caller.old }
         ensures tried { MakesTry true B.opening None event result caller.old caller.new }
     {
-        let word = tries::read(&self.board.shared, caller, event);
+        let row = &self.board.shared;
+        let word = steps::read::<B, M>(row, caller, event);
         match by_word(event, word) {
             Next::Answer(reply) => reply,
-            Next::Exchange(change) => self.exchange(caller, event, word, change),
-        }
-    }
-
-    // A change of the word that is there after the list seen.
-    #[inline(always)]
-    fn exchange(
-        &self,
-        caller: &mut StandingCaller<B>,
-        event: Event,
-        old: u64,
-        change: Change,
-    ) -> Reply
-        requires event { IsEvent event }
-        requires within { EndsWithin B.opening event caller.old }
-        requires change { IsChange B.opening.max event old change }
-        requires word { LeavesWord B.opening caller.old (place_of event) old }
-        ensures tried { MakesTry true B.opening None event result caller.old caller.new }
-    {
-        let found = tries::exchange(&self.board.shared, caller, event, old, change.new);
-        if found == old {
-            change.reply
-        } else {
-            Reply::Again
+            Next::Exchange(change) => steps::exchange::<B, M>(row, caller, event, word, change),
         }
     }
 }

@@ -1,111 +1,105 @@
-//! Steps of callers on their seats, each made of a single step on a word.
-ghost use Rattle.std.specs.Prelude.{◌≡◌, true};
-ghost use Rattle.shared_memory_on_table.specs.Moves.{IsOne, caller_in};
-ghost use Rattle.word_row.specs.Answers.{is_access, place_of, Makes, after_single, IsMadeBy};
-ghost use Rattle.word_row.specs.Rule.{EndsWithin, HasWord, MayTry, NotesAs, ReadsAs, ExchangesAs, FetchesAs, StoresAs};
+//! Single steps on words that the caller of a seat makes for an event.
+ghost use Rattle.std.specs.Prelude.{◌≡◌, ℕ, true, None};
+ghost use Rattle.shared_memory.specs.Events.{IsEvent, is_of_queue};
+ghost use Rattle.shared_memory_on_table.specs.Rule.{MakesTry};
+ghost use Rattle.word_row.specs.Answers.{is_access, place_of, after_single, IsMadeBy};
+ghost use Rattle.word_row.specs.Changes.{IsChange};
+ghost use Rattle.word_row.specs.Rule.{EndsWithin, FetchesWord, IsRow, LeavesWord, NotesPages, ReadsWord};
 
+use crate::changes::{Change, word_place};
 use crate::{Exchange, Fetch, Making, Note, Read, Row, Single, Store};
-use shared_memory_on_table::{Naming, TableSeat};
-use types::Event;
+use shared_memory_on_table::{Naming, StandingCaller};
+use types::{Event, Reply};
 
-/// The size word is loaded: the caller's event is entered where the page count settles its reply.
+/// Loads the page count: the caller's event is entered where that settles its reply.
 #[inline(always)]
-pub fn note<B: Naming, M: Making>(row: &Row, place: &mut TableSeat, event: Event) -> u64
-    requires row { HasWord B.opening row.now.key row.now.table_id place.old.table_id 0 }
-    requires one { IsOne place.old.me }
+pub fn note<B: Naming, M: Making>(row: &Row, caller: &mut StandingCaller<B>, event: Event) -> u64
+    requires row { IsRow B.table B.opening row.now.table_id row.now.key }
     requires making { M.event ≡ event }
-    requires may { MayTry (caller_in place.old.me.0) event }
-    ensures place { place.new.table_id ≡ place.old.table_id }
-    ensures steps { NotesAs B.opening event 0 place.old.me result place.new.me }
+    requires event { IsEvent event }
+    requires right { is_of_queue event ≡ true → caller.old.has_queue_right ≡ true }
+    ensures { NotesPages B.opening event caller.old result caller.new }
 {
-    row.load::<Note<B, M>>(place, 0)
+    row.load::<Note<B, M>>(&mut caller.place, 0)
 }
 
-/// The word of an access within bounds is loaded: the caller's event is entered where the word settles its reply.
+/// Loads the word of an access that lies within the memory seen: the event is entered where that settles its reply.
 #[inline(always)]
-pub fn read<B: Naming, M: Making>(
-    row: &Row,
-    place: &mut TableSeat,
-    word: usize,
-    event: Event,
-) -> u64
-    requires row { HasWord B.opening row.now.key row.now.table_id place.old.table_id word }
-    requires one { IsOne place.old.me }
+pub fn read<B: Naming, M: Making>(row: &Row, caller: &mut StandingCaller<B>, event: Event) -> u64
+    requires row { IsRow B.table B.opening row.now.table_id row.now.key }
     requires making { M.event ≡ event }
-    requires may { MayTry (caller_in place.old.me.0) event }
-    requires word { place_of event ≡ word }
+    requires event { IsEvent event }
+    requires right { is_of_queue event ≡ true → caller.old.has_queue_right ≡ true }
     requires access { is_access event ≡ true }
-    requires within { EndsWithin B.opening event (caller_in place.old.me.0) }
-    ensures place { place.new.table_id ≡ place.old.table_id }
-    ensures steps { ReadsAs B.opening event (place_of event) place.old.me result place.new.me }
+    requires within { EndsWithin B.opening event caller.old }
+    ensures { ReadsWord B.opening event caller.old result caller.new }
 {
-    row.load::<Read<B, M>>(place, word)
+    row.load::<Read<B, M>>(&mut caller.place, word_place(event))
 }
 
-/// A word is exchanged if it is still `old`: the caller's event is entered where it was.
+/// Exchanges the word of an event for another, if it is still the one that is there after the list seen: the event is
+/// entered where it was, and else the try is lost.
 #[inline(always)]
 pub fn exchange<B: Naming, M: Making>(
     row: &Row,
-    place: &mut TableSeat,
-    word: usize,
-    old: u64,
-    new: u64,
+    caller: &mut StandingCaller<B>,
     event: Event,
-) -> u64
-    requires row { HasWord B.opening row.now.key row.now.table_id place.old.table_id word }
-    requires one { IsOne place.old.me }
+    old: u64,
+    change: Change,
+) -> Reply
+    requires row { IsRow B.table B.opening row.now.table_id row.now.key }
     requires making { M.event ≡ event }
-    requires may { MayTry (caller_in place.old.me.0) event }
-    requires word { place_of event ≡ word }
-    requires makes { Makes B.opening.max event old new }
-    requires within { EndsWithin B.opening event (caller_in place.old.me.0) }
-    ensures place { place.new.table_id ≡ place.old.table_id }
-    ensures steps { ExchangesAs B.opening event old (place_of event) place.old.me result place.new.me }
+    requires event { IsEvent event }
+    requires within { EndsWithin B.opening event caller.old }
+    requires change { IsChange B.opening.max event old change }
+    requires word { LeavesWord B.opening caller.old (place_of event) old }
+    ensures tried { MakesTry true B.opening None event result caller.old caller.new }
 {
-    row.compare_exchange::<Exchange<B, M>>(place, word, old, new)
+    let place = word_place(event);
+    let found = row.compare_exchange::<Exchange<B, M>>(&mut caller.place, place, old, change.new);
+    if found == old {
+        return change.reply;
+    }
+    Reply::Again
 }
 
-/// The word of an access within bounds is stored: the caller's event is entered.
+/// Stores the word of an event, whatever it was: the event is entered.
 #[inline(always)]
 pub fn store<B: Naming, M: Making>(
     row: &Row,
-    place: &mut TableSeat,
-    word: usize,
-    new: u64,
+    caller: &mut StandingCaller<B>,
     event: Event,
+    new: u64,
 )
-    requires row { HasWord B.opening row.now.key row.now.table_id place.old.table_id word }
-    requires one { IsOne place.old.me }
+    requires row { IsRow B.table B.opening row.now.table_id row.now.key }
     requires making { M.event ≡ event }
-    requires may { MayTry (caller_in place.old.me.0) event }
-    requires word { place_of event ≡ word }
+    requires event { IsEvent event }
+    requires right { is_of_queue event ≡ true → caller.old.has_queue_right ≡ true }
+    requires within { EndsWithin B.opening event caller.old }
     requires makes { IsMadeBy event (λ _. new) }
-    requires within { EndsWithin B.opening event (caller_in place.old.me.0) }
-    ensures place { place.new.table_id ≡ place.old.table_id }
-    ensures steps { StoresAs B.opening event (place_of event) place.old.me place.new.me }
+    ensures { (found : ℕ) × FetchesWord B.opening event caller.old found caller.new }
 {
-    row.store::<Store<B, M>>(place, word, new);
+    row.store::<Store<B, M>>(&mut caller.place, word_place(event), new);
 }
 
-/// The word of an access within bounds is changed by a single exchange: the caller's event is entered.
+/// Changes the word of an event by a single exchange, whatever it was, and answers the word found: the event is entered.
 #[inline(always)]
 pub fn fetch<B: Naming, M: Making>(
     row: &Row,
-    place: &mut TableSeat,
-    word: usize,
-    single: Single,
+    caller: &mut StandingCaller<B>,
     event: Event,
+    single: Single,
 ) -> u64
-    requires row { HasWord B.opening row.now.key row.now.table_id place.old.table_id word }
-    requires one { IsOne place.old.me }
+    requires row { IsRow B.table B.opening row.now.table_id row.now.key }
     requires making { M.event ≡ event }
-    requires may { MayTry (caller_in place.old.me.0) event }
-    requires word { place_of event ≡ word }
+    requires event { IsEvent event }
+    requires right { is_of_queue event ≡ true → caller.old.has_queue_right ≡ true }
+    requires within { EndsWithin B.opening event caller.old }
     requires makes { IsMadeBy event (after_single single) }
-    requires within { EndsWithin B.opening event (caller_in place.old.me.0) }
-    ensures place { place.new.table_id ≡ place.old.table_id }
-    ensures steps { FetchesAs B.opening event (place_of event) place.old.me result place.new.me }
+    ensures { FetchesWord B.opening event caller.old result caller.new }
 {
+    let place = &mut caller.place;
+    let word = word_place(event);
     match single {
         Single::Swap(new) => row.swap::<Fetch<B, M>>(place, word, new),
         Single::Add(more) => row.fetch_add::<Fetch<B, M>>(place, word, more),

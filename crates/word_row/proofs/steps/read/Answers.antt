@@ -1,30 +1,18 @@
-use Rattle.std.proofs.Common.{ℕ, ◌≡◌, ◌≤◌, true, ◌∙◌, ap, sym, subst, length, false}
-use Rattle.atomic_table.specs.Table.{Allows}
-use Rattle.types.specs.declared.event.Event.{Event}
-use Rattle.shared_memory.specs.Memory.{Memory}
-use Rattle.shared_memory.specs.History.{memory_after}
-use Rattle.shared_memory_on_table.specs.Moves.{caller_in}
-use Rattle.word_row.specs.Answers.{end_of, is_access, place_of, word_answer}
-use Rattle.word_row.specs.Rule.{KeptRow, MayTry, StepsAs}
-use Rattle.word_row.proofs.Moves.{reads}
+use Rattle.std.proofs.Common.{false}
+use Rattle.word_row.specs.Answers.{place_of, word_answer}
+use Rattle.word_row.proofs.Standing.{reading, stepped}
 use Rattle.word_row.proofs.steps.read.Goals as goal
 
 pub load-requires : goal.load-requires
 load-requires g c =
-    let place = c.args.place.now in
-    let slots : ℕ = c.args.row.now.table_id.slots in
-    let opening : Memory = g.B.Naming.opening in
-    let event : Event = g.M.Making.event in
-    let same : event ≡ c.args.event = c.requires.making in
-    let may : MayTry (caller_in place.me.0) event = subst (λ (e : Event). MayTry (caller_in place.me.0) e) (sym same) c.requires.may in
-    let access : is_access event ≡ true = ap is_access same ∙ c.requires.access in
-    let within : end_of event ≤ length (memory_after opening (caller_in place.me.0).seen).bytes =
-    subst (λ (e : Event). end_of e ≤ length (memory_after opening (caller_in place.me.0).seen).bytes) (sym same) c.requires.within in (
-      c.requires.row.0,
-      c.requires.row.1,
-      subst (λ (k : Memory). Allows (KeptRow k) slots place.id place.me c.args.word (λ n. n)
-          (λ n x. StepsAs opening false event (word_answer event n) c.args.word place.me n x)) (sym c.requires.row.2)
-          (subst (λ (w : ℕ). Allows (KeptRow opening) slots place.id place.me w (λ n. n)
-          (λ n x. StepsAs opening false event (word_answer event n) w place.me n x)) (ap place_of same ∙ c.requires.word)
-          (reads opening slots place.id place.me event c.requires.one may access within)),
-    )
+    reading g.B.Naming.table c.caller.inside.place.table_id c.args.row.now.table_id g.B.Naming.opening c.args.row.now.key
+    c.caller.inside.name c.caller.inside.place.me c.args.caller.now c.caller.view_is c.caller.invariant c.requires.row
+    c.caller.inside.place.id g.M.Making.event c.args.event c.requires.making c.requires.event
+    c.word_place.result c.word_place.ensures c.requires.within c.requires.right c.requires.access
+
+pub returns : goal.returns
+returns g c =
+    stepped g.B.Naming.table c.caller.inside.place.table_id c.args.row.now.table_id g.B.Naming.opening c.args.row.now.key
+    c.caller.inside.name c.caller.inside.place.me c.args.caller.now c.caller.view_is c.caller.invariant c.requires.row
+    c.caller.inside.place.id g.M.Making.event c.args.event c.requires.making c.requires.event
+    false (λ e. word_answer e c.load.result) place_of c.word_place.result c.load.result c.load.new.seat.me c.word_place.ensures c.load.ensures.2

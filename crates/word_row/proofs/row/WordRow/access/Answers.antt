@@ -2,7 +2,7 @@ use Rattle.std.proofs.Common.{ℕ, ◌≤◌, sym, subst}
 use Rattle.types.specs.declared.limits.TheConstants.{DESK_NAME}
 use Rattle.shared_memory_on_table.specs.declared.view.Caller.{Caller}
 use Rattle.word_row.proofs.Counts.{accesses-HasPages}
-use Rattle.word_row.proofs.row.WordRow.make.Goals as goal
+use Rattle.word_row.proofs.row.WordRow.access.Goals as goal
 
 pub invariant_of-seat : goal.invariant_of-seat
 invariant_of-seat g c =
