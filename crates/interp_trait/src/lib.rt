@@ -6,5 +6,5 @@
 mod gate;
 mod turn;
 
-pub use gate::{Gate, OpenGate};
+pub use gate::{Gate, OpenGate, TrapFrame};
 pub use turn::{Given, TakesTurns, Turn};

@@ -61,4 +61,7 @@ pub trait TakesTurns {
     /// How many units it has spent so far.
     fn spent(&self) -> u64
         ensures { HasSpent (meaning self.now) result };
+
+    /// Tells the gate which functions were under way where it trapped, if it has.
+    fn tell_trap<G: Gate>(&self, name: u32, gate: &G);
 }

@@ -1,7 +1,7 @@
 //! Five threads of one run meet in the middle of it.
 
 use crate::runs::{BOTH, END, Ended, FUEL, Trouble, has_ends, run};
-use interp_trait::Gate;
+use interp_trait::{Gate, TrapFrame};
 use std::alloc::Global;
 use std::sync::Wait;
 use std::sync::atomic::{AtomicU64, Ordering};
@@ -66,6 +66,8 @@ impl Gate for &Meeting {
     }
 
     fn gather(&mut self, _other: &Meeting) {}
+
+    fn trapped(&self, _thread: u32, _frame: TrapFrame) {}
 }
 
 /// Modules that spawn four threads, and how the threads end.

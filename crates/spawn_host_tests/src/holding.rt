@@ -1,6 +1,6 @@
 //! A gate that holds threads back until others have come to some point.
 
-use interp_trait::Gate;
+use interp_trait::{Gate, TrapFrame};
 use std::alloc::{AllocError, Global};
 use std::sync::atomic::{AtomicU64, Ordering};
 use std::thread::yield_now;
@@ -93,4 +93,6 @@ impl Gate for &Holding {
     }
 
     fn gather(&mut self, _other: &Holding) {}
+
+    fn trapped(&self, _thread: u32, _frame: TrapFrame) {}
 }

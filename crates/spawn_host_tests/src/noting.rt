@@ -1,6 +1,6 @@
 //! A gate that writes down every call.
 
-use interp_trait::Gate;
+use interp_trait::{Gate, TrapFrame};
 use std::alloc::{AllocError, Global};
 use std::sync::atomic::{AtomicU64, Ordering};
 
@@ -70,4 +70,6 @@ impl Gate for &Noting {
     }
 
     fn gather(&mut self, _other: &Noting) {}
+
+    fn trapped(&self, _thread: u32, _frame: TrapFrame) {}
 }

@@ -116,7 +116,7 @@ fn steps_to_end<T: TakesTurns, M: SharedMemory, W: Wait + Drop, G: Gate, R: Wait
 /// A lost try and a full log are given to the thread too, which says what they cost: the tries that the seat lost are
 /// as many as the lost tries among the thread's steps, and each costs a unit. The gate is called before each turn, with
 /// the units that are spent: before a turn of the thread's own, before an event that it wants, before the reply, and
-/// before an answer. It isn't promised that this returns: a call of the desk may wait, and a thread of whose
+/// before an answer; where the thread trapped, it hears of that too. It isn't promised that this returns: a call of the desk may wait, and a thread of whose
 /// configuration nothing is defined never ends.
 pub fn run_thread<T: TakesTurns + Drop, M: SharedMemory, W: Wait + Drop, G: Gate, R: Wait>(
     rt: &R,
@@ -133,6 +133,7 @@ pub fn run_thread<T: TakesTurns + Drop, M: SharedMemory, W: Wait + Drop, G: Gate
     ensures last { IsLast M.opening (M.name seat) (M.seen result.seat) }
 {
     let outcome = steps_to_end(rt, &mut thread, memory, &mut seat, desk, &mut gate);
+    thread.tell_trap(memory.name(&seat), &gate);
     desk.end(memory, &mut seat);
     let spent = thread.spent();
     ThreadEnd {
