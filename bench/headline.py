@@ -305,7 +305,7 @@ def main():
     read, unread, counts = read_rows(sections)
     check_fields(sections[""], read)
     ahead, kinds = roots_of(sections[""], 2)
-    more, other = roots_of(sections[COMPLETE], 3)
+    more, other = roots_of(sections[COMPLETE], 4)
     check_needed(read, unread, ahead | more, kinds | other)
     if "--lines" in sys.argv[1:]:
         print("\n".join(["lines   code", *counts]))

@@ -108,7 +108,7 @@ clone forbidden
 other=(setpriv --reuid 54321 --clear-groups "${bare[@]}")
 for _ in 1 2; do ends 0 "$ADDED" "$TOOK" "${other[@]}" "${run[@]}"; done
 ends 5 '' "$TOOK"$'\nfile fault: nothing.wasm' "${other[@]}" ./wathread check nothing.wasm
-ends 0 $'.*all: 1 ending, 303 states\nevery state can end\nevery fair run ends' "$TOOK" "${other[@]}" \
+ends 0 $'.*all: 1 ending, 209 states, no race\nevery state can end\nevery fair run ends' "$TOOK" "${other[@]}" \
     ./wathread search examples/search/peterson.wasm --invoke f --all 2
 [ ! -e crates/wathread/out ] || say "the tree that can't be written has crates/wathread/out"
 [ -z "$(ls -A "$work/temporary")" ] || say "left among the temporary files: $(ls -A "$work/temporary")"

@@ -2,7 +2,7 @@
 # How many runs a second and core `search` makes of a lock that isn't one, with two threads and five rounds, beside a loop of processes
 # that run it. The first counts the processor's time of one job, user and system; the second has malloc keep what is given back.
 # And how long `search --all` takes to go through every order of some locks, and how much memory it takes a state: wanted within a
-# minute and 2 GiB each.
+# minute and 2 GiB each; and how many states it needs of programs in which nothing races, beside every order.
 #
 # search.sh strategies: instead, how many runs each strategy makes until it finds the bug of each program of examples/bugs, the median of
 # SEEDS seeds, and how the mix stands to the best of the others; a search that finds nothing in MOST runs counts as more than MOST.
@@ -56,15 +56,30 @@ gone_through() {
     local name=$1 out user system kib states
     shift
     out=$(/usr/bin/time -f '%U %S %M' -o "$work/took" "$program" search "$top/examples/search/$name.wasm" --invoke f --all \
-        --states 1000000000 "$@" | grep -E '^(not )?all: ')
+        --states 1000000000 --orders all "$@" | grep -E '^(not )?all: ')
     read -r user system kib < <(tail -n 1 "$work/took")
-    states=$(sed -n 's/^all: .* endings*, \([0-9]*\) states*$/\1/p' <<< "$out")
+    states=$(sed -n 's/^all: .* endings*, \([0-9]*\) states*.*$/\1/p' <<< "$out")
     awk -v what="$name $*" -v said="$out" -v n="${states:-0}" -v t="$user" -v u="$system" -v kib="$kib" 'BEGIN {
         s = t + u; if (s <= 0) s = 0.01
         if (!n) { print what ": " said; exit }
         printf "%s: %s; %.1f s, %.0f states a second, %d MiB, %.0f bytes a state\n", what, said, s, n / s, kib / 1024, kib * 1024 / n
     }'
 }
+# The states of a program's search where nothing races, and of every order: compared are the endings.
+looked_through() {
+    local free every
+    free=$("$program" search "$1" --invoke main --all --states 1000000000 | grep -vE '^(every|whether)')
+    every=$("$program" search "$1" --invoke main --all --states 1000000000 --orders all | grep -vE '^(every|whether)')
+    echo "${2:-$(basename "$1" .wasm)}: $(tail -n 1 <<< "$free"); in every order $(tail -n 1 <<< "$every")"
+    [ "$(grep '^thread' <<< "$free" | sort)" = "$(grep '^thread' <<< "$every" | sort)" ] || echo "  OTHER ENDINGS"
+}
+for name in mutex ticket_lock reader_writer_lock bounded_queue read_copy_update barrier seqlock; do
+    looked_through "$top/examples/c/$name.wasm"
+done
+if command -v clang >/dev/null && command -v wasm-ld >/dev/null; then
+    "$top/c/wathread-cc" -O0 "$top/examples/c/mutex.c" -o "$work/mutex-O0.wasm"
+    looked_through "$work/mutex-O0.wasm" "mutex at -O0"
+fi
 gone_through peterson 20
 gone_through mutex 3 3
 gone_through tickets 3 4

@@ -1,5 +1,6 @@
 -- What is printed of a search, where its first lines were written, and then what is told.
-use Rattle.std.proofs.Common.{ℕ, ◌≡◌, ◌≤◌, ◌⊎◌, ◌↔◌, List, [], ◌++◌, All, Option, refl, sym, subst}
+use Rattle.std.proofs.Common.{ℕ, ◌≡◌, ◌≤◌, ◌⊎◌, ◌↔◌, List, [], ◌++◌, All, Option, true, inl, refl, sym, subst, arith}
+use Rattle.std.proofs.KnownBytes.{Appends-nil}
 use Rattle.std.specs.Io.KnownBytes.{Appends}
 use Rattle.replay_forms.proofs.Written.{appends_then}
 use Rattle.spawn_host.specs.Requests.{Requested}
@@ -20,8 +21,9 @@ use Rattle.report_lines.specs.Drawn.{cut_line}
 use Rattle.report.specs.Complete.{complete_lines, AreAllWell, EndsForSure}
 use Rattle.report.specs.Drawn.{table_lines, cut_in}
 use Rattle.report.specs.Endless.{GoesRound, HasNoEnd, HasNoEndless}
-use Rattle.report.specs.Prints.{IsFirstSought, IsToldBehind, PrintsAll, PrintsDrawn, Tells, TellsOfLast, TellsOfNone, TellsOfRun}
-use Rattle.report.specs.Searches.{IsCompleteOf}
+use Rattle.report.specs.Prints.{IsFirstSought, IsStatusOf, IsToldBehind, PrintsAll, PrintsDrawn, Tells, TellsOfLast, TellsOfNone, TellsOfRun, stops_behind}
+use Rattle.report.specs.Racing.{IsWhole, TellsOfRacing, allows}
+use Rattle.report.specs.declared.whole.Whole.{Whole}
 
 -- what is told behind a text
 pub told_behind : (Says : List ℕ → Type 0) (a b c : Option (List ℕ)) (x : List ℕ) → Appends a b x → Tells (change b c) Says
@@ -65,25 +67,53 @@ well_has_none s t all well l is =
     let sure : EndsForSure l = subst EndsForSure same well.sure.live.2 in
     (no_end t l sure, λ c. no_round t l c sure)
 
-module _ (r : Requested) (s : Search) (asked : IsAskedBy s.call r) (save : WriterChange) (status : ℕ)
-    (before between after : Option (List ℕ)) where
-  pub prints_all : (most : ℕ) (all : Ended Ending) → IsCompleteOf r s.sought.dump all
-      → Appends before between (complete_lines most all) → (status ≡ 0) ↔ AreAllWell s.sought all → status ≤ 1
-      → Tells (change between after) (λ text. IsToldBehind r s all text save)
-      → PrintsAll r.parts s most (change before after) save status
-  prints_all most all complete lines well statuses told = record {
+-- that a first one is looked for leaves the status at 1, and so do what isn't well and what isn't allowed
+pub status_1 : (s : Search) (w : Whole) → (AreAllWell s.sought w.all × (allows s.allow_races w.racing ≡ true) → ⊥) → IsStatusOf s w 1
+status_1 s w none = record {
+  well = ((λ one. absurd (omega (arith, one))), (λ well. absurd (none well)));
+  statuses = omega arith;
+}
+
+pub status_0 : (s : Search) (w : Whole) → AreAllWell s.sought w.all → allows s.allow_races w.racing ≡ true → IsStatusOf s w 0
+status_0 s w well allowed = record { well = ((λ _. (well, allowed)), (λ _. refl)); statuses = omega arith }
+
+-- nothing is told
+pub tells_nothing : (q : Requested) (s : Search) (w : Whole) (a : Option (List ℕ)) (save : WriterChange) → save.new ≡ save.old
+    → (stops_behind s ≡ true → All (λ e. IsLookedFor s.sought e → ⊥) w.all.endings.keys)
+    → (stops_behind s ≡ true → HasNoEndless s.sought.target w.all.liveness)
+    → Tells (change a a) (λ text. IsToldBehind q s w text save)
+tells_nothing q s w a save same unsought endless = (
+  [],
+  Appends-nil a,
+  inl (record { text_is = refl; kept = same; unsought = unsought; endless = endless }),
+)
+
+module _ (r : Requested) (s : Search) (asked : IsAskedBy s.call r) (status : ℕ)
+    (before raced between after : Option (List ℕ)) (saved kept last : Option (List ℕ)) where
+  pub prints_all : (most : ℕ) (w : Whole) → IsWhole r s w
+      → Tells (change before raced) (λ text. TellsOfRacing r s w.racing text (change saved kept))
+      → Appends raced between (complete_lines most w.racing w.all)
+      → Tells (change between after) (λ text. IsToldBehind r s w text (change kept last))
+      → IsStatusOf s w status
+      → PrintsAll r.parts s most (change before after) (change saved last) status
+  prints_all most w is_whole race lines told is_status = record {
     request = r;
     parts_are = refl;
     asked = asked;
-    all = all;
-    complete = complete;
+    whole = w;
+    is_whole = is_whole;
+    race = race.0;
+    kept = kept;
+    tells_race = race.2;
     told = told.0;
-    lines = appends_then before between after (complete_lines most all) told.0 lines told.1;
+    lines = appends_then before raced after race.0 _ race.1
+        (appends_then raced between after (complete_lines most w.racing w.all) told.0 lines told.1);
     says = told.2;
-    well = well;
-    statuses = statuses;
+    status_is = is_status;
   }
 
+module _ (r : Requested) (s : Search) (asked : IsAskedBy s.call r) (save : WriterChange) (status : ℕ)
+    (before between after : Option (List ℕ)) where
   pub prints_drawn : (cut : Option (List ℕ)) (table : Table) → AreNoted r s.sought table
       → Appends before between (table_lines s.sought table) → Appends between cut (cut_line (cut_in table) s.sought.limit)
       → Tells (change cut after) (λ text. ((status ≡ 1) × TellsOfLast r s table text save) ⊎ TellsOfNone s table text save status)

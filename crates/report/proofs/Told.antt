@@ -27,3 +27,9 @@ told_of Is l k m n rows others log parts alike is =
     subst (λ (x : List (Option Row)). Is k (kinds_in n x (length k))) alike
     (subst (λ (x : Parts). Is k (kinds_in x rows (length k))) parts
     (subst (λ (x : List Entry). Is x (kinds_in m rows (length x))) log is))
+
+-- the kinds of the same entries, in the same module, by the same rows
+pub kinds_alike : (l k : List Entry) (m n : Parts) (rows others : List (Option Row)) → l ≡ k → m ≡ n → rows ≡ others
+    → kinds_in m rows (length l) ≡ kinds_in n others (length k)
+kinds_alike l k m n rows others log parts alike =
+    told_of (λ _ kinds. kinds_in m rows (length l) ≡ kinds) l k m n rows others log parts alike refl

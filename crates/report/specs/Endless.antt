@@ -64,3 +64,13 @@ path_of (Round path round) = path.now
 abbrev pub endless_line : EndlessRun → ℕ → List ℕ
 endless_line (ToNoEnd path) entries = no_end_line entries
 endless_line (Round path round) entries = for_ever_line entries
+
+-- Both come to where none ends, or both go round.
+abbrev pub IsAlike : EndlessRun → EndlessRun → Type 0
+IsAlike (ToNoEnd path) (ToNoEnd other) = Unit {0}
+IsAlike (Round path round) (Round other again) = Unit {0}
+IsAlike run other = ⊥
+
+-- A run by the choices that were noted; or one like it, where those leave plain accesses out, with these filled in.
+abbrev pub IsFilled : Bool → EndlessRun → EndlessRun → Type 0
+IsFilled is_free known run = IsAlike known run × (is_free ≡ false → run ≡ known)

@@ -4,5 +4,6 @@ pub mod Complete
 pub mod Drawn
 pub mod Endless
 pub mod Searches
+pub mod Racing
 pub mod Prints
 pub mod Silent

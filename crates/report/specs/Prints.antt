@@ -1,6 +1,6 @@
 -- What is printed of a search, and what is written of what it found.
-use Rattle.std.specs.Prelude.{ℕ, ◌≡◌, ◌≢◌, ◌≤◌, ◌<◌, ◌+◌, ◌-◌, ◌⊎◌, ◌↔◌, All, Bool, List, [], ◌++◌, length, take, true, false}
-use Rattle.std.specs.Prelude.{Some, is_none, is_some, option_map, unwrap_or, slice_index_or}
+use Rattle.std.specs.Prelude.{ℕ, ◌≡◌, ◌≢◌, ◌≤◌, ◌<◌, ◌+◌, ◌-◌, ◌⊎◌, ◌↔◌, ◌&&◌, not, All, Bool, List, [], ◌++◌, length, take, true, false}
+use Rattle.std.specs.Prelude.{Option, Some, is_none, is_some, option_map, unwrap_or, slice_index_or}
 use Rattle.std.specs.List.{slice_get}
 use Rattle.std.specs.Io.KnownBytes.{Appends}
 use Rattle.types.specs.declared.parts.Parts.{Parts}
@@ -24,12 +24,14 @@ use Rattle.report_lines.specs.Drawn.{cut_line}
 use Rattle.report_lines.specs.Found.{found_run_line, found_ending_line, without_run_line}
 use Rattle.report_lines.specs.Lines.{end_lines}
 use Rattle.report_jobs.specs.Asked.{IsAskedBy}
-use Rattle.report_jobs.specs.Prints.{WriterChange, KeepsRecord}
+use Rattle.report_jobs.specs.Prints.{WriterChange, change, KeepsRecord}
 use Rattle.report.specs.Complete.{complete_lines, threads_end_well, AreAllWell}
 use Rattle.report.specs.Drawn.{table_lines, cut_in, behind_text, sizes_if}
-use Rattle.report.specs.Endless.{HasNoEndless, IsKnown, endless_line, path_of}
-use Rattle.report.specs.Searches.{Finds, IsCompleteOf, IsWellAt}
+use Rattle.report.specs.Endless.{HasNoEndless, IsKnown, IsFilled, endless_line, path_of}
+use Rattle.report.specs.Racing.{IsWhole, TellsOfRacing, allows}
+use Rattle.report.specs.Searches.{Finds, IsWellAt}
 use Rattle.report.specs.declared.all.EndlessRun.{EndlessRun}
+use Rattle.report.specs.declared.whole.Whole.{Whole}
 
 -- A text that says so was written behind what stood there.
 abbrev pub Tells : WriterChange → (List ℕ → Type 0) → Type 0
@@ -123,11 +125,14 @@ abbrev pub TellsOfOne : Requested → Search → List ℕ → ℕ → Ending →
 TellsOfOne q s choices number ending text save =
     TellsOfMet q s choices number ending text save ⊎ TellsOfNoRun q s choices number ending text save
 
-pub record TellsOfFirst (q : Requested) (s : Search) (all : Ended Ending) (text : List ℕ) (save : WriterChange) : Type 0 where
+-- Of a search that makes plain accesses at once they are filled in.
+pub record TellsOfFirst (q : Requested) (s : Search) (w : Whole) (text : List ℕ) (save : WriterChange) : Type 0 where
   pub number : ℕ
   pub ending : Ending
-  pub is_first : IsFirstSought s.sought all.endings.keys number ending
-  pub tells : TellsOfOne q s (choices_at all (number - 1)) number ending text save
+  pub is_first : IsFirstSought s.sought w.all.endings.keys number ending
+  pub choices : List ℕ
+  pub noted : w.is_free ≡ false → choices ≡ choices_at w.all (number - 1)
+  pub tells : TellsOfOne q s choices number ending text save
 
 -- Where none is, a run by the call that never ends: after how many entries it is sure not to, and its lines; and the
 -- record that was written, where one is wanted, is its own.
@@ -139,38 +144,54 @@ pub record TellsOfEndless (q : Requested) (s : Search) (run : EndlessRun) (text 
   pub text_is : text ≡ endless_line run entries ++ run_lines s made
   pub kept : KeepsRecord (is_some s.save) save made.record
 
-pub record TellsOfKnown (q : Requested) (s : Search) (all : Ended Ending) (text : List ℕ) (save : WriterChange) : Type 0 where
-  pub run : EndlessRun
-  pub known : IsKnown s.sought.target all.liveness run
-  pub unsought : All (λ e. IsLookedFor s.sought e → ⊥) all.endings.keys
-  pub tells : TellsOfEndless q s run text save
+-- With plain accesses filled in, where the choices leave them out.
+abbrev pub TellsOfFilled : Requested → Search → Bool → EndlessRun → List ℕ → WriterChange → Type 0
+TellsOfFilled q s is_free known text save =
+    (run : EndlessRun) × IsFilled is_free known run × TellsOfEndless q s run text save
+
+pub record TellsOfKnown (q : Requested) (s : Search) (w : Whole) (text : List ℕ) (save : WriterChange) : Type 0 where
+  pub known : EndlessRun
+  pub is_known : IsKnown s.sought.target w.all.liveness known
+  pub unsought : All (λ e. IsLookedFor s.sought e → ⊥) w.all.endings.keys
+  pub tells : TellsOfFilled q s w.is_free known text save
+
+-- A search stops at an ending that is looked for, or a run that never ends, unless a race is looked for.
+abbrev pub stops_behind : Search → Bool
+stops_behind s = s.sought.stops && not s.races
 
 -- Nothing is told, where the search doesn't stop at what is looked for, or there is none.
 pub record TellsNothing (s : Search) (all : Ended Ending) (text : List ℕ) (save : WriterChange) : Type 0 where
   pub text_is : text ≡ []
   pub kept : save.new ≡ save.old
-  pub unsought : s.sought.stops ≡ true → All (λ e. IsLookedFor s.sought e → ⊥) all.endings.keys
-  pub endless : s.sought.stops ≡ true → HasNoEndless s.sought.target all.liveness
+  pub unsought : stops_behind s ≡ true → All (λ e. IsLookedFor s.sought e → ⊥) all.endings.keys
+  pub endless : stops_behind s ≡ true → HasNoEndless s.sought.target all.liveness
 
 -- What is told behind the lines of a search through every order of entries. Where it doesn't stop, nothing.
-abbrev pub IsToldBehind : Requested → Search → Ended Ending → List ℕ → WriterChange → Type 0
-IsToldBehind q s all text save =
-    TellsNothing s all text save
-    ⊎ ((s.sought.stops ≡ true) × (TellsOfFirst q s all text save ⊎ TellsOfKnown q s all text save))
+abbrev pub IsToldBehind : Requested → Search → Whole → List ℕ → WriterChange → Type 0
+IsToldBehind q s w text save =
+    TellsNothing s w.all text save
+    ⊎ ((stops_behind s ≡ true) × (TellsOfFirst q s w text save ⊎ TellsOfKnown q s w text save))
 
--- What was written are the lines of what was found of all runs of the module by the call that was asked for, and what is
--- told behind them. The status is 0 where all is well, and else 1.
+-- The status is 0 where all is well, and there are no races or these are allowed, and else 1.
+pub record IsStatusOf (s : Search) (w : Whole) (status : ℕ) : Type 0 where
+  pub well : (status ≡ 0) ↔ (AreAllWell s.sought w.all × (allows s.allow_races w.racing ≡ true))
+  pub statuses : status ≤ 1
+
+-- What was written are the lines of a race, where one was found; those of what was found of all runs of the module by the
+-- call that was asked for; and what is told behind them.
 pub record PrintsAll (m : Parts) (s : Search) (most : ℕ) (out save : WriterChange) (status : ℕ) : Type 0 where
   pub request : Requested
   pub parts_are : request.parts ≡ m
   pub asked : IsAskedBy s.call request
-  pub all : Ended Ending
-  pub complete : IsCompleteOf request s.sought.dump all
+  pub whole : Whole
+  pub is_whole : IsWhole request s whole
+  pub race : List ℕ
+  pub kept : Option (List ℕ)
+  pub tells_race : TellsOfRacing request s whole.racing race (change save.old kept)
   pub told : List ℕ
-  pub lines : Appends out.old out.new (complete_lines most all ++ told)
-  pub says : IsToldBehind request s all told save
-  pub well : (status ≡ 0) ↔ AreAllWell s.sought all
-  pub statuses : status ≤ 1
+  pub lines : Appends out.old out.new (race ++ (complete_lines most whole.racing whole.all ++ told))
+  pub says : IsToldBehind request s whole told (change kept save.new)
+  pub status_is : IsStatusOf s whole status
 
 -- What is printed of a search of drawn runs.
 abbrev pub IsDrawn : Parts → Search → WriterChange → WriterChange → ℕ → Type 0

@@ -1,5 +1,6 @@
 -- What is said of the races of a record's run.
 use Rattle.std.specs.Prelude.{ℕ, ◌≡◌, ◌≤◌, Bool, true, false, List, length, replicate, Option, None, Ok}
+use Rattle.std.specs.Io.KnownBytes.{Appends}
 use Rattle.types.specs.declared.parts.Parts.{Parts}
 use Rattle.validate_typing.specs.Validity.{IsValid}
 use Rattle.binary.specs.Grammar.{IsModuleText}
@@ -20,7 +21,7 @@ use Rattle.show_rows.specs.declared.listing.Shown.{Shown}
 use Rattle.show_rows.specs.declared.listing.Story.{Story}
 use Rattle.show_races.specs.Kinds.{kinds_in}
 use Rattle.show_races.specs.Told.{AreApart, HasNoRace, TellsEach}
-use Rattle.show_races.specs.Written.{TellsRaces}
+use Rattle.show_races.specs.Written.{SaysRace, TellsRaces}
 use Rattle.show_races.specs.declared.found.Races.{Races}
 use Rattle.report_jobs.specs.Prints.{WriterChange}
 
@@ -92,3 +93,28 @@ SaysOf m saved false = IsRaceFree m saved
 
 abbrev pub OfModule : (Parts → List ℕ → Type 0) → List ℕ → List ℕ → Type 0
 OfModule Is bytes saved = (m : Parts) × IsModuleText bytes m × IsValid m × Is m saved
+
+-- The record of a run of the module as it is shown, with its rows.
+pub record IsShownOf (m : Parts) (r : RecordParts) (rows : List (Option Row)) (shown : Shown) (story : Story) : Type 0 where
+  pub of_record : shown.record.now ≡ r
+  pub of_rows : shown.rows.now ≡ rows
+  pub of_module : shown.code.now.parts.now ≡ m
+  pub is_story : IsStoryOf shown.record.now.log story
+
+-- The text says of two entries of a run's record that they race, in the words of `races`, and they do.
+pub record SaysPair (m : Parts) (r : RecordParts) (text : List ℕ) : Type 0 where
+  pub rows : List (Option Row)
+  pub end : EndState
+  pub run : IsRunOf m r end
+  pub rows_are : AreRowsOf m r end rows
+  pub shown : Shown
+  pub story : Story
+  pub is_shown : IsShownOf m r rows shown story
+  pub race : Race
+  pub is_race : IsLastRace r.log (kinds_of m r rows) race
+  pub says : SaysRace shown story (kinds_of m r rows) race text
+
+-- So the first race of a run is written, where it has one.
+abbrev pub WritesPair : Parts → RecordParts → WriterChange → Bool → Type 0
+WritesPair m r out true = (text : List ℕ) × Appends out.old out.new text × SaysPair m r text
+WritesPair m r out false = out.new ≡ out.old

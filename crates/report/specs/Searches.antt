@@ -1,5 +1,5 @@
 -- What is kept of a search.
-use Rattle.std.specs.Prelude.{ℕ, ◌≡◌, ◌≢◌, ◌≤◌, ◌⊎◌, All, List, [], true, is_some}
+use Rattle.std.specs.Prelude.{ℕ, ◌≡◌, ◌≢◌, ◌≤◌, ◌⊎◌, All, List, [], true, false, is_some}
 use Rattle.std.specs.Io.KnownBytes.{Appends}
 use Rattle.types.specs.declared.value.Value.{Value}
 use Rattle.types.specs.declared.parts.Parts.{Parts}
@@ -17,6 +17,7 @@ use Rattle.search_runs.specs.Theorems.{CanReach}
 use Rattle.search_endings.specs.Endings.{Ending}
 use Rattle.search_modules.specs.Endings.{HasEveryEnding, AllCanEndSo}
 use Rattle.search_modules.specs.Liveness.{CanStillEnd, HasFairRun, CountsStates, SaysWhereAll}
+use Rattle.search_modules.specs.Races.{NeverRaces}
 use Rattle.search_modules.specs.Returned.{IsCall}
 use Rattle.search_finds.specs.Finds.{EndsAsLookedFor, IsLookedFor}
 use Rattle.report_command.specs.declared.search.Search.{Search}
@@ -24,6 +25,7 @@ use Rattle.report_jobs.specs.Arguments.{AreSpelled, texts_in}
 use Rattle.report_jobs.specs.Prints.{WriterChange, KeepsRecord}
 use Rattle.report.specs.Complete.{all_end_well}
 use Rattle.report.specs.Endless.{FindsEndless}
+use Rattle.report.specs.Raced.{SaysPair}
 use Rattle.report_jobs.specs.declared.running.Trouble.{Trouble}
 use Rattle.report_jobs.specs.declared.running.Trouble.TheVariants as troubles
 
@@ -59,12 +61,31 @@ KeepsNoneOrFind m s save = (save.new ≡ save.old) ⊎ IsFindKept m s save
 abbrev pub KeepsNoneOrEndless : Parts → Search → WriterChange → Type 0
 KeepsNoneOrEndless m s save = (save.new ≡ save.old) ⊎ IsEndlessKept m s save
 
--- Nothing was found and nothing written, or a run was found, and the status is 1.
+-- Where races are looked for, a run of the module by the call that was asked for, in which two accesses race; and its
+-- record was written, where one is wanted.
+pub record IsRaceKept (m : Parts) (s : Search) (save : WriterChange) : Type 0 where
+  pub looked_for : s.races ≡ true
+  pub args : List Value
+  pub spelled : AreSpelled (texts_in s.call.args.items) args
+  pub record_is : RecordParts
+  pub end : EndState
+  pub run : IsRunOf m record_is end
+  pub of_call : IsOfCall m s.call.invoke.now args s.call.fuel s.sought.limit record_is
+  pub text : List ℕ
+  pub pair : SaysPair m record_is text
+  pub kept : KeepsRecord (is_some s.save) save record_is
+
+abbrev pub KeepsNoneOrRace : Parts → Search → WriterChange → Type 0
+KeepsNoneOrRace m s save = (save.new ≡ save.old) ⊎ IsRaceKept m s save
+
+-- Nothing was found and nothing written, or a run was found, and the status is 1; or a run with a race was, which may be
+-- allowed.
 abbrev pub IsKept : Parts → Search → WriterChange → Type 0
 IsKept m s save = IsFindKept m s save ⊎ IsEndlessKept m s save
 
 abbrev pub Finds : Parts → Search → WriterChange → ℕ → Type 0
-Finds m s save status = ((status ≤ 1) × (save.new ≡ save.old)) ⊎ ((status ≡ 1) × IsKept m s save)
+Finds m s save status =
+    ((status ≤ 1) × (save.new ≡ save.old)) ⊎ (((status ≡ 1) × IsKept m s save) ⊎ ((status ≤ 1) × IsRaceKept m s save))
 
 -- They are all endings of a call, where that is said; and each is one.
 abbrev pub FindsEvery : Requested → ℕ → Ended Ending → Type 0
@@ -89,7 +110,8 @@ pub record IsSureToEnd (m : Parts) (entry : List ℕ) (args : List Value) (dump 
   pub fair_runs_end : HasFairRun called → ⊥
 
 -- Runs of the module by the call that was asked for can end; each that ends, all its threads with units and room enough,
--- ends well and otherwise than is looked for: all threads' functions returned; and they are sure to end.
+-- ends well and otherwise than is looked for: all threads' functions returned; and they are sure to end. No run has a
+-- race, where races aren't allowed and every order isn't gone through at once.
 pub record EndWell (m : Parts) (s : Search) : Type 0 where
   pub args : List Value
   pub spelled : AreSpelled (texts_in s.call.args.items) args
@@ -100,6 +122,7 @@ pub record EndWell (m : Parts) (s : Search) : Type 0 where
   pub well : all_end_well endings ≡ true
   pub unsought : All (λ e. IsLookedFor s.sought e → ⊥) endings
   pub sure : IsSureToEnd m s.call.invoke.now args s.sought.dump
+  pub free : s.allow_races ≡ false → s.every_order ≡ false → NeverRaces m s.call.invoke.now args
 
 -- What status 0 says of a search through every order of entries.
 abbrev pub IsWellAt : Parts → Search → ℕ → Type 0

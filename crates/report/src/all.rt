@@ -4,24 +4,26 @@ ghost use Rattle.replay_forms.specs.Texts.{Wrote};
 ghost use Rattle.search_finds.specs.Finds.{IsLookedFor};
 ghost use Rattle.report_jobs.specs.Asked.{IsAskedBy};
 ghost use Rattle.report.specs.Endless as specified;
-ghost use Rattle.report.specs.Endless.{FindsEndless, HasNoEndless, IsKnown, IsKnownIn, HasNoEnd, GoesRound, endless_line};
+ghost use Rattle.report.specs.Endless.{FindsEndless, HasNoEndless, IsAlike, IsKnown, IsKnownIn, HasNoEnd, GoesRound, endless_line};
 ghost use Rattle.report.specs.Prints as specified_prints;
-ghost use Rattle.report.specs.Prints.{IsFirstSought, PrintsAll, Tells, TellsOfEndless, TellsOfOne};
-ghost use Rattle.report.specs.Searches.{Finds, IsCompleteOf, KeepsNoneOrFind, KeepsNoneOrEndless};
+ghost use Rattle.report.specs.Prints.{IsFirstSought, IsStatusOf, IsToldBehind, PrintsAll, Tells, TellsOfEndless, TellsOfFilled, TellsOfOne};
+ghost use Rattle.report.specs.Searches.{Finds, KeepsNoneOrFind, KeepsNoneOrEndless};
 ghost use Rattle.report.specs.Searches.{IsOfSystem, IsWellAt};
 ghost use Rattle.report_jobs.specs.Prints.{changed};
 ghost use Rattle.report_jobs.specs.Silence.{Stays};
 
 use crate::complete::{Complete, are_well, write_complete};
-use crate::searching::{no_memory, tell_made};
+use crate::raced::tell_race;
+use crate::searching::{Asked, no_memory, tell_made};
+use crate::whole::{Whole, first_look, whole_of};
 use report_choice::{Find, Target};
 use report_command::{Search, Sought};
 use report_jobs::{Trouble, keep, print};
 use report_lines::{write_for_ever, write_found_ending, write_no_end, write_without_run};
 use search_endings::Ending;
 use search_finds::{Hears, entries_leading, is_looked_for, run_round, run_to};
-use search_modules::all_endings;
-use search_reach::{FairRuns, Follows, Liveness};
+use search_modules::turn_choices;
+use search_reach::{FairRuns, Liveness};
 use spawn_host::Request;
 use std::alloc::{AllocError, Global};
 use std::io::{self, Write};
@@ -41,20 +43,6 @@ pub(crate) enum EndlessRun<'a> {
     ToNoEnd(&'a [usize]),
     /// To where it goes round, and once round.
     Round(&'a [usize], &'a [usize]),
-}
-
-/// Goes through every order of the entries of a call.
-fn all_of<F: Follows>(
-    alloc: Global,
-    request: &Request,
-    most: u32,
-    dump: u32,
-    follower: &mut F,
-) -> Result<Complete, Trouble>
-    ensures complete { IfOk result (IsCompleteOf request.now dump) }
-    ensures trouble { IfErr result IsOfSystem }
-{
-    Ok(all_endings(alloc, request, most, dump as usize, follower)?)
 }
 
 /// The choices that were noted of the ending at a place of the list.
@@ -215,6 +203,16 @@ impl EndlessRun<'_> {
         }
     }
 
+    /// One like it, by other choices.
+    fn along<'b>(&self, path: &'b [usize], round: &'b [usize]) -> EndlessRun<'b>
+        ensures { IsAlike self.now result }
+    {
+        match self {
+            EndlessRun::ToNoEnd(_) => EndlessRun::ToNoEnd(path),
+            EndlessRun::Round(_, _) => EndlessRun::Round(path, round),
+        }
+    }
+
     /// The choices of the round that it goes then, if it goes one.
     fn round(&self) -> &[usize] {
         match self {
@@ -265,52 +263,184 @@ fn tell_endless<W: Write, S: Write>(
     Ok(())
 }
 
-/// Goes through every order of the entries of a call, prints the endings, whether these are all, and what never ends;
-/// and of the first ending that is looked for the lines of a run that ends so, or where none is, those of a run that
-/// never ends; and writes its record, where one is wanted. Answers the status: 1 where such an ending was found, one
-/// has a trap or a stop, there is none, they are not all, or something never ends, and else 0.
-pub(crate) fn search_all_orders<F: Hears, W: Write, S: Write>(
+/// The choices of each event along those that were noted, where these leave plain accesses out.
+fn filled(
+    alloc: Global,
+    request: &Request,
+    dump: u32,
+    is_free: bool,
+    noted: &[usize],
+) -> Result<Option<Vec<usize>>, AllocError>
+    ensures { IfOk result (λ o. is_free ≡ false → o ≡ None) }
+{
+    if !is_free {
+        return Ok(None);
+    }
+    let choices = turn_choices(alloc, request, dump as usize, noted)?;
+    Ok(Some(choices))
+}
+
+/// Those, or the ones that were noted.
+fn choices_in<'a>(filled: &'a Option<Vec<usize>>, noted: &'a [usize]) -> &'a [usize]
+    ensures { filled.now ≡ None → result.now ≡ noted.now }
+{
+    match filled {
+        Some(choices) => choices.as_slice(),
+        None => noted,
+    }
+}
+
+/// The choices of each event to where it is sure that a run never ends, and once round.
+#[derive(Drop)]
+struct Course {
+    path: Vec<usize>,
+    round: Vec<usize>,
+}
+
+/// Those of a run of which choices were noted that leave plain accesses out.
+fn course_of(
+    alloc: Global,
+    request: &Request,
+    dump: u32,
+    run: &EndlessRun,
+) -> Result<Course, AllocError> {
+    let path = turn_choices(alloc, request, dump as usize, run.path())?;
+    let mut noted = Vec::new(alloc);
+    noted.extend_from_slice(run.path())?;
+    noted.extend_from_slice(run.round())?;
+    let all = turn_choices(alloc, request, dump as usize, noted.as_slice())?;
+    let mut round = Vec::new(alloc);
+    for place in path.len()..all.len() {
+        round.push(all[place])?;
+    }
+    Ok(Course { path, round })
+}
+
+/// Tells of a run that never ends, by the choices of each event.
+fn tell_known<W: Write, S: Write>(
     alloc: Global,
     request: &Request,
     search: &Search,
-    most: u32,
+    is_free: bool,
+    run: &EndlessRun,
+    out: &mut W,
+    save: &mut S,
+) -> Result<(), Trouble>
+    requires asked { IsAskedBy search.now.call request.now }
+    requires every_order { is_some search.now.all ≡ true }
+    requires sought { FindsEndless search.now.sought.target }
+    ensures kept { IfOk result
+        (λ _. KeepsNoneOrEndless request.now.parts search.now (changed S.contents save.old save.new)) }
+    ensures tells { IfOk result (λ _. Tells (changed W.contents out.old out.new)
+        (λ text. TellsOfFilled request.now search.now is_free run.now text (changed S.contents save.old save.new))) }
+    ensures unwanted { is_some search.now.save ≡ false → Stays save.old save.new }
+    ensures trouble { IfErr result IsOfSystem }
+{
+    if !is_free {
+        return tell_endless(alloc, request, search, run, out, save);
+    }
+    let course = course_of(alloc, request, search.sought.dump, run)?;
+    let run = run.along(course.path.as_slice(), course.round.as_slice());
+    tell_endless(alloc, request, search, &run, out, save)
+}
+
+/// Whether a search stops at an ending that is looked for, or a run that never ends.
+fn stops_behind(search: &Search) -> bool
+    ensures { result ≡ specified_prints.stops_behind search.now }
+{
+    search.sought.stops && !search.races
+}
+
+/// Tells of the first ending that is looked for the lines of a run that ends so, or where none is, those of a run that
+/// never ends; and writes its record, where one is wanted. Answers the status: 1 where such an ending was found, one
+/// has a trap or a stop, there is none, they are not all, something never ends, or there are races, which aren't
+/// allowed; and else 0.
+fn tell_behind<F: Hears, W: Write, S: Write>(
+    alloc: Global,
+    request: &Request,
+    search: &Search,
+    whole: &Whole,
     follower: &mut F,
     out: &mut W,
     save: &mut S,
 ) -> Result<u8, Trouble>
     requires asked { IsAskedBy search.now.call request.now }
-    requires every_order { search.now.all ≡ Some most }
+    requires every_order { is_some search.now.all ≡ true }
     ensures finds { IfOk result (Finds request.now.parts search.now (changed S.contents save.old save.new)) }
-    ensures prints { IfOk result
-        (PrintsAll request.now.parts search.now most (changed W.contents out.old out.new)
-        (changed S.contents save.old save.new)) }
-    ensures well { IfOk result (IsWellAt request.now.parts search.now) }
+    ensures tells { IfOk result (λ _. Tells (changed W.contents out.old out.new) (λ text.
+        IsToldBehind request.now search.now whole.now text (changed S.contents save.old save.new))) }
+    ensures status { IfOk result (IsStatusOf search.now whole.now) }
+    ensures quiet { specified_prints.stops_behind search.now ≡ false → Stays save.old save.new }
     ensures unwanted { is_some search.now.save ≡ false → Stays save.old save.new }
     ensures trouble { IfErr result IsOfSystem }
 {
-    let all = all_of(alloc, request, most, search.sought.dump, follower)?;
-    follower.end();
-    write_complete(out, &all, most)?;
-    let first = first_sought(alloc, &all, &search.sought)?;
-    let stops = search.sought.stops;
+    let first = first_sought(alloc, &whole.all, &search.sought)?;
+    let stops = stops_behind(search);
     if let Some(first) = first {
         if !stops {
             return Ok(1);
         }
-        tell_sought(alloc, request, search, first, follower, out, save)?;
+        let filled = filled(
+            alloc,
+            request,
+            search.sought.dump,
+            whole.is_free,
+            first.choices,
+        )?;
+        let sought = SoughtEnding {
+            choices: choices_in(&filled, first.choices),
+            ..first
+        };
+        tell_sought(alloc, request, search, sought, follower, out, save)?;
         return Ok(1);
     }
-    if are_well(&all, &search.sought) {
+    if are_well(&whole.all, &search.sought) {
+        if !whole.racing.is_allowed(search.allow_races) {
+            return Ok(1);
+        }
         return Ok(0);
     }
     if !stops {
         return Ok(1);
     }
-    match endless_run(&all.liveness, search.sought.target) {
+    match endless_run(&whole.all.liveness, search.sought.target) {
         Some(run) => {
-            tell_endless(alloc, request, search, &run, out, save)?;
+            tell_known(alloc, request, search, whole.is_free, &run, out, save)?;
             Ok(1)
         }
         None => Ok(1),
     }
+}
+
+/// Goes through all runs of a call: where no threads race by the orders that matter then, and else through every order
+/// of their entries. Tells a race that it found, prints the endings, whether these are all, what is known of races, and
+/// what never ends; then what is told behind that. Answers the status.
+pub(crate) fn search_all_orders<F: Hears, W: Write, S: Write>(
+    alloc: Global,
+    request: &Request,
+    asked: Asked,
+    most: u32,
+    follower: &mut F,
+    out: &mut W,
+    save: &mut S,
+) -> Result<u8, Trouble>
+    requires asked { IsAskedBy asked.entry.search.now.call request.now }
+    requires every_order { asked.entry.search.now.all ≡ Some most }
+    ensures finds { IfOk result
+        (Finds request.now.parts asked.entry.search.now (changed S.contents save.old save.new)) }
+    ensures prints { IfOk result
+        (PrintsAll request.now.parts asked.entry.search.now most (changed W.contents out.old out.new)
+        (changed S.contents save.old save.new)) }
+    ensures well { IfOk result (IsWellAt request.now.parts asked.entry.search.now) }
+    ensures unwanted { is_some asked.entry.search.now.save ≡ false → Stays save.old save.new }
+    ensures trouble { IfErr result IsOfSystem }
+{
+    let search = asked.search;
+    let look = first_look(alloc, request, search, most, follower)?;
+    follower.end();
+    tell_race(alloc, request, asked, &look, out, save)?;
+    let whole = whole_of(alloc, request, search, most, look, follower)?;
+    follower.end();
+    write_complete(out, &whole.all, most, whole.racing)?;
+    tell_behind(alloc, request, search, &whole, follower, out, save)
 }

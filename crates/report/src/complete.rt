@@ -2,13 +2,15 @@
 ghost use Rattle.std.specs.Prelude.{◌≡◌, ◌↔◌, true, All, length};
 ghost use Rattle.replay_forms.specs.Texts.{Wrote};
 ghost use Rattle.search_finds.specs.Finds.{IsLookedFor};
-ghost use Rattle.report.specs.Complete.{fair_runs_line, liveness_lines, verdict_line, complete_lines};
+ghost use Rattle.report.specs.Complete.{all_line, fair_runs_line, liveness_lines, unknown_text, verdict_line, complete_lines};
+ghost use Rattle.report_lines.specs.Complete.{counted};
 ghost use Rattle.report.specs.Complete.{threads_end_well, all_end_well, EndsForSure, IsSure, AreAllWell};
 
+use crate::whole::Racing;
 use report_command::Sought;
 use report_lines::{
-    is_done, write_all_met, write_cannot_end, write_cannot_tell, write_cycle, write_endings,
-    write_fair_runs_end, write_told, write_too_many, write_unknown,
+    is_done, write_cannot_end, write_cannot_tell, write_cycle, write_endings, write_fair_runs_end,
+    write_told, write_too_many, write_unknown,
 };
 use search_endings::Ending;
 use search_reach::{Ended, FairRuns, Liveness, Verdict};
@@ -39,26 +41,67 @@ fn write_liveness<W: Write>(out: &mut W, liveness: &Option<Liveness>) -> io::Res
     write_fair_runs(out, &liveness.fair_runs)
 }
 
+/// So many of a thing.
+fn write_counted<W: Write>(
+    out: &mut W,
+    count: usize,
+    one: &'static str,
+    more: &'static str,
+) -> io::Result<()>
+    ensures { Wrote W.contents out.old out.new result (counted count one.now more.now) }
+{
+    let form = if count == 1 { one } else { more };
+    write!(out, "{count} {form}")
+}
+
+/// The line that says that so many endings are all, how many states there are, and what is known of races.
+fn write_all<W: Write>(out: &mut W, endings: usize, states: usize, racing: Racing) -> io::Result<()>
+    ensures { Wrote W.contents out.old out.new result (all_line endings states racing) }
+{
+    write!(out, "all: ")?;
+    write_counted(out, endings, "ending", "endings")?;
+    write!(out, ", ")?;
+    write_counted(out, states, "state", "states")?;
+    let words = racing.words();
+    write!(out, "{words}\n")
+}
+
 /// The line that says whether the endings are all.
-fn write_verdict<W: Write>(out: &mut W, all: &Complete, most: u32) -> io::Result<()>
+fn write_verdict<W: Write>(out: &mut W, all: &Complete, most: u32, racing: Racing) -> io::Result<()>
     ensures { Wrote W.contents out.old out.new result
-        (verdict_line all.now.verdict most (length all.now.endings.keys) all.now.states) }
+        (verdict_line racing all.now.verdict most (length all.now.endings.keys) all.now.states) }
 {
     let endings = all.endings.len();
     match all.verdict {
-        Verdict::All => write_all_met(out, endings, all.states),
+        Verdict::All => write_all(out, endings, all.states, racing),
         Verdict::TooMany => write_too_many(out, most, endings),
         Verdict::CannotTell => write_cannot_tell(out, endings),
         Verdict::Told => write_told(out, endings, all.states),
     }
 }
 
-/// A line for each ending, whether these are all, and what never ends.
-pub(crate) fn write_complete<W: Write>(out: &mut W, all: &Complete, most: u32) -> io::Result<()>
-    ensures { Wrote W.contents out.old out.new result (complete_lines most all.now) }
+/// The line that says that whether threads race isn't known, where that is so.
+fn write_unknown_races<W: Write>(out: &mut W, racing: Racing) -> io::Result<()>
+    ensures { Wrote W.contents out.old out.new result (unknown_text racing) }
+{
+    match racing {
+        Racing::Unknown => write!(out, "whether it races is not known\n"),
+        Racing::Unasked | Racing::Never | Racing::Found(_) => Ok(()),
+    }
+}
+
+/// A line for each ending, whether these are all, what is known of races, and what never ends.
+pub(crate) fn write_complete<W: Write>(
+    out: &mut W,
+    all: &Complete,
+    most: u32,
+    racing: Racing,
+) -> io::Result<()>
+    ensures { Wrote W.contents out.old out.new result (complete_lines most racing all.now) }
 {
     write_endings(out, all.endings.as_slice())?;
-    write_verdict(out, all, most)?;
+    write_verdict(out, all, most, racing)?;
+    write_unknown_races(out, racing)?;
     write_liveness(out, &all.liveness)?;
     out.flush()
 }

@@ -10,7 +10,7 @@ ghost use Rattle.report.specs.Prints.{HasSearched};
 ghost use Rattle.report.specs.Jobs.{Performs};
 ghost use Rattle.report.specs.Silent.{writes_file};
 
-use crate::{races_saved, search_module, show_saved};
+use crate::{Asked, races_saved, search_module, show_saved};
 use report_command::{Job, Search};
 use report_jobs::{Streams, complain, load, perform_plain, refuse};
 use search_finds::Hears;
@@ -97,7 +97,11 @@ where
         Ok(valid) => valid,
         Err(refusal) => return refuse(err, refusal),
     };
-    match search_module(rt, alloc, &valid, asked, follower, out, save) {
+    let whole = Asked {
+        search: asked,
+        bytes: module,
+    };
+    match search_module(rt, alloc, &valid, whole, follower, out, save) {
         Ok(status) => {
             note_if_bare(err, &valid, asked);
             status

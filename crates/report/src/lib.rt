@@ -1,6 +1,6 @@
 //! What the program does, as a library: the command line as a job, and the lines that a job prints. `showing` has the
 //! entries of a record in words, as rows, a moment, a page or a trace; `searching` and `all` searches through runs of a
-//! module, drawn ones and every order of the entries.
+//! module, drawn ones and every order of the entries: `whole` looks for races first, and `raced` tells one.
 //!
 //! Proved: what each status of a job says, that nothing is written where one is refused, and what a search prints and
 //! keeps, to the byte but for what its runs are; of a show nothing of what it prints. 0 of a show: the record is of a
@@ -8,24 +8,28 @@
 //! in which as many runs of the call were noted as it says, how many of them were cut, and what is unseen, or of the
 //! last one, which was found, its number, its sizes and its lines; those of every order are what was found of all runs,
 //! and the lines of a run to the first ending that is looked for, or of one that never ends. The record that is written,
-//! where one is wanted, is that run's, by the call. 0 of a search, exactly: runs of the call were made, or can end; in
-//! each all threads ended well, and it isn't looked for; and of every order, they are sure to end. `load` gives the
-//! module that the bytes spell.
+//! where one is wanted, is that run's, by the call. `no race` is said only where no run of the call has one, and a race
+//! that is told is one of a run of the call, or of threads that race in some run. 0 of a search, exactly: runs of the
+//! call were made, or can end; in each all threads ended well, and it isn't looked for; and of every order, they are sure
+//! to end, and no run has a race, where these aren't allowed and that is asked. `load` gives the module that the bytes
+//! spell.
 #![tactic(auto)]
 
 mod all;
 mod complete;
 mod job;
 mod objects;
+mod raced;
 mod racing;
 mod searching;
 mod showing;
 mod table;
+mod whole;
 
 pub use job::perform;
 pub use racing::races_saved;
 pub use report_command::{Job, Usage, command};
 pub use report_jobs::{Refusal, Streams, check, load, replay_saved};
 pub use report_runs::{Call, EndState, RecordRunFault, record_run, run_on_words};
-pub use searching::search_module;
+pub use searching::{Asked, search_module};
 pub use showing::show_saved;

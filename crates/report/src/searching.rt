@@ -18,6 +18,7 @@ ghost use Rattle.report.specs.Silent.{IfRefusedCall};
 ghost use Rattle.report_jobs.specs.declared.running.Trouble.TheVariants as troubles;
 
 use crate::all::search_all_orders;
+use crate::showing::CodeBytes;
 use crate::table::{is_all_well, write_cut_of, write_table, write_unseen_of};
 use report_command::{Search, Sought};
 use report_jobs::{Trouble, args_of, keep, print, request_of};
@@ -29,6 +30,24 @@ use std::alloc::Global;
 use std::io::{self, Write};
 use std::thread::{self, Threads};
 use validate_module::ValidModule;
+
+/// What is searched: as is asked for, and the bytes of the module, which have the names of functions and the lines of
+/// source.
+#[derive(Clone, Copy)]
+pub struct Asked<'a> {
+    pub search: &'a Search<'a>,
+    pub bytes: &'a [u8],
+}
+
+impl<'a> Asked<'a> {
+    /// The bytes, with the module's own names.
+    pub(crate) fn code(self) -> CodeBytes<'a> {
+        CodeBytes {
+            module: self.bytes,
+            names: self.bytes,
+        }
+    }
+}
 
 /// What a fault of a run along a schedule is: a run of a call that fits, with numbers in their ranges, has no other
 /// one.
@@ -143,26 +162,27 @@ pub fn search_module<R: Threads + Sync, F: Hears, W: Write, S: Write>(
     rt: &R,
     alloc: Global,
     module: &ValidModule,
-    search: &Search,
+    asked: Asked,
     follower: &mut F,
     out: &mut W,
     save: &mut S,
 ) -> Result<u8, Trouble>
-    requires { IsSearchInRange search.now }
-    ensures finds { IfOk result (Finds «module».now.parts search.now (changed S.contents save.old save.new)) }
-    ensures well { IfOk result (IsWellAt «module».now.parts search.now) }
-    ensures drawn { IfOk result (IsDrawn «module».now.parts search.now (changed W.contents out.old out.new)
+    requires { IsSearchInRange asked.entry.search.now }
+    ensures finds { IfOk result (Finds «module».now.parts asked.entry.search.now (changed S.contents save.old save.new)) }
+    ensures well { IfOk result (IsWellAt «module».now.parts asked.entry.search.now) }
+    ensures drawn { IfOk result (IsDrawn «module».now.parts asked.entry.search.now (changed W.contents out.old out.new)
         (changed S.contents save.old save.new)) }
-    ensures prints { IfOk result (IsPrintedOf «module».now.parts search.now (changed W.contents out.old out.new)
+    ensures prints { IfOk result (IsPrintedOf «module».now.parts asked.entry.search.now (changed W.contents out.old out.new)
         (changed S.contents save.old save.new)) }
-    ensures trouble { IfErr result (IsTroubleOf «module».now.parts search.now.call) }
+    ensures trouble { IfErr result (IsTroubleOf «module».now.parts asked.entry.search.now.call) }
     ensures silent { IfErr result (λ e. IfRefusedCall e (Stays out.old out.new × Stays save.old save.new)) }
-    ensures unwanted { is_some search.now.save ≡ false → Stays save.old save.new }
+    ensures unwanted { is_some asked.entry.search.now.save ≡ false → Stays save.old save.new }
 {
+    let search = asked.search;
     let args = args_of(alloc, module, &search.call)?;
     let request = request_of(module, &search.call, &args);
     match search.all {
-        Some(most) => search_all_orders(alloc, &request, search, most, follower, out, save),
+        Some(most) => search_all_orders(alloc, &request, asked, most, follower, out, save),
         None => search_drawn(rt, alloc, &request, search, follower, out, save),
     }
 }

@@ -167,7 +167,7 @@ pub(crate) fn rows_of(alloc: Global, module: &ValidModule, saved: &[u8]) -> Resu
 }
 
 /// The rows of a record's entries.
-fn watched(
+pub(crate) fn watched(
     alloc: Global,
     module: &ValidModule,
     record: &Record,

@@ -44,6 +44,12 @@ pub struct Search<'a> {
     /// Where every order of entries is gone through in place of drawn runs: how many states are met at most, 1 to
     /// 1,000,000,000.
     pub all: Option<u32>,
+    /// Whether that is so at once: races aren't looked for.
+    pub every_order: bool,
+    /// Whether a run with a race is looked for.
+    pub races: bool,
+    /// Whether the status is that of the endings alone, where there are races or it isn't known.
+    pub allow_races: bool,
     /// The path of the file at which the search ends, if there is one.
     pub until: Option<&'a str>,
     /// The path of the record of what is found, if one is wanted.
@@ -110,8 +116,8 @@ const JOBS: Argument = Argument {
 /// What is said of every order in place of drawn runs.
 const ALL_HELP: &str =
     "In place of drawn runs, go through every order of the threads' entries, by each state once, and say how all runs \
-     end and whether all do; nothing is said of timeouts that end while somebody is awake, of weaker memories, or of other \
-     arguments";
+     end, whether all do, and whether accesses race in any; nothing is said of timeouts that end while somebody is awake, of \
+     what a weaker memory shows where there is a race, or of other arguments";
 
 /// Every order in place of drawn runs.
 const ALL: Argument = Argument {
@@ -129,6 +135,43 @@ const MET: Argument = Argument {
     parser: ValueParser::Signed(1, MOST_STATES as i64),
     needs: &["all"],
     ..OPTION
+};
+
+/// What is said of the orders.
+const ORDERS_HELP: &str =
+    "With --all: needed looks for races first, and where there is none goes through the orders that matter then; all goes \
+     through every order at once, and looks for no race";
+
+/// Which orders.
+const ORDERS: Argument = Argument {
+    name: "orders",
+    value: "WHICH",
+    help: ORDERS_HELP,
+    parser: ValueParser::Names(&["needed", "all"]),
+    needs: &["all"],
+    conflicts: &["races", "allow-races"],
+    ..OPTION
+};
+
+/// A race is looked for.
+const RACES: Argument = Argument {
+    name: "races",
+    help: "With --all: of what is found keep the run with a race, and no other one",
+    needs: &["all"],
+    conflicts: &["find", "expect", "shrink"],
+    ..FLAG
+};
+
+/// What is said of races that are allowed.
+const ALLOW_RACES_HELP: &str =
+    "With --all: races don't count, so the status is 0 where all runs end well, also where some have a race";
+
+/// Races are allowed.
+const ALLOW_RACES: Argument = Argument {
+    name: "allow-races",
+    help: ALLOW_RACES_HELP,
+    needs: &["all"],
+    ..FLAG
 };
 
 /// What is said of what is looked for.
@@ -215,7 +258,7 @@ const UNTIL: Argument = Argument {
 };
 
 /// `search FILE --invoke NAME [--runs N] [--from I] [--seed S] [--strategy mix|random|pct:D|spin] [--jobs N] [--all
-/// [--states N]] [--find WORDS] [--expect RESULT] [--record OUT] [--shrink [--shrink-time SECONDS]] [--time SECONDS]
+/// [--states N] [--orders needed|all] [--races] [--allow-races]] [--find WORDS] [--expect RESULT] [--record OUT] [--shrink [--shrink-time SECONDS]] [--time SECONDS]
 /// [--until PATH] [--fuel N] [--limit N] [--dump N] [ARG..]`
 pub(crate) static SEARCH: CommandRow = CommandRow {
     name: "search",
@@ -232,6 +275,9 @@ pub(crate) static SEARCH: CommandRow = CommandRow {
         JOBS,
         ALL,
         MET,
+        ORDERS,
+        RACES,
+        ALLOW_RACES,
         FIND,
         EXPECT,
         SAVE,
@@ -484,6 +530,9 @@ pub(crate) fn search_job<'a>(
         time,
         jobs,
         all,
+        every_order: matches.get_str("orders") == Some("all"),
+        races: matches.get_flag("races"),
+        allow_races: matches.get_flag("allow-races"),
         until: matches.get_str("until"),
         save: matches.get_str("record"),
     })))

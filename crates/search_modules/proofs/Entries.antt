@@ -1,9 +1,8 @@
 -- A call of an exported function, with arguments that fit it, can be searched, and is what a run of the module calls.
-use Rattle.std.specs.Prelude.{ℕ, ◌≡◌, ◌&&◌, true, List, [], ◌∷◌, map, Option, Some, None, codes}
-use Rattle.std.proofs.Common.{refl, sym, ap, ◌∙◌, subst, arith}
+use Rattle.std.specs.Prelude.{ℕ, ◌≡◌, ◌&&◌, true, List, [], ◌∷◌, map, Option, Some, None}
+use Rattle.std.proofs.Common.{refl, sym, ap, ◌∙◌, subst}
 use Rattle.std.specs.List.{slice_get}
 use Rattle.std.specs.Cmp.Lexicographic.{pointwise}
-use Rattle.std.proofs.lemmas.Option.{slice_get_within}
 use Rattle.types.specs.declared.value.ValType.{ValType}
 use Rattle.types.specs.declared.value.ValType.TheVariants as types
 use Rattle.types.specs.declared.value.Value.{Value}
@@ -16,15 +15,13 @@ use Rattle.types.specs.Values.{type_of}
 use Rattle.types.specs.declared.limits.TheConstants.{MOST_PAGES}
 use Rattle.types.specs.Modules.{IsModule}
 use Rattle.validate_typing.specs.Image.{opening_image, pages_max_of}
-use Rattle.validate_typing.specs.Validity.{IsValid, IsThreaded}
-use Rattle.validate_module_rules.specs.Exported.{IsExported}
+use Rattle.validate_typing.specs.Validity.{IsValid}
 use Rattle.interp_machine.specs.State.{At}
 use Rattle.interp_machine.specs.Program.{program_of}
 use Rattle.interp_trait.specs.Turns.{spawned_in}
 use Rattle.interp.specs.Starts.{IsFunction, start_of}
 use Rattle.spawn_host.specs.Entries.{StartsThreads, CallsThreadStart, Takes}
 use Rattle.spawn_host.specs.Runs.{Beginning}
-use Rattle.spawn_host.proofs.Calling.{is_there}
 use Rattle.replay.proofs.Openable.{module_opens}
 use Rattle.search_modules.specs.Returned.{IsCall}
 use Rattle.search_modules.specs.Searching.{type_at, call_by, call_of, takes, can_call, can_spawn, worker_of, called_of, is_callable}

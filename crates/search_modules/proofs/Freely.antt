@@ -1,18 +1,18 @@
 -- What a search through the orders of what isn't plain finds, said of the runs of the module.
-use Rattle.std.specs.Prelude.{ℕ, ◌≡◌, ◌⊎◌, List, Option, Some, None, refl}
-use Rattle.std.proofs.Common.{sym, subst, inl, inr}
+use Rattle.std.specs.Prelude.{ℕ, ◌⊎◌, List}
+use Rattle.std.proofs.Common.{inl, inr}
 use Rattle.types.specs.declared.value.Value.{Value}
 use Rattle.types.specs.declared.parts.Parts.{Parts}
 use Rattle.schedule.specs.System as systems
 use Rattle.schedule_threads.specs.Shared.{Shared}
-use Rattle.search_reach.specs.Search.{StepSystem, HasAllEnds, AreEnds, CanGetStuck}
+use Rattle.search_reach.specs.Search.{StepSystem, AreEnds, CanGetStuck}
 use Rattle.search_settled.specs.declared.flat.Flat.{Flat}
 use Rattle.search_race_free.specs.Races.{HasRace}
 use Rattle.search_race_free.specs.Reduced.{SomeRace, reduced_steps}
 use Rattle.search_race_free.specs.declared.owning.Owning.{Owning}
 use Rattle.search_race_free.specs.declared.race.Race.{Race}
 use Rattle.search_runs.specs.Accesses.{access_of}
-use Rattle.search_runs.specs.Called.{Called, Walker as Thread, system_of, first_state}
+use Rattle.search_runs.specs.Called.{Walker as Thread, system_of, first_state}
 use Rattle.search_endings.specs.Endings.{Ending}
 use Rattle.search_runs.specs.Ends.{HasEndedSo}
 use Rattle.search_parts.specs.declared.shared.Common.{Common}

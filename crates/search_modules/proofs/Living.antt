@@ -1,6 +1,6 @@
 -- What a search says of its states, said of the threads of the call.
-use Rattle.std.specs.Prelude.{ℕ, ◌≡◌, ◌<◌, ◌⊎◌, Bool, List, [], Contains, Option, Some, None, length, refl}
-use Rattle.std.proofs.Common.{sym, subst, inl, inr, arith, ap, ◌∙◌}
+use Rattle.std.specs.Prelude.{ℕ, ◌≡◌, ◌<◌, Bool, List, [], Contains, Option, Some, None, refl}
+use Rattle.std.proofs.Common.{subst, inl, inr, arith, ap, ◌∙◌}
 use Rattle.std.specs.List.{slice_get}
 use Rattle.std.proofs.lemmas.Option.{slice_get-get_or}
 use Rattle.types.specs.declared.limits.TheConstants.{MOST_THREADS}
@@ -11,7 +11,7 @@ use Rattle.search_endings.specs.Endings.{Ending}
 use Rattle.search_graph.specs.Paths.{Reaches}
 use Rattle.search_graph.specs.Worlds.{FairRun}
 use Rattle.search_reach.specs.Search.{StepSystem}
-use Rattle.search_reach.specs.Liveness.{AreCounted, IsCount, CanEndSomehow, NeverEnds, StillEnds, SaysOf, IsLive, IsLiveWhereAll}
+use Rattle.search_reach.specs.Liveness.{AreCounted, IsCount, CanEndSomehow, SaysOf, IsLive, IsLiveWhereAll}
 use Rattle.search_reach.specs.declared.liveness.FairRuns.{FairRuns}
 use Rattle.search_reach.specs.declared.liveness.FairRuns.TheVariants.{AllEnd, GoOn, Unknown}
 use Rattle.search_reach.specs.declared.liveness.Liveness.{Liveness}
@@ -22,7 +22,7 @@ use Rattle.search_runs.specs.Called.{Called, Walker as Thread, system_of, first_
 use Rattle.search_runs.specs.Ends.{HasEndedSo}
 use Rattle.search_runs.specs.Theorems.{CanReach}
 use Rattle.search_modules.specs.Moved.{called}
-use Rattle.search_modules.specs.Liveness.{CanStillEnd, HasFairRun, SaysOfRuns, AreStatesBy, IsOfCall, CountsStatesBy, SaysBy, SaysWhereAllBy}
+use Rattle.search_modules.specs.Liveness.{CanStillEnd, SaysOfRuns, AreStatesBy, IsOfCall, CountsStatesBy, SaysBy, SaysWhereAllBy}
 use Rattle.search_modules.specs.declared.called.Searched.{Searched}
 
 -- What is gone through by such states.

@@ -9,7 +9,7 @@ ghost use Rattle.search_modules.specs.Races.{CanRaceSo, NeverRaces, race_free_cl
 
 use crate::calling::searched;
 use search_endings::Ending;
-use search_race_free::{RaceFree, search_race_free};
+use search_race_free::{RaceFree, all_choices, race_choices as choices_to_race, search_race_free};
 use search_reach::Follows;
 use spawn_host::Request;
 use std::alloc::{AllocError, Global};
@@ -24,7 +24,8 @@ const MOST_PLAIN: u32 = 10_000;
 /// says it, and no threads without budgets race in any run by this call (`NeverRaces`): none makes a load or a store
 /// that isn't atomic, and later, when it has made nothing since but such, another wants an access to a byte of it, one
 /// of the two writing; nor do two want accesses to a byte at once, one writing, unless both are atomic and of the same
-/// bytes. At `Verdict::CannotTell` there may be such a race, which is then given (`CanRaceSo`).
+/// bytes. A race that is given is in some run (`CanRaceSo`); only at
+/// `Verdict::CannotTell` one is, and not always: a thread may make turns of its own without end, or none may be found.
 ///
 /// All else is as of `all_endings`, but `states` counts states with what each thread owns: what it has read and written
 /// since it last made anything but loads and stores that aren't atomic.
@@ -51,4 +52,35 @@ pub fn race_free_endings<F: Follows>(
 {
     let searched = searched(alloc, request, dump)?;
     search_race_free(alloc, &searched, most_states, MOST_PLAIN, follower)
+}
+
+/// The choices of each turn along choices that `race_free_endings` gives with an ending, or with what never ends: which
+/// of the threads that can go on makes the next one, as `all_endings` gives them. No clause says where they lead: they
+/// are a hint, to be judged by whoever follows them.
+///
+/// # Errors
+/// Where memory is refused.
+pub fn turn_choices(
+    alloc: Global,
+    request: &Request,
+    dump: usize,
+    choices: &[usize],
+) -> Result<Vec<usize>, AllocError> {
+    let searched = searched(alloc, request, dump)?;
+    all_choices(alloc, &searched, MOST_PLAIN, choices)
+}
+
+/// The choices of each turn to the accesses that race, along the way that `race_free_endings` gives with a race; as
+/// those of `turn_choices` they are a hint.
+///
+/// # Errors
+/// Where memory is refused.
+pub fn race_choices(
+    alloc: Global,
+    request: &Request,
+    dump: usize,
+    way: &[usize],
+) -> Result<Vec<usize>, AllocError> {
+    let searched = searched(alloc, request, dump)?;
+    choices_to_race(alloc, &searched, MOST_PLAIN, way)
 }

@@ -1,21 +1,17 @@
 -- Where all come to rest in the beginning, and what is asked of the search beside next states.
-use Rattle.std.proofs.Common.{◌≡◌, ◌≢◌, ◌⊎◌, ◌≤◌, ◌<◌, inl, inr, refl, sym, ◌∙◌, ap, subst, arith, ℕ, Bool, List, [], ◌∷◌, Contains, Option, Some, None}
-use Rattle.std.specs.Prelude.{IfSome}
-use Rattle.std.proofs.lemmas.Option.{none-some}
+use Rattle.std.proofs.Common.{◌≡◌, inl, inr, refl, sym, subst, arith, ℕ, Bool, List, [], ◌∷◌, Contains, Option, Some, None}
 use Rattle.schedule.specs.System.{State}
-use Rattle.search_graph.specs.Paths.{Reaches}
-use Rattle.search_reach.specs.Search.{StepSystem, StandsFor, IsFirst, IsMet, IsEnding, IsAll, AllGetStuck, CanGetStuck, GetsStuck}
+use Rattle.search_reach.specs.Search.{StepSystem, IsFirst, IsMet, IsEnding, IsAll, AllGetStuck, CanGetStuck}
 use Rattle.search_reach.specs.Liveness.{IsLiveWhereAll}
 use Rattle.search_reach.specs.declared.liveness.Liveness.{Liveness}
 use Rattle.search_reach.specs.declared.search.Verdict.{Verdict}
 use Rattle.search_reach.specs.declared.search.Verdict.TheVariants as verdicts
 use Rattle.search_reach.proofs.Paths.{stays, onward}
 use Rattle.search_settled.specs.Settled.{IsReached, StepsBy, AreTame}
-use Rattle.search_settled.specs.Accesses.{Conflict}
 use Rattle.search_settled.specs.declared.access.Access.{Access}
 use Rattle.search_settled.specs.declared.flat.Flat.{Flat}
 use Rattle.search_settled.specs.Threads.{ThreadSystem}
-use Rattle.search_settled.specs.Next.{IsBeginning, IsAt, IsSomewhere, HasEnded}
+use Rattle.search_settled.specs.Next.{IsBeginning, IsSomewhere, HasEnded}
 use Rattle.search_race_free.specs.declared.owning.Touch.{Touch}
 use Rattle.search_race_free.specs.declared.owning.Owning.{Owning}
 use Rattle.search_race_free.specs.declared.race.Race.{Race}
@@ -24,7 +20,7 @@ use Rattle.search_race_free.specs.Wanted.{ArePlain}
 use Rattle.search_race_free.specs.Races.{MeetInRace, HasRace, NoneRace}
 use Rattle.search_race_free.specs.Owned.{Within}
 use Rattle.search_race_free.specs.Touches.{AreClear, AreInTheWay}
-use Rattle.search_race_free.specs.Reduced.{wanted_in, next_in, Rest, IsResting, RestsSomewhere, IsKept, StandsBefore, SomeRace, reduced_steps}
+use Rattle.search_race_free.specs.Reduced.{wanted_in, next_in, Rest, RestsSomewhere, StandsBefore, reduced_steps}
 use Rattle.search_race_free.specs.Search.{NoneBeyond, NobodyGoesOn, AreWanted, GetsLost, IsOwned, IsRace, IsKnown, IsBegun}
 use Rattle.search_race_free.proofs.Moving.{reached-along}
 use Rattle.search_race_free.proofs.Turning.{plain-laws}
@@ -74,6 +70,9 @@ module _ {X T E V A G H M : Type 0} (k : ThreadSystem X T E V A G H M)
   pub begun-races : (x : Owning (Flat G H)) (wanted : List (Option Access)) (one other : ℕ) → x.owned.items ≡ [] → IsBeginning k x.flat → AreWanted k x.flat wanted
       → AreInTheWay wanted x.owned.items one other → HasRace k.system k.first k.accesses one other
   begun-races x wanted one other none b are way = way-races k tame plain x wanted one other (begun-owned x none b) are way
+
+  pub begun-known : (x : Owning (Flat G H)) → IsBegun k x → IsKnown k x
+  begun-known x begun = record { somewhere = beginning-rests x.flat begun.beginning; kept = begun.kept }
 
   -- what is known is owned
   pub known-owned : (s : Owning (Flat G H)) → IsKnown k s → IsOwned k s

@@ -1,24 +1,20 @@
 -- The turn of a thread, and plain turns of it and of those that could not go on before.
-use Rattle.std.proofs.Common.{◌≡◌, ◌≢◌, ◌⊎◌, inl, inr, ℕ, ◌+◌, refl, sym, ◌∙◌, ap, subst, arith, List, [], ◌∷◌, ◌++◌, Contains, Option, Some, None}
+use Rattle.std.proofs.Common.{◌≡◌, ◌≢◌, ◌⊎◌, inl, inr, ℕ, refl, sym, ◌∙◌, ap, subst, arith, List, [], ◌∷◌, ◌++◌, Option, Some, None}
 use Rattle.std.proofs.lemmas.Option.{none-some}
-use Rattle.schedule.specs.System.{Want.Turns, Want.Calls, System, State}
-use Rattle.schedule.proofs.Basics.{same_or_not}
+use Rattle.schedule.specs.System.{State}
 use Rattle.search_graph.specs.Paths.{Reaches}
 use Rattle.search_reach.proofs.Paths.{stays, one_step, onward}
 use Rattle.search_settled.specs.Settled.{IsReached, StepsBy, AreTame}
-use Rattle.search_settled.specs.Accesses.{HasByte, Conflict}
 use Rattle.search_settled.specs.Threads.{ThreadSystem}
 use Rattle.search_settled.specs.declared.access.Access.{Access}
 use Rattle.search_settled.specs.declared.flat.Flat.{Flat}
-use Rattle.search_race_free.specs.declared.owning.Touch.{Touch}
 use Rattle.search_race_free.specs.declared.owning.Owning.{Owning}
-use Rattle.search_race_free.specs.Orders.{times, MakesPlain}
 use Rattle.search_race_free.specs.Wanted.{ArePlain}
 use Rattle.search_race_free.specs.Races.{HasRace}
-use Rattle.search_race_free.specs.Owned.{Within, IsSafe}
-use Rattle.search_race_free.specs.Touches.{access_at, AreOfOthers, StrikesNobody, MeetsNobody, AreClear, Strikes, Meets, AreInTheWay}
-use Rattle.search_race_free.specs.Reduced.{wanted_in, next_in, Rest, IsResting, RestsSomewhere, HasTouched, IsKept, IsAfterTurn, ComesOf}
-use Rattle.search_race_free.specs.Search.{AreWanted, WantsSome, IsAfterEvent, GetsLost, IsOwned, IsAlongTurns, ComesAlone, ComesOnward, IsCame}
+use Rattle.search_race_free.specs.Owned.{Within}
+use Rattle.search_race_free.specs.Touches.{access_at, AreOfOthers, AreClear, Strikes, Meets, AreInTheWay}
+use Rattle.search_race_free.specs.Reduced.{wanted_in, next_in, Rest, IsResting, IsKept, IsAfterTurn, ComesOf}
+use Rattle.search_race_free.specs.Search.{AreWanted, WantsSome, IsAfterEvent, GetsLost, IsOwned, ComesAlone, ComesOnward, IsCame}
 use Rattle.search_race_free.specs.declared.alone.Came.{Came}
 use Rattle.search_race_free.specs.declared.alone.Came.TheVariants as came
 use Rattle.search_race_free.proofs.Moving.{times-append, along-both, same-along}

@@ -1,16 +1,15 @@
 -- The event of a thread that rests, and where all come to rest after it.
-use Rattle.std.proofs.Common.{◌≡◌, ◌≤◌, inl, inr, ℕ, refl, sym, ◌∙◌, ap, subst, List, length, Option, Some, None}
+use Rattle.std.proofs.Common.{◌≡◌, ◌≤◌, inl, inr, ℕ, sym, ◌∙◌, List, length, Some, None}
 use Rattle.std.specs.List.{slice_get}
 use Rattle.std.proofs.lemmas.Option.{none-some}
-use Rattle.schedule.specs.System.{Want.Turns, Want.Calls, System, State}
+use Rattle.schedule.specs.System.{Want.Calls, State}
 use Rattle.schedule.specs.Scheduled.{after_event}
-use Rattle.search_graph.specs.Paths.{Reaches}
-use Rattle.search_settled.specs.Settled.{AreTame, StepsBy}
+use Rattle.search_settled.specs.Settled.{AreTame}
 use Rattle.search_settled.specs.declared.access.Access.{Access}
 use Rattle.search_settled.specs.declared.flat.Flat.{Flat}
 use Rattle.search_settled.specs.Threads.{ThreadSystem}
 use Rattle.search_settled.specs.Flat.{AreBounded, IsEventAt, AllComeAfter, IsStuckByMove}
-use Rattle.search_settled.specs.Next.{IsAt, IsNextBy}
+use Rattle.search_settled.specs.Next.{IsAt}
 use Rattle.search_settled.proofs.Reaching.{by_event}
 use Rattle.search_settled.proofs.Following.{next-by, stuck-by}
 use Rattle.search_race_free.specs.Reduced.{wanted_in, IsResting, RestsSomewhere}

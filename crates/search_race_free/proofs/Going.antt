@@ -1,32 +1,28 @@
 -- A thread that makes plain turns alone.
-use Rattle.std.proofs.Common.{◌≡◌, ◌≢◌, ◌⊎◌, ◌<◌, inl, inr, ℕ, suc, ◌+◌, Bool, true, false, not, true≢false, refl, sym, ◌∙◌, ap, subst, arith, List, [], ◌∷◌, ◌++◌, Contains, Option, Some, None}
-use Rattle.std.proofs.lemmas.Option.{same_Some, none-some}
-use Rattle.schedule.specs.System.{Want.Turns, Want.Calls, Kind.Turn, System, State}
-use Rattle.schedule.specs.Scheduled.{after_turn, after_mark, after_event}
-use Rattle.schedule.proofs.Basics.{same_or_not}
+use Rattle.std.proofs.Common.{◌≡◌, ◌≢◌, ◌⊎◌, inl, inr, ℕ, Bool, true, false, not, true≢false, refl, sym, ◌∙◌, ap, subst, arith, List, [], ◌∷◌, ◌++◌, Contains, Option, Some}
+use Rattle.schedule.specs.System.{State}
+use Rattle.schedule.specs.Scheduled.{after_turn, after_event}
 use Rattle.search_graph.specs.Paths.{Reaches}
 use Rattle.search_reach.proofs.Paths.{stays, one_step, onward}
 use Rattle.search_settled.specs.Settled.{IsReached, StepsBy, AreTame}
 use Rattle.search_settled.specs.Accesses.{IsPlain, HasByte, Conflict}
 use Rattle.search_settled.specs.Threads.{ThreadSystem}
-use Rattle.search_settled.specs.Next.{IsNextBy}
 use Rattle.search_settled.specs.declared.access.Access.{Access}
 use Rattle.search_settled.specs.declared.flat.Flat.{Flat}
 use Rattle.search_race_free.specs.declared.owning.Touch.{Touch}
 use Rattle.search_race_free.specs.declared.owning.Owning.{Owning}
-use Rattle.search_race_free.specs.Orders.{times, MakesOwn, MakesPlain, StepsPlainly}
-use Rattle.search_race_free.specs.Wanted.{ArePlain, next_access, after_next}
-use Rattle.search_race_free.specs.Races.{HasMade, CanRace, HasRace}
-use Rattle.search_race_free.specs.Owned.{OwnsByte, Within}
+use Rattle.search_race_free.specs.Orders.{times, MakesPlain, StepsPlainly}
+use Rattle.search_race_free.specs.Wanted.{ArePlain}
+use Rattle.search_race_free.specs.Races.{HasMade, CanRace}
+use Rattle.search_race_free.specs.Owned.{Within}
 use Rattle.search_race_free.specs.Touches.{StrikesNobody, Strikes, IsPut}
 use Rattle.search_race_free.specs.Reduced.{wanted_in, next_in, Rest, IsResting, RestsSomewhere, HasTouched}
-use Rattle.search_race_free.specs.Search.{WantsSome, IsAfterEvent, GetsLost, IsOwned, IsAlongTurns, ComesAlone}
-use Rattle.search_race_free.proofs.Moving.{times-here, times-other, times-append, reached-along, along-both, same-along}
+use Rattle.search_race_free.specs.Search.{WantsSome, IsAfterEvent, GetsLost, IsOwned, ComesAlone}
+use Rattle.search_race_free.proofs.Moving.{times-other, times-append, reached-along, along-both, same-along}
 use Rattle.search_race_free.proofs.Racing.{conflict-swap}
-use Rattle.search_race_free.proofs.Turning.{event_access, reaches_next, leaves, plain-laws}
+use Rattle.search_race_free.proofs.Turning.{reaches_next, leaves, plain-laws}
 use Rattle.search_race_free.proofs.Striking.{own-within}
 use Rattle.search_race_free.proofs.Resting.{RestsBy, to_rest}
-use Rattle.search_race_free.proofs.Eventing.{calls-at}
 
 -- turns within less are turns within more
 pub rest-more : {W : Type 0} (wants : W → ℕ → Option Access) (next : W → ℕ → W) (own more : ℕ → Access → Type 0) (ts : List ℕ) (w z : W)

@@ -1,14 +1,13 @@
 -- Where nowhere two next accesses race, no threads race.
 use Rattle.std.proofs.Common.{◌≡◌, ◌≢◌, ◌⊎◌, inl, inr, ℕ, Some}
-use Rattle.schedule.specs.System.{System, State}
-use Rattle.search_settled.specs.Settled.{IsReached, AreTame}
+use Rattle.schedule.specs.System.{State}
+use Rattle.search_settled.specs.Settled.{IsReached}
 use Rattle.search_settled.specs.Accesses.{Race}
 use Rattle.search_settled.specs.declared.access.Access.{Access}
-use Rattle.search_race_free.specs.Wanted.{next_access, after_next, ArePlain}
-use Rattle.search_race_free.specs.Races.{CanRace, MeetInRace, HasRace, NoneRace}
+use Rattle.search_race_free.specs.Wanted.{next_access, after_next}
+use Rattle.search_race_free.specs.Races.{CanRace, MeetInRace}
 use Rattle.search_race_free.specs.Laws.{RacesMeet}
-use Rattle.search_race_free.proofs.Moving.{PlainLaws}
-use Rattle.search_race_free.proofs.Racing.{NoneMeetIn, none-race}
+use Rattle.search_race_free.proofs.Racing.{none-race}
 use Rattle.search_race_free.proofs.Turning.{plain-laws}
 
 pub races-meet : (X T E V A : Type 0) → RacesMeet X T E V A

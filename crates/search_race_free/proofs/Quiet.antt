@@ -1,15 +1,8 @@
 -- Plain turns of threads keep the laws of plain turns.
-use Rattle.std.proofs.Common.{◌≡◌, ◌≢◌, ◌⊎◌, inl, inr, ℕ, refl, sym, ◌∙◌, ap, subst, Option, Some, None, true, false}
-use Rattle.std.proofs.lemmas.Option.{same_Some, none-some}
-use Rattle.schedule.specs.System.{Want, Want.Turns, Want.Calls, Want.Awaits, Want.Gone, Kind.Turn, System, State, put}
-use Rattle.schedule.specs.Scheduled.{after_turn, after_mark, after_event, with_thread, hears_any, or_started}
-use Rattle.schedule.proofs.Basics.{at_each, put-same, put-other, same_or_not}
-use Rattle.search_reach.proofs.Paths.{one_step, onward}
-use Rattle.search_settled.specs.Settled.{StepsBy, IsReached, AreTame}
-use Rattle.search_settled.specs.declared.access.Access.{Access}
-use Rattle.search_settled.specs.Accesses.{IsPlain, Conflict}
-use Rattle.search_race_free.specs.Wanted.{own_turn, access_by, next_access, after_next, AreIndependent, WantsPlain, ArePlain}
-use Rattle.search_race_free.proofs.Moving.{PlainLaws}
+use Rattle.std.proofs.Common.{◌≡◌, ◌≢◌, ℕ, refl, sym, ◌∙◌, ap, Option, None}
+use Rattle.schedule.specs.System.{Want.Turns, System, State, put}
+use Rattle.schedule.specs.Scheduled.{after_turn, after_event, hears_any, or_started}
+use Rattle.schedule.proofs.Basics.{at_each, put-same, put-other}
 
 module _ {X T E V A : Type 0} (s : System X T E V A) where
   -- what comes of a thread that is told and started so

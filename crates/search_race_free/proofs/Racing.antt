@@ -1,10 +1,10 @@
 -- Where threads can race, two next accesses race somewhere.
-use Rattle.std.specs.Prelude.{◌≡◌, ◌≢◌, ◌⊎◌, ℕ, zero, suc, true, false, Option, Some, List, [], ◌∷◌, ◌++◌, refl}
+use Rattle.std.specs.Prelude.{◌≡◌, ◌≢◌, ◌⊎◌, ℕ, zero, suc, true, Option, Some, List, [], ◌∷◌, ◌++◌, refl}
 use Rattle.std.proofs.Common.{ap, subst, sym, ◌∙◌, inl, inr, true≢false}
 use Rattle.schedule.proofs.Basics.{same_or_not}
 use Rattle.search_graph.specs.Paths.{Goes, Reaches}
 use Rattle.search_settled.specs.declared.access.Access.{Access}
-use Rattle.search_settled.specs.Accesses.{IsPlain, HasByte, Meet, Conflict, AreMatched, Race}
+use Rattle.search_settled.specs.Accesses.{IsPlain, Conflict, Race}
 use Rattle.search_race_free.specs.Orders.{StepsPlainly}
 use Rattle.search_race_free.proofs.Moving.{PlainLaws}
 

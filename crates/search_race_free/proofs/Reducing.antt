@@ -1,8 +1,8 @@
 -- The states after each thread's next turn are those that a search asks for.
-use Rattle.std.proofs.Common.{◌≡◌, ◌≢◌, ◌≤◌, ◌<◌, ◌+◌, ◌==◌, cond, Bool, true, false, ◌⊎◌, inl, inr, refl, sym, ◌∙◌, ap, subst, arith, ℕ, zero, suc, List, [], ◌∷◌, ◌++◌, Contains, Option, Some, None}
+use Rattle.std.proofs.Common.{◌≡◌, ◌≢◌, ◌≤◌, ◌<◌, ◌==◌, cond, Bool, true, false, ◌⊎◌, inl, inr, refl, sym, ◌∙◌, subst, arith, ℕ, suc, List, [], ◌∷◌, ◌++◌, Contains, Option, Some}
 use Rattle.std.proofs.lemmas.Bool.{cases_lt}
-use Rattle.std.proofs.lemmas.Option.{same_Some, none-some}
-use Rattle.schedule.specs.System.{Want.Turns, Want.Calls, Kind.Turn, System, State}
+use Rattle.std.proofs.lemmas.Option.{same_Some}
+use Rattle.schedule.specs.System.{Kind.Turn, State}
 use Rattle.schedule.specs.Scheduled.{after_mark}
 use Rattle.search_graph.specs.Paths.{Reaches}
 use Rattle.search_graph.specs.Worlds.{CanStep}
@@ -10,17 +10,17 @@ use Rattle.search_reach.specs.declared.explores.Next.{Next}
 use Rattle.search_reach.specs.Search.{StepSystem, StandsFor, RestsIn, HasOf, StaysIn, LeadsOn, ComesBy, IsOrderly, AreNext, IsMet}
 use Rattle.search_reach.proofs.Paths.{stays, one_step, onward}
 use Rattle.search_settled.specs.Settled.{CanGoOn, StepsBy, IsReached, AreTame, turning}
-use Rattle.search_settled.specs.Accesses.{IsPlain, Conflict, Race}
+use Rattle.search_settled.specs.Accesses.{Conflict, Race}
 use Rattle.search_settled.specs.declared.access.Access.{Access}
 use Rattle.search_settled.specs.declared.flat.Flat.{Flat}
-use Rattle.search_settled.specs.Threads.{ThreadSystem, IsFlat}
+use Rattle.search_settled.specs.Threads.{ThreadSystem}
 use Rattle.search_settled.proofs.Orderly.{idle, persist}
 use Rattle.search_race_free.specs.declared.owning.Owning.{Owning}
-use Rattle.search_race_free.specs.Orders.{times, MakesOwn, MakesPlain}
-use Rattle.search_race_free.specs.Wanted.{own_turn, next_access, after_next, ArePlain}
+use Rattle.search_race_free.specs.Orders.{times, MakesPlain}
+use Rattle.search_race_free.specs.Wanted.{own_turn, ArePlain}
 use Rattle.search_race_free.specs.Owned.{Within, IsSafe}
 use Rattle.search_race_free.specs.Reduced.{wanted_in, next_in, Rest, IsResting, RestsSomewhere, IsKept, StandsBefore, reduced_steps, IsAfterTurn, ComesOf, HasReduced}
-use Rattle.search_race_free.proofs.Moving.{times-here, times-append, PlainLaws, AreApart, reached-along, along-both, same-along, wanted-along, sooner, past}
+use Rattle.search_race_free.proofs.Moving.{times-here, times-append, PlainLaws, reached-along, along-both, same-along, wanted-along, sooner, past}
 use Rattle.search_race_free.proofs.Racing.{conflict-swap}
 use Rattle.search_race_free.proofs.Turning.{going_on, turn_access, event_access, reaches_next, plain-laws}
 use Rattle.search_race_free.proofs.Striking.{struck, within-apart}

@@ -1,7 +1,7 @@
 -- Threads come to rest by plain turns of their own.
-use Rattle.std.proofs.Common.{◌≡◌, ◌≢◌, ◌⊎◌, ◌≤◌, inl, inr, ℕ, zero, suc, ◌+◌, refl, sym, ◌∙◌, ap, subst, arith, List, [], ◌∷◌, ◌++◌}
-use Rattle.schedule.specs.System.{Want.Turns, Kind.Turn, System, State, put}
-use Rattle.schedule.specs.Scheduled.{after_turn, after_mark, with_thread}
+use Rattle.std.proofs.Common.{◌≡◌, ◌≢◌, ◌⊎◌, ◌≤◌, inl, inr, ℕ, zero, suc, refl, sym, ◌∙◌, ap, subst, arith, List, [], ◌∷◌, ◌++◌}
+use Rattle.schedule.specs.System.{Want.Turns, System, State, put}
+use Rattle.schedule.specs.Scheduled.{after_turn, with_thread}
 use Rattle.schedule.proofs.Basics.{at_each, put-same, put-other, same_or_not}
 use Rattle.search_settled.specs.Settled.{ComesTo, Settles, ComesToRest, AreFew}
 use Rattle.search_settled.specs.declared.access.Access.{Access}
@@ -9,7 +9,7 @@ use Rattle.search_settled.proofs.Resting.{at_rest}
 use Rattle.search_settled.proofs.Reaching.{put_put, put_itself}
 use Rattle.search_race_free.specs.Orders.{times, MakesPlain}
 use Rattle.search_race_free.specs.Wanted.{own_turn, next_access, after_next}
-use Rattle.search_race_free.proofs.Moving.{times-here, times-other, times-append}
+use Rattle.search_race_free.proofs.Moving.{times-other, times-append}
 use Rattle.search_race_free.proofs.Turning.{turn_access}
 
 -- The thread's number so many times.

@@ -1,7 +1,7 @@
 -- What is within what threads own conflicts only where that does.
-use Rattle.std.proofs.Common.{◌≡◌, ◌≢◌, ◌⊎◌, inl, inr, ℕ, refl, sym, ◌∙◌, ap, subst, arith, Option, Some, List, [], Contains, true}
+use Rattle.std.proofs.Common.{◌≡◌, ◌⊎◌, inl, inr, ℕ, sym, ◌∙◌, arith, List, Contains, true}
 use Rattle.schedule.specs.System.{System, State}
-use Rattle.search_settled.specs.Accesses.{HasByte, Conflict}
+use Rattle.search_settled.specs.Accesses.{Conflict}
 use Rattle.search_settled.specs.declared.access.Access.{Access}
 use Rattle.search_race_free.specs.declared.owning.Touch.{Touch}
 use Rattle.search_race_free.specs.Wanted.{own_turn}

@@ -1,9 +1,9 @@
 -- Turns of threads keep the laws of plain turns.
 use Rattle.std.proofs.Common.{◌≡◌, ◌≢◌, ◌⊎◌, inl, inr, ℕ, refl, sym, ◌∙◌, ap, subst, Option, Some, None}
 use Rattle.std.proofs.lemmas.Option.{same_Some, none-some}
-use Rattle.schedule.specs.System.{Want, Want.Turns, Want.Calls, Want.Awaits, Want.Gone, Kind.Turn, System, State, put}
-use Rattle.schedule.specs.Scheduled.{after_turn, after_event, with_thread}
-use Rattle.schedule.proofs.Basics.{put-same, put-other}
+use Rattle.schedule.specs.System.{Want, Want.Turns, Want.Calls, Want.Awaits, Want.Gone, System, State, put}
+use Rattle.schedule.specs.Scheduled.{after_turn, after_event}
+use Rattle.schedule.proofs.Basics.{put-other}
 use Rattle.search_reach.proofs.Paths.{one_step, onward}
 use Rattle.search_settled.specs.Settled.{StepsBy, IsReached, AreTame}
 use Rattle.search_settled.proofs.Orderly.{event_leaves}

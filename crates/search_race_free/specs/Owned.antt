@@ -1,12 +1,10 @@
 -- What threads own: bytes that they have touched by plain accesses since they last made anything else.
 use Rattle.std.specs.Prelude.{ℕ, ◌≡◌, ◌≢◌, true, List, Contains, Some}
 use Rattle.schedule.specs.System.{System, State}
-use Rattle.search_settled.specs.Settled.{IsReached}
 use Rattle.search_settled.specs.Accesses.{HasByte, Conflict, Race}
 use Rattle.search_settled.specs.declared.access.Access.{Access}
 use Rattle.search_race_free.specs.declared.owning.Touch.{Touch}
 use Rattle.search_race_free.specs.Wanted.{next_access}
-use Rattle.search_race_free.specs.Races.{HasMade}
 
 -- The thread owns the byte, as one that it has written if this is so.
 pub record OwnsByte (owned : List Touch) (t byte : ℕ) (written : Type 0) : Type 0 where

@@ -1,5 +1,5 @@
 -- Races of all runs.
-use Rattle.std.specs.Prelude.{ℕ, ◌≡◌, ◌≢◌, ◌⊎◌, Option, Some}
+use Rattle.std.specs.Prelude.{ℕ, ◌≡◌, ◌≢◌, ◌⊎◌, Some}
 use Rattle.schedule.specs.System.{System, State}
 use Rattle.search_graph.specs.Paths.{Reaches}
 use Rattle.search_settled.specs.Settled.{IsReached}

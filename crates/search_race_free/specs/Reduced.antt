@@ -1,6 +1,6 @@
 -- Settled states with what is owned, and what they stand for: states from which threads come there by plain turns alone.
-use Rattle.std.specs.Prelude.{ℕ, ◌≡◌, ◌≢◌, ◌≤◌, ◌⊎◌, true, List, Contains, Some, None, Option}
-use Rattle.schedule.specs.System.{Want.Turns, System, State}
+use Rattle.std.specs.Prelude.{ℕ, ◌≡◌, ◌≢◌, ◌⊎◌, true, List, Contains, Some, Option}
+use Rattle.schedule.specs.System.{Want.Turns, State}
 use Rattle.search_reach.specs.declared.explores.Next.{Next}
 use Rattle.search_reach.specs.Search.{StepSystem}
 use Rattle.search_settled.specs.Settled.{IsReached, turning}

@@ -1,6 +1,6 @@
 -- What each call of the search shows.
-use Rattle.std.specs.Prelude.{ℕ, ◌≡◌, ◌≢◌, ◌+◌, ◌<◌, ◌≤◌, ◌⊎◌, List, Contains, Option, Some, None}
-use Rattle.schedule.specs.System.{Want.Turns, Want.Calls, System, State}
+use Rattle.std.specs.Prelude.{ℕ, ◌≡◌, ◌≢◌, ◌+◌, ◌<◌, ◌≤◌, List, Contains, Option, Some}
+use Rattle.schedule.specs.System.{Want.Calls, System, State}
 use Rattle.search_graph.specs.Paths.{Reaches}
 use Rattle.search_reach.specs.declared.explores.Next.{Next}
 use Rattle.search_settled.specs.Settled.{IsReached, StepsBy}
@@ -22,7 +22,7 @@ use Rattle.search_race_free.specs.Wanted.{next_access}
 use Rattle.search_race_free.specs.Races.{HasRace}
 use Rattle.search_race_free.specs.Owned.{Within}
 use Rattle.search_race_free.specs.Touches.{access_at}
-use Rattle.search_race_free.specs.Reduced.{wanted_in, next_in, Rest, IsResting, RestsSomewhere, HasTouched, IsKept, IsAfterTurn, ComesOf, HasReduced}
+use Rattle.search_race_free.specs.Reduced.{wanted_in, Rest, IsResting, RestsSomewhere, HasTouched, IsKept, IsAfterTurn, ComesOf}
 
 -- No thread from a number on can go on.
 abbrev pub NoneBeyond : {X T E V A : Type 0} → System X T E V A → (X → T → E → Access) → State X T → ℕ → Type 0

@@ -1,5 +1,5 @@
 -- What a search looks for among the touches of threads and their next accesses.
-use Rattle.std.specs.Prelude.{ℕ, zero, suc, ◌≡◌, ◌≢◌, ◌<◌, ◌⊎◌, ◌↔◌, List, [], ◌∷◌, Contains, Option, Some, None}
+use Rattle.std.specs.Prelude.{ℕ, zero, suc, ◌≡◌, ◌≢◌, ◌⊎◌, ◌↔◌, List, [], ◌∷◌, Contains, Option, Some, None}
 use Rattle.search_settled.specs.Accesses.{Conflict, Race}
 use Rattle.search_settled.specs.declared.access.Access.{Access}
 use Rattle.search_race_free.specs.declared.owning.Touch.{Touch}

@@ -1,5 +1,4 @@
 -- What is searched of threads that do not race, and what a search says of races.
-use Rattle.std.specs.Prelude.{Option}
 use Rattle.schedule.specs.System.{State}
 use Rattle.search_reach.specs.Search.{StepSystem}
 use Rattle.search_settled.specs.declared.flat.Flat.{Flat}

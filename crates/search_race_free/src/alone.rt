@@ -68,7 +68,7 @@ pub(crate) enum Alone<F> {
 }
 
 /// Thread m makes its next turn, if that is plain.
-fn turn_alone<M: Accesses>(
+pub(crate) fn turn_alone<M: Accesses>(
     alloc: Global,
     system: &M,
     from: Owning<Flat<M::Shared, M::Thread>>,

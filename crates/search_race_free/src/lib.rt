@@ -29,9 +29,11 @@ mod owning;
 mod race;
 mod states;
 mod touches;
+mod trace;
 
 pub use accesses::Accesses;
 pub use laws::races_meet;
 pub use owning::{Owning, Touch};
 pub use race::Race;
 pub use states::{RaceFree, search_race_free};
+pub use trace::{all_choices, race_choices};

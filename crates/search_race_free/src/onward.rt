@@ -19,7 +19,7 @@ pub(crate) fn next_of(wanted: &[Option<Access>], m: usize) -> Option<Access>
 }
 
 /// Whether thread m may go on alone after the turn of thread n: it is that thread, or it couldn't go on before.
-fn is_free(before: &[Option<Access>], n: usize, m: usize) -> bool
+pub(crate) fn is_free(before: &[Option<Access>], n: usize, m: usize) -> bool
     ensures { result ≡ true → m ≢ n → access_at before.now m ≡ None }
 {
     match next_of(before, m) {

@@ -1,5 +1,5 @@
 //! All endings of threads of which none race, and races of those of which some do.
-ghost use Rattle.std.specs.Prelude.{◌≡◌, IfOk, IfSome, vec_len};
+ghost use Rattle.std.specs.Prelude.{◌≡◌, IfOk, IfSome, option_map, vec_len};
 ghost use Rattle.indexmap.specs.IndexSet.{index_set_len};
 ghost use Rattle.search_reach.specs.Search.{IsSound};
 ghost use Rattle.search_reach.specs.Found.{AreEndings};
@@ -80,6 +80,16 @@ pub struct RaceFree<E: Eq + Hash> {
     pub ended: Ended<E>,
     /// Two threads that race, where it came to that.
     pub race: Option<Race>,
+    /// The threads whose turns lead to a state from which one more leads to the race. No clause says that they do: they
+    /// are a hint for `race_choices`.
+    pub way: Vec<usize>,
+}
+
+/// A race, and the place among the states that were met of the one from which a turn leads to it.
+#[derive(Clone, Copy)]
+struct RaceBehind {
+    race: Race,
+    place: usize,
 }
 
 /// A race that is found at one of these states, from this place on.
@@ -89,14 +99,14 @@ fn race_among<M: Accesses>(
     met: &[Owning<Flat<M::Shared, M::Thread>>],
     from: usize,
     most_plain: u32,
-) -> Result<Option<Race>, AllocError>
+) -> Result<Option<RaceBehind>, AllocError>
     requires { IsSound (reduced M.Moves system.now) met.now }
-    ensures { IfOk result (λ o. IfSome o (IsRaceOf M.Moves system.now)) }
+    ensures { IfOk result (λ o. IfSome o (λ r. IsRaceOf M.Moves system.now r.race)) }
 {
     let mut at = from;
     while let Some(state) = met.get(at) {
         if let Came::Races(race) = next_states(alloc, system, state, most_plain)? {
-            return Ok(Some(race));
+            return Ok(Some(RaceBehind { race, place: at }));
         }
         at += 1;
     }
@@ -104,11 +114,11 @@ fn race_among<M: Accesses>(
 }
 
 /// A race that is found in the beginning.
-fn race_at_first<M: Accesses>(alloc: Global, system: &M) -> Result<Option<Race>, AllocError>
-    ensures { IfOk result (λ o. IfSome o (IsRaceOf M.Moves system.now)) }
+fn race_at_first<M: Accesses>(alloc: Global, system: &M) -> Result<Option<RaceBehind>, AllocError>
+    ensures { IfOk result (λ o. IfSome o (λ r. IsRaceOf M.Moves system.now r.race)) }
 {
     match first_state(alloc, system)? {
-        Came::Races(race) => Ok(Some(race)),
+        Came::Races(race) => Ok(Some(RaceBehind { race, place: 0 })),
         Came::To(_) => Ok(None),
         Came::Unknown => Ok(None),
     }
@@ -128,9 +138,9 @@ fn race_in<M: Accesses>(
     system: &M,
     found: &Found<Owning<Flat<M::Shared, M::Thread>>>,
     most_plain: u32,
-) -> Result<Option<Race>, AllocError>
+) -> Result<Option<RaceBehind>, AllocError>
     requires { IsSound (reduced M.Moves system.now) found.now.met.keys }
-    ensures { IfOk result (λ o. IfSome o (IsRaceOf M.Moves system.now)) }
+    ensures { IfOk result (λ o. IfSome o (λ r. IsRaceOf M.Moves system.now r.race)) }
 {
     let Verdict::CannotTell = found.verdict else {
         return Ok(None);
@@ -140,6 +150,44 @@ fn race_in<M: Accesses>(
     }
     let from = behind_last(found.moves.as_slice());
     race_among(alloc, system, found.met.as_slice(), from, most_plain)
+}
+
+/// The threads whose turns lead to the state of this place, by the moves that were noted: those from a state stand
+/// before those from later ones, so one walk back meets a move to each state of the way.
+fn way_to(alloc: Global, moves: &[Move], place: usize) -> Result<Vec<usize>, AllocError> {
+    let mut way = Vec::new(alloc);
+    let mut at = place;
+    for n in (0..moves.len()).rev() {
+        let m = moves[n];
+        if m.next as usize == at && (m.from as usize) < at {
+            way.push(m.thread as usize)?;
+            at = m.from as usize;
+        }
+    }
+    way.reverse();
+    Ok(way)
+}
+
+/// The threads whose turns lead to where a race is found, if one is.
+fn way_behind(
+    alloc: Global,
+    moves: &[Move],
+    behind: Option<RaceBehind>,
+) -> Result<Vec<usize>, AllocError> {
+    match behind {
+        Some(behind) => way_to(alloc, moves, behind.place),
+        None => Ok(Vec::new(alloc)),
+    }
+}
+
+/// Who races there.
+fn racing(behind: Option<RaceBehind>) -> Option<Race>
+    ensures { result ≡ option_map (λ b. b.race) behind }
+{
+    match behind {
+        Some(behind) => Some(behind.race),
+        None => None,
+    }
 }
 
 /// The endings of all runs of threads, whatever the order of their turns, where no threads race in any run: at
@@ -172,7 +220,12 @@ pub fn search_race_free<M: Accesses, F: Follows>(
 {
     let turns = RaceFreeTurns { system, most_plain };
     let found = reach_all(alloc, &turns, most, follower)?;
-    let race = race_in(alloc, system, &found, most_plain)?;
+    let behind = race_in(alloc, system, &found, most_plain)?;
+    let way = way_behind(alloc, found.moves.as_slice(), behind)?;
     let ended = endings_of(alloc, &turns, most, found, follower)?;
-    Ok(RaceFree { ended, race })
+    Ok(RaceFree {
+        ended,
+        race: racing(behind),
+        way,
+    })
 }

@@ -1,6 +1,6 @@
 -- What is written of races.
 use Rattle.std.specs.Prelude.{ℕ, ◌≡◌, ◌<◌, ◌==◌, ◌&&◌, nat_lt, if◌then◌else◌, Bool, true, false}
-use Rattle.std.specs.Prelude.{List, [], ◌∷◌, ◌++◌, codes, length, Option, Some, None, option_and_then}
+use Rattle.std.specs.Prelude.{List, [], ◌∷◌, ◌++◌, codes, length, Option, Some, None, option_and_then, slice_index_or}
 use Rattle.std.specs.List.{slice_get, AllZip, concat}
 use Rattle.std.specs.Fmt.{decimal}
 use Rattle.std.specs.Io.KnownBytes.{Appends}
@@ -97,3 +97,9 @@ abbrev pub TellsRaces : Shown → Story → Races → Option (List ℕ) → Opti
 TellsRaces shown story races old new = (texts : List (List ℕ))
     × AllZip (SaysRace shown story races.kinds.items) races.pairs.items texts
     × Appends old new (concat texts ++ end_text races.is_cut (length races.pairs.items))
+
+-- The first of the races is written, where there is one.
+abbrev pub WritesFirst : Shown → Story → Races → Bool → Option (List ℕ) → Option (List ℕ) → Type 0
+WritesFirst shown story races true old new = (r : Race) × (0 < length races.pairs.items)
+    × (slice_index_or races.pairs.items 0 r ≡ r) × (text : List ℕ) × SaysRace shown story races.kinds.items r text × Appends old new text
+WritesFirst shown story races false old new = (races.pairs.items ≡ []) × (new ≡ old)

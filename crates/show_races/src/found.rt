@@ -117,6 +117,7 @@ fn find_firsts(
     })
 }
 
+/// Whether one of two holds.
 fn either(a: bool, b: bool) -> bool
     ensures { result ≡ (a || b) }
 {

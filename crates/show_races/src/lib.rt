@@ -3,7 +3,7 @@
 //!
 //! Proved: `races_shown` tells each race of the run, of those at the same two places in the code the first, each once,
 //! unless it says that there are more, which is so then; `write_races` writes a paragraph for each, with the lines, the
-//! threads, the words and the places of its two entries.
+//! threads, the words and the places of its two entries, and `write_first` that of the first one.
 #![tactic(auto)]
 
 mod found;
@@ -13,4 +13,4 @@ mod writing;
 
 pub use found::{Races, races_shown};
 pub use kinds::kinds_of;
-pub use writing::write_races;
+pub use writing::{write_first, write_races};

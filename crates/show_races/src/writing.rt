@@ -2,7 +2,7 @@
 
 ghost use Rattle.std.specs.Prelude.{◌≡◌, ◌<◌, All, IfOk, OnOk, length, string_bytes};
 ghost use Rattle.show_races.specs.Told.{IsWithin};
-ghost use Rattle.show_races.specs.Written.{IsEntryText, IsOrderText, SaysRace, TellsRaces, name_text};
+ghost use Rattle.show_races.specs.Written.{IsEntryText, IsOrderText, SaysRace, TellsRaces, WritesFirst, name_text};
 
 use crate::found::Races;
 use crate::release::next_atomic_write;
@@ -121,6 +121,31 @@ fn race_text(
     let order = order_text(alloc, shown, kinds, race)?;
     let text = format!(in alloc; "{name}: {one}; {other}\n{order}\n")?;
     Ok(text)
+}
+
+/// Writes the first of the races of a record's run, where it has one, and answers whether it has.
+///
+/// # Errors
+/// Where memory is refused, or the stream fails.
+pub fn write_first<W: Write>(
+    alloc: Global,
+    shown: Shown,
+    story: &Story,
+    races: &Races,
+    out: &mut W,
+) -> Result<bool, Unwritten>
+    requires { All (IsWithin shown.record.now.log) races.now.pairs.items }
+    ensures { IfOk result
+        (λ is. WritesFirst shown.entry story.now races.now is (W.contents out.old) (W.contents out.new)) }
+{
+    let pairs = races.pairs.as_slice();
+    if pairs.is_empty() {
+        return Ok(false);
+    }
+    let text = race_text(alloc, shown, story, races.kinds.as_slice(), pairs[0])?;
+    write!(out, "{text}")?;
+    out.flush()?;
+    Ok(true)
 }
 
 /// Whether these are all, where that isn't clear.

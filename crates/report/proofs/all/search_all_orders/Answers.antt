@@ -1,153 +1,55 @@
-use Rattle.std.proofs.Common.{ℕ, List, [], refl, sym, ◌∙◌, subst, arith, inl, inr, true≢false}
-use Rattle.search_modules.specs.Endings.{HasEveryEnding, AllCanEndSo}
-use Rattle.std.proofs.KnownBytes.{Appends-nil}
-use Rattle.report_jobs.specs.Prints.{changed}
-use Rattle.report.specs.Prints.{TellsOfOne}
-use Rattle.report.specs.Searches.{IsSureToEnd}
-use Rattle.report.proofs.Printed.{prints_all, first_is_sought, well_has_none}
-use Rattle.report.proofs.Sought.{none_of}
-use Rattle.report.proofs.Sure.{sure}
+use Rattle.std.proofs.Common.{ℕ, List, ◌∙◌, ap, refl, sym, subst}
+use Rattle.std.proofs.lemmas.Result.{IfOk-weaker}
+use Rattle.report_jobs.specs.Prints.{change, changed}
+use Rattle.report.specs.Prints.{IsStatusOf, IsToldBehind, PrintsAll, Tells}
+use Rattle.report.specs.Racing.{TellsOfRacing}
+use Rattle.report.specs.Searches.{Finds, IsWellAt}
+use Rattle.report.specs.declared.whole.Racing.{Racing}
+use Rattle.report.proofs.Printed.{prints_all}
+use Rattle.report.proofs.Wholly.{finds_all, if_both, well_by}
 use Rattle.report.proofs.all.search_all_orders.Goals as goal
 
-pub returns-then-not-stops-clause-prints : goal.returns-then-not-stops-clause-prints
-returns-then-not-stops-clause-prints g c =
-    let contents = g.W.Write.contents in
-    let lines = contents c.write_complete.new.out in
-    let s = c.args.search.now.sought in
-    let first = c.in_ok-first.ensures.first in
-    let is_first = rw c.in-Some.is at first in
-    prints_all c.args.request.now c.args.search.now c.requires.asked (changed g.S.Write.contents c.args.save.now c.args.save.now) _
-    (contents c.args.out.now) lines lines c.args.most c.in_ok-all.all c.in_ok-all.ensures.complete c.in_ok-write_complete.ensures
-    ((λ one. absurd (omega (arith, one))), (λ well. absurd (first_is_sought s _ _ _ is_first well.unsought))) (omega arith) (
-      [],
-      Appends-nil lines,
-      inl (record {
-        text_is = refl;
-        kept = refl;
-        unsought = λ stops. absurd (true≢false (sym stops ∙ c.if-not-stops.true));
-        endless = λ stops. absurd (true≢false (sym stops ∙ c.if-not-stops.true));
-      }),
-    )
-
-pub returns-in-Some-clause-prints : goal.returns-in-Some-clause-prints
-returns-in-Some-clause-prints g c =
-    let contents = g.W.Write.contents in
-    let s = c.args.search.now.sought in
-    let is_first = rw c.in-Some.is at c.in_ok-first.ensures.first in
-    let choices = rw c.in-Some.is at c.in_ok-first.ensures.choices in
-    let told = c.in_ok-tell_sought.ensures.tells in
-    let first = c.in-Some.first in
-    let save = changed g.S.Write.contents c.args.save.now c.tell_sought.new.save in
-    prints_all c.args.request.now c.args.search.now c.requires.asked (changed g.S.Write.contents c.args.save.now c.tell_sought.new.save) _
-    (contents c.args.out.now) (contents c.write_complete.new.out) (contents c.tell_sought.new.out)
-    c.args.most c.in_ok-all.all c.in_ok-all.ensures.complete c.in_ok-write_complete.ensures
-    ((λ one. absurd (omega (arith, one))), (λ well. absurd (first_is_sought s _ _ _ is_first well.unsought))) (omega arith) (
-      told.0,
-      told.1,
-      inr (
-        c.if-not-stops.false,
-        inl (record {
-          number = c.in-Some.first.number;
-          ending = c.in-Some.first.ending.now;
-          is_first = is_first;
-          tells = subst (λ (path : List ℕ). TellsOfOne c.args.request.now c.args.search.now path first.number first.ending.now told.0 save)
-              choices told.2;
-        }),
-      ),
-    )
-
-pub returns-then-are_well-clause-prints : goal.returns-then-are_well-clause-prints
-returns-then-are_well-clause-prints g c =
-    let contents = g.W.Write.contents in
-    let lines = contents c.write_complete.new.out in
-    let s = c.args.search.now.sought in
-    let well = c.are_well.ensures.0 c.if-are_well.true in
-    prints_all c.args.request.now c.args.search.now c.requires.asked (changed g.S.Write.contents c.args.save.now c.args.save.now) _
-    (contents c.args.out.now) lines lines c.args.most c.in_ok-all.all c.in_ok-all.ensures.complete c.in_ok-write_complete.ensures
-    ((λ _. well), (λ _. refl)) (omega arith) (
-      [],
-      Appends-nil lines,
-      inl (record {
-        text_is = refl;
-        kept = refl;
-        unsought = λ _. well.unsought;
-        endless = λ _. well_has_none s s.target c.in_ok-all.all well;
-      }),
-    )
-
-pub returns-then-not-stops-2-clause-prints : goal.returns-then-not-stops-2-clause-prints
-returns-then-not-stops-2-clause-prints g c =
-    let contents = g.W.Write.contents in
-    let lines = contents c.write_complete.new.out in
-    prints_all c.args.request.now c.args.search.now c.requires.asked (changed g.S.Write.contents c.args.save.now c.args.save.now) _
-    (contents c.args.out.now) lines lines c.args.most c.in_ok-all.all c.in_ok-all.ensures.complete c.in_ok-write_complete.ensures
-    ((λ one. absurd (omega (arith, one))), (λ well. absurd (true≢false (sym (c.are_well.ensures.1 well) ∙ c.if-are_well.false)))) (omega arith) (
-      [],
-      Appends-nil lines,
-      inl (record {
-        text_is = refl;
-        kept = refl;
-        unsought = λ stops. absurd (true≢false (sym stops ∙ c.if-not-stops-2.true));
-        endless = λ stops. absurd (true≢false (sym stops ∙ c.if-not-stops-2.true));
-      }),
-    )
-
-pub returns-in-Some-endless_run-clause-prints : goal.returns-in-Some-endless_run-clause-prints
-returns-in-Some-endless_run-clause-prints g c =
-    let contents = g.W.Write.contents in
-    let told = c.in_ok-tell_endless-in-Some-endless_run.ensures.tells in
-    prints_all c.args.request.now c.args.search.now c.requires.asked (changed g.S.Write.contents c.args.save.now c.tell_endless.new.save) _
-    (contents c.args.out.now) (contents c.write_complete.new.out) (contents c.tell_endless.new.out)
-    c.args.most c.in_ok-all.all c.in_ok-all.ensures.complete c.in_ok-write_complete.ensures
-    ((λ one. absurd (omega (arith, one))), (λ well. absurd (true≢false (sym (c.are_well.ensures.1 well) ∙ c.if-are_well.false)))) (omega arith) (
-      told.0,
-      told.1,
-      inr (
-        c.if-not-stops-2.false,
-        inr (record {
-          run = c.in-Some-endless_run.run';
-          known = rw c.in-Some-endless_run.is at c.endless_run.ensures.some;
-          unsought = c.in_ok-first.ensures.none (none_of _ c.in_default.not-Some);
-          tells = told.2;
-        }),
-      ),
-    )
+pub returns-clause-finds : goal.returns-clause-finds
+returns-clause-finds g c =
+    let m = c.args.request.now.parts in
+    let s = c.args.asked.search.now in
+    let saved = g.S.Write.contents in
+    let a = saved c.args.save.now in
+    let b = saved c.tell_race.new.save in
+    let last = saved c.tell_behind.new.save in
+    if_both c.tell_behind.result (Finds m s (change b last)) (IsStatusOf s c.in_ok-whole.whole) (Finds m s (change a last))
+    (λ status found is. finds_all m s a b last status s.races refl
+    (λ unkept. ap saved (c.tell_race.ensures.unwanted unkept)) (λ quiet. ap saved (c.tell_behind.ensures.quiet quiet))
+    c.in_ok-tell_race.ensures.kept found is.statuses)
+    c.tell_behind.ensures.finds c.tell_behind.ensures.status
 
 pub returns-clause-prints : goal.returns-clause-prints
 returns-clause-prints g c =
-    let contents = g.W.Write.contents in
-    let lines = contents c.write_complete.new.out in
-    prints_all c.args.request.now c.args.search.now c.requires.asked (changed g.S.Write.contents c.args.save.now c.args.save.now) _
-    (contents c.args.out.now) lines lines c.args.most c.in_ok-all.all c.in_ok-all.ensures.complete c.in_ok-write_complete.ensures
-    ((λ one. absurd (omega (arith, one))), (λ well. absurd (true≢false (sym (c.are_well.ensures.1 well) ∙ c.if-are_well.false)))) (omega arith) (
-      [],
-      Appends-nil lines,
-      inl (record {
-        text_is = refl;
-        kept = refl;
-        unsought = λ _. c.in_ok-first.ensures.none (none_of _ c.in_default.not-Some);
-        endless = λ _. rw c.in-None.is at c.endless_run.ensures.none;
-      }),
-    )
-
-pub returns-then-are_well-clause-well : goal.returns-then-are_well-clause-well
-returns-then-are_well-clause-well g c = λ some zero.
     let r = c.args.request.now in
-    let dump = c.args.search.now.sought.dump in
-    let asked = c.requires.asked in
-    let all = c.in_ok-all.all in
-    let complete = c.in_ok-all.ensures.complete in
-    let endings = all.endings.keys in
-    let well = c.are_well.ensures.0 c.if-are_well.true in
-    record {
-      args = r.args;
-      spelled = asked.spelled;
-      endings = endings;
-      every = subst (λ (name : List ℕ). HasEveryEnding r.parts name r.args dump endings) asked.name_is (complete.every well.sure.are_all);
-      can = subst (λ (name : List ℕ). AllCanEndSo r.parts name r.args dump endings) asked.name_is complete.can;
-      some = well.some;
-      well = well.well;
-      unsought = well.unsought;
-      sure = subst (λ (name : List ℕ). IsSureToEnd r.parts name r.args dump) asked.name_is
-          (sure r dump all.states all.verdict all.liveness well.sure.are_all well.sure.live complete.live);
-    }
+    let s = c.args.asked.search.now in
+    let saved = g.S.Write.contents in
+    let contents = g.W.Write.contents in
+    let a = saved c.args.save.now in
+    let b = saved c.tell_race.new.save in
+    let last = saved c.tell_behind.new.save in
+    let before = contents c.args.out.now in
+    let raced = contents c.tell_race.new.out in
+    let between = contents c.write_complete.new.out in
+    let after = contents c.tell_behind.new.out in
+    let w = c.in_ok-whole.whole in
+    let race = subst (λ (racing : Racing). Tells (change before raced) (λ text. TellsOfRacing r s racing text (change a b)))
+    (sym c.in_ok-whole.ensures.racing) c.in_ok-tell_race.ensures.tells in
+    if_both c.tell_behind.result (λ _. Tells (change between after) (λ text. IsToldBehind r s w text (change b last))) (IsStatusOf s w)
+    (PrintsAll r.parts s c.args.most (change before after) (change a last))
+    (λ status told is. prints_all r s c.requires.asked status before raced between after a b last c.args.most w
+    c.in_ok-whole.ensures.whole race c.in_ok-write_complete.ensures told is)
+    c.tell_behind.ensures.tells c.tell_behind.ensures.status
+
+pub returns-clause-well : goal.returns-clause-well
+returns-clause-well g c =
+    let r = c.args.request.now in
+    let s = c.args.asked.search.now in
+    let w = c.in_ok-whole.whole in
+    IfOk-weaker c.tell_behind.result (IsStatusOf s w) (IsWellAt r.parts s)
+    (λ status is. well_by r s c.requires.asked w c.in_ok-whole.ensures.whole status is)
+    c.tell_behind.ensures.status

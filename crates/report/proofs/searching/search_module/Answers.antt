@@ -11,27 +11,27 @@ use Rattle.report.proofs.searching.search_module.Goals as goal
 
 pub returns-in-Some-clause-finds : goal.returns-in-Some-clause-finds
 returns-in-Some-clause-finds g c =
-    let s = c.args.search.now in
+    let s = c.args.asked.search.now in
     let save = changed g.S.Write.contents c.args.save.now c.search_all_orders.new.save in
     subst (λ (m : Parts). IfOk c.search_all_orders.result (Finds m s save)) c.request_of-request.ensures.parts
     c.search_all_orders.ensures.finds
 
 pub returns-in-Some-clause-well : goal.returns-in-Some-clause-well
 returns-in-Some-clause-well g c =
-    let s = c.args.search.now in
+    let s = c.args.asked.search.now in
     subst (λ (m : Parts). IfOk c.search_all_orders.result (IsWellAt m s)) c.request_of-request.ensures.parts
     c.search_all_orders.ensures.well
 
 pub returns-in-Some-clause-trouble : goal.returns-in-Some-clause-trouble
 returns-in-Some-clause-trouble g c =
     let m = c.args.module.now.parts in
-    let words = c.args.search.now.call in
+    let words = c.args.asked.search.now.call in
     IfErr-weaker c.search_all_orders.result IsOfSystem (IsTroubleOf m words) (of_system m words.invoke.now (texts_in words.args.items))
     c.search_all_orders.ensures.trouble
 
 pub returns-clause-finds : goal.returns-clause-finds
 returns-clause-finds g c =
-    let s = c.args.search.now in
+    let s = c.args.asked.search.now in
     let save = changed g.S.Write.contents c.args.save.now c.search_drawn.new.save in
     subst (λ (m : Parts). IfOk c.search_drawn.result (Finds m s save)) c.request_of-request.ensures.parts c.search_drawn.ensures.finds
 
@@ -39,7 +39,7 @@ pub returns-clause-drawn : goal.returns-clause-drawn
 returns-clause-drawn g c =
     let m = c.args.module.now.parts in
     let r = c.request_of-request.result.parts in
-    let s = c.args.search.now in
+    let s = c.args.asked.search.now in
     let out = changed g.W.Write.contents c.args.out.now c.search_drawn.new.out in
     let save = changed g.S.Write.contents c.args.save.now c.search_drawn.new.save in
     IfOk-weaker c.search_drawn.result (PrintsDrawn r s out save) (IsDrawn m s out save)
@@ -49,7 +49,7 @@ returns-clause-drawn g c =
 pub returns-clause-trouble : goal.returns-clause-trouble
 returns-clause-trouble g c =
     let m = c.args.module.now.parts in
-    let words = c.args.search.now.call in
+    let words = c.args.asked.search.now.call in
     IfErr-weaker c.search_drawn.result IsOfSystem (IsTroubleOf m words) (of_system m words.invoke.now (texts_in words.args.items))
     c.search_drawn.ensures.trouble
 
@@ -57,7 +57,7 @@ pub returns-in-Some-clause-prints : goal.returns-in-Some-clause-prints
 returns-in-Some-clause-prints g c =
     let m = c.args.module.now.parts in
     let r = c.request_of-request.result.parts in
-    let s = c.args.search.now in
+    let s = c.args.asked.search.now in
     let out = changed g.W.Write.contents c.args.out.now c.search_all_orders.new.out in
     let save = changed g.S.Write.contents c.args.save.now c.search_all_orders.new.save in
     IfOk-weaker c.search_all_orders.result (PrintsAll r s c.in-Some.most out save) (IsPrintedOf m s out save)

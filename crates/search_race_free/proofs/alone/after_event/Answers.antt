@@ -1,4 +1,4 @@
-use Rattle.std.proofs.Common.{◌∙◌, ap, sym, subst, refl}
+use Rattle.std.proofs.Common.{◌∙◌, ap, sym, refl}
 use Rattle.std.specs.List.{slice_get}
 use Rattle.search_settled.proofs.Threads.{if-some-at, all-come, at-get}
 use Rattle.search_settled.proofs.Following.{thread-of, asked, told-some}

@@ -1,4 +1,4 @@
-use Rattle.std.proofs.Common.{◌≡◌, ◌∙◌, ap, sym, subst, refl, inl, Some}
+use Rattle.std.proofs.Common.{◌∙◌, ap, sym, subst, inl}
 use Rattle.std.specs.List.{slice_get}
 use Rattle.search_settled.proofs.Threads.{if-some-at, at-get}
 use Rattle.search_settled.proofs.Following.{thread-of}

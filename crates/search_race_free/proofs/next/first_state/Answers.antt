@@ -1,8 +1,8 @@
 use Rattle.std.proofs.Common.{subst}
 use Rattle.search_settled.specs.Next.{IsBeginning}
 use Rattle.search_settled.proofs.Threads.{if-some-at}
-use Rattle.search_race_free.specs.Touches.{AreClear, AreInTheWay}
-use Rattle.search_race_free.proofs.Beginning.{beginning-rests, begun-clear, begun-races}
+use Rattle.search_race_free.specs.Touches.{AreInTheWay}
+use Rattle.search_race_free.proofs.Beginning.{beginning-rests, begun-races}
 use Rattle.search_race_free.proofs.next.first_state.Goals as goal
 
 pub returns-in_default : goal.returns-in_default

@@ -1,4 +1,4 @@
-use Rattle.std.proofs.Common.{ℕ, ◌≡◌, ◌<◌, ◌∙◌, sym, ap, Some, None, subst, arith}
+use Rattle.std.proofs.Common.{ℕ, ◌≡◌, ◌∙◌, sym, Some, None, subst, arith}
 use Rattle.std.proofs.lemmas.Option.{same_Some, none-some}
 use Rattle.search_settled.specs.declared.access.Access.{Access}
 use Rattle.search_race_free.specs.Touches.{access_at, StrikesNobody, MeetsNobody}

@@ -1,4 +1,4 @@
-use Rattle.std.proofs.Common.{ℕ, ◌≡◌, ◌≢◌, ◌<◌, ◌∙◌, sym, Some, None, true≢false, arith}
+use Rattle.std.proofs.Common.{ℕ, ◌≡◌, ◌≢◌, ◌∙◌, sym, Some, None, true≢false, arith}
 use Rattle.search_settled.specs.Accesses.{Race}
 use Rattle.search_settled.specs.declared.access.Access.{Access}
 use Rattle.search_race_free.specs.Touches.{access_at}

@@ -1,6 +1,5 @@
 use Rattle.std.proofs.Common.{◌≡◌, ◌≢◌, ◌⊎◌, ◌↔◌, ◌∙◌, subst, sym, ap, get_or, Contains, true≢false}
 use Rattle.std.proofs.lemmas.List.{take_all}
-use Rattle.schedule.proofs.Basics.{same_or_not}
 use Rattle.search_race_free.specs.declared.owning.Touch.{Touch}
 use Rattle.search_race_free.specs.Touches.{AreOfOthers}
 use Rattle.search_race_free.proofs.Touching.{others-more, pushed-new, gone-new, no_other}
