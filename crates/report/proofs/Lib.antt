@@ -8,6 +8,5 @@ mod Wholly
 mod Counted
 mod Sought
 mod Silent
-pub mod Told
 mod Pairs
 mod Looking

@@ -21,10 +21,11 @@ use Rattle.show_races.specs.Kinds.{kinds_in, kinds_shown}
 use Rattle.show_races.specs.Written.{SaysRace, WritesFirst}
 use Rattle.show_races.specs.declared.found.Races.{Races}
 use Rattle.report_jobs.specs.Prints.{WriterChange, KeepsRecord, change}
-use Rattle.report.specs.Raced.{AreRowsOf, IsShownOf, SaysPair, WritesPair}
+use Rattle.search_races.specs.Rows.{AreRowsOf}
+use Rattle.search_races.proofs.Told.{kinds_alike, told_of}
+use Rattle.report.specs.Raced.{IsShownOf, SaysPair, WritesPair}
 use Rattle.report.specs.Racing.{keeps_race}
 use Rattle.report.specs.Searches.{KeepsNoneOrRace}
-use Rattle.report.proofs.Told.{kinds_alike, told_of}
 
 pub pair_of : (m : Parts) (r : RecordParts) (rows : List (Option Row)) → (end : EndState) × IsRunOf m r end × AreRowsOf m r end rows
     → (shown : Shown) (story : Story) → IsShownOf m r rows shown story → (races : Races) → races.kinds.items ≡ kinds_shown shown

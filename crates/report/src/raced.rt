@@ -12,7 +12,7 @@ ghost use Rattle.report.specs.Searches.{IsOfSystem, KeepsNoneOrRace};
 ghost use Rattle.report.specs.declared.whole.Racing.TheVariants as racings;
 
 use crate::searching::{Asked, no_memory};
-use crate::showing::{CodeBytes, watched};
+use crate::showing::CodeBytes;
 use crate::whole::{FirstLook, Racing};
 use race_history::is_history;
 use replay_text::Record;
@@ -20,6 +20,7 @@ use report_command::{Search, Sought};
 use report_jobs::{Trouble, keep};
 use search_finds::run_round;
 use search_modules::{Race, race_choices};
+use search_races::watched;
 use show_races::{races_shown, write_first};
 use show_rows::{CodeMap, Shown, Story};
 use show_text::Unwritten;
@@ -36,7 +37,7 @@ fn keeps_race(search: &Search) -> bool
 }
 
 /// What a race that wasn't written is.
-fn trouble_of(unwritten: Unwritten) -> Trouble
+pub(crate) fn trouble_of(unwritten: Unwritten) -> Trouble
     ensures { IsOfSystem result }
 {
     match unwritten {
@@ -54,7 +55,7 @@ fn write_threads<W: Write>(out: &mut W, race: Race) -> io::Result<()>
 }
 
 /// Tells the first race of a recorded run, if it has one, and answers whether it has.
-fn write_pair<W: Write>(
+pub(crate) fn write_pair<W: Write>(
     alloc: Global,
     module: &ValidModule,
     record: &Record,

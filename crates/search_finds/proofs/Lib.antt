@@ -1,4 +1,4 @@
-mod Alike
+mod Ending
 mod InRow
 mod Led
 mod Pieces

@@ -2,7 +2,7 @@ use Rattle.std.proofs.Common.{◌∙◌, List, Option, None, length, replicate, 
 use Rattle.types.specs.declared.event.Entry.{Entry}
 use Rattle.replay_text.specs.declared.parts.RecordParts.{RecordParts}
 use Rattle.show_rows.specs.declared.rows.Row.{Row}
-use Rattle.report.proofs.showing.watched.Goals as goal
+use Rattle.search_races.proofs.rows.watched.Goals as goal
 
 pub returns-in-Ok-replay_watched-clause-run : goal.returns-in-Ok-replay_watched-clause-run
 returns-in-Ok-replay_watched-clause-run c =
