@@ -6,8 +6,7 @@ ghost use Rattle.report_jobs.specs.Jobs.{HasNoSuchCall, IsNoValidModule};
 ghost use Rattle.report_jobs.specs.Prints.{changed};
 ghost use Rattle.report_jobs.specs.Silence.{IsRefusal, Stays};
 ghost use Rattle.report_jobs.specs.Told.{TellsWhatIsWrong};
-ghost use Rattle.report.specs.Prints.{HasSearched};
-ghost use Rattle.report.specs.Jobs.{Performs};
+ghost use Rattle.report.specs.Jobs.{HasSearched, Performs};
 ghost use Rattle.report.specs.Silent.{writes_file};
 
 use crate::{Asked, races_saved, search_module, show_saved};

@@ -17,6 +17,7 @@
 
 mod all;
 mod complete;
+mod drawn_races;
 mod job;
 mod objects;
 mod raced;

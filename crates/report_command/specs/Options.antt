@@ -174,8 +174,9 @@ pub record AsksTarget (f : Found) (target : Target) : Type 0 where
   pub expect : AsksResult f target.expect
 
 -- A search stops at the first run that is looked for where it is said what that is, or what becomes of it.
-abbrev pub stops_by : Found → Bool → Bool
-stops_by f shrink = is_given f (codes "find") || is_given f (codes "expect") || is_given f (codes "record") || shrink
+abbrev pub stops_by : Found → Bool → Bool → Bool
+stops_by f shrink races =
+    is_given f (codes "find") || is_given f (codes "expect") || is_given f (codes "record") || shrink || races
 
 -- Which runs a search makes.
 pub record AsksSought (f : Found) (s : Sought) : Type 0 where
@@ -202,7 +203,7 @@ pub record AsksSearch (f : Found) (s : Search) : Type 0 where
   pub file : HasText f (codes "file") s.file
   pub call : AsksCall f s.call
   pub sought : AsksSought f s.sought
-  pub stops : s.sought.stops ≡ stops_by f s.shrink
+  pub stops : s.sought.stops ≡ stops_by f s.shrink s.races
   pub shrink : HasFlag f (codes "shrink") s.shrink
   pub effort : AsksEffort f s.shrink_time s.time s.jobs
   pub all : AsksAll f s.all

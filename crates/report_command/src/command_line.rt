@@ -421,6 +421,8 @@ pub enum Misuse {
     FindsNoBudget,
     /// What is expected is no result.
     ExpectsNone,
+    /// Of every order the run with a race isn't shrunk.
+    ShrinksRace,
 }
 
 impl Misuse {
@@ -430,7 +432,8 @@ impl Misuse {
             | Misuse::ReplacesModule
             | Misuse::FindReplacesModule
             | Misuse::ReplacesRead
-            | Misuse::FindsNoBudget => ErrorKind::ArgumentConflict,
+            | Misuse::FindsNoBudget
+            | Misuse::ShrinksRace => ErrorKind::ArgumentConflict,
             Misuse::NotText
             | Misuse::Unreadable
             | Misuse::NoLines
@@ -456,6 +459,7 @@ impl Misuse {
             | Misuse::FindsAll
             | Misuse::FindsNothing
             | Misuse::FindsNoBudget
+            | Misuse::ShrinksRace
             | Misuse::ExpectsNone => Some(CommandName::Search),
         }
     }
@@ -493,6 +497,9 @@ impl Misuse {
                 "the argument '--all' cannot be used with '--find' of 'out of fuel' or 'record full': no budget is spent"
             }
             Misuse::ExpectsNone => EXPECTS_NONE,
+            Misuse::ShrinksRace => {
+                "the argument '--shrink' cannot be used with '--races' and '--all': the run to a race is told as it is"
+            }
         }
     }
 }

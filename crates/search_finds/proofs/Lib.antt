@@ -1,4 +1,4 @@
-mod Ending
+mod EndsSo
 mod InRow
 mod Led
 mod Pieces
