@@ -4,6 +4,7 @@ mod Asking
 mod Sure
 mod Growing
 mod Printed
+mod DrawnRaces
 mod Wholly
 mod Counted
 mod Sought
