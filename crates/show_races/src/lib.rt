@@ -13,4 +13,5 @@ mod writing;
 
 pub use found::{Races, races_shown};
 pub use kinds::kinds_of;
+pub use release::next_atomic_write;
 pub use writing::{write_first, write_races};
