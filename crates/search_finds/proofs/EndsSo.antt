@@ -3,7 +3,6 @@ use Rattle.std.proofs.Common.{ℕ, ◌≡◌, ◌↔◌, Bool, IsTrue, true, fal
 use Rattle.spawn_host.specs.Requests.{Requested}
 use Rattle.report_choice.specs.declared.sought.Sought.{Sought}
 use Rattle.search_scheduled.specs.declared.running.MadeRun.{MadeRun}
-use Rattle.search_endings.specs.Endings.{Ending}
 use Rattle.search_finds.specs.Finds.{EndsAsLookedFor, HasNoneLookedFor, IsFound, IsLookedFor}
 use Rattle.search_finds.specs.Judged.{IsFindBy, IsPassed}
 use Rattle.search_finds.specs.Halts.{IfFound}
@@ -23,13 +22,13 @@ found_so q s (halts.Found f) found = (found.0, found.1.0 refl)
 found_so q s halts.AllMade found = tt
 found_so q s halts.Told found = tt
 
-unsought : (s : Sought) (made : MadeRun) (e : Ending) → EndsAsLookedFor s s.dump made.end → ends_so s made false → ⊥
-unsought s made e looked says = true≢false (sym (says.1 looked))
+unsought : (s : Sought) (made : MadeRun) → EndsAsLookedFor s s.dump made.end → ends_so s made false → ⊥
+unsought s made looked says = true≢false (sym (says.1 looked))
 
 pub none_so : (q : Requested) (s : Sought) (t : Table) (h : Halt) → AreNotedBy (IsPassed (ends_so s) s h) q s t → h ≡ halts.AllMade
     → IsTrue s.stops → HasNoneLookedFor s t
 none_so q s t halts.AllMade noted is stops = λ k d within looked.
     let met = rows_of (IsPassed (ends_so s) s halts.AllMade) q s t noted k d within in
-    unsought s met.made _ (subst (IsLookedFor s) met.ending looked) (met.holds stops)
+    unsought s met.made (subst (IsLookedFor s) met.ending looked) (met.holds stops)
 none_so q s t (halts.Found f) noted is stops = absurd cc
 none_so q s t halts.Told noted is stops = absurd cc

@@ -14,9 +14,9 @@ drop_later-requires g c =
     let says = g.J.Judges.judges c.args.judge.now in
     let s = c.args.self.now in
     let a = c.args.ahead in
-    let first = c.first.ensures in
-    let wanted = c.wanted.ensures in
-    let next : first_of a (c.args.job + 1) ≡ c.first.result + c.wanted.result = omega (arith, first, wanted) in
+    let first = c.first-first.ensures in
+    let wanted = c.wanted-wanted.ensures in
+    let next : first_of a (c.args.job + 1) ≡ c.first-first.result + c.wanted-wanted.result = omega (arith, first, wanted) in
     subst (λ (k : ℕ). AreMetIn says s k c.args.endings.now.items) next c.requires.endings
 
 pub returns-clause-endings : goal.returns-clause-endings
@@ -32,7 +32,7 @@ returns-clause-endings g c =
     subst (λ (k : ℕ). AreMetIn says s (first_of a k) c.in_ok-made.made.items) job (rw c.in_ok-made.was at last) in
     let later : AreMetIn says s (first_of a c.args.job + length c.in_ok-made.made.items) c.drop_later.new.endings.items =
     subst (λ (k : ℕ). AreMetIn says s k c.drop_later.new.endings.items)
-    (let first = c.first.ensures in let len = c.len.ensures ∙ len_is c.in_ok-made.made in omega (arith, first, len)) c.drop_later.ensures in
+    (let first = c.first-first.ensures in let len = c.len.ensures ∙ len_is c.in_ok-made.made in omega (arith, first, len)) c.drop_later.ensures in
     subst (λ (l : List JudgedEnding). AreMetIn says s (first_of a c.args.job) l) (sym {A = List JudgedEnding} c.in_ok-append.ensures.items)
     (put_behind says q s.sought.now s.entries (first_of a c.args.job) c.drop_later.new.endings.items c.in_ok-made.made.items later these)
 

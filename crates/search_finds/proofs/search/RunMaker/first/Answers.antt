@@ -1,4 +1,4 @@
-use Rattle.std.proofs.Common.{ℕ, ◌≡◌, ◌<◌, Bool, List, [], true, false, IsTrue, subst, true≢false, sym, ◌∙◌, arith}
+use Rattle.std.proofs.Common.{ℕ, ◌≡◌, ◌<◌, Bool, List, true, false, IsTrue, refl, subst, true≢false, sym, ◌∙◌, arith}
 use Rattle.search_scheduled.specs.declared.running.MadeRun.{MadeRun}
 use Rattle.search_finds.specs.Drawing.{AreOfRunsBack}
 use Rattle.search_finds.specs.declared.search.JudgedEnding.{JudgedEnding}
@@ -21,8 +21,8 @@ loop-run-init g c =
 
 -- what isn't looked for, where the search stops, is passed over
 passed : (Says : MadeRun → Bool → Type 0) (made : MadeRun) (stops is : Bool) → (is ≡ true → stops ≡ false) → IsTrue stops → Says made is → Says made false
-passed Says made stops true not yes says = absurd (true≢false (sym yes ∙ not cc))
-passed Says made stops false not yes says = says
+passed Says made stops true none given says = absurd (true≢false (sym given ∙ none refl))
+passed Says made stops false none given says = says
 
 pub returns-then-sought-clause-noted : goal.returns-then-sought-clause-noted
 returns-then-sought-clause-noted g c =
