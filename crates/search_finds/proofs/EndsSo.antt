@@ -1,5 +1,5 @@
 -- Runs that are looked for by how they end.
-use Rattle.std.proofs.Common.{ℕ, ◌≡◌, ◌↔◌, Bool, IsTrue, true, false, refl, subst, sym, true≢false}
+use Rattle.std.proofs.Common.{◌≡◌, ◌↔◌, Bool, IsTrue, true, false, refl, subst, sym, true≢false}
 use Rattle.spawn_host.specs.Requests.{Requested}
 use Rattle.report_choice.specs.declared.sought.Sought.{Sought}
 use Rattle.search_scheduled.specs.declared.running.MadeRun.{MadeRun}

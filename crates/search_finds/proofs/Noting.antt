@@ -8,7 +8,7 @@ use Rattle.search_finds.specs.declared.met.Table.{Table}
 use Rattle.search_finds.specs.Tables.{IsNoted}
 use Rattle.search_finds.specs.Noted.{AreMet, AreNoted, AreNotedBy, IsTableOf}
 use Rattle.search_finds.specs.Noted.IsTableOf.{none, more}
-use Rattle.search_finds.specs.Drawing.{AreOfRuns, AreOfRunsBy, IsMetBy, IsMetEnding}
+use Rattle.search_finds.specs.Drawing.{AreOfRuns, AreOfRunsBy, IsMetBy}
 use Rattle.spawn_host.specs.Requests.{Requested}
 use Rattle.report_choice.specs.declared.sought.Sought.{Sought}
 use Rattle.search_finds.proofs.InRow.{one_more, last_of}

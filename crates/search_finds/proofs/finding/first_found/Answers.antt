@@ -1,11 +1,3 @@
-use Rattle.std.proofs.Common.{◌≡◌, ◌↔◌, IsTrue, true, false, subst, sym, true≢false}
-use Rattle.search_scheduled.specs.declared.running.MadeRun.{MadeRun}
-use Rattle.search_finds.specs.Finds.{EndsAsLookedFor, IsFound, IsLookedFor}
-use Rattle.search_finds.specs.Judged.{IsFindBy, IsPassed}
-use Rattle.search_finds.specs.Halts.{IfFound}
-use Rattle.search_finds.specs.Noted.{AreNotedBy}
-use Rattle.search_finds.specs.declared.finding.Halt.{Halt}
-use Rattle.search_finds.specs.declared.finding.Halt.TheVariants as halts
 use Rattle.search_finds.proofs.EndsSo.{found_so, none_so}
 use Rattle.search_finds.proofs.Noting.{met_of_noted, plainly_noted}
 use Rattle.search_finds.proofs.finding.first_found.Goals as goal
