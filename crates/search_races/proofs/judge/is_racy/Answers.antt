@@ -22,10 +22,10 @@ returns c =
     let kinds = kinds_shown c.args.shown in
     let alike = c.as_slice.ensures.value ∙ c.in_ok-kinds.ensures in
     let of = c.as_slice.result.now in
-    let each = λ whole. carried (λ l k. HasEach l k pairs) from log of kinds c.as_slice-log.ensures alike (c.in_ok-races.ensures.each whole) in
-    let cut = λ some. carried (λ l k. IsCut l k pairs 1) from log of kinds c.as_slice-log.ensures alike (c.in_ok-races.ensures.cut some) in
     says_by log kinds pairs c.is_any.result
     (carried (λ l k. AreRaces l k pairs) from log of kinds c.as_slice-log.ensures alike c.in_ok-races.ensures.races)
-    (no_race log kinds pairs pairs is_cut 1 (omega arith) each cut (λ h. h))
+    (no_race log kinds pairs pairs is_cut 1 (omega arith)
+    (λ whole. carried (λ l k. HasEach l k pairs) from log of kinds c.as_slice-log.ensures alike (c.in_ok-races.ensures.each whole))
+    (λ some. carried (λ l k. IsCut l k pairs 1) from log of kinds c.as_slice-log.ensures alike (c.in_ok-races.ensures.cut some)) (λ h. h))
     (λ is. subst (λ (l : List Race). 1 ≤ length l) c.as_slice-2.ensures.value (c.is_any.ensures.some is))
     (λ is. subst (λ (l : List Race). length l < 1) c.as_slice-2.ensures.value (c.is_any.ensures.none is))
