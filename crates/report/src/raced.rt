@@ -94,7 +94,7 @@ fn tell_found<W: Write, S: Write>(
     out: &mut W,
     save: &mut S,
 ) -> Result<(), Trouble>
-    requires asked { IsAskedBy asked.entry.search.now.call request.now }
+    requires asked { IsAskedBy asked.search.now.call request.now }
     ensures tells { IfOk result (λ _. Tells (changed W.contents out.old out.new)
         (λ text. TellsOfRacing request.now asked.entry.search.now (racings.Found race) text
         (changed S.contents save.old save.new))) }
@@ -131,7 +131,7 @@ fn tell_racing<W: Write, S: Write>(
     out: &mut W,
     save: &mut S,
 ) -> Result<(), Trouble>
-    requires asked { IsAskedBy asked.entry.search.now.call request.now }
+    requires asked { IsAskedBy asked.search.now.call request.now }
     ensures tells { IfOk result (λ _. Tells (changed W.contents out.old out.new)
         (λ text. TellsOfRacing request.now asked.entry.search.now racing text
         (changed S.contents save.old save.new))) }
@@ -157,7 +157,7 @@ pub(crate) fn tell_race<W: Write, S: Write>(
     out: &mut W,
     save: &mut S,
 ) -> Result<(), Trouble>
-    requires asked { IsAskedBy asked.entry.search.now.call request.now }
+    requires asked { IsAskedBy asked.search.now.call request.now }
     ensures tells { IfOk result (λ _. Tells (changed W.contents out.old out.new)
         (λ text. TellsOfRacing request.now asked.entry.search.now (specified.racing_in look.now) text
         (changed S.contents save.old save.new))) }

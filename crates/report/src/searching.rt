@@ -196,7 +196,7 @@ pub fn search_module<R: Threads + Sync, F: Hears, W: Write, S: Write>(
     out: &mut W,
     save: &mut S,
 ) -> Result<u8, Trouble>
-    requires { IsSearchInRange asked.entry.search.now }
+    requires { IsSearchInRange asked.search.now }
     ensures finds { IfOk result (Finds «module».now.parts asked.entry.search.now (changed S.contents save.old save.new)) }
     ensures well { IfOk result (IsWellAt «module».now.parts asked.entry.search.now) }
     ensures drawn { IfOk result (IsDrawn «module».now.parts asked.entry.search.now (changed W.contents out.old out.new)
