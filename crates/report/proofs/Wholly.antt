@@ -18,6 +18,11 @@ use Rattle.report.specs.declared.whole.Racing.TheVariants.{Unasked, Never, Found
 use Rattle.report.specs.declared.whole.Whole.{Whole}
 use Rattle.report.proofs.Sure.{every_by, can_by, sure_by}
 
+-- one of two that isn't so
+pub and_none : (x : Bool) {y : Bool} → y ≡ false → (x && y) ≡ false
+and_none true none = none
+and_none false none = refl
+
 -- both of an answer
 pub if_both : {T E : Type 0} (r : Result T E) (P Q R : T → Type 0) → ((x : T) → P x → Q x → R x) → IfOk r P → IfOk r Q → IfOk r R
 if_both (Ok x) P Q R f p q = f x p q

@@ -1,5 +1,6 @@
 use Rattle.std.proofs.Common.{ℕ, List, Option, ◌∙◌, refl, inl, inr, ap, subst}
 use Rattle.std.specs.Io.KnownBytes.{Appends}
+use Rattle.types.specs.declared.parts.Parts.{Parts}
 use Rattle.report_jobs.specs.Prints.{change, changed}
 use Rattle.report.specs.Raced.{WritesPair}
 use Rattle.report.specs.Racing.{keeps_race, threads_line}
@@ -24,8 +25,9 @@ returns-clause-tells g c =
     let contents = g.W.Write.contents in
     let before = contents c.args.out.now in
     let after = contents c.write_pair.new.out in
-    let pair = subst (WritesPair c.module.result.now.parts c.in-Ok.made.record (change before after)) c.if-not-is_told.false
-    c.in-Ok-write_pair.ensures in
+    let pair = subst (WritesPair c.args.request.now.parts c.in-Ok.made.record (change before after)) c.if-not-is_told.false
+    (subst (λ (m : Parts). WritesPair m c.in-Ok.made.record (change before after) c.in-Ok-write_pair.is_told) c.module.ensures
+    c.in-Ok-write_pair.ensures) in
     if_on c.keep.result (λ kept. (
       pair.0,
       pair.1,
@@ -44,8 +46,9 @@ returns-clause-kept g c =
     let contents = g.W.Write.contents in
     let saved = g.S.Write.contents in
     let save = changed saved c.args.save.now c.keep.new.save in
-    let pair = subst (WritesPair c.module.result.now.parts c.in-Ok.made.record (change (contents c.args.out.now) (contents c.write_pair.new.out)))
-    c.if-not-is_told.false c.in-Ok-write_pair.ensures in
+    let out = change (contents c.args.out.now) (contents c.write_pair.new.out) in
+    let pair = subst (WritesPair q.parts c.in-Ok.made.record out) c.if-not-is_told.false
+    (subst (λ (m : Parts). WritesPair m c.in-Ok.made.record out c.in-Ok-write_pair.is_told) c.module.ensures c.in-Ok-write_pair.ensures) in
     if_on c.keep.result (λ kept. race_kept q s c.requires.asked c.in-Ok.made c.in-Ok.ensures.find pair.0 pair.2 save
     (λ wanted. kept (c.keeps_race.ensures ∙ wanted)) (keeps_race s) refl
     (λ none. ap saved (c.keep.ensures.unwanted (c.keeps_race.ensures ∙ none)))) c.keep.ensures.kept
