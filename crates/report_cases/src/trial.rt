@@ -123,7 +123,11 @@ fn comes_again<'a, R: Threads + Wait + Sync>(
     };
     let wanted = Wanted {
         out,
-        err: b"",
+        err: if trial.words.contains("--explain") {
+            b""
+        } else {
+            &ran.streams.err
+        },
         status,
     };
     is_replayed(rt, threads, trial, &ran.streams.save, wanted)
