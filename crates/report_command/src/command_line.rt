@@ -210,7 +210,7 @@ static CHECK: CommandRow = CommandRow {
     arguments: &[FILE, JSON, EXPLAIN],
 };
 
-/// `run FILE --invoke NAME [--memory locked|words] [--memory-in FILE[@ADDR]] [--memory-out FILE] [--record OUT]
+/// `run FILE --invoke NAME [--memory locked|words] [--memory-in FILE2[@ADDR]] [--memory-out OUT2] [--record OUT]
 /// [--fuel N] [--limit N] [--dump N] [--units] [--json] [--explain] [ARG..]`
 static RUN: CommandRow = CommandRow {
     name: "run",
@@ -403,7 +403,7 @@ const EXPECTS_NONE: &str =
 
 /// What is said of a record of a run with bytes laid over its memory.
 const RECORDS_LAID: &str =
-    "the argument '--record <OUT>' cannot be used with '--memory-in <FILE[@ADDR]>': a record is of a run of its \
+    "the argument '--record <OUT>' cannot be used with '--memory-in <FILE2[@ADDR]>': a record is of a run of its \
     module alone, so that a replay wants nothing else";
 
 /// Why words are no job, though the parser takes each of them.
@@ -497,10 +497,10 @@ impl Misuse {
             }
             Misuse::RecordsLaid => RECORDS_LAID,
             Misuse::MemoryReplaces => {
-                "the argument '--memory-out <FILE>' cannot be used with the path of a file that is read, or of the record"
+                "the argument '--memory-out <OUT2>' cannot be used with the path of a file that is read, or of the record"
             }
             Misuse::NoAddress => {
-                "invalid value for '--memory-in <FILE[@ADDR]>': ADDR is a number below 4294967296, in decimal digits or behind 0x"
+                "invalid value for '--memory-in <FILE2[@ADDR]>': ADDR is a number below 4294967296, in decimal digits or behind 0x"
             }
             Misuse::ReplacesModule | Misuse::FindReplacesModule => {
                 "the argument '--record <OUT>' cannot be used with the path of <FILE>"

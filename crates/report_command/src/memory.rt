@@ -19,15 +19,15 @@ pub struct MemoryFile<'a> {
 /// What is laid over the memory.
 pub(crate) const MEMORY_IN: Argument = Argument {
     name: "memory-in",
-    value: "FILE[@ADDR]",
-    help: "Lay the bytes of FILE over the memory before the first turn, from ADDR on, else from 0; not with --record",
+    value: "FILE2[@ADDR]",
+    help: "Lay the bytes of FILE2 over the memory before the first turn, from ADDR on, else from 0; not with --record",
     ..OPTION
 };
 
 /// Where the memory goes.
 pub(crate) const MEMORY_OUT: Argument = Argument {
     name: "memory-out",
-    value: "FILE",
+    value: "OUT2",
     help: "Write the bytes of the memory to this file, all of them, as they are in the end",
     ..OPTION
 };

@@ -323,12 +323,13 @@ fn keep_bytes<S: Write>(bytes: &[u8], is_wanted: bool, memory: &mut S) -> Result
     ensures memory { IfErr result (λ trouble. trouble ≡ troubles.SaveMemory) }
     ensures unwanted { is_wanted ≡ false → Stays memory.old memory.new }
 {
-    if !is_wanted {
-        return Ok(());
-    }
-    match memory.write_all(bytes) {
-        Ok(()) => Ok(()),
-        Err(_) => Err(Trouble::SaveMemory),
+    if is_wanted {
+        match memory.write_all(bytes) {
+            Ok(()) => Ok(()),
+            Err(_) => Err(Trouble::SaveMemory),
+        }
+    } else {
+        Ok(())
     }
 }
 
