@@ -115,9 +115,14 @@ abbrev pub KeepsBytes : Bool → WriterChange → List ℕ → Type 0
 KeepsBytes is_wanted memory bytes = is_wanted ≡ true → Appends memory.old memory.new bytes
 
 -- The end of a run was printed, and the bytes of its memory were kept.
-pub record PrintsAll (job : RunJob) (end : EndState) (w : Written) (status : ℕ) : Type 0 where
-  pub end_is : PrintsEnd end job.look w.out w.err status
-  pub memory_is : KeepsBytes (is_some job.memory_out) w.memory end.bytes.items
+pub record PrintsAll (job : RunJob) (end : EndState) (out err memory : WriterChange) (status : ℕ) : Type 0 where
+  pub printed : PrintsEnd end job.look out err status
+  pub kept : KeepsBytes (is_some job.memory_out) memory end.bytes.items
+
+-- So were they, and its record.
+abbrev pub PrintsAndKeeps : RunJob → RecordParts → EndState → Written → ℕ → Type 0
+PrintsAndKeeps job r end w status =
+    PrintsAll job end w.out w.err w.memory status × KeepsRecord (is_some job.save) w.save r
 
 -- A record of the run that ended so. Where it is wanted, what was written to its writer is its text.
 pub record IsRecorded (m : Parts) (job : RunJob) (args : List Value) (save : WriterChange) (end : EndState) : Type 0 where
@@ -138,4 +143,4 @@ pub record PrintsRun (m : Parts) (job : RunJob) (w : Written) (status : ℕ) : T
   pub takes : Takes m job.call.invoke.now args
   pub end : EndState
   pub run : EndsAsAsked m job args w.save end
-  pub prints : PrintsAll job end w status
+  pub prints : PrintsAll job end w.out w.err w.memory status

@@ -4,7 +4,7 @@ ghost use Rattle.std.specs.Io.KnownBytes.{Appends};
 ghost use Rattle.types.specs.declared.limits.TheConstants.{MOST_FUEL};
 ghost use Rattle.validate_typing.specs.Validity.{HasDistinctNames};
 ghost use Rattle.report_jobs.specs.Asked.{IsAskedBy};
-ghost use Rattle.report_jobs.specs.Prints.{changed, written, PrintsEnd, PrintsRun, PrintsAll, KeepsRecord, KeepsBytes};
+ghost use Rattle.report_jobs.specs.Prints.{changed, written, PrintsRun, PrintsAll, PrintsAndKeeps, KeepsRecord, KeepsBytes};
 ghost use Rattle.report_jobs.specs.Silence.{Leaves, Stays};
 ghost use Rattle.report_jobs.specs.Troubles.{IsTroubleOf, IsUnwritten, AreArgumentsOf, trouble_of};
 ghost use Rattle.report_jobs.specs.Troubles.{trouble_of_recording, trouble_of_unwritten};
@@ -270,10 +270,8 @@ fn print_and_keep<W: Write, E: Write, S: Write>(
     whence: Whence,
     streams: &mut Streams<W, E, S>,
 ) -> Result<u8, Trouble>
-    ensures made { IfOk result (PrintsAll job.now end.now
+    ensures made { IfOk result (PrintsAndKeeps job.now recorded.now end.now
         (written W.contents E.contents S.contents streams.old streams.new)) }
-    ensures kept { OnOk result (KeepsRecord (is_some job.now.save)
-        (changed S.contents streams.old.save streams.new.save) recorded.now) }
     ensures trouble { IfErr result IsUnwritten }
     ensures silent { IfErr result (λ e. Leaves e (Stays streams.old.out streams.new.out)
         (Stays streams.old.save streams.new.save × Stays streams.old.memory streams.new.memory)) }
@@ -301,10 +299,8 @@ fn print_and_write<W: Write, E: Write, S: Write>(
     err: &mut E,
     memory: &mut S,
 ) -> Result<u8, Trouble>
-    ensures end { IfOk result (PrintsEnd end.now job.now.look (changed W.contents out.old out.new)
-        (changed E.contents err.old err.new)) }
-    ensures memory { OnOk result (KeepsBytes (is_some job.now.memory_out)
-        (changed S.contents memory.old memory.new) end.now.bytes.items) }
+    ensures made { IfOk result (PrintsAll job.now end.now (changed W.contents out.old out.new)
+        (changed E.contents err.old err.new) (changed S.contents memory.old memory.new)) }
     ensures trouble { IfErr result IsUnwritten }
     ensures silent { IfErr result (λ e. Leaves e (Stays out.old out.new) (Stays memory.old memory.new)) }
     ensures no_memory { is_some job.now.memory_out ≡ false → Stays memory.old memory.new }
