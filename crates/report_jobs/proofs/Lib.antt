@@ -7,3 +7,4 @@ pub mod Asking
 pub mod Silent
 pub mod Said
 pub mod Trapping
+pub mod Readied

@@ -1,5 +1,7 @@
 //! Where the threads of a replay trapped.
 
+ghost use Rattle.std.specs.Prelude.{◌≡◌};
+
 use crate::frames::Frames;
 use interp::Thread;
 use interp_trait::{TakesTurns, Turn};
@@ -18,7 +20,9 @@ pub struct Replayed<'a> {
 impl<'m> Watch<Thread<'m>> for Replayed<'_> {
     ghost sees = { λ old moment new. Unit {0} };
 
-    fn came(&mut self, entries: usize, walk: &Walk<Thread<'m>>) {
+    fn came(&mut self, entries: usize, walk: &Walk<Thread<'m>>)
+        ensures { self.new ≡ self.old }
+    {
         if entries != self.entries {
             return;
         }
@@ -29,7 +33,11 @@ impl<'m> Watch<Thread<'m>> for Replayed<'_> {
         }
     }
 
-    fn event(&mut self, _entry: &Entry, _thread: &Thread<'m>, _memory: &OneMemory) {}
+    fn event(&mut self, _entry: &Entry, _thread: &Thread<'m>, _memory: &OneMemory)
+        ensures { self.new ≡ self.old }
+    {}
 
-    fn settled(&mut self, _thread: u32, _turn: Turn) {}
+    fn settled(&mut self, _thread: u32, _turn: Turn)
+        ensures { self.new ≡ self.old }
+    {}
 }

@@ -1,4 +1,3 @@
-use Rattle.std.proofs.Common.{◌≡◌, sym, subst}
 use Rattle.std.proofs.lemmas.Result.{err_from_is_err_and, IfOk-weaker}
 use Rattle.report_jobs.specs.Prints.{changed, written, PrintsAll, PrintsRun}
 use Rattle.report_jobs.proofs.Calls.{of_words}
