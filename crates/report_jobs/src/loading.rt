@@ -109,8 +109,8 @@ pub(crate) fn load_over(
     file: Option<MemoryFile>,
     over: &[u8],
 ) -> Result<ValidModule, Unready>
-    ensures ok { IfOk result (LoadsOver bytes.now file over.now) }
-    ensures err { IfErr result (IsUnready bytes.now file over.now) }
+    ensures ok { IfOk result (LoadsOver bytes.now file.entry over.now) }
+    ensures err { IfErr result (IsUnready bytes.now file.entry over.now) }
 {
     match file {
         None => match load(alloc, bytes) {

@@ -1,10 +1,11 @@
 //! How the end of a run is printed: as lines, with units or without, or as an object.
-ghost use Rattle.std.specs.Prelude.{◌≡◌, true, false, IfOk, IfErr, OnOk};
+ghost use Rattle.std.specs.Prelude.{◌≡◌, true, false, IfOk, IfErr, OnErr, OnOk};
 ghost use Rattle.replay_forms.specs.Texts.{Wrote};
 ghost use Rattle.report_lines.specs.Lines.{numbered};
 ghost use Rattle.report_json.specs.Unwritten.{LeavesAs};
 ghost use Rattle.report_jobs.specs.Prints.{changed, Prints, PrintsEnd, WritesEnd, WritesObject};
 ghost use Rattle.report_jobs.specs.Prints.{end_text, units_line};
+ghost use Rattle.report_jobs.specs.Silence.{Stays};
 ghost use Rattle.report_jobs.specs.declared.running.Trouble.TheVariants as troubles;
 
 use crate::running::Trouble;
@@ -174,6 +175,7 @@ pub(crate) fn print_end<W: Write, E: Write>(
     ensures prints { IfOk result (PrintsEnd end.now look (changed W.contents out.old out.new)
         (changed E.contents err.old err.new)) }
     ensures left { IfErr result (LeavesAs out.old out.new) }
+    ensures unsaid { OnErr result (Stays err.old err.new) }
 {
     let traps = traps_of(alloc, whence, &end.threads);
     match write_end(alloc, out, end, look, traps.as_ref()) {

@@ -1,5 +1,5 @@
 //! The replay of a record by the program: what is printed, or why there is nothing to print.
-ghost use Rattle.std.specs.Prelude.{◌≡◌, IfOk, IfErr};
+ghost use Rattle.std.specs.Prelude.{◌≡◌, IfOk, IfErr, OnErr};
 ghost use Rattle.replay_text.specs.Text.{IsRecord};
 ghost use Rattle.report_jobs.specs.Jobs.{PrintsReplay, PrintsReplayOf, IsUnfit, IsUnfitFor, IsUnfitTextOf, unfit_by};
 ghost use Rattle.report_jobs.specs.Jobs.{unfit_of_unwritten};
@@ -45,6 +45,7 @@ pub(crate) fn replay_record<W: Write, E: Write>(
         (changed E.contents err.old err.new)) }
     ensures unfit { IfErr result (IsUnfit «module».now.parts saved.now) }
     ensures silent { IfErr result (λ e. LeavesOut e (Stays out.old out.new)) }
+    ensures unsaid { OnErr result (Stays err.old err.new) }
 {
     match read_record(alloc, saved) {
         Ok(record) => {
@@ -73,6 +74,7 @@ fn print_replay<W: Write, E: Write>(
         (changed E.contents err.old err.new)) }
     ensures unfit { IfErr result (IsUnfitTextOf «module».now.parts recorded.now) }
     ensures silent { IfErr result (λ e. LeavesOut e (Stays out.old out.new)) }
+    ensures unsaid { OnErr result (Stays err.old err.new) }
 {
     let frames = Frames::new(alloc);
     let whence = Whence {
