@@ -7,7 +7,7 @@ use Rattle.report_command.specs.declared.command_line.Job.{Job}
 use Rattle.report_command.specs.declared.command_line.Job.TheVariants.{Show}
 use Rattle.report_command.specs.declared.command_line.Job.TheVariants as jobs
 use Rattle.report_command.specs.declared.search.Search.{Search}
-use Rattle.report_jobs.specs.Prints.{WriterChange}
+use Rattle.report_jobs.specs.Prints.{WriterChange, Written}
 use Rattle.report_jobs.specs.Jobs.{IsNoValidModule, IsNoRecordOf, IsRecordOf, HasNoSuchCall}
 use Rattle.report_jobs.specs.Plain.{PerformsPlain}
 use Rattle.report.specs.Raced.{OfModule, IsRaceFree, IsRacy, PrintsRaces}
@@ -53,8 +53,8 @@ pub record Searches (bytes : List ℕ) (s : Search) (out save : WriterChange) (s
   pub statuses : (status ≤ 3) ⊎ (status ≡ 5)
 
 -- What the status of a job says: of one that is no show and no search, what it says of a plain job.
-abbrev pub Performs : Job → List ℕ → List ℕ → WriterChange → WriterChange → ℕ → Type 0
-Performs (Show file record_path names look at) bytes saved out save status = Shows bytes saved status
-Performs (jobs.Races job) bytes saved out save status = TellsRaces bytes saved job.most out status
-Performs (jobs.Search s) bytes saved out save status = Searches bytes s out save status
-Performs job bytes saved out save status = PerformsPlain job bytes saved out save status
+abbrev pub Performs : Job → List ℕ → List ℕ → Written → ℕ → Type 0
+Performs (Show file record_path names look at) bytes saved w status = Shows bytes saved status
+Performs (jobs.Races job) bytes saved w status = TellsRaces bytes saved job.most w.out status
+Performs (jobs.Search s) bytes saved w status = Searches bytes s w.out w.save status
+Performs job bytes saved w status = PerformsPlain job bytes saved w status

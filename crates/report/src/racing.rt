@@ -45,6 +45,7 @@ pub fn races_saved<W: Write, E: Write, S: Write>(
     ensures status { (result ≤ 2) ⊎ (result ≡ 4) ⊎ (result ≡ 5) }
     ensures silent { IsRefusal result → Stays streams.old.out streams.new.out }
     ensures unwanted { Stays streams.old.save streams.new.save }
+    ensures no_memory { Stays streams.old.memory streams.new.memory }
 {
     let Streams { out, err, .. } = streams;
     let valid = match load(alloc, module) {

@@ -48,8 +48,9 @@ pub fn show_saved<W: Write, E: Write, S: Write>(
     ensures status { (result ≡ 0) ⊎ (result ≡ 2) ⊎ (result ≡ 4) ⊎ (result ≡ 5) }
     ensures silent { IsRefusal result → Stays streams.old.out streams.new.out × Stays streams.old.save streams.new.save }
     ensures unwanted { is_some (path_of view.entry) ≡ false → Stays streams.old.save streams.new.save }
+    ensures no_memory { Stays streams.old.memory streams.new.memory }
 {
-    let Streams { out, err, save } = streams;
+    let Streams { out, err, save, .. } = streams;
     let code = CodeBytes { module, names };
     if view.path().is_some() {
         return show_to(alloc, code, saved, look, view, save, err);

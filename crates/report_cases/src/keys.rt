@@ -1,12 +1,13 @@
 //! The keys of lines.
 
 /// The keys that there are.
-const KEYS: [&str; 25] = [
+const KEYS: [&str; 26] = [
     "module",
     "hex",
     "body",
     "gives",
     "memory",
+    "memory-out",
     "saved",
     "saved-rest",
     "saved-file",

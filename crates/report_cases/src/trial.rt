@@ -1,5 +1,6 @@
 //! One command line of a case, as often and over such memories as the case says.
 
+use crate::memory::is_memory_kept;
 use crate::program::{Gave, Input, program};
 use crate::record::{Kept, is_kept};
 use crate::telling::CaseName;
@@ -123,7 +124,11 @@ fn comes_again<'a, R: Threads + Wait + Sync>(
     };
     let wanted = Wanted {
         out,
-        err: b"",
+        err: if trial.words.contains("--explain") {
+            b""
+        } else {
+            &ran.streams.err
+        },
         status,
     };
     is_replayed(rt, threads, trial, &ran.streams.save, wanted)
@@ -142,6 +147,7 @@ fn try_over<R: Threads + Wait + Sync>(
     program(threads, rt.alloc(), &words, trial.input, &mut gave)?;
     let is_right = wrote(rt, trial.place, &words, trial.wanted, &gave)
         && is_kept(rt, trial.place, trial.case, over.record(), &gave)?
+        && is_memory_kept(rt, trial.place, trial.case, &words, &gave)?
         && comes_again(rt, threads, trial, over, &gave)?;
     tally.add(is_right);
     Ok(())

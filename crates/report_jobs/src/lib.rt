@@ -21,6 +21,7 @@ mod replaying;
 mod running;
 mod streams;
 mod telling;
+mod trapped;
 
 pub use job::{check, complain, refuse, reject, replay_saved, run};
 pub use loading::{Refusal, load, load_checked};
