@@ -33,10 +33,10 @@ says_in m made is = SaysOfRun m made.record is
 -- where the search stops, none that was made has a race
 pub none_races : (q : Requested) (s : Sought) (t : Table) (h : Halt) → ((f : _) → h ≡ halts.Found f → ⊥)
     → AreNotedBy (IsPassed (SaysRaceOf q) s h) q s t → s.stops ≡ true → AreNotedBy (λ run made. SaysRaceOf q made false) q s t
-none_races q s t (halts.Found f) no noted stops = absurd (no f refl)
-none_races q s t halts.AllMade no noted stops =
+none_races q s t (halts.Found f) unfound noted stops = absurd (unfound f refl)
+none_races q s t halts.AllMade unfound noted stops =
     noted_weaker (λ run made. IsTrue s.stops → SaysRaceOf q made false) (λ run made. SaysRaceOf q made false) (λ run made is. is stops) q s t noted
-none_races q s t halts.Told no noted stops =
+none_races q s t halts.Told unfound noted stops =
     noted_weaker (λ run made. IsTrue s.stops → SaysRaceOf q made false) (λ run made. SaysRaceOf q made false) (λ run made is. is stops) q s t noted
 
 -- the run with a race, as it is kept

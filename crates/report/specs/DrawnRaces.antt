@@ -26,17 +26,21 @@ use Rattle.report.specs.Raced.{SaysPair}
 abbrev pub SaysRaceOf : Requested → MadeRun → Bool → Type 0
 SaysRaceOf q made is = SaysOfRun q.parts made.record is
 
--- So many runs were made, and none has a race.
-abbrev pub no_race_text : ℕ → List ℕ
-no_race_text runs =
-    if runs == 0 then [] else
+-- None of so many runs has a race; where some were made.
+abbrev pub no_race_line : ℕ → List ℕ
+no_race_line runs =
     codes "no race in " ++ decimal runs ++ codes " " ++ form_of runs (codes "run") (codes "runs") ++ codes "; others may have one\n"
+
+abbrev pub no_race_text : ℕ → List ℕ
+no_race_text runs = if runs == 0 then [] else no_race_line runs
 
 -- What stands behind a table where no run has a race: that the search was told to end, where it was, that none has one,
 -- and what is unseen.
+abbrev pub unraced_text : Sought → Table → List ℕ
+unraced_text s table = no_race_text table.runs ++ unseen_text s table
+
 abbrev pub raceless_text : Bool → Sought → Table → List ℕ
-raceless_text is_told s table =
-    (if is_told then stopped_line table.runs s.runs else []) ++ (no_race_text table.runs ++ unseen_text s table)
+raceless_text is_told s table = (if is_told then stopped_line table.runs s.runs else []) ++ unraced_text s table
 
 -- The status is 0 where all is well, and else 1.
 pub record TellsOfRaceless (s : Sought) (table : Table) (is_told : Bool) (text : List ℕ) (status : ℕ) : Type 0 where

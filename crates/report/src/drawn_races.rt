@@ -12,7 +12,7 @@ ghost use Rattle.report_lines.specs.Complete.{form_of};
 ghost use Rattle.report_lines.specs.Found.{found_run_line};
 ghost use Rattle.report.specs.Drawn.{sizes_if};
 ghost use Rattle.report.specs.DrawnRaces.{PrintsDrawnRaces, SaysRaceOf, TellsOfPair, TellsOfRacyRun, TellsOfRaceless};
-ghost use Rattle.report.specs.DrawnRaces.{no_race_text, raceless_text};
+ghost use Rattle.report.specs.DrawnRaces.{no_race_line, no_race_text, raceless_text, unraced_text};
 ghost use Rattle.report.specs.Prints.{Tells};
 ghost use Rattle.report.specs.Searches.{Finds, IsOfSystem, IsRaceKept};
 
@@ -37,15 +37,30 @@ fn runs_form(count: u64) -> &'static str
     if count == 1 { "run" } else { "runs" }
 }
 
-/// That none of so many runs has a race, where some were made.
+/// That none of so many runs has a race.
+fn write_no_race_line<W: Write>(out: &mut W, runs: u64) -> io::Result<()>
+    ensures { Wrote W.contents out.old out.new result (no_race_line runs) }
+{
+    let form = runs_form(runs);
+    write!(out, "no race in {runs} {form}; others may have one\n")
+}
+
+/// The same, where some were made.
 fn write_no_race<W: Write>(out: &mut W, runs: u64) -> io::Result<()>
     ensures { Wrote W.contents out.old out.new result (no_race_text runs) }
 {
     if runs == 0 {
         return Ok(());
     }
-    let form = runs_form(runs);
-    write!(out, "no race in {runs} {form}; others may have one\n")
+    write_no_race_line(out, runs)
+}
+
+/// That no run of the table has a race, and what is unseen.
+fn write_unraced<W: Write>(out: &mut W, sought: &Sought, table: &Table) -> io::Result<()>
+    ensures { Wrote W.contents out.old out.new result (unraced_text sought.now table.now) }
+{
+    write_no_race(out, table.runs)?;
+    write_unseen_of(out, sought, table)
 }
 
 /// What is said behind the table of a search in which no run had a race: that it was told to end, where it was, that no
@@ -61,8 +76,7 @@ fn write_raceless<W: Write>(
     if is_told {
         write_stopped(out, table.runs, sought.runs)?;
     }
-    write_no_race(out, table.runs)?;
-    write_unseen_of(out, sought, table)
+    write_unraced(out, sought, table)
 }
 
 /// Tells of a search in which no run had a race, behind its table, and answers the status: 0 where all is well, and

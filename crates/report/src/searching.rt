@@ -169,8 +169,8 @@ fn search_runs<R: Threads + Sync, F: Hears, W: Write, S: Write>(
     out: &mut W,
     save: &mut S,
 ) -> Result<u8, Trouble>
-    requires range { IsSearchInRange asked.entry.search.now }
-    requires asked { IsAskedBy asked.entry.search.now.call request.now }
+    requires range { IsSearchInRange asked.search.now }
+    requires asked { IsAskedBy asked.search.now.call request.now }
     ensures finds { IfOk result
         (Finds request.now.parts asked.entry.search.now (changed S.contents save.old save.new)) }
     ensures prints { asked.entry.search.now.races ≡ false → IfOk result (PrintsDrawn request.now.parts

@@ -26,7 +26,7 @@ returns-clause-sizes g c =
     c.in_ok-write_sizes.ensures))
 
 pub shrunk_by-requires : goal.shrunk_by-requires
-shrunk_by-requires g c =
+shrunk_by-requires g c κs within =
     let q = c.args.request.now in
     let limit = c.args.asked.search.now.sought.limit in
     subst (λ (p : Parts). IsFindBy (says_in p) q limit c.args.found) (sym c.module.ensures) c.requires
