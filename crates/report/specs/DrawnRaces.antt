@@ -13,7 +13,6 @@ use Rattle.search_finds.specs.declared.met.Table.{Table}
 use Rattle.search_races.specs.Races.{SaysOfRun}
 use Rattle.report_choice.specs.declared.sought.Sought.{Sought}
 use Rattle.report_command.specs.declared.search.Search.{Search}
-use Rattle.report_lines.specs.Complete.{form_of}
 use Rattle.report_lines.specs.Drawn.{cut_line, stopped_line}
 use Rattle.report_lines.specs.Found.{found_run_line}
 use Rattle.report_jobs.specs.Asked.{IsAskedBy}
@@ -28,8 +27,8 @@ SaysRaceOf q made is = SaysOfRun q.parts made.record is
 
 -- None of so many runs has a race; where some were made.
 abbrev pub no_race_line : ℕ → List ℕ
-no_race_line runs =
-    codes "no race in " ++ decimal runs ++ codes " " ++ form_of runs (codes "run") (codes "runs") ++ codes "; others may have one\n"
+no_race_line runs = if runs == 1 then codes "no race in 1 run; others may have one\n" else
+    codes "no race in " ++ decimal runs ++ codes " runs; others may have one\n"
 
 abbrev pub no_race_text : ℕ → List ℕ
 no_race_text runs = if runs == 0 then [] else no_race_line runs
@@ -39,8 +38,11 @@ no_race_text runs = if runs == 0 then [] else no_race_line runs
 abbrev pub unraced_text : Sought → Table → List ℕ
 unraced_text s table = no_race_text table.runs ++ unseen_text s table
 
+abbrev pub stopped_text : Bool → Sought → Table → List ℕ
+stopped_text is_told s table = if is_told then stopped_line table.runs s.runs else []
+
 abbrev pub raceless_text : Bool → Sought → Table → List ℕ
-raceless_text is_told s table = (if is_told then stopped_line table.runs s.runs else []) ++ unraced_text s table
+raceless_text is_told s table = stopped_text is_told s table ++ unraced_text s table
 
 -- The status is 0 where all is well, and else 1.
 pub record TellsOfRaceless (s : Sought) (table : Table) (is_told : Bool) (text : List ℕ) (status : ℕ) : Type 0 where

@@ -1,5 +1,5 @@
 //! Drawn runs with races: what is printed, and the record of what was found.
-ghost use Rattle.std.specs.Prelude.{◌≡◌, IfOk, IfErr, codes, true, false, is_some};
+ghost use Rattle.std.specs.Prelude.{◌≡◌, IfOk, IfErr, true, false, is_some};
 ghost use Rattle.std.specs.Io.KnownBytes.{Appends};
 ghost use Rattle.replay_forms.specs.Texts.{Wrote};
 ghost use Rattle.search_finds.specs.Judged.{IsFindBy};
@@ -8,11 +8,11 @@ ghost use Rattle.report_command.specs.Searches.{IsSearchInRange};
 ghost use Rattle.report_jobs.specs.Asked.{IsAskedBy};
 ghost use Rattle.report_jobs.specs.Prints.{changed};
 ghost use Rattle.report_jobs.specs.Silence.{Stays};
-ghost use Rattle.report_lines.specs.Complete.{form_of};
 ghost use Rattle.report_lines.specs.Found.{found_run_line};
 ghost use Rattle.report.specs.Drawn.{sizes_if};
 ghost use Rattle.report.specs.DrawnRaces.{PrintsDrawnRaces, SaysRaceOf, TellsOfPair, TellsOfRacyRun, TellsOfRaceless};
-ghost use Rattle.report.specs.DrawnRaces.{no_race_line, no_race_text, raceless_text, unraced_text};
+ghost use Rattle.report.specs.DrawnRaces.{no_race_line, no_race_text, raceless_text, stopped_text};
+ghost use Rattle.report.specs.DrawnRaces.{unraced_text};
 ghost use Rattle.report.specs.Prints.{Tells};
 ghost use Rattle.report.specs.Searches.{Finds, IsOfSystem, IsRaceKept};
 
@@ -30,19 +30,14 @@ use std::alloc::Global;
 use std::io::{self, Write};
 use std::thread::Threads;
 
-/// The word for so many runs.
-fn runs_form(count: u64) -> &'static str
-    ensures { result.now ≡ form_of count (codes "run") (codes "runs") }
-{
-    if count == 1 { "run" } else { "runs" }
-}
-
 /// That none of so many runs has a race.
 fn write_no_race_line<W: Write>(out: &mut W, runs: u64) -> io::Result<()>
     ensures { Wrote W.contents out.old out.new result (no_race_line runs) }
 {
-    let form = runs_form(runs);
-    write!(out, "no race in {runs} {form}; others may have one\n")
+    if runs == 1 {
+        return write!(out, "no race in 1 run; others may have one\n");
+    }
+    write!(out, "no race in {runs} runs; others may have one\n")
 }
 
 /// The same, where some were made.
@@ -63,6 +58,21 @@ fn write_unraced<W: Write>(out: &mut W, sought: &Sought, table: &Table) -> io::R
     write_unseen_of(out, sought, table)
 }
 
+/// That the search was told to end, where it was.
+fn write_stopped_if<W: Write>(
+    out: &mut W,
+    sought: &Sought,
+    table: &Table,
+    is_told: bool,
+) -> io::Result<()>
+    ensures { Wrote W.contents out.old out.new result (stopped_text is_told sought.now table.now) }
+{
+    if !is_told {
+        return Ok(());
+    }
+    write_stopped(out, table.runs, sought.runs)
+}
+
 /// What is said behind the table of a search in which no run had a race: that it was told to end, where it was, that no
 /// run had one, and what is unseen.
 fn write_raceless<W: Write>(
@@ -73,9 +83,7 @@ fn write_raceless<W: Write>(
 ) -> io::Result<()>
     ensures { Wrote W.contents out.old out.new result (raceless_text is_told sought.now table.now) }
 {
-    if is_told {
-        write_stopped(out, table.runs, sought.runs)?;
-    }
+    write_stopped_if(out, sought, table, is_told)?;
     write_unraced(out, sought, table)
 }
 
@@ -153,10 +161,12 @@ fn tell_kept<W: Write, S: Write>(
     ensures trouble { IfErr result IsOfSystem }
 {
     let search = asked.search;
-    match write_pair(alloc, request.module(), &made.record, asked.code(), out) {
-        Ok(true) => {}
-        Ok(false) => return Err(Trouble::NoMemory),
+    let is_told = match write_pair(alloc, request.module(), &made.record, asked.code(), out) {
+        Ok(is_told) => is_told,
         Err(unwritten) => return Err(trouble_of(unwritten)),
+    };
+    if !is_told {
+        return Err(Trouble::NoMemory);
     }
     print(out, &made.end, search.sought.dump)?;
     keep(&made.record, search.save.is_some(), save)

@@ -25,12 +25,6 @@ returns-clause-sizes g c =
     (subst (λ (asked : Bool). Appends before after (sizes_if asked c.size_of-before.result c.size_of.result)) (sym c.if-not-search.false)
     c.in_ok-write_sizes.ensures))
 
-pub shrunk_by-requires : goal.shrunk_by-requires
-shrunk_by-requires g c κs within =
-    let q = c.args.request.now in
-    let limit = c.args.asked.search.now.sought.limit in
-    subst (λ (p : Parts). IsFindBy (says_in p) q limit c.args.found) (sym c.module.ensures) c.requires
-
 pub returns-clause-run : goal.returns-clause-run
 returns-clause-run g c =
     let q = c.args.request.now in

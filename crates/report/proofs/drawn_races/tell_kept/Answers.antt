@@ -15,7 +15,8 @@ returns-clause-kept g c =
     let q = c.args.request.now in
     let s = c.args.asked.search.now in
     let made = c.args.made.now in
-    let pair = c.in-Ok-true.ensures in
+    let pair = subst (WritesPair c.module.result.now.parts made.record (changed g.W.Write.contents c.args.out.now c.write_pair.new.out))
+    c.if-not-is_told.false c.in-Ok.ensures in
     let says = subst (λ (p : Parts). SaysPair p made.record pair.0) c.module.ensures pair.2 in
     if_on c.keep.result (λ kept. race_is_kept q s c.requires.asked made c.requires.find.0 pair.0 says _ (λ wanted. kept (c.is_some.ensures ∙ wanted)) c.requires.races)
     c.keep.ensures.kept
@@ -26,7 +27,8 @@ returns-clause-tells g c =
     let q = c.args.request.now in
     let s = c.args.asked.search.now in
     let made = c.args.made.now in
-    let pair = c.in-Ok-true.ensures in
+    let pair = subst (WritesPair c.module.result.now.parts made.record (changed g.W.Write.contents c.args.out.now c.write_pair.new.out))
+    c.if-not-is_told.false c.in-Ok.ensures in
     let says = subst (λ (p : Parts). SaysPair p made.record pair.0) c.module.ensures pair.2 in
     if_on c.keep.result (λ kept. (
       _,
