@@ -21,8 +21,8 @@ use std::thread::Threads;
 use validate_module::ValidModule;
 
 /// Does a job on a module's bytes: writes its lines, and a line about what went wrong, or about what a search doesn't
-/// compare, or lines about threads of a run that trapped; and the record that a run makes and the bytes of its memory, or
-/// the record of what a search found, after the lines, or the file that a show makes.
+/// compare, or lines about threads of a run that trapped; and the record that a run makes and the bytes of its memory,
+/// or the record of what a search found, after the lines, or the file that a show makes.
 ///
 /// The job's numbers are in their ranges, as those of a job are that `command` gives.
 ///

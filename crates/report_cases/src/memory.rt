@@ -5,7 +5,8 @@ use crate::telling::{CaseName, tell};
 use std::alloc::AllocError;
 use test_cases::{Case, from_hex};
 
-/// Whether as many bytes of the memory were written as a case says, which begin as it says; none, where it says nothing.
+/// Whether as many bytes of the memory were written as a case says, which begin as it says; none, where it says
+/// nothing.
 pub(crate) fn is_memory_kept(
     rt: &HostRuntime,
     place: CaseName,

@@ -14,8 +14,8 @@ use std::io::Write;
 use std::sync::Wait;
 use std::thread::Threads;
 
-/// Does a check, a run or a replay on a module's bytes: prints what comes of it, and a line about what went wrong or lines
-/// about threads that trapped; and writes the record that a run makes and the bytes of its memory, after that.
+/// Does a check, a run or a replay on a module's bytes: prints what comes of it, and a line about what went wrong or
+/// lines about threads that trapped; and writes the record that a run makes and the bytes of its memory, after that.
 ///
 /// The job's numbers are in their ranges, as those of a job are that `command` gives. `saved` has the bytes of the
 /// record that a replay reads, or those that are laid over the memory of a run, and else nothing.
@@ -23,8 +23,8 @@ use std::thread::Threads;
 /// Answers the program's status: 0 where the module was accepted or all threads ended well, 1 for a trap or stop, 2 for
 /// a refused module, 3 for a refused run, 4 for a refused record, 5 where memory, a thread or a stream failed. A write
 /// to `err` that fails doesn't change it. At 2, 3 and 4 neither standard output nor the record's writer is written to
-/// or flushed, nor is that of the memory, and neither is that of a file that isn't wanted. At 4 the line about it names the first line of the
-/// record's text that is wrong or doesn't fit.
+/// or flushed, nor is that of the memory, and neither is that of a file that isn't wanted. At 4 the line about it names
+/// the first line of the record's text that is wrong or doesn't fit.
 pub fn perform_plain<R, W, E, S>(
     rt: &R,
     alloc: Global,

@@ -162,8 +162,8 @@ fn write_end<W: Write>(
     }
 }
 
-/// Prints how a run ended as is asked for, says which threads trapped, and answers the status: 0 where all threads ended
-/// well, 1 for a trap or stop.
+/// Prints how a run ended as is asked for, says which threads trapped, and answers the status: 0 where all threads
+/// ended well, 1 for a trap or stop.
 pub(crate) fn print_end<W: Write, E: Write>(
     alloc: Global,
     out: &mut W,

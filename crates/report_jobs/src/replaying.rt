@@ -30,8 +30,8 @@ pub enum Unfit {
     Output,
 }
 
-/// Replays the record whose text `saved` is, of the module whose text `bytes` are, and prints how its run ended. Answers the status: 0 where all threads
-/// ended well, 1 for a trap or stop.
+/// Replays the record whose text `saved` is, of the module whose text `bytes` are, and prints how its run ended.
+/// Answers the status: 0 where all threads ended well, 1 for a trap or stop.
 pub(crate) fn replay_record<W: Write, E: Write>(
     alloc: Global,
     module: &ValidModule,

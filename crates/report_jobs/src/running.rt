@@ -153,7 +153,8 @@ pub fn request_of<'m, 'a>(
 }
 
 /// Runs the function, prints its end, and writes the record and the bytes of the memory where they are wanted. `bytes`
-/// have the names and the lines of the module. Answers the status: 0 where all threads ended well, 1 for a trap or stop.
+/// have the names and the lines of the module. Answers the status: 0 where all threads ended well, 1 for a trap or
+/// stop.
 pub(crate) fn print_run<R, W, E, S>(
     rt: &R,
     alloc: Global,
@@ -313,7 +314,8 @@ fn print_and_write<W: Write, E: Write, S: Write>(
     Ok(status)
 }
 
-/// Writes the bytes of a memory to their file, where they are wanted; where they aren't the file's writer stays as it is.
+/// Writes the bytes of a memory to their file, where they are wanted; where they aren't the file's writer stays as it
+/// is.
 fn keep_bytes<S: Write>(bytes: &[u8], is_wanted: bool, memory: &mut S) -> Result<(), Trouble>
     ensures kept { OnOk result (KeepsBytes is_wanted (changed S.contents memory.old memory.new) bytes.now) }
     ensures memory { IfErr result (λ trouble. trouble ≡ troubles.SaveMemory) }

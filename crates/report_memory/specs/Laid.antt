@@ -22,8 +22,8 @@ segment_at addr bytes =
 abbrev pub laid : Parts → ℕ → List ℕ → Parts
 laid m addr bytes = record m { «data» = m.«data» ++ segment_at addr bytes ∷ [] }
 
--- Why so many bytes can't be laid over a memory: there is none, or they don't lie within its opening pages; or there are
--- as many segments as a module can have.
+-- Why so many bytes can't be laid over a memory: there is none, or they don't lie within its opening pages; or there
+-- are as many segments as a module can have.
 abbrev pub unlaid_in : Option Limits → ℕ → ℕ → ℕ → Option Unlaid
 unlaid_in None segments addr count = Some Nowhere
 unlaid_in (Some l) segments addr count =

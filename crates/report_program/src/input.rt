@@ -4,8 +4,8 @@ use crate::stop::Stop;
 use crate::{Unread, read_memory, read_module, read_saved};
 use report_command::{Job, RacesJob, RunJob, Search};
 
-/// What a job reads: a module, a record where one is replayed or shown, or what is laid over the memory of a run; and the
-/// file that has the names, where it is another one.
+/// What a job reads: a module, a record where one is replayed or shown, or what is laid over the memory of a run; and
+/// the file that has the names, where it is another one.
 #[derive(Drop)]
 pub struct Input {
     /// The module's bytes, at most one more than a module may have.

@@ -4,9 +4,9 @@
 //!
 //! Proved: a job comes to what performs it only with its numbers in range, and as the words have it. Of a job that came
 //! to 0 or 1 `close` says that nothing is lost only where the streams got all that was written to their buffers, the
-//! lines before the file that it makes; that file gets nothing more at another status, or where lines were lost, and one
-//! behind it (`close_behind`) none where anything before it was.
-//! `read_front` gives the first bytes of a reader. That `Task::end` answers by what `close` says is tested.
+//! lines before the file that it makes; that file gets nothing more at another status, or where lines were lost, and
+//! one behind it (`close_behind`) none where anything before it was. `read_front` gives the first bytes of a reader.
+//! That `Task::end` answers by what `close` says is tested.
 #![tactic(auto)]
 
 mod beside;

@@ -178,8 +178,8 @@ fn prepare<'a, 'j, W: Write + Drop>(
     Ok(begin(rt, stdout, input, room, places, is_copied)?)
 }
 
-/// Begins a job: reads its files, and takes the places of the files that it makes and the memory of its streams. Where it
-/// is to explain, or to print an object, a copy of what it prints is kept.
+/// Begins a job: reads its files, and takes the places of the files that it makes and the memory of its streams. Where
+/// it is to explain, or to print an object, a copy of what it prints is kept.
 ///
 /// # Errors
 /// The status, once it was said on standard error why: 3 where a file would take the place of one that is read, 5

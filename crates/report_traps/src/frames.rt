@@ -65,8 +65,8 @@ impl Frames {
         }
     }
 
-    /// Where a thread trapped, at depth 0, or where the call stands by which that function was called, itself or through
-    /// others; `None` where the thread hasn't trapped, has no further caller, or where that isn't kept.
+    /// Where a thread trapped, at depth 0, or where the call stands by which that function was called, itself or
+    /// through others; `None` where the thread hasn't trapped, has no further caller, or where that isn't kept.
     pub fn place(&self, thread: usize, depth: usize) -> Option<CodePlace> {
         let frame = self.frame(thread, depth)?;
         let number = frame.function.load(Ordering::SeqCst);
