@@ -1,5 +1,5 @@
 -- What is printed of a search that looks for a drawn run with a race.
-use Rattle.std.proofs.Common.{ℕ, ◌≡◌, ◌<◌, ◌++◌, ◌⊎◌, Bool, IsTrue, true, false, List, Option, refl, subst}
+use Rattle.std.proofs.Common.{ℕ, ◌≡◌, ◌⊎◌, Bool, IsTrue, true, false, List, Option, refl, subst}
 use Rattle.std.specs.Io.KnownBytes.{Appends}
 use Rattle.types.specs.declared.parts.Parts.{Parts}
 use Rattle.replay_forms.proofs.Written.{appends_then}
@@ -20,7 +20,7 @@ use Rattle.report_lines.specs.Drawn.{cut_line}
 use Rattle.report_jobs.specs.Asked.{IsAskedBy}
 use Rattle.report_jobs.specs.Prints.{WriterChange, KeepsRecord, change}
 use Rattle.report.specs.Drawn.{table_lines, cut_in}
-use Rattle.report.specs.DrawnRaces.{PrintsDrawnRaces, SaysRaceOf, TellsOfNoRace, TellsOfPair, TellsOfRacyLast, TellsOfRacyRun}
+use Rattle.report.specs.DrawnRaces.{PrintsDrawnRaces, SaysRaceOf, TellsOfNoRace, TellsOfRacyLast}
 use Rattle.report.specs.Prints.{Tells}
 use Rattle.report.specs.Raced.{SaysPair}
 use Rattle.report.specs.Searches.{IsRaceKept}

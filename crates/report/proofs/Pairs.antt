@@ -1,6 +1,6 @@
 -- The first race of a run's record, as it was written and kept.
 use Rattle.std.specs.Prelude.{IfOk, OnOk, Result, Ok, Err, is_some}
-use Rattle.std.proofs.Common.{ℕ, ◌≡◌, ◌∙◌, ◌&&◌, Bool, true, false, List, Option, length, inl, inr, refl, ap, sym, subst}
+use Rattle.std.proofs.Common.{ℕ, ◌≡◌, ◌∙◌, ◌&&◌, Bool, true, false, List, Option, inl, inr, refl, ap, subst}
 use Rattle.types.specs.declared.event.Entry.{Entry}
 use Rattle.spawn_host.specs.Requests.{Requested}
 use Rattle.search_scheduled.specs.Headers.{IsOfCall}
@@ -18,7 +18,7 @@ use Rattle.show_rows.specs.Listing.{IsStoryOf}
 use Rattle.show_rows.specs.declared.listing.Shown.{Shown}
 use Rattle.show_rows.specs.declared.listing.Story.{Story}
 use Rattle.show_rows.specs.declared.rows.Row.{Row}
-use Rattle.show_races.specs.Kinds.{kinds_in, kinds_shown}
+use Rattle.show_races.specs.Kinds.{kinds_shown}
 use Rattle.show_races.specs.Written.{SaysRace, WritesFirst}
 use Rattle.show_races.specs.declared.found.Races.{Races}
 use Rattle.report_jobs.specs.Prints.{WriterChange, KeepsRecord, change}

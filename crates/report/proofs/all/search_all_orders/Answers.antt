@@ -1,6 +1,6 @@
-use Rattle.std.proofs.Common.{ℕ, List, ◌∙◌, ap, refl, sym, subst}
+use Rattle.std.proofs.Common.{◌∙◌, ap, refl, sym, subst}
 use Rattle.std.proofs.lemmas.Result.{IfOk-weaker}
-use Rattle.report_jobs.specs.Prints.{change, changed}
+use Rattle.report_jobs.specs.Prints.{change}
 use Rattle.report.specs.Prints.{IsStatusOf, IsToldBehind, PrintsAll, Tells}
 use Rattle.report.specs.Racing.{TellsOfRacing}
 use Rattle.report.specs.Searches.{Finds, IsWellAt}

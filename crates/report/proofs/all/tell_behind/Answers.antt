@@ -1,6 +1,5 @@
-use Rattle.std.proofs.Common.{ℕ, List, refl, sym, ◌∙◌, subst, inl, inr, true≢false}
+use Rattle.std.proofs.Common.{refl, sym, ◌∙◌, inl, inr, true≢false}
 use Rattle.report_jobs.specs.Prints.{changed}
-use Rattle.report.specs.Prints.{TellsOfOne}
 use Rattle.report.proofs.Printed.{first_is_sought, status_0, status_1, tells_nothing, well_has_none}
 use Rattle.report.proofs.Sought.{known_is_sought, none_of}
 use Rattle.report.proofs.Wholly.{finds_endless, finds_found}

@@ -1,11 +1,11 @@
-use Rattle.std.proofs.Common.{◌≡◌, ◌<◌, false, true, refl, inl, inr, subst, true≢false}
+use Rattle.std.proofs.Common.{◌<◌, false, true, refl, inl, inr, subst, true≢false}
 use Rattle.std.proofs.lemmas.Result.{IfOk-weaker}
 use Rattle.types.specs.declared.parts.Parts.{Parts}
 use Rattle.search_finds.specs.Judged.{IsFindBy, IsPassed}
-use Rattle.search_finds.specs.Noted.{AreNoted, AreNotedBy}
+use Rattle.search_finds.specs.Noted.{AreNotedBy}
 use Rattle.search_finds.proofs.Noting.{plainly_noted}
 use Rattle.report_jobs.specs.Prints.{change, changed}
-use Rattle.report.specs.DrawnRaces.{PrintsDrawnRaces, SaysRaceOf, TellsOfRaceless}
+use Rattle.report.specs.DrawnRaces.{PrintsDrawnRaces, TellsOfRaceless}
 use Rattle.report.specs.Prints.{Tells}
 use Rattle.report.proofs.Counted.{cut_within}
 use Rattle.report.proofs.DrawnRaces.{none_races, prints_races, says_in}

@@ -1,11 +1,8 @@
-use Rattle.std.proofs.Common.{ℕ, ◌≡◌, ◌∙◌, Bool, true, List, Option, refl, subst, sym}
-use Rattle.std.specs.Prelude.{is_some}
-use Rattle.std.specs.Io.KnownBytes.{Appends}
+use Rattle.std.proofs.Common.{◌∙◌, refl, subst}
 use Rattle.types.specs.declared.parts.Parts.{Parts}
 use Rattle.replay_forms.proofs.Written.{appends_then}
 use Rattle.report_jobs.specs.Prints.{changed}
 use Rattle.report.specs.Raced.{SaysPair, WritesPair}
-use Rattle.report.specs.Prints.{run_lines}
 use Rattle.report.proofs.DrawnRaces.{race_is_kept}
 use Rattle.report.proofs.Pairs.{if_on}
 use Rattle.report.proofs.drawn_races.tell_kept.Goals as goal
