@@ -93,8 +93,7 @@ impl Job<'_> {
             Job::Run(job) => job.look.form,
             Job::Replay { look, .. } => look.form,
             Job::Show { view, .. } => view.form(),
-            Job::Races(job) => job.form,
-            Job::Search(search) => search.form,
+            Job::Races(_) | Job::Search(_) => Form::Lines,
         }
     }
 }
