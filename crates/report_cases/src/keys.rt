@@ -1,7 +1,7 @@
 //! The keys of lines.
 
 /// The keys that there are.
-const KEYS: [&str; 26] = [
+const KEYS: [&str; 27] = [
     "module",
     "hex",
     "body",
@@ -28,6 +28,7 @@ const KEYS: [&str; 26] = [
     "record-end",
     "record-has",
     "again",
+    "again-err",
 ];
 
 /// A key of a line of a file of cases that is none, if there is one.

@@ -38,15 +38,14 @@
 //! record-end LINE        or its last lines, before that of the pages, which was printed too, and `finish`
 //! record-has LINE        lines that it has, in this order
 //! memory-out 65536 61 62 how many bytes are written of the memory, of which these are the first
-//! again LINE             what its replay prints, with the `--dump` of the words; on standard error it says what the run
-//!                          said there
+//! again LINE             what its replay prints, with the `--dump` of the words
+//! again-err LINE         what the replay says on standard error
 //! again-status 1         the replay's status, 0 without this line
 //! ```
 //!
 //! A case without one of the lines from `record` on writes nothing to a record, and one without `memory-out` nothing of a
-//! memory. A run over the recorder needs none of them:
-//! its record ends as `record-end` says, and is replayed to the same lines with the same status. A record is also
-//! written as it is read.
+//! memory. A run over the recorder needs none of them: its record ends as `record-end` says, and is replayed to the same
+//! lines, on both streams, with the same status. A record is also written as it is read.
 #![tactic(auto)]
 
 mod case;
