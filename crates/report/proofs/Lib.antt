@@ -11,3 +11,6 @@ mod Silent
 pub mod Told
 mod Pairs
 mod Looking
+mod RacePairs
+mod Kept
+mod Objected

@@ -3,12 +3,13 @@ use Rattle.std.specs.Prelude.{ℕ, ◌≡◌, ◌≤◌, ◌⊎◌, List}
 use Rattle.report_command.specs.declared.command_line.Job.{Job}
 use Rattle.report_command.specs.declared.command_line.Job.TheVariants.{Show}
 use Rattle.report_command.specs.declared.command_line.Job.TheVariants as jobs
+use Rattle.report_command.specs.declared.form.Form.{Form}
 use Rattle.report_command.specs.declared.search.Search.{Search}
 use Rattle.report_jobs.specs.Prints.{WriterChange}
 use Rattle.report_jobs.specs.Jobs.{IsNoValidModule, IsNoRecordOf, IsRecordOf, HasNoSuchCall}
 use Rattle.report_jobs.specs.Plain.{PerformsPlain}
 use Rattle.report.specs.Raced.{OfModule, IsRaceFree, IsRacy, PrintsRaces}
-use Rattle.report.specs.Prints.{HasSearched}
+use Rattle.report.specs.Searched.{HasSearched}
 
 -- What the status of a show says: 0 of a record of a run, 2 of a refused module, 4 of a record of no run. 5 is that
 -- memory or a stream failed.
@@ -20,8 +21,8 @@ pub record Shows (bytes saved : List ℕ) (status : ℕ) : Type 0 where
 
 -- What that of races says: 0 of a record of a run in which no accesses race, 1 of one in which some do, and 2, 4 and 5 as of
 -- a show.
-pub record TellsRaces (bytes saved : List ℕ) (most : ℕ) (out : WriterChange) (status : ℕ) : Type 0 where
-  pub prints : status ≤ 1 → OfModule (PrintsRaces most out) bytes saved
+pub record TellsRaces (bytes saved : List ℕ) (most : ℕ) (form : Form) (out : WriterChange) (status : ℕ) : Type 0 where
+  pub prints : status ≤ 1 → OfModule (PrintsRaces most form out) bytes saved
   pub free : status ≡ 0 → OfModule IsRaceFree bytes saved
   pub racy : status ≡ 1 → OfModule IsRacy bytes saved
   pub refused : status ≡ 2 → IsNoValidModule bytes
@@ -39,6 +40,6 @@ pub record Searches (bytes : List ℕ) (s : Search) (out save : WriterChange) (s
 -- What the status of a job says: of one that is no show and no search, what it says of a plain job.
 abbrev pub Performs : Job → List ℕ → List ℕ → WriterChange → WriterChange → ℕ → Type 0
 Performs (Show file record_path names look at) bytes saved out save status = Shows bytes saved status
-Performs (jobs.Races job) bytes saved out save status = TellsRaces bytes saved job.most out status
+Performs (jobs.Races job) bytes saved out save status = TellsRaces bytes saved job.most job.form out status
 Performs (jobs.Search s) bytes saved out save status = Searches bytes s out save status
 Performs job bytes saved out save status = PerformsPlain job bytes saved out save status

@@ -6,4 +6,7 @@ pub mod Endless
 pub mod Searches
 pub mod Racing
 pub mod Prints
+pub mod RaceObjects
+pub mod SearchObjects
+pub mod Searched
 pub mod Silent

@@ -192,21 +192,3 @@ pub record PrintsAll (m : Parts) (s : Search) (most : ℕ) (out save : WriterCha
   pub lines : Appends out.old out.new (race ++ (complete_lines most whole.racing whole.all ++ told))
   pub says : IsToldBehind request s whole told (change kept save.new)
   pub status_is : IsStatusOf s whole status
-
--- What is printed of a search of drawn runs.
-abbrev pub IsDrawn : Parts → Search → WriterChange → WriterChange → ℕ → Type 0
-IsDrawn m s out save status = is_none s.all ≡ true → PrintsDrawn m s out save status
-
--- What is printed of a search through every order of entries.
-abbrev pub IsPrintedOf : Parts → Search → WriterChange → WriterChange → ℕ → Type 0
-IsPrintedOf m s out save status = (most : ℕ) → s.all ≡ Some most → PrintsAll m s most out save status
-
--- The bytes are a valid module's text, and its runs were searched.
-pub record HasSearched (bytes : List ℕ) (s : Search) (out save : WriterChange) (status : ℕ) : Type 0 where
-  pub parts : Parts
-  pub text : IsModuleText bytes parts
-  pub valid : IsValid parts
-  pub finds : Finds parts s save status
-  pub well : IsWellAt parts s status
-  pub drawn : IsDrawn parts s out save status
-  pub prints : IsPrintedOf parts s out save status

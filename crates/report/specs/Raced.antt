@@ -23,7 +23,10 @@ use Rattle.show_races.specs.Kinds.{kinds_in}
 use Rattle.show_races.specs.Told.{AreApart, HasNoRace, TellsEach}
 use Rattle.show_races.specs.Written.{SaysRace, TellsRaces}
 use Rattle.show_races.specs.declared.found.Races.{Races}
+use Rattle.report_command.specs.declared.form.Form.{Form}
+use Rattle.report_command.specs.declared.form.Form.TheVariants.{Lines, Json}
 use Rattle.report_jobs.specs.Prints.{WriterChange}
+use Rattle.report.specs.RaceObjects.{WritesPairs}
 
 -- The rows of a record's entries, as a replay of it fills them: where the thread of each stands.
 pub record AreRowsOf (m : Parts) (r : RecordParts) (end : EndState) (rows : List (Option Row)) : Type 0 where
@@ -61,9 +64,15 @@ pub record IsRacy (m : Parts) (saved : List ℕ) : Type 0 where
   pub race : Race
   pub races : IsLastRace record_is.log (kinds_of m record_is rows) race
 
+-- They are told in lines, or in an object.
+abbrev pub TellsIn : Form → Shown → Story → Races → Option (List ℕ) → Option (List ℕ) → Type 0
+TellsIn Lines shown story races old new = TellsRaces shown story races old new
+TellsIn Json shown story races old new = WritesPairs shown story races old new
+
 -- What was written tells of so many races at most, no two of the same two places of the code, and of each race of the
 -- run at its places, where it isn't said that they are not all.
-pub record WritesRaces (m : Parts) (r : RecordParts) (rows : List (Option Row)) (most : ℕ) (out : WriterChange) : Type 0 where
+pub record WritesRaces (m : Parts) (r : RecordParts) (rows : List (Option Row)) (most : ℕ) (form : Form)
+    (out : WriterChange) : Type 0 where
   pub shown : Shown
   pub of_record : shown.record.now ≡ r
   pub of_rows : shown.rows.now ≡ rows
@@ -74,13 +83,13 @@ pub record WritesRaces (m : Parts) (r : RecordParts) (rows : List (Option Row)) 
   pub each : races.is_cut ≡ false → TellsEach shown story races.pairs.items
   pub once : AreApart shown story races.pairs.items
   pub few : length races.pairs.items ≤ most
-  pub tells : TellsRaces shown story races out.old out.new
+  pub tells : TellsIn form shown story races out.old out.new
 
-pub record PrintsRaces (most : ℕ) (out : WriterChange) (m : Parts) (saved : List ℕ) : Type 0 where
+pub record PrintsRaces (most : ℕ) (form : Form) (out : WriterChange) (m : Parts) (saved : List ℕ) : Type 0 where
   pub record_is : RecordParts
   pub rows : List (Option Row)
   pub seen : IsSeen m saved record_is rows
-  pub writes : WritesRaces m record_is rows most out
+  pub writes : WritesRaces m record_is rows most form out
 
 -- Whether there are races, as an answer says.
 abbrev pub Says : List Entry → List Kind → Bool → Type 0
@@ -101,8 +110,8 @@ pub record IsShownOf (m : Parts) (r : RecordParts) (rows : List (Option Row)) (s
   pub of_module : shown.code.now.parts.now ≡ m
   pub is_story : IsStoryOf shown.record.now.log story
 
--- The text says of two entries of a run's record that they race, in the words of `races`, and they do.
-pub record SaysPair (m : Parts) (r : RecordParts) (text : List ℕ) : Type 0 where
+-- Two entries of a run's record race, and this is said of them.
+pub record HasPair (m : Parts) (r : RecordParts) (IsSaid : Shown → Story → List Kind → Race → Type 0) : Type 0 where
   pub rows : List (Option Row)
   pub end : EndState
   pub run : IsRunOf m r end
@@ -112,7 +121,15 @@ pub record SaysPair (m : Parts) (r : RecordParts) (text : List ℕ) : Type 0 whe
   pub is_shown : IsShownOf m r rows shown story
   pub race : Race
   pub is_race : IsLastRace r.log (kinds_of m r rows) race
-  pub says : SaysRace shown story (kinds_of m r rows) race text
+  pub says : IsSaid shown story (kinds_of m r rows) race
+
+-- The text says so in the words of `races`.
+abbrev pub SaysPair : Parts → RecordParts → List ℕ → Type 0
+SaysPair m r text = HasPair m r (λ shown story kinds race. SaysRace shown story kinds race text)
+
+-- The run has a race.
+abbrev pub HasRace : Parts → RecordParts → Type 0
+HasRace m r = HasPair m r (λ shown story kinds race. Unit {0})
 
 -- So the first race of a run is written, where it has one.
 abbrev pub WritesPair : Parts → RecordParts → WriterChange → Bool → Type 0

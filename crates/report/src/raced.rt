@@ -29,14 +29,14 @@ use std::io::{self, Write};
 use validate_module::ValidModule;
 
 /// Whether the record of a run with a race is kept.
-fn keeps_race(search: &Search) -> bool
+pub(crate) fn keeps_race(search: &Search) -> bool
     ensures { result ≡ specified.keeps_race search.now }
 {
     search.races && search.save.is_some()
 }
 
 /// What a race that wasn't written is.
-fn trouble_of(unwritten: Unwritten) -> Trouble
+pub(crate) fn trouble_of(unwritten: Unwritten) -> Trouble
     ensures { IsOfSystem result }
 {
     match unwritten {

@@ -5,6 +5,7 @@ use Rattle.report_jobs.specs.Prints.{change, changed}
 use Rattle.report.specs.Raced.{WritesPair}
 use Rattle.report.specs.Racing.{keeps_race, threads_line}
 use Rattle.report.proofs.Pairs.{if_on, race_kept}
+use Rattle.report.proofs.RacePairs.{has_race}
 use Rattle.report.proofs.raced.tell_found.Goals as goal
 
 pub returns-then-not-is_told-clause-tells : goal.returns-then-not-is_told-clause-tells
@@ -49,6 +50,6 @@ returns-clause-kept g c =
     let out = change (contents c.args.out.now) (contents c.write_pair.new.out) in
     let pair = subst (WritesPair q.parts c.in-Ok.made.record out) c.if-not-is_told.false
     (subst (λ (m : Parts). WritesPair m c.in-Ok.made.record out c.in-Ok-write_pair.is_told) c.module.ensures c.in-Ok-write_pair.ensures) in
-    if_on c.keep.result (λ kept. race_kept q s c.requires.asked c.in-Ok.made c.in-Ok.ensures.find pair.0 pair.2 save
+    if_on c.keep.result (λ kept. race_kept q s c.requires.asked c.in-Ok.made c.in-Ok.ensures.find (has_race q.parts c.in-Ok.made.record _ pair.2) save
     (λ wanted. kept (c.keeps_race.ensures ∙ wanted)) (keeps_race s) refl
     (λ none. ap saved (c.keep.ensures.unwanted (c.keeps_race.ensures ∙ none)))) c.keep.ensures.kept

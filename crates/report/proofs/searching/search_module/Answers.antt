@@ -4,7 +4,7 @@ use Rattle.types.specs.declared.parts.Parts.{Parts}
 use Rattle.report_jobs.specs.Arguments.{texts_in}
 use Rattle.report_jobs.specs.Prints.{changed}
 use Rattle.report_jobs.specs.Troubles.{IsTroubleOf}
-use Rattle.report.specs.Prints.{IsDrawn, IsPrintedOf, PrintsAll, PrintsDrawn}
+use Rattle.report.specs.Searched.{AllIn, DrawnIn, IsDrawn, IsPrintedOf}
 use Rattle.report.specs.Searches.{Finds, IsOfSystem, IsWellAt}
 use Rattle.report.proofs.Asking.{of_system}
 use Rattle.report.proofs.searching.search_module.Goals as goal
@@ -12,55 +12,55 @@ use Rattle.report.proofs.searching.search_module.Goals as goal
 pub returns-in-Some-clause-finds : goal.returns-in-Some-clause-finds
 returns-in-Some-clause-finds g c =
     let s = c.args.asked.search.now in
-    let save = changed g.S.Write.contents c.args.save.now c.search_all_orders.new.save in
-    subst (λ (m : Parts). IfOk c.search_all_orders.result (Finds m s save)) c.request_of-request.ensures.parts
-    c.search_all_orders.ensures.finds
+    let save = changed g.S.Write.contents c.args.save.now c.search_orders.new.save in
+    subst (λ (m : Parts). IfOk c.search_orders.result (Finds m s save)) c.request_of-request.ensures.parts
+    c.search_orders.ensures.finds
 
 pub returns-in-Some-clause-well : goal.returns-in-Some-clause-well
 returns-in-Some-clause-well g c =
     let s = c.args.asked.search.now in
-    subst (λ (m : Parts). IfOk c.search_all_orders.result (IsWellAt m s)) c.request_of-request.ensures.parts
-    c.search_all_orders.ensures.well
+    subst (λ (m : Parts). IfOk c.search_orders.result (IsWellAt m s)) c.request_of-request.ensures.parts
+    c.search_orders.ensures.well
 
 pub returns-in-Some-clause-trouble : goal.returns-in-Some-clause-trouble
 returns-in-Some-clause-trouble g c =
     let m = c.args.module.now.parts in
     let words = c.args.asked.search.now.call in
-    IfErr-weaker c.search_all_orders.result IsOfSystem (IsTroubleOf m words) (of_system m words.invoke.now (texts_in words.args.items))
-    c.search_all_orders.ensures.trouble
+    IfErr-weaker c.search_orders.result IsOfSystem (IsTroubleOf m words) (of_system m words.invoke.now (texts_in words.args.items))
+    c.search_orders.ensures.trouble
 
 pub returns-clause-finds : goal.returns-clause-finds
 returns-clause-finds g c =
     let s = c.args.asked.search.now in
-    let save = changed g.S.Write.contents c.args.save.now c.search_drawn.new.save in
-    subst (λ (m : Parts). IfOk c.search_drawn.result (Finds m s save)) c.request_of-request.ensures.parts c.search_drawn.ensures.finds
+    let save = changed g.S.Write.contents c.args.save.now c.search_runs.new.save in
+    subst (λ (m : Parts). IfOk c.search_runs.result (Finds m s save)) c.request_of-request.ensures.parts c.search_runs.ensures.finds
 
 pub returns-clause-drawn : goal.returns-clause-drawn
 returns-clause-drawn g c =
     let m = c.args.module.now.parts in
     let r = c.request_of-request.result.parts in
     let s = c.args.asked.search.now in
-    let out = changed g.W.Write.contents c.args.out.now c.search_drawn.new.out in
-    let save = changed g.S.Write.contents c.args.save.now c.search_drawn.new.save in
-    IfOk-weaker c.search_drawn.result (PrintsDrawn r s out save) (IsDrawn m s out save)
-    (λ status so _. subst (λ (parts : Parts). PrintsDrawn parts s out save status) c.request_of-request.ensures.parts so)
-    c.search_drawn.ensures.prints
+    let out = changed g.W.Write.contents c.args.out.now c.search_runs.new.out in
+    let save = changed g.S.Write.contents c.args.save.now c.search_runs.new.save in
+    IfOk-weaker c.search_runs.result (DrawnIn s.form r s out save) (IsDrawn m s out save)
+    (λ status so _. subst (λ (parts : Parts). DrawnIn s.form parts s out save status) c.request_of-request.ensures.parts so)
+    c.search_runs.ensures.prints
 
 pub returns-clause-trouble : goal.returns-clause-trouble
 returns-clause-trouble g c =
     let m = c.args.module.now.parts in
     let words = c.args.asked.search.now.call in
-    IfErr-weaker c.search_drawn.result IsOfSystem (IsTroubleOf m words) (of_system m words.invoke.now (texts_in words.args.items))
-    c.search_drawn.ensures.trouble
+    IfErr-weaker c.search_runs.result IsOfSystem (IsTroubleOf m words) (of_system m words.invoke.now (texts_in words.args.items))
+    c.search_runs.ensures.trouble
 
 pub returns-in-Some-clause-prints : goal.returns-in-Some-clause-prints
 returns-in-Some-clause-prints g c =
     let m = c.args.module.now.parts in
     let r = c.request_of-request.result.parts in
     let s = c.args.asked.search.now in
-    let out = changed g.W.Write.contents c.args.out.now c.search_all_orders.new.out in
-    let save = changed g.S.Write.contents c.args.save.now c.search_all_orders.new.save in
-    IfOk-weaker c.search_all_orders.result (PrintsAll r s c.in-Some.most out save) (IsPrintedOf m s out save)
-    (λ status so most is. subst (λ (n : ℕ). PrintsAll m s n out save status) (cc (sym c.in-Some.is ∙ is))
-    (subst (λ (p : Parts). PrintsAll p s c.in-Some.most out save status) c.request_of-request.ensures.parts so))
-    c.search_all_orders.ensures.prints
+    let out = changed g.W.Write.contents c.args.out.now c.search_orders.new.out in
+    let save = changed g.S.Write.contents c.args.save.now c.search_orders.new.save in
+    IfOk-weaker c.search_orders.result (AllIn s.form r s c.in-Some.most out save) (IsPrintedOf m s out save)
+    (λ status so most is. subst (λ (n : ℕ). AllIn s.form m s n out save status) (cc (sym c.in-Some.is ∙ is))
+    (subst (λ (p : Parts). AllIn s.form p s c.in-Some.most out save status) c.request_of-request.ensures.parts so))
+    c.search_orders.ensures.prints
