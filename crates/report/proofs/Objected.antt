@@ -63,7 +63,7 @@ module _ (q : Requested) (s : Search) (t : Told) (out : WriterChange) (a b last 
   pub object_by : (raced : Option MadeRun) → IfSome raced (IsFind q s.sought.limit) → (is : Bool) → WritesRaced q.parts raced t out is
       → KeepsRaced s is raced (change a b) → ObjectOfAll q s t.most t.whole.now out (change a last) t.status
   object_by raced find false written same = object_of (races_alone t.whole.now.racing) written (alone_in q s t.whole.now.racing (change a b) same)
-  object_by raced find true (race, made, racing, there, pair, pairs, written) keeps =
+  object_by raced find true (race, made, racing, there, (pair, pairs, written)) keeps =
       let found : IsFind q s.sought.limit made = subst (λ (o : Option MadeRun). IfSome o (IsFind q s.sought.limit)) there find in
       let saved : KeepsRecord (keeps_race s) (change a b) made.record =
       subst (λ (o : Option MadeRun). KeepsRaced s true o (change a b)) there keeps in
@@ -80,7 +80,7 @@ pub race_or_none : (q : Requested) (s : Search) → IsAskedBy s.call q → (t : 
     → IfSome raced (IsFind q s.sought.limit) → (is : Bool) → WritesRaced q.parts raced t out is → (save : WriterChange)
     → KeepsRaced s is raced save → (keeps_race s ≡ false → save.new ≡ save.old) → KeepsNoneOrRace q.parts s save
 race_or_none q s asked t out raced find false written save same stays = inl same
-race_or_none q s asked t out raced find true (race, made, racing, there, pair, pairs, written) save kept stays =
+race_or_none q s asked t out raced find true (race, made, racing, there, (pair, pairs, written)) save kept stays =
     let found : IsFind q s.sought.limit made = subst (λ (o : Option MadeRun). IfSome o (IsFind q s.sought.limit)) there find in
     let saved : KeepsRecord (keeps_race s) save made.record = subst (λ (o : Option MadeRun). KeepsRaced s true o save) there kept in
     race_kept q s asked made found (has_race q.parts made.record _ pairs) save saved (keeps_race s) refl stays

@@ -12,7 +12,7 @@ ghost use Rattle.report.specs.SearchObjects.{AreFoundIn, IsEndIn, KeepsFound, Ke
 ghost use Rattle.report.specs.SearchObjects.{WritesBeside, WritesRaced, WritesTold};
 
 use crate::found::{FoundRun, behind_of};
-use crate::pairs::pair_of;
+use crate::pairing::pair_of;
 use crate::raced::{keeps_race, trouble_of};
 use crate::searching::{Asked, no_memory};
 use crate::showing::{CodeBytes, watched};

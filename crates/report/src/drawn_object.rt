@@ -47,7 +47,8 @@ fn all_met<'a>(
 {
     let mut all = Vec::new(alloc);
     for at in 0..met.len() {
-        all.push(met_of(sought, &met[at]))?;
+        let ending = met_of(sought, &met[at]);
+        all.push(ending)?;
     }
     Ok(all)
 }

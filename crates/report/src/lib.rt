@@ -1,6 +1,6 @@
 //! What the program does, as a library: the command line as a job, and the lines that a job prints. `showing` has the
 //! entries of a record in words, as rows, a moment, a page or a trace; `searching` and `all` searches through runs of a
-//! module, drawn ones and every order of the entries: `whole` looks for races first, and `raced` tells one. `pairs`,
+//! module, drawn ones and every order of the entries: `whole` looks for races first, and `raced` tells one. `pairing`,
 //! `drawn_object` and `all_object` write the same as JSON objects.
 //!
 //! Proved: what each status of a job says, that nothing is written where one is refused, and what a search prints and
@@ -24,7 +24,7 @@ mod drawn_object;
 mod found;
 mod job;
 mod objects;
-mod pairs;
+mod pairing;
 mod raced;
 mod racing;
 mod searching;

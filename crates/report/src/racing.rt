@@ -8,7 +8,7 @@ ghost use Rattle.report_jobs.specs.Prints.{changed};
 ghost use Rattle.report_jobs.specs.Told.{TellsWhatIsWrong};
 ghost use Rattle.report.specs.Raced.{IsRaceFree, IsRacy, OfModule, PrintsRaces, Says, SaysOf, TellsIn, WritesRaces, kinds_of};
 
-use crate::pairs::write_pairs;
+use crate::pairing::write_pairs;
 use crate::showing::{CodeBytes, SeenRun, rows_of, unfit_of};
 use race_history::is_history;
 use report_command::Form;

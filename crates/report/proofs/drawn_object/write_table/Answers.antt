@@ -9,7 +9,12 @@ pub returns-in-Ok-clause-written : goal.returns-in-Ok-clause-written
 returns-in-Ok-clause-written g c =
     let s = c.args.sought.now in
     record {
-      drawn = _;
+      drawn = record {
+        status = c.args.status;
+        runs = c.runs_of.result;
+        met = record { ref_ptr = (0, 0); now = c.as_slice-2.result.now };
+        halt = c.args.halt;
+      };
       met = subst (λ (all : List MetEnding). AllZip (IsMetOf s) c.args.table.now.met.items all) (sym c.as_slice-2.ensures.value)
           (subst (λ (rows : List Met). AllZip (IsMetOf s) rows c.in_ok-met.met.items) c.as_slice.ensures.value c.in_ok-met.ensures);
       runs = c.runs_of.ensures;

@@ -1,5 +1,5 @@
 use Rattle.report.proofs.RacePairs.{entry_by}
-use Rattle.report.proofs.pairs.entry_of.Goals as goal
+use Rattle.report.proofs.pairing.entry_of.Goals as goal
 
 pub returns : goal.returns
 returns c = entry_by c.args.shown.now c.args.story.now c.args.kinds.now c.args.at c.as_slice-log.result.now _ _ c.access_at-access.result

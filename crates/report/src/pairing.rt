@@ -120,7 +120,8 @@ fn pairs_of<'a>(
 {
     let mut pairs = Vec::new(alloc);
     for at in 0..races.len() {
-        pairs.push(pair_of(shown, story, kinds, races[at]))?;
+        let pair = pair_of(shown, story, kinds, races[at]);
+        pairs.push(pair)?;
     }
     Ok(pairs)
 }
