@@ -130,8 +130,8 @@ fn write_racy<W: Write>(
     let Ok(rows) = watched(alloc, module, &racy.made.record) else {
         return Err(Trouble::NoMemory);
     };
-    let code = asked.code();
-    let code = CodeMap::read(alloc, module.parts(), code.module, code.names)?;
+    let bytes = asked.code();
+    let code = CodeMap::read(alloc, module.parts(), bytes.module, bytes.names)?;
     let shown = Shown {
         record: racy.made.record.parts(),
         rows: rows.as_slice(),
