@@ -14,6 +14,8 @@ use Rattle.report_json.specs.declared.races.RacePair.{RacePair}
 use Rattle.report_json.specs.declared.raced.RunRaces.{RunRaces}
 use Rattle.report_json.specs.declared.raced.RunRaces.TheVariants as said
 use Rattle.report.specs.Prints.{stops_behind}
+use Rattle.replay_text.specs.declared.parts.RecordParts.{RecordParts}
+use Rattle.report.specs.Raced.{SaysRaceIn}
 use Rattle.report.specs.Racing.{keeps_race}
 use Rattle.report.specs.SearchObjects.{AreFoundIn, AreRacesIn, HasFound, KeepsFound, KeepsRaced, ObjectOfAll, WritesBeside, WritesRaced, WritesTold, races_alone, threads_of}
 use Rattle.report.specs.Searches.{KeepsNoneOrRace}
@@ -57,15 +59,19 @@ module _ (q : Requested) (s : Search) (t : Told) (out : WriterChange) (a b last 
     object = written.object;
   }
 
+  of_beside : (race : Race) (made : MadeRun) → t.whole.now.racing ≡ Found race → IsFind q s.sought.limit made
+      → KeepsRecord (keeps_race s) (change a b) made.record → WritesBeside q.parts made.record race t out true
+      → ObjectOfAll q s t.most t.whole.now out (change a last) t.status
+  of_beside race made racing found saved (pair, says, written) =
+      object_of (Some (said.Found pair)) written (subst (λ (x : Racing). AreRacesIn q s x (Some (said.Found pair)) (change a b)) (sym racing)
+      (inl (record { made = made; find = found; pair = pair; races = says; is_there = refl; kept = saved })))
+
   pub object_by : (raced : Option MadeRun) → IfSome raced (IsFind q s.sought.limit) → (is : Bool) → WritesRaced q.parts raced t out is
       → KeepsRaced s is raced (change a b) → ObjectOfAll q s t.most t.whole.now out (change a last) t.status
   object_by raced find false written same = object_of (races_alone t.whole.now.racing) written (alone_in q s t.whole.now.racing (change a b) same)
-  object_by raced find true (race, made, racing, there, (pair, pairs, written)) keeps =
-      let found : IsFind q s.sought.limit made = subst (λ (o : Option MadeRun). IfSome o (IsFind q s.sought.limit)) there find in
-      let saved : KeepsRecord (keeps_race s) (change a b) made.record =
-      subst (λ (o : Option MadeRun). KeepsRaced s true o (change a b)) there keeps in
-      object_of (Some (said.Found pair)) written (subst (λ (x : Racing). AreRacesIn q s x (Some (said.Found pair)) (change a b)) (sym racing)
-      (inl (record { made = made; find = found; pair = pair; races = pairs; is_there = refl; kept = saved })))
+  object_by raced find true (race, made, racing, there, beside) keeps =
+      of_beside race made racing (subst (λ (o : Option MadeRun). IfSome o (IsFind q s.sought.limit)) there find)
+      (subst (λ (o : Option MadeRun). KeepsRaced s true o (change a b)) there keeps) beside
 
 -- the record of the run with the race
 pub raced_kept : (s : Search) (is : Bool) (raced : Option MadeRun) (made : MadeRun) (save : WriterChange) → is ≡ true → raced ≡ Some made
@@ -73,14 +79,17 @@ pub raced_kept : (s : Search) (is : Bool) (raced : Option MadeRun) (made : MadeR
 raced_kept s is raced made save yes there kept = subst (λ (b : Bool). KeepsRaced s b raced save) (sym yes)
     (subst (λ (o : Option MadeRun). KeepsRaced s true o save) (sym there) kept)
 
+said_beside : (m : Parts) (r : RecordParts) (race : Race) (t : Told) (out : WriterChange) → WritesBeside m r race t out true → SaysRaceIn m r
+said_beside m r race t out (pair, says, written) = inr (pair, says)
+
 pub race_or_none : (q : Requested) (s : Search) → IsAskedBy s.call q → (t : Told) (out : WriterChange) (raced : Option MadeRun)
     → IfSome raced (IsFind q s.sought.limit) → (is : Bool) → WritesRaced q.parts raced t out is → (save : WriterChange)
     → KeepsRaced s is raced save → (keeps_race s ≡ false → save.new ≡ save.old) → KeepsNoneOrRace q.parts s save
 race_or_none q s asked t out raced find false written save same stays = inl same
-race_or_none q s asked t out raced find true (race, made, racing, there, (pair, pairs, written)) save kept stays =
-    let found : IsFind q s.sought.limit made = subst (λ (o : Option MadeRun). IfSome o (IsFind q s.sought.limit)) there find in
-    let saved : KeepsRecord (keeps_race s) save made.record = subst (λ (o : Option MadeRun). KeepsRaced s true o save) there kept in
-    race_kept q s asked made found (inr (pair, pairs)) save saved (keeps_race s) refl stays
+race_or_none q s asked t out raced find true (race, made, racing, there, beside) save kept stays =
+    race_kept q s asked made (subst (λ (o : Option MadeRun). IfSome o (IsFind q s.sought.limit)) there find)
+    (said_beside q.parts made.record race t out beside) save
+    (subst (λ (o : Option MadeRun). KeepsRaced s true o save) there kept) (keeps_race s) refl stays
 
 -- where the search doesn't stop nothing is kept of what was found
 pub quiet_by : (q : Requested) (s : Search) (w : Whole) (o : Option FoundRun) (save : WriterChange) → HasFound q s w o → KeepsFound s o save
