@@ -2,8 +2,8 @@
 
 use indexmap::IndexSet;
 use report_json::{
-    Complete, Drawn, DrawnEnd, DrawnRuns, Found, FoundAs, RacingThreads, RunEnd, RunRaces, RunSize,
-    Shrunk, write_complete, write_drawn,
+    Complete, Coverage, Drawn, DrawnEnd, DrawnRuns, Found, FoundAs, RacingThreads, RunEnd,
+    RunRaces, RunSize, Shrunk, write_complete, write_drawn,
 };
 use search_endings::Ending;
 use search_reach::{Ended, FairCycle, FairRuns, Liveness, Verdict};
@@ -83,6 +83,34 @@ fn a_drawn_run_is_found(rt: HostRuntime) -> Result<(), Fail> {
         \"units\":3}],\"pages\":1}}}\n",
     ) {
         return Err(Fail::new("a run is found"));
+    }
+    Ok(())
+}
+
+#[test]
+fn no_drawn_run_has_a_race(rt: HostRuntime) -> Result<(), Fail> {
+    let drawn = Drawn {
+        status: 0,
+        runs: DrawnRuns {
+            made: 1,
+            asked: 2,
+            cut: 0,
+            limit: 1,
+        },
+        met: &[],
+        races: Some(RunRaces::Unknown),
+        halt: DrawnEnd::Told(Coverage {
+            late: 1,
+            singles: 1,
+        }),
+    };
+    if !is_drawn(
+        rt.alloc(),
+        &drawn,
+        "{\"status\":0,\"verdict\":\"told\",\"runs\":{\"made\":1,\"asked\":2,\"cut\":0,\"limit\":1},\"endings\":[],\
+        \"races\":\"unknown\",\"coverage\":{\"late\":1,\"singles\":1}}\n",
+    ) {
+        return Err(Fail::new("no run has a race"));
     }
     Ok(())
 }
