@@ -15,4 +15,4 @@ mod write;
 
 pub use links::{Link, LinkKind, Links};
 pub use page::write_page;
-pub use write::{chosen_entries, write_events, write_trace};
+pub use write::{write_events, write_trace};

@@ -37,6 +37,12 @@ module _ (log : List Entry) (kinds : List Kind) where
       let race = (races (get_or told k d) (Contains-get_or told k d lt)).racing in
       (race.made.entered.within, race.met.entered.within)
 
+  -- where they are fewer than were asked for, they are all
+  pub each_below : (pairs : List Race) (is_cut : Bool) (most : ℕ) → (is_cut ≡ false → HasEach log kinds pairs)
+      → (is_cut ≡ true → IsCut log kinds pairs most) → length pairs < most → HasEach log kinds pairs
+  each_below pairs false most whole some few = whole refl
+  each_below pairs true most whole some few = absurd (omega (arith, few, (some refl).full))
+
   -- where none is told though there is room for one, there is none
   pub no_race : (all told : List Race) (is_cut : Bool) (most : ℕ) → 1 ≤ most
       → (is_cut ≡ false → HasEach log kinds all) → (is_cut ≡ true → IsCut log kinds all most)

@@ -1,9 +1,9 @@
 //! The races of a record, each pair of places in the code once.
 
-ghost use Rattle.std.specs.Prelude.{◌≡◌, ◌≤◌, ◌⊎◌, ◌||◌, [], All, IfOk, length, true, false};
+ghost use Rattle.std.specs.Prelude.{◌≡◌, ◌≤◌, ◌<◌, ◌⊎◌, ◌||◌, [], All, IfOk, length, true, false};
 ghost use Rattle.shared_memory.specs.History.{AreEntries};
 ghost use Rattle.shared_memory.specs.Legal.{IsQueueLegal};
-ghost use Rattle.race_history.specs.Races.{AreInOrder, AreRaces};
+ghost use Rattle.race_history.specs.Races.{AreInOrder, AreRaces, HasEach};
 ghost use Rattle.show_races.specs.Kinds.{kinds_shown};
 ghost use Rattle.show_races.specs.Told as told;
 ghost use Rattle.show_races.specs.Told.{AreMany, AreApart, HasNoRace, IsFirstAmong, IsFirstThere, IsLeftOut, IsMore};
@@ -159,4 +159,23 @@ pub fn races_shown(
         pairs: told.pairs,
         is_cut: either(all.is_cut, told.is_cut),
     })
+}
+
+/// The pairs of entries of a record's run that race, as `races_of` names them, `most` at most; all of them where they are
+/// fewer.
+///
+/// # Errors
+/// Where memory is refused.
+pub fn racing_pairs(alloc: Global, shown: Shown, most: usize) -> Result<Vec<Race>, AllocError>
+    requires entries { AreEntries shown.record.now.log }
+    requires legal { IsQueueLegal shown.record.now.log }
+    ensures races { IfOk result (λ r. AreRaces shown.entry.record.now.log (kinds_shown shown.entry) r.items) }
+    ensures each { IfOk result (λ r. length r.items < most
+        → HasEach shown.entry.record.now.log (kinds_shown shown.entry) r.items) }
+    ensures within { IfOk result (λ r. All (IsWithin shown.entry.record.now.log) r.items) }
+{
+    let kinds = kinds_of(alloc, shown)?;
+    let log = shown.record.log.as_slice();
+    let all = races_of(alloc, log, kinds.as_slice(), most)?;
+    Ok(all.pairs)
 }

@@ -2,8 +2,9 @@
 //! have ordered them.
 //!
 //! Proved: `races_shown` tells each race of the run, of those at the same two places in the code the first, each once,
-//! unless it says that there are more, which is so then; `write_races` writes a paragraph for each, with the lines, the
-//! threads, the words and the places of its two entries, and `write_first` that of the first one.
+//! unless it says that there are more, which is so then; `racing_pairs` are races, all where they are fewer than are
+//! asked for; `write_races` writes a paragraph for each, with the lines, the threads, the words and the places of its
+//! two entries, and `write_first` that of the first one.
 #![tactic(auto)]
 
 mod found;
@@ -11,6 +12,6 @@ mod kinds;
 mod release;
 mod writing;
 
-pub use found::{Races, races_shown};
+pub use found::{Races, races_shown, racing_pairs};
 pub use kinds::kinds_of;
-pub use writing::{write_first, write_races};
+pub use writing::{entry_text, write_first, write_races};

@@ -2,9 +2,9 @@ use Rattle.std.proofs.Common.{◌++◌}
 use Rattle.show_events.proofs.Parts.{events_text, page_text}
 use Rattle.show_events.proofs.page.write_page.Goals as goal
 
-pub returns : goal.returns
-returns g c =
-    let events = events_text _ _ _ c.in_ok-write_events.ensures.2 in (
+pub returns-clause-data : goal.returns-clause-data
+returns-clause-data g c =
+    let events = events_text _ _ _ c.in_ok-write_events.ensures.lines.2 in (
       c.as_bytes.result.now ++ c.as_bytes-2.result.now,
       events.0,
       c.as_bytes-3.result.now,
