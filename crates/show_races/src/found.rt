@@ -3,7 +3,7 @@
 ghost use Rattle.std.specs.Prelude.{◌≡◌, ◌≤◌, ◌<◌, ◌⊎◌, ◌||◌, [], All, IfOk, length, true, false};
 ghost use Rattle.shared_memory.specs.History.{AreEntries};
 ghost use Rattle.shared_memory.specs.Legal.{IsQueueLegal};
-ghost use Rattle.race_history.specs.Races.{AreInOrder, AreRaces, HasEach};
+ghost use Rattle.race_history.specs.Races.{AreInOrder, AreRaces, HasEach, IsCut};
 ghost use Rattle.show_races.specs.Kinds.{kinds_shown};
 ghost use Rattle.show_races.specs.Told as told;
 ghost use Rattle.show_races.specs.Told.{AreMany, AreApart, HasNoRace, IsFirstAmong, IsFirstThere, IsLeftOut, IsMore};
@@ -11,7 +11,7 @@ ghost use Rattle.show_races.specs.Told.{IsTold, IsWithin, TellsEach};
 
 use crate::kinds::kinds_of;
 use interp::CodePlace;
-use race_history::{Kind, Race, races_of};
+use race_history::{Kind, Race, Races as AllRaces, races_of};
 use show_rows::{Shown, Story};
 use std::alloc::{AllocError, Global};
 
@@ -117,6 +117,23 @@ fn find_firsts(
     })
 }
 
+/// The pairs of entries of a record's run that race, as `races_of` names them, where the entries were made so; `most` at
+/// most.
+fn all_races(alloc: Global, shown: Shown, kinds: &[Kind], most: usize) -> Result<AllRaces, AllocError>
+    requires kinds { kinds.now ≡ kinds_shown shown.entry }
+    requires entries { AreEntries shown.record.now.log }
+    requires legal { IsQueueLegal shown.record.now.log }
+    ensures races { IfOk result (λ r. AreRaces shown.entry.record.now.log (kinds_shown shown.entry) r.pairs.items) }
+    ensures in_order { IfOk result (λ r. AreInOrder r.pairs.items) }
+    ensures each { IfOk result (λ r. r.is_cut ≡ false
+        → HasEach shown.entry.record.now.log (kinds_shown shown.entry) r.pairs.items) }
+    ensures few { IfOk result (λ r. length r.pairs.items ≤ most) }
+    ensures cut { IfOk result (λ r. r.is_cut ≡ true
+        → IsCut shown.entry.record.now.log (kinds_shown shown.entry) r.pairs.items most) }
+{
+    races_of(alloc, shown.record.log.as_slice(), kinds, most)
+}
+
 /// Whether one of two holds.
 fn either(a: bool, b: bool) -> bool
     ensures { result ≡ (a || b) }
@@ -151,8 +168,7 @@ pub fn races_shown(
     ensures within { IfOk result (λ r. All (IsWithin shown.entry.record.now.log) r.pairs.items) }
 {
     let kinds = kinds_of(alloc, shown)?;
-    let log = shown.record.log.as_slice();
-    let all = races_of(alloc, log, kinds.as_slice(), MOST_PAIRS)?;
+    let all = all_races(alloc, shown, kinds.as_slice(), MOST_PAIRS)?;
     let told = find_firsts(alloc, shown, story, all.pairs.as_slice(), most)?;
     Ok(Races {
         kinds,
@@ -175,7 +191,6 @@ pub fn racing_pairs(alloc: Global, shown: Shown, most: usize) -> Result<Vec<Race
     ensures within { IfOk result (λ r. All (IsWithin shown.entry.record.now.log) r.items) }
 {
     let kinds = kinds_of(alloc, shown)?;
-    let log = shown.record.log.as_slice();
-    let all = races_of(alloc, log, kinds.as_slice(), most)?;
+    let all = all_races(alloc, shown, kinds.as_slice(), most)?;
     Ok(all.pairs)
 }

@@ -1,12 +1,14 @@
 -- Where a thread stands, by the entries from a place on.
 use Rattle.std.proofs.Common.{◌≡◌, ◌+◌, ◌<◌, ◌≤◌, ◌==◌, ◌⊎◌, inl, inr, ℕ, suc, List, ◌∷◌, length, filter, drop, Option, Some, None, IfSome}
-use Rattle.std.proofs.Common.{Bool, true, false, ◌&&◌, cond, refl, sym, ◌∙◌, ap, subst, slice_get, arith}
+use Rattle.std.proofs.Common.{Bool, true, false, ◌&&◌, cond, refl, sym, ◌∙◌, ap, subst, slice_get, slice_index_or, arith}
 use Rattle.std.proofs.lemmas.Bool.{cases_lt, cases_eq}
 use Rattle.std.proofs.lemmas.Bool.Decides.{nat_tests}
-use Rattle.std.proofs.lemmas.Option.{IfSome_then, slice_get_within}
-use Rattle.std.proofs.lemmas.List.{drop_all}
+use Rattle.std.proofs.lemmas.Option.{IfSome_then, slice_get-get_or, slice_get_within}
+use Rattle.std.proofs.lemmas.List.{drop_all, drop_more}
 use Rattle.std.specs.Option.{is_some}
 use Rattle.types.specs.declared.event.Entry.{Entry}
+use Rattle.types.specs.declared.event.Event.TheVariants.{Size}
+use Rattle.types.specs.declared.event.Reply.TheVariants.{Value}
 use Rattle.report_choice.specs.Choices.{touched}
 use Rattle.report_choice.specs.declared.choice.Span.{Span}
 use Rattle.show_writes.specs.declared.stands.Stand.{Stand}
@@ -51,22 +53,40 @@ pub record IsSeen (n : ℕ) (log : List Entry) (place : ℕ) (o : Option Stand) 
   pub none : o ≡ None → IsNothing n log place
   pub some : IfSome o (IsSoFar n log place)
 
-module _ (n : ℕ) (log : List Entry) (p q : ℕ) (next : q ≡ p + 1) (e : Entry) (at : slice_get log p ≡ Some e) (more : drop p log ≡ e ∷ drop q log) where
+-- an entry of a log, and the place behind it
+pub record IsEntryAt (log : List Entry) (p q : ℕ) (e : Entry) : Type 0 where
+  pub next : q ≡ p + 1
+  pub low : p < length log
+  pub at : slice_get log p ≡ Some e
+  pub more : drop p log ≡ e ∷ drop q log
+
+abbrev pub nobody : Entry
+nobody = record { thread = 0; event = Size; reply = Value 0 }
+
+pub entry_at : (log : List Entry) (p q : ℕ) → q ≡ p + 1 → p < length log → IsEntryAt log p q (slice_index_or log p nobody)
+entry_at log p q next low = record {
+  next = next;
+  low = low;
+  at = slice_get-get_or log p nobody low;
+  more = drop_more log p nobody low ∙ ap (λ (k : ℕ). slice_index_or log p nobody ∷ drop k log) (sym next);
+}
+
+module _ (n : ℕ) {log : List Entry} {p q : ℕ} {e : Entry} (x : IsEntryAt log p q e) where
   -- it is of this entry
   pub of_this : (addrs : Span) → (t : TouchesAt n log p addrs) → (e.thread ≡ n) × (touched e.event ≡ Some addrs)
   of_this addrs t =
-      let is : t.entry ≡ e = cc (t.at, at) in
-      (ap (λ (x : Entry). x.thread) (sym is) ∙ t.own, ap (λ (x : Entry). touched x.event) (sym is) ∙ t.touches)
+      let is : t.entry ≡ e = cc (t.at, x.at) in
+      (ap (λ (y : Entry). y.thread) (sym is) ∙ t.own, ap (λ (y : Entry). touched y.event) (sym is) ∙ t.touches)
 
   this_place : (k : ℕ) (addrs : Span) → k ≡ p → TouchesAt n log k addrs → TouchesAt n log p addrs
   this_place k addrs is t = subst (λ j. TouchesAt n log j addrs) is t
 
   counts : (b : Bool) → is_touch n e ≡ b → count_from n log p ≡ length (cond b (e ∷ filter (is_touch n) (drop q log)) (filter (is_touch n) (drop q log)))
-  counts b is = ap (λ l. length (filter (is_touch n) l)) more ∙ ap (λ c. length (cond c (e ∷ filter (is_touch n) (drop q log)) (filter (is_touch n) (drop q log)))) is
+  counts b is = ap (λ l. length (filter (is_touch n) l)) x.more ∙ ap (λ c. length (cond c (e ∷ filter (is_touch n) (drop q log)) (filter (is_touch n) (drop q log)))) is
 
   -- at this place or behind it
   above : (k : ℕ) → p ≤ k → (k ≡ p) ⊎ (q ≤ k)
-  above k from = elim (cases_eq k p) [ inl is ↦ inl is | inr other ↦ inr (omega (arith, from, other, next)) ]
+  above k from = elim (cases_eq k p) [ inl is ↦ inl is | inr other ↦ inr (omega (arith, from, other, x.next)) ]
 
   -- the entry is no touch of the thread
   module _ (other : is_touch n e ≡ false) (none : (addrs : Span) → TouchesAt n log p addrs → ⊥) where
@@ -79,19 +99,19 @@ module _ (n : ℕ) (log : List Entry) (p q : ℕ) (next : q ≡ p + 1) (e : Entr
     still_so : (s : Stand) → IsSoFar n log q s → IsSoFar n log p s
     still_so s h = record {
       stands = h.stands;
-      from = omega (arith, h.from, next);
+      from = omega (arith, h.from, x.next);
       between = λ k addrs from to t. elim (above k from) [ inl is ↦ none addrs (this_place k addrs is t) | inr past ↦ h.between k addrs past to t ];
       count = h.count ∙ sym (counts false other);
-      few = omega (arith, h.few, next);
+      few = omega (arith, h.few, x.next);
     }
 
     pub skips : (o : Option Stand) → IsSeen n log q o → IsSeen n log p o
     skips o h = record { none = λ is. still_none (h.none is); some = IfSome_then o h.some still_so }
 
   -- it is one, at these addresses
-  module _ (is : is_touch n e ≡ true) (own : e.thread ≡ n) (addrs : Span) (touches : touched e.event ≡ Some addrs) (low : p < length log) where
+  module _ (is : is_touch n e ≡ true) (own : e.thread ≡ n) (addrs : Span) (touches : touched e.event ≡ Some addrs) where
     here : TouchesAt n log p addrs
-    here = record { entry = e; at = at; own = own; touches = touches }
+    here = record { entry = e; at = x.at; own = own; touches = touches }
 
     same_here : (k : ℕ) (others : Span) → k ≡ p → TouchesAt n log k others → others ≡ addrs
     same_here k others place t = let h = of_this others (this_place k others place t) in let both : Some others ≡ Some addrs = sym (h.1) ∙ touches in cc both
@@ -102,7 +122,7 @@ module _ (n : ℕ) (log : List Entry) (p q : ℕ) (next : q ≡ p + 1) (e : Entr
       some = record {
         stands = record {
           last = here;
-          none = λ k others past t. h.none k others (omega (arith, past, next)) t;
+          none = λ k others past t. h.none k others (omega (arith, past, x.next)) t;
           since = here;
           same = λ k others from t. elim (above k from) [ inl place ↦ same_here k others place t | inr past ↦ absurd (h.none k others past t) ];
           times = sym (counts true is ∙ ap suc h.count);
@@ -110,7 +130,7 @@ module _ (n : ℕ) (log : List Entry) (p q : ℕ) (next : q ≡ p + 1) (e : Entr
         from = omega arith;
         between = λ k others from to t. let no : ⊥ = omega (arith, from, to) in no;
         count = sym (counts true is ∙ ap suc h.count);
-        few = omega (arith, low);
+        few = omega (arith, x.low);
       };
     }
 
@@ -135,7 +155,7 @@ module _ (n : ℕ) (log : List Entry) (p q : ℕ) (next : q ≡ p + 1) (e : Entr
             from = omega arith;
             between = λ k others from to t. let no : ⊥ = omega (arith, from, to) in no;
             count = count;
-            few = omega (arith, h.few, next);
+            few = omega (arith, h.few, x.next);
           }
 
       pub ends : (s.addrs ≡ addrs → ⊥) → IsStand n log s
@@ -144,10 +164,10 @@ module _ (n : ℕ) (log : List Entry) (p q : ℕ) (next : q ≡ p + 1) (e : Entr
         begins = λ k others before t. record {
           place = p;
           from = elim (cases_lt p k) [
-            | inl past ↦ absurd (h.between k others (omega (arith, past, next)) before t)
+            | inl past ↦ absurd (h.between k others (omega (arith, past, x.next)) before t)
             | inr low ↦ low
           ];
-          to = omega (arith, h.from, next);
+          to = omega (arith, h.from, x.next);
           others = addrs;
           at = here;
           differ = λ same. differ (sym same);
