@@ -1,5 +1,5 @@
 -- Places that are the same.
-use Rattle.std.proofs.Common.{◌≡◌, ◌∙◌, Bool, true, false, ◌&&◌, Option, Some, None, refl, sym, ap, subst, eq-eqb, ℕ}
+use Rattle.std.proofs.Common.{◌≡◌, ◌∙◌, Bool, true, false, Option, Some, None, refl, sym, ap, subst, eq-eqb, ℕ}
 use Rattle.std.proofs.lemmas.Bool.{and_from, and_parts, both_ways, eqb-true}
 use Rattle.interp.specs.declared.place.CodePlace.{CodePlace}
 use Rattle.show_races.specs.declared.found.Places.{Places}

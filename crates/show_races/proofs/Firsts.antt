@@ -1,19 +1,17 @@
 -- Of races each one that was made at other places in the code than those before it.
 use Rattle.std.proofs.Common.{ℕ, ◌≡◌, ◌∙◌, ◌⊎◌, ◌≤◌, ◌<◌, ◌+◌, ◌||◌, Bool, true, false, List, [], ◌∷◌, ◌++◌, All, length, get_or, take, inl, inr, refl, sym, subst, arith}
-use Rattle.std.specs.List.{AllPairs, Contains}
+use Rattle.std.specs.List.{Contains}
 use Rattle.std.proofs.lemmas.Bool.{both_ways, cases_lt}
 use Rattle.std.proofs.lemmas.List.{get_or-take, get_or_default, length-take-le, take_all, take_more}
 use Rattle.std.proofs.lemmas.List.Elements.{All-contains, All-nil, All-push, Contains-append_left, Contains-get_or, Contains-push}
 use Rattle.std.proofs.lemmas.List.Quantifiers.{all_pairs_push}
-use Rattle.race_history.specs.declared.access.Access.{Access}
-use Rattle.race_history.specs.declared.access.Kind.{Kind}
 use Rattle.race_history.specs.declared.race.Race.{Race}
-use Rattle.race_history.specs.Races.{AreInOrder, AreRaces, AreRacing, HasEach, IsCut, IsEarlier, IsLastRace}
+use Rattle.race_history.specs.Races.{AreInOrder, AreRaces, HasEach, IsCut, IsEarlier}
 use Rattle.show_rows.specs.declared.listing.Shown.{Shown}
 use Rattle.show_rows.specs.declared.listing.Story.{Story}
 use Rattle.show_races.specs.declared.found.TheConstants.{MOST_PAIRS}
 use Rattle.show_races.specs.Kinds.{kinds_shown}
-use Rattle.show_races.specs.Told.{AreAlike, AreApart, AreMany, IsFirstAmong, IsFirstThere, IsLastShown, IsLeftOut, IsMore, IsTold, IsToldOf, TellsEach}
+use Rattle.show_races.specs.Told.{AreAlike, AreApart, AreMany, IsFirstAmong, IsFirstThere, IsLeftOut, IsMore, IsTold, TellsEach}
 use Rattle.show_races.proofs.Laws.{named_it}
 
 module _ (shown : Shown) (story : Story) where

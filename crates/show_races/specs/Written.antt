@@ -7,7 +7,7 @@ use Rattle.std.specs.Io.KnownBytes.{Appends}
 use Rattle.types.specs.declared.event.Entry.{Entry}
 use Rattle.race_history.specs.declared.access.Access.{Access}
 use Rattle.race_history.specs.declared.access.Kind.{Kind}
-use Rattle.race_history.specs.declared.access.Kind.TheVariants.{Plain, Atomic}
+use Rattle.race_history.specs.declared.access.Kind.TheVariants.{Atomic}
 use Rattle.race_history.specs.declared.race.Race.{Race}
 use Rattle.race_history.specs.Accesses.{access_of}
 use Rattle.show_text.specs.Rows.{RowText}

@@ -119,8 +119,13 @@ fn find_firsts(
 
 /// The pairs of entries of a record's run that race, as `races_of` names them, where the entries were made so; `most` at
 /// most.
-fn all_races(alloc: Global, shown: Shown, kinds: &[Kind], most: usize) -> Result<AllRaces, AllocError>
-    requires kinds { kinds.now ≡ kinds_shown shown.entry }
+fn all_races(
+    alloc: Global,
+    shown: Shown,
+    kinds: &[Kind],
+    most: usize,
+) -> Result<AllRaces, AllocError>
+    requires kinds { kinds.now ≡ kinds_shown shown }
     requires entries { AreEntries shown.record.now.log }
     requires legal { IsQueueLegal shown.record.now.log }
     ensures races { IfOk result (λ r. AreRaces shown.entry.record.now.log (kinds_shown shown.entry) r.pairs.items) }

@@ -33,7 +33,12 @@ impl fmt::Display for Behind<'_> {
 }
 
 /// An entry: its thread, its words, its line of the record and where it was made, as far as that is known.
-pub fn entry_text(alloc: Global, shown: Shown, story: &Story, at: usize) -> Result<String, AllocError>
+pub fn entry_text(
+    alloc: Global,
+    shown: Shown,
+    story: &Story,
+    at: usize,
+) -> Result<String, AllocError>
     requires { at < length shown.record.now.log }
     ensures { IfOk result (λ text. IsEntryText shown.entry story.now at (string_bytes text)) }
 {

@@ -1,4 +1,4 @@
-use Rattle.std.proofs.Common.{◌≡◌, ◌≤◌, ◌∙◌, List, All, subst, sym, arith}
+use Rattle.std.proofs.Common.{◌≡◌, ◌∙◌, List, true, false, All, subst, sym, arith}
 use Rattle.race_history.specs.declared.race.Race.{Race}
 use Rattle.race_history.specs.Races.{AreInOrder}
 use Rattle.show_races.specs.Kinds.{kinds_shown}
@@ -13,7 +13,7 @@ returns-clause-races c =
     let story = c.args.story.now in
     let told = c.in_ok-told.told.pairs.items in
     let from = subst (λ (l : List Race). All (IsFirstAmong shown story l) told) c.as_slice-2.ensures.value
-        c.in_ok-told.ensures.from in
+    c.in_ok-told.ensures.from in
     some_races shown.record.now.log (kinds_shown shown) c.in_ok-all.all.pairs.items told c.in_ok-all.ensures.races
     (among_all shown story c.in_ok-all.all.pairs.items told from)
 
@@ -27,7 +27,7 @@ returns-clause-firsts c =
     let story = c.args.story.now in
     let told = c.in_ok-told.told.pairs.items in
     let from = subst (λ (l : List Race). All (IsFirstAmong shown story l) told) c.as_slice-2.ensures.value
-        c.in_ok-told.ensures.from in
+    c.in_ok-told.ensures.from in
     let all = c.in_ok-all.ensures in
     firsts_all shown story c.in_ok-all.all.pairs.items told c.in_ok-all.all.is_cut 1000000 all.in_order from all.races
     all.each all.cut
@@ -37,32 +37,36 @@ returns-clause-each c =
     let shown = c.args.shown in
     let story = c.args.story.now in
     let told = c.in_ok-told.told.pairs.items in
-    let tells = λ whole. subst (λ (l : List Race). All (IsTold shown story told) l) c.as_slice-2.ensures.value
-        (c.in_ok-told.ensures.each whole) in
+    let tells = λ (whole : c.in_ok-told.told.is_cut ≡ false).
+    subst (λ (l : List Race). All (IsTold shown story told) l) c.as_slice-2.ensures.value
+    (c.in_ok-told.ensures.each whole) in
     let all = c.in_ok-all.ensures in
     λ whole. each_all shown story c.in_ok-all.all.pairs.items told c.in_ok-all.all.is_cut c.in_ok-told.told.is_cut
-        (sym c.either.ensures ∙ whole) all.races all.each tells
+    (sym c.either.ensures ∙ whole) all.races all.each tells
 
 pub returns-clause-cut : goal.returns-clause-cut
 returns-clause-cut c =
     let shown = c.args.shown in
     let story = c.args.story.now in
     let told = c.in_ok-told.told.pairs.items in
-    let left = λ is_cut. subst (λ (l : List Race). IsLeftOut shown story l told c.args.most) c.as_slice-2.ensures.value
-        (c.in_ok-told.ensures.cut is_cut) in
+    let left = λ (cut : c.in_ok-told.told.is_cut ≡ true).
+    subst (λ (l : List Race). IsLeftOut shown story l told c.args.most) c.as_slice-2.ensures.value
+    (c.in_ok-told.ensures.cut cut) in
     let all = c.in_ok-all.ensures in
     λ some. cut_all shown story c.in_ok-all.all.pairs.items told c.in_ok-all.all.is_cut c.in_ok-told.told.is_cut
-        c.args.most (sym c.either.ensures ∙ some) all.races all.cut left
+    c.args.most (sym c.either.ensures ∙ some) all.races all.cut left
 
 pub returns-clause-none : goal.returns-clause-none
 returns-clause-none c =
     let shown = c.args.shown in
     let story = c.args.story.now in
     let told = c.in_ok-told.told.pairs.items in
-    let tells = λ whole. subst (λ (l : List Race). All (IsTold shown story told) l) c.as_slice-2.ensures.value
-        (c.in_ok-told.ensures.each whole) in
-    let left = λ is_cut. subst (λ (l : List Race). IsLeftOut shown story l told c.args.most) c.as_slice-2.ensures.value
-        (c.in_ok-told.ensures.cut is_cut) in
+    let tells = λ (whole : c.in_ok-told.told.is_cut ≡ false).
+    subst (λ (l : List Race). All (IsTold shown story told) l) c.as_slice-2.ensures.value
+    (c.in_ok-told.ensures.each whole) in
+    let left = λ (cut : c.in_ok-told.told.is_cut ≡ true).
+    subst (λ (l : List Race). IsLeftOut shown story l told c.args.most) c.as_slice-2.ensures.value
+    (c.in_ok-told.ensures.cut cut) in
     let pairs = c.in_ok-all.all.pairs.items in
     no_race shown.record.now.log (kinds_shown shown) pairs told c.in_ok-all.all.is_cut 1000000 (omega arith)
     c.in_ok-all.ensures.each c.in_ok-all.ensures.cut

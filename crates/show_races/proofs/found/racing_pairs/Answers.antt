@@ -1,4 +1,3 @@
-use Rattle.std.proofs.Common.{◌≡◌}
 use Rattle.show_races.specs.Kinds.{kinds_shown}
 use Rattle.show_races.proofs.Laws.{each_below, races_within}
 use Rattle.show_races.proofs.found.racing_pairs.Goals as goal

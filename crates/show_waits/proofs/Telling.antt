@@ -1,0 +1,1 @@
+-- What is told of where threads stand.

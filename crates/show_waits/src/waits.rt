@@ -1,0 +1,97 @@
+//! What each thread waits for that was stopped, as text.
+ghost use Rattle.std.specs.Prelude.{◌≡◌, ◌<◌, ◌⊎◌, length, IfOk, OnOk, string_bytes};
+ghost use Rattle.show_writes.specs.Stands.{IsStand};
+ghost use Rattle.show_waits.specs.Waits.{SaysNowhere, SaysStand, SaysWait, WritesWaits};
+
+use crate::last::last_text;
+use show_races::entry_text;
+use show_rows::{Shown, Story};
+use show_text::Unwritten;
+use show_writes::{Act, Stand, stand_of};
+use std::alloc::{AllocError, Global};
+use std::fmt::{self, Formatter};
+use std::io::Write;
+use types::Outcome;
+
+/// How often.
+#[derive(Clone, Copy)]
+struct Times(usize);
+
+impl fmt::Display for Times {
+    ghost use Rattle.std.specs.Prelude.{Some};
+    ghost use Rattle.show_waits.specs.Waits.{times_text};
+
+    ghost output = { λ t. Some (times_text t.0) };
+
+    fn fmt<W: fmt::Write>(&self, f: &mut Formatter<W>) -> fmt::Result {
+        let times = self.0;
+        if times == 1 {
+            f.write_str("once")
+        } else {
+            write!(f, "{times} times")
+        }
+    }
+}
+
+/// Where a thread stands, and who made the bytes there what they are.
+fn stand_text(alloc: Global, shown: Shown, story: &Story, n: u32, stand: Stand) -> Result<String, AllocError>
+    requires { IsStand n shown.record.now.log stand }
+    ensures { IfOk result (λ text. SaysStand shown.entry story.now n (string_bytes text)) }
+{
+    let end = shown.record.log.len();
+    let Stand { addrs, since, last, times } = stand;
+    let last = entry_text(alloc, shown, story, last)?;
+    let written = last_text(alloc, shown, story, end, Act::Write(addrs), "nobody")?;
+    let notified = last_text(alloc, shown, story, end, Act::Notify(addrs.first), "nobody")?;
+    let (times, line) = (Times(times), shown.line_of(since));
+    let text = format!(in alloc;
+        "{last}\n  so {times} since line {line}\n  last write there: {written}\n  last notify there: {notified}\n"
+    )?;
+    Ok(text)
+}
+
+/// The same of a thread that may have touched no bytes.
+fn place_text(alloc: Global, shown: Shown, story: &Story, n: u32) -> Result<String, AllocError>
+    ensures { IfOk result (λ text. SaysStand shown.entry story.now n (string_bytes text)
+        ⊎ SaysNowhere shown.entry n (string_bytes text)) }
+{
+    match stand_of(shown.record.log.as_slice(), n) {
+        Some(stand) => stand_text(alloc, shown, story, n, stand),
+        None => "it touched nothing\n".to_string(alloc),
+    }
+}
+
+/// What is told of a thread: nothing of one that wasn't stopped.
+fn wait_text(alloc: Global, shown: Shown, story: &Story, n: usize) -> Result<String, AllocError>
+    requires { n < length shown.record.now.ends }
+    ensures { IfOk result (λ text. SaysWait shown.entry story.now n (string_bytes text)) }
+{
+    let outcome = shown.record.ends.as_slice()[n].outcome;
+    let Outcome::Stop(_) = outcome else {
+        return Ok(String::new(alloc));
+    };
+    let place = place_text(alloc, shown, story, n as u32)?;
+    let text = format!(in alloc; "t{n}: {outcome}: {place}")?;
+    Ok(text)
+}
+
+/// Writes of each thread that was stopped where it stood: its last entry that touches bytes, since which line it touched
+/// no others and how often, and who wrote them and notified them last.
+///
+/// # Errors
+/// Where memory is refused, or the stream fails.
+pub fn write_waits<W: Write>(
+    alloc: Global,
+    shown: Shown,
+    story: &Story,
+    out: &mut W,
+) -> Result<(), Unwritten>
+    ensures { OnOk result (WritesWaits shown.entry story.now (W.contents out.old) (W.contents out.new)) }
+{
+    for n in 0..shown.record.ends.len() {
+        let text = wait_text(alloc, shown, story, n)?;
+        write!(out, "{text}")?;
+    }
+    out.flush()?;
+    Ok(())
+}
