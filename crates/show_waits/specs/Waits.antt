@@ -1,5 +1,5 @@
 -- What is told of a thread that was stopped: where it stood, and who made the bytes there what they are.
-use Rattle.std.specs.Prelude.{ℕ, ◌≡◌, ◌×◌, ◌⊎◌, ◌==◌, ◌++◌, [], if◌then◌else◌, List, Option, codes, length}
+use Rattle.std.specs.Prelude.{ℕ, ◌≡◌, ◌⊎◌, ◌==◌, ◌++◌, [], if◌then◌else◌, List, Option, Some, codes, length}
 use Rattle.std.specs.Fmt.{decimal}
 use Rattle.std.specs.List.{AllZip, concat, range_with_len, slice_get}
 use Rattle.std.specs.Io.KnownBytes.{Appends}
@@ -32,7 +32,7 @@ pub record SaysStand (shown : Shown) (story : Story) (n : ℕ) (text : List ℕ)
   pub notified_is : SaysLast shown story (length shown.record.now.log) (acts.Notify stand.addrs.first) (codes "nobody") notified
   pub words : text ≡ last ++ (codes "\n  so " ++ (times_text stand.times ++ (codes " since line "
       ++ (decimal (line_at shown stand.since) ++ (codes "\n  last write there: " ++ (written
-      ++ (codes "\n  last notify there: " ++ (notified ++ codes "\n")))))))
+      ++ (codes "\n  last notify there: " ++ (notified ++ codes "\n"))))))))
 
 -- A thread that touches no bytes stands nowhere.
 abbrev pub SaysNowhere : Shown → ℕ → List ℕ → Type 0

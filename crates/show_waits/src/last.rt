@@ -76,7 +76,14 @@ pub fn write_last<W: Write>(
     ensures { OnOk result (WritesLast shown.entry story.now before addrs (W.contents out.old) (W.contents out.new)) }
 {
     let none = unwritten(alloc, addrs)?;
-    let text = last_text(alloc, shown, story, before, Act::Write(addrs), none.as_str())?;
+    let text = last_text(
+        alloc,
+        shown,
+        story,
+        before,
+        Act::Write(addrs),
+        none.as_str(),
+    )?;
     write!(out, "{text}\n")?;
     out.flush()?;
     Ok(())

@@ -34,12 +34,23 @@ impl fmt::Display for Times {
 }
 
 /// Where a thread stands, and who made the bytes there what they are.
-fn stand_text(alloc: Global, shown: Shown, story: &Story, n: u32, stand: Stand) -> Result<String, AllocError>
+fn stand_text(
+    alloc: Global,
+    shown: Shown,
+    story: &Story,
+    n: usize,
+    stand: Stand,
+) -> Result<String, AllocError>
     requires { IsStand n shown.record.now.log stand }
     ensures { IfOk result (λ text. SaysStand shown.entry story.now n (string_bytes text)) }
 {
     let end = shown.record.log.len();
-    let Stand { addrs, since, last, times } = stand;
+    let Stand {
+        addrs,
+        since,
+        last,
+        times,
+    } = stand;
     let last = entry_text(alloc, shown, story, last)?;
     let written = last_text(alloc, shown, story, end, Act::Write(addrs), "nobody")?;
     let notified = last_text(alloc, shown, story, end, Act::Notify(addrs.first), "nobody")?;
@@ -51,7 +62,7 @@ fn stand_text(alloc: Global, shown: Shown, story: &Story, n: u32, stand: Stand) 
 }
 
 /// The same of a thread that may have touched no bytes.
-fn place_text(alloc: Global, shown: Shown, story: &Story, n: u32) -> Result<String, AllocError>
+fn place_text(alloc: Global, shown: Shown, story: &Story, n: usize) -> Result<String, AllocError>
     ensures { IfOk result (λ text. SaysStand shown.entry story.now n (string_bytes text)
         ⊎ SaysNowhere shown.entry n (string_bytes text)) }
 {
@@ -70,7 +81,7 @@ fn wait_text(alloc: Global, shown: Shown, story: &Story, n: usize) -> Result<Str
     let Outcome::Stop(_) = outcome else {
         return Ok(String::new(alloc));
     };
-    let place = place_text(alloc, shown, story, n as u32)?;
+    let place = place_text(alloc, shown, story, n)?;
     let text = format!(in alloc; "t{n}: {outcome}: {place}")?;
     Ok(text)
 }

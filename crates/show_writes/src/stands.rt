@@ -27,14 +27,14 @@ fn is_same(a: Span, b: Span) -> bool
 }
 
 /// Where thread n stands at the end of a log, or nothing where no entry of it touches any bytes.
-pub fn stand_of(log: &[Entry], n: u32) -> Option<Stand>
+pub fn stand_of(log: &[Entry], n: usize) -> Option<Stand>
     ensures stands { IfSome result (IsStand n log.now) }
     ensures none { result ≡ None → TouchesNothing n log.now }
 {
     let mut found: Option<Stand> = None;
     for place in (0..log.len()).rev() {
         let entry = &log[place];
-        if entry.thread != n {
+        if entry.thread as usize != n {
             continue;
         }
         let Some(addrs) = touched(entry.event) else {
